@@ -1,0 +1,13 @@
+-- Reactors that are connected, what they should do, and in which order.
+-- connections and paths of them
+pub mod Connection
+-- events, and which of several at one slot is present
+pub mod Event
+-- reactors, connections and external events together
+pub mod Network
+-- the undivided program: its turns, its rows, and each reactor's part of them
+pub mod Undivided
+-- what a network has to keep, so that the laws hold of it
+pub mod Lawful
+-- small networks on which the definitions are computed
+pub mod Examples

@@ -1,0 +1,22 @@
+use Rattle.std.proofs.Common.{refl}
+use Rattle.signal.specs.Frame.{frame_bytes}
+use Rattle.signal.specs.declared.frame.Frame.{Frame}
+use Rattle.signal.specs.declared.frame.Frame.TheVariants.{Hello, Data, Ack}
+use Rattle.signal.proofs.Writing.{written_as}
+use Rattle.signal.proofs.write.write_frame.Goals as goal
+
+pub returns-in-Hello-clause-written : goal.returns-in-Hello-clause-written
+returns-in-Hello-clause-written c =
+    written_as c.args.frame.now (Hello c.in-Hello.federate c.in-Hello.incarnation c.in-Hello.last_taken) c.hello_bytes.result c.args.bytes.now.items c.append.new.bytes.items c.append.result
+    c.in-Hello.is c.hello_bytes.ensures c.append.ensures.written
+
+pub returns-in-Data-clause-written : goal.returns-in-Data-clause-written
+returns-in-Data-clause-written c =
+    let told : Frame = Data c.in-Data.incarnation c.in-Data.number c.in-Data.signal in
+    written_as c.args.frame.now told (frame_bytes told) c.args.bytes.now.items c.write_data.new.bytes.items c.write_data.result
+    c.in-Data.is refl c.write_data.ensures.written
+
+pub returns-in-Ack-clause-written : goal.returns-in-Ack-clause-written
+returns-in-Ack-clause-written c =
+    written_as c.args.frame.now (Ack c.in-Ack.incarnation c.in-Ack.last_taken) c.ack_bytes.result c.args.bytes.now.items c.append-in-Ack.new.bytes.items c.append-in-Ack.result
+    c.in-Ack.is c.ack_bytes.ensures c.append-in-Ack.ensures.written

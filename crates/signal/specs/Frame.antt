@@ -1,0 +1,42 @@
+-- A frame as bytes: four bytes of length, and then that many bytes of body.
+use Rattle.std.specs.Prelude.{◌≡◌, ℕ, ◌^◌, ◌<◌, List, ◌++◌, ◌∷◌, length}
+use Rattle.byteorder.specs.Endian.{big_bytes}
+use Rattle.signal.specs.declared.frame.Frame.{Frame}
+use Rattle.signal.specs.declared.frame.Frame.TheVariants.{Hello, Data, Ack, Refuse}
+use Rattle.signal.specs.Signal.{signal_bytes, IsSignal}
+
+-- the body of a frame: its kind, for a Hello a version, and then its fields
+abbrev pub body_of : ℕ → Frame → List ℕ
+body_of version (Hello federate incarnation last_taken) = 1 ∷ version ∷ big_bytes 2 federate ++ big_bytes 4 incarnation ++ big_bytes 8 last_taken
+body_of version (Data incarnation number signal) = 2 ∷ big_bytes 4 incarnation ++ big_bytes 8 number ++ signal_bytes signal
+body_of version (Ack incarnation last_taken) = 3 ∷ big_bytes 4 incarnation ++ big_bytes 8 last_taken
+body_of version (Refuse incarnation refusal) = 4 ∷ big_bytes 4 incarnation ++ big_bytes 2 refusal
+
+-- a body behind its length
+abbrev pub framed : List ℕ → List ℕ
+framed body = big_bytes 4 (length body) ++ body
+
+-- the spelling that is written
+abbrev pub frame_bytes : Frame → List ℕ
+frame_bytes frame = framed (body_of 1 frame)
+
+-- what has a spelling: every frame of the program
+abbrev pub IsFrame : Frame → Type 0
+IsFrame (Hello federate incarnation last_taken) = (federate < 2 ^ 16) × (incarnation < 2 ^ 32) × (last_taken < 2 ^ 64)
+IsFrame (Data incarnation number signal) = (incarnation < 2 ^ 32) × (number < 2 ^ 64) × IsSignal signal
+IsFrame (Ack incarnation last_taken) = (incarnation < 2 ^ 32) × (last_taken < 2 ^ 64)
+IsFrame (Refuse incarnation refusal) = (incarnation < 2 ^ 32) × (refusal < 2 ^ 16)
+
+-- the body spells the frame, whatever version from 1 on a Hello tells
+pub record IsBody (body : List ℕ) (frame : Frame) : Type 0 where
+  pub version : ℕ
+  pub from_one : 0 < version
+  pub one_byte : version < 256
+  pub is_frame : IsFrame frame
+  pub is_body : body ≡ body_of version frame
+
+-- the bytes are a spelling of the frame: its body behind its length
+pub record Spells (bytes : List ℕ) (frame : Frame) : Type 0 where
+  pub body : List ℕ
+  pub is_body : IsBody body frame
+  pub is_framed : bytes ≡ framed body

@@ -1,0 +1,26 @@
+//! What is said over a link, signals in frames, and how it looks as bytes.
+//!
+//! Promise to the layer above: bytes are read as the frames that they spell, in order, however they
+//! are cut into pieces, and nothing else is read; what was written is read again. Where no frame
+//! begins, the fault of `specs/Fault` is told. Begin with `specs/Frame`, then `reader`; the laws of
+//! whole streams stand in `laws`.
+#![tactic(auto)]
+
+mod body;
+pub mod fault;
+pub mod frame;
+mod front;
+pub mod laws;
+mod numbers;
+pub mod reader;
+mod reading;
+pub mod signal;
+#[cfg(test)]
+mod tests;
+pub mod write;
+
+pub use fault::FrameFault;
+pub use frame::Frame;
+pub use reader::FrameReader;
+pub use signal::Signal;
+pub use write::write_frame;

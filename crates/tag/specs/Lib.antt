@@ -1,0 +1,10 @@
+-- Times and tags as numbers: their order and sums.
+pub mod LogicalTime
+-- The delay of a whole path of connections.
+pub mod Total
+-- Durations as text.
+pub mod Duration
+-- Times, tags and delays as text.
+pub mod Printed
+-- The faults of a duration's text.
+pub mod DurationFault

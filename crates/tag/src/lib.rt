@@ -1,0 +1,20 @@
+//! Logical time: tags, delays, their sums, and how durations and tags look as text.
+//!
+//! Promise to the layer above: a sum of this crate is the sum of `specs/LogicalTime`, whatever the
+//! numbers, and the laws of `laws` hold of it. Begin with `specs/LogicalTime`, then `sums`.
+#![tactic(auto)]
+
+pub mod delay;
+pub mod duration;
+pub mod finite_tag;
+pub mod laws;
+pub mod sums;
+pub mod tag;
+pub mod time;
+
+pub use delay::Delay;
+pub use duration::{DurationFault, parse_duration};
+pub use finite_tag::FiniteTag;
+pub use sums::{plus, succ, then};
+pub use tag::Tag;
+pub use time::Time;
