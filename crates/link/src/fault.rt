@@ -12,7 +12,7 @@ pub enum LinkFault {
     Stranger,
     #[error("a signal before this one is missing")]
     Gap,
-    #[error("a signal is acknowledged that was never sent")]
+    #[error("a signal is acknowledged that was never offered")]
     AckOfUnsent,
     #[error("out of memory")]
     Memory,

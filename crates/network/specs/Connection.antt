@@ -1,5 +1,5 @@
 -- Connections, and the paths that they make. Reactors, ports and slots go by number.
-use Rattle.std.specs.Prelude.{◌≡◌, ℕ, ◌≤◌, List, [], ◌∷◌, length, Contains, IsTrue}
+use Rattle.std.specs.Prelude.{◌≡◌, ℕ, List, [], ◌∷◌, Contains, IsTrue}
 use Rattle.tag.specs.LogicalTime.{LogicalTime, sum_of, is_at_most}
 
 -- from an output port of one reactor to a slot (an input port) of another, or of the same

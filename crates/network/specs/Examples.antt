@@ -1,8 +1,7 @@
 -- Two inputs that meet: a gateway's messages of (0, 2^32 - 1) and of (1 ns, 0), each a microstep later, arrive at (1 ns, 0) and
 -- at (1 ns, 1), since the first one's microstep carries.
-use Rattle.std.specs.Prelude.{ℕ, zero, suc, ◌-◌, ◌^◌, ℤ, pos, List, [], ◌∷◌, Option, None, Some, nat_eq, if◌then◌else◌}
+use Rattle.std.specs.Prelude.{ℕ, ℤ, pos, List, [], ◌∷◌, Option, None, nat_eq, if◌then◌else◌}
 use Rattle.tag.specs.LogicalTime.{LogicalTime, one_microstep}
-use Rattle.network.specs.Connection.{Connection}
 use Rattle.network.specs.Event.{Event, Entry}
 use Rattle.network.specs.Network.{Network, Effect}
 use Rattle.network.specs.Undivided.{Row}

@@ -1,6 +1,7 @@
 pub mod Parts
 pub mod Bodies
 pub mod Framing
+pub mod Faults
 pub mod Writing
 pub mod Streams
 pub mod Sessions

@@ -65,11 +65,15 @@ reads_frame old fault position size items seen frame same is sound h =
     subst (λ (o : Stream). GivesFrame o frame (stream fault (drop (position + size) items))) is
     (record { sound = sound; front = take size (drop position items); spelling = spelling; begins = rest; still_sound = sound })
 
+-- the fault of the bytes seen is that of the rest
+pub fault_there : (position : ℕ) (items seen : List ℕ) (fault : FrameFault) → seen ≡ items → fault_at (from position seen) ≡ Some fault → fault_at (drop position items) ≡ Some fault
+fault_there position items seen fault same h = ap fault_at (sym (take_rest items position) ∙ ap (from position) (sym same)) ∙ h
+
 pub reads_fault : (old : Stream) (before : Option FrameFault) (position : ℕ) (items seen : List ℕ) (fault : FrameFault) → seen ≡ items → stream before (drop position items) ≡ old → before ≡ None
     → fault_at (from position seen) ≡ Some fault → GivesFault old fault (stream (Some fault) (drop position items))
 reads_fault old before position items seen fault same is sound h =
     let found : fault_of (stream before (drop position items)) ≡ Some fault =
-    sound_fault (stream before (drop position items)) sound ∙ ap fault_at (sym (take_rest items position) ∙ ap (from position) (sym same)) ∙ h in
+    sound_fault (stream before (drop position items)) sound ∙ fault_there position items seen fault same h in
     subst (λ (o : Stream). GivesFault o fault (stream (Some fault) (drop position items))) is (record { found = found; stands = refl })
 
 -- a frame's own spelling

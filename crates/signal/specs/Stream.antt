@@ -1,5 +1,5 @@
 -- A stream of bytes that is read frame by frame.
-use Rattle.std.specs.Prelude.{◌≡◌, List, [], ◌∷◌, ◌++◌, ℕ, IsTrue, IsSome, ◌⊎◌, Option, Some, None, Result, Ok, Err, is_some, if◌then◌else◌}
+use Rattle.std.specs.Prelude.{◌≡◌, List, [], ◌∷◌, ◌++◌, ℕ, IsTrue, IsSome, IfSome, ◌⊎◌, Option, Some, None, Result, Ok, Err, is_some, if◌then◌else◌}
 use Rattle.signal.specs.declared.frame.Frame.{Frame}
 use Rattle.signal.specs.declared.fault.FrameFault.{FrameFault}
 use Rattle.signal.specs.Frame.{Spells}
@@ -9,6 +9,10 @@ use Rattle.signal.specs.Fault.{is_partial, fault_at}
 pub record Stream : Type 0 where
   pub fault : Option FrameFault
   pub rest : List ℕ
+
+-- a fault that stands is that of the frame which should begin the rest
+abbrev pub IsStream : Stream → Type 0
+IsStream s = IfSome s.fault (λ fault. fault_at s.rest ≡ Some fault)
 
 abbrev pub start : Stream
 start = record { fault = None; rest = [] }

@@ -3,7 +3,8 @@ use crate::signal::Signal;
 /// What is sent over a link.
 #[derive(Clone, Copy, Debug, PartialEq, Eq)]
 pub enum Frame {
-    /// A federate's greeting, with the number of the last signal that it took.
+    /// The greeting by which an end starts again, with the link's federate and the number of the signal
+    /// that it took last.
     Hello {
         federate: u16,
         incarnation: u32,

@@ -15,17 +15,17 @@ pub struct FrameReader {
 
 impl Model for FrameReader {
     ghost use Rattle.std.specs.Prelude.{◌≤◌, drop, vec_len};
-    ghost use Rattle.signal.specs.Stream.{Stream};
+    ghost use Rattle.signal.specs.Stream.{Stream, IsStream};
 
     ghost Value = { Stream };
 
     ghost view = { λ r. record { fault = r.fault; rest = drop r.position r.buffer.items } };
 
-    ghost invariant = { λ r. r.position ≤ vec_len r.buffer };
+    ghost invariant = { λ r. (r.position ≤ vec_len r.buffer) × IsStream (record { fault = r.fault; rest = drop r.position r.buffer.items }) };
 }
 
 impl FrameReader {
-    ghost use Rattle.std.specs.Prelude.{◌≡◌, ◌≤◌, ◌<◌, OnOk, OnErr, IsOkUnless, IsSome, IsOk, Result, Option, Ok, None, length, drop, vec_len};
+    ghost use Rattle.std.specs.Prelude.{◌≡◌, ◌≢◌, ◌≤◌, ◌<◌, OnOk, OnErr, IfErr, IsOkUnless, IsSome, IsOk, Result, Option, Ok, None, length, drop, vec_len};
     ghost use Rattle.signal.specs.Stream.{Stream, start, fed, Gives};
     ghost use Rattle.signal.specs.declared.frame.Frame.{Frame};
     ghost use Rattle.signal.specs.declared.fault.FrameFault.{FrameFault};
@@ -43,7 +43,7 @@ impl FrameReader {
     /// Takes the next bytes of the stream.
     pub fn feed(&mut self, bytes: &[u8]) -> Result<(), FrameFault>
         ensures ok { OnOk result (self.new ≡ fed self.old bytes.now) }
-        ensures memory { IsOkUnless result FrameFault.Memory }
+        ensures only_memory { IsOkUnless result FrameFault.Memory }
         ensures unchanged { OnErr result (self.new ≡ self.old) }
         ensures standing { IsSome self.old.fault → IsOk result }
     {
@@ -60,13 +60,16 @@ impl FrameReader {
     pub fn next(&mut self) -> Result<Option<Frame>, FrameFault>
         ensures gives { Gives self.old result self.new }
         ensures only { (answer : Result (Option Frame) FrameFault) (after : Stream) → Gives self.old answer after → (result ≡ answer) × (self.new ≡ after) }
+        ensures no_memory { IfErr result (λ e. e ≢ FrameFault.Memory) }
         ensures held { result ≡ Ok None → length self.new.rest < 68 }
     {
         self.read()
     }
 
+    #[tactic(auto, using(crate::proofs::Faults::no_memory))]
     fn read(&mut self) -> Result<Option<Frame>, FrameFault>
-        ensures { Gives self.old result self.new }
+        ensures gives { Gives self.old result self.new }
+        ensures no_memory { IfErr result (λ e. e ≢ FrameFault.Memory) }
     {
         if let Some(fault) = self.fault {
             return Err(fault);

@@ -39,7 +39,7 @@ fn tag_of(bytes: &[u8]) -> Option<tag::Tag>
     let (microstep, _) = take_u32(rest);
     let tag = match Time::new(time) {
         Some(time) => tag::Tag::new(time, microstep),
-        None if time == u64::MAX && microstep == u32::MAX => tag::Tag::forever(),
+        None if time == u64::MAX && microstep == u32::MAX => tag::Tag::FOREVER,
         None => return None,
     };
     tag.known();

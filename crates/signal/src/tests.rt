@@ -81,7 +81,7 @@ fn frames() -> Result<[Frame; 7], Fail> {
         ack,
         refuse,
         data(1, Signal::Net(Tag::origin())),
-        data(1, Signal::Net(Tag::forever())),
+        data(1, Signal::Net(Tag::FOREVER)),
         data(5, message),
         data(2, Signal::Ltc(finite(10_000_000, 1)?)),
     ])

@@ -26,6 +26,12 @@ impl Model for Delay {
 impl Delay {
     ghost use Rattle.tag.specs.LogicalTime.{IsLogicalTime, origin, forever, delay_of};
 
+    /// The delay that is longer than all others.
+    pub const FOREVER: Delay = Delay {
+        time: 1 << 62,
+        microstep: 0,
+    };
+
     pub fn new(time: Time, microstep: u32) -> Delay
         ensures { result ≡ record { time = time; microstep = microstep } }
     {
@@ -60,16 +66,6 @@ impl Delay {
                 time: 0,
                 microstep: 1,
             }
-        }
-    }
-
-    /// The delay that is longer than all others.
-    pub fn forever() -> Delay
-        ensures { result ≡ forever }
-    {
-        Delay {
-            time: 1 << 62,
-            microstep: 0,
         }
     }
 

@@ -21,7 +21,7 @@ pub enum DurationFault {
 impl DurationFault {
     ghost use Rattle.tag.specs.DurationFault.{fault_number};
 
-    pub fn number(self) -> u32
+    pub fn number(self) -> u16
         ensures { result ≡ fault_number self }
     {
         match self {

@@ -6,6 +6,9 @@ ghost use Rattle.tag.specs.Total.{total_of, IsConnectionDelay};
 ghost use Rattle.tag.specs.Duration.{Spells};
 ghost use Rattle.tag.specs.Printed.{printed_time};
 
+use crate::delay::Delay;
+use crate::tag::Tag;
+
 /// Of two tags one is earlier, or they are one.
 pub fn order_is_total()
     ensures irreflexive { (g : LogicalTime) → is_before g g ≡ false }
@@ -82,3 +85,11 @@ pub fn texts_spell_one_duration()
 pub fn printed_times_spell_themselves()
     ensures { (time : ℕ) → time < 2 ^ 62 → Spells (printed_time time) time }
 {}
+
+/// The constants are the FOREVER of the definitions.
+pub fn forever_of_both_kinds() -> (Tag, Delay)
+    ensures tag { result.0 ≡ forever }
+    ensures delay { result.1 ≡ forever }
+{
+    (Tag::FOREVER, Delay::FOREVER)
+}

@@ -12,7 +12,7 @@ pub fn plus(tag: Tag, delay: Delay) -> Tag
     tag.known();
     match sum(tag.time(), tag.microstep(), delay) {
         Some((time, microstep)) => Tag::new(time, microstep),
-        None => Tag::forever(),
+        None => Tag::FOREVER,
     }
 }
 
@@ -23,7 +23,7 @@ pub fn then(first: Delay, second: Delay) -> Delay
     first.known();
     match sum(first.time(), first.microstep(), second) {
         Some((time, microstep)) => Delay::new(time, microstep),
-        None => Delay::forever(),
+        None => Delay::FOREVER,
     }
 }
 

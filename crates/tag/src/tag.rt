@@ -26,22 +26,18 @@ impl Model for Tag {
 impl Tag {
     ghost use Rattle.tag.specs.LogicalTime.{LogicalTime, IsLogicalTime, origin, forever};
 
+    /// The tag that is later than all others.
+    pub const FOREVER: Tag = Tag {
+        time: 1 << 62,
+        microstep: 0,
+    };
+
     pub fn new(time: Time, microstep: u32) -> Tag
         ensures { result ≡ record { time = time; microstep = microstep } }
     {
         Tag {
             time: time.nanoseconds(),
             microstep,
-        }
-    }
-
-    /// The tag that is later than all others.
-    pub fn forever() -> Tag
-        ensures { result ≡ forever }
-    {
-        Tag {
-            time: 1 << 62,
-            microstep: 0,
         }
     }
 

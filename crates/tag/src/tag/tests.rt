@@ -31,8 +31,8 @@ fn order_by_time_then_microstep(rt: HostRuntime) -> Result<(), Fail> {
     let one = Time::new(1).ok_or("1")?;
     assert!(rt; is_earlier(Tag::new(Time::zero(), u32::MAX), Tag::new(one, 0)));
     assert!(rt; is_earlier(Tag::new(one, 0), Tag::new(one, 1)));
-    assert!(rt; is_earlier(Tag::new(one, u32::MAX), Tag::forever()));
-    assert!(rt; is_no_later(Tag::forever(), Tag::forever()));
+    assert!(rt; is_earlier(Tag::new(one, u32::MAX), Tag::FOREVER));
+    assert!(rt; is_no_later(Tag::FOREVER, Tag::FOREVER));
     assert_eq!(rt;
         order(Delay::after(one), Delay::after(Time::zero())),
         Ordering::Greater
@@ -58,15 +58,15 @@ fn printed(rt: HostRuntime) -> Result<(), Fail> {
     let tag = Tag::new(Time::new(10_000_000).ok_or("10 ms")?, 3);
     assert_eq!(rt; tag.to_string(rt.alloc())?.as_str(), "(10 ms, 3)");
     assert_eq!(rt; Tag::origin().to_string(rt.alloc())?.as_str(), "(0, 0)");
-    assert_eq!(rt; Tag::forever().to_string(rt.alloc())?.as_str(), "FOREVER");
+    assert_eq!(rt; Tag::FOREVER.to_string(rt.alloc())?.as_str(), "FOREVER");
     assert_eq!(rt;
         Delay::after(Time::zero()).to_string(rt.alloc())?.as_str(),
         "(0, 1)"
     );
-    assert_eq!(rt; Delay::forever().to_string(rt.alloc())?.as_str(), "FOREVER");
+    assert_eq!(rt; Delay::FOREVER.to_string(rt.alloc())?.as_str(), "FOREVER");
     let finite = FiniteTag::of(tag).ok_or("finite")?;
     assert_eq!(rt; finite.to_string(rt.alloc())?.as_str(), "(10 ms, 3)");
     assert_eq!(rt; finite.tag(), tag);
-    assert_eq!(rt; FiniteTag::of(Tag::forever()), None);
+    assert_eq!(rt; FiniteTag::of(Tag::FOREVER), None);
     Ok(())
 }

@@ -1,0 +1,186 @@
+ghost use Rattle.std.specs.Prelude.{◌≡◌};
+
+use crate::load_fault::LoadFault;
+use plan::{InputFault, PlanFault, PortName, Text};
+use reactor::{Memory, ProgramFault};
+use thiserror::Error;
+
+/// The number of a want of memory that has none of its own.
+const NO_MEMORY: u16 = 91;
+
+/// What the program tells on standard error when it gives up.
+#[derive(Debug, Drop, Error)]
+pub enum Fault<'a> {
+    /// The words are no command.
+    #[error("usage")]
+    Usage,
+    #[error("cannot read {0}")]
+    CannotRead(&'a str),
+    #[error("cannot write")]
+    CannotWrite,
+    /// No memory while words are read or files are loaded.
+    #[error("{number} Memory")]
+    MemoryLoading {
+        number: u16,
+    },
+    /// No memory after that.
+    #[error("{number} Memory")]
+    MemoryRunning {
+        number: u16,
+    },
+    #[error("{number} NoFederate")]
+    NoFederate {
+        number: u16,
+    },
+    #[error("{number} UnknownName {federate}.{port}", federate = .name.federate.as_str(), port = .name.port.as_str())]
+    UnknownName {
+        number: u16,
+        name: PortName,
+    },
+    #[error("{number} TwoSources {federate}.{port}", federate = .name.federate.as_str(), port = .name.port.as_str())]
+    TwoSources {
+        number: u16,
+        name: PortName,
+    },
+    #[error("{number} OverLimit")]
+    OverLimit {
+        number: u16,
+    },
+    #[error("{number} BadTimer")]
+    BadTimer {
+        number: u16,
+    },
+    #[error("{number} RepeatedName {text}", text = .name.as_str())]
+    RepeatedName {
+        number: u16,
+        name: Text,
+    },
+    /// What a later version takes, or refuses by another number.
+    #[error("{number} NotYet")]
+    NotYet {
+        number: u16,
+    },
+    #[error("{number} BadLine {name} {reaction} {line}", name = .federate.as_str())]
+    BadLine {
+        number: u16,
+        federate: Text,
+        reaction: usize,
+        line: usize,
+    },
+    #[error("{number} UnknownOperand {name} {reaction} {line}", name = .federate.as_str())]
+    UnknownOperand {
+        number: u16,
+        federate: Text,
+        reaction: usize,
+        line: usize,
+    },
+    #[error("{number} RepeatedState {name}", name = .federate.as_str())]
+    RepeatedState {
+        number: u16,
+        federate: Text,
+    },
+    #[error("{number} UnknownAction")]
+    UnknownAction {
+        number: u16,
+    },
+    #[error("{number} RepeatedInput")]
+    RepeatedInput {
+        number: u16,
+    },
+}
+
+impl Fault<'_> {
+    ghost use Rattle.fedrun.specs.Told.{status_of};
+
+    /// The exit status that goes with it.
+    pub fn status(&self) -> u8
+        ensures { result ≡ status_of self.now }
+    {
+        match self {
+            Fault::Usage => 2,
+            Fault::CannotWrite | Fault::MemoryRunning { number: _ } => 3,
+            _ => 1,
+        }
+    }
+
+    /// No memory before anything was loaded.
+    pub fn no_memory_loading() -> Fault<'static> {
+        Fault::MemoryLoading {
+            number: LoadFault::Memory.number(),
+        }
+    }
+
+    /// No memory after all was loaded, where it has no number of its own.
+    pub fn no_memory_running() -> Fault<'static> {
+        Fault::MemoryRunning { number: NO_MEMORY }
+    }
+
+    pub fn not_yet() -> Fault<'static> {
+        Fault::NotYet {
+            number: PlanFault::NotYet.number(),
+        }
+    }
+
+    /// How a fault of loading is told. What is no federation by its form is not refused by numbers of its own yet.
+    pub fn of_load(fault: LoadFault) -> Fault<'static> {
+        match fault {
+            LoadFault::NotToml | LoadFault::WrongShape(_) | LoadFault::OverLimit =>
+                Fault::not_yet(),
+            LoadFault::Memory => Fault::no_memory_loading(),
+            LoadFault::Plan(fault) => Fault::of_plan(fault),
+            LoadFault::Program { federate, fault } => Fault::of_program(federate, fault),
+        }
+    }
+
+    fn of_plan(fault: PlanFault) -> Fault<'static> {
+        let number = fault.number();
+        match fault {
+            PlanFault::NoFederate => Fault::NoFederate { number },
+            PlanFault::UnknownName(name) => Fault::UnknownName { number, name },
+            PlanFault::TwoSources(name) => Fault::TwoSources { number, name },
+            PlanFault::OverLimit => Fault::OverLimit { number },
+            PlanFault::BadTimer => Fault::BadTimer { number },
+            PlanFault::Memory => Fault::no_memory_loading(),
+            PlanFault::RepeatedName(name) => Fault::RepeatedName { number, name },
+            PlanFault::NotYet => Fault::NotYet { number },
+        }
+    }
+
+    fn of_program(federate: Text, fault: ProgramFault) -> Fault<'static> {
+        let number = fault.number();
+        match fault {
+            ProgramFault::BadLine { reaction, line } => Fault::BadLine {
+                number,
+                federate,
+                reaction,
+                line,
+            },
+            ProgramFault::UnknownOperand { reaction, line } => Fault::UnknownOperand {
+                number,
+                federate,
+                reaction,
+                line,
+            },
+            ProgramFault::Memory => Fault::no_memory_loading(),
+            ProgramFault::RepeatedState => Fault::RepeatedState { number, federate },
+        }
+    }
+
+    /// How a fault of the undivided program is told.
+    pub fn of_whole(fault: Memory) -> Fault<'static> {
+        Fault::MemoryRunning {
+            number: fault.number(),
+        }
+    }
+
+    /// How a fault of the recorded inputs is told.
+    pub fn of_inputs(fault: InputFault) -> Fault<'static> {
+        let number = fault.number();
+        match fault {
+            InputFault::UnknownAction => Fault::UnknownAction { number },
+            InputFault::RepeatedInput => Fault::RepeatedInput { number },
+            InputFault::OverLimit => Fault::OverLimit { number },
+            InputFault::Memory => Fault::no_memory_loading(),
+        }
+    }
+}

@@ -1,0 +1,51 @@
+//! The program `fedrun`: reads its words and files, and prints the rows of a federation.
+//!
+//! All it does is `command`, a function over words, files and writers; `main` hands it the machine's. Begin with `command`,
+//! then `load` for how a file becomes a plan, and `specs/Printed` for what a row looks like.
+#![tactic(auto)]
+
+mod command;
+mod fault;
+mod files;
+mod load;
+mod load_fault;
+mod machine;
+mod program_shape;
+mod row_text;
+mod section;
+mod shape;
+#[cfg(test)]
+mod tests;
+mod words;
+
+use fault::Fault;
+use machine::MachineFiles;
+use std::env;
+use std::process::ExitCode;
+
+fn main(rt: HostRuntime) -> ExitCode {
+    ExitCode::from(status(&rt))
+}
+
+/// The exit status of the machine's words, over its files and streams.
+fn status(rt: &HostRuntime) -> u8 {
+    let mut err = rt.stderr();
+    match words_of(rt) {
+        Ok(words) => {
+            let mut files = MachineFiles::new(rt);
+            let mut out = rt.stdout();
+            command::command(rt, words.as_slice(), &mut files, &mut out, &mut err)
+        }
+        Err(fault) => command::refuse(&fault, &mut err),
+    }
+}
+
+/// The words after the program's name.
+fn words_of(rt: &HostRuntime) -> Result<Vec<String>, Fault<'static>> {
+    let mut words = Vec::new(rt.alloc());
+    let given = env::args(rt).map_err(|_| Fault::no_memory_loading())?;
+    for word in given.skip(1) {
+        words.push(word).map_err(|_| Fault::no_memory_loading())?;
+    }
+    Ok(words)
+}

@@ -1,0 +1,182 @@
+-- The examples are lawful, and the ring's table is that of its least delays.
+use Rattle.std.proofs.Common.{◌≡◌, ◌≢◌, ℕ, zero, suc, ◌<◌, List, [], ◌∷◌, refl, ap, arith}
+use Rattle.std.specs.Prelude.{pos, All, AllPairs, Contains, IfSome}
+use Rattle.tag.specs.LogicalTime.{LogicalTime, origin, sum_of}
+use Rattle.network.specs.Connection.{Connection}
+use Rattle.network.specs.Event.{Event}
+use Rattle.network.specs.Examples.{at, outside}
+use Rattle.network.specs.Lawful.{IsLawful, IsConnected, EndApart, IsExternal, FallApart, IsOwn, no_delay, some_time}
+use Rattle.laws.specs.Tables.{IsLeastTable, IsTable, IsWithin, IsAttained}
+use Rattle.laws.specs.Ring.{ring, ring_table}
+use Rattle.laws.specs.WeakerRules.{two_microsteps, one_tag, both_ends}
+use Rattle.laws.proofs.FixedPoints.{fixed_point_is_least}
+
+all_nil : {X : Type 0} (P : X → Type 0) → All P []
+all_nil P k d l = absurd (omega arith)
+
+all_cons : {X : Type 0} (P : X → Type 0) (x : X) (xs : List X) → P x → All P xs → All P (x ∷ xs)
+all_cons P x xs p a zero d l = p
+all_cons P x xs p a (suc k) d l = a k d (omega arith)
+
+pairs_nil : {X : Type 0} (R : X → X → Type 0) → AllPairs R []
+pairs_nil R i j d l m = absurd (omega arith)
+
+pairs_cons : {X : Type 0} (R : X → X → Type 0) (x : X) (xs : List X) → All (R x) xs → AllPairs R xs → AllPairs R (x ∷ xs)
+pairs_cons R x xs a p zero zero d l m = absurd (omega arith)
+pairs_cons R x xs a p zero (suc j) d l m = a j d (omega arith)
+pairs_cons R x xs a p (suc i) zero d l m = absurd (omega arith)
+pairs_cons R x xs a p (suc i) (suc j) d l m = p i j d (omega arith) (omega arith)
+
+abbrev ring_0 : Connection
+ring_0 = record { source = 0; port = 0; target = 1; slot = 0; delay = at 0 0 }
+
+abbrev ring_1 : Connection
+ring_1 = record { source = 1; port = 0; target = 2; slot = 0; delay = at 0 0 }
+
+abbrev ring_2 : Connection
+ring_2 = record { source = 2; port = 0; target = 0; slot = 0; delay = at 5 0 }
+
+abbrev ring_event_0 : Event
+ring_event_0 = outside (at 0 0) 0 1 (pos 0)
+
+abbrev ring_event_1 : Event
+ring_event_1 = outside (at 5 0) 0 1 (pos 0)
+
+pub ring_is_lawful : IsLawful ring
+ring_is_lawful = record {
+  some_reactor = omega arith;
+  few_reactors = omega arith;
+  stop = record { time = omega arith; microstep = omega arith };
+  connected = all_cons (IsConnected ring) ring_0 (ring_1 ∷ ring_2 ∷ []) (record { source = omega arith; port = omega arith; target = omega arith; slot = omega arith; delay = no_delay }) (all_cons (IsConnected ring) ring_1 (ring_2 ∷ []) (record { source = omega arith; port = omega arith; target = omega arith; slot = omega arith; delay = no_delay }) (all_cons (IsConnected ring) ring_2 ([]) (record { source = omega arith; port = omega arith; target = omega arith; slot = omega arith; delay = (some_time (omega arith) (omega arith)) }) (all_nil (IsConnected ring))));
+  one_source = pairs_cons EndApart ring_0 (ring_1 ∷ ring_2 ∷ []) (all_cons (EndApart ring_0) ring_1 (ring_2 ∷ []) (λ e f. absurd (omega arith)) (all_cons (EndApart ring_0) ring_2 ([]) (λ e f. absurd (omega arith)) (all_nil (EndApart ring_0)))) (pairs_cons EndApart ring_1 (ring_2 ∷ []) (all_cons (EndApart ring_1) ring_2 ([]) (λ e f. absurd (omega arith)) (all_nil (EndApart ring_1))) (pairs_cons EndApart ring_2 ([]) (all_nil (EndApart ring_2)) (pairs_nil EndApart)));
+  ports_apart = all_cons (λ c. All (λ e. e.reactor ≡ c.target → e.slot ≢ c.slot) ring.external) ring_0 (ring_1 ∷ ring_2 ∷ []) (all_cons (λ e. e.reactor ≡ ring_0.target → e.slot ≢ ring_0.slot) ring_event_0 (ring_event_1 ∷ []) (λ a b. absurd (omega arith)) (all_cons (λ e. e.reactor ≡ ring_0.target → e.slot ≢ ring_0.slot) ring_event_1 ([]) (λ a b. absurd (omega arith)) (all_nil (λ e. e.reactor ≡ ring_0.target → e.slot ≢ ring_0.slot)))) (all_cons (λ c. All (λ e. e.reactor ≡ c.target → e.slot ≢ c.slot) ring.external) ring_1 (ring_2 ∷ []) (all_cons (λ e. e.reactor ≡ ring_1.target → e.slot ≢ ring_1.slot) ring_event_0 (ring_event_1 ∷ []) (λ a b. absurd (omega arith)) (all_cons (λ e. e.reactor ≡ ring_1.target → e.slot ≢ ring_1.slot) ring_event_1 ([]) (λ a b. absurd (omega arith)) (all_nil (λ e. e.reactor ≡ ring_1.target → e.slot ≢ ring_1.slot)))) (all_cons (λ c. All (λ e. e.reactor ≡ c.target → e.slot ≢ c.slot) ring.external) ring_2 ([]) (all_cons (λ e. e.reactor ≡ ring_2.target → e.slot ≢ ring_2.slot) ring_event_0 (ring_event_1 ∷ []) (λ a b. absurd (omega arith)) (all_cons (λ e. e.reactor ≡ ring_2.target → e.slot ≢ ring_2.slot) ring_event_1 ([]) (λ a b. absurd (omega arith)) (all_nil (λ e. e.reactor ≡ ring_2.target → e.slot ≢ ring_2.slot)))) (all_nil (λ c. All (λ e. e.reactor ≡ c.target → e.slot ≢ c.slot) ring.external))));
+  external = all_cons (IsExternal ring) ring_event_0 (ring_event_1 ∷ []) (record { reactor = omega arith; slot = omega arith; tag = record { time = omega arith; microstep = omega arith }; in_time = refl }) (all_cons (IsExternal ring) ring_event_1 ([]) (record { reactor = omega arith; slot = omega arith; tag = record { time = omega arith; microstep = omega arith }; in_time = refl }) (all_nil (IsExternal ring)));
+  external_apart = pairs_cons FallApart ring_event_0 (ring_event_1 ∷ []) (all_cons (FallApart ring_event_0) ring_event_1 ([]) (λ a b c. let t : 0 ≡ 5 = ap (λ (g : LogicalTime). g.time) a in absurd (omega arith)) (all_nil (FallApart ring_event_0))) (pairs_cons FallApart ring_event_1 ([]) (all_nil (FallApart ring_event_1)) (pairs_nil FallApart));
+  ranks = λ i l. l;
+  ranks_apart = λ i j a b e. e;
+  ranks_rise = all_cons (λ c. c.delay ≡ origin → ring.rank c.source < ring.rank c.target) ring_0 (ring_1 ∷ ring_2 ∷ []) (λ e. omega arith) (all_cons (λ c. c.delay ≡ origin → ring.rank c.source < ring.rank c.target) ring_1 (ring_2 ∷ []) (λ e. omega arith) (all_cons (λ c. c.delay ≡ origin → ring.rank c.source < ring.rank c.target) ring_2 ([]) (λ e. let t : 5 ≡ 0 = ap (λ (g : LogicalTime). g.time) e in absurd (omega arith)) (all_nil (λ c. c.delay ≡ origin → ring.rank c.source < ring.rank c.target))));
+  schedulings = λ reactor states present. all_nil (IsOwn ring reactor);
+}
+
+abbrev two_microsteps_0 : Connection
+two_microsteps_0 = record { source = 0; port = 0; target = 1; slot = 0; delay = at 10 0 }
+
+abbrev two_microsteps_1 : Connection
+two_microsteps_1 = record { source = 1; port = 0; target = 2; slot = 0; delay = at 0 0 }
+
+abbrev two_microsteps_event_0 : Event
+two_microsteps_event_0 = outside (at 0 0) 0 1 (pos 0)
+
+abbrev two_microsteps_event_1 : Event
+two_microsteps_event_1 = outside (at 0 1) 0 1 (pos 0)
+
+pub two_microsteps_is_lawful : IsLawful two_microsteps
+two_microsteps_is_lawful = record {
+  some_reactor = omega arith;
+  few_reactors = omega arith;
+  stop = record { time = omega arith; microstep = omega arith };
+  connected = all_cons (IsConnected two_microsteps) two_microsteps_0 (two_microsteps_1 ∷ []) (record { source = omega arith; port = omega arith; target = omega arith; slot = omega arith; delay = (some_time (omega arith) (omega arith)) }) (all_cons (IsConnected two_microsteps) two_microsteps_1 ([]) (record { source = omega arith; port = omega arith; target = omega arith; slot = omega arith; delay = no_delay }) (all_nil (IsConnected two_microsteps)));
+  one_source = pairs_cons EndApart two_microsteps_0 (two_microsteps_1 ∷ []) (all_cons (EndApart two_microsteps_0) two_microsteps_1 ([]) (λ e f. absurd (omega arith)) (all_nil (EndApart two_microsteps_0))) (pairs_cons EndApart two_microsteps_1 ([]) (all_nil (EndApart two_microsteps_1)) (pairs_nil EndApart));
+  ports_apart = all_cons (λ c. All (λ e. e.reactor ≡ c.target → e.slot ≢ c.slot) two_microsteps.external) two_microsteps_0 (two_microsteps_1 ∷ []) (all_cons (λ e. e.reactor ≡ two_microsteps_0.target → e.slot ≢ two_microsteps_0.slot) two_microsteps_event_0 (two_microsteps_event_1 ∷ []) (λ a b. absurd (omega arith)) (all_cons (λ e. e.reactor ≡ two_microsteps_0.target → e.slot ≢ two_microsteps_0.slot) two_microsteps_event_1 ([]) (λ a b. absurd (omega arith)) (all_nil (λ e. e.reactor ≡ two_microsteps_0.target → e.slot ≢ two_microsteps_0.slot)))) (all_cons (λ c. All (λ e. e.reactor ≡ c.target → e.slot ≢ c.slot) two_microsteps.external) two_microsteps_1 ([]) (all_cons (λ e. e.reactor ≡ two_microsteps_1.target → e.slot ≢ two_microsteps_1.slot) two_microsteps_event_0 (two_microsteps_event_1 ∷ []) (λ a b. absurd (omega arith)) (all_cons (λ e. e.reactor ≡ two_microsteps_1.target → e.slot ≢ two_microsteps_1.slot) two_microsteps_event_1 ([]) (λ a b. absurd (omega arith)) (all_nil (λ e. e.reactor ≡ two_microsteps_1.target → e.slot ≢ two_microsteps_1.slot)))) (all_nil (λ c. All (λ e. e.reactor ≡ c.target → e.slot ≢ c.slot) two_microsteps.external)));
+  external = all_cons (IsExternal two_microsteps) two_microsteps_event_0 (two_microsteps_event_1 ∷ []) (record { reactor = omega arith; slot = omega arith; tag = record { time = omega arith; microstep = omega arith }; in_time = refl }) (all_cons (IsExternal two_microsteps) two_microsteps_event_1 ([]) (record { reactor = omega arith; slot = omega arith; tag = record { time = omega arith; microstep = omega arith }; in_time = refl }) (all_nil (IsExternal two_microsteps)));
+  external_apart = pairs_cons FallApart two_microsteps_event_0 (two_microsteps_event_1 ∷ []) (all_cons (FallApart two_microsteps_event_0) two_microsteps_event_1 ([]) (λ a b c. let t : 0 ≡ 1 = ap (λ (g : LogicalTime). g.microstep) a in absurd (omega arith)) (all_nil (FallApart two_microsteps_event_0))) (pairs_cons FallApart two_microsteps_event_1 ([]) (all_nil (FallApart two_microsteps_event_1)) (pairs_nil FallApart));
+  ranks = λ i l. l;
+  ranks_apart = λ i j a b e. e;
+  ranks_rise = all_cons (λ c. c.delay ≡ origin → two_microsteps.rank c.source < two_microsteps.rank c.target) two_microsteps_0 (two_microsteps_1 ∷ []) (λ e. let t : 10 ≡ 0 = ap (λ (g : LogicalTime). g.time) e in absurd (omega arith)) (all_cons (λ c. c.delay ≡ origin → two_microsteps.rank c.source < two_microsteps.rank c.target) two_microsteps_1 ([]) (λ e. omega arith) (all_nil (λ c. c.delay ≡ origin → two_microsteps.rank c.source < two_microsteps.rank c.target)));
+  schedulings = λ reactor states present. all_nil (IsOwn two_microsteps reactor);
+}
+
+abbrev one_tag_0 : Connection
+one_tag_0 = record { source = 0; port = 0; target = 1; slot = 0; delay = at 0 0 }
+
+abbrev one_tag_1 : Connection
+one_tag_1 = record { source = 1; port = 0; target = 2; slot = 0; delay = at 0 0 }
+
+abbrev one_tag_event_0 : Event
+one_tag_event_0 = outside (at 0 0) 0 1 (pos 0)
+
+abbrev one_tag_event_1 : Event
+one_tag_event_1 = outside (at 0 0) 1 1 (pos 0)
+
+pub one_tag_is_lawful : IsLawful one_tag
+one_tag_is_lawful = record {
+  some_reactor = omega arith;
+  few_reactors = omega arith;
+  stop = record { time = omega arith; microstep = omega arith };
+  connected = all_cons (IsConnected one_tag) one_tag_0 (one_tag_1 ∷ []) (record { source = omega arith; port = omega arith; target = omega arith; slot = omega arith; delay = no_delay }) (all_cons (IsConnected one_tag) one_tag_1 ([]) (record { source = omega arith; port = omega arith; target = omega arith; slot = omega arith; delay = no_delay }) (all_nil (IsConnected one_tag)));
+  one_source = pairs_cons EndApart one_tag_0 (one_tag_1 ∷ []) (all_cons (EndApart one_tag_0) one_tag_1 ([]) (λ e f. absurd (omega arith)) (all_nil (EndApart one_tag_0))) (pairs_cons EndApart one_tag_1 ([]) (all_nil (EndApart one_tag_1)) (pairs_nil EndApart));
+  ports_apart = all_cons (λ c. All (λ e. e.reactor ≡ c.target → e.slot ≢ c.slot) one_tag.external) one_tag_0 (one_tag_1 ∷ []) (all_cons (λ e. e.reactor ≡ one_tag_0.target → e.slot ≢ one_tag_0.slot) one_tag_event_0 (one_tag_event_1 ∷ []) (λ a b. absurd (omega arith)) (all_cons (λ e. e.reactor ≡ one_tag_0.target → e.slot ≢ one_tag_0.slot) one_tag_event_1 ([]) (λ a b. absurd (omega arith)) (all_nil (λ e. e.reactor ≡ one_tag_0.target → e.slot ≢ one_tag_0.slot)))) (all_cons (λ c. All (λ e. e.reactor ≡ c.target → e.slot ≢ c.slot) one_tag.external) one_tag_1 ([]) (all_cons (λ e. e.reactor ≡ one_tag_1.target → e.slot ≢ one_tag_1.slot) one_tag_event_0 (one_tag_event_1 ∷ []) (λ a b. absurd (omega arith)) (all_cons (λ e. e.reactor ≡ one_tag_1.target → e.slot ≢ one_tag_1.slot) one_tag_event_1 ([]) (λ a b. absurd (omega arith)) (all_nil (λ e. e.reactor ≡ one_tag_1.target → e.slot ≢ one_tag_1.slot)))) (all_nil (λ c. All (λ e. e.reactor ≡ c.target → e.slot ≢ c.slot) one_tag.external)));
+  external = all_cons (IsExternal one_tag) one_tag_event_0 (one_tag_event_1 ∷ []) (record { reactor = omega arith; slot = omega arith; tag = record { time = omega arith; microstep = omega arith }; in_time = refl }) (all_cons (IsExternal one_tag) one_tag_event_1 ([]) (record { reactor = omega arith; slot = omega arith; tag = record { time = omega arith; microstep = omega arith }; in_time = refl }) (all_nil (IsExternal one_tag)));
+  external_apart = pairs_cons FallApart one_tag_event_0 (one_tag_event_1 ∷ []) (all_cons (FallApart one_tag_event_0) one_tag_event_1 ([]) (λ a b c. absurd (omega arith)) (all_nil (FallApart one_tag_event_0))) (pairs_cons FallApart one_tag_event_1 ([]) (all_nil (FallApart one_tag_event_1)) (pairs_nil FallApart));
+  ranks = λ i l. l;
+  ranks_apart = λ i j a b e. e;
+  ranks_rise = all_cons (λ c. c.delay ≡ origin → one_tag.rank c.source < one_tag.rank c.target) one_tag_0 (one_tag_1 ∷ []) (λ e. omega arith) (all_cons (λ c. c.delay ≡ origin → one_tag.rank c.source < one_tag.rank c.target) one_tag_1 ([]) (λ e. omega arith) (all_nil (λ c. c.delay ≡ origin → one_tag.rank c.source < one_tag.rank c.target)));
+  schedulings = λ reactor states present. all_nil (IsOwn one_tag reactor);
+}
+
+abbrev both_ends_0 : Connection
+both_ends_0 = record { source = 0; port = 0; target = 1; slot = 0; delay = at 0 0 }
+
+abbrev both_ends_1 : Connection
+both_ends_1 = record { source = 1; port = 0; target = 2; slot = 0; delay = at 0 0 }
+
+abbrev both_ends_event_0 : Event
+both_ends_event_0 = outside (at 10 0) 0 1 (pos 0)
+
+abbrev both_ends_event_1 : Event
+both_ends_event_1 = outside (at 10 0) 2 1 (pos 0)
+
+pub both_ends_is_lawful : IsLawful both_ends
+both_ends_is_lawful = record {
+  some_reactor = omega arith;
+  few_reactors = omega arith;
+  stop = record { time = omega arith; microstep = omega arith };
+  connected = all_cons (IsConnected both_ends) both_ends_0 (both_ends_1 ∷ []) (record { source = omega arith; port = omega arith; target = omega arith; slot = omega arith; delay = no_delay }) (all_cons (IsConnected both_ends) both_ends_1 ([]) (record { source = omega arith; port = omega arith; target = omega arith; slot = omega arith; delay = no_delay }) (all_nil (IsConnected both_ends)));
+  one_source = pairs_cons EndApart both_ends_0 (both_ends_1 ∷ []) (all_cons (EndApart both_ends_0) both_ends_1 ([]) (λ e f. absurd (omega arith)) (all_nil (EndApart both_ends_0))) (pairs_cons EndApart both_ends_1 ([]) (all_nil (EndApart both_ends_1)) (pairs_nil EndApart));
+  ports_apart = all_cons (λ c. All (λ e. e.reactor ≡ c.target → e.slot ≢ c.slot) both_ends.external) both_ends_0 (both_ends_1 ∷ []) (all_cons (λ e. e.reactor ≡ both_ends_0.target → e.slot ≢ both_ends_0.slot) both_ends_event_0 (both_ends_event_1 ∷ []) (λ a b. absurd (omega arith)) (all_cons (λ e. e.reactor ≡ both_ends_0.target → e.slot ≢ both_ends_0.slot) both_ends_event_1 ([]) (λ a b. absurd (omega arith)) (all_nil (λ e. e.reactor ≡ both_ends_0.target → e.slot ≢ both_ends_0.slot)))) (all_cons (λ c. All (λ e. e.reactor ≡ c.target → e.slot ≢ c.slot) both_ends.external) both_ends_1 ([]) (all_cons (λ e. e.reactor ≡ both_ends_1.target → e.slot ≢ both_ends_1.slot) both_ends_event_0 (both_ends_event_1 ∷ []) (λ a b. absurd (omega arith)) (all_cons (λ e. e.reactor ≡ both_ends_1.target → e.slot ≢ both_ends_1.slot) both_ends_event_1 ([]) (λ a b. absurd (omega arith)) (all_nil (λ e. e.reactor ≡ both_ends_1.target → e.slot ≢ both_ends_1.slot)))) (all_nil (λ c. All (λ e. e.reactor ≡ c.target → e.slot ≢ c.slot) both_ends.external)));
+  external = all_cons (IsExternal both_ends) both_ends_event_0 (both_ends_event_1 ∷ []) (record { reactor = omega arith; slot = omega arith; tag = record { time = omega arith; microstep = omega arith }; in_time = refl }) (all_cons (IsExternal both_ends) both_ends_event_1 ([]) (record { reactor = omega arith; slot = omega arith; tag = record { time = omega arith; microstep = omega arith }; in_time = refl }) (all_nil (IsExternal both_ends)));
+  external_apart = pairs_cons FallApart both_ends_event_0 (both_ends_event_1 ∷ []) (all_cons (FallApart both_ends_event_0) both_ends_event_1 ([]) (λ a b c. absurd (omega arith)) (all_nil (FallApart both_ends_event_0))) (pairs_cons FallApart both_ends_event_1 ([]) (all_nil (FallApart both_ends_event_1)) (pairs_nil FallApart));
+  ranks = λ i l. l;
+  ranks_apart = λ i j a b e. e;
+  ranks_rise = all_cons (λ c. c.delay ≡ origin → both_ends.rank c.source < both_ends.rank c.target) both_ends_0 (both_ends_1 ∷ []) (λ e. omega arith) (all_cons (λ c. c.delay ≡ origin → both_ends.rank c.source < both_ends.rank c.target) both_ends_1 ([]) (λ e. omega arith) (all_nil (λ c. c.delay ≡ origin → both_ends.rank c.source < both_ends.rank c.target)));
+  schedulings = λ reactor states present. all_nil (IsOwn both_ends reactor);
+}
+
+ring_onward : (j : ℕ) → All (λ c. IfSome (ring_table c.target j) (λ rest. IsWithin (ring_table c.source j) (sum_of c.delay rest))) ring.connections
+ring_onward zero = all_cons (λ c. IfSome (ring_table c.target zero) (λ rest. IsWithin (ring_table c.source zero) (sum_of c.delay rest))) ring_0 (ring_1 ∷ ring_2 ∷ []) refl (all_cons (λ c. IfSome (ring_table c.target zero) (λ rest. IsWithin (ring_table c.source zero) (sum_of c.delay rest))) ring_1 (ring_2 ∷ []) refl (all_cons (λ c. IfSome (ring_table c.target zero) (λ rest. IsWithin (ring_table c.source zero) (sum_of c.delay rest))) ring_2 ([]) refl (all_nil (λ c. IfSome (ring_table c.target zero) (λ rest. IsWithin (ring_table c.source zero) (sum_of c.delay rest))))))
+ring_onward (suc zero) = all_cons (λ c. IfSome (ring_table c.target (suc zero)) (λ rest. IsWithin (ring_table c.source (suc zero)) (sum_of c.delay rest))) ring_0 (ring_1 ∷ ring_2 ∷ []) refl (all_cons (λ c. IfSome (ring_table c.target (suc zero)) (λ rest. IsWithin (ring_table c.source (suc zero)) (sum_of c.delay rest))) ring_1 (ring_2 ∷ []) refl (all_cons (λ c. IfSome (ring_table c.target (suc zero)) (λ rest. IsWithin (ring_table c.source (suc zero)) (sum_of c.delay rest))) ring_2 ([]) refl (all_nil (λ c. IfSome (ring_table c.target (suc zero)) (λ rest. IsWithin (ring_table c.source (suc zero)) (sum_of c.delay rest))))))
+ring_onward (suc (suc zero)) = all_cons (λ c. IfSome (ring_table c.target (suc (suc zero))) (λ rest. IsWithin (ring_table c.source (suc (suc zero))) (sum_of c.delay rest))) ring_0 (ring_1 ∷ ring_2 ∷ []) refl (all_cons (λ c. IfSome (ring_table c.target (suc (suc zero))) (λ rest. IsWithin (ring_table c.source (suc (suc zero))) (sum_of c.delay rest))) ring_1 (ring_2 ∷ []) refl (all_cons (λ c. IfSome (ring_table c.target (suc (suc zero))) (λ rest. IsWithin (ring_table c.source (suc (suc zero))) (sum_of c.delay rest))) ring_2 ([]) refl (all_nil (λ c. IfSome (ring_table c.target (suc (suc zero))) (λ rest. IsWithin (ring_table c.source (suc (suc zero))) (sum_of c.delay rest))))))
+ring_onward (suc (suc (suc j))) = all_cons (λ c. IfSome (ring_table c.target (suc (suc (suc j)))) (λ rest. IsWithin (ring_table c.source (suc (suc (suc j)))) (sum_of c.delay rest))) ring_0 (ring_1 ∷ ring_2 ∷ []) tt (all_cons (λ c. IfSome (ring_table c.target (suc (suc (suc j)))) (λ rest. IsWithin (ring_table c.source (suc (suc (suc j)))) (sum_of c.delay rest))) ring_1 (ring_2 ∷ []) tt (all_cons (λ c. IfSome (ring_table c.target (suc (suc (suc j)))) (λ rest. IsWithin (ring_table c.source (suc (suc (suc j)))) (sum_of c.delay rest))) ring_2 ([]) tt (all_nil (λ c. IfSome (ring_table c.target (suc (suc (suc j)))) (λ rest. IsWithin (ring_table c.source (suc (suc (suc j)))) (sum_of c.delay rest))))))
+
+ring_is_table : IsTable ring ring_table
+ring_is_table = record { direct = all_cons (λ c. IsWithin (ring_table c.source c.target) c.delay) ring_0 (ring_1 ∷ ring_2 ∷ []) refl (all_cons (λ c. IsWithin (ring_table c.source c.target) c.delay) ring_1 (ring_2 ∷ []) refl (all_cons (λ c. IsWithin (ring_table c.source c.target) c.delay) ring_2 ([]) refl (all_nil (λ c. IsWithin (ring_table c.source c.target) c.delay)))); onward = ring_onward }
+
+within_0 : Contains ring.connections ring_0
+within_0 = (0, omega arith, refl)
+
+within_1 : Contains ring.connections ring_1
+within_1 = (1, omega arith, refl)
+
+within_2 : Contains ring.connections ring_2
+within_2 = (2, omega arith, refl)
+
+ring_attained : (i j : ℕ) → IsAttained ring.connections i j (ring_table i j)
+ring_attained zero zero = (ring_0 ∷ ring_1 ∷ ring_2 ∷ [], (within_0, refl, (within_1, refl, (within_2, refl, refl))), refl)
+ring_attained zero (suc zero) = (ring_0 ∷ [], (within_0, refl, refl), refl)
+ring_attained zero (suc (suc zero)) = (ring_0 ∷ ring_1 ∷ [], (within_0, refl, (within_1, refl, refl)), refl)
+ring_attained zero (suc (suc (suc j))) = tt
+ring_attained (suc zero) zero = (ring_1 ∷ ring_2 ∷ [], (within_1, refl, (within_2, refl, refl)), refl)
+ring_attained (suc zero) (suc zero) = (ring_1 ∷ ring_2 ∷ ring_0 ∷ [], (within_1, refl, (within_2, refl, (within_0, refl, refl))), refl)
+ring_attained (suc zero) (suc (suc zero)) = (ring_1 ∷ [], (within_1, refl, refl), refl)
+ring_attained (suc zero) (suc (suc (suc j))) = tt
+ring_attained (suc (suc zero)) zero = (ring_2 ∷ [], (within_2, refl, refl), refl)
+ring_attained (suc (suc zero)) (suc zero) = (ring_2 ∷ ring_0 ∷ [], (within_2, refl, (within_0, refl, refl)), refl)
+ring_attained (suc (suc zero)) (suc (suc zero)) = (ring_2 ∷ ring_0 ∷ ring_1 ∷ [], (within_2, refl, (within_0, refl, (within_1, refl, refl))), refl)
+ring_attained (suc (suc zero)) (suc (suc (suc j))) = tt
+ring_attained (suc (suc (suc i))) zero = tt
+ring_attained (suc (suc (suc i))) (suc zero) = tt
+ring_attained (suc (suc (suc i))) (suc (suc zero)) = tt
+ring_attained (suc (suc (suc i))) (suc (suc (suc j))) = tt
+
+pub ring_is_least : IsLeastTable ring ring_table
+ring_is_least = fixed_point_is_least ring ring_table ring_is_table ring_attained

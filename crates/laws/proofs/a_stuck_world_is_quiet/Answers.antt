@@ -1,0 +1,5 @@
+use Rattle.laws.proofs.Stuck.{stuck_quiet}
+use Rattle.laws.proofs.a_stuck_world_is_quiet.Goals as goal
+
+pub returns : goal.returns
+returns c = stuck_quiet

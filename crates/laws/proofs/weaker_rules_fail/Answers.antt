@@ -1,0 +1,11 @@
+use Rattle.laws.proofs.Computed.{last_ltcs_refused, equal_paths_refused, direct_refused}
+use Rattle.laws.proofs.weaker_rules_fail.Goals as goal
+
+pub returns-clause-last_ltcs : goal.returns-clause-last_ltcs
+returns-clause-last_ltcs c = last_ltcs_refused
+
+pub returns-clause-equal_paths : goal.returns-clause-equal_paths
+returns-clause-equal_paths c = equal_paths_refused
+
+pub returns-clause-direct : goal.returns-clause-direct
+returns-clause-direct c = direct_refused

@@ -1,0 +1,11 @@
+-- What the laws speak of, beside the definitions of the crates below.
+-- tables of least delays
+pub mod Tables
+-- runs of the machine that are refused nothing
+pub mod Runs
+-- a network with a cycle, and a run of it to its end
+pub mod Ring
+-- weaker rules, by which messages come too late
+pub mod WeakerRules
+-- chains of what is pending
+pub mod Chains

@@ -1,0 +1,51 @@
+-- Runs of the machine: what is never refused, and what is left where every next tag is FOREVER.
+use Rattle.std.specs.Prelude.{◌≡◌, ◌≢◌, ℕ, ◌<◌, Bool, true, false, IsTrue, List, [], length, MatchOption}
+use Rattle.std.specs.List.{list_any}
+use Rattle.tag.specs.LogicalTime.{IsLogicalTime, forever, is_at_most}
+use Rattle.network.specs.Network.{Network}
+use Rattle.signal.specs.declared.signal.Signal.{Signal}
+use Rattle.signal.specs.declared.signal.Signal.TheVariants.{Net, Ltc, Tag, Msg}
+use Rattle.protocol.specs.Outcome.{Refused, Nothing}
+use Rattle.protocol.specs.Federate.{federate_announces, federate_advances}
+use Rattle.protocol.specs.Standing.{Standing}
+use Rattle.protocol.specs.Grant.{Rule, Table, is_eligible}
+use Rattle.protocol.specs.Machine.{Member, Move, outcome_of, after_moves}
+
+-- whatever was done before, whatever comes next isn't refused
+abbrev pub RefusesNothing : Network → (ℕ → Rule) → Type 0
+RefusesNothing n rules = (moves : List Move) (move : Move) (number : ℕ) → outcome_of n (rules (length moves)) (after_moves n rules moves) move ≢ Refused number
+
+-- a message
+abbrev pub is_message : Signal → Bool
+is_message (Net tag) = false
+is_message (Ltc tag) = false
+is_message (Tag tag) = false
+is_message (Msg connection tag value) = true
+
+-- nothing is left to do: no event is undone, no message is on its way
+pub record IsQuiet (m : Member) : Type 0 where
+  pub undone : m.federate.undone ≡ []
+  pub up : list_any is_message m.up ≡ false
+  pub down : list_any is_message m.down ≡ false
+
+-- wherever a federate's next tag is FOREVER, nothing is left to do for it
+abbrev pub EndsQuiet : Network → (ℕ → Rule) → Type 0
+EndsQuiet n rules = (moves : List Move) (j : ℕ) → (after_moves n rules moves j).standing.next ≡ forever → IsQuiet (after_moves n rules moves j)
+
+-- there is nothing to take, to announce or to advance
+pub record IsStuck (n : Network) (j : ℕ) (m : Member) : Type 0 where
+  pub up : m.up ≡ []
+  pub down : m.down ≡ []
+  pub announce : federate_announces m.federate ≡ Nothing
+  pub advance : federate_advances n j m.federate ≡ Nothing
+
+-- a rule that leaves no eligible federate without a grant of at least its next tag
+abbrev pub IsFullRule : Network → Table → Rule → Type 0
+IsFullRule n table rule =
+    (standings : ℕ → Standing) → ((i : ℕ) → IsLogicalTime (standings i).next) → (j : ℕ) →
+    MatchOption (rule standings j) (is_eligible n table standings j ≡ false) (λ tag. IsTrue (is_at_most (standings j).next tag))
+
+-- where every federate is stuck, nothing is left to do for any of them
+abbrev pub StucksQuiet : Network → (ℕ → Rule) → Type 0
+StucksQuiet n rules =
+    (moves : List Move) → ((j : ℕ) → j < n.reactors → IsStuck n j (after_moves n rules moves j)) → (j : ℕ) → j < n.reactors → IsQuiet (after_moves n rules moves j)

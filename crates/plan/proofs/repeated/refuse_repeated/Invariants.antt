@@ -1,0 +1,8 @@
+use Rattle.std.proofs.Common.{take}
+use Rattle.std.specs.Prelude.{All}
+use Rattle.plan.specs.Naming.{AreDistinct}
+use Rattle.plan.specs.Numbering.{all_names}
+use Rattle.plan.proofs.repeated.refuse_repeated.Given as goal
+
+abbrev pub invariant-loop-federate : goal.invariant-loop-federate
+invariant-loop-federate l = All (λ f. AreDistinct (all_names f.slots)) (take l.federate-index l.federates)

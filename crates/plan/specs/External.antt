@@ -1,0 +1,86 @@
+-- What comes to a federation from outside: startups, firings of timers, and recorded inputs, up to stop.
+use Rattle.std.specs.Prelude.{◌≡◌, ℕ, zero, suc, ◌+◌, ◌-◌, ◌/◌, ◌≤◌, ℤ, pos, nat_eq, nat_le, if◌then◌else◌, List, [], ◌∷◌, ◌++◌, map, filter, length, All, AllPairs, IsSome, Option, None, Some, slice_get}
+use Rattle.std.specs.Option.{option_map}
+use Rattle.std.specs.List.{filter_map}
+use Rattle.tag.specs.LogicalTime.{LogicalTime, origin, is_at_most, IsFinite}
+use Rattle.network.specs.Event.{Event}
+use Rattle.plan.specs.declared.slots.Slots.{Slots}
+use Rattle.plan.specs.declared.slots.Timer.{Timer}
+use Rattle.plan.specs.declared.draft.Federate.{Federate}
+use Rattle.plan.specs.declared.draft.Draft.{Draft}
+use Rattle.plan.specs.declared.input.Input.{Input}
+use Rattle.plan.specs.Numbering.{startup_slot, first_timer, first_physical}
+use Rattle.plan.specs.Federation.{Found, found_in, stop_of}
+
+-- an event from outside; nothing in the federation made it, so its source is the first tag
+abbrev pub outside : LogicalTime → ℕ → ℕ → ℤ → Event
+outside tag federate slot value =
+    record { tag = tag; reactor = federate; slot = slot; source = record { tag = origin; place = 0 }; value = value }
+
+-- so many times, each a period after the one before
+abbrev pub times_from : ℕ → ℕ → ℕ → List ℕ
+times_from time period zero = []
+times_from time period (suc count) = time ∷ times_from (time + period) period count
+
+-- how often a timer fires up to stop: with period 0 once
+abbrev pub firing_count : ℕ → Timer → ℕ
+firing_count stop t = if nat_le t.offset stop then (if nat_eq t.period 0 then 1 else (stop - t.offset) / t.period + 1) else 0
+
+-- the times at which it does
+abbrev pub firing_times : ℕ → Timer → List ℕ
+firing_times stop t = times_from t.offset t.period (firing_count stop t)
+
+-- the firings of timers, the first of which has this slot
+abbrev pub firings_from : ℕ → ℕ → ℕ → List Timer → List Event
+firings_from stop federate slot [] = []
+firings_from stop federate slot (t ∷ rest) =
+    map (λ time. outside (record { time = time; microstep = 0 }) federate slot (pos 0)) (firing_times stop t)
+    ++ firings_from stop federate (slot + 1) rest
+
+-- a federate's startup, where it has one
+abbrev pub startup_of : ℕ → Slots → List Event
+startup_of federate s = if s.startup then outside origin federate startup_slot (pos 0) ∷ [] else []
+
+-- startups and firings of federates, the first of which has this number
+abbrev pub own_events_from : ℕ → ℕ → List Federate → List Event
+own_events_from stop federate [] = []
+own_events_from stop federate (f ∷ rest) =
+    startup_of federate f.slots ++ firings_from stop federate (first_timer f.slots) f.slots.timers
+    ++ own_events_from stop (federate + 1) rest
+
+-- the physical action of a recorded input
+abbrev pub found_action : List Federate → Input → Option Found
+found_action federates i = found_in (λ s. s.physical) federates i.federate i.action
+
+-- the slot of this federate's physical action at this place
+abbrev pub slot_in : Option Federate → ℕ → ℕ
+slot_in None place = place
+slot_in (Some f) place = first_physical f.slots + place
+
+-- the slot of a federate's physical action at this place
+abbrev pub physical_slot : List Federate → Found → ℕ
+physical_slot federates found = slot_in (slice_get federates found.federate) found.place
+
+-- the event of a recorded input
+abbrev pub input_event : List Federate → Input → Option Event
+input_event federates i =
+    option_map (λ found. outside i.tag found.federate (physical_slot federates found) i.value) (found_action federates i)
+
+-- recorded inputs up to stop
+abbrev pub input_events : Draft → List Input → List Event
+input_events d inputs = filter (λ e. is_at_most e.tag (stop_of d)) (filter_map (input_event d.federates) inputs)
+
+-- all external events
+abbrev pub external_of : Draft → List Input → List Event
+external_of d inputs = own_events_from d.stop 0 d.federates ++ input_events d inputs
+
+-- two recorded inputs aren't for one action at one tag
+abbrev pub AreApart : Input → Input → Type 0
+AreApart a b = a.federate ≡ b.federate → a.action ≡ b.action → a.tag ≡ b.tag → ⊥
+
+-- inputs of a federation: physical actions of it, each at most once at a tag and never at FOREVER, and at most 65,536 of them
+pub record AreInputsOf (d : Draft) (inputs : List Input) : Type 0 where
+  pub known : All (λ i. IsSome (found_action d.federates i)) inputs
+  pub apart : AllPairs AreApart inputs
+  pub few : length inputs ≤ 65536
+  pub finite : All (λ i. IsFinite i.tag) inputs

@@ -1,0 +1,86 @@
+-- What each refusal says of a draft or of recorded inputs, and its number.
+use Rattle.std.specs.Prelude.{◌≡◌, ℕ, ◌<◌, ◌≤◌, ◌⊎◌, List, [], length, map, All, Any, IsSome, None, Some, slice_get, slice_index_or}
+use Rattle.network.specs.Connection.{Connection}
+use Rattle.plan.specs.declared.draft.PortName.{PortName}
+use Rattle.plan.specs.declared.draft.Draft.{Draft}
+use Rattle.plan.specs.declared.fault.PlanFault.{PlanFault}
+use Rattle.plan.specs.declared.fault.PlanFault.TheVariants.{NoFederate, UnknownName, TwoSources, OverLimit, BadTimer, Memory, RepeatedName, NotYet}
+use Rattle.plan.specs.Naming.{AreDistinct}
+use Rattle.plan.specs.Numbering.{all_names}
+use Rattle.plan.specs.Federation.{federate_names, found_output, found_input}
+use Rattle.plan.specs.Legal.{IsWithinLimits, IsTimerInRange}
+use Rattle.plan.specs.Plain.{IsPlain}
+
+-- an element stands at two places of a list
+pub record StandsTwice {X : Type 0} (xs : List X) (x : X) : Type 0 where
+  pub first : ℕ
+  pub later : ℕ
+  pub in_order : first < later
+  pub at_first : slice_get xs first ≡ Some x
+  pub at_later : slice_get xs later ≡ Some x
+
+-- a connection names this port, and it isn't there
+abbrev pub IsUnknown : Draft → PortName → Type 0
+IsUnknown d p =
+    Any (λ c. (c.from ≡ p) × (found_output d.federates p ≡ None)) d.connections
+    ⊎ Any (λ c. (c.to ≡ p) × (found_input d.federates p ≡ None)) d.connections
+
+-- two connections go to this port, and it is there
+pub record HasTwoSources (d : Draft) (p : PortName) : Type 0 where
+  pub found : IsSome (found_input d.federates p)
+  pub twice : StandsTwice (map (λ c. c.to) d.connections) p
+
+-- two federates have this name, or two slots of one federate
+abbrev pub IsRepeated : Draft → List ℕ → Type 0
+IsRepeated d name =
+    StandsTwice (federate_names d.federates) name ⊎ Any (λ f. StandsTwice (all_names f.slots) name) d.federates
+
+-- no two federates, and no two slots of one federate, have one name
+pub record HasDistinctNames (d : Draft) : Type 0 where
+  pub federates : AreDistinct (federate_names d.federates)
+  pub slots : All (λ f. AreDistinct (all_names f.slots)) d.federates
+
+-- each connection goes from an output that is there to an input that is there
+pub record ArePortsThere (d : Draft) : Type 0 where
+  pub from_outputs : All (λ c. IsSome (found_output d.federates c.from)) d.connections
+  pub to_inputs : All (λ c. IsSome (found_input d.federates c.to)) d.connections
+
+-- the later connection goes to a port to which an earlier one goes
+pub record EndsTwice (connections : List Connection) (later : ℕ) : Type 0 where
+  pub first : ℕ
+  pub in_order : first < later
+  pub there : later < length connections
+  pub target : (d : Connection) → (slice_index_or connections first d).target ≡ (slice_index_or connections later d).target
+  pub slot : (d : Connection) → (slice_index_or connections first d).slot ≡ (slice_index_or connections later d).slot
+
+-- all limits hold
+pub record IsWithinAllLimits (d : Draft) : Type 0 where
+  pub federates : length d.federates ≤ 64
+  pub connections : length d.connections ≤ 1024
+  pub slots : All (λ f. IsWithinLimits f.slots) d.federates
+
+-- all timers are in range
+abbrev pub AreTimersInRange : Draft → Type 0
+AreTimersInRange d = All (λ f. All IsTimerInRange f.slots.timers) d.federates
+
+-- the fault is in the draft; of want of memory no draft says anything
+abbrev pub StandsIn : Draft → PlanFault → Type 0
+StandsIn d NoFederate = d.federates ≡ []
+StandsIn d (UnknownName p) = IsUnknown d p
+StandsIn d (TwoSources p) = HasTwoSources d p
+StandsIn d OverLimit = ¬ IsWithinAllLimits d
+StandsIn d BadTimer = ¬ AreTimersInRange d
+StandsIn d Memory = Unit {0}
+StandsIn d (RepeatedName name) = IsRepeated d name
+StandsIn d NotYet = ¬ IsPlain d
+
+-- the refusal's number
+abbrev pub number_of : PlanFault → ℕ
+number_of NoFederate = 10
+number_of (UnknownName p) = 11
+number_of (TwoSources p) = 12
+number_of OverLimit = 14
+number_of BadTimer = 15
+number_of Memory = 16
+number_of (RepeatedName name) = 17
+number_of NotYet = 18

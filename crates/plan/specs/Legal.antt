@@ -1,0 +1,52 @@
+-- Legal federations.
+use Rattle.std.specs.Prelude.{◌≡◌, ℕ, ◌^◌, ◌<◌, ◌≤◌, List, length, All, AllPairs, IsSome, IfSome}
+use Rattle.tag.specs.LogicalTime.{origin}
+use Rattle.network.specs.Connection.{Connection, IsPath, total_of}
+use Rattle.plan.specs.declared.slots.Slots.{Slots}
+use Rattle.plan.specs.declared.slots.Timer.{Timer}
+use Rattle.plan.specs.declared.draft.Draft.{Draft}
+use Rattle.plan.specs.Naming.{AreDistinct}
+use Rattle.plan.specs.Numbering.{all_names}
+use Rattle.plan.specs.Federation.{federate_names, found_output, found_input, connections_of}
+
+-- a federate has at most 32 of each kind of slot
+pub record IsWithinLimits (s : Slots) : Type 0 where
+  pub inputs : length s.inputs ≤ 32
+  pub outputs : length s.outputs ≤ 32
+  pub timers : length s.timers ≤ 32
+  pub actions : length s.actions ≤ 32
+  pub physical : length s.physical ≤ 32
+
+-- a timer's times are below 2^62 ns
+abbrev pub IsTimerInRange : Timer → Type 0
+IsTimerInRange t = (t.offset < 2 ^ 62) × (t.period < 2 ^ 62)
+
+-- two connections end at different ports
+abbrev pub EndApart : Connection → Connection → Type 0
+EndApart c d = c.target ≡ d.target → c.slot ≡ d.slot → ⊥
+
+-- no path from a federate to itself is without any delay
+abbrev pub HasNoImmediateCycle : List Connection → Type 0
+HasNoImmediateCycle connections = (i : ℕ) (path : List Connection) → IsPath connections i path i → total_of path ≡ origin → ⊥
+
+pub record IsLegal (d : Draft) : Type 0 where
+  -- there is a federate, and there are at most 64 federates and 1024 connections
+  pub some_federate : 0 < length d.federates
+  pub few_federates : length d.federates ≤ 64
+  pub few_connections : length d.connections ≤ 1024
+  pub few_slots : All (λ f. IsWithinLimits f.slots) d.federates
+  -- no two federates, and no two slots of one federate, have one name
+  pub federates_apart : AreDistinct (federate_names d.federates)
+  pub slots_apart : All (λ f. AreDistinct (all_names f.slots)) d.federates
+  -- timers
+  pub timers : All (λ f. All IsTimerInRange f.slots.timers) d.federates
+  -- the stop time is below 2^62 ns
+  pub stop : d.stop < 2 ^ 62
+  -- the times of delays are below 2^62 ns
+  pub delays : All (λ c. IfSome c.after (λ t. t < 2 ^ 62)) d.connections
+  -- each connection goes from an output that is there to an input that is there
+  pub from_outputs : All (λ c. IsSome (found_output d.federates c.from)) d.connections
+  pub to_inputs : All (λ c. IsSome (found_input d.federates c.to)) d.connections
+  -- a port has at most one source
+  pub one_source : AllPairs EndApart (connections_of d)
+  pub no_immediate_cycle : HasNoImmediateCycle (connections_of d)

@@ -1,0 +1,32 @@
+-- A federate's slots by number: 0 is startup, then come inputs, timers, actions and physical actions, each in order of
+-- declaration. Output ports have numbers of their own.
+use Rattle.std.specs.Prelude.{ℕ, ◌+◌, List, ◌++◌, map, length}
+use Rattle.plan.specs.declared.slots.Slots.{Slots}
+use Rattle.plan.specs.declared.slots.Timer.{Timer}
+
+abbrev pub startup_slot : ℕ
+startup_slot = 0
+
+-- the slot of the first input, timer, action and physical action
+abbrev pub first_input : ℕ
+first_input = 1
+
+abbrev pub first_timer : Slots → ℕ
+first_timer s = 1 + length s.inputs
+
+abbrev pub first_action : Slots → ℕ
+first_action s = first_timer s + length s.timers
+
+abbrev pub first_physical : Slots → ℕ
+first_physical s = first_action s + length s.actions
+
+-- how many slots there are
+abbrev pub slot_count : Slots → ℕ
+slot_count s = first_physical s + length s.physical
+
+abbrev pub timer_names : List Timer → List (List ℕ)
+timer_names timers = map (λ t. t.name) timers
+
+-- the names of all slots and outputs, which share one set of names
+abbrev pub all_names : Slots → List (List ℕ)
+all_names s = s.inputs ++ s.outputs ++ timer_names s.timers ++ s.actions ++ s.physical

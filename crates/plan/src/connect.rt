@@ -1,0 +1,49 @@
+ghost use Rattle.std.specs.Prelude.{◌≡◌, IfOk, OnOk, IfErr};
+ghost use Rattle.plan.specs.Federation.{connections_of, delay_after};
+ghost use Rattle.plan.specs.Faults.{ArePortsThere, StandsIn};
+
+use crate::connection::Connection;
+use crate::draft::Draft;
+use crate::fault::PlanFault;
+use crate::lookup::{found_input, found_output};
+use std::alloc::Global;
+use tag::{Delay, Time};
+
+/// A federate's slot 0 is its startup; then come its inputs.
+const FIRST_INPUT: usize = 1;
+
+fn delay_after(after: Option<Time>) -> Delay
+    ensures { result ≡ delay_after after }
+{
+    match after {
+        None => Delay::none(),
+        Some(time) => Delay::after(time),
+    }
+}
+
+/// The connections by number, of a draft all of whose ports are there.
+pub(crate) fn connect(alloc: Global, draft: &Draft) -> Result<Vec<Connection>, PlanFault>
+    ensures value { IfOk result (λ connections. connections.items ≡ connections_of draft.now) }
+    ensures there { OnOk result (ArePortsThere draft.now) }
+    ensures fault { IfErr result (StandsIn draft.now) }
+{
+    let federates = draft.federates.as_slice();
+    let mut connections = Vec::new(alloc);
+    for declared in draft.connections.as_slice() {
+        let Some(from) = found_output(federates, &declared.from) else {
+            return Err(PlanFault::UnknownName(declared.from.clone()?));
+        };
+        let Some(to) = found_input(federates, &declared.to) else {
+            return Err(PlanFault::UnknownName(declared.to.clone()?));
+        };
+        let delay = delay_after(declared.after);
+        connections.push(Connection::new(
+            from.federate,
+            from.place,
+            to.federate,
+            FIRST_INPUT + to.place,
+            delay,
+        ))?;
+    }
+    Ok(connections)
+}

@@ -1,0 +1,31 @@
+//! A federation that was checked: its federates, connections and ranks, and recorded inputs.
+//!
+//! Promise to the layer above: a `Plan` is a legal draft (`specs/Legal`). Begin with `draft`, then `plan`.
+#![tactic(auto)]
+
+mod connect;
+pub mod connection;
+pub mod draft;
+pub mod fault;
+pub mod input;
+pub mod laws;
+mod limits;
+mod lookup;
+mod plain;
+pub mod plan;
+mod ranks;
+mod repeated;
+pub mod slots;
+mod sources;
+pub mod text;
+
+pub use connection::Connection;
+pub use draft::{ConnectionDraft, Connections, Draft, Federate, Federates, PortName};
+pub use fault::{InputFault, PlanFault};
+pub use input::{Input, Inputs};
+pub use plan::Plan;
+pub use slots::{Slots, Timer, Timers};
+pub use text::{Names, Text};
+
+#[cfg(test)]
+mod tests;

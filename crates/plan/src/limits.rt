@@ -1,0 +1,83 @@
+ghost use Rattle.std.specs.Prelude.{◌≡◌, ◌<◌, ◌↔◌, length, IsTrue, All, OnOk, IfErr};
+ghost use Rattle.plan.specs.Legal.{IsWithinLimits, IsTimerInRange};
+ghost use Rattle.plan.specs.Faults.{IsWithinAllLimits, AreTimersInRange, StandsIn};
+
+use crate::draft::{Draft, Federate};
+use crate::fault::PlanFault;
+use crate::slots::{Slots, Timer};
+
+const MOST_FEDERATES: usize = 64;
+
+const MOST_CONNECTIONS: usize = 1024;
+/// Of each kind, for each federate.
+const MOST_SLOTS: usize = 32;
+/// In ns; no time reaches it.
+const END_OF_TIME: u64 = 1 << 62;
+
+fn is_within_limits(slots: &Slots) -> bool
+    ensures { IsTrue result ↔ IsWithinLimits slots.now }
+{
+    slots.inputs.as_slice().len() <= MOST_SLOTS
+        && slots.outputs.as_slice().len() <= MOST_SLOTS
+        && slots.timers.as_slice().len() <= MOST_SLOTS
+        && slots.actions.as_slice().len() <= MOST_SLOTS
+        && slots.physical.as_slice().len() <= MOST_SLOTS
+}
+
+fn are_slots_within_limits(federates: &[Federate]) -> bool
+    ensures { IsTrue result ↔ All (λ f. IsWithinLimits f.slots) federates.now }
+{
+    federates.iter().all(|f| is_within_limits(&f.slots))
+}
+
+/// Whether all limits hold.
+fn is_within_all_limits(draft: &Draft) -> bool
+    ensures { IsTrue result ↔ IsWithinAllLimits draft.now }
+{
+    let federates = draft.federates.as_slice();
+    federates.len() <= MOST_FEDERATES
+        && draft.connections.as_slice().len() <= MOST_CONNECTIONS
+        && are_slots_within_limits(federates)
+}
+
+fn is_in_range(timer: &Timer) -> bool
+    ensures { IsTrue result ↔ IsTimerInRange timer.now }
+{
+    timer.offset < END_OF_TIME && timer.period < END_OF_TIME
+}
+
+fn are_in_range(timers: &[Timer]) -> bool
+    ensures { IsTrue result ↔ All IsTimerInRange timers.now }
+{
+    timers.iter().all(is_in_range)
+}
+
+/// Whether all timers are in range.
+fn are_timers_in_range(draft: &Draft) -> bool
+    ensures { IsTrue result ↔ AreTimersInRange draft.now }
+{
+    draft
+        .federates
+        .as_slice()
+        .iter()
+        .all(|f| are_in_range(f.slots.timers.as_slice()))
+}
+
+/// Refuses a draft with no federate, with too much of anything, or with a timer out of range.
+pub(crate) fn refuse_out_of_range(draft: &Draft) -> Result<(), PlanFault>
+    ensures some { OnOk result (0 < length draft.now.federates) }
+    ensures limits { OnOk result (IsWithinAllLimits draft.now) }
+    ensures timers { OnOk result (AreTimersInRange draft.now) }
+    ensures fault { IfErr result (StandsIn draft.now) }
+{
+    if draft.federates.as_slice().is_empty() {
+        return Err(PlanFault::NoFederate);
+    }
+    if !is_within_all_limits(draft) {
+        return Err(PlanFault::OverLimit);
+    }
+    if !are_timers_in_range(draft) {
+        return Err(PlanFault::BadTimer);
+    }
+    Ok(())
+}

@@ -1,0 +1,69 @@
+ghost use Rattle.std.specs.Prelude.{◌≡◌, ◌<◌, ◌^◌, length, IfSome};
+ghost use Rattle.plan.specs.Federation.{federate_number, found_output, found_input};
+ghost use Rattle.plan.specs.External.{found_action};
+
+use crate::draft::{Federate, PortName};
+use crate::input::Input;
+use crate::text::{Text, place_in};
+use std::marker::Model;
+
+/// Where a port or an action was found: the federate's number, and the place among its names of that kind.
+#[derive(Clone, Copy, Debug)]
+pub(crate) struct Found {
+    pub(crate) federate: usize,
+    pub(crate) place: usize,
+}
+
+impl Model for Found {
+    ghost use Rattle.plan.specs.Federation.{Found as FoundOf};
+
+    ghost Value = { FoundOf };
+
+    ghost view = { λ f. record { federate = f.federate; place = f.place } };
+
+    ghost inverse = { λ f. record { federate = f.federate; place = f.place } };
+}
+
+/// The number of the federate of this name.
+pub(crate) fn federate_number(federates: &[Federate], name: &Text) -> Option<usize>
+    ensures value { result ≡ federate_number federates.now name.now }
+    ensures in_range { IfSome result (λ number. number < length federates.now) }
+{
+    for (number, federate) in federates.iter().enumerate() {
+        if federate.name.is_same(name) {
+            return Some(number);
+        }
+    }
+    None
+}
+
+/// The output port of this name.
+pub(crate) fn found_output(federates: &[Federate], port: &PortName) -> Option<Found>
+    ensures value { result ≡ found_output federates.now port.now }
+{
+    let federate = federate_number(federates, &port.federate)?;
+    let names = federates[federate].slots.outputs.as_slice();
+    let place = place_in(names, port.port.as_str())?;
+    Some(Found { federate, place })
+}
+
+/// The input port of this name.
+pub(crate) fn found_input(federates: &[Federate], port: &PortName) -> Option<Found>
+    ensures value { result ≡ found_input federates.now port.now }
+    ensures small { IfSome result (λ found. found.place < 2 ^ 63) }
+{
+    let federate = federate_number(federates, &port.federate)?;
+    let names = federates[federate].slots.inputs.as_slice();
+    let place = place_in(names, port.port.as_str())?;
+    Some(Found { federate, place })
+}
+
+/// The physical action of a recorded input.
+pub(crate) fn found_action(federates: &[Federate], input: &Input) -> Option<Found>
+    ensures { result ≡ found_action federates.now input.now }
+{
+    let federate = federate_number(federates, &input.federate)?;
+    let names = federates[federate].slots.physical.as_slice();
+    let place = place_in(names, input.action.as_str())?;
+    Some(Found { federate, place })
+}

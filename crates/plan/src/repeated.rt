@@ -1,0 +1,104 @@
+ghost use Rattle.std.specs.Prelude.{◌≡◌, ◌++◌, ◌↔◌, List, map, length, Any, IsTrue, IfOk, OnOk, IfErr, MatchOption};
+ghost use Rattle.plan.specs.Naming.{AreDistinct};
+ghost use Rattle.plan.specs.Numbering.{all_names, timer_names};
+ghost use Rattle.plan.specs.Federation.{federate_names};
+ghost use Rattle.plan.specs.Faults.{StandsTwice, StandsIn, HasDistinctNames};
+
+use crate::draft::{Draft, Federate};
+use crate::fault::PlanFault;
+use crate::slots::{Slots, Timer};
+use crate::text::Text;
+use std::alloc::{AllocError, Global};
+
+fn stands_in(names: &[&Text], name: &Text) -> bool
+    ensures { IsTrue result ↔ Any (λ n. n.now ≡ name.now) names.now }
+{
+    names.iter().any(|n| n.is_same(name))
+}
+
+/// A name that stands at two places.
+fn repeated(names: &[&Text]) -> Result<Option<Text>, AllocError>
+    ensures { IfOk result (λ r. MatchOption r (AreDistinct (map (λ n. n.now) names.now)) (StandsTwice (map (λ n. n.now) names.now))) }
+{
+    for (place, &name) in names.iter().enumerate() {
+        if stands_in(&names[..place], name) {
+            return Ok(Some(name.clone()?));
+        }
+    }
+    Ok(None)
+}
+
+fn names_of_federates<'a>(
+    alloc: Global,
+    federates: &'a [Federate],
+) -> Result<Vec<&'a Text>, AllocError>
+    ensures { IfOk result (λ v. map (λ n. n.now) v.items ≡ federate_names federates.now) }
+{
+    let mut names = Vec::new(alloc);
+    for federate in federates {
+        names.push(&federate.name)?;
+    }
+    Ok(names)
+}
+
+fn push_names<'a>(names: &mut Vec<&'a Text>, more: &'a [Text]) -> Result<(), AllocError>
+    ensures { OnOk result (map (λ n. n.now) names.new.items ≡ map (λ n. n.now) names.old.items ++ more.now) }
+{
+    for name in more {
+        names.push(name)?;
+    }
+    Ok(())
+}
+
+fn push_timer_names<'a>(names: &mut Vec<&'a Text>, more: &'a [Timer]) -> Result<(), AllocError>
+    ensures { OnOk result (map (λ n. n.now) names.new.items ≡ map (λ n. n.now) names.old.items ++ timer_names more.now) }
+{
+    for timer in more {
+        names.push(&timer.name)?;
+    }
+    Ok(())
+}
+
+/// The names of all slots and outputs.
+fn names_of_slots<'a>(alloc: Global, slots: &'a Slots) -> Result<Vec<&'a Text>, AllocError>
+    ensures { IfOk result (λ v. map (λ n. n.now) v.items ≡ all_names slots.now) }
+{
+    let mut names = Vec::new(alloc);
+    push_names(&mut names, slots.inputs.as_slice())?;
+    push_names(&mut names, slots.outputs.as_slice())?;
+    push_timer_names(&mut names, slots.timers.as_slice())?;
+    push_names(&mut names, slots.actions.as_slice())?;
+    push_names(&mut names, slots.physical.as_slice())?;
+    Ok(names)
+}
+
+fn repeated_federate(alloc: Global, federates: &[Federate]) -> Result<Option<Text>, AllocError>
+    ensures { IfOk result (λ r. MatchOption r (AreDistinct (federate_names federates.now)) (StandsTwice (federate_names federates.now))) }
+{
+    let names = names_of_federates(alloc, federates)?;
+    repeated(names.as_slice())
+}
+
+fn repeated_slot(alloc: Global, slots: &Slots) -> Result<Option<Text>, AllocError>
+    ensures { IfOk result (λ r. MatchOption r (AreDistinct (all_names slots.now)) (StandsTwice (all_names slots.now))) }
+{
+    let names = names_of_slots(alloc, slots)?;
+    repeated(names.as_slice())
+}
+
+/// Refuses a draft in which a name is repeated.
+pub(crate) fn refuse_repeated(alloc: Global, draft: &Draft) -> Result<(), PlanFault>
+    ensures ok { OnOk result (HasDistinctNames draft.now) }
+    ensures fault { IfErr result (StandsIn draft.now) }
+{
+    let federates = draft.federates.as_slice();
+    if let Some(name) = repeated_federate(alloc, federates)? {
+        return Err(PlanFault::RepeatedName(name));
+    }
+    for federate in federates {
+        if let Some(name) = repeated_slot(alloc, &federate.slots)? {
+            return Err(PlanFault::RepeatedName(name));
+        }
+    }
+    Ok(())
+}

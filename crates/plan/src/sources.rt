@@ -1,0 +1,45 @@
+ghost use Rattle.std.specs.Prelude.{◌≡◌, ◌≤◌, ◌↔◌, length, AllPairs, Any, IsTrue, MatchOption, OnOk, IfErr};
+ghost use Rattle.plan.specs.Federation.{connections_of};
+ghost use Rattle.plan.specs.Legal.{EndApart};
+ghost use Rattle.plan.specs.Faults.{ArePortsThere, EndsTwice, StandsIn};
+
+use crate::connection::Connection;
+use crate::draft::Draft;
+use crate::fault::PlanFault;
+
+fn ends_there(connections: &[Connection], last: Connection) -> bool
+    ensures { IsTrue result ↔ Any (λ c. (c.target ≡ last.target) × (c.slot ≡ last.slot)) connections.now }
+{
+    connections
+        .iter()
+        .any(|c| c.target() == last.target() && c.slot() == last.slot())
+}
+
+/// The place of a connection to a port to which one before it goes.
+fn second_source(connections: &[Connection]) -> Option<usize>
+    ensures { MatchOption result (AllPairs EndApart connections.now) (EndsTwice connections.now) }
+{
+    for (place, &connection) in connections.iter().enumerate() {
+        if ends_there(&connections[..place], connection) {
+            return Some(place);
+        }
+    }
+    None
+}
+
+/// Refuses a draft, whose connections by number these are, in which a port has two sources.
+pub(crate) fn refuse_two_sources(draft: &Draft, connections: &[Connection]) -> Result<(), PlanFault>
+    requires value { connections.now ≡ connections_of draft.now }
+    requires there { ArePortsThere draft.now }
+    requires few { length draft.now.connections ≤ 1024 }
+    ensures ok { OnOk result (AllPairs EndApart connections.now) }
+    ensures fault { IfErr result (StandsIn draft.now) }
+{
+    match second_source(connections) {
+        None => Ok(()),
+        Some(place) => {
+            let declared = draft.connections.as_slice();
+            Err(PlanFault::TwoSources(declared[place].to.clone()?))
+        }
+    }
+}

@@ -1,0 +1,88 @@
+-- The coordinator: what it does with a federate's signal, and which TAGs then go out. It knows each federate's standing, by number.
+use Rattle.std.specs.Prelude.{ℕ, zero, suc, ◌+◌, ◌||◌, nat_eq, nat_lt, if◌then◌else◌, List, [], ◌∷◌, ◌++◌, slice_get, Option, None, Some}
+use Rattle.tag.specs.LogicalTime.{LogicalTime, forever, is_at_most, is_same}
+use Rattle.network.specs.Connection.{Connection}
+use Rattle.network.specs.Network.{Network}
+use Rattle.signal.specs.declared.signal.Signal.{Signal}
+use Rattle.signal.specs.declared.signal.Signal.TheVariants.{Net, Ltc, Tag, Msg}
+use Rattle.protocol.specs.Refusals.{not_yours, below_grant, not_rising, after_stop, not_for_coordinator}
+use Rattle.protocol.specs.Outcome.{Outcome, Refused, Done, with_made}
+use Rattle.protocol.specs.Federate.{is_past}
+use Rattle.protocol.specs.Standing.{Standing, after_message, after_net, after_ltc, after_grant}
+use Rattle.protocol.specs.Grant.{Rule}
+
+-- a signal to a federate
+pub record Post : Type 0 where
+  pub federate : ℕ
+  pub signal : Signal
+
+-- what a step makes: all standings after it, and the signals to federates, in order
+pub record Coordinated : Type 0 where
+  pub after : ℕ → Standing
+  pub sent : List Post
+
+-- the standings with one federate's replaced
+abbrev pub with_standing : (ℕ → Standing) → ℕ → Standing → ℕ → Standing
+with_standing standings i mine j = if nat_eq j i then mine else standings j
+
+-- a message from federate i over a connection, which goes on to the connection's end
+abbrev pub route : Network → (ℕ → Standing) → ℕ → Signal → Option Connection → LogicalTime → Outcome Coordinated
+route n standings i message None tag = Refused not_yours
+route n standings i message (Some c) tag =
+    if nat_eq c.source i
+    then
+    (if is_at_most tag n.stop
+    then
+    (if is_past (standings c.target).granted tag
+    then Done (record {
+      after = with_standing standings c.target (after_message (standings c.target) tag);
+      sent = record { federate = c.target; signal = message } ∷ [];
+    })
+    else Refused below_grant)
+    else Refused after_stop)
+    else Refused not_yours
+
+-- federate i's standing is replaced, and nothing goes out
+abbrev pub noted : (ℕ → Standing) → ℕ → Standing → Coordinated
+noted standings i mine = record { after = with_standing standings i mine; sent = [] }
+
+-- what a signal of federate i changes, before any TAG goes out
+abbrev pub coordinator_takes : Network → (ℕ → Standing) → ℕ → Signal → Outcome Coordinated
+coordinator_takes n standings i (Net tag) =
+    if is_at_most tag n.stop || is_same tag forever
+    then (if is_past (standings i).completed tag then Done (noted standings i (after_net (standings i) tag)) else Refused not_rising)
+    else Refused after_stop
+coordinator_takes n standings i (Ltc tag) =
+    if is_at_most tag n.stop
+    then (if is_past (standings i).completed tag then Done (noted standings i (after_ltc (standings i) tag)) else Refused not_rising)
+    else Refused after_stop
+coordinator_takes n standings i (Tag tag) = Refused not_for_coordinator
+coordinator_takes n standings i (Msg connection tag value) =
+    route n standings i (Msg connection tag value) (slice_get n.connections connection) tag
+
+-- which TAG goes out to a federate by a rule, if one does
+abbrev pub grant_to : Network → Rule → (ℕ → Standing) → ℕ → Option LogicalTime
+grant_to n rule standings j = if nat_lt j n.reactors then rule standings j else None
+
+-- a TAG to a federate, if there is one
+abbrev pub grant_post : ℕ → Option LogicalTime → List Post
+grant_post j None = []
+grant_post j (Some tag) = record { federate = j; signal = Tag tag } ∷ []
+
+-- the TAGs to the next `count` federates from j on, in number order
+abbrev pub grants_from : Network → Rule → (ℕ → Standing) → ℕ → ℕ → List Post
+grants_from n rule standings j zero = []
+grants_from n rule standings j (suc count) =
+    grant_post j (grant_to n rule standings j) ++ grants_from n rule standings (j + 1) count
+
+-- then the TAGs go out
+abbrev pub with_grants : Network → Rule → Coordinated → Coordinated
+with_grants n rule made =
+    record {
+      after = λ j. after_grant (made.after j) (grant_to n rule made.after j);
+      sent = made.sent ++ grants_from n rule made.after 0 n.reactors;
+    }
+
+-- what the coordinator does with a signal of federate i
+abbrev pub coordinator_accepts : Network → Rule → (ℕ → Standing) → ℕ → Signal → Outcome Coordinated
+coordinator_accepts n rule standings i signal = with_made (with_grants n rule) (coordinator_takes n standings i signal)

@@ -1,0 +1,19 @@
+-- The two sides of a federation, step by step on signals, and the machine that both make with the queues between them.
+-- the refusals by their numbers
+pub mod Refusals
+-- how a step ends
+pub mod Outcome
+-- the events that a federate has still to run
+pub mod Undone
+-- a federate's steps
+pub mod Federate
+-- what the coordinator knows of one federate
+pub mod Standing
+-- which federate may be granted which tag
+pub mod Grant
+-- the coordinator's step
+pub mod Coordinator
+-- federates, coordinator and the queues between them
+pub mod Machine
+-- a small federation, on which the definitions are computed
+pub mod Examples

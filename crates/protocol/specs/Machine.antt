@@ -1,0 +1,82 @@
+-- All federates, the coordinator, and the queues between them.
+use Rattle.std.specs.Prelude.{ℕ, Bool, true, false, nat_eq, if◌then◌else◌, List, [], ◌∷◌, ◌++◌, length, map, filter}
+use Rattle.network.specs.Network.{Network}
+use Rattle.signal.specs.declared.signal.Signal.{Signal}
+use Rattle.protocol.specs.Outcome.{Outcome, Nothing, Done, made_or, with_made}
+use Rattle.protocol.specs.Federate.{Federate, Stepped, opening_federate, federate_accepts, federate_announces, federate_advances}
+use Rattle.protocol.specs.Standing.{Standing, opening_standing}
+use Rattle.protocol.specs.Coordinator.{Post, Coordinated, coordinator_accepts}
+use Rattle.protocol.specs.Grant.{Rule}
+
+-- one federate, its standing with the coordinator, and what was offered and not yet taken, oldest first: up, of what it sends,
+-- and down, of what is sent to it. A lost federate does nothing more
+pub record Member : Type 0 where
+  pub standing : Standing
+  pub federate : Federate
+  pub up : List Signal
+  pub down : List Signal
+  pub lost : Bool
+
+-- what may happen next: the coordinator takes a federate's oldest signal, the federate takes its oldest, announces, advances, is lost
+pub data Move : Type 0 where
+  ToCoordinator : (from : ℕ) → Move
+  ToFederate : (to : ℕ) → Move
+  Announce : (by : ℕ) → Move
+  Advance : (by : ℕ) → Move
+  Lose : (which : ℕ) → Move
+
+abbrev pub opening_member : Network → ℕ → Member
+opening_member n j =
+    record { standing = opening_standing; federate = opening_federate n j; up = []; down = []; lost = false }
+
+-- with one member replaced
+abbrev pub with_member : (ℕ → Member) → ℕ → Member → ℕ → Member
+with_member members i mine j = if nat_eq j i then mine else members j
+
+-- all standings
+abbrev pub standings_of : (ℕ → Member) → ℕ → Standing
+standings_of members j = (members j).standing
+
+-- what is sent to one federate
+abbrev pub sent_to : ℕ → List Post → List Signal
+sent_to j posts = map (λ p. p.signal) (filter (λ p. nat_eq j p.federate) posts)
+
+-- a member after a step of the coordinator
+abbrev pub coordinated : Coordinated → ℕ → Member → Member
+coordinated made j m = record m { standing = made.after j; down = m.down ++ sent_to j made.sent }
+
+-- the coordinator takes the oldest signal of federate i
+abbrev pub coordinator_takes_from : Network → Rule → (ℕ → Member) → ℕ → List Signal → Outcome (ℕ → Member)
+coordinator_takes_from n rule members i [] = Nothing
+coordinator_takes_from n rule members i (signal ∷ rest) =
+    with_made (λ made. λ j. coordinated made j (with_member members i (record (members i) { up = rest }) j))
+    (coordinator_accepts n rule (standings_of members) i signal)
+
+-- a member after a step of its federate, with this left to take
+abbrev pub stepped : Member → List Signal → Stepped → Member
+stepped m rest made = record m { federate = made.after; up = m.up ++ made.sent; down = rest }
+
+-- federate i takes its oldest signal
+abbrev pub federate_takes_from : Network → ℕ → Member → List Signal → Outcome Member
+federate_takes_from n i m [] = Nothing
+federate_takes_from n i m (signal ∷ rest) = with_made (stepped m rest) (federate_accepts n i m.federate signal)
+
+-- what a federate does, unless it is lost
+abbrev pub unless_lost : (ℕ → Member) → ℕ → Outcome Member → Outcome (ℕ → Member)
+unless_lost members i outcome = if (members i).lost then Nothing else with_made (with_member members i) outcome
+
+-- how a move ends
+abbrev pub outcome_of : Network → Rule → (ℕ → Member) → Move → Outcome (ℕ → Member)
+outcome_of n rule members (ToCoordinator i) = coordinator_takes_from n rule members i (members i).up
+outcome_of n rule members (ToFederate i) = unless_lost members i (federate_takes_from n i (members i) (members i).down)
+outcome_of n rule members (Announce i) =
+    unless_lost members i (with_made (stepped (members i) (members i).down) (federate_announces (members i).federate))
+outcome_of n rule members (Advance i) =
+    unless_lost members i (with_made (stepped (members i) (members i).down) (federate_advances n i (members i).federate))
+outcome_of n rule members (Lose i) = Done (with_member members i (record (members i) { lost = true }))
+
+-- after these moves, of which the first in the list is the newest. The rule may be another at each move: it goes by how many there were before
+abbrev pub after_moves : Network → (ℕ → Rule) → List Move → ℕ → Member
+after_moves n rules [] = opening_member n
+after_moves n rules (move ∷ earlier) =
+    made_or (after_moves n rules earlier) (outcome_of n (rules (length earlier)) (after_moves n rules earlier) move)

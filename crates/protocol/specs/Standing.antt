@@ -1,0 +1,46 @@
+-- What the coordinator knows of one federate.
+use Rattle.std.specs.Prelude.{Bool, true, false, if◌then◌else◌, List, [], ◌∷◌, filter, Option, None, Some}
+use Rattle.tag.specs.LogicalTime.{LogicalTime, origin, is_before, is_same}
+
+-- completed: its last LTC. granted: the last TAG to it. announced: a NET came. next: it will do nothing before this tag.
+-- transit: the tags of the messages routed to it, strictly rising, up to those that its LTC has passed
+pub record Standing : Type 0 where
+  pub completed : Option LogicalTime
+  pub granted : Option LogicalTime
+  pub announced : Bool
+  pub next : LogicalTime
+  pub transit : List LogicalTime
+
+abbrev pub opening_standing : Standing
+opening_standing = record { completed = None; granted = None; announced = false; next = origin; transit = [] }
+
+-- the lesser of two tags
+abbrev pub lesser : LogicalTime → LogicalTime → LogicalTime
+lesser g h = if is_before g h then g else h
+
+-- the least of a tag and of these
+abbrev pub least_with : LogicalTime → List LogicalTime → LogicalTime
+least_with tag [] = tag
+least_with tag (x ∷ rest) = lesser x (least_with tag rest)
+
+-- with one more tag, in its place
+abbrev pub with_tag : LogicalTime → List LogicalTime → List LogicalTime
+with_tag tag [] = tag ∷ []
+with_tag tag (x ∷ rest) = if is_before tag x then tag ∷ x ∷ rest else (if is_same tag x then x ∷ rest else x ∷ with_tag tag rest)
+
+-- after a message is routed to it
+abbrev pub after_message : Standing → LogicalTime → Standing
+after_message s tag = record s { next = lesser s.next tag; transit = with_tag tag s.transit }
+
+-- after its NET
+abbrev pub after_net : Standing → LogicalTime → Standing
+after_net s tag = record s { announced = true; next = least_with tag s.transit }
+
+-- after its LTC
+abbrev pub after_ltc : Standing → LogicalTime → Standing
+after_ltc s tag = record s { completed = Some tag; transit = filter (λ t. is_before tag t) s.transit }
+
+-- after a TAG to it, if one goes out
+abbrev pub after_grant : Standing → Option LogicalTime → Standing
+after_grant s None = s
+after_grant s (Some tag) = record s { granted = Some tag }

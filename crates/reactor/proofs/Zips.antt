@@ -1,0 +1,33 @@
+-- Two lists whose items fit, place by place, as both grow.
+use Rattle.std.proofs.lemmas.List.{take_all}
+use Rattle.std.proofs.Common.{◌-◌, ◌≤◌, drop, ◌∙◌, ◌≡◌, ℕ, zero, suc, ◌+◌, ◌<◌, List, [], ◌∷◌, ◌++◌, length, get_or, take, sym, subst, arith, add-one, Some, refl, ap}
+use Rattle.std.specs.Prelude.{slice_get}
+use Rattle.std.specs.List.{AllZip}
+
+grow : {A B : Type 0} (R : A → B → Type 0) (xs : List A) (ys : List B) (i : ℕ) (x : A) (y : B) → i < length ys → y ≡ get_or ys i y
+    → AllZip R xs (take i ys) → R x y → AllZip R (xs ++ x ∷ []) (take (suc i) ys)
+grow R xs [] i x y h e a r = absurd (omega arith)
+grow R [] (z ∷ ys) zero x y h e a r = (subst (R x) e r, tt)
+grow R (w ∷ ws) (z ∷ ys) zero x y h e a r = absurd a
+grow R [] (z ∷ ys) (suc i) x y h e a r = absurd a
+grow R (w ∷ ws) (z ∷ ys) (suc i) x y h e a r = (a.0, grow R ws ys i x y (omega arith) e a.1 r)
+
+pub all_zip_grow : {A B : Type 0} (R : A → B → Type 0) (xs : List A) (ys : List B) (i : ℕ) (x : A) (y : B) → i < length ys → y ≡ get_or ys i y
+    → AllZip R xs (take i ys) → R x y → AllZip R (xs ++ x ∷ []) (take (i + 1) ys)
+all_zip_grow R xs ys i x y h e a r = rw add-one (grow R xs ys i x y h e a r)
+
+pub slice_get-here : {A : Type 0} (ys : List A) (i : ℕ) (y : A) → i < length ys → y ≡ get_or ys i y → slice_get ys i ≡ Some y
+slice_get-here [] i y h e = absurd (omega arith)
+slice_get-here (z ∷ ys) zero y h e = ap (λ v. Some v) (sym e)
+slice_get-here (z ∷ ys) (suc i) y h e = slice_get-here ys i y (omega arith) e
+
+-- a list that has a first item, as that and the others
+pub uncons : {A : Type 0} (s : List A) (x : A) → 1 ≤ length s → x ≡ get_or s 0 x → s ≡ x ∷ take (length s - 1) (drop 1 s)
+uncons [] x h e = absurd (omega arith)
+uncons (y ∷ ys) x h e = ap (λ v. v ∷ ys) (sym e) ∙ ap (λ rest. x ∷ rest) (sym (take_all (length (y ∷ ys) - 1) ys (omega arith)))
+
+pub all_zip_lengths : {A B : Type 0} (R : A → B → Type 0) (xs : List A) (ys : List B) → AllZip R xs ys → length xs ≡ length ys
+all_zip_lengths R [] [] h = refl
+all_zip_lengths R [] (y ∷ ys) h = absurd h
+all_zip_lengths R (x ∷ xs) [] h = absurd h
+all_zip_lengths R (x ∷ xs) (y ∷ ys) h = ap suc (all_zip_lengths R xs ys h.1)

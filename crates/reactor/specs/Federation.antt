@@ -1,0 +1,49 @@
+-- The network of a federation: its plan, a program for each federate, and recorded inputs.
+use Rattle.std.specs.Prelude.{◌≡◌, ℕ, ℤ, List, [], map, length, slice_get, Option, None, Some}
+use Rattle.network.specs.Network.{Network, Effect}
+use Rattle.plan.specs.declared.draft.Federate.{Federate}
+use Rattle.plan.specs.declared.draft.Draft.{Draft}
+use Rattle.plan.specs.declared.input.Input.{Input}
+use Rattle.plan.specs.Numbering.{slot_count}
+use Rattle.plan.specs.Federation.{federate_count, connections_of, rank_of, stop_of}
+use Rattle.plan.specs.External.{external_of}
+use Rattle.reactor.specs.Behaviour.{Behaviour}
+use Rattle.reactor.specs.Effect.{effect_of, effect_before, opening_states}
+
+-- a federate's number of slots, and of output ports
+abbrev pub slots_of : Option Federate → ℕ
+slots_of None = 0
+slots_of (Some f) = slot_count f.slots
+
+abbrev pub ports_of : Option Federate → ℕ
+ports_of None = 0
+ports_of (Some f) = length f.slots.outputs
+
+-- the states at first of the reactor with this program
+abbrev pub opening_by : Option Behaviour → List ℤ
+opening_by None = []
+opening_by (Some b) = opening_states b
+
+-- the effect of a turn of the reactor with this program
+abbrev pub effect_by : Option Behaviour → List ℤ → (ℕ → Option ℤ) → Effect
+effect_by None states present = effect_before states
+effect_by (Some b) states present = effect_of b states present
+
+-- the network of a federation with the programs of its federates, in their order, and recorded inputs
+abbrev pub network_of : Draft → List Behaviour → List Input → Network
+network_of d programs inputs =
+    record {
+      reactors = federate_count d;
+      slots = λ j. slots_of (slice_get d.federates j);
+      ports = λ j. ports_of (slice_get d.federates j);
+      connections = connections_of d;
+      rank = rank_of d;
+      stop = stop_of d;
+      external = external_of d inputs;
+      opening = λ j. opening_by (slice_get programs j);
+      effect = λ j. effect_by (slice_get programs j);
+    }
+
+-- there is a program for each federate, with its slots
+abbrev pub AreProgramsOf : Draft → List Behaviour → Type 0
+AreProgramsOf d programs = map (λ b. b.slots) programs ≡ map (λ f. f.slots) d.federates

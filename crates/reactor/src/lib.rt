@@ -1,0 +1,36 @@
+//! What a reactor does at a tag: its program, read from body lines, and one turn of it.
+//!
+//! Promises to the layer above: a program is what its texts spell (`specs/Spelled`), and `Reactor::run` is the effect of
+//! `specs/Effect`. Begin with `program`, then `specs/Effect`; `parse` reads programs.
+#![tactic(auto)]
+
+pub mod entry;
+pub mod examples;
+pub mod fault;
+pub mod laws;
+pub mod memory;
+mod number;
+pub mod parse;
+mod places;
+pub mod program;
+pub mod programs;
+pub mod reaction_draft;
+pub mod reactor;
+mod reading;
+pub mod row;
+pub mod token;
+pub mod turn;
+mod working;
+
+pub use entry::{Entries, Entry};
+pub use fault::ProgramFault;
+pub use memory::Memory;
+pub use program::{
+    Body, Expression, Line, Operand, Operator, Program, Reaction, State, Statement, Triggers,
+};
+pub use programs::Programs;
+pub use reaction_draft::ReactionDraft;
+pub use reactor::Reactor;
+pub use row::Row;
+pub use token::is_name;
+pub use turn::{Scheduling, Schedulings, Turn};

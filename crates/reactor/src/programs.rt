@@ -1,0 +1,105 @@
+ghost use Rattle.std.specs.Prelude.{◌≡◌, ◌↔◌, IsTrue, IsSome, IfSome};
+ghost use Rattle.reactor.specs.Programs.{AreProgramsOf, HaveProgramsOf, HaveSlotsOf};
+
+use crate::program::Program;
+use plan::{Federate, Plan, Slots, Text, Timer};
+use std::marker::Model;
+
+/// A program for each federate of a plan, in their order. Contracts see the list of them.
+#[derive(Debug, Drop)]
+pub struct Programs {
+    programs: Vec<Program>,
+}
+
+impl Model for Programs {
+    ghost use Rattle.std.specs.Prelude.{List};
+    ghost use Rattle.reactor.specs.Behaviour.{Behaviour};
+
+    ghost Value = { List Behaviour };
+
+    ghost view = { λ p. p.programs.items };
+}
+
+impl Programs {
+    /// None where their number or a program's slots aren't the plan's.
+    pub fn new(plan: &Plan, programs: Vec<Program>) -> Option<Programs>
+        ensures fitting { IsSome result ↔ HaveSlotsOf plan.now.federates programs.items }
+        ensures same { IfSome result (λ made. made ≡ programs.items) }
+        ensures well_formed { IfSome result (AreProgramsOf plan.now) }
+    {
+        if have_slots(plan.federates(), programs.as_slice()) {
+            Some(Programs { programs })
+        } else {
+            None
+        }
+    }
+
+    pub fn as_slice(&self) -> &[Program]
+        ensures { result.now ≡ self.now }
+    {
+        self.programs.as_slice()
+    }
+}
+
+fn have_slots(federates: &[Federate], programs: &[Program]) -> bool
+    ensures fitting { IsTrue result ↔ HaveSlotsOf federates.now programs.now }
+    ensures well_formed { IsTrue result → HaveProgramsOf federates.now programs.now }
+{
+    match federates {
+        [federate, federates @ ..] => match programs {
+            [program, programs @ ..] => {
+                program.known();
+                are_same_slots(&federate.slots, program.slots()) && have_slots(federates, programs)
+            }
+            [] => false,
+        },
+        [] => programs.is_empty(),
+    }
+}
+
+fn are_same_slots(a: &Slots, b: &Slots) -> bool
+    ensures { IsTrue result ↔ (a.now ≡ b.now) }
+{
+    a.startup == b.startup
+        && are_same_names(a.inputs.as_slice(), b.inputs.as_slice())
+        && are_same_names(a.outputs.as_slice(), b.outputs.as_slice())
+        && are_same_timers(a.timers.as_slice(), b.timers.as_slice())
+        && are_same_names(a.actions.as_slice(), b.actions.as_slice())
+        && are_same_names(a.physical.as_slice(), b.physical.as_slice())
+}
+
+fn are_same_names(a: &[Text], b: &[Text]) -> bool
+    ensures { IsTrue result ↔ (a.now ≡ b.now) }
+{
+    match a {
+        [x, xs @ ..] => match b {
+            [y, ys @ ..] => is_same_text(x, y) && are_same_names(xs, ys),
+            [] => false,
+        },
+        [] => b.is_empty(),
+    }
+}
+
+fn are_same_timers(a: &[Timer], b: &[Timer]) -> bool
+    ensures { IsTrue result ↔ (a.now ≡ b.now) }
+{
+    match a {
+        [x, xs @ ..] => match b {
+            [y, ys @ ..] => is_same_timer(x, y) && are_same_timers(xs, ys),
+            [] => false,
+        },
+        [] => b.is_empty(),
+    }
+}
+
+fn is_same_timer(a: &Timer, b: &Timer) -> bool
+    ensures { IsTrue result ↔ (a.now ≡ b.now) }
+{
+    is_same_text(&a.name, &b.name) && a.offset == b.offset && a.period == b.period
+}
+
+fn is_same_text(a: &Text, b: &Text) -> bool
+    ensures { IsTrue result ↔ (a.now ≡ b.now) }
+{
+    a.as_str() == b.as_str()
+}

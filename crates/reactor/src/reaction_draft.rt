@@ -1,0 +1,8 @@
+use plan::Names;
+
+/// A reaction as it is declared: the texts of its triggers and of its body lines.
+#[derive(Debug, Drop)]
+pub struct ReactionDraft {
+    pub triggers: Names,
+    pub body: Names,
+}

@@ -1,0 +1,30 @@
+use Rattle.std.proofs.Common.{◌≡◌, ℕ, ◌∙◌, List, length, map, ap}
+use Rattle.std.proofs.lemmas.List.{take_all}
+use Rattle.whole.proofs.Turns.{opened, opened-programs, kept-opening, slots_of_programs}
+use Rattle.reactor.specs.Behaviour.{Behaviour}
+use Rattle.whole.specs.Progress.{Progress}
+use Rattle.whole.proofs.Outside.{external_of-in_range}
+use Rattle.whole.proofs.whole.Whole.new.Goals as goal
+
+pub invariant_of-result : goal.invariant_of-result
+invariant_of-result c =
+    let all : c.loop-program.reactors.items ≡ map opened c.args.programs.now =
+    c.loop-program.invariant ∙
+    ap (λ ps. map opened ps) (take_all c.loop-program.program-index c.args.programs.now (rw (← c.as_slice-program-items.ensures) c.loop-program-test.false)) in
+    kept-opening c.args.plan.now c.args.inputs.now c.args.programs.now c.loop-program.reactors.items c.in_ok-external_events.field-0.items c.new-2.result.items
+    (slots_of_programs c.args.plan.now.federates c.args.programs.now c.requires.programs) all c.in_ok-external_events.ensures
+    (rw c.in_ok-external_events.ensures (external_of-in_range c.args.plan.now c.args.inputs.now)) c.new-2.ensures.items
+
+pub returns : goal.returns
+returns c =
+    let all : c.loop-program.reactors.items ≡ map opened c.args.programs.now =
+    c.loop-program.invariant ∙
+    ap (λ ps. map opened ps) (take_all c.loop-program.program-index c.args.programs.now (rw (← c.as_slice-program-items.ensures) c.loop-program-test.false)) in
+    let shown : List Behaviour → ℕ → Progress = λ programs turns. record {
+      draft = c.args.plan.now;
+      programs = programs;
+      inputs = c.args.inputs.now;
+      turns = turns;
+    } in
+    ap (λ ps. shown ps (length c.new-2.result.items)) (opened-programs c.args.programs.now c.loop-program.reactors.items all) ∙
+    ap (λ k. shown c.args.programs.now k) (ap length c.new-2.ensures.items)

@@ -1,0 +1,61 @@
+-- The first turn among what is pending is made, and what is kept is kept.
+use Rattle.std.proofs.Common.{◌≡◌, ℕ, ◌+◌, ◌<◌, List, [], ◌∷◌, length, Some, refl, ap, sym, ◌∙◌, subst, slice_set}
+use Rattle.std.proofs.lemmas.List.{length-append}
+use Rattle.std.proofs.lemmas.Option.{slice_get-get_or}
+use Rattle.network.specs.Undivided.{first_of_turns}
+use Rattle.reactor.specs.Behaviour.{Behaviour}
+use Rattle.reactor.specs.Federation.{network_of}
+use Rattle.whole.specs.Kept.{programs_in}
+use Rattle.whole.specs.Progress.{Progress, pending_in, later_by}
+use Rattle.whole.proofs.Turns.{has_slots, reactor_count, same-element, programs_in-set, kept-made, first_of_turns-none}
+use Rattle.whole.proofs.whole.Whole.turn.Goals as goal
+
+pub returns-in_default-clause-made : goal.returns-in_default-clause-made
+returns-in_default-clause-made c =
+    let IsDone : Progress → Type 0 = λ p. pending_in p ≡ [] in
+    let none : c.self.inside.pending.items ≡ [] =
+    first_of_turns-none (network_of c.self.inside.plan.now (programs_in c.self.inside.reactors.items) c.self.inside.inputs.now) c.self.inside.pending.items
+    (rw (← c.as_slice.ensures.value) (c.in_default.ensures.first (programs_in c.self.inside.reactors.items) c.self.inside.inputs.now)) in
+    (refl, subst IsDone c.self.view_is (ap (λ u. u.pending) c.self.invariant.undivided ∙ none))
+
+pub turn_at-requires-clause-slots : goal.turn_at-requires-clause-slots
+turn_at-requires-clause-slots c =
+    let there : c.federate-federate.result < length c.self.inside.reactors.items =
+    rw (reactor_count c.self.inside.plan.now c.self.inside.reactors.items c.self.invariant.programs, c.federate-federate.ensures) c.in-Some.ensures.in_range in
+    has_slots c.self.inside.plan.now c.self.inside.reactors.items c.federate-federate.result c.index.result.now c.self.invariant.programs
+    (slice_get-get_or c.self.inside.reactors.items c.federate-federate.result c.index.result.now there ∙ ap (λ r. Some r) (sym c.index.ensures))
+
+pub commit-requires : goal.commit-requires
+commit-requires c =
+    let there : c.federate-federate.result < length c.self.inside.reactors.items =
+    rw (reactor_count c.self.inside.plan.now c.self.inside.reactors.items c.self.invariant.programs, c.federate-federate.ensures) c.in-Some.ensures.in_range in
+    c.in_ok-made.ensures.fits ∙
+    ap (λ r. length r.states)
+    (same-element c.self.inside.reactors.items c.federate-federate.result c.index.result.now c.index_mut-reactor.result.now there c.index.ensures c.index_mut-reactor.ensures.value)
+
+pub invariant_of-self-2 : goal.invariant_of-self-2
+invariant_of-self-2 c =
+    let first : first_of_turns (network_of c.self.inside.plan.now (programs_in c.self.inside.reactors.items) c.self.inside.inputs.now) c.self.inside.pending.items ≡ Some c.in-Some.first =
+    rw (← c.as_slice.ensures.value) (sym (c.in-Some.ensures.first (programs_in c.self.inside.reactors.items) c.self.inside.inputs.now)) in
+    kept-made c.self.inside.plan.now c.self.inside.inputs.now c.self.inside.reactors.items c.self.inside.pending.items c.self.inside.rows.items
+    c.in-Some.first c.in_ok-made.made c.index.result.now c.index_mut-reactor.result.now c.commit.new.self c.as_slice-2.result.now
+    c.federate-federate.result c.tag.result c.push.new.self.items c.self.invariant first c.in-Some.ensures.in_range
+    c.federate-federate.ensures c.tag.ensures c.as_slice-2.ensures.value c.index.ensures c.index_mut-reactor.ensures.value c.in_ok-made.ensures
+    c.commit.ensures c.in_ok-push.ensures.items
+
+pub returns-clause-made : goal.returns-clause-made
+returns-clause-made c =
+    let shown : List Behaviour → ℕ → Progress = λ programs turns. record {
+      draft = c.self.inside.plan.now;
+      programs = programs;
+      inputs = c.self.inside.inputs.now;
+      turns = turns;
+    } in
+    let programs = programs_in-set c.self.inside.reactors.items c.federate-federate.result c.index_mut-reactor.result.now c.commit.new.self
+    c.index_mut-reactor.ensures.value (ap (λ r. r.behaviour) c.commit.ensures) in
+    let turns : length c.push.new.self.items ≡ length c.self.inside.rows.items + 1 =
+    ap length c.in_ok-push.ensures.items ∙ length-append c.self.inside.rows.items (c.in_ok-made.made.row ∷ []) in
+    let IsLater : Progress → Type 0 = λ p.
+    shown (programs_in (slice_set c.self.inside.reactors.items c.federate-federate.result c.commit.new.self)) (length c.push.new.self.items) ≡ later_by 1 p in
+    subst IsLater c.self.view_is
+    (ap (λ ps. shown ps (length c.push.new.self.items)) programs ∙ ap (λ k. shown (programs_in c.self.inside.reactors.items) k) turns)

@@ -1,0 +1,35 @@
+-- An undivided program that goes on turn by turn: what it was made from, and how many turns were made.
+use Rattle.std.specs.Prelude.{ℕ, ◌+◌, List}
+use Rattle.network.specs.Event.{Event}
+use Rattle.network.specs.Network.{Network}
+use Rattle.network.specs.Undivided.{Undivided, Row, undivided_after, whole}
+use Rattle.plan.specs.declared.draft.Draft.{Draft}
+use Rattle.plan.specs.declared.input.Input.{Input}
+use Rattle.reactor.specs.Behaviour.{Behaviour}
+use Rattle.reactor.specs.Federation.{network_of}
+
+pub record Progress : Type 0 where
+  pub draft : Draft
+  pub programs : List Behaviour
+  pub inputs : List Input
+  pub turns : ℕ
+
+-- its network
+abbrev pub network_in : Progress → Network
+network_in p = network_of p.draft p.programs p.inputs
+
+-- where the undivided program of that network is after so many turns
+abbrev pub undivided_in : Progress → Undivided
+undivided_in p = undivided_after (network_in p) p.turns
+
+-- the rows of so many turns
+abbrev pub rows_in : Progress → List Row
+rows_in p = whole (network_in p) p.turns
+
+-- what is pending after them
+abbrev pub pending_in : Progress → List Event
+pending_in p = (undivided_in p).pending
+
+-- so many turns later
+abbrev pub later_by : ℕ → Progress → Progress
+later_by turns p = record { draft = p.draft; programs = p.programs; inputs = p.inputs; turns = p.turns + turns }
