@@ -314,7 +314,8 @@ fn keeps_the_limits(rt: HostRuntime) -> Result<(), Fail> {
     refused(&rt, &words, federates.as_str(), "fedrun: 14 OverLimit\n")?;
     refused(&rt, &words, reactions.as_str(), "fedrun: 18 NotYet\n")?;
     let mut long = counter(rt.alloc())?;
-    while long.len() < 1_048_576 {
+    let missing = 1_048_576usize.saturating_sub(long.len());
+    for _ in 0..missing {
         long.push_str("\n")?;
     }
     let got = answer(&rt, &words, long.as_str())?;
