@@ -7,11 +7,11 @@ use Rattle.std.proofs.lemmas.Bool.Decides.{nat_tests}
 use Rattle.tag.specs.LogicalTime.{LogicalTime, is_before, is_at_most, sum_of}
 use Rattle.network.specs.Connection.{Connection}
 use Rattle.network.specs.Network.{Network}
+use Rattle.network.specs.Tables.{Table, IsWithin, IsTable}
 use Rattle.protocol.specs.Federate.{is_past}
 use Rattle.protocol.specs.Standing.{Standing, after_message, after_grant}
 use Rattle.protocol.specs.Coordinator.{with_standing}
-use Rattle.protocol.specs.Grant.{Table, after_completed, all_below, is_before_arrival, passes_paths, passes_connection, passes_connections}
-use Rattle.laws.specs.Tables.{IsWithin, IsTable}
+use Rattle.protocol.specs.Grant.{after_completed, all_below, is_before_arrival, passes_paths, passes_connection, passes_connections}
 use Rattle.laws.proofs.Tags.{sum_twice, sum_left, sum_right, before_then}
 use Rattle.laws.proofs.Turns.{all_first, all_rest, same_number}
 use Rattle.laws.proofs.Tests.{both_left, both_right, either_case}

@@ -5,9 +5,9 @@ use Rattle.tag.specs.LogicalTime.{LogicalTime, IsLogicalTime, is_before, is_at_m
 use Rattle.network.specs.Connection.{Connection, then_along, total_of}
 use Rattle.network.specs.Network.{Network}
 use Rattle.network.specs.Lawful.{IsLawful}
+use Rattle.network.specs.Tables.{Table, IsTable, IsWithin}
 use Rattle.protocol.specs.Standing.{Standing}
-use Rattle.protocol.specs.Grant.{Table, after_completed}
-use Rattle.laws.specs.Tables.{IsTable, IsWithin}
+use Rattle.protocol.specs.Grant.{after_completed}
 use Rattle.laws.proofs.Tags.{place, above, IsOptional, before_true, sum_is_logical, sum_left, sum_right, before_then, after_completed_least}
 use Rattle.laws.proofs.Turns.{plain_is_logical}
 use Rattle.laws.proofs.Backing.{HoldsByPaths, HoldsByConnections, IsBacked}

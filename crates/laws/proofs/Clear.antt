@@ -5,12 +5,11 @@ use Rattle.tag.specs.LogicalTime.{LogicalTime, IsLogicalTime, is_before, sum_of}
 use Rattle.network.specs.Connection.{Connection, then_along}
 use Rattle.network.specs.Network.{Network}
 use Rattle.network.specs.Lawful.{IsLawful}
+use Rattle.network.specs.Tables.{Table, IsTable}
 use Rattle.signal.specs.declared.signal.Signal.{Signal}
 use Rattle.signal.specs.declared.signal.Signal.TheVariants.{Net, Ltc, Tag, Msg}
 use Rattle.protocol.specs.Undone.{Held, put, put_all, drop_up_to, is_held_before, is_for_same}
-use Rattle.protocol.specs.Grant.{Table}
 use Rattle.protocol.specs.Machine.{Member, standings_of}
-use Rattle.laws.specs.Tables.{IsTable}
 use Rattle.laws.proofs.Tags.{place, above, at_most_true, to_at_most, place_within}
 use Rattle.laws.proofs.Transit.{least_above}
 use Rattle.laws.proofs.Upward.{IsOver, IsUp, least_key, last_is_later, source_at_least}

@@ -7,6 +7,7 @@ use Rattle.tag.specs.LogicalTime.{LogicalTime, IsLogicalTime, is_at_most, is_sam
 use Rattle.network.specs.Connection.{Connection}
 use Rattle.network.specs.Network.{Network}
 use Rattle.network.specs.Lawful.{IsLawful}
+use Rattle.network.specs.Tables.{Table, IsTable}
 use Rattle.signal.specs.declared.signal.Signal.{Signal}
 use Rattle.signal.specs.declared.signal.Signal.TheVariants.{Net, Ltc, Tag, Msg}
 use Rattle.protocol.specs.Refusals.{late, old_grant, wrong_signal, not_yours, below_grant, not_rising, after_stop}
@@ -14,10 +15,9 @@ use Rattle.protocol.specs.Outcome.{Outcome, Refused, Nothing, Done, made_or, wit
 use Rattle.protocol.specs.Undone.{Held, put, first_tag, look, drop_up_to}
 use Rattle.protocol.specs.Federate.{is_past, is_reached, is_told, next_event, accept_message, federate_announces, advance_to, turn_at, effect_of, scheduled_by, messages_from}
 use Rattle.protocol.specs.Standing.{Standing, after_message, after_net, after_ltc}
-use Rattle.protocol.specs.Grant.{Rule, Table, IsSafeRule}
+use Rattle.protocol.specs.Grant.{Rule, IsSafeRule}
 use Rattle.protocol.specs.Coordinator.{Post, Coordinated, with_standing, noted, route, coordinator_takes, grant_to, grants_from, with_grants}
 use Rattle.protocol.specs.Machine.{Member, Move, ToCoordinator, ToFederate, Announce, Advance, Lose, opening_member, with_member, standings_of, sent_to, coordinated, coordinator_takes_from, stepped, federate_takes_from, outcome_of, after_moves}
-use Rattle.laws.specs.Tables.{IsTable}
 use Rattle.laws.proofs.Tags.{place, above, IsOptional, reached_true, finite_is_logical, finite_before_forever}
 use Rattle.laws.proofs.Downward.{last_tag_is_later}
 use Rattle.laws.proofs.StillUndone.{first_at_least, drop_is_undone}

@@ -1,5 +1,6 @@
 -- The runs of the examples, computed.
 use Rattle.std.proofs.Common.{◌≡◌, ℕ, false, Some, refl, ◌∙◌}
+use Rattle.tag.specs.LogicalTime.{forever}
 use Rattle.network.specs.Examples.{at}
 use Rattle.network.specs.Undivided.{whole, part}
 use Rattle.protocol.specs.Refusals.{below_grant}
@@ -26,6 +27,18 @@ ring_rows_1 = frozen_gives 3 ring ring_rules all_moves (λ members. (members 1).
 pub ring_rows_2 : (ring_after all_moves 2).federate.rows ≡ part 2 (whole ring 9)
 unfolding ring_after
 ring_rows_2 = frozen_gives 3 ring ring_rules all_moves (λ members. (members 2).federate.rows) ∙ refl
+
+pub ring_next_0 : (ring_after all_moves 0).standing.next ≡ forever
+unfolding ring_after
+ring_next_0 = frozen_gives 3 ring ring_rules all_moves (λ members. (members 0).standing.next) ∙ refl
+
+pub ring_next_1 : (ring_after all_moves 1).standing.next ≡ forever
+unfolding ring_after
+ring_next_1 = frozen_gives 3 ring ring_rules all_moves (λ members. (members 1).standing.next) ∙ refl
+
+pub ring_next_2 : (ring_after all_moves 2).standing.next ≡ forever
+unfolding ring_after
+ring_next_2 = frozen_gives 3 ring ring_rules all_moves (λ members. (members 2).standing.next) ∙ refl
 
 pub ring_stuck_0 : IsStuck ring 0 (ring_after all_moves 0)
 unfolding ring_after

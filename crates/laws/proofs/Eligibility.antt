@@ -8,10 +8,10 @@ use Rattle.tag.specs.LogicalTime.{LogicalTime, is_before, is_at_most, sum_of}
 use Rattle.network.specs.Connection.{Connection, IsPath, IsLeastDelay, IsUnreachable}
 use Rattle.network.specs.Network.{Network}
 use Rattle.network.specs.Lawful.{IsLawful, IsConnected}
+use Rattle.network.specs.Tables.{Table, IsLeastTable}
 use Rattle.protocol.specs.Federate.{is_past}
 use Rattle.protocol.specs.Standing.{Standing}
-use Rattle.protocol.specs.Grant.{Table, after_completed, ByPaths, ByConnections, Eligible, all_below, is_before_arrival, passes_paths, passes_connection, passes_connections, is_eligible}
-use Rattle.laws.specs.Tables.{IsLeastTable}
+use Rattle.protocol.specs.Grant.{after_completed, ByPaths, ByConnections, Eligible, all_below, is_before_arrival, passes_paths, passes_connection, passes_connections, is_eligible}
 use Rattle.laws.proofs.Tags.{sum_right, before_then}
 use Rattle.laws.proofs.Backing.{all_at, paths_hold, connections_hold}
 use Rattle.laws.proofs.SafeGrants.{eligible_announced, eligible_not_granted, eligible_in_time, eligible_safe}
@@ -71,6 +71,12 @@ by_paths n table standings j tag lawful least h i delay is =
 
 by_connections : (n : Network) (standings : ℕ → Standing) (j : ℕ) (tag : LogicalTime) → passes_connections n standings j tag ≡ true → ByConnections n standings j tag
 by_connections n standings j tag h c within t = let at = contained_at n.connections c within in connections_hold n standings j tag h at.0 c at.1 t
+
+pub paths_by_table : (n : Network) (table : Table) (standings : ℕ → Standing) (j : ℕ) (tag : LogicalTime) → IsLawful n → IsLeastTable n table → ByPaths n standings j tag ↔ IsTrue (passes_paths n table standings j tag)
+paths_by_table n table standings j tag lawful least = (paths_from n table standings j tag least, by_paths n table standings j tag lawful least)
+
+pub connections_by_test : (n : Network) (standings : ℕ → Standing) (j : ℕ) (tag : LogicalTime) → ByConnections n standings j tag ↔ IsTrue (passes_connections n standings j tag)
+connections_by_test n standings j tag = (connections_from n standings j tag, by_connections n standings j tag)
 
 to_formula : (n : Network) (table : Table) (standings : ℕ → Standing) (j : ℕ) → IsLawful n → IsLeastTable n table → is_eligible n table standings j ≡ true → Eligible n standings j
 to_formula n table standings j lawful least h =

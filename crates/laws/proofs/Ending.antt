@@ -4,12 +4,12 @@ use Rattle.std.specs.List.{list_any}
 use Rattle.tag.specs.LogicalTime.{LogicalTime, is_at_most, forever}
 use Rattle.network.specs.Network.{Network}
 use Rattle.network.specs.Lawful.{IsLawful}
+use Rattle.network.specs.Tables.{Table, IsTable}
 use Rattle.signal.specs.declared.signal.Signal.{Signal}
 use Rattle.signal.specs.declared.signal.Signal.TheVariants.{Net, Ltc, Tag, Msg}
 use Rattle.protocol.specs.Undone.{Held}
-use Rattle.protocol.specs.Grant.{Rule, Table, IsSafeRule}
+use Rattle.protocol.specs.Grant.{Rule, IsSafeRule}
 use Rattle.protocol.specs.Machine.{Member, Move, after_moves}
-use Rattle.laws.specs.Tables.{IsTable}
 use Rattle.laws.specs.Runs.{is_message, IsQuiet}
 use Rattle.laws.proofs.Tags.{place, top, above, place_of_forever, at_most_true, finite_is_logical, finite_before_forever}
 use Rattle.laws.proofs.Transit.{least_above}

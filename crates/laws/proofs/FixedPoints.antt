@@ -4,8 +4,7 @@ use Rattle.std.specs.Prelude.{All, Contains, IfSome, MatchOption}
 use Rattle.tag.specs.LogicalTime.{LogicalTime, is_at_most, sum_of}
 use Rattle.network.specs.Connection.{Connection, IsPath, then_along, total_of, IsLeastDelay, IsUnreachable}
 use Rattle.network.specs.Network.{Network}
-use Rattle.protocol.specs.Grant.{Table}
-use Rattle.laws.specs.Tables.{IsLeastTable, IsTable, IsWithin, IsAttained}
+use Rattle.network.specs.Tables.{Table, IsLeastTable, IsTable, IsWithin, IsAttained}
 use Rattle.laws.proofs.Tags.{sum_twice, sum_right, at_most_transitive}
 use Rattle.laws.proofs.Backing.{all_at, at_most_itself}
 use Rattle.laws.proofs.Eligibility.{contained_at}

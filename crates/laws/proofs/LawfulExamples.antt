@@ -1,4 +1,4 @@
--- The examples are lawful, and the ring's table is that of its least delays.
+-- The examples are lawful, and their tables are those of their least delays.
 use Rattle.std.proofs.Common.{◌≡◌, ◌≢◌, ℕ, zero, suc, ◌<◌, List, [], ◌∷◌, refl, ap, arith}
 use Rattle.std.specs.Prelude.{pos, All, AllPairs, Contains, IfSome}
 use Rattle.tag.specs.LogicalTime.{LogicalTime, origin, sum_of}
@@ -6,9 +6,9 @@ use Rattle.network.specs.Connection.{Connection}
 use Rattle.network.specs.Event.{Event}
 use Rattle.network.specs.Examples.{at, outside}
 use Rattle.network.specs.Lawful.{IsLawful, IsConnected, EndApart, IsExternal, FallApart, IsOwn, no_delay, some_time}
-use Rattle.laws.specs.Tables.{IsLeastTable, IsTable, IsWithin, IsAttained}
+use Rattle.network.specs.Tables.{IsLeastTable, IsTable, IsWithin, IsAttained}
 use Rattle.laws.specs.Ring.{ring, ring_table}
-use Rattle.laws.specs.WeakerRules.{two_microsteps, one_tag, both_ends}
+use Rattle.laws.specs.WeakerRules.{two_microsteps, one_tag, both_ends, line_table}
 use Rattle.laws.proofs.FixedPoints.{fixed_point_is_least}
 
 all_nil : {X : Type 0} (P : X → Type 0) → All P []
@@ -180,3 +180,65 @@ ring_attained (suc (suc (suc i))) (suc (suc (suc j))) = tt
 
 pub ring_is_least : IsLeastTable ring ring_table
 ring_is_least = fixed_point_is_least ring ring_table ring_is_table ring_attained
+
+two_microsteps_onward : (j : ℕ) → All (λ c. IfSome (line_table (at 10 0) c.target j) (λ rest. IsWithin (line_table (at 10 0) c.source j) (sum_of c.delay rest))) two_microsteps.connections
+two_microsteps_onward zero = all_cons (λ c. IfSome (line_table (at 10 0) c.target zero) (λ rest. IsWithin (line_table (at 10 0) c.source zero) (sum_of c.delay rest))) two_microsteps_0 (two_microsteps_1 ∷ []) tt (all_cons (λ c. IfSome (line_table (at 10 0) c.target zero) (λ rest. IsWithin (line_table (at 10 0) c.source zero) (sum_of c.delay rest))) two_microsteps_1 [] tt (all_nil (λ c. IfSome (line_table (at 10 0) c.target zero) (λ rest. IsWithin (line_table (at 10 0) c.source zero) (sum_of c.delay rest)))))
+two_microsteps_onward (suc zero) = all_cons (λ c. IfSome (line_table (at 10 0) c.target (suc zero)) (λ rest. IsWithin (line_table (at 10 0) c.source (suc zero)) (sum_of c.delay rest))) two_microsteps_0 (two_microsteps_1 ∷ []) tt (all_cons (λ c. IfSome (line_table (at 10 0) c.target (suc zero)) (λ rest. IsWithin (line_table (at 10 0) c.source (suc zero)) (sum_of c.delay rest))) two_microsteps_1 [] tt (all_nil (λ c. IfSome (line_table (at 10 0) c.target (suc zero)) (λ rest. IsWithin (line_table (at 10 0) c.source (suc zero)) (sum_of c.delay rest)))))
+two_microsteps_onward (suc (suc zero)) = all_cons (λ c. IfSome (line_table (at 10 0) c.target (suc (suc zero))) (λ rest. IsWithin (line_table (at 10 0) c.source (suc (suc zero))) (sum_of c.delay rest))) two_microsteps_0 (two_microsteps_1 ∷ []) refl (all_cons (λ c. IfSome (line_table (at 10 0) c.target (suc (suc zero))) (λ rest. IsWithin (line_table (at 10 0) c.source (suc (suc zero))) (sum_of c.delay rest))) two_microsteps_1 [] tt (all_nil (λ c. IfSome (line_table (at 10 0) c.target (suc (suc zero))) (λ rest. IsWithin (line_table (at 10 0) c.source (suc (suc zero))) (sum_of c.delay rest)))))
+two_microsteps_onward (suc (suc (suc j))) = all_cons (λ c. IfSome (line_table (at 10 0) c.target (suc (suc (suc j)))) (λ rest. IsWithin (line_table (at 10 0) c.source (suc (suc (suc j)))) (sum_of c.delay rest))) two_microsteps_0 (two_microsteps_1 ∷ []) tt (all_cons (λ c. IfSome (line_table (at 10 0) c.target (suc (suc (suc j)))) (λ rest. IsWithin (line_table (at 10 0) c.source (suc (suc (suc j)))) (sum_of c.delay rest))) two_microsteps_1 [] tt (all_nil (λ c. IfSome (line_table (at 10 0) c.target (suc (suc (suc j)))) (λ rest. IsWithin (line_table (at 10 0) c.source (suc (suc (suc j)))) (sum_of c.delay rest)))))
+
+two_microsteps_is_table : IsTable two_microsteps (line_table (at 10 0))
+two_microsteps_is_table = record { direct = all_cons (λ c. IsWithin (line_table (at 10 0) c.source c.target) c.delay) two_microsteps_0 (two_microsteps_1 ∷ []) refl (all_cons (λ c. IsWithin (line_table (at 10 0) c.source c.target) c.delay) two_microsteps_1 [] refl (all_nil (λ c. IsWithin (line_table (at 10 0) c.source c.target) c.delay))); onward = two_microsteps_onward }
+
+two_microsteps_within_0 : Contains two_microsteps.connections two_microsteps_0
+two_microsteps_within_0 = (0, omega arith, refl)
+
+two_microsteps_within_1 : Contains two_microsteps.connections two_microsteps_1
+two_microsteps_within_1 = (1, omega arith, refl)
+
+two_microsteps_attained : (i j : ℕ) → IsAttained two_microsteps.connections i j (line_table (at 10 0) i j)
+two_microsteps_attained zero zero = tt
+two_microsteps_attained zero (suc zero) = (two_microsteps_0 ∷ [], (two_microsteps_within_0, refl, refl), refl)
+two_microsteps_attained zero (suc (suc zero)) = (two_microsteps_0 ∷ two_microsteps_1 ∷ [], (two_microsteps_within_0, refl, (two_microsteps_within_1, refl, refl)), refl)
+two_microsteps_attained zero (suc (suc (suc j))) = tt
+two_microsteps_attained (suc zero) zero = tt
+two_microsteps_attained (suc zero) (suc zero) = tt
+two_microsteps_attained (suc zero) (suc (suc zero)) = (two_microsteps_1 ∷ [], (two_microsteps_within_1, refl, refl), refl)
+two_microsteps_attained (suc zero) (suc (suc (suc j))) = tt
+two_microsteps_attained (suc (suc i)) j = tt
+
+pub two_microsteps_is_least : IsLeastTable two_microsteps (line_table (at 10 0))
+two_microsteps_is_least = fixed_point_is_least two_microsteps (line_table (at 10 0)) two_microsteps_is_table two_microsteps_attained
+
+one_tag_onward : (j : ℕ) → All (λ c. IfSome (line_table (at 0 0) c.target j) (λ rest. IsWithin (line_table (at 0 0) c.source j) (sum_of c.delay rest))) one_tag.connections
+one_tag_onward zero = all_cons (λ c. IfSome (line_table (at 0 0) c.target zero) (λ rest. IsWithin (line_table (at 0 0) c.source zero) (sum_of c.delay rest))) one_tag_0 (one_tag_1 ∷ []) tt (all_cons (λ c. IfSome (line_table (at 0 0) c.target zero) (λ rest. IsWithin (line_table (at 0 0) c.source zero) (sum_of c.delay rest))) one_tag_1 [] tt (all_nil (λ c. IfSome (line_table (at 0 0) c.target zero) (λ rest. IsWithin (line_table (at 0 0) c.source zero) (sum_of c.delay rest)))))
+one_tag_onward (suc zero) = all_cons (λ c. IfSome (line_table (at 0 0) c.target (suc zero)) (λ rest. IsWithin (line_table (at 0 0) c.source (suc zero)) (sum_of c.delay rest))) one_tag_0 (one_tag_1 ∷ []) tt (all_cons (λ c. IfSome (line_table (at 0 0) c.target (suc zero)) (λ rest. IsWithin (line_table (at 0 0) c.source (suc zero)) (sum_of c.delay rest))) one_tag_1 [] tt (all_nil (λ c. IfSome (line_table (at 0 0) c.target (suc zero)) (λ rest. IsWithin (line_table (at 0 0) c.source (suc zero)) (sum_of c.delay rest)))))
+one_tag_onward (suc (suc zero)) = all_cons (λ c. IfSome (line_table (at 0 0) c.target (suc (suc zero))) (λ rest. IsWithin (line_table (at 0 0) c.source (suc (suc zero))) (sum_of c.delay rest))) one_tag_0 (one_tag_1 ∷ []) refl (all_cons (λ c. IfSome (line_table (at 0 0) c.target (suc (suc zero))) (λ rest. IsWithin (line_table (at 0 0) c.source (suc (suc zero))) (sum_of c.delay rest))) one_tag_1 [] tt (all_nil (λ c. IfSome (line_table (at 0 0) c.target (suc (suc zero))) (λ rest. IsWithin (line_table (at 0 0) c.source (suc (suc zero))) (sum_of c.delay rest)))))
+one_tag_onward (suc (suc (suc j))) = all_cons (λ c. IfSome (line_table (at 0 0) c.target (suc (suc (suc j)))) (λ rest. IsWithin (line_table (at 0 0) c.source (suc (suc (suc j)))) (sum_of c.delay rest))) one_tag_0 (one_tag_1 ∷ []) tt (all_cons (λ c. IfSome (line_table (at 0 0) c.target (suc (suc (suc j)))) (λ rest. IsWithin (line_table (at 0 0) c.source (suc (suc (suc j)))) (sum_of c.delay rest))) one_tag_1 [] tt (all_nil (λ c. IfSome (line_table (at 0 0) c.target (suc (suc (suc j)))) (λ rest. IsWithin (line_table (at 0 0) c.source (suc (suc (suc j)))) (sum_of c.delay rest)))))
+
+one_tag_is_table : IsTable one_tag (line_table (at 0 0))
+one_tag_is_table = record { direct = all_cons (λ c. IsWithin (line_table (at 0 0) c.source c.target) c.delay) one_tag_0 (one_tag_1 ∷ []) refl (all_cons (λ c. IsWithin (line_table (at 0 0) c.source c.target) c.delay) one_tag_1 [] refl (all_nil (λ c. IsWithin (line_table (at 0 0) c.source c.target) c.delay))); onward = one_tag_onward }
+
+one_tag_within_0 : Contains one_tag.connections one_tag_0
+one_tag_within_0 = (0, omega arith, refl)
+
+one_tag_within_1 : Contains one_tag.connections one_tag_1
+one_tag_within_1 = (1, omega arith, refl)
+
+one_tag_attained : (i j : ℕ) → IsAttained one_tag.connections i j (line_table (at 0 0) i j)
+one_tag_attained zero zero = tt
+one_tag_attained zero (suc zero) = (one_tag_0 ∷ [], (one_tag_within_0, refl, refl), refl)
+one_tag_attained zero (suc (suc zero)) = (one_tag_0 ∷ one_tag_1 ∷ [], (one_tag_within_0, refl, (one_tag_within_1, refl, refl)), refl)
+one_tag_attained zero (suc (suc (suc j))) = tt
+one_tag_attained (suc zero) zero = tt
+one_tag_attained (suc zero) (suc zero) = tt
+one_tag_attained (suc zero) (suc (suc zero)) = (one_tag_1 ∷ [], (one_tag_within_1, refl, refl), refl)
+one_tag_attained (suc zero) (suc (suc (suc j))) = tt
+one_tag_attained (suc (suc i)) j = tt
+
+pub one_tag_is_least : IsLeastTable one_tag (line_table (at 0 0))
+one_tag_is_least = fixed_point_is_least one_tag (line_table (at 0 0)) one_tag_is_table one_tag_attained
+
+-- the same connections
+pub both_ends_is_least : IsLeastTable both_ends (line_table (at 0 0))
+both_ends_is_least = one_tag_is_least

@@ -7,8 +7,7 @@ use Rattle.tag.specs.LogicalTime.{LogicalTime, IsLogicalTime, is_at_most, sum_of
 use Rattle.network.specs.Connection.{Connection, IsPath, then_along, total_of, IsLeastDelay, IsUnreachable}
 use Rattle.network.specs.Network.{Network}
 use Rattle.network.specs.Lawful.{IsLawful, IsPlainDelay}
-use Rattle.protocol.specs.Grant.{Table}
-use Rattle.laws.specs.Tables.{IsLeastTable, IsTable, IsWithin}
+use Rattle.network.specs.Tables.{Table, IsLeastTable, IsTable, IsWithin}
 use Rattle.laws.proofs.Tags.{sum_right, at_most_transitive, origin_is_logical}
 use Rattle.laws.proofs.Turns.{plain_is_logical}
 use Rattle.laws.proofs.Backing.{at_most_itself}

@@ -24,7 +24,7 @@ pub mod Safety
 pub mod SafeGrants
 -- Who is eligible, by all paths and by the table.
 pub mod Eligibility
--- What a world in which every next tag is FOREVER still holds.
+-- What a run in which every next tag is FOREVER still holds.
 pub mod Ending
 -- Paths without cycles: for each path there is one of few connections whose total is no more.
 pub mod ShortPaths
@@ -40,7 +40,7 @@ pub mod FixedPoints
 pub mod LawfulExamples
 -- After each of its steps the coordinator leaves nobody eligible.
 pub mod Settled
--- A stuck world has nothing left to do.
+-- A stuck run has nothing left to do.
 pub mod Stuck
 -- Chains of pending events: none leads to a tag that its last federate has completed.
 pub mod Chains
@@ -50,3 +50,23 @@ pub mod Clear
 pub mod ClearRuns
 -- What is pending, one by one.
 pub mod Pending
+-- Rows and states are those of replaying the history that the rows tell.
+pub mod Replay
+-- What waits for a slot at a tag, on queues and undone.
+pub mod Waiting
+-- What a turn makes for a slot at a tag.
+pub mod Makes
+-- What waits is what histories call for.
+pub mod Histories
+-- And so after every list of moves.
+pub mod HistoryRuns
+-- The histories of a run are a consistent trace.
+pub mod Consistency
+-- Where they are, the rows of a run are a beginning of the undivided program's.
+pub mod Beginnings
+-- Where nothing is left to do, no row is missing.
+pub mod EveryRow
+-- Two runs of one network agree.
+pub mod TwoRuns
+-- What every run computes.
+pub mod Computes

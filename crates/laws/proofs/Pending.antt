@@ -5,13 +5,13 @@ use Rattle.tag.specs.LogicalTime.{LogicalTime, IsLogicalTime}
 use Rattle.network.specs.Connection.{Connection, then_along}
 use Rattle.network.specs.Network.{Network}
 use Rattle.network.specs.Lawful.{IsLawful}
+use Rattle.network.specs.Tables.{Table, IsTable}
 use Rattle.signal.specs.declared.signal.Signal.{Signal}
 use Rattle.signal.specs.declared.signal.Signal.TheVariants.{Net, Ltc, Tag, Msg}
 use Rattle.protocol.specs.Undone.{Held}
 use Rattle.protocol.specs.Federate.{is_past}
-use Rattle.protocol.specs.Grant.{Rule, Table, IsSafeRule}
+use Rattle.protocol.specs.Grant.{Rule, IsSafeRule}
 use Rattle.protocol.specs.Machine.{Member, Move, after_moves}
-use Rattle.laws.specs.Tables.{IsTable}
 use Rattle.laws.specs.Chains.{IsWalk, IsPending, undone, down, up}
 use Rattle.laws.proofs.Tags.{place, above, to_past, sum_is_logical}
 use Rattle.laws.proofs.Upward.{IsOver, IsUp, source_at_least}

@@ -1,15 +1,17 @@
 -- The two forms of grant are safe: the next tag, and the greatest one before anything can still arrive.
 use Rattle.std.proofs.Common.{◌≡◌, ℕ, zero, suc, ◌^◌, ◌<◌, ◌≤◌, ◌⊎◌, inl, inr, Bool, true, false, IsTrue, List, [], ◌∷◌, refl, subst, arith, Option, None, Some}
-use Rattle.std.specs.Prelude.{nat_eq, nat_lt, MatchOption, if◌then◌else◌, ◌&&◌, ◌||◌}
+use Rattle.std.specs.Prelude.{nat_eq, nat_lt, IsSomeAnd, if◌then◌else◌, ◌&&◌, ◌||◌}
 use Rattle.std.specs.List.{list_all}
 use Rattle.std.proofs.lemmas.Bool.Decides.{nat_tests}
 use Rattle.tag.specs.LogicalTime.{LogicalTime, IsLogicalTime, IsFinite, is_before, is_at_most, sum_of, forever}
 use Rattle.network.specs.Connection.{Connection}
 use Rattle.network.specs.Network.{Network}
 use Rattle.network.specs.Lawful.{IsLawful}
+use Rattle.network.specs.Tables.{Table}
 use Rattle.protocol.specs.Federate.{is_past}
 use Rattle.protocol.specs.Standing.{Standing, lesser}
-use Rattle.protocol.specs.Grant.{Table, after_completed, all_below, is_before_arrival, passes_paths, passes_connection, passes_connections, is_eligible, grant_next, IsSafe, IsSafeRule, greater, lesser_arrival, bound_by_paths, bound_by_connections, bound_of, predecessor_of, grant_widest, is_safe, if_safe, grant_chosen}
+use Rattle.protocol.specs.Grant.{after_completed, all_below, is_before_arrival, passes_paths, passes_connection, passes_connections, is_eligible, grant_next, IsSafe, IsSafeRule, greater, lesser_arrival, bound_by_paths, bound_by_connections, bound_of, predecessor_of, grant_widest, is_safe, if_safe, grant_chosen}
+use Rattle.laws.specs.Runs.{IsFullRule}
 use Rattle.laws.proofs.Tags.{at_most_true, finite_is_logical, finite_before_forever, finite_by_place, before_then}
 use Rattle.laws.proofs.Tests.{both_left, both_right, both_hold, either_case, either_of}
 use Rattle.laws.proofs.Backing.{at_most_itself}
@@ -236,13 +238,13 @@ widest_rule_is_safe n table lawful standings tags j tag e =
     let P : LogicalTime → Type 0 = λ x. IsSafe n table standings j x in
     subst P given.1 (widest_is_safe n table standings j lawful tags given.0)
 
-given_or_not : (A : Type 0) (b : Bool) (given : LogicalTime) (P : LogicalTime → Type 0) → (b ≡ false → A) → (b ≡ true → P given) → MatchOption (if b then Some given else None) A P
-given_or_not A true given P n y = y refl
-given_or_not A false given P n y = n refl
+given_full : (b : Bool) (given : LogicalTime) (P : LogicalTime → Type 0) → b ≡ true → P given → IsSomeAnd (if b then Some given else None) P
+given_full true given P e p = p
+given_full false given P e p = cc
 
-pub next_rule_is_full : (n : Network) (table : Table) → IsLawful n → (standings : ℕ → Standing) → ((i : ℕ) → IsLogicalTime (standings i).next) → (j : ℕ) → MatchOption (grant_next n table standings j) (is_eligible n table standings j ≡ false) (λ tag. IsTrue (is_at_most (standings j).next tag))
-next_rule_is_full n table lawful standings tags j =
-    given_or_not (is_eligible n table standings j ≡ false) (is_eligible n table standings j) (standings j).next (λ tag. IsTrue (is_at_most (standings j).next tag)) (λ e. e) (λ e. at_most_itself (standings j).next)
+pub next_rule_is_full : (n : Network) (table : Table) → IsLawful n → IsFullRule n table (grant_next n table)
+next_rule_is_full n table lawful standings tags j e =
+    given_full (is_eligible n table standings j) (standings j).next (λ tag. IsTrue (is_at_most (standings j).next tag)) e (at_most_itself (standings j).next)
 
 widest_is_at_least : (n : Network) (table : Table) (standings : ℕ → Standing) (j : ℕ) → IsLawful n → ((i : ℕ) → IsLogicalTime (standings i).next) → is_eligible n table standings j ≡ true → is_at_most (standings j).next (lesser (predecessor_of (bound_of n table standings j)) n.stop) ≡ true
 widest_is_at_least n table standings j lawful tags h =
@@ -252,10 +254,10 @@ widest_is_at_least n table standings j lawful tags h =
     let before : is_before next bound ≡ true = safe_is_bounded n table standings j next (finite_before next safe.finite) safe.safe in
     at_least_both next (predecessor_of bound) n.stop (is_before (predecessor_of bound) n.stop) (predecessor_at_least next bound (tags j).microstep before) safe.in_time
 
-pub widest_rule_is_full : (n : Network) (table : Table) → IsLawful n → (standings : ℕ → Standing) → ((i : ℕ) → IsLogicalTime (standings i).next) → (j : ℕ) → MatchOption (grant_widest n table standings j) (is_eligible n table standings j ≡ false) (λ tag. IsTrue (is_at_most (standings j).next tag))
-widest_rule_is_full n table lawful standings tags j =
-    given_or_not (is_eligible n table standings j ≡ false) (is_eligible n table standings j) (lesser (predecessor_of (bound_of n table standings j)) n.stop) (λ tag. IsTrue (is_at_most (standings j).next tag)) (λ e. e)
-    (widest_is_at_least n table standings j lawful tags)
+pub widest_rule_is_full : (n : Network) (table : Table) → IsLawful n → IsFullRule n table (grant_widest n table)
+widest_rule_is_full n table lawful standings tags j e =
+    given_full (is_eligible n table standings j) (lesser (predecessor_of (bound_of n table standings j)) n.stop) (λ tag. IsTrue (is_at_most (standings j).next tag)) e
+    (widest_is_at_least n table standings j lawful tags e)
 
 finite_by_tests : (g : LogicalTime) → nat_lt g.time (2 ^ 62) ≡ true → nat_lt g.microstep (2 ^ 32) ≡ true → IsFinite g
 finite_by_tests g p q = record { time = grind (arith, nat_tests); microstep = grind (arith, nat_tests) }

@@ -10,6 +10,7 @@ use Rattle.tag.specs.LogicalTime.{LogicalTime, IsLogicalTime, is_at_most, is_sam
 use Rattle.network.specs.Connection.{Connection}
 use Rattle.network.specs.Network.{Network}
 use Rattle.network.specs.Lawful.{IsLawful, IsConnected}
+use Rattle.network.specs.Tables.{Table, IsTable}
 use Rattle.signal.specs.declared.signal.Signal.{Signal}
 use Rattle.signal.specs.declared.signal.Signal.TheVariants.{Net, Ltc, Tag, Msg}
 use Rattle.protocol.specs.Refusals.{late, old_grant, wrong_signal, not_yours, below_grant, not_rising, after_stop}
@@ -17,10 +18,9 @@ use Rattle.protocol.specs.Outcome.{Outcome, Refused, Nothing, Done, made_or, wit
 use Rattle.protocol.specs.Undone.{first_tag, put}
 use Rattle.protocol.specs.Federate.{Federate, Stepped, is_past, is_reached, is_told, next_event, accept_message, federate_announces, advance_to, federate_advances, turn_at}
 use Rattle.protocol.specs.Standing.{Standing, after_message, after_net, after_ltc, after_grant}
-use Rattle.protocol.specs.Grant.{Rule, Table, IsSafe, IsSafeRule, after_completed}
+use Rattle.protocol.specs.Grant.{Rule, IsSafe, IsSafeRule, after_completed}
 use Rattle.protocol.specs.Coordinator.{Post, Coordinated, with_standing, noted, route, grant_to, grant_post, grants_from, with_grants}
 use Rattle.protocol.specs.Machine.{Member, Move, ToCoordinator, ToFederate, Announce, Advance, Lose, opening_member, with_member, standings_of, sent_to, coordinated, coordinator_takes_from, stepped, federate_takes_from, outcome_of, after_moves}
-use Rattle.laws.specs.Tables.{IsTable}
 use Rattle.laws.proofs.Tags.{place, above, past_true, to_past, to_at_most, finite_is_logical, sum_is_logical, after_completed_least, at_most_transitive, successor_at_least}
 use Rattle.laws.proofs.Upward.{IsOver, source_at_least}
 use Rattle.laws.proofs.Downward.{EndsAt}

@@ -1,4 +1,4 @@
--- A stuck world has nothing left to do: the least event that is undone would be granted, and would be run.
+-- A stuck run has nothing left to do: the least event that is undone would be granted, and would be run.
 use Rattle.std.proofs.Common.{◌≡◌, ℕ, zero, suc, ◌+◌, ◌*◌, ◌<◌, ◌≤◌, inl, inr, Bool, true, false, List, [], ◌∷◌, refl, sym, ap, subst, ◌∙◌, arith, min, Option, None, Some}
 use Rattle.std.specs.Prelude.{if◌then◌else◌, ◌&&◌, ◌||◌, Contains, MatchOption}
 use Rattle.std.specs.List.{list_any}
@@ -8,15 +8,15 @@ use Rattle.tag.specs.LogicalTime.{LogicalTime, IsLogicalTime, is_before, is_at_m
 use Rattle.network.specs.Connection.{Connection, IsPath, then_along, total_of, IsLeastDelay, IsUnreachable}
 use Rattle.network.specs.Network.{Network}
 use Rattle.network.specs.Lawful.{IsLawful, IsPlainDelay}
+use Rattle.network.specs.Tables.{Table, IsLeastTable}
 use Rattle.signal.specs.declared.signal.Signal.{Signal}
 use Rattle.signal.specs.declared.signal.Signal.TheVariants.{Net}
 use Rattle.protocol.specs.Outcome.{Nothing, Done}
 use Rattle.protocol.specs.Undone.{Held, first_tag}
 use Rattle.protocol.specs.Federate.{Stepped, is_past, is_reached, is_told, next_event, advance_to, turn_at}
 use Rattle.protocol.specs.Standing.{Standing}
-use Rattle.protocol.specs.Grant.{Rule, Table, IsSafeRule, is_before_arrival, passes_paths, passes_connections}
+use Rattle.protocol.specs.Grant.{Rule, IsSafeRule, is_before_arrival, passes_paths, passes_connections}
 use Rattle.protocol.specs.Machine.{Member, Move, standings_of, after_moves}
-use Rattle.laws.specs.Tables.{IsLeastTable}
 use Rattle.laws.specs.Runs.{IsStuck, IsQuiet, IsFullRule, is_message}
 use Rattle.laws.proofs.Tags.{place, top, above, same_true, to_before, to_at_most, not_past, to_reached, at_most_then, before_then, at_most_transitive, sum_at_least, sum_later, sum_is_logical, at_most_origin, finite_by_place, finite_is_logical, finite_before_forever, place_within}
 use Rattle.laws.proofs.Transit.{least_above}
@@ -31,7 +31,7 @@ use Rattle.laws.proofs.Eligibility.{contained_at, contained_is, all_below_from}
 use Rattle.laws.proofs.ShortPaths.{walk_of_path, total_from_origin}
 use Rattle.laws.proofs.LeastTables.{least_table_is_table}
 use Rattle.laws.proofs.Safety.{moves_sound}
-use Rattle.laws.proofs.Settled.{IsSettled, moves_settle}
+use Rattle.laws.proofs.Settled.{NobodyIsEligible, moves_settle}
 use Rattle.laws.proofs.Tests.{either_of}
 use Rattle.laws.specs.Chains.{IsWalk}
 
@@ -141,10 +141,10 @@ arrival_if : (tag next : LogicalTime) (o : Option LogicalTime) → ((d : Logical
 arrival_if tag next None h = refl
 arrival_if tag next (Some d) h = h d refl
 
--- what is known of all, in a stuck world
+-- what is known of all, in a stuck run
 pub record IsHalted (n : Network) (table : Table) (members : ℕ → Member) : Type 0 where
   pub kept : (j : ℕ) → IsKept n j (members j).standing (members j).federate (members j).up (members j).down
-  pub settled : IsSettled n table (standings_of members)
+  pub settled : NobodyIsEligible n table (standings_of members)
   pub stuck : (j : ℕ) → j < n.reactors → IsStuck n j (members j)
 
 compared : (a b r q : ℕ) → a ≤ b → r < 64 → q < 64 → (a * 64 + r < b * 64 + q → ⊥) → (b ≤ a) × (q ≤ r)

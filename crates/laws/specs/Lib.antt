@@ -1,6 +1,4 @@
 -- What the laws speak of, beside the definitions of the crates below.
--- tables of least delays
-pub mod Tables
 -- runs of the machine that are refused nothing
 pub mod Runs
 -- a network with a cycle, and a run of it to its end
@@ -9,3 +7,7 @@ pub mod Ring
 pub mod WeakerRules
 -- chains of what is pending
 pub mod Chains
+-- the rows that runs of the machine leave
+pub mod Rows
+-- what the federates have run so far, and how far that is settled
+pub mod Histories

@@ -3,8 +3,9 @@
 use Rattle.std.specs.Prelude.{ℕ, zero, suc, ℤ, pos, ◌+ℤ◌, List, [], ◌∷◌, ◌++◌, Option, None, Some, unwrap_or}
 use Rattle.network.specs.Network.{Network, Effect}
 use Rattle.network.specs.Examples.{at, outside}
+use Rattle.network.specs.Tables.{Table}
 use Rattle.protocol.specs.Examples.{first_of}
-use Rattle.protocol.specs.Grant.{Table, grant_next}
+use Rattle.protocol.specs.Grant.{grant_next}
 use Rattle.protocol.specs.Machine.{Move, ToCoordinator, ToFederate, Announce, Advance, Member, after_moves}
 
 -- it counts its turns, and hands on one more than it gets

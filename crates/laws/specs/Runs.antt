@@ -1,14 +1,15 @@
--- Runs of the machine: what is never refused, and what is left where every next tag is FOREVER.
-use Rattle.std.specs.Prelude.{◌≡◌, ◌≢◌, ℕ, ◌<◌, Bool, true, false, IsTrue, List, [], length, MatchOption}
+-- Runs of the machine: nothing is refused; and a federate is quiet where its next tag is FOREVER, or where all are stuck.
+use Rattle.std.specs.Prelude.{◌≡◌, ◌≢◌, ℕ, ◌<◌, Bool, true, false, IsTrue, List, [], length, IsSomeAnd}
 use Rattle.std.specs.List.{list_any}
 use Rattle.tag.specs.LogicalTime.{IsLogicalTime, forever, is_at_most}
 use Rattle.network.specs.Network.{Network}
+use Rattle.network.specs.Tables.{Table}
 use Rattle.signal.specs.declared.signal.Signal.{Signal}
 use Rattle.signal.specs.declared.signal.Signal.TheVariants.{Net, Ltc, Tag, Msg}
 use Rattle.protocol.specs.Outcome.{Refused, Nothing}
 use Rattle.protocol.specs.Federate.{federate_announces, federate_advances}
 use Rattle.protocol.specs.Standing.{Standing}
-use Rattle.protocol.specs.Grant.{Rule, Table, is_eligible}
+use Rattle.protocol.specs.Grant.{Rule, is_eligible}
 use Rattle.protocol.specs.Machine.{Member, Move, outcome_of, after_moves}
 
 -- whatever was done before, whatever comes next isn't refused
@@ -22,17 +23,18 @@ is_message (Ltc tag) = false
 is_message (Tag tag) = false
 is_message (Msg connection tag value) = true
 
--- nothing is left to do: no event is undone, no message is on its way
+-- a federate is quiet: no event of it is undone, no message that it sent waits for the coordinator, and none waits for it on
+-- the way down
 pub record IsQuiet (m : Member) : Type 0 where
   pub undone : m.federate.undone ≡ []
   pub up : list_any is_message m.up ≡ false
   pub down : list_any is_message m.down ≡ false
 
--- wherever a federate's next tag is FOREVER, nothing is left to do for it
-abbrev pub EndsQuiet : Network → (ℕ → Rule) → Type 0
-EndsQuiet n rules = (moves : List Move) (j : ℕ) → (after_moves n rules moves j).standing.next ≡ forever → IsQuiet (after_moves n rules moves j)
+-- wherever a federate's next tag is FOREVER, it is quiet
+abbrev pub IsQuietWhereNextIsForever : Network → (ℕ → Rule) → Type 0
+IsQuietWhereNextIsForever n rules = (moves : List Move) (j : ℕ) → (after_moves n rules moves j).standing.next ≡ forever → IsQuiet (after_moves n rules moves j)
 
--- there is nothing to take, to announce or to advance
+-- a federate is stuck: there is nothing to take, to announce or to advance
 pub record IsStuck (n : Network) (j : ℕ) (m : Member) : Type 0 where
   pub up : m.up ≡ []
   pub down : m.down ≡ []
@@ -42,10 +44,10 @@ pub record IsStuck (n : Network) (j : ℕ) (m : Member) : Type 0 where
 -- a rule that leaves no eligible federate without a grant of at least its next tag
 abbrev pub IsFullRule : Network → Table → Rule → Type 0
 IsFullRule n table rule =
-    (standings : ℕ → Standing) → ((i : ℕ) → IsLogicalTime (standings i).next) → (j : ℕ) →
-    MatchOption (rule standings j) (is_eligible n table standings j ≡ false) (λ tag. IsTrue (is_at_most (standings j).next tag))
+    (standings : ℕ → Standing) → ((i : ℕ) → IsLogicalTime (standings i).next) → (j : ℕ) → IsTrue (is_eligible n table standings j) →
+    IsSomeAnd (rule standings j) (λ tag. IsTrue (is_at_most (standings j).next tag))
 
--- where every federate is stuck, nothing is left to do for any of them
-abbrev pub StucksQuiet : Network → (ℕ → Rule) → Type 0
-StucksQuiet n rules =
+-- wherever every federate is stuck, all are quiet
+abbrev pub IsQuietWhereStuck : Network → (ℕ → Rule) → Type 0
+IsQuietWhereStuck n rules =
     (moves : List Move) → ((j : ℕ) → j < n.reactors → IsStuck n j (after_moves n rules moves j)) → (j : ℕ) → j < n.reactors → IsQuiet (after_moves n rules moves j)

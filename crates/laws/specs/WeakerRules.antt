@@ -5,10 +5,11 @@ use Rattle.tag.specs.LogicalTime.{LogicalTime, is_before, is_at_most, sum_of}
 use Rattle.network.specs.Event.{Event}
 use Rattle.network.specs.Network.{Network}
 use Rattle.network.specs.Examples.{at, outside}
+use Rattle.network.specs.Tables.{Table}
 use Rattle.protocol.specs.Outcome.{Outcome}
 use Rattle.protocol.specs.Federate.{is_past}
 use Rattle.protocol.specs.Standing.{Standing}
-use Rattle.protocol.specs.Grant.{Rule, Table, all_below, passes_paths, passes_connections}
+use Rattle.protocol.specs.Grant.{Rule, all_below, passes_paths, passes_connections}
 use Rattle.protocol.specs.Machine.{Member, Move, ToCoordinator, ToFederate, Announce, Advance, outcome_of, after_moves}
 use Rattle.laws.specs.Ring.{ring_effect}
 

@@ -9,5 +9,7 @@ pub mod Network
 pub mod Undivided
 -- what a network has to keep, so that the laws hold of it
 pub mod Lawful
+-- tables of least delays
+pub mod Tables
 -- small networks on which the definitions are computed
 pub mod Examples

@@ -11,7 +11,7 @@ pub record IsInTime (n : Network) (j : ℕ) (t : LogicalTime) : Type 0 where
   pub finite : IsFinite t
   pub in_time : IsTrue (is_at_most t n.stop)
 
--- a turn in time, at which just that is present which the reactor should see: something
+-- a turn up to stop at which exactly what the reactor should see is present, and that is something
 pub record IsCalledFor (n : Network) (trace : ℕ → List Turn) (reactor : ℕ) (turn : Turn) : Type 0 where
   pub place : IsInTime n reactor turn.tag
   pub present : turn.present ≡ sees n trace reactor turn.tag

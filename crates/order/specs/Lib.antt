@@ -1,5 +1,5 @@
 -- What the laws of order and agreement are about.
--- the order of turns, and what is settled in the undivided program
+-- the order of turns, beginnings of their rows, and what is settled in the undivided program
 pub mod Settled
 -- the turns that a reactor took
 pub mod History

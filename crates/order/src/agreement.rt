@@ -1,11 +1,11 @@
 //! Two consistent traces agree, and the trace of the undivided program is consistent: over every lawful network.
 
-ghost use Rattle.std.specs.Prelude.{◌≡◌, ℕ, ◌+◌, ◌*◌, ◌<◌, ◌≤◌, Bool, List, ◌++◌};
-ghost use Rattle.tag.specs.LogicalTime.{LogicalTime, place};
+ghost use Rattle.std.specs.Prelude.{◌≡◌, ℕ, ◌<◌, Bool, List};
+ghost use Rattle.tag.specs.LogicalTime.{LogicalTime};
 ghost use Rattle.network.specs.Network.{Network};
 ghost use Rattle.network.specs.Lawful.{IsLawful};
-ghost use Rattle.network.specs.Undivided.{Row, undivided_after, whole, part};
-ghost use Rattle.order.specs.Settled.{is_settled};
+ghost use Rattle.network.specs.Undivided.{undivided_after, whole, part};
+ghost use Rattle.order.specs.Settled.{is_settled, BeginsWith, IsEnough};
 ghost use Rattle.order.specs.History.{Turn, trace_of, up_to, rows_of};
 ghost use Rattle.order.specs.Consistent.{IsInTime, IsConsistent, Where};
 
@@ -34,15 +34,15 @@ pub fn rows_are_replayed()
     ensures { (n : Network) → IsLawful n → (turns reactor : ℕ) → part reactor (whole n turns) ≡ rows_of n reactor (trace_of (whole n turns) reactor) }
 {}
 
-/// What is settled in a consistent trace is the undivided program's, after enough turns: a reactor's history up to the tag, and
-/// its rows, which are a beginning of the reactor's part.
+/// What is settled in a consistent trace is the undivided program's after enough turns for the tag: a reactor's history up to it,
+/// and its rows, with which the reactor's part begins.
 pub fn consistent_traces_follow_the_undivided_program()
     ensures history { (n : Network) → IsLawful n → (trace : ℕ → List Turn) (settled : ℕ → LogicalTime → Bool) → IsConsistent n trace (Where settled) →
-        (reactor : ℕ) (tag : LogicalTime) (turns : ℕ) → IsInTime n reactor tag → Where settled reactor tag → place tag * 64 + 64 ≤ turns →
+        (reactor : ℕ) (tag : LogicalTime) (turns : ℕ) → IsInTime n reactor tag → Where settled reactor tag → IsEnough tag turns →
         up_to tag (trace reactor) ≡ up_to tag (trace_of (whole n turns) reactor) }
     ensures rows { (n : Network) → IsLawful n → (trace : ℕ → List Turn) (settled : ℕ → LogicalTime → Bool) → IsConsistent n trace (Where settled) →
-        (reactor : ℕ) (tag : LogicalTime) (turns : ℕ) → IsInTime n reactor tag → Where settled reactor tag → place tag * 64 + 64 ≤ turns →
-        (rest : List Row) × (part reactor (whole n turns) ≡ rows_of n reactor (up_to tag (trace reactor)) ++ rest) }
+        (reactor : ℕ) (tag : LogicalTime) (turns : ℕ) → IsInTime n reactor tag → Where settled reactor tag → IsEnough tag turns →
+        BeginsWith (part reactor (whole n turns)) (rows_of n reactor (up_to tag (trace reactor))) }
 {}
 
 /// Where all of a reactor's turns are settled in a consistent trace, its rows begin with its part of the undivided program's, after
@@ -50,5 +50,5 @@ pub fn consistent_traces_follow_the_undivided_program()
 pub fn settled_traces_have_every_row()
     ensures { (n : Network) → IsLawful n → (trace : ℕ → List Turn) (settled : ℕ → LogicalTime → Bool) → IsConsistent n trace (Where settled) →
         (reactor : ℕ) → reactor < n.reactors → Where settled reactor n.stop → (turns : ℕ) →
-        (rest : List Row) × (rows_of n reactor (trace reactor) ≡ part reactor (whole n turns) ++ rest) }
+        BeginsWith (rows_of n reactor (trace reactor)) (part reactor (whole n turns)) }
 {}

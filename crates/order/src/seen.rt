@@ -15,14 +15,16 @@ pub fn external_events_are_seen()
     ensures { (n : Network) → IsLawful n → (trace : ℕ → List Turn) → All (λ e. sees n trace e.reactor e.tag e.slot ≡ Some e.value) n.external }
 {}
 
-/// At a connection's slot a reactor sees what the newest turn that leads there set at the connection's port.
+/// At a connection's slot a reactor sees what was set at the connection's port by the newest turn that set it and from which the
+/// connection leads to the tag.
 pub fn ports_see_what_was_carried_last()
     ensures { (n : Network) → IsLawful n → (trace : ℕ → List Turn) →
         All (λ c. HasRisingTags (trace c.source) → (tag : LogicalTime) → IsTrue (is_at_most tag n.stop) →
         sees n trace c.target tag c.slot ≡ last_carried n c tag (trace c.source)) n.connections }
 {}
 
-/// At a slot that neither a connection nor an external event reaches, a reactor sees what its newest turn that leads there scheduled last.
+/// At a slot that neither a connection nor an external event reaches, a reactor sees what was scheduled for the slot and the tag by
+/// its newest turn that scheduled anything for them: the last of that turn's schedulings for them.
 pub fn actions_see_what_was_scheduled_last()
     ensures { (n : Network) → IsLawful n → (trace : ℕ → List Turn) (reactor slot : ℕ) → reactor < n.reactors →
         All (λ c. c.target ≡ reactor → c.slot ≢ slot) n.connections → All (λ e. e.reactor ≡ reactor → e.slot ≢ slot) n.external →

@@ -1,12 +1,12 @@
 //! The laws of the undivided program, over every lawful network: its order, how far it gets, and that its rows are only added to.
 
-ghost use Rattle.std.specs.Prelude.{◌≡◌, ℕ, ◌+◌, ◌*◌, ◌≤◌, List, [], ◌++◌, AllPairs, IsTrue, Some};
-ghost use Rattle.tag.specs.LogicalTime.{LogicalTime, place};
+ghost use Rattle.std.specs.Prelude.{◌≡◌, ℕ, ◌+◌, ◌≤◌, [], AllPairs, IsTrue, Some};
+ghost use Rattle.tag.specs.LogicalTime.{LogicalTime};
 ghost use Rattle.network.specs.Event.{Event};
 ghost use Rattle.network.specs.Network.{Network};
 ghost use Rattle.network.specs.Lawful.{IsLawful};
-ghost use Rattle.network.specs.Undivided.{Row, is_turn_before, first_of_turns, undivided_after, whole, part};
-ghost use Rattle.order.specs.Settled.{is_row_before, is_settled};
+ghost use Rattle.network.specs.Undivided.{is_turn_before, first_of_turns, undivided_after, whole, part};
+ghost use Rattle.order.specs.Settled.{is_row_before, BeginsWith, is_settled, IsEnough};
 
 /// Each turn is at a later (tag, rank) than the turn before it.
 pub fn each_turn_is_later()
@@ -16,15 +16,15 @@ pub fn each_turn_is_later()
     ensures rows { (n : Network) → IsLawful n → (turns : ℕ) → AllPairs (λ a b. IsTrue (is_row_before n a b)) (whole n turns) }
 {}
 
-/// Whatever one asks for is settled after enough turns.
+/// Every reactor is settled at every tag after enough turns: 64 for each tag up to it.
 pub fn everything_gets_settled()
-    ensures { (n : Network) → IsLawful n → (turns reactor : ℕ) (tag : LogicalTime) → place tag * 64 + 64 ≤ turns → IsTrue (is_settled n (undivided_after n turns) reactor tag) }
+    ensures { (n : Network) → IsLawful n → (turns reactor : ℕ) (tag : LogicalTime) → IsEnough tag turns → IsTrue (is_settled n (undivided_after n turns) reactor tag) }
 {}
 
-/// The rows after some turns are a beginning of those after more turns, and so is each reactor's part.
+/// The rows after more turns begin with those after fewer, and so does each reactor's part.
 pub fn rows_are_only_added_to()
-    ensures all { (n : Network) (turns later : ℕ) → turns ≤ later → (rest : List Row) × (whole n later ≡ whole n turns ++ rest) }
-    ensures of_one_reactor { (n : Network) (reactor turns later : ℕ) → turns ≤ later → (rest : List Row) × (part reactor (whole n later) ≡ part reactor (whole n turns) ++ rest) }
+    ensures all { (n : Network) (turns later : ℕ) → turns ≤ later → BeginsWith (whole n later) (whole n turns) }
+    ensures of_one_reactor { (n : Network) (reactor turns later : ℕ) → turns ≤ later → BeginsWith (part reactor (whole n later)) (part reactor (whole n turns)) }
 {}
 
 /// Where nothing is pending no turn changes anything.

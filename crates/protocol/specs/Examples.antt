@@ -4,7 +4,8 @@ use Rattle.tag.specs.LogicalTime.{origin}
 use Rattle.network.specs.Network.{Network, Effect}
 use Rattle.network.specs.Undivided.{Row}
 use Rattle.network.specs.Examples.{at, outside, row_of, entry}
-use Rattle.protocol.specs.Grant.{Table, grant_next}
+use Rattle.network.specs.Tables.{Table}
+use Rattle.protocol.specs.Grant.{grant_next}
 use Rattle.protocol.specs.Machine.{Move, ToCoordinator, ToFederate, Announce, Advance, Member, after_moves}
 
 -- the first state of a list, or 0
@@ -46,7 +47,12 @@ moved_by earlier (move ∷ rest) = moved_by (move ∷ earlier) rest
 abbrev pub announced : ℕ → Member
 announced = moved_by [] (Announce 0 ∷ Announce 1 ∷ ToCoordinator 1 ∷ ToCoordinator 0 ∷ [])
 
--- then the counter runs (0, 0), and the coordinator takes its message and its LTC
+-- then the counter runs (0, 0), and the coordinator takes its message
+abbrev pub routed : ℕ → Member
+routed =
+    moved_by [] (Announce 0 ∷ Announce 1 ∷ ToCoordinator 1 ∷ ToCoordinator 0 ∷ ToFederate 0 ∷ Advance 0 ∷ ToCoordinator 0 ∷ [])
+
+-- then also its LTC
 abbrev pub counted : ℕ → Member
 counted =
     moved_by []

@@ -51,14 +51,15 @@ abbrev pub is_reached : Option LogicalTime → LogicalTime → Bool
 is_reached None tag = false
 is_reached (Some other) tag = is_at_most tag other
 
--- a TAG: it has to be later than the last one, and not later than stop
+-- a TAG: it has to be not later than stop, or it is a wrong signal; then later than the last one, or it is an old grant
 abbrev pub accept_grant : Network → Federate → LogicalTime → Outcome Stepped
 accept_grant n f tag =
     if is_at_most tag n.stop
     then (if is_past f.granted tag then Done (record { after = record f { granted = Some tag }; sent = [] }) else Refused old_grant)
     else Refused wrong_signal
 
--- a message over a connection that has to end here: it is put among the undone events
+-- a message over a connection: that has to end here, and the tag to be not later than stop, or it is a wrong signal; then later than
+-- what is completed and granted, or it is late. It is put among the undone events
 abbrev pub accept_message : Network → ℕ → Federate → Option Connection → LogicalTime → ℤ → Outcome Stepped
 accept_message n j f None tag value = Refused wrong_signal
 accept_message n j f (Some c) tag value =

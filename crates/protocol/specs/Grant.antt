@@ -4,16 +4,13 @@ use Rattle.std.specs.List.{list_all}
 use Rattle.tag.specs.LogicalTime.{LogicalTime, IsLogicalTime, IsFinite, origin, forever, is_before, is_at_most, sum_of, successor_of}
 use Rattle.network.specs.Connection.{Connection, IsLeastDelay}
 use Rattle.network.specs.Network.{Network}
+use Rattle.network.specs.Tables.{Table}
 use Rattle.protocol.specs.Federate.{is_past}
 use Rattle.protocol.specs.Standing.{Standing, lesser}
 
 -- which tag to grant a federate, if any, where all stand so
 abbrev pub Rule : Type 0
 Rule = (ℕ → Standing) → ℕ → Option LogicalTime
-
--- the least delays between federates; none where there is no path
-abbrev pub Table : Type 0
-Table = ℕ → ℕ → Option LogicalTime
 
 -- the first tag at which a federate's next turn may be, as far as its LTCs tell
 abbrev pub after_completed : Option LogicalTime → LogicalTime
@@ -51,12 +48,12 @@ is_before_arrival tag next (Some delay) = is_before tag (sum_of next delay)
 abbrev pub passes_paths : Network → Table → (ℕ → Standing) → ℕ → LogicalTime → Bool
 passes_paths n table standings j tag = all_below n.reactors (λ i. is_before_arrival tag (standings i).next (table i j))
 
--- the same of one direct connection to a federate
+-- over this connection, if it leads to the federate, nothing that comes after its sender's last LTC arrives at or below the tag
 abbrev pub passes_connection : (ℕ → Standing) → ℕ → LogicalTime → Connection → Bool
 passes_connection standings j tag c =
     if nat_eq c.target j then is_before tag (sum_of (after_completed (standings c.source).completed) c.delay) else true
 
--- the same over direct connections, as far as LTCs tell
+-- by the LTCs: nothing arrives at or below the tag over any direct connection
 abbrev pub passes_connections : Network → (ℕ → Standing) → ℕ → LogicalTime → Bool
 passes_connections n standings j tag = list_all (passes_connection standings j tag) n.connections
 
@@ -122,7 +119,7 @@ abbrev pub IsSafeRule : Network → Table → Rule → Type 0
 IsSafeRule n table rule =
     (standings : ℕ → Standing) → ((i : ℕ) → IsLogicalTime (standings i).next) → (j : ℕ) (tag : LogicalTime) → rule standings j ≡ Some tag → IsSafe n table standings j tag
 
--- the same as a test
+-- whether a tag may be granted, as a test
 abbrev pub is_safe : Network → Table → (ℕ → Standing) → ℕ → LogicalTime → Bool
 is_safe n table standings j tag =
     (nat_lt tag.time (2 ^ 62) && nat_lt tag.microstep (2 ^ 32)) && is_past (standings j).granted tag && is_at_most tag n.stop &&

@@ -17,7 +17,8 @@ pub record Member : Type 0 where
   pub down : List Signal
   pub lost : Bool
 
--- what may happen next: the coordinator takes a federate's oldest signal, the federate takes its oldest, announces, advances, is lost
+-- what may happen next: the coordinator takes a federate's oldest signal, the federate takes its oldest, announces, advances, is
+-- lost. Moves of numbers that no federate has may happen too, and the laws hold of them
 pub data Move : Type 0 where
   ToCoordinator : (from : ℕ) → Move
   ToFederate : (to : ℕ) → Move
@@ -75,7 +76,7 @@ outcome_of n rule members (Advance i) =
     unless_lost members i (with_made (stepped (members i) (members i).down) (federate_advances n i (members i).federate))
 outcome_of n rule members (Lose i) = Done (with_member members i (record (members i) { lost = true }))
 
--- after these moves, of which the first in the list is the newest. The rule may be another at each move: it goes by how many there were before
+-- after these moves, listed newest first. The rule may be another at each move: it goes by how many there were before
 abbrev pub after_moves : Network → (ℕ → Rule) → List Move → ℕ → Member
 after_moves n rules [] = opening_member n
 after_moves n rules (move ∷ earlier) =

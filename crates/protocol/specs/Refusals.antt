@@ -9,11 +9,12 @@ late = 61
 abbrev pub old_grant : ℕ
 old_grant = 62
 
--- a signal that a federate doesn't take: a NET, an LTC, a message on a connection that doesn't end there, a tag later than stop
+-- a signal that a federate doesn't take: a NET, an LTC, a message on a connection that isn't there or doesn't end there, a
+-- tag later than stop
 abbrev pub wrong_signal : ℕ
 wrong_signal = 63
 
--- the coordinator's: a message on a connection that doesn't begin at its sender
+-- the coordinator's: a message on a connection that isn't there or doesn't begin at its sender
 abbrev pub not_yours : ℕ
 not_yours = 70
 
@@ -25,7 +26,7 @@ below_grant = 71
 abbrev pub not_rising : ℕ
 not_rising = 72
 
--- a tag later than stop
+-- a tag later than stop, other than in NET(FOREVER)
 abbrev pub after_stop : ℕ
 after_stop = 73
 

@@ -2,8 +2,9 @@
 use Rattle.std.specs.Prelude.{Bool, true, false, if◌then◌else◌, List, [], ◌∷◌, filter, Option, None, Some}
 use Rattle.tag.specs.LogicalTime.{LogicalTime, origin, is_before, is_same}
 
--- completed: its last LTC. granted: the last TAG to it. announced: a NET came. next: it will do nothing before this tag.
--- transit: the tags of the messages routed to it, strictly rising, up to those that its LTC has passed
+-- completed: its last LTC. granted: the last TAG to it. announced: a NET came. next: before this tag it does nothing, unless
+-- a message is routed to it first. transit: the tags of messages routed to it, strictly rising, without those that an LTC of it has
+-- reached since
 pub record Standing : Type 0 where
   pub completed : Option LogicalTime
   pub granted : Option LogicalTime

@@ -3,17 +3,21 @@
 //! Promise to the layer above: words to cite. Begin with `specs/Federate` and `specs/Coordinator`, then `specs/Machine`.
 #![tactic(auto)]
 
-ghost use Rattle.std.specs.Prelude.{◌≡◌, pos, [], ◌∷◌};
+ghost use Rattle.std.specs.Prelude.{◌≡◌, false, pos, [], ◌∷◌};
 ghost use Rattle.signal.specs.declared.signal.Signal.{Signal};
 ghost use Rattle.network.specs.Examples.{at};
-ghost use Rattle.protocol.specs.Examples.{announced, counted, summed, first_sum};
+ghost use Rattle.protocol.specs.Grant.{passes_paths};
+ghost use Rattle.protocol.specs.Machine.{standings_of};
+ghost use Rattle.protocol.specs.Examples.{counter, counter_table, announced, routed, counted, summed, first_sum};
 
-/// The first grant of a federate without upstream, its message and its LTC; the TAG to the next federate goes out by its
-/// direct connection alone, once the LTC has come.
+/// The first grant of a federate without upstream, its message and its LTC; the TAG to the next federate goes out once the LTC has
+/// come, by its direct connection alone: over paths it wouldn't.
 pub fn first_grants()
     ensures first_tag { (announced 0).down ≡ Signal.Tag (at 0 0) ∷ [] }
     ensures not_yet { (announced 1).down ≡ [] }
+    ensures message_alone { (routed 1).down ≡ Signal.Msg 0 (at 0 0) (pos 1) ∷ [] }
     ensures message_then_tag { (counted 1).down ≡ Signal.Msg 0 (at 0 0) (pos 1) ∷ Signal.Tag (at 0 0) ∷ [] }
+    ensures not_by_paths { passes_paths counter counter_table (standings_of counted) 1 (at 0 0) ≡ false }
     ensures row { (summed 1).federate.rows ≡ first_sum }
     ensures confirmed { (summed 1).up ≡ Signal.Ltc (at 0 0) ∷ [] }
 {}

@@ -1,13 +1,17 @@
--- Tables of least delays, and what the laws use of them.
+-- Tables of least delays.
 use Rattle.std.specs.Prelude.{◌≡◌, ℕ, List, All, IsTrue, Option, None, Some, IfSome, MatchOption}
 use Rattle.tag.specs.LogicalTime.{LogicalTime, is_at_most, sum_of}
 use Rattle.network.specs.Connection.{Connection, IsPath, total_of, IsLeastDelay, IsUnreachable}
 use Rattle.network.specs.Network.{Network}
-use Rattle.protocol.specs.Grant.{Table}
+use Rattle.network.specs.Lawful.{IsLawful}
+
+-- delays from one reactor to another; none where there is no path
+abbrev pub Table : Type 0
+Table = ℕ → ℕ → Option LogicalTime
 
 -- each entry is the least delay over all paths; none where there is no path
 abbrev pub IsLeastTable : Network → Table → Type 0
-IsLeastTable n table = (i j : ℕ) → MatchOption (table i j) (IsUnreachable n.connections i j) (λ delay. IsLeastDelay n.connections i j delay)
+IsLeastTable n table = (i j : ℕ) → MatchOption (table i j) (IsUnreachable n.connections i j) (IsLeastDelay n.connections i j)
 
 -- if there is a delay, some path from i to j has it as its total
 abbrev pub IsAttained : List Connection → ℕ → ℕ → Option LogicalTime → Type 0
@@ -24,3 +28,9 @@ IsWithin (Some delay) bound = IsTrue (is_at_most delay bound)
 pub record IsTable (n : Network) (table : Table) : Type 0 where
   pub direct : All (λ c. IsWithin (table c.source c.target) c.delay) n.connections
   pub onward : (j : ℕ) → All (λ c. IfSome (table c.target j) (λ rest. IsWithin (table c.source j) (sum_of c.delay rest))) n.connections
+
+-- a lawful network with a table of its least delays, which keeps the two facts
+pub record IsLawfulWith (n : Network) (table : Table) : Type 0 where
+  pub lawful : IsLawful n
+  pub least : IsLeastTable n table
+  pub facts : IsTable n table
