@@ -3,6 +3,9 @@
 #![tactic(auto)]
 
 mod frames;
+mod inputs;
+mod plan_check;
+mod whole_turns;
 
 use anyhow::{Result, bail};
 use std::env;
@@ -11,9 +14,12 @@ fn main(rt: HostRuntime) -> Result<()> {
     let mut words = env::args(&rt)?;
     let _program = words.next();
     match words.next() {
-        None => println!(rt; "frames")?,
+        None => println!(rt; "frames\ninputs\nplan\nwhole")?,
         Some(name) => match name.as_str() {
             "frames" => frames::run(&rt, rt.alloc())?,
+            "inputs" => inputs::run(&rt, rt.alloc())?,
+            "plan" => plan_check::run(&rt, rt.alloc())?,
+            "whole" => whole_turns::run(&rt, rt.alloc())?,
             other => bail!("no benchmark is named {other}"),
         },
     }

@@ -1,7 +1,7 @@
--- What the program reads and prints.
--- what a file's shape keeps
-pub mod Shaped
+-- What the program prints.
 -- rows as text
 pub mod Printed
+-- a plan as text
+pub mod PlanText
 -- exit statuses, and what is printed where all went well
 pub mod Told

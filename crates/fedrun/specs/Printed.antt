@@ -1,5 +1,5 @@
 -- Rows as text: who, when, what was present, and what was set.
-use Rattle.std.specs.Prelude.{ℕ, Bool, ◌&&◌, ◌||◌, nat_eq, nat_lt, nat_le, if◌then◌else◌, List, [], ◌∷◌, ◌++◌, slice_get, slice_index_or, Option, None, Some, codes}
+use Rattle.std.specs.Prelude.{ℕ, if◌then◌else◌, List, [], ◌∷◌, ◌++◌, slice_get, slice_index_or, Option, None, Some, codes}
 use Rattle.std.specs.List.{flat_map, join_by}
 use Rattle.std.specs.Fmt.{signed_decimal}
 use Rattle.tag.specs.Printed.{printed_tag}
@@ -7,16 +7,12 @@ use Rattle.network.specs.Event.{Entry}
 use Rattle.network.specs.Undivided.{Row}
 use Rattle.plan.specs.declared.slots.Slots.{Slots}
 use Rattle.plan.specs.declared.draft.Federate.{Federate}
-use Rattle.plan.specs.Numbering.{startup_slot, first_timer, first_action}
+use Rattle.plan.specs.Numbering.{is_bare}
 use Rattle.reactor.specs.Resolution.{slot_names}
 
 -- the name at this place of these
 abbrev pub name_at : List (List ℕ) → ℕ → List ℕ
 name_at names place = slice_index_or names place []
-
--- startup and timers have no value
-abbrev pub is_bare : Slots → ℕ → Bool
-is_bare s slot = nat_eq slot startup_slot || (nat_le (first_timer s) slot && nat_lt slot (first_action s))
 
 -- a name with a value, as `total=3`
 abbrev pub valued : List (List ℕ) → Entry → List ℕ

@@ -1,16 +1,17 @@
-ghost use Rattle.std.specs.Prelude.{◌≡◌, ◌≤◌, IfOk, IfErr, OnOk, [], string_bytes};
+ghost use Rattle.std.specs.Prelude.{◌≡◌, ◌≤◌, IfOk, IfErr, OnOk, string_bytes};
 ghost use Rattle.std.specs.Io.KnownBytes.{Appends};
 ghost use Rattle.plan.specs.External.{AreInputsOf};
 ghost use Rattle.reactor.specs.Programs.{AreProgramsOf};
-ghost use Rattle.fedrun.specs.Told.{status_of, IsRunText, PrintsRun};
+ghost use Rattle.fedrun.specs.Told.{status_of, IsRunText, PrintsRun, PrintsPlan, PrintsAnswer};
 
 use crate::fault::Fault;
 use crate::files::{FileFault, Files};
-use crate::load::{Loaded, MOST_BYTES, load};
-use crate::load_fault::LoadFault;
+use crate::plan_text::plan_text;
 use crate::row_text::rows_text;
 use crate::words::{Request, read_words};
-use plan::Inputs;
+use loadfed::{LoadFault, MOST_BYTES, MOST_INPUT_BYTES, load, load_inputs};
+use plan::{Inputs, Plan};
+use reactor::Programs;
 use std::alloc::Global;
 use std::io::Write;
 use whole::Whole;
@@ -25,7 +26,7 @@ pub fn command<R: AllocGlobal, F: Files, O: Write, E: Write>(
     out: &mut O,
     err: &mut E,
 ) -> u8
-    ensures done { result ≡ 0 → PrintsRun (O.contents out.old) (O.contents out.new) }
+    ensures done { result ≡ 0 → PrintsAnswer (O.contents out.old) (O.contents out.new) }
     ensures quiet { result ≡ 0 → err.new ≡ err.old }
     ensures untouched { result ≡ 1 → out.new ≡ out.old }
     ensures unused { result ≡ 2 → out.new ≡ out.old }
@@ -51,7 +52,7 @@ fn run<'a, F: Files, O: Write>(
     files: &mut F,
     out: &mut O,
 ) -> Result<(), Fault<'a>>
-    ensures ok { OnOk result (PrintsRun (O.contents out.old) (O.contents out.new)) }
+    ensures ok { OnOk result (PrintsAnswer (O.contents out.old) (O.contents out.new)) }
     ensures err { IfErr result (λ fault. status_of fault ≤ 2 → out.new ≡ out.old) }
 {
     match read_words(alloc, words)? {
@@ -59,54 +60,110 @@ fn run<'a, F: Files, O: Write>(
             federation,
             inputs,
             turns,
-        } => {
-            let loaded = loaded(alloc, federation, files)?;
-            let inputs = inputs_of(alloc, inputs, &loaded)?;
-            let text = whole_text(alloc, &loaded, &inputs, turns)?;
-            print(out, &text)
-        }
+        } => whole(alloc, federation, inputs, turns, files, out),
+        Request::Check { federation } => check(alloc, federation, files, out),
+    }
+}
+
+/// Prints the rows of the undivided program after at most so many turns.
+fn whole<'a, F: Files, O: Write>(
+    alloc: Global,
+    federation: &'a str,
+    inputs: &'a str,
+    turns: u32,
+    files: &mut F,
+    out: &mut O,
+) -> Result<(), Fault<'a>>
+    ensures ok { OnOk result (PrintsRun (O.contents out.old) (O.contents out.new)) }
+    ensures err { IfErr result (λ fault. status_of fault ≤ 2 → out.new ≡ out.old) }
+{
+    let (plan, programs) = loaded(alloc, federation, files)?;
+    let inputs = inputs_of(alloc, inputs, &plan, files)?;
+    let text = whole_text(alloc, &plan, &programs, &inputs, turns)?;
+    plan.known();
+    print(out, &text)
+}
+
+/// Prints the plan.
+fn check<'a, F: Files, O: Write>(
+    alloc: Global,
+    federation: &'a str,
+    files: &mut F,
+    out: &mut O,
+) -> Result<(), Fault<'a>>
+    ensures ok { OnOk result (PrintsPlan (O.contents out.old) (O.contents out.new)) }
+    ensures err { IfErr result (λ fault. status_of fault ≤ 2 → out.new ≡ out.old) }
+{
+    let (plan, _programs) = loaded(alloc, federation, files)?;
+    plan.known();
+    match plan_text(alloc, &plan) {
+        Ok(text) => print(out, &text),
+        Err(_) => Err(Fault::no_memory_running()),
     }
 }
 
 /// The federation in a file.
-fn loaded<'a, F: Files>(alloc: Global, name: &'a str, files: &mut F) -> Result<Loaded, Fault<'a>>
-    ensures { IfOk result (λ loaded. AreProgramsOf loaded.plan loaded.programs) }
+fn loaded<'a, F: Files>(
+    alloc: Global,
+    name: &'a str,
+    files: &mut F,
+) -> Result<(Plan, Programs), Fault<'a>>
+    ensures ok { IfOk result (λ loaded. AreProgramsOf loaded.0 loaded.1) }
+    ensures err { IfErr result (λ fault. status_of fault ≤ 2) }
 {
-    let bytes = match files.bytes(name, MOST_BYTES) {
-        Ok(bytes) => bytes,
-        Err(FileFault::Unreadable) => return Err(Fault::CannotRead(name)),
-        Err(FileFault::OverLimit) => return Err(Fault::of_load(LoadFault::OverLimit)),
-        Err(FileFault::Memory) => return Err(Fault::no_memory_loading()),
-    };
+    let bytes = bytes_of(name, files, MOST_BYTES)?;
     match load(alloc, bytes.as_slice()) {
         Ok(loaded) => Ok(loaded),
         Err(fault) => Err(Fault::of_load(fault)),
     }
 }
 
-/// The recorded inputs that a word names: `-` is none. A file of them isn't taken yet.
-fn inputs_of(alloc: Global, name: &str, loaded: &Loaded) -> Result<Inputs, Fault<'static>>
-    ensures none { IfOk result (λ inputs. inputs ≡ []) }
-    ensures allowed { IfOk result (AreInputsOf loaded.now.plan) }
+/// The recorded inputs in a file; `-` is a file without any.
+fn inputs_of<'a, F: Files>(
+    alloc: Global,
+    name: &'a str,
+    plan: &Plan,
+    files: &mut F,
+) -> Result<Inputs, Fault<'a>>
+    ensures ok { IfOk result (AreInputsOf plan.now) }
+    ensures err { IfErr result (λ fault. status_of fault ≤ 2) }
 {
-    if name != "-" {
-        return Err(Fault::not_yet());
+    let bytes = if name == "-" {
+        Vec::new(alloc)
+    } else {
+        bytes_of(name, files, MOST_INPUT_BYTES)?
+    };
+    match load_inputs(alloc, bytes.as_slice(), plan) {
+        Ok(inputs) => Ok(inputs),
+        Err(fault) => Err(Fault::of_load(fault)),
     }
-    Inputs::check(alloc, &loaded.plan, Vec::new(alloc)).map_err(Fault::of_inputs)
+}
+
+/// The bytes of a file that has at most so many.
+fn bytes_of<'a, F: Files>(name: &'a str, files: &mut F, most: usize) -> Result<Vec<u8>, Fault<'a>>
+    ensures err { IfErr result (λ fault. status_of fault ≤ 2) }
+{
+    match files.bytes(name, most) {
+        Ok(bytes) => Ok(bytes),
+        Err(FileFault::Unreadable) => Err(Fault::CannotRead(name)),
+        Err(FileFault::OverLimit) => Err(Fault::of_load(LoadFault::OverLimit)),
+        Err(FileFault::Memory) => Err(Fault::no_memory_loading()),
+    }
 }
 
 /// The rows of the undivided program after at most so many turns, one a line.
 fn whole_text(
     alloc: Global,
-    loaded: &Loaded,
+    plan: &Plan,
+    programs: &Programs,
     inputs: &Inputs,
     turns: u32,
 ) -> Result<String, Fault<'static>>
-    requires programs { AreProgramsOf loaded.now.plan loaded.now.programs }
-    requires inputs { AreInputsOf loaded.now.plan inputs.now }
-    ensures ok { IfOk result (λ text. IsRunText loaded.now.plan loaded.now.programs inputs.now turns (string_bytes text)) }
+    requires programs { AreProgramsOf plan.now programs.now }
+    requires inputs { AreInputsOf plan.now inputs.now }
+    ensures ok { IfOk result (λ text. IsRunText plan.now programs.now inputs.now turns (string_bytes text)) }
+    ensures err { IfErr result (λ fault. status_of fault ≡ 3) }
 {
-    let Loaded { plan, programs } = loaded;
     let mut program = Whole::new(alloc, plan, programs, inputs).map_err(Fault::of_whole)?;
     let _made = program.turns(turns).map_err(Fault::of_whole)?;
     match rows_text(alloc, plan, program.rows()) {

@@ -1,8 +1,9 @@
 ghost use Rattle.std.specs.Prelude.{◌≡◌};
 
-use crate::load_fault::LoadFault;
-use plan::{InputFault, PlanFault, PortName, Text};
+use loadfed::LoadFault;
+use plan::{Names, PlanFault, PortName, Text};
 use reactor::{Memory, ProgramFault};
+use std::fmt;
 use thiserror::Error;
 
 /// The number of a want of memory that has none of its own.
@@ -42,6 +43,11 @@ pub enum Fault<'a> {
         number: u16,
         name: PortName,
     },
+    #[error("{number} ZeroDelayCycle{names}")]
+    ZeroDelayCycle {
+        number: u16,
+        names: Cycle,
+    },
     #[error("{number} OverLimit")]
     OverLimit {
         number: u16,
@@ -54,11 +60,6 @@ pub enum Fault<'a> {
     RepeatedName {
         number: u16,
         name: Text,
-    },
-    /// What a later version takes, or refuses by another number.
-    #[error("{number} NotYet")]
-    NotYet {
-        number: u16,
     },
     #[error("{number} BadLine {name} {reaction} {line}", name = .federate.as_str())]
     BadLine {
@@ -78,6 +79,15 @@ pub enum Fault<'a> {
     RepeatedState {
         number: u16,
         federate: Text,
+    },
+    #[error("{number} NotToml")]
+    NotToml {
+        number: u16,
+    },
+    #[error("{number} WrongShape {text}", text = .key.as_str())]
+    WrongShape {
+        number: u16,
+        key: Text,
     },
     #[error("{number} UnknownAction")]
     UnknownAction {
@@ -104,49 +114,60 @@ impl Fault<'_> {
     }
 
     /// No memory before anything was loaded.
-    pub fn no_memory_loading() -> Fault<'static> {
+    pub fn no_memory_loading() -> Fault<'static>
+        ensures { status_of result ≡ 1 }
+    {
         Fault::MemoryLoading {
             number: LoadFault::Memory.number(),
         }
     }
 
     /// No memory after all was loaded, where it has no number of its own.
-    pub fn no_memory_running() -> Fault<'static> {
+    pub fn no_memory_running() -> Fault<'static>
+        ensures { status_of result ≡ 3 }
+    {
         Fault::MemoryRunning { number: NO_MEMORY }
     }
 
-    pub fn not_yet() -> Fault<'static> {
-        Fault::NotYet {
-            number: PlanFault::NotYet.number(),
-        }
-    }
-
-    /// How a fault of loading is told. What is no federation by its form is not refused by numbers of its own yet.
-    pub fn of_load(fault: LoadFault) -> Fault<'static> {
+    /// How a fault of loading is told.
+    pub fn of_load(fault: LoadFault) -> Fault<'static>
+        ensures { status_of result ≡ 1 }
+    {
+        let number = fault.number();
         match fault {
-            LoadFault::NotToml | LoadFault::WrongShape(_) | LoadFault::OverLimit =>
-                Fault::not_yet(),
-            LoadFault::Memory => Fault::no_memory_loading(),
+            LoadFault::NotToml => Fault::NotToml { number },
+            LoadFault::WrongShape(key) => Fault::WrongShape { number, key },
             LoadFault::Plan(fault) => Fault::of_plan(fault),
             LoadFault::Program { federate, fault } => Fault::of_program(federate, fault),
+            LoadFault::UnknownAction => Fault::UnknownAction { number },
+            LoadFault::RepeatedInput => Fault::RepeatedInput { number },
+            LoadFault::OverLimit => Fault::OverLimit { number },
+            LoadFault::Memory => Fault::no_memory_loading(),
         }
     }
 
-    fn of_plan(fault: PlanFault) -> Fault<'static> {
+    fn of_plan(fault: PlanFault) -> Fault<'static>
+        ensures { status_of result ≡ 1 }
+    {
         let number = fault.number();
         match fault {
             PlanFault::NoFederate => Fault::NoFederate { number },
             PlanFault::UnknownName(name) => Fault::UnknownName { number, name },
             PlanFault::TwoSources(name) => Fault::TwoSources { number, name },
+            PlanFault::ZeroDelayCycle(names) => Fault::ZeroDelayCycle {
+                number,
+                names: Cycle(names),
+            },
             PlanFault::OverLimit => Fault::OverLimit { number },
             PlanFault::BadTimer => Fault::BadTimer { number },
             PlanFault::Memory => Fault::no_memory_loading(),
             PlanFault::RepeatedName(name) => Fault::RepeatedName { number, name },
-            PlanFault::NotYet => Fault::NotYet { number },
         }
     }
 
-    fn of_program(federate: Text, fault: ProgramFault) -> Fault<'static> {
+    fn of_program(federate: Text, fault: ProgramFault) -> Fault<'static>
+        ensures { status_of result ≡ 1 }
+    {
         let number = fault.number();
         match fault {
             ProgramFault::BadLine { reaction, line } => Fault::BadLine {
@@ -167,20 +188,25 @@ impl Fault<'_> {
     }
 
     /// How a fault of the undivided program is told.
-    pub fn of_whole(fault: Memory) -> Fault<'static> {
+    pub fn of_whole(fault: Memory) -> Fault<'static>
+        ensures { status_of result ≡ 3 }
+    {
         Fault::MemoryRunning {
             number: fault.number(),
         }
     }
+}
 
-    /// How a fault of the recorded inputs is told.
-    pub fn of_inputs(fault: InputFault) -> Fault<'static> {
-        let number = fault.number();
-        match fault {
-            InputFault::UnknownAction => Fault::UnknownAction { number },
-            InputFault::RepeatedInput => Fault::RepeatedInput { number },
-            InputFault::OverLimit => Fault::OverLimit { number },
-            InputFault::Memory => Fault::no_memory_loading(),
+/// The names of the federates of a cycle, each printed after a space.
+#[derive(Debug, Drop)]
+pub struct Cycle(pub Names);
+
+impl fmt::Display for Cycle {
+    fn fmt<W: fmt::Write>(&self, f: &mut fmt::Formatter<W>) -> fmt::Result {
+        for name in self.0.as_slice() {
+            let name = name.as_str();
+            write!(f, " {name}")?;
         }
+        Ok(())
     }
 }

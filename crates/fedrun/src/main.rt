@@ -1,19 +1,15 @@
 //! The program `fedrun`: reads its words and files, and prints the rows of a federation.
 //!
 //! All it does is `command`, a function over words, files and writers; `main` hands it the machine's. Begin with `command`,
-//! then `load` for how a file becomes a plan, and `specs/Printed` for what a row looks like.
+//! then `specs/Printed` for what a row looks like, and `specs/PlanText` for a plan.
 #![tactic(auto)]
 
 mod command;
 mod fault;
 mod files;
-mod load;
-mod load_fault;
 mod machine;
-mod program_shape;
+mod plan_text;
 mod row_text;
-mod section;
-mod shape;
 #[cfg(test)]
 mod tests;
 mod words;

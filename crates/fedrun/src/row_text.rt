@@ -78,9 +78,7 @@ fn push_input(text: &mut String, slots: &Slots, entry: Entry) -> Result<(), Allo
 {
     let slot = entry.place();
     let name = slot_name(slots, slot);
-    let first_timer = 1 + slots.inputs.as_slice().len();
-    let timers = slots.timers.as_slice().len();
-    if slot == 0 || (first_timer <= slot && slot - first_timer < timers) {
+    if slots.is_bare(slot) {
         return text.push_str(name);
     }
     let value = entry.value();

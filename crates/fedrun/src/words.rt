@@ -12,6 +12,10 @@ pub enum Request<'a> {
         inputs: &'a str,
         turns: u32,
     },
+    /// The plan.
+    Check {
+        federation: &'a str,
+    },
 }
 
 /// What the words ask for: one subcommand with its arguments. Else it is `Usage`, or a want of memory.
@@ -20,6 +24,7 @@ pub fn read_words<'a>(alloc: Global, words: &'a [String]) -> Result<Request<'a>,
     match command.try_get_matches_from(words) {
         Ok(matches) => match matches.subcommand() {
             Some(("whole", given)) => whole(given),
+            Some(("check", given)) => check(given),
             _ => Err(Fault::Usage),
         },
         Err(error) if error.kind() == ErrorKind::OutOfMemory => Err(Fault::no_memory_loading()),
@@ -34,12 +39,16 @@ fn commands<'a>(alloc: Global) -> Result<Command<'a>, AllocError> {
         .arg(Arg::new(alloc, "FED").required(true))?
         .arg(Arg::new(alloc, "IN").required(true))?
         .arg(Arg::new(alloc, "TURNS").required(true))?;
+    let check = Command::new(alloc, "check")
+        .disable_help_flag(true)
+        .arg(Arg::new(alloc, "FED").required(true))?;
     Command::new(alloc, "fedrun")
         .no_binary_name(true)
         .disable_help_flag(true)
         .disable_help_subcommand(true)
         .subcommand_required(true)
-        .subcommand(whole)
+        .subcommand(whole)?
+        .subcommand(check)
 }
 
 fn whole<'a>(given: &ArgMatches<'a>) -> Result<Request<'a>, Fault<'static>> {
@@ -57,6 +66,13 @@ fn whole<'a>(given: &ArgMatches<'a>) -> Result<Request<'a>, Fault<'static>> {
             None => Err(Fault::Usage),
         },
         _ => Err(Fault::Usage),
+    }
+}
+
+fn check<'a>(given: &ArgMatches<'a>) -> Result<Request<'a>, Fault<'static>> {
+    match given.get_str("FED") {
+        Some(federation) => Ok(Request::Check { federation }),
+        None => Err(Fault::Usage),
     }
 }
 

@@ -147,7 +147,7 @@ fn refusals_by_number(rt: HostRuntime) {
 }
 
 // Whichever allocation is refused, nothing has changed and the same call succeeds later:
-// `rt try --test --fail-alloc 1..`.
+// `rt try --test --fail-alloc N`.
 #[test]
 fn lacks_memory(rt: HostRuntime) -> Result<(), Fail> {
     let mut end = LinkEnd::new(rt.alloc(), 4, 1, 100);

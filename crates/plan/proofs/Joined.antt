@@ -15,7 +15,7 @@ use Rattle.plan.specs.declared.draft.Draft.{Draft}
 use Rattle.plan.specs.Naming.{place_of}
 use Rattle.plan.specs.Numbering.{first_input}
 use Rattle.plan.specs.Federation.{Found, federate_names, federate_number, place_in, found_in, found_output, found_input, delay_after, connection_of, connections_of}
-use Rattle.plan.specs.Legal.{EndApart}
+use Rattle.network.specs.Lawful.{EndApart}
 use Rattle.plan.specs.Faults.{ArePortsThere, EndsTwice, HasTwoSources}
 use Rattle.plan.proofs.Places.{slice_get-place_of}
 use Rattle.plan.proofs.Twice.{mapped_at}
@@ -51,13 +51,14 @@ federate_number-lt fs a i e =
     let below : i < length (federate_names fs) = slice_get_within (federate_names fs) i a (slice_get-place_of (federate_names fs) a i e) in
     omega (arith, length-map fs (λ (f : Federate). f.name))
 
-same_name : (names : List (List ℕ)) (a b : List ℕ) (i : ℕ) → place_of names a ≡ Some i → place_of names b ≡ Some i → a ≡ b
+-- names at one place are one
+pub same_name : (names : List (List ℕ)) (a b : List ℕ) (i : ℕ) → place_of names a ≡ Some i → place_of names b ≡ Some i → a ≡ b
 same_name names a b i at_a at_b =
     let here : slice_get names i ≡ Some a = slice_get-place_of names a i at_a in
     let there : slice_get names i ≡ Some b = slice_get-place_of names b i at_b in
     cc
 
-same_name_in : (names_of : Slots → List (List ℕ)) (o : Option Federate) (a b : List ℕ) (i : ℕ)
+pub same_name_in : (names_of : Slots → List (List ℕ)) (o : Option Federate) (a b : List ℕ) (i : ℕ)
     → place_in names_of o a ≡ Some i → place_in names_of o b ≡ Some i → a ≡ b
 same_name_in names_of None a b i at_a at_b = cc
 same_name_in names_of (Some f) a b i at_a at_b = same_name (names_of f.slots) a b i at_a at_b

@@ -4,11 +4,23 @@ pub mod Places
 pub mod Twice
 -- Declared connections and connections by numbers.
 pub mod Joined
+-- The occurrences that inputs are.
+pub mod Occurrences
 -- Levels and ranks.
 pub mod Levels
 -- Drafts that were checked.
 pub mod Plans
 -- Paths without any delay.
 pub mod Paths
+-- Cycles without any delay.
+pub mod Cycles
 -- Levels and ranks of legal drafts.
 pub mod Legality
+-- Paths that meet no federate twice.
+pub mod ShortPaths
+-- Least delays are least totals of paths.
+pub mod LeastTotals
+-- Least delays, as they are computed.
+pub mod LeastRounds
+-- Least delays of legal drafts.
+pub mod LeastLaws

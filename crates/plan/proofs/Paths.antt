@@ -48,7 +48,7 @@ pub total_from_immediate : (path : List Connection) → AreImmediate path → to
 total_from_immediate [] each = refl
 total_from_immediate (c ∷ rest) each = ap (λ d. then_along d rest) each.0 ∙ along_none rest each.1
 
-immediate_test : (c : Connection) → c.delay ≡ origin → is_immediate c ≡ true
+pub immediate_test : (c : Connection) → c.delay ≡ origin → is_immediate c ≡ true
 immediate_test c e = ap (λ d. is_same d origin) e
 
 pub immediate_from_test : (c : Connection) → is_immediate c ≡ true → c.delay ≡ origin

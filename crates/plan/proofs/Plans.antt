@@ -6,20 +6,22 @@ use Rattle.std.proofs.lemmas.List.Elements.{All-nil, All-cons, All-contains}
 use Rattle.std.proofs.lemmas.Option.{slice_get_within, get_or_from_slice_get}
 use Rattle.std.proofs.lemmas.Slice.Eq.{bytes_eq-Decides}
 use Rattle.std.proofs.lemmas.Map.Made.{AllPairs-from_IsDistinct}
+use Rattle.tag.specs.LogicalTime.{LogicalTime}
 use Rattle.network.specs.Connection.{Connection, IsPath}
+use Rattle.network.specs.Lawful.{EndApart}
 use Rattle.plan.specs.declared.draft.Federate.{Federate}
 use Rattle.plan.specs.declared.draft.PortName.{PortName}
 use Rattle.plan.specs.declared.draft.ConnectionDraft.{ConnectionDraft}
 use Rattle.plan.specs.declared.draft.Draft.{Draft}
 use Rattle.plan.specs.declared.fault.PlanFault.{PlanFault}
-use Rattle.plan.specs.declared.fault.PlanFault.TheVariants.{NoFederate, UnknownName, TwoSources, OverLimit, BadTimer, Memory, RepeatedName, NotYet}
+use Rattle.plan.specs.declared.fault.PlanFault.TheVariants.{NoFederate, UnknownName, TwoSources, ZeroDelayCycle, OverLimit, BadTimer, Memory, RepeatedName}
 use Rattle.plan.specs.Naming.{AreDistinct}
 use Rattle.plan.specs.Numbering.{all_names, first_input}
 use Rattle.plan.specs.Federation.{Found, federate_names, found_input, found_output, connection_of, connections_of, federate_count, level_within, before_by}
-use Rattle.plan.specs.Legal.{IsLegal, EndApart, HasNoImmediateCycle}
-use Rattle.plan.specs.Plain.{IsPlain}
+use Rattle.plan.specs.Least.{IsLeastTable}
+use Rattle.plan.specs.Legal.{IsLegal, HasNoImmediateCycle}
 use Rattle.plan.specs.Planned.{IsPlanned}
-use Rattle.plan.specs.Faults.{StandsIn, StandsTwice, HasTwoSources, IsUnknown, IsRepeated, IsWithinAllLimits, AreTimersInRange, HasDistinctNames, ArePortsThere}
+use Rattle.plan.specs.Faults.{StandsIn, StandsTwice, HasTwoSources, IsUnknown, IsRepeated, IsWithinAllLimits, AreTimersInRange, HasDistinctNames, ArePortsThere, IsNamedCycle}
 use Rattle.plan.proofs.Joined.{Joins, joins_at, length-connections_of, nowhere, joins_from_connection_of, found_in_parts, federate_number-lt}
 use Rattle.plan.proofs.Levels.{EndsBelow}
 
@@ -50,46 +52,11 @@ ends_below d =
     let target : x.target ≡ joins.to.federate = joins.target in
     (omega arith, omega arith))
 
--- ---- where numbers rise there is no cycle
-
--- each connection of a path leads to a higher number
-pub path_rises : (cs : List Connection) → All (λ c. c.source < c.target) cs
-    → (i : ℕ) (path : List Connection) (j : ℕ) → IsPath cs i path j → i + length path ≤ j
-path_rises cs rising i [] j is_path = absurd is_path
-path_rises cs rising i (c ∷ []) j is_path =
-    let here : c.source < c.target = All-contains (λ (x : Connection). x.source < x.target) cs c rising is_path.0 in
-    let begins : c.source ≡ i = is_path.1 in
-    let ends : c.target ≡ j = is_path.2 in
-    omega arith
-path_rises cs rising i (c ∷ e ∷ rest) j is_path =
-    let here : c.source < c.target = All-contains (λ (x : Connection). x.source < x.target) cs c rising is_path.0 in
-    let begins : c.source ≡ i = is_path.1 in
-    let further : c.target + length (e ∷ rest) ≤ j = path_rises cs rising c.target (e ∷ rest) j is_path.2 in
-    omega arith
-
-pub path_has_some : (cs : List Connection) (i : ℕ) (path : List Connection) (j : ℕ) → IsPath cs i path j → 0 < length path
-path_has_some cs i [] j is_path = absurd is_path
-path_has_some cs i (c ∷ rest) j is_path = omega arith
-
-pub no_cycle : (cs : List Connection) → All (λ c. c.source < c.target) cs → HasNoImmediateCycle cs
-no_cycle cs rising i path is_path none =
-    let risen : i + length path ≤ i = path_rises cs rising i path i is_path in
-    let some : 0 < length path = path_has_some cs i path i is_path in
-    omega arith
-
 -- ---- what the steps of a check show
 
--- no delay has no time that is too late
-no_delays : (cs : List ConnectionDraft) → All (λ c. c.after ≡ None) cs → All (λ c. IfSome c.after (λ t. t < 2 ^ 62)) cs
-no_delays cs none k e below = vacuous (get_or cs k e).after (none k e below)
-  where
-    vacuous : (after : Option ℕ) → after ≡ None → IfSome after (λ t. t < 2 ^ 62)
-    vacuous None is = tt
-    vacuous (Some t) is = cc
-
 pub legal_from : (d : Draft) → d.stop < 2 ^ 62 → 0 < length d.federates → IsWithinAllLimits d → AreTimersInRange d → HasDistinctNames d → ArePortsThere d
-    → AllPairs EndApart (connections_of d) → IsPlain d → IsLegal d
-legal_from d stop some limits timers names ports sources plain = record {
+    → All (λ c. IfSome c.after (λ t. t < 2 ^ 62)) d.connections → AllPairs EndApart (connections_of d) → HasNoImmediateCycle (connections_of d) → IsLegal d
+legal_from d stop some limits timers names ports delays sources cycles = record {
   some_federate = some;
   few_federates = limits.federates;
   few_connections = limits.connections;
@@ -98,11 +65,11 @@ legal_from d stop some limits timers names ports sources plain = record {
   slots_apart = names.slots;
   timers = timers;
   stop = stop;
-  delays = no_delays d.connections plain.no_delays;
+  delays = delays;
   from_outputs = ports.from_outputs;
   to_inputs = ports.to_inputs;
   one_source = sources;
-  no_immediate_cycle = no_cycle (connections_of d) plain.rising;
+  no_immediate_cycle = cycles;
 }
 
 pub ends_below_at : (d : Draft) (cs : List Connection) (n : ℕ) → cs ≡ connections_of d → n ≡ federate_count d → EndsBelow n cs
@@ -110,8 +77,9 @@ ends_below_at d cs n cs_is n_is =
     subst (λ m. EndsBelow m cs) (sym n_is) (subst (λ es. EndsBelow (federate_count d) es) (sym cs_is) (ends_below d))
 
 pub planned_from : (d : Draft) (cs es : List Connection) (rs : List ℕ) (n : ℕ) → IsLegal d → cs ≡ connections_of d → es ≡ connections_of d
-    → n ≡ federate_count d → length rs ≡ n → ((i : ℕ) → i < n → slice_index rs i ≡ before_by (level_within es n) n i) → IsPlanned d cs rs
-planned_from d cs es rs n legal cs_is es_is n_is len ranks = record {
+    → n ≡ federate_count d → length rs ≡ n → ((i : ℕ) → i < n → slice_index rs i ≡ before_by (level_within es n) n i)
+    → (fs : List Connection) (ls : List (List (Option LogicalTime))) → fs ≡ connections_of d → IsLeastTable fs n ls → IsPlanned d cs rs ls
+planned_from d cs es rs n legal cs_is es_is n_is len ranks fs ls fs_is delays = record {
   legal = legal;
   connections = cs_is;
   rank_count = len ∙ n_is;
@@ -119,9 +87,10 @@ planned_from d cs es rs n legal cs_is es_is n_is len ranks = record {
       ranks i (omega arith)
       ∙ ap (λ m. before_by (level_within es m) m i) n_is
       ∙ ap (λ fs. before_by (level_within fs (federate_count d)) (federate_count d) i) es_is;
+  delays = subst (λ m. IsLeastTable (connections_of d) m ls) n_is (subst (λ gs. IsLeastTable gs n ls) fs_is delays);
 }
 
--- ---- no fault but want of memory is in a legal plain draft
+-- ---- no fault but want of memory is in a legal draft
 
 unmapped : {X Y : Type 0} (f : X → Y) (xs : List X) (k : ℕ) (y : Y) → slice_get (map f xs) k ≡ Some y
     → (x : X) × (slice_get xs k ≡ Some x) × (f x ≡ y)
@@ -188,18 +157,21 @@ not_two_sources d p legal two =
     (first_joins.target ∙ ap (λ (f : Found). f.federate) same ∙ sym later_joins.target)
     (first_joins.slot ∙ ap (λ (f : Found). first_input + f.place) same ∙ sym later_joins.slot)
 
-other_faults : (d : Draft) (e : PlanFault) → StandsIn d e → IsLegal d → IsPlain d → e ≡ Memory
-other_faults d NoFederate stands legal plain =
-    let some : 0 < length d.federates = legal.some_federate in absurd (omega (arith, ap length stands))
-other_faults d (UnknownName p) stands legal plain = absurd (not_unknown d p legal stands)
-other_faults d (TwoSources p) stands legal plain = absurd (not_two_sources d p legal stands)
-other_faults d OverLimit stands legal plain =
-    absurd (stands (record { federates = legal.few_federates; connections = legal.few_connections; slots = legal.few_slots }))
-other_faults d BadTimer stands legal plain = absurd (stands legal.timers)
-other_faults d Memory stands legal plain = refl
-other_faults d (RepeatedName name) stands legal plain = absurd (not_repeated d name legal stands)
-other_faults d NotYet stands legal plain = absurd (stands plain)
+not_a_cycle : (d : Draft) (names : List (List ℕ)) → IsLegal d → IsNamedCycle d names → ⊥
+not_a_cycle d names legal named = legal.no_immediate_cycle named.start named.path named.cycle.is_path named.cycle.immediate
 
-pub accepts_from : {X : Type 0} (d : Draft) (r : Result X PlanFault) → IfErr r (StandsIn d) → IsLegal d → IsPlain d → IfErr r (λ e. e ≡ Memory)
-accepts_from d (Ok x) stands legal plain = tt
-accepts_from d (Err e) stands legal plain = other_faults d e stands legal plain
+other_faults : (d : Draft) (e : PlanFault) → StandsIn d e → IsLegal d → e ≡ Memory
+other_faults d NoFederate stands legal =
+    let some : 0 < length d.federates = legal.some_federate in absurd (omega (arith, ap length stands))
+other_faults d (UnknownName p) stands legal = absurd (not_unknown d p legal stands)
+other_faults d (TwoSources p) stands legal = absurd (not_two_sources d p legal stands)
+other_faults d (ZeroDelayCycle names) stands legal = absurd (not_a_cycle d names legal stands)
+other_faults d OverLimit stands legal =
+    absurd (stands (record { federates = legal.few_federates; connections = legal.few_connections; slots = legal.few_slots }))
+other_faults d BadTimer stands legal = absurd (stands legal.timers)
+other_faults d Memory stands legal = refl
+other_faults d (RepeatedName name) stands legal = absurd (not_repeated d name legal stands)
+
+pub accepts_from : {X : Type 0} (d : Draft) (r : Result X PlanFault) → IfErr r (StandsIn d) → IsLegal d → IfErr r (λ e. e ≡ Memory)
+accepts_from d (Ok x) stands legal = tt
+accepts_from d (Err e) stands legal = other_faults d e stands legal

@@ -4,12 +4,12 @@ use Rattle.network.specs.Connection.{Connection}
 use Rattle.plan.specs.declared.draft.PortName.{PortName}
 use Rattle.plan.specs.declared.draft.Draft.{Draft}
 use Rattle.plan.specs.declared.fault.PlanFault.{PlanFault}
-use Rattle.plan.specs.declared.fault.PlanFault.TheVariants.{NoFederate, UnknownName, TwoSources, OverLimit, BadTimer, Memory, RepeatedName, NotYet}
+use Rattle.plan.specs.declared.fault.PlanFault.TheVariants.{NoFederate, UnknownName, TwoSources, ZeroDelayCycle, OverLimit, BadTimer, Memory, RepeatedName}
 use Rattle.plan.specs.Naming.{AreDistinct}
 use Rattle.plan.specs.Numbering.{all_names}
-use Rattle.plan.specs.Federation.{federate_names, found_output, found_input}
+use Rattle.plan.specs.Federation.{federate_names, found_output, found_input, connections_of}
 use Rattle.plan.specs.Legal.{IsWithinLimits, IsTimerInRange}
-use Rattle.plan.specs.Plain.{IsPlain}
+use Rattle.plan.specs.Cycles.{IsCycleFrom}
 
 -- an element stands at two places of a list
 pub record StandsTwice {X : Type 0} (xs : List X) (x : X) : Type 0 where
@@ -63,24 +63,31 @@ pub record IsWithinAllLimits (d : Draft) : Type 0 where
 abbrev pub AreTimersInRange : Draft → Type 0
 AreTimersInRange d = All (λ f. All IsTimerInRange f.slots.timers) d.federates
 
+-- the names of the federates of a cycle without any delay, in the order of its path, from the lowest number on
+pub record IsNamedCycle (d : Draft) (names : List (List ℕ)) : Type 0 where
+  pub start : ℕ
+  pub path : List Connection
+  pub cycle : IsCycleFrom (connections_of d) start path
+  pub named : map (λ name. Some name) names ≡ map (λ c. slice_get (federate_names d.federates) c.source) path
+
 -- the fault is in the draft; of want of memory no draft says anything
 abbrev pub StandsIn : Draft → PlanFault → Type 0
 StandsIn d NoFederate = d.federates ≡ []
 StandsIn d (UnknownName p) = IsUnknown d p
 StandsIn d (TwoSources p) = HasTwoSources d p
+StandsIn d (ZeroDelayCycle names) = IsNamedCycle d names
 StandsIn d OverLimit = ¬ IsWithinAllLimits d
 StandsIn d BadTimer = ¬ AreTimersInRange d
 StandsIn d Memory = Unit {0}
 StandsIn d (RepeatedName name) = IsRepeated d name
-StandsIn d NotYet = ¬ IsPlain d
 
 -- the refusal's number
 abbrev pub number_of : PlanFault → ℕ
 number_of NoFederate = 10
 number_of (UnknownName p) = 11
 number_of (TwoSources p) = 12
+number_of (ZeroDelayCycle names) = 13
 number_of OverLimit = 14
 number_of BadTimer = 15
 number_of Memory = 16
 number_of (RepeatedName name) = 17
-number_of NotYet = 18

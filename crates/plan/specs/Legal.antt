@@ -2,6 +2,7 @@
 use Rattle.std.specs.Prelude.{◌≡◌, ℕ, ◌^◌, ◌<◌, ◌≤◌, List, length, All, AllPairs, IsSome, IfSome}
 use Rattle.tag.specs.LogicalTime.{origin}
 use Rattle.network.specs.Connection.{Connection, IsPath, total_of}
+use Rattle.network.specs.Lawful.{EndApart}
 use Rattle.plan.specs.declared.slots.Slots.{Slots}
 use Rattle.plan.specs.declared.slots.Timer.{Timer}
 use Rattle.plan.specs.declared.draft.Draft.{Draft}
@@ -20,10 +21,6 @@ pub record IsWithinLimits (s : Slots) : Type 0 where
 -- a timer's times are below 2^62 ns
 abbrev pub IsTimerInRange : Timer → Type 0
 IsTimerInRange t = (t.offset < 2 ^ 62) × (t.period < 2 ^ 62)
-
--- two connections end at different ports
-abbrev pub EndApart : Connection → Connection → Type 0
-EndApart c d = c.target ≡ d.target → c.slot ≡ d.slot → ⊥
 
 -- no path from a federate to itself is without any delay
 abbrev pub HasNoImmediateCycle : List Connection → Type 0

@@ -5,14 +5,18 @@ pub mod Naming
 pub mod Numbering
 -- connections by number, and levels and ranks
 pub mod Federation
+-- cycles without any delay
+pub mod Cycles
+-- least delays
+pub mod Least
 -- legal federations
 pub mod Legal
 -- startups, firings of timers and recorded inputs
 pub mod External
+-- the occurrences of physical actions that recorded inputs are
+pub mod Occurrences
 -- what a plan keeps
 pub mod Planned
--- the drafts that are planned so far
-pub mod Plain
 -- what each refusal says of a draft
 pub mod Faults
 -- the numbers of the refusals of recorded inputs

@@ -1,6 +1,6 @@
 -- A federate's slots by number: 0 is startup, then come inputs, timers, actions and physical actions, each in order of
 -- declaration. Output ports have numbers of their own.
-use Rattle.std.specs.Prelude.{ℕ, ◌+◌, List, ◌++◌, map, length}
+use Rattle.std.specs.Prelude.{ℕ, ◌+◌, Bool, ◌&&◌, ◌||◌, nat_eq, nat_lt, nat_le, List, ◌++◌, map, length}
 use Rattle.plan.specs.declared.slots.Slots.{Slots}
 use Rattle.plan.specs.declared.slots.Timer.{Timer}
 
@@ -23,6 +23,10 @@ first_physical s = first_action s + length s.actions
 -- how many slots there are
 abbrev pub slot_count : Slots → ℕ
 slot_count s = first_physical s + length s.physical
+
+-- startup and timers have no value
+abbrev pub is_bare : Slots → ℕ → Bool
+is_bare s slot = nat_eq slot startup_slot || (nat_le (first_timer s) slot && nat_lt slot (first_action s))
 
 abbrev pub timer_names : List Timer → List (List ℕ)
 timer_names timers = map (λ t. t.name) timers

@@ -1,12 +1,15 @@
--- What a plan keeps: its draft is legal, and beside it stand its connections and ranks.
-use Rattle.std.specs.Prelude.{◌≡◌, ℕ, ◌<◌, List, length, slice_index}
+-- What a plan keeps: its draft is legal, and beside it stand its connections, ranks and least delays.
+use Rattle.std.specs.Prelude.{◌≡◌, ℕ, ◌<◌, List, length, slice_index, Option}
+use Rattle.tag.specs.LogicalTime.{LogicalTime}
 use Rattle.network.specs.Connection.{Connection}
 use Rattle.plan.specs.declared.draft.Draft.{Draft}
 use Rattle.plan.specs.Federation.{connections_of, rank_of, federate_count}
+use Rattle.plan.specs.Least.{IsLeastTable}
 use Rattle.plan.specs.Legal.{IsLegal}
 
-pub record IsPlanned (d : Draft) (by_number : List Connection) (by_rank : List ℕ) : Type 0 where
+pub record IsPlanned (d : Draft) (by_number : List Connection) (by_rank : List ℕ) (by_delay : List (List (Option LogicalTime))) : Type 0 where
   pub legal : IsLegal d
   pub connections : by_number ≡ connections_of d
   pub rank_count : length by_rank ≡ federate_count d
   pub ranks : (i : ℕ) → i < federate_count d → slice_index by_rank i ≡ rank_of d i
+  pub delays : IsLeastTable (connections_of d) (federate_count d) by_delay

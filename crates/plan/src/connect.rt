@@ -1,4 +1,4 @@
-ghost use Rattle.std.specs.Prelude.{◌≡◌, IfOk, OnOk, IfErr};
+ghost use Rattle.std.specs.Prelude.{◌≡◌, ◌<◌, ◌^◌, All, IfSome, IfOk, OnOk, IfErr};
 ghost use Rattle.plan.specs.Federation.{connections_of, delay_after};
 ghost use Rattle.plan.specs.Faults.{ArePortsThere, StandsIn};
 
@@ -13,11 +13,15 @@ use tag::{Delay, Time};
 const FIRST_INPUT: usize = 1;
 
 fn delay_after(after: Option<Time>) -> Delay
-    ensures { result ≡ delay_after after }
+    ensures value { result ≡ delay_after after }
+    ensures in_range { IfSome after (λ t. t < 2 ^ 62) }
 {
     match after {
         None => Delay::none(),
-        Some(time) => Delay::after(time),
+        Some(time) => {
+            let _nanoseconds = time.nanoseconds();
+            Delay::after(time)
+        }
     }
 }
 
@@ -25,6 +29,7 @@ fn delay_after(after: Option<Time>) -> Delay
 pub(crate) fn connect(alloc: Global, draft: &Draft) -> Result<Vec<Connection>, PlanFault>
     ensures value { IfOk result (λ connections. connections.items ≡ connections_of draft.now) }
     ensures there { OnOk result (ArePortsThere draft.now) }
+    ensures delays { OnOk result (All (λ c. IfSome c.after (λ t. t < 2 ^ 62)) draft.now.connections) }
     ensures fault { IfErr result (StandsIn draft.now) }
 {
     let federates = draft.federates.as_slice();

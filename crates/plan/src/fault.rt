@@ -4,7 +4,7 @@ ghost use Rattle.plan.specs.Faults.{number_of};
 ghost use Rattle.plan.specs.InputFaults.{input_number_of};
 
 use crate::draft::PortName;
-use crate::text::Text;
+use crate::text::{Names, Text};
 use std::alloc::{AllocError, AllocFailed};
 
 /// Why a draft is refused. Nothing of it is kept.
@@ -15,6 +15,8 @@ pub enum PlanFault {
     UnknownName(PortName),
     /// An input port to which two connections go.
     TwoSources(PortName),
+    /// The federates of a cycle of connections without any delay, in its order, from the lowest number on.
+    ZeroDelayCycle(Names),
     /// A count above its limit.
     OverLimit,
     /// An offset or period of 2^62 ns or more.
@@ -23,8 +25,6 @@ pub enum PlanFault {
     Memory,
     /// A name of two federates, or of two slots of one federate.
     RepeatedName(Text),
-    /// A draft that isn't plain: what it has isn't planned yet.
-    NotYet,
 }
 
 impl PlanFault {
@@ -36,11 +36,11 @@ impl PlanFault {
             PlanFault::NoFederate => 10,
             PlanFault::UnknownName(_) => 11,
             PlanFault::TwoSources(_) => 12,
+            PlanFault::ZeroDelayCycle(_) => 13,
             PlanFault::OverLimit => 14,
             PlanFault::BadTimer => 15,
             PlanFault::Memory => 16,
             PlanFault::RepeatedName(_) => 17,
-            PlanFault::NotYet => 18,
         }
     }
 }

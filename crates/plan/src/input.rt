@@ -1,13 +1,15 @@
-ghost use Rattle.std.specs.Prelude.{◌≡◌, ◌≢◌, ◌≤◌, ◌↔◌, length, All, AllPairs, IsSome, IsTrue, OnOk, IfOk, IfErr, Err};
+ghost use Rattle.std.specs.Prelude.{◌≡◌, ◌≢◌, ◌≤◌, ◌↔◌, ◌⊎◌, map, length, All, AllPairs, IsSome, IsTrue, Some, OnOk, IfOk, IfErr, Err};
 ghost use Rattle.tag.specs.LogicalTime.{IsFinite};
 ghost use Rattle.plan.specs.External.{found_action, AreApart};
+ghost use Rattle.plan.specs.Occurrences.{occurrence_of};
 
 use crate::draft::Federate;
 use crate::fault::InputFault;
 use crate::lookup::found_action;
 use crate::plan::Plan;
 use crate::text::Text;
-use std::alloc::Global;
+use indexmap::IndexSet;
+use std::alloc::{AllocError, AllocFailed, Global};
 use std::marker::Model;
 use tag::FiniteTag;
 
@@ -42,7 +44,8 @@ impl Inputs {
 
     /// Takes recorded inputs of a plan: of their faults it tells an unknown action first, then a repeated input, then
     /// that there are too many.
-    pub fn check(_alloc: Global, plan: &Plan, inputs: Vec<Input>) -> Result<Inputs, InputFault>
+    #[tactic(auto, using(crate::proofs::Occurrences::of_occurrences))]
+    pub fn check(alloc: Global, plan: &Plan, inputs: Vec<Input>) -> Result<Inputs, InputFault>
         ensures ok { IfOk result (λ checked. checked ≡ inputs.items) }
         ensures known { OnOk result (AreInputsOf plan.now inputs.items) }
 
@@ -50,13 +53,10 @@ impl Inputs {
         ensures accepts { AreInputsOf plan.now inputs.items → IfErr result (λ e. e ≡ InputFault.Memory) }
         ensures unknown { result ≡ Err InputFault.UnknownAction → ¬ (All (λ i. IsSome (found_action plan.now.federates i)) inputs.items) }
         ensures repeated { result ≡ Err InputFault.RepeatedInput → All (λ i. IsSome (found_action plan.now.federates i)) inputs.items × ¬ (AllPairs AreApart inputs.items) }
-        ensures no_memory { IfErr result (λ e. e ≢ InputFault.Memory) }
         ensures over { result ≡ Err InputFault.OverLimit → All (λ i. IsSome (found_action plan.now.federates i)) inputs.items × AllPairs AreApart inputs.items × ¬ (length inputs.items ≤ 65536) }
     {
-        if !are_known(plan.federates(), inputs.as_slice()) {
-            return Err(InputFault::UnknownAction);
-        }
-        if !are_apart(inputs.as_slice()) {
+        let occurrences = occurrences(alloc, plan.federates(), inputs.as_slice())?;
+        if !are_distinct(alloc, occurrences.as_slice())? {
             return Err(InputFault::RepeatedInput);
         }
         if inputs.len() > MOST_INPUTS {
@@ -73,6 +73,26 @@ impl Inputs {
     }
 }
 
+impl From<AllocError> for InputFault {
+    ghost use Rattle.plan.specs.declared.fault.InputFault.TheVariants.{Memory};
+
+    ghost from_gives = { λ _ e. e ≡ Memory };
+
+    fn from(_error: AllocError) -> InputFault {
+        InputFault::Memory
+    }
+}
+
+impl<T: Drop> From<AllocFailed<T>> for InputFault {
+    ghost use Rattle.plan.specs.declared.fault.InputFault.TheVariants.{Memory};
+
+    ghost from_gives = { λ _ e. e ≡ Memory };
+
+    fn from(_error: AllocFailed<T>) -> InputFault {
+        InputFault::Memory
+    }
+}
+
 /// No recorded input is at FOREVER.
 fn know_tags(inputs: &[Input])
     ensures { All (λ i. IsFinite i.tag) inputs.now }
@@ -82,33 +102,42 @@ fn know_tags(inputs: &[Input])
     }
 }
 
-fn are_known(federates: &[Federate], inputs: &[Input]) -> bool
-    ensures { IsTrue result ↔ All (λ i. IsSome (found_action federates.now i)) inputs.now }
-{
-    inputs.iter().all(|i| found_action(federates, i).is_some())
+/// An occurrence of a physical action: its federate's number, its place among that federate's, and a tag.
+#[derive(Clone, Copy, Debug, PartialEq, Eq, Hash)]
+struct Occurrence {
+    federate: usize,
+    place: usize,
+    tag: FiniteTag,
 }
 
-fn is_apart(input: &Input, other: &Input) -> bool
-    ensures { IsTrue result ↔ AreApart input.now other.now }
+/// The occurrence that each input is.
+fn occurrences(
+    alloc: Global,
+    federates: &[Federate],
+    inputs: &[Input],
+) -> Result<Vec<Occurrence>, InputFault>
+    ensures ok { IfOk result (λ found. map (λ o. Some o) found.items ≡ map (occurrence_of federates.now) inputs.now) }
+    ensures unknown { result ≡ Err InputFault.UnknownAction → ¬ (All (λ i. IsSome (found_action federates.now i)) inputs.now) }
+    ensures fault { IfErr result (λ e. (e ≡ InputFault.UnknownAction) ⊎ (e ≡ InputFault.Memory)) }
 {
-    !(input.federate.is_same(&other.federate)
-        && input.action.is_same(&other.action)
-        && input.tag == other.tag)
-}
-
-fn is_apart_from(inputs: &[Input], other: &Input) -> bool
-    ensures { IsTrue result ↔ All (λ i. AreApart i other.now) inputs.now }
-{
-    inputs.iter().all(|i| is_apart(i, other))
-}
-
-fn are_apart(inputs: &[Input]) -> bool
-    ensures { IsTrue result ↔ AllPairs AreApart inputs.now }
-{
-    for (place, input) in inputs.iter().enumerate() {
-        if !is_apart_from(&inputs[..place], input) {
-            return false;
-        }
+    let mut occurrences = Vec::new(alloc);
+    for input in inputs {
+        let Some(found) = found_action(federates, input) else {
+            return Err(InputFault::UnknownAction);
+        };
+        occurrences.push(Occurrence {
+            federate: found.federate,
+            place: found.place,
+            tag: input.tag,
+        })?;
     }
-    true
+    Ok(occurrences)
+}
+
+/// Whether none of them is there twice.
+fn are_distinct(alloc: Global, occurrences: &[Occurrence]) -> Result<bool, AllocError>
+    ensures { IfOk result (λ distinct. IsTrue distinct ↔ AllPairs (λ a b. a ≢ b) occurrences.now) }
+{
+    let distinct: IndexSet<Occurrence> = occurrences.iter().copied().collect(alloc)?;
+    Ok(distinct.len() == occurrences.len())
 }

@@ -1,8 +1,11 @@
 //! What holds of every legal draft, as functions with no body.
-ghost use Rattle.std.specs.Prelude.{◌≡◌, ℕ, ◌<◌, Contains, IsTrue};
-ghost use Rattle.network.specs.Connection.{Connection};
+ghost use Rattle.std.specs.Prelude.{◌≡◌, ℕ, ◌<◌, Contains, IsTrue, All, IfSome, MatchOption};
+ghost use Rattle.tag.specs.LogicalTime.{sum_of};
+ghost use Rattle.network.specs.Connection.{Connection, IsLeastDelay, IsUnreachable};
+ghost use Rattle.network.specs.Tables.{IsWithin};
 ghost use Rattle.plan.specs.declared.draft.Draft.{Draft};
 ghost use Rattle.plan.specs.Federation.{IsLevel, connections_of, level_of, rank_of, federate_count, is_immediate};
+ghost use Rattle.plan.specs.Least.{least_of, IsTotalWithin};
 ghost use Rattle.plan.specs.Legal.{IsLegal};
 
 /// A federate's level is the number of connections on the longest path without any delay that ends there.
@@ -22,4 +25,19 @@ pub fn ranks_rise()
 pub fn ranks_are_places()
     ensures below { (d : Draft) (i : ℕ) → i < federate_count d → rank_of d i < federate_count d }
     ensures apart { (d : Draft) (i j : ℕ) → i < federate_count d → j < federate_count d → rank_of d i ≡ rank_of d j → i ≡ j }
+{}
+
+/// What is defined as the least delay is so over all paths, and a path of at most 64 connections has it as its total.
+#[tactic(auto, using(crate::proofs::LeastLaws::least_delays))]
+pub fn least_delays_are_least()
+    ensures least { (d : Draft) (i j : ℕ) → IsLegal d → MatchOption (least_of d i j) (IsUnreachable (connections_of d) i j) (IsLeastDelay (connections_of d) i j) }
+    ensures few { (d : Draft) (i j : ℕ) → IsLegal d → IfSome (least_of d i j) (IsTotalWithin (connections_of d) 64 i j) }
+{}
+
+/// Over one connection the least delay is at most its own; and where a connection leads to a path, the least delay from its
+/// beginning is at most its own delay and then the path's least.
+#[tactic(auto, using(crate::proofs::LeastLaws::least_delays_along))]
+pub fn least_delays_follow_connections()
+    ensures direct { (d : Draft) → IsLegal d → All (λ c. IsWithin (least_of d c.source c.target) c.delay) (connections_of d) }
+    ensures onward { (d : Draft) (j : ℕ) → IsLegal d → All (λ c. IfSome (least_of d c.target j) (λ rest. IsWithin (least_of d c.source j) (sum_of c.delay rest))) (connections_of d) }
 {}

@@ -5,13 +5,14 @@
 
 mod connect;
 pub mod connection;
+mod cycle;
 pub mod draft;
 pub mod fault;
 pub mod input;
 pub mod laws;
+mod least;
 mod limits;
 mod lookup;
-mod plain;
 pub mod plan;
 mod ranks;
 mod repeated;

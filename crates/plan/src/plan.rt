@@ -1,18 +1,21 @@
-ghost use Rattle.std.specs.Prelude.{◌≡◌, ◌<◌, length, OnOk, IfOk, IfErr};
+ghost use Rattle.std.specs.Prelude.{◌≡◌, ◌<◌, length, OnOk, IfOk, IfErr, IfSome, MatchOption};
+ghost use Rattle.network.specs.Connection.{IsLeastDelay, IsUnreachable};
 ghost use Rattle.plan.specs.Federation.{connections_of, rank_of, stop_of, federate_count};
+ghost use Rattle.plan.specs.Least.{least_of, IsTotalWithin};
 
 use crate::connect::connect;
 use crate::connection::Connection;
+use crate::cycle::refuse_cycle;
 use crate::draft::{Draft, Federate};
 use crate::fault::PlanFault;
+use crate::least::LeastDelays;
 use crate::limits::refuse_out_of_range;
-use crate::plain::is_plain;
 use crate::ranks::ranks;
 use crate::repeated::refuse_repeated;
 use crate::sources::refuse_two_sources;
 use std::alloc::Global;
 use std::marker::Model;
-use tag::{Tag, Time};
+use tag::{Delay, Tag, Time};
 
 /// A legal federation. Contracts see the draft that it was made of.
 #[derive(Debug, Drop)]
@@ -20,6 +23,7 @@ pub struct Plan {
     draft: Draft,
     connections: Vec<Connection>,
     ranks: Vec<usize>,
+    delays: LeastDelays,
 }
 
 impl Model for Plan {
@@ -31,22 +35,20 @@ impl Model for Plan {
 
     ghost view = { λ p. p.draft };
 
-    ghost invariant = { λ p. IsPlanned p.draft p.connections.items p.ranks.items };
+    ghost invariant = { λ p. IsPlanned p.draft p.connections.items p.ranks.items p.delays };
 }
 
 impl Plan {
     ghost use Rattle.plan.specs.Legal.{IsLegal};
-    ghost use Rattle.plan.specs.Plain.{IsPlain};
     ghost use Rattle.plan.specs.Faults.{StandsIn};
 
-    /// Plans a draft that is legal and plain; of the faults of any other it tells one.
+    /// Plans a legal draft; of the faults of any other it tells one.
     pub fn check(alloc: Global, draft: Draft) -> Result<Plan, PlanFault>
         ensures ok { IfOk result (λ plan. plan ≡ draft) }
         ensures legal { OnOk result (IsLegal draft) }
-        ensures plain { OnOk result (IsPlain draft) }
 
-        // Of a legal plain draft want of memory alone is told.
-        ensures accepts { IsLegal draft → IsPlain draft → IfErr result (λ e. e ≡ PlanFault.Memory) }
+        // Of a legal draft want of memory alone is told.
+        ensures accepts { IsLegal draft → IfErr result (λ e. e ≡ PlanFault.Memory) }
         ensures fault { IfErr result (StandsIn draft) }
     {
         Plan::planned(alloc, draft)
@@ -55,23 +57,22 @@ impl Plan {
     fn planned(alloc: Global, draft: Draft) -> Result<Plan, PlanFault>
         ensures ok { IfOk result (λ plan. plan ≡ draft) }
         ensures legal { OnOk result (IsLegal draft) }
-        ensures plain { OnOk result (IsPlain draft) }
         ensures fault { IfErr result (StandsIn draft) }
     {
         refuse_out_of_range(&draft)?;
         refuse_repeated(alloc, &draft)?;
         let connections = connect(alloc, &draft)?;
         refuse_two_sources(&draft, connections.as_slice())?;
-        if !is_plain(&draft, connections.as_slice()) {
-            return Err(PlanFault::NotYet);
-        }
+        refuse_cycle(alloc, &draft, connections.as_slice())?;
         let _nanoseconds = draft.stop.nanoseconds();
         let count = draft.federates.as_slice().len();
         let ranks = ranks(alloc, connections.as_slice(), count)?;
+        let delays = LeastDelays::new(alloc, connections.as_slice(), count)?;
         Ok(Plan {
             draft,
             connections,
             ranks,
+            delays,
         })
     }
 
@@ -102,6 +103,17 @@ impl Plan {
         ensures { result ≡ rank_of self.now federate }
     {
         self.ranks[federate]
+    }
+
+    /// The least total of a path of connections from one federate to another, or to itself; None where there is no path.
+    pub fn least(&self, from: usize, to: usize) -> Option<Delay>
+        requires from { from < federate_count self.now }
+        requires to { to < federate_count self.now }
+        ensures value { result ≡ least_of self.now from to }
+        ensures least { MatchOption result (IsUnreachable (connections_of self.now) from to) (IsLeastDelay (connections_of self.now) from to) }
+        ensures few { IfSome result (IsTotalWithin (connections_of self.now) 64 from to) }
+    {
+        self.delays.delay(from, to)
     }
 
     pub fn federate_count(&self) -> usize

@@ -53,7 +53,7 @@ pub struct Slots {
 
 impl Slots {
     ghost use Rattle.plan.specs.Legal.{IsWithinLimits};
-    ghost use Rattle.plan.specs.Numbering.{slot_count};
+    ghost use Rattle.plan.specs.Numbering.{slot_count, is_bare};
 
     /// How many slots there are, startup among them.
     pub fn slot_count(&self) -> usize
@@ -64,5 +64,14 @@ impl Slots {
             + self.timers.as_slice().len()
             + self.actions.as_slice().len()
             + self.physical.as_slice().len()
+    }
+
+    /// Whether this slot has no value: startup and timers have none.
+    pub fn is_bare(&self, slot: usize) -> bool
+        ensures { result ≡ is_bare self.now slot }
+    {
+        let inputs = self.inputs.as_slice().len();
+        let timers = self.timers.as_slice().len();
+        slot == 0 || (inputs < slot && slot - inputs <= timers)
     }
 }

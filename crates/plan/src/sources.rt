@@ -1,6 +1,6 @@
 ghost use Rattle.std.specs.Prelude.{◌≡◌, ◌≤◌, ◌↔◌, length, AllPairs, Any, IsTrue, MatchOption, OnOk, IfErr};
 ghost use Rattle.plan.specs.Federation.{connections_of};
-ghost use Rattle.plan.specs.Legal.{EndApart};
+ghost use Rattle.network.specs.Lawful.{EndApart};
 ghost use Rattle.plan.specs.Faults.{ArePortsThere, EndsTwice, StandsIn};
 
 use crate::connection::Connection;

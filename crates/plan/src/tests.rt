@@ -4,7 +4,7 @@ use crate::{
 };
 use std::alloc::{AllocError, Global};
 use std::test::Fail;
-use tag::{FiniteTag, Time};
+use tag::{Delay, FiniteTag, Time};
 
 fn text(alloc: Global, name: &str) -> Result<Text, AllocError> {
     Ok(Text::new(String::from_str(alloc, name)?))
@@ -87,9 +87,88 @@ fn one_connection(alloc: Global) -> Result<Draft, AllocError> {
     counter(alloc, connections)
 }
 
+/// Federates with an input `x` and an output `y` each, and connections between them from `y` to `x`.
+fn joined(
+    alloc: Global,
+    federates: &[&str],
+    connections: &[(&str, &str, Option<Time>)],
+) -> Result<Draft, AllocError> {
+    let mut all = Vec::new(alloc);
+    for name in federates {
+        all.push(federate(alloc, name, &["x"], &["y"], &[])?)?;
+    }
+    let mut between = Vec::new(alloc);
+    for (from, to, after) in connections {
+        between.push(connection(alloc, (from, "y"), (to, "x"), *after)?)?;
+    }
+    Ok(Draft {
+        stop: Time::new(10_000_000).ok_or(AllocError)?,
+        federates: Federates::new(all),
+        connections: Connections::new(between),
+    })
+}
+
+/// Whether the fault is a cycle of these federates.
+fn is_cycle_of(fault: &PlanFault, federates: &[&str]) -> bool {
+    match fault {
+        PlanFault::ZeroDelayCycle(names) => {
+            let names = names.as_slice();
+            names.len() == federates.len()
+                && names
+                    .iter()
+                    .zip(federates)
+                    .all(|(name, federate)| name.is(federate))
+        }
+        _ => false,
+    }
+}
+
+/// Whether such a draft is refused for a cycle of these federates.
+fn has_cycle(
+    alloc: Global,
+    federates: &[&str],
+    connections: &[(&str, &str, Option<Time>)],
+    cycle: &[&str],
+) -> Result<bool, AllocError> {
+    match Plan::check(alloc, joined(alloc, federates, connections)?) {
+        Ok(_) => Ok(false),
+        Err(fault) => Ok(is_cycle_of(&fault, cycle)),
+    }
+}
+
 /// The number of the refusal, or 0.
 fn refusal(alloc: Global, draft: Draft) -> u16 {
     match Plan::check(alloc, draft) {
+        Ok(_) => 0,
+        Err(fault) => fault.number(),
+    }
+}
+
+/// A federate `f` with a physical action `p`.
+fn one_action(alloc: Global) -> Result<Draft, AllocError> {
+    let mut only = federate(alloc, "f", &["x"], &[], &[])?;
+    only.slots.physical = names(alloc, &["p"])?;
+    let mut federates = Vec::new(alloc);
+    federates.push(only)?;
+    Ok(Draft {
+        stop: Time::new(20_000_000).ok_or(AllocError)?,
+        federates: Federates::new(federates),
+        connections: Connections::new(Vec::new(alloc)),
+    })
+}
+
+fn input(alloc: Global, action: &str, time: u64, microstep: u32) -> Result<Input, AllocError> {
+    Ok(Input {
+        federate: text(alloc, "f")?,
+        action: text(alloc, action)?,
+        tag: FiniteTag::new(Time::new(time).ok_or(AllocError)?, microstep),
+        value: 1,
+    })
+}
+
+/// The number of the refusal, or 0 where they are taken.
+fn input_refusal(alloc: Global, plan: &Plan, inputs: Vec<Input>) -> u16 {
+    match Inputs::check(alloc, plan, inputs) {
         Ok(_) => 0,
         Err(fault) => fault.number(),
     }
@@ -102,6 +181,8 @@ fn plans_a_counter(rt: HostRuntime) -> Result<(), Fail> {
     assert_eq!(rt; plan.federate_count(), 2);
     assert_eq!(rt; plan.rank(0), 0);
     assert_eq!(rt; plan.rank(1), 1);
+    assert_eq!(rt; plan.least(0, 1), Some(Delay::none()));
+    assert_eq!(rt; plan.least(1, 0), None);
     assert_eq!(rt; plan.federates().len(), 2);
     assert_eq!(rt; plan.stop_time().nanoseconds(), 20_000_000);
     assert_eq!(rt; plan.stop().time(), 20_000_000);
@@ -126,8 +207,8 @@ fn refuses_each_fault(rt: HostRuntime) -> Result<(), Fail> {
     let faulty = [
         (("src", "z"), ("snk", "x"), None, 11),
         (("src", "y"), ("sink", "x"), None, 11),
-        (("src", "y"), ("snk", "x"), Time::new(0), 18),
-        (("snk", "total"), ("snk", "x"), None, 18),
+        (("src", "y"), ("snk", "x"), Time::new(0), 0),
+        (("snk", "total"), ("snk", "x"), None, 13),
     ];
     for (from, to, after, number) in faulty {
         let mut connections = Vec::new(alloc);
@@ -182,25 +263,100 @@ fn refuses_each_federate(rt: HostRuntime) -> Result<(), Fail> {
 }
 
 #[test]
+fn refuses_cycles_without_delay(rt: HostRuntime) -> Result<(), Fail> {
+    let alloc = rt.alloc();
+    let round = [("a", "b", None), ("b", "a", None)];
+    assert!(rt; has_cycle(alloc, &["a", "b"], &round, &["a", "b"])?);
+    let own = [("b", "b", None)];
+    assert!(rt; has_cycle(alloc, &["a", "b"], &own, &["b"])?);
+    let not_through_a = [
+        ("d", "c", None),
+        ("c", "b", None),
+        ("b", "d", None),
+        ("b", "a", None),
+    ];
+    assert!(rt;
+        has_cycle(
+            alloc,
+            &["a", "b", "c", "d"],
+            &not_through_a,
+            &["b", "d", "c"]
+        )?
+    );
+    Ok(())
+}
+
+#[test]
+fn plans_cycles_with_a_delay(rt: HostRuntime) -> Result<(), Fail> {
+    let alloc = rt.alloc();
+    let round = [("a", "b", Time::new(0)), ("b", "a", None)];
+    let plan = Plan::check(alloc, joined(alloc, &["a", "b"], &round)?)?;
+    assert_eq!(rt; plan.federate_count(), 2);
+    assert_eq!(rt; (plan.rank(0), plan.rank(1)), (1, 0));
+    assert_eq!(rt; plan.connections().len(), 2);
+    let delay = plan.connections()[0].delay();
+    assert_eq!(rt; (delay.time(), delay.microstep()), (0, 1));
+
+    let own = [("b", "b", Time::new(0))];
+    assert_eq!(rt; refusal(alloc, joined(alloc, &["a", "b"], &own)?), 0);
+    Ok(())
+}
+
+#[test]
+fn plans_startup_and_actions(rt: HostRuntime) -> Result<(), Fail> {
+    let alloc = rt.alloc();
+    let mut all = Vec::new(alloc);
+    all.push(Federate {
+        name: text(alloc, "f")?,
+        slots: Slots {
+            startup: true,
+            inputs: names(alloc, &[])?,
+            outputs: names(alloc, &[])?,
+            timers: timers(alloc, &[])?,
+            actions: names(alloc, &["a"])?,
+            physical: names(alloc, &["p"])?,
+        },
+    })?;
+    let draft = Draft {
+        stop: Time::new(0).ok_or("time")?,
+        federates: Federates::new(all),
+        connections: Connections::new(Vec::new(alloc)),
+    };
+    assert_eq!(rt; refusal(alloc, draft), 0);
+    Ok(())
+}
+
+#[test]
 fn takes_inputs(rt: HostRuntime) -> Result<(), Fail> {
     let alloc = rt.alloc();
-    let plan = Plan::check(alloc, one_connection(alloc)?)?;
-    assert_eq!(rt;
-        Inputs::check(alloc, &plan, Vec::new(alloc))?
-            .as_slice()
-            .len(),
-        0
-    );
-    let mut inputs = Vec::new(alloc);
-    inputs.push(Input {
-        federate: text(alloc, "snk")?,
-        action: text(alloc, "x")?,
-        tag: FiniteTag::new(Time::new(0).ok_or("time")?, 0),
-        value: 1,
-    })?;
-    match Inputs::check(alloc, &plan, inputs) {
-        Ok(_) => assert!(rt; false, "an input isn't a physical action"),
-        Err(fault) => assert_eq!(rt; fault.number(), InputFault::UnknownAction.number()),
+    let plan = Plan::check(alloc, one_action(alloc)?)?;
+    let cases: [(&[(&str, u64, u32)], u16); 5] = [
+        (&[], 0),
+        (&[("p", 7, 0), ("p", 0, 0), ("p", 7, 1)], 0),
+        (&[("x", 0, 0)], 34),
+        (&[("p", 7, 1), ("p", 0, 0), ("p", 7, 1)], 35),
+        (&[("p", 7, 1), ("p", 7, 1), ("q", 0, 0)], 34),
+    ];
+    for (of, number) in cases {
+        let mut inputs = Vec::new(alloc);
+        for (action, time, microstep) in of {
+            inputs.push(input(alloc, action, *time, *microstep)?)?;
+        }
+        assert_eq!(rt; input_refusal(alloc, &plan, inputs), number);
+    }
+    Ok(())
+}
+
+#[test]
+fn takes_65536_inputs(rt: HostRuntime) -> Result<(), Fail> {
+    let alloc = rt.alloc();
+    let plan = Plan::check(alloc, one_action(alloc)?)?;
+    for (count, number) in [(65_536, 0), (65_537, 36)] {
+        let mut inputs = Vec::new(alloc);
+        for time in 0..count {
+            inputs.push(input(alloc, "p", time, 0)?)?;
+        }
+        assert_eq!(rt; input_refusal(alloc, &plan, inputs), number);
     }
     Ok(())
 }
@@ -228,5 +384,36 @@ fn tells_want_of_memory(rt: HostRuntime) -> Result<(), Fail> {
             "refused: {number}"
         );
     }
+    if let Ok(draft) = joined(alloc, &["a", "b"], &[("a", "b", None), ("b", "a", None)]) {
+        let number = refusal(alloc, draft);
+        assert!(rt;
+            number == 13 || number == PlanFault::Memory.number(),
+            "refused: {number}"
+        );
+    }
     Ok(())
+}
+
+/// The same of inputs, which are then taken.
+#[test]
+fn tells_want_of_memory_for_inputs(rt: HostRuntime) {
+    let alloc = rt.alloc();
+    if let Some((plan, inputs)) = plan_and_inputs(alloc) {
+        match Inputs::check(alloc, &plan, inputs) {
+            Ok(_) => {}
+            Err(fault) => assert_eq!(rt; fault.number(), InputFault::Memory.number()),
+        }
+        let again = Inputs::check(alloc, &plan, Vec::new(alloc));
+        assert!(rt; again.is_ok());
+    }
+}
+
+/// None where there was no memory for them.
+fn plan_and_inputs(alloc: Global) -> Option<(Plan, Vec<Input>)> {
+    let plan = Plan::check(alloc, one_action(alloc).ok()?).ok()?;
+    let mut inputs = Vec::new(alloc);
+    for time in 0..3 {
+        inputs.push(input(alloc, "p", time, 0).ok()?).ok()?;
+    }
+    Some((plan, inputs))
 }

@@ -1,5 +1,5 @@
 -- A text has at most one reading, so what is spelled is refused for want of memory alone.
-use Rattle.std.proofs.Common.{◌≡◌, ℕ, zero, suc, ◌+◌, Bool, true, false, if◌then◌else◌, List, [], ◌∷◌, ◌++◌, IsTrue, Option, Some, None, codes, get_or, refl, sym, ap, ◌∙◌, subst, arith, inl, inr, ◌⊎◌}
+use Rattle.std.proofs.Common.{◌≡◌, ℕ, zero, suc, ◌+◌, false, if◌then◌else◌, List, [], ◌∷◌, ◌++◌, IsTrue, Option, Some, None, codes, get_or, refl, sym, ap, ◌∙◌, subst, arith, inl, inr, ◌⊎◌}
 use Rattle.std.specs.Prelude.{slice_get}
 use Rattle.std.specs.List.{AllZip}
 use Rattle.std.specs.Str.{bytes_eq}
@@ -14,14 +14,14 @@ use Rattle.reactor.specs.declared.program.State as StateOf
 use Rattle.reactor.specs.declared.reaction_draft.ReactionDraft.{ReactionDraft}
 use Rattle.reactor.specs.declared.fault.ProgramFault.{ProgramFault}
 use Rattle.reactor.specs.declared.fault.ProgramFault.TheVariants.{BadLine, UnknownOperand, Memory, RepeatedState}
-use Rattle.reactor.specs.Tokens.{tokens_of, is_name, is_numeral, digits_in, IsWholeNumber}
+use Rattle.reactor.specs.Tokens.{tokens_of, is_name, IsWholeNumber}
 use Rattle.reactor.specs.Grammar.{WrittenOperand, WrittenNumber, StateNamed, ValueAt, PresenceAt, WrittenExpression, Alone, Combined, WrittenStatement, AssignTo, OutputTo, ScheduleAfter, WrittenLine, operator_token, SpellsOperand, SpellsExpression, SpellsDuration, SpellsStatement, SpellsGuarded, SpellsLine}
 use Rattle.reactor.specs.Resolution.{trigger_slot, line_of}
 use Rattle.reactor.specs.Behaviour.{Behaviour}
-use Rattle.reactor.specs.Spelled.{IsWritten, SpellsLineOf, SpellsReaction, SpellsProgram, IsTriggerFault, IsLineFault, IsReactionFault}
+use Rattle.reactor.specs.Spelled.{SpellsLineOf, SpellsReaction, SpellsProgram, IsTriggerFault, IsLineFault, IsReactionFault}
 use Rattle.reactor.proofs.Readings.{in_or_has, dotted_in, dotted_has, dotted_out, no_number_in, no_number_has, name_no_number}
 
-name_and_other : (token x : List ℕ) → is_name token ≡ false → IsTrue (is_name x) → token ≡ x → ⊥
+pub name_and_other : (token x : List ℕ) → is_name token ≡ false → IsTrue (is_name x) → token ≡ x → ⊥
 name_and_other token x e h f = let g = ap is_name f in cc
 
 -- operands
@@ -83,7 +83,7 @@ expression_one (Combined a o b) (Combined c p d) ts h k =
     cc (x, y, z)
 
 -- durations, with the operand's token after them
-duration_one : (n m : ℕ) (d e : List (List ℕ)) (t u : List ℕ) → d ++ t ∷ [] ≡ e ++ u ∷ [] → SpellsDuration n d → SpellsDuration m e → (n ≡ m) × (t ≡ u)
+pub duration_one : (n m : ℕ) (d e : List (List ℕ)) (t u : List ℕ) → d ++ t ∷ [] ≡ e ++ u ∷ [] → SpellsDuration n d → SpellsDuration m e → (n ≡ m) × (t ≡ u)
 duration_one n m d e t u f (inl h) (inl k) =
     let g : h.0 ∷ t ∷ [] ≡ k.0 ∷ u ∷ [] = sym (ap (λ x. x ++ t ∷ []) h.1) ∙ f ∙ ap (λ x. x ++ u ∷ []) k.1 in
     let i : h.0 ≡ k.0 = cc in
@@ -102,7 +102,7 @@ duration_one n m d e t u f (inr h) (inr k) =
     (one_value (k.0 ++ codes " " ++ k.1) n m (subst P l h.3) k.3, cc)
 
 -- statements
-no_equals : is_name (codes "=") ≡ false
+pub no_equals : is_name (codes "=") ≡ false
 no_equals = refl
 
 statement_one : (a b : WrittenStatement) (ts : List (List ℕ)) → SpellsStatement a ts → SpellsStatement b ts → a ≡ b
@@ -169,7 +169,7 @@ when_or_schedule e = let f : List ℕ → ℕ = λ l. get_or l 0 0 in clash (ap 
 no_when : is_name (codes "when") ≡ false
 no_when = refl
 
-unguarded : (b : WrittenStatement) (rest : List (List ℕ)) → SpellsStatement b (codes "when" ∷ rest) → ⊥
+pub unguarded : (b : WrittenStatement) (rest : List (List ℕ)) → SpellsStatement b (codes "when" ∷ rest) → ⊥
 unguarded (AssignTo x a) rest h =
     let f : codes "when" ∷ rest ≡ x ∷ codes "=" ∷ h.0 = h.1 in
     let i : codes "when" ≡ x = cc in
@@ -203,7 +203,7 @@ one_reading w v tokens h k =
 
 line_at_one : (s : Slots) (states : List StateOf.State) (text : List ℕ) (l m : Line) → SpellsLineOf s states l text → SpellsLineOf s states m text → l ≡ m
 line_at_one s states text l m h k =
-    let e : line_of s states h.0 ≡ line_of s states k.0 = ap (line_of s states) (one_reading h.0 k.0 (tokens_of text) h.1.1 k.1.1) in
+    let e : line_of s states h.0 ≡ line_of s states k.0 = ap (line_of s states) (one_reading h.0 k.0 (tokens_of text) h.1 k.1) in
     let f : Some l ≡ Some m = sym h.2 ∙ e ∙ k.2 in
     cc
 
@@ -263,7 +263,7 @@ line_no_fault s states number texts lines (BadLine r l) h k =
     k.5 z.1.0 z.1.1
 line_no_fault s states number texts lines (UnknownOperand r l) h k =
     let z = zip_at (SpellsLineOf s states) lines texts k.0 k.1 k.4 h in
-    let e : line_of s states z.1.0 ≡ line_of s states k.5.0 = ap (line_of s states) (one_reading z.1.0 k.5.0 (tokens_of k.1) z.1.1.1 k.5.1.1) in
+    let e : line_of s states z.1.0 ≡ line_of s states k.5.0 = ap (line_of s states) (one_reading z.1.0 k.5.0 (tokens_of k.1) z.1.1 k.5.1) in
     let f : Some z.0 ≡ None = sym z.1.2 ∙ e ∙ k.5.2 in cc
 line_no_fault s states number texts lines Memory h k = k
 line_no_fault s states number texts lines RepeatedState h k = k

@@ -1,23 +1,25 @@
 -- What is spelled names only what is there.
-use Rattle.std.proofs.Common.{◌≡◌, ℕ, zero, suc, ◌<◌, Bool, true, false, not, cond, ◌&&◌, List, [], ◌∷◌, ◌++◌, length, Option, Some, None, codes, refl, subst, arith, length-append}
+use Rattle.std.proofs.Common.{◌≡◌, ℕ, pos, zero, suc, ◌+◌, ◌<◌, ◌≤◌, Bool, true, false, not, cond, ◌&&◌, List, [], ◌∷◌, ◌++◌, length, Option, Some, None, codes, refl, subst, arith, length-append}
 use Rattle.std.specs.Option.{option_map, option_and_then}
 use Rattle.std.specs.List.{AllZip, All}
 use Rattle.std.specs.Str.{bytes_eq}
+use Rattle.tag.specs.LogicalTime.{delay_of}
 use Rattle.plan.specs.declared.slots.Slots.{Slots}
 use Rattle.plan.specs.Naming.{place_of}
-use Rattle.plan.specs.Numbering.{slot_count, timer_names}
+use Rattle.plan.specs.Numbering.{slot_count, is_bare, timer_names, first_action, first_physical}
 use Rattle.reactor.specs.declared.program.State as StateOf
 use Rattle.reactor.specs.declared.program.Operand.{Operand}
 use Rattle.reactor.specs.declared.program.Operand.TheVariants.{Number, State, Value, Presence}
 use Rattle.reactor.specs.declared.program.Expression.{Expression}
 use Rattle.reactor.specs.declared.program.Expression.TheVariants.{Single, Binary}
 use Rattle.reactor.specs.declared.program.Statement.{Statement}
-use Rattle.reactor.specs.declared.program.Statement.TheVariants.{Assign, Output}
+use Rattle.reactor.specs.declared.program.Statement.TheVariants.{Assign, Output, Schedule}
 use Rattle.reactor.specs.declared.program.Line.{Line}
 use Rattle.reactor.specs.declared.program.Reaction.{Reaction}
 use Rattle.reactor.specs.declared.reaction_draft.ReactionDraft.{ReactionDraft}
-use Rattle.reactor.specs.Grammar.{WrittenOperand, WrittenNumber, StateNamed, ValueAt, PresenceAt, WrittenExpression, Alone, Combined, WrittenStatement, AssignTo, OutputTo, ScheduleAfter, IsFirstStatement}
-use Rattle.reactor.specs.Resolution.{slot_names, trigger_slot, operand_slot, state_names, operand_of, expression_of, statement_of, condition_of}
+use Rattle.reactor.specs.Tokens.{tokens_of}
+use Rattle.reactor.specs.Grammar.{WrittenOperand, WrittenNumber, StateNamed, ValueAt, PresenceAt, WrittenExpression, Alone, Combined, WrittenStatement, AssignTo, OutputTo, ScheduleAfter, SpellsStatement, SpellsGuarded}
+use Rattle.reactor.specs.Resolution.{slot_names, trigger_slot, operand_slot, state_names, value_at_slot, operand_of, expression_of, statement_of, condition_of}
 use Rattle.reactor.specs.Spelled.{SpellsLineOf, SpellsReaction}
 use Rattle.reactor.specs.Behaviour.{Behaviour, HasOperand, HasExpression, HasStatement, HasLine, HasReaction, IsWellFormed}
 use Rattle.reactor.proofs.NamePlaces.{names_as_many, names_length}
@@ -52,12 +54,18 @@ bound : {A B : Type 0} (f : A → Option B) (o : Option A) (y : B) → option_an
 bound f None y e = cc
 bound f (Some x) y e = (x, refl, e)
 
+has_value : (b : Behaviour) (bare : Bool) (slot : ℕ) → slot < slot_count b.slots → HasOperand b (cond bare (Number (pos 0)) (Value slot))
+has_value b true slot h = tt
+has_value b false slot h = h
+
 has_operand : (b : Behaviour) (w : WrittenOperand) (o : Operand) → operand_of b.slots b.states w ≡ Some o → HasOperand b o
 has_operand b (WrittenNumber n) o e = let f : Number n ≡ o = cc in subst (HasOperand b) f tt
 has_operand b (StateNamed x) o e =
     let m = mapped State (place_of (state_names b.states) x) o e in
     subst (HasOperand b) m.2 (omega (arith, place_below (state_names b.states) x m.0 m.1, names_as_many (λ (s : StateOf.State). s.name) b.states))
-has_operand b (ValueAt x) o e = let m = mapped Value (operand_slot b.slots x) o e in subst (HasOperand b) m.2 (operand_slot_below b.slots x m.0 m.1)
+has_operand b (ValueAt x) o e =
+    let m = mapped (value_at_slot b.slots) (operand_slot b.slots x) o e in
+    subst (HasOperand b) m.2 (has_value b (is_bare b.slots m.0) m.0 (operand_slot_below b.slots x m.0 m.1))
 has_operand b (PresenceAt x) o e = let m = mapped Presence (operand_slot b.slots x) o e in subst (HasOperand b) m.2 (operand_slot_below b.slots x m.0 m.1)
 
 has_expression : (b : Behaviour) (w : WrittenExpression) (x : Expression) → expression_of b.slots b.states w ≡ Some x → HasExpression b x
@@ -67,27 +75,42 @@ has_expression b (Combined a o c) x e =
     let n = mapped (λ right. Binary m.0 o right) (operand_of b.slots b.states c) x m.2 in
     subst (HasExpression b) n.2 (has_operand b a m.0 m.1, has_operand b c n.0 n.1)
 
-has_statement : (b : Behaviour) (w : WrittenStatement) → IsFirstStatement w → (x : Statement) → statement_of b.slots b.states w ≡ Some x → HasStatement b x
-has_statement b (AssignTo y a) i x e =
+action_within : (s : Slots) (c : List ℕ) (k : ℕ) → place_of s.actions c ≡ Some k → (first_action s ≤ first_action s + k) × (first_action s + k < first_physical s)
+action_within s c k e = (omega arith, omega (arith, place_below s.actions c k e))
+
+has_statement : (b : Behaviour) (w : WrittenStatement) (tokens : List (List ℕ)) → SpellsStatement w tokens → (x : Statement) → statement_of b.slots b.states w ≡ Some x → HasStatement b x
+has_statement b (AssignTo y a) tokens i x e =
     let m = bound (λ k. option_map (λ v. Assign k v) (expression_of b.slots b.states a)) (place_of (state_names b.states) y) x e in
     let n = mapped (λ v. Assign m.0 v) (expression_of b.slots b.states a) x m.2 in
     let k : m.0 < length b.states = omega (arith, place_below (state_names b.states) y m.0 m.1, names_as_many (λ (s : StateOf.State). s.name) b.states) in
     subst (HasStatement b) n.2 (k, has_expression b a n.0 n.1)
-has_statement b (OutputTo p a) i x e =
+has_statement b (OutputTo p a) tokens i x e =
     let m = bound (λ k. option_map (λ v. Output k v) (operand_of b.slots b.states a)) (place_of b.slots.outputs p) x e in
     let n = mapped (λ v. Output m.0 v) (operand_of b.slots b.states a) x m.2 in
     subst (HasStatement b) n.2 (place_below b.slots.outputs p m.0 m.1, has_operand b a n.0 n.1)
-has_statement b (ScheduleAfter c time a) i x e = absurd i
+has_statement b (ScheduleAfter c time a) tokens i x e =
+    let m = bound (λ k. option_map (λ v. Schedule (first_action b.slots + k) (delay_of time) v) (operand_of b.slots b.states a)) (place_of b.slots.actions c) x e in
+    let n = mapped (λ v. Schedule (first_action b.slots + m.0) (delay_of time) v) (operand_of b.slots b.states a) x m.2 in
+    let k = action_within b.slots c m.0 m.1 in
+    subst (HasStatement b) n.2 (k.0, k.1, (time, i.5, refl), has_operand b a n.0 n.1)
 
-line_alone : Statement → Line
-line_alone s = record { condition = None; statement = s }
+abbrev line_with : Option Operand → Statement → Line
+line_with c s = record { condition = c; statement = s }
+
+has_guarded : (b : Behaviour) (c : Option WrittenOperand) (w : WrittenStatement) (tokens : List (List ℕ)) → SpellsGuarded c w tokens → (line : Line)
+    → option_and_then (λ condition. option_map (line_with condition) (statement_of b.slots b.states w)) (condition_of b.slots b.states c) ≡ Some line → HasLine b line
+has_guarded b None w tokens t line e =
+    let m = mapped (line_with None) (statement_of b.slots b.states w) line e in
+    subst (HasLine b) m.2 (tt, has_statement b w tokens t m.0 m.1)
+has_guarded b (Some a) w tokens t line e =
+    let l = bound (λ condition. option_map (line_with condition) (statement_of b.slots b.states w)) (option_map (λ x. Some x) (operand_of b.slots b.states a)) line e in
+    let o = mapped (λ x. Some x) (operand_of b.slots b.states a) l.0 l.1 in
+    let m = mapped (line_with l.0) (statement_of b.slots b.states w) line l.2 in
+    let P : Option Operand → Type 0 = λ c. HasLine b (line_with c m.0) in
+    subst (HasLine b) m.2 (subst P o.2 (has_operand b a o.0 o.1, has_statement b w t.1 t.4 m.0 m.1))
 
 pub has_line : (b : Behaviour) (line : Line) (text : List ℕ) → SpellsLineOf b.slots b.states line text → HasLine b line
-has_line b line text (w, (i, t), e) =
-    let C : Option WrittenOperand → Type 0 = λ c. option_and_then (λ condition. option_map (λ statement. record { condition = condition; statement = statement }) (statement_of b.slots b.states w.statement)) (condition_of b.slots b.states c) ≡ Some line in
-    let f : C None = subst C i.0 e in
-    let m = mapped (λ (s : Statement). let l : Line = record { condition = None; statement = s } in l) (statement_of b.slots b.states w.statement) line f in
-    subst (HasLine b) m.2 (tt, has_statement b w.statement i.1 m.0 m.1)
+has_line b line text (w, t, e) = has_guarded b w.condition w.statement (tokens_of text) t line e
 
 pub all_more : {A : Type 0} (P : A → Type 0) (x : A) (xs : List A) → P x → All P xs → All P (x ∷ xs)
 all_more P x xs p h zero d lt = p

@@ -1,47 +1,41 @@
--- Reading a whole from the readings of its parts.
-use Rattle.std.proofs.Common.{◌≡◌, ℕ, ℤ, ◌&&◌, Bool, true, false, List, [], ◌∷◌, ◌++◌, IsTrue, Result, Ok, Err, Option, Some, None, codes, get_or, refl, sym, ap, ◌∙◌, subst, arith}
+-- Reading a whole from the readings of its parts; operands.
+use Rattle.std.proofs.Common.{◌≡◌, ℕ, ℤ, ◌&&◌, Bool, true, false, not, List, [], ◌∷◌, ◌++◌, IsTrue, Result, Ok, Err, Option, Some, None, codes, get_or, refl, sym, ap, ◌∙◌, subst, arith}
 use Rattle.std.specs.Option.{option_map, option_and_then}
 use Rattle.std.specs.Char.{is_ascii_digit}
+use Rattle.std.specs.Str.{bytes_eq}
 use Rattle.std.proofs.lemmas.Bool.Decides.{nat_tests}
+use Rattle.std.proofs.lemmas.Slice.Eq.{bytes_eq-Decides}
 use Rattle.plan.specs.declared.slots.Slots.{Slots}
 use Rattle.plan.specs.Naming.{place_of}
 use Rattle.reactor.specs.declared.program.State as StateOf
-use Rattle.reactor.specs.declared.program.Operand.{Operand}
-use Rattle.reactor.specs.declared.program.Operand.TheVariants.{Number, State, Value, Presence}
-use Rattle.reactor.specs.declared.program.Operator.TheVariants.{Plus}
-use Rattle.reactor.specs.declared.program.Expression.{Expression}
-use Rattle.reactor.specs.declared.program.Expression.TheVariants.{Single, Binary}
-use Rattle.reactor.specs.declared.program.Statement.{Statement}
-use Rattle.reactor.specs.declared.program.Statement.TheVariants.{Assign, Output}
-use Rattle.reactor.specs.declared.program.Line.{Line}
+use Rattle.reactor.specs.declared.program.Operand.TheVariants.{Number, State, Presence}
 use Rattle.reactor.specs.declared.fault.LineFault.{LineFault}
 use Rattle.reactor.specs.declared.fault.LineFault.TheVariants.{NoForm, UnknownName}
-use Rattle.reactor.specs.Tokens.{tokens_of, is_name, is_name_start, has_minus, is_numeral, digits_in, number_in, IsWholeNumber}
-use Rattle.reactor.specs.Grammar.{WrittenOperand, WrittenNumber, StateNamed, ValueAt, PresenceAt, WrittenExpression, Alone, Combined, WrittenStatement, AssignTo, OutputTo, ScheduleAfter, WrittenLine, is_slot_name, SpellsOperand, SpellsExpression, IsFirstExpression, SpellsStatement, IsFirstStatement, SpellsGuarded}
-use Rattle.reactor.specs.Resolution.{operand_slot, state_names, operand_of, expression_of, statement_of, line_of}
+use Rattle.reactor.specs.Tokens.{is_name, is_name_start, has_minus, is_numeral, digits_in, number_in, IsWholeNumber}
+use Rattle.reactor.specs.Grammar.{WrittenOperand, WrittenNumber, StateNamed, ValueAt, PresenceAt, is_slot_name, SpellsOperand}
+use Rattle.reactor.specs.Resolution.{operand_slot, state_names, value_at_slot, operand_of}
 use Rattle.reactor.specs.Reading.{IsReading, name_read, made_of, made_of_both, pair_of}
-use Rattle.reactor.specs.Spelled.{IsWritten}
 
 -- a whole is written where its part is, and means what is made of the part's meaning
-record Wraps {A C V W : Type 0} (whole : V → W) (part : V → Type 0) (written : W → Type 0) (part_meaning : V → Option A) (meaning : W → Option C) (f : A → C) : Type 0 where
-  intro : (v : V) → part v → written (whole v)
-  inverse : (w : W) → written w → (v : V) × part v
-  means : (v : V) → meaning (whole v) ≡ option_map f (part_meaning v)
+pub record Wraps {A C V W : Type 0} (whole : V → W) (part : V → Type 0) (written : W → Type 0) (part_meaning : V → Option A) (meaning : W → Option C) (f : A → C) : Type 0 where
+  pub intro : (v : V) → part v → written (whole v)
+  pub inverse : (w : W) → written w → (v : V) × part v
+  pub means : (v : V) → meaning (whole v) ≡ option_map f (part_meaning v)
 
-wrapped : {A C V W : Type 0} (whole : V → W) (part : V → Type 0) (written : W → Type 0) (part_meaning : V → Option A) (meaning : W → Option C) (f : A → C)
+pub wrapped : {A C V W : Type 0} (whole : V → W) (part : V → Type 0) (written : W → Type 0) (part_meaning : V → Option A) (meaning : W → Option C) (f : A → C)
     → Wraps whole part written part_meaning meaning f → (r : Result A LineFault) → IsReading part part_meaning r → IsReading written meaning (made_of f r)
 wrapped whole part written pm meaning f h (Ok a) k = (whole k.0, h.intro k.0 k.1, h.means k.0 ∙ ap (option_map f) k.2)
 wrapped whole part written pm meaning f h (Err NoForm) k = λ w x. let v = h.inverse w x in k v.0 v.1
 wrapped whole part written pm meaning f h (Err UnknownName) k = (whole k.0, h.intro k.0 k.1, h.means k.0 ∙ ap (option_map f) k.2)
 
 -- the same of two parts
-record Joins {A B C U V W : Type 0} (whole : U → V → W) (left : U → Type 0) (right : V → Type 0) (written : W → Type 0)
+pub record Joins {A B C U V W : Type 0} (whole : U → V → W) (left : U → Type 0) (right : V → Type 0) (written : W → Type 0)
     (left_meaning : U → Option A) (right_meaning : V → Option B) (meaning : W → Option C) (f : A → B → C) : Type 0 where
-  intro : (u : U) (v : V) → left u → right v → written (whole u v)
-  inverse : (w : W) → written w → (u : U) × (v : V) × left u × right v
-  means : (u : U) (v : V) → meaning (whole u v) ≡ option_and_then (λ x. option_map (f x) (right_meaning v)) (left_meaning u)
+  pub intro : (u : U) (v : V) → left u → right v → written (whole u v)
+  pub inverse : (w : W) → written w → (u : U) × (v : V) × left u × right v
+  pub means : (u : U) (v : V) → meaning (whole u v) ≡ option_and_then (λ x. option_map (f x) (right_meaning v)) (left_meaning u)
 
-joined : {A B C U V W : Type 0} (whole : U → V → W) (left : U → Type 0) (right : V → Type 0) (written : W → Type 0)
+pub joined : {A B C U V W : Type 0} (whole : U → V → W) (left : U → Type 0) (right : V → Type 0) (written : W → Type 0)
     (lm : U → Option A) (rm : V → Option B) (meaning : W → Option C) (f : A → B → C)
     → Joins whole left right written lm rm meaning f → (r : Result A LineFault) (q : Result B LineFault)
     → IsReading left lm r → IsReading right rm q → IsReading written meaning (made_of_both f r q)
@@ -77,6 +71,17 @@ paired_err f (Ok x) (Err h) g e = cc
 paired_err f (Err NoForm) q g e = cc
 paired_err f (Err UnknownName) (Ok y) g e = cc
 paired_err f (Err UnknownName) (Err h) g e = cc
+
+-- what comparing two texts tells
+negated : (t : Bool) → not t ≡ false → t ≡ true
+negated true h = refl
+negated false h = cc
+
+pub same_text : (a b c : List ℕ) (r : Bool) → r ≡ not (bytes_eq a b) → r ≡ false → b ≡ c → a ≡ c
+same_text a b c r e f g = (bytes_eq-Decides a b).0 (negated (bytes_eq a b) (sym e ∙ f)) ∙ g
+
+pub other_text : (a b c : List ℕ) (r : Bool) → r ≡ bytes_eq a b → r ≡ false → b ≡ c → a ≡ c → ⊥
+other_text a b c r e f g h = let yes = (bytes_eq-Decides a b).1 (h ∙ sym g) in let no = sym e ∙ f in cc
 
 -- a name where one stands
 abbrev pub IsNamed : (List ℕ → Bool) → List ℕ → List ℕ → Type 0
@@ -140,7 +145,7 @@ name_no_number (c ∷ cs) n h =
 
 -- operands
 value_wraps : (s : Slots) (states : List StateOf.State) (token x : List ℕ) → token ≡ codes "in." ++ x
-    → Wraps ValueAt (IsNamed is_slot_name x) (λ w. SpellsOperand w token) (operand_slot s) (operand_of s states) Value
+    → Wraps ValueAt (IsNamed is_slot_name x) (λ w. SpellsOperand w token) (operand_slot s) (operand_of s states) (value_at_slot s)
 value_wraps s states token x e = record {
   intro = λ v h. (h.0, e ∙ ap (λ y. codes "in." ++ y) h.1);
   inverse = back;
@@ -154,9 +159,9 @@ value_wraps s states token x e = record {
     back (PresenceAt y) h = absurd (in_or_has x y (sym e ∙ h.1))
 
 pub value_reading : (s : Slots) (states : List StateOf.State) (token x : List ℕ) → token ≡ codes "in." ++ x → (r : Result ℕ LineFault)
-    → r ≡ name_read (is_slot_name x) (operand_slot s x) → IsReading (λ w. SpellsOperand w token) (operand_of s states) (made_of Value r)
+    → r ≡ name_read (is_slot_name x) (operand_slot s x) → IsReading (λ w. SpellsOperand w token) (operand_of s states) (made_of (value_at_slot s) r)
 value_reading s states token x e r h =
-    wrapped ValueAt (IsNamed is_slot_name x) (λ w. SpellsOperand w token) (operand_slot s) (operand_of s states) Value (value_wraps s states token x e) r
+    wrapped ValueAt (IsNamed is_slot_name x) (λ w. SpellsOperand w token) (operand_slot s) (operand_of s states) (value_at_slot s) (value_wraps s states token x e) r
     (let P : Result ℕ LineFault → Type 0 = IsReading (IsNamed is_slot_name x) (operand_slot s) in
     subst P (sym h) (named is_slot_name (operand_slot s) x (is_slot_name x) refl (operand_slot s x) refl))
 
@@ -213,123 +218,3 @@ no_operand token a b c d (WrittenNumber n) h = d h.0
 no_operand token a b c d (StateNamed y) h = let f = ap is_name h.1 in let g = h.0 in cc
 no_operand token a b c d (ValueAt y) h = a y h.1
 no_operand token a b c d (PresenceAt y) h = b y h.1
-
--- expressions
-single_wraps : (s : Slots) (states : List StateOf.State) (tokens : List (List ℕ)) (left : List ℕ) → tokens ≡ left ∷ []
-    → Wraps Alone (λ w. SpellsOperand w left) (λ w. IsFirstExpression w × SpellsExpression w tokens) (operand_of s states) (expression_of s states) Single
-single_wraps s states tokens left e = record {
-  intro = λ v h. (tt, (left, e, h));
-  inverse = back;
-  means = λ v. refl;
-}
-  where
-    back : (w : WrittenExpression) → IsFirstExpression w × SpellsExpression w tokens → (v : WrittenOperand) × SpellsOperand v left
-    back (Alone a) h = let f : left ∷ [] ≡ h.1.0 ∷ [] = sym e ∙ h.1.1 in let g : h.1.0 ≡ left = cc in let P : List ℕ → Type 0 = λ x. SpellsOperand a x in (a, subst P g h.1.2)
-    back (Combined a o b) h = let f = sym e ∙ h.1.2 in cc
-
-pub single_reading : (s : Slots) (states : List StateOf.State) (tokens : List (List ℕ)) (left : List ℕ) → tokens ≡ left ∷ [] → (r : Result Operand LineFault)
-    → IsReading (λ w. SpellsOperand w left) (operand_of s states) r → IsReading (λ w. IsFirstExpression w × SpellsExpression w tokens) (expression_of s states) (made_of Single r)
-single_reading s states tokens left e r h =
-    wrapped Alone (λ w. SpellsOperand w left) (λ w. IsFirstExpression w × SpellsExpression w tokens) (operand_of s states) (expression_of s states) Single (single_wraps s states tokens left e) r h
-
-sum_joins : (s : Slots) (states : List StateOf.State) (tokens : List (List ℕ)) (left right : List ℕ) → tokens ≡ left ∷ codes "+" ∷ right ∷ []
-    → Joins (λ a b. Combined a Plus b) (λ w. SpellsOperand w left) (λ w. SpellsOperand w right) (λ w. IsFirstExpression w × SpellsExpression w tokens)
-    (operand_of s states) (operand_of s states) (expression_of s states) (λ a b. Binary a Plus b)
-sum_joins s states tokens left right e = record {
-  intro = λ u v h k. (refl, (left, right, e, h, k));
-  inverse = back;
-  means = λ u v. refl;
-}
-  where
-    back : (w : WrittenExpression) → IsFirstExpression w × SpellsExpression w tokens → (u v : WrittenOperand) × SpellsOperand u left × SpellsOperand v right
-    back (Alone a) h = let f = sym e ∙ h.1.1 in cc
-    back (Combined a o b) h =
-        let f = sym e ∙ h.1.2 in
-        let g : h.1.0 ≡ left = cc in
-        let k : h.1.1 ≡ right = cc in
-        let P : List ℕ → Type 0 = λ x. SpellsOperand a x in
-        let Q : List ℕ → Type 0 = λ x. SpellsOperand b x in
-        (a, b, subst P g h.1.3, subst Q k h.1.4)
-
-pub sum_reading : (s : Slots) (states : List StateOf.State) (tokens : List (List ℕ)) (left right : List ℕ) → tokens ≡ left ∷ codes "+" ∷ right ∷ []
-    → (r q : Result Operand LineFault) → IsReading (λ w. SpellsOperand w left) (operand_of s states) r → IsReading (λ w. SpellsOperand w right) (operand_of s states) q
-    → IsReading (λ w. IsFirstExpression w × SpellsExpression w tokens) (expression_of s states) (made_of_both (λ a b. Binary a Plus b) r q)
-sum_reading s states tokens left right e r q h k =
-    joined (λ a b. Combined a Plus b) (λ w. SpellsOperand w left) (λ w. SpellsOperand w right) (λ w. IsFirstExpression w × SpellsExpression w tokens)
-    (operand_of s states) (operand_of s states) (expression_of s states) (λ a b. Binary a Plus b) (sum_joins s states tokens left right e) r q h k
-
--- statements
-output_joins : (s : Slots) (states : List StateOf.State) (port : List ℕ) (tokens : List (List ℕ)) (value : List ℕ) → tokens ≡ value ∷ []
-    → Joins OutputTo (IsNamed is_name port) (λ w. SpellsOperand w value) (λ w. IsFirstStatement w × SpellsStatement w ((codes "out." ++ port) ∷ codes "=" ∷ tokens))
-    (place_of s.outputs) (operand_of s states) (statement_of s states) Output
-output_joins s states port tokens value e = record {
-  intro = λ u v h k. (tt, (value, cc, h.0, k));
-  inverse = back;
-  means = λ u v. refl;
-}
-  where
-    back : (w : WrittenStatement) → IsFirstStatement w × SpellsStatement w ((codes "out." ++ port) ∷ codes "=" ∷ tokens) → (u : List ℕ) × (v : WrittenOperand) × IsNamed is_name port u × SpellsOperand v value
-    back (AssignTo x a) h = absurd (not_dotted (λ z. codes "out." ++ z) (codes "out." ++ port) port x refl (dotted_out port) h.1.2 (cc h.1.1))
-    back (OutputTo p a) h =
-        let f : codes "out." ++ port ≡ codes "out." ++ p = cc h.1.1 in
-        let g : port ≡ p = cc in
-        let t : h.1.0 ≡ value = cc (h.1.1, e) in
-        let P : List ℕ → Type 0 = λ x. SpellsOperand a x in
-        (p, a, (h.1.2, g), subst P t h.1.3)
-    back (ScheduleAfter c time a) h = absurd h.0
-
-pub output_reading : (s : Slots) (states : List StateOf.State) (port : List ℕ) (tokens : List (List ℕ)) (value : List ℕ) → tokens ≡ value ∷ []
-    → (r : Result ℕ LineFault) (q : Result Operand LineFault) → r ≡ name_read (is_name port) (place_of s.outputs port) → IsReading (λ w. SpellsOperand w value) (operand_of s states) q
-    → IsReading (λ w. IsFirstStatement w × SpellsStatement w ((codes "out." ++ port) ∷ codes "=" ∷ tokens)) (statement_of s states) (made_of_both Output r q)
-output_reading s states port tokens value e r q h k =
-    joined OutputTo (IsNamed is_name port) (λ w. SpellsOperand w value) (λ w. IsFirstStatement w × SpellsStatement w ((codes "out." ++ port) ∷ codes "=" ∷ tokens))
-    (place_of s.outputs) (operand_of s states) (statement_of s states) Output (output_joins s states port tokens value e) r q
-    (let P : Result ℕ LineFault → Type 0 = IsReading (IsNamed is_name port) (place_of s.outputs) in
-    subst P (sym h) (named is_name (place_of s.outputs) port (is_name port) refl (place_of s.outputs port) refl)) k
-
-assign_joins : (s : Slots) (states : List StateOf.State) (state : List ℕ) (tokens : List (List ℕ)) → ((x : List ℕ) → state ≡ codes "out." ++ x → ⊥)
-    → Joins AssignTo (IsNamed is_name state) (λ w. IsFirstExpression w × SpellsExpression w tokens) (λ w. IsFirstStatement w × SpellsStatement w (state ∷ codes "=" ∷ tokens))
-    (place_of (state_names states)) (expression_of s states) (statement_of s states) Assign
-assign_joins s states state tokens apart = record {
-  intro = λ u v h k. (k.0, (tokens, cc, h.0, k.1));
-  inverse = back;
-  means = λ u v. refl;
-}
-  where
-    back : (w : WrittenStatement) → IsFirstStatement w × SpellsStatement w (state ∷ codes "=" ∷ tokens) → (u : List ℕ) × (v : WrittenExpression) × IsNamed is_name state u × (IsFirstExpression v × SpellsExpression v tokens)
-    back (AssignTo x a) h =
-        let f : state ≡ x = cc h.1.1 in
-        let g : h.1.0 ≡ tokens = cc h.1.1 in
-        let P : List (List ℕ) → Type 0 = λ t. SpellsExpression a t in
-        (x, a, (h.1.2, f), (h.0, subst P g h.1.3))
-    back (OutputTo p a) h = absurd (apart p (cc h.1.1))
-    back (ScheduleAfter c time a) h = absurd h.0
-
-pub assign_reading : (s : Slots) (states : List StateOf.State) (state : List ℕ) (tokens : List (List ℕ)) → ((x : List ℕ) → state ≡ codes "out." ++ x → ⊥)
-    → (r : Result ℕ LineFault) (q : Result Expression LineFault) → r ≡ name_read (is_name state) (place_of (state_names states) state) → IsReading (λ w. IsFirstExpression w × SpellsExpression w tokens) (expression_of s states) q
-    → IsReading (λ w. IsFirstStatement w × SpellsStatement w (state ∷ codes "=" ∷ tokens)) (statement_of s states) (made_of_both Assign r q)
-assign_reading s states state tokens apart r q h k =
-    joined AssignTo (IsNamed is_name state) (λ w. IsFirstExpression w × SpellsExpression w tokens) (λ w. IsFirstStatement w × SpellsStatement w (state ∷ codes "=" ∷ tokens))
-    (place_of (state_names states)) (expression_of s states) (statement_of s states) Assign (assign_joins s states state tokens apart) r q
-    (let P : Result ℕ LineFault → Type 0 = IsReading (IsNamed is_name state) (place_of (state_names states)) in
-    subst P (sym h) (named is_name (place_of (state_names states)) state (is_name state) refl (place_of (state_names states) state) refl)) k
-
--- lines
-abbrev alone : Statement → Line
-alone s = record { condition = None; statement = s }
-
-abbrev written_alone : WrittenStatement → WrittenLine
-written_alone w = record { condition = None; statement = w }
-
-line_wraps : (s : Slots) (states : List StateOf.State) (text : List ℕ)
-    → Wraps written_alone (λ w. IsFirstStatement w × SpellsStatement w (tokens_of text)) (IsWritten text) (statement_of s states) (line_of s states) alone
-line_wraps s states text = record {
-  intro = λ v h. ((refl, h.0), h.1);
-  inverse = λ w h. let P : Option WrittenOperand → Type 0 = λ c. SpellsGuarded c w.statement (tokens_of text) in (w.statement, (h.0.1, subst P h.0.0 h.1));
-  means = λ v. refl;
-}
-
-pub line_reading : (s : Slots) (states : List StateOf.State) (text : List ℕ) (r : Result Statement LineFault)
-    → IsReading (λ w. IsFirstStatement w × SpellsStatement w (tokens_of text)) (statement_of s states) r → IsReading (IsWritten text) (line_of s states) (made_of alone r)
-line_reading s states text r h =
-    wrapped written_alone (λ w. IsFirstStatement w × SpellsStatement w (tokens_of text)) (IsWritten text) (statement_of s states) (line_of s states) alone (line_wraps s states text) r h

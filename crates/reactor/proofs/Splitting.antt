@@ -5,13 +5,13 @@ use Rattle.std.proofs.lemmas.List.{take-append-drop}
 use Rattle.std.proofs.lemmas.Bool.Decides.{nat_tests}
 use Rattle.reactor.specs.Tokens.{is_space, is_colon, is_word_character, spaced, is_some_text, tokens_of}
 
-is_space_is : (c : ℕ) → is_space c ≡ true → c ≡ 32
+pub is_space_is : (c : ℕ) → is_space c ≡ true → c ≡ 32
 is_space_is c h = grind (arith, nat_tests)
 
-space_skipped : (c : ℕ) (cs : List ℕ) → c ≡ 32 → tokens_of (c ∷ cs) ≡ tokens_of cs
+pub space_skipped : (c : ℕ) (cs : List ℕ) → c ≡ 32 → tokens_of (c ∷ cs) ≡ tokens_of cs
 space_skipped c cs e = let P : ℕ → Type 0 = λ x. tokens_of (x ∷ cs) ≡ tokens_of cs in subst P (sym e) refl
 
-colon_first : (cs : List ℕ) → tokens_of (58 ∷ cs) ≡ (58 ∷ []) ∷ tokens_of cs
+pub colon_first : (cs : List ℕ) → tokens_of (58 ∷ cs) ≡ (58 ∷ []) ∷ tokens_of cs
 colon_first cs = refl
 
 after_space : (c : ℕ) (cs : List ℕ) (b : Bool) → is_space c ≡ b → tokens_of cs ≡ tokens_of (drop (prefix_len is_space cs) cs) → tokens_of (c ∷ cs) ≡ tokens_of (drop (cond b (1 + prefix_len is_space cs) 0) (c ∷ cs))
@@ -36,11 +36,11 @@ passing_step : (p : ℕ → Bool) (x : ℕ) (xs : List ℕ) (b : Bool) → p x �
 passing_step p x xs true e h = rw (one-add, e) h
 passing_step p x xs false e h = refl
 
-passing_front : (p : ℕ → Bool) (xs : List ℕ) → list_all p (take (prefix_len p xs) xs) ≡ true
+pub passing_front : (p : ℕ → Bool) (xs : List ℕ) → list_all p (take (prefix_len p xs) xs) ≡ true
 passing_front p [] = refl
 passing_front p (x ∷ xs) = passing_step p x xs (p x) refl (passing_front p xs)
 
-and_true : (a b : Bool) → (a && b) ≡ true → (a ≡ true) × (b ≡ true)
+pub and_true : (a b : Bool) → (a && b) ≡ true → (a ≡ true) × (b ≡ true)
 and_true true b h = (refl, h)
 and_true false b h = cc
 
@@ -82,7 +82,7 @@ cut_here [] h = ([], refl)
 cut_here (c ∷ cs) h = cut_by c cs (is_space c) (is_colon c) refl refl (h c cs refl)
 
 -- a word in front is the first token
-word_token : (w rest : List ℕ) → 0 < length w → list_all is_word_character w ≡ true → ((y : ℕ) (ys : List ℕ) → rest ≡ y ∷ ys → is_word_character y ≡ false) → tokens_of (w ++ rest) ≡ w ∷ tokens_of rest
+pub word_token : (w rest : List ℕ) → 0 < length w → list_all is_word_character w ≡ true → ((y : ℕ) (ys : List ℕ) → rest ≡ y ∷ ys → is_word_character y ≡ false) → tokens_of (w ++ rest) ≡ w ∷ tokens_of rest
 word_token [] rest some a h = absurd (omega arith)
 word_token (x ∷ w) rest some a h =
     let cut = cut_here rest h in
@@ -92,18 +92,18 @@ word_token (x ∷ w) rest some a h =
 abbrev pub word_length : List ℕ → ℕ
 word_length text = prefix_len is_word_character text
 
+front_by : (x : ℕ) (xs : List ℕ) (b : Bool) → 0 < cond b (1 + word_length xs) 0 → 0 < length (take (cond b (1 + word_length xs) 0) (x ∷ xs))
+front_by x xs true h = rw one-add (omega arith)
+front_by x xs false h = absurd (omega arith)
+
+pub front_some : (xs : List ℕ) → 0 < word_length xs → 0 < length (take (word_length xs) xs)
+front_some [] h = absurd (omega arith)
+front_some (x ∷ xs) h = front_by x xs (is_word_character x) h
+
 pub word_first : (text : List ℕ) → 0 < word_length text → tokens_of text ≡ take (word_length text) text ∷ tokens_of (drop (word_length text) text)
 word_first text some =
     let whole : take (word_length text) text ++ drop (word_length text) text ≡ text = take-append-drop (word_length text) text in
     ap tokens_of (sym whole) ∙ word_token (take (word_length text) text) (drop (word_length text) text) (front_some text some) (passing_front is_word_character text) (stops is_word_character text)
-  where
-    front_some : (xs : List ℕ) → 0 < word_length xs → 0 < length (take (word_length xs) xs)
-    front_some [] h = absurd (omega arith)
-    front_some (x ∷ xs) h = front_by x xs (is_word_character x) h
-      where
-        front_by : (x : ℕ) (xs : List ℕ) (b : Bool) → 0 < cond b (1 + word_length xs) 0 → 0 < length (take (cond b (1 + word_length xs) 0) (x ∷ xs))
-        front_by x xs true h = rw one-add (omega arith)
-        front_by x xs false h = absurd (omega arith)
 
 pub empty_rest : (text rest : List ℕ) → rest ≡ drop (prefix_len is_space text) text → length rest < 1 → tokens_of text ≡ []
 empty_rest text [] e h = after_spaces text ∙ ap tokens_of (sym e)
@@ -115,11 +115,16 @@ colon_rest text (x ∷ xs) e some h =
     let P : ℕ → Type 0 = λ y. tokens_of (y ∷ xs) ≡ (y ∷ []) ∷ tokens_of xs in
     after_spaces text ∙ ap tokens_of (sym e) ∙ subst P (sym h) (colon_first xs)
 
-pub word_rest : (text rest : List ℕ) → rest ≡ drop (prefix_len is_space text) text → 1 ≤ length rest → get_or rest 0 0 ≢ 58 → tokens_of text ≡ take (word_length rest) rest ∷ tokens_of (drop (word_length rest) rest)
-word_rest text [] e some h = absurd (omega arith)
-word_rest text (x ∷ xs) e some h =
+word_here : (text : List ℕ) (x : ℕ) (xs : List ℕ) → x ∷ xs ≡ drop (prefix_len is_space text) text → x ≢ 58 → 0 < word_length (x ∷ xs)
+word_here text x xs e h =
     let no_space : is_space x ≡ false = stops is_space text x xs (sym e) in
     let no_colon : is_colon x ≡ false = grind (arith, nat_tests) in
     let word : is_word_character x ≡ true = rw (no_space, no_colon) refl in
-    let long : 0 < word_length (x ∷ xs) = rw word (omega arith) in
-    after_spaces text ∙ ap tokens_of (sym e) ∙ word_first (x ∷ xs) long
+    rw word (omega arith)
+
+pub word_some : (text rest : List ℕ) → rest ≡ drop (prefix_len is_space text) text → 1 ≤ length rest → get_or rest 0 0 ≢ 58 → 0 < word_length rest
+word_some text [] e some h = absurd (omega arith)
+word_some text (x ∷ xs) e some h = word_here text x xs e h
+
+pub word_rest : (text rest : List ℕ) → rest ≡ drop (prefix_len is_space text) text → 1 ≤ length rest → get_or rest 0 0 ≢ 58 → tokens_of text ≡ take (word_length rest) rest ∷ tokens_of (drop (word_length rest) rest)
+word_rest text rest e some h = after_spaces text ∙ ap tokens_of (sym e) ∙ word_first rest (word_some text rest e some h)

@@ -1,5 +1,5 @@
 -- The network of a federation: its plan, a program for each federate, and recorded inputs.
-use Rattle.std.specs.Prelude.{◌≡◌, ℕ, ℤ, List, [], map, length, slice_get, Option, None, Some}
+use Rattle.std.specs.Prelude.{ℕ, ℤ, List, [], length, slice_get, Option, None, Some}
 use Rattle.network.specs.Network.{Network, Effect}
 use Rattle.plan.specs.declared.draft.Federate.{Federate}
 use Rattle.plan.specs.declared.draft.Draft.{Draft}
@@ -43,7 +43,3 @@ network_of d programs inputs =
       opening = λ j. opening_by (slice_get programs j);
       effect = λ j. effect_by (slice_get programs j);
     }
-
--- there is a program for each federate, with its slots
-abbrev pub AreProgramsOf : Draft → List Behaviour → Type 0
-AreProgramsOf d programs = map (λ b. b.slots) programs ≡ map (λ f. f.slots) d.federates

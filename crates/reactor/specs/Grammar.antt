@@ -78,16 +78,3 @@ SpellsGuarded (Some a) statement tokens =
 
 abbrev pub SpellsLine : WrittenLine → List (List ℕ) → Type 0
 SpellsLine line tokens = SpellsGuarded line.condition line.statement tokens
-
--- the forms that are read so far: `X = A`, `X = A + B` and `out.P = A`
-abbrev pub IsFirstExpression : WrittenExpression → Type 0
-IsFirstExpression (Alone a) = Unit {0}
-IsFirstExpression (Combined a operator b) = operator ≡ Plus
-
-abbrev pub IsFirstStatement : WrittenStatement → Type 0
-IsFirstStatement (AssignTo x expression) = IsFirstExpression expression
-IsFirstStatement (OutputTo p a) = Unit {0}
-IsFirstStatement (ScheduleAfter c time a) = ⊥
-
-abbrev pub IsFirstForm : WrittenLine → Type 0
-IsFirstForm line = (line.condition ≡ None) × IsFirstStatement line.statement

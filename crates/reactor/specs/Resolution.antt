@@ -1,11 +1,11 @@
 -- What the names of a written line stand for: states, ports and slots by number.
-use Rattle.std.specs.Prelude.{ℕ, ◌+◌, not, ◌&&◌, if◌then◌else◌, List, ◌∷◌, ◌++◌, map, Option, None, Some, codes}
+use Rattle.std.specs.Prelude.{ℕ, pos, ◌+◌, not, ◌&&◌, if◌then◌else◌, List, ◌∷◌, ◌++◌, map, Option, None, Some, codes}
 use Rattle.std.specs.Option.{option_map, option_and_then}
 use Rattle.std.specs.Str.{bytes_eq}
 use Rattle.tag.specs.LogicalTime.{delay_of}
 use Rattle.plan.specs.declared.slots.Slots.{Slots}
 use Rattle.plan.specs.Naming.{place_of}
-use Rattle.plan.specs.Numbering.{timer_names, first_action}
+use Rattle.plan.specs.Numbering.{timer_names, first_action, is_bare}
 use Rattle.reactor.specs.declared.program.Operand.{Operand}
 use Rattle.reactor.specs.declared.program.Operand.TheVariants.{Number, State, Value, Presence}
 use Rattle.reactor.specs.declared.program.Expression.{Expression}
@@ -31,11 +31,15 @@ operand_slot s x = if not s.startup && bytes_eq x (codes "startup") then None el
 abbrev pub state_names : List StateOf.State → List (List ℕ)
 state_names states = map (λ s. s.name) states
 
+-- the value at a slot; startup and timers have none, which reads as 0
+abbrev pub value_at_slot : Slots → ℕ → Operand
+value_at_slot s slot = if is_bare s slot then Number (pos 0) else Value slot
+
 -- a written operand by numbers, where its name is there
 abbrev pub operand_of : Slots → List StateOf.State → WrittenOperand → Option Operand
 operand_of s states (WrittenNumber n) = Some (Number n)
 operand_of s states (StateNamed x) = option_map State (place_of (state_names states) x)
-operand_of s states (ValueAt x) = option_map Value (operand_slot s x)
+operand_of s states (ValueAt x) = option_map (value_at_slot s) (operand_slot s x)
 operand_of s states (PresenceAt x) = option_map Presence (operand_slot s x)
 
 abbrev pub expression_of : Slots → List StateOf.State → WrittenExpression → Option Expression

@@ -12,13 +12,13 @@ use Rattle.reactor.specs.declared.reaction_draft.ReactionDraft.{ReactionDraft}
 use Rattle.reactor.specs.declared.fault.ProgramFault.{ProgramFault}
 use Rattle.reactor.specs.declared.fault.ProgramFault.TheVariants.{BadLine, UnknownOperand, Memory, RepeatedState}
 use Rattle.reactor.specs.Tokens.{tokens_of, is_name}
-use Rattle.reactor.specs.Grammar.{WrittenLine, SpellsLine, IsFirstForm}
+use Rattle.reactor.specs.Grammar.{WrittenLine, SpellsLine}
 use Rattle.reactor.specs.Resolution.{trigger_slot, state_names, line_of}
 use Rattle.reactor.specs.Behaviour.{Behaviour}
 
--- the text is written in one of the forms that are read, as this line with names
+-- the text is written in one of the forms, as this line with names
 abbrev pub IsWritten : List ℕ → WrittenLine → Type 0
-IsWritten text written = IsFirstForm written × SpellsLine written (tokens_of text)
+IsWritten text written = SpellsLine written (tokens_of text)
 
 -- the text spells this line of a reactor with these slots and states
 abbrev pub SpellsLineOf : Slots → List StateOf.State → Line → List ℕ → Type 0
@@ -36,7 +36,7 @@ pub record SpellsProgram (s : Slots) (states : List StateOf.State) (drafts : Lis
   pub states_apart : AreDistinct (state_names states)
   pub reactions : AllZip (SpellsReaction s states) b.reactions drafts
 
--- no form that is read is written so
+-- no line is written so
 abbrev pub HasNoForm : List ℕ → Type 0
 HasNoForm text = (written : WrittenLine) → ¬ (IsWritten text written)
 

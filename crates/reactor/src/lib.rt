@@ -7,6 +7,7 @@
 pub mod entry;
 pub mod examples;
 pub mod fault;
+pub mod lawful;
 pub mod laws;
 pub mod memory;
 mod number;

@@ -1,7 +1,8 @@
-ghost use Rattle.std.specs.Prelude.{◌≡◌, ◌<◌, ◌↔◌, length, IfSome, IsTrue};
+ghost use Rattle.std.specs.Prelude.{◌≡◌, ◌+◌, ◌<◌, ◌↔◌, length, IfSome, IsTrue};
+ghost use Rattle.std.specs.Option.{option_map};
 ghost use Rattle.plan.specs.Naming.{place_of};
 ghost use Rattle.plan.specs.Legal.{IsWithinLimits};
-ghost use Rattle.plan.specs.Numbering.{timer_names};
+ghost use Rattle.plan.specs.Numbering.{timer_names, first_action};
 ghost use Rattle.reactor.specs.Resolution.{state_names, trigger_slot, operand_slot};
 
 use crate::program::State;
@@ -77,6 +78,16 @@ pub(crate) fn trigger_slot(slots: &Slots, name: &[u8]) -> Option<usize>
         return Some(1 + inputs.len() + timers.len() + actions.len() + place);
     }
     None
+}
+
+/// The slot of the action of this name that isn't physical.
+pub(crate) fn action_slot(slots: &Slots, name: &[u8]) -> Option<usize>
+    requires { IsWithinLimits slots.now }
+    ensures { result ≡ option_map (λ place. first_action slots.now + place) (place_of slots.now.actions name.now) }
+{
+    let place = place_of(slots.actions.as_slice(), name)?;
+    let timers = slots.timers.as_slice().len();
+    Some(1 + slots.inputs.as_slice().len() + timers + place)
 }
 
 /// The slot that an operand names: `startup` only where the reactor has one.

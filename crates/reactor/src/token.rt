@@ -1,7 +1,8 @@
-ghost use Rattle.std.specs.Prelude.{◌≡◌, ◌≢◌, ℕ, List, ◌∷◌, [], ◌≤◌, length, MatchOption};
+ghost use Rattle.std.specs.Prelude.{◌≡◌, ◌≢◌, ℕ, List, ◌∷◌, [], ◌≤◌, length, MatchOption, IfSome};
 ghost use Rattle.std.specs.List.{prefix_len, list_any, list_all};
 ghost use Rattle.std.specs.Str.{bytes_eq};
 ghost use Rattle.reactor.specs.Tokens.{is_space, is_word_character, tokens_of, is_name_start, is_name_character, is_name, is_reserved, form_words, place_words};
+ghost use Rattle.reactor.specs.Reading.{IsFirstToken, AreFirstTokens};
 
 /// Whether the text is a name: 1 to 32 letters, digits and `_`, of which the first is no digit, and no reserved word.
 pub fn is_name(text: &[u8]) -> bool
@@ -56,7 +57,8 @@ fn is_place_word(text: &[u8]) -> bool
 
 /// The first token of a text, and what follows it.
 pub(crate) fn next_token(text: &[u8]) -> Option<(&[u8], &[u8])>
-    ensures { MatchOption result (tokens_of text.now ≡ []) (λ parts. tokens_of text.now ≡ parts.0.now ∷ tokens_of parts.1.now) }
+    ensures tokens { MatchOption result (tokens_of text.now ≡ []) (λ parts. tokens_of text.now ≡ parts.0.now ∷ tokens_of parts.1.now) }
+    ensures place { IfSome result (λ parts. IsFirstToken text.now parts.0.now parts.1.now) }
 {
     let (_, text) = text.split_at(spaces_len(text));
     match text {
@@ -77,6 +79,16 @@ pub(crate) fn only_token(text: &[u8]) -> Option<&[u8]>
         },
         None => None,
     }
+}
+
+/// The first two tokens of a text, as they stand there with the spaces between them, and what follows them.
+pub(crate) fn two_tokens(text: &[u8]) -> Option<(&[u8], &[u8])>
+    ensures { MatchOption result ((first second : List ℕ) (rest : List (List ℕ)) → tokens_of text.now ≢ first ∷ second ∷ rest) (λ parts. AreFirstTokens text.now parts.0.now parts.1.now) }
+{
+    let (_, text) = text.split_at(spaces_len(text));
+    let (_, rest) = next_token(text)?;
+    let (_, rest) = next_token(rest)?;
+    Some(text.split_at(text.len() - rest.len()))
 }
 
 fn spaces_len(text: &[u8]) -> usize

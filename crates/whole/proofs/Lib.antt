@@ -12,3 +12,5 @@ pub mod MadeLemmas
 pub mod Turns
 -- what comes from outside
 pub mod Outside
+-- Programs that may be read.
+pub mod Readable

@@ -13,3 +13,6 @@ pub mod whole;
 
 pub use event::{Event, Source};
 pub use whole::Whole;
+
+#[cfg(test)]
+mod tests;

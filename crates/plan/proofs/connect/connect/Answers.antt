@@ -1,6 +1,7 @@
-use Rattle.std.proofs.Common.{arith, rules, ◌≡◌, ◌+◌, ◌++◌, ◌∷◌, [], ◌<◌, ap, sym, refl, length, subst, ◌∙◌, drop, get_or}
-use Rattle.std.specs.Prelude.{Option, Some, IsSome}
+use Rattle.std.proofs.Common.{arith, rules, ◌≡◌, ◌+◌, ◌++◌, ◌∷◌, [], ◌<◌, ◌^◌, ap, sym, refl, length, subst, ◌∙◌, drop, get_or}
+use Rattle.std.specs.Prelude.{Option, Some, IsSome, IfSome, All}
 use Rattle.std.specs.List.{filter_map}
+use Rattle.std.proofs.lemmas.List.{take_all}
 use Rattle.std.proofs.lemmas.List.Elements.{All-more}
 use Rattle.plan.specs.declared.draft.ConnectionDraft.{ConnectionDraft}
 use Rattle.plan.specs.Federation.{Found, connection_of, found_output, found_input}
@@ -34,6 +35,9 @@ loop-declared-preserved c =
           c.args.draft.now.connections c.loop-declared.declared-index c.declared-item.result below c.loop-declared.invariant.to_inputs
           (subst (λ (z : ConnectionDraft). IsSome (found_input c.as_slice-federates.result.now z.to)) here
           (subst (λ (o : Option Found). IsSome o) (sym to_is) refl));
+      delays = All-more (λ (z : ConnectionDraft). IfSome z.after (λ t. t < 2 ^ 62))
+          c.args.draft.now.connections c.loop-declared.declared-index c.declared-item.result below c.loop-declared.invariant.delays
+          (subst (λ (z : ConnectionDraft). IfSome z.after (λ t. t < 2 ^ 62)) here (search rules));
     }
 
 pub returns-clause-there : goal.returns-clause-there
@@ -41,3 +45,9 @@ returns-clause-there c =
     there_at_end c.args.draft.now c.as_slice-federates.result.now c.loop-declared.declared-index c.as_slice-federates.ensures
     (omega (arith, ap length c.as_slice-declared-items.ensures))
     c.loop-declared.invariant.from_outputs c.loop-declared.invariant.to_inputs
+
+pub returns-clause-delays : goal.returns-clause-delays
+returns-clause-delays c =
+    subst (λ xs. All (λ (z : ConnectionDraft). IfSome z.after (λ t. t < 2 ^ 62)) xs)
+    (take_all c.loop-declared.declared-index c.args.draft.now.connections (omega (arith, ap length c.as_slice-declared-items.ensures)))
+    c.loop-declared.invariant.delays

@@ -1,6 +1,6 @@
 use Rattle.std.proofs.Common.{arith, rules, ℕ, ◌<◌, get_or, below_more}
 use Rattle.network.specs.Connection.{Connection}
-use Rattle.plan.specs.Legal.{EndApart}
+use Rattle.network.specs.Lawful.{EndApart}
 use Rattle.plan.proofs.Joined.{apart_from_before}
 use Rattle.plan.proofs.sources.second_source.Goals as goal
 

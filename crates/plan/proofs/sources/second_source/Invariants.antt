@@ -1,6 +1,6 @@
 use Rattle.std.proofs.Common.{ℕ, ◌<◌, get_or}
 use Rattle.network.specs.Connection.{Connection}
-use Rattle.plan.specs.Legal.{EndApart}
+use Rattle.network.specs.Lawful.{EndApart}
 use Rattle.plan.proofs.sources.second_source.Given as goal
 
 abbrev pub invariant-loop-place : goal.invariant-loop-place

@@ -1,4 +1,0 @@
--- names of each kind, together
-pub mod Names
--- programs of federates, one more
-pub mod Parsed

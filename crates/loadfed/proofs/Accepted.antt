@@ -1,0 +1,79 @@
+-- A federation file meets no refusal but want of memory.
+use Rattle.std.proofs.Common.{◌≡◌, ◌⊎◌, inl, inr, ℕ, zero, suc, Result, Ok, Err, List, [], ◌∷◌, Some, None, sym, ◌∙◌, subst, arith}
+use Rattle.std.specs.Prelude.{slice_get, IsUtf8, IfErr}
+use Rattle.toml.specs.Data.{Members}
+use Rattle.toml.specs.Parse.{parse_document}
+use Rattle.plan.specs.declared.draft.Federate.{Federate}
+use Rattle.plan.specs.declared.draft.Draft.{Draft}
+use Rattle.plan.specs.Legal.{IsLegal}
+use Rattle.reactor.specs.Behaviour.{Behaviour}
+use Rattle.reactor.specs.Spelled.{SpellsProgram}
+use Rattle.loadfed.specs.declared.fault.LoadFault.{LoadFault}
+use Rattle.loadfed.specs.declared.fault.LoadFault.TheVariants.{Memory}
+use Rattle.loadfed.specs.Shape.{ProgramDraft, SaysFederation}
+use Rattle.loadfed.specs.ShapeFaults.{HasShapeFault}
+use Rattle.loadfed.specs.Loaded.{IsDocument, SpellPrograms, SaysDraft, IsFederationFile, IsFaultAmong, HasLoadFault}
+use Rattle.loadfed.proofs.OneReading.{one_draft, one_program_list}
+use Rattle.loadfed.proofs.NoFault.{no_shape_fault}
+
+pub one_document : (bytes : List ℕ) (m n : Members) → IsDocument bytes m → IsDocument bytes n → m ≡ n
+one_document bytes m n h k = let e : Some m ≡ Some n = sym h.parsed ∙ k.parsed in cc
+
+pub no_document : (bytes : List ℕ) → (IsUtf8 bytes → parse_document bytes ≡ None) → (file : Members) → IsDocument bytes file → ⊥
+no_document bytes none file h = let e : Some file ≡ None = sym h.parsed ∙ none h.utf8 in cc
+
+same_file : (bytes : List ℕ) (d e : Draft) (ps qs : List ProgramDraft) (h : SaysDraft bytes d ps) (k : SaysDraft bytes e qs) → SaysFederation h.file e qs
+same_file bytes d e ps qs h k = subst (λ m. SaysFederation m e qs) (one_document bytes k.file h.file k.document h.document) k.says
+
+same_draft : (bytes : List ℕ) (d e : Draft) (ps qs : List ProgramDraft) → SaysDraft bytes d ps → SaysDraft bytes e qs → d ≡ e
+same_draft bytes d e ps qs h k = one_draft h.file d e ps qs h.says (same_file bytes d e ps qs h k)
+
+same_programs : (bytes : List ℕ) (d e : Draft) (ps qs : List ProgramDraft) → SaysDraft bytes d ps → SaysDraft bytes e qs → ps ≡ qs
+same_programs bytes d e ps qs h k =
+    one_program_list h.file d.federates e.federates ps qs h.says.federates_are (same_file bytes d e ps qs h k).federates_are
+
+spelled_at : (fs : List Federate) (ps : List ProgramDraft) (bs : List Behaviour) (i : ℕ) (f : Federate) (p : ProgramDraft) → SpellPrograms fs ps bs
+    → slice_get fs i ≡ Some f → slice_get ps i ≡ Some p → (b : Behaviour) × SpellsProgram f.slots p.states p.reactions b
+spelled_at [] ps bs i f p h here there = let no : ⊥ = cc in absurd no
+spelled_at (g ∷ fs) [] bs i f p h here there = absurd h
+spelled_at (g ∷ fs) (q ∷ ps) [] i f p h here there = absurd h
+spelled_at (g ∷ fs) (q ∷ ps) (b ∷ bs) zero f p h here there =
+    let same_f : g ≡ f = cc in
+    let same_p : q ≡ p = cc in
+    let P : Federate → Type 0 = λ x. SpellsProgram x.slots q.states q.reactions b in
+    let Q : ProgramDraft → Type 0 = λ x. SpellsProgram f.slots x.states x.reactions b in
+    (b, subst Q same_p (subst P same_f h.0))
+spelled_at (g ∷ fs) (q ∷ ps) (b ∷ bs) (suc i) f p h here there = spelled_at fs ps bs i f p h.1 here there
+
+none_among : (fs : List Federate) (ps : List ProgramDraft) (bs : List Behaviour) (fault : LoadFault) → SpellPrograms fs ps bs → IsFaultAmong fs ps fault → ⊥
+none_among fs ps bs fault h k =
+    let z = spelled_at fs ps bs k.place k.federate k.program h k.federate_is k.program_is in
+    k.refused.unspelled z.0 z.1
+
+no_load_fault : (bytes : List ℕ) (d : Draft) (bs : List Behaviour) (fault : LoadFault) → IsFederationFile bytes d bs → HasLoadFault bytes fault → ⊥
+no_load_fault bytes d bs fault file (inl h) =
+    let few = file.declared.few in
+    let long = h.long in
+    omega arith
+no_load_fault bytes d bs fault file (inr (inl h)) = h.none file.declared.file file.declared.document
+no_load_fault bytes d bs fault file (inr (inr (inl h))) =
+    let same = one_document bytes h.file file.declared.file h.document file.declared.document in
+    no_shape_fault fault file.declared.file d file.drafts file.declared.says (subst (λ m. HasShapeFault m fault) same h.wrong)
+no_load_fault bytes d bs fault file (inr (inr (inr (inl h)))) =
+    let same = same_draft bytes d h.draft file.drafts h.drafts file.declared h.declared in
+    h.refused.illegal (subst IsLegal same file.legal)
+no_load_fault bytes d bs fault file (inr (inr (inr (inr h)))) =
+    let same = same_draft bytes d h.draft file.drafts h.drafts file.declared h.declared in
+    let programs = same_programs bytes d h.draft file.drafts h.drafts file.declared h.declared in
+    let spelled = subst (λ ps. SpellPrograms h.draft.federates ps bs) programs (subst (λ x. SpellPrograms x.federates file.drafts bs) same file.spelled) in
+    none_among h.draft.federates h.drafts bs fault spelled h.among
+
+pub accepted : (bytes : List ℕ) (fault : LoadFault) → (fault ≡ Memory) ⊎ HasLoadFault bytes fault → (d : Draft) (bs : List Behaviour) → IsFederationFile bytes d bs
+    → fault ≡ Memory
+accepted bytes fault (inl memory) d bs file = memory
+accepted bytes fault (inr h) d bs file = absurd (no_load_fault bytes d bs fault file h)
+
+pub accepted_all : {X : Type 0} (bytes : List ℕ) (r : Result X LoadFault) → IfErr r (λ fault. (fault ≡ Memory) ⊎ HasLoadFault bytes fault) → (d : Draft) (bs : List Behaviour)
+    → IsFederationFile bytes d bs → IfErr r (λ fault. fault ≡ Memory)
+accepted_all bytes (Ok x) h d bs file = tt
+accepted_all bytes (Err fault) h d bs file = accepted bytes fault h d bs file

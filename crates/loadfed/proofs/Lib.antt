@@ -1,0 +1,22 @@
+-- names of each kind, together
+pub mod Names
+-- programs of federates, one more
+pub mod Parsed
+-- names parted by a dot
+pub mod Dots
+-- a table says one thing
+pub mod OneReading
+-- what is said has no fault
+pub mod NoFault
+-- faults told upward
+pub mod Refusals
+-- one reading of a key by another, and arrays of tables
+pub mod KeyReadings
+pub mod TableReadings
+pub mod ShapeReadings
+-- a federation file meets no refusal
+pub mod Accepted
+-- how faults of the plan and of programs are told
+pub mod Planned
+-- an input file says one list of inputs
+pub mod InputReadings

@@ -1,0 +1,210 @@
+-- A table says one thing: two readings of it are the same.
+use Rattle.std.proofs.Common.{◌≡◌, ℕ, ℤ, List, [], ◌∷◌, ◌++◌, map, Option, Some, None, Bool, codes, refl, sym, ap, ◌∙◌, subst, inl, inr}
+use Rattle.std.specs.Prelude.{pos}
+use Rattle.std.specs.List.{AllZip}
+use Rattle.tag.specs.Duration.{Spells}
+use Rattle.tag.proofs.Spellings.{one_value}
+use Rattle.plan.specs.declared.slots.Slots.{Slots}
+use Rattle.plan.specs.declared.slots.Timer.{Timer}
+use Rattle.plan.specs.declared.draft.Federate.{Federate}
+use Rattle.plan.specs.declared.draft.PortName.{PortName}
+use Rattle.plan.specs.declared.draft.ConnectionDraft.{ConnectionDraft}
+use Rattle.plan.specs.declared.draft.Draft.{Draft}
+use Rattle.reactor.specs.declared.program.State.{State}
+use Rattle.reactor.specs.declared.reaction_draft.ReactionDraft.{ReactionDraft}
+use Rattle.toml.specs.Data.{Data, string, integer, array, table, Members, get_member}
+use Rattle.toml.specs.View.{items_of}
+use Rattle.loadfed.specs.Tables.{IsWithout, SaysText, SaysNumber, SaysDuration, MaySay, SaysDurationOrZero, SaysMicrostep, SaysArray, SaysTexts, SaysTables, SaysEach}
+use Rattle.loadfed.specs.Shape.{SaysTimer, SaysState, SaysReaction, ProgramDraft, SaysProgram, wants_startup, SaysSlots, SaysFederate, SaysPort, SaysConnection, SaysFederates, SaysFederation}
+use Rattle.loadfed.proofs.Dots.{one_split}
+
+pub one_text : (key : List ℕ) (m : Members) (t u : List ℕ) → SaysText key m t → SaysText key m u → t ≡ u
+one_text key m t u h k = let e : Some (string t) ≡ Some (string u) = sym h ∙ k in cc
+
+pub one_number : (key : List ℕ) (m : Members) (x y : ℤ) → SaysNumber key m x → SaysNumber key m y → x ≡ y
+one_number key m x y h k = let e : Some (integer x) ≡ Some (integer y) = sym h ∙ k in cc
+
+pub one_duration : (key : List ℕ) (m : Members) (t u : ℕ) → SaysDuration key m t → SaysDuration key m u → t ≡ u
+one_duration key m t u h k =
+    let P : List ℕ → Type 0 = λ x. Spells x u in
+    one_value h.0 t u h.2 (subst P (one_text key m k.0 h.0 k.1 h.1) k.2)
+
+without_text : (key : List ℕ) (m : Members) (d : Data) → IsWithout key m → get_member key m ≡ Some d → ⊥
+without_text key m d h k = let e : None ≡ Some d = sym h ∙ k in cc
+
+pub one_after : (key : List ℕ) (m : Members) (t u : Option ℕ) → MaySay SaysDuration key m t → MaySay SaysDuration key m u → t ≡ u
+one_after key m None None h k = refl
+one_after key m None (Some u) h k = absurd (without_text key m (string k.0) h k.1)
+one_after key m (Some t) None h k = absurd (without_text key m (string h.0) k h.1)
+one_after key m (Some t) (Some u) h k = ap (λ x. Some x) (one_duration key m t u h k)
+
+pub one_duration_or_zero : (key : List ℕ) (m : Members) (t u : ℕ) → SaysDurationOrZero key m t → SaysDurationOrZero key m u → t ≡ u
+one_duration_or_zero key m t u (inl h) (inl k) = h.1 ∙ sym k.1
+one_duration_or_zero key m t u (inl h) (inr k) = absurd (without_text key m (string k.0) h.0 k.1)
+one_duration_or_zero key m t u (inr h) (inl k) = absurd (without_text key m (string h.0) k.0 h.1)
+one_duration_or_zero key m t u (inr h) (inr k) = one_duration key m t u h k
+
+same_pos : (x y : ℕ) → pos x ≡ pos y → x ≡ y
+same_pos x y e = cc
+
+pub one_microstep : (key : List ℕ) (m : Members) (t u : ℕ) → SaysMicrostep key m t → SaysMicrostep key m u → t ≡ u
+one_microstep key m t u (inl h) (inl k) = h.1 ∙ sym k.1
+one_microstep key m t u (inl h) (inr k) = absurd (without_text key m (integer (pos u)) h.0 k.0)
+one_microstep key m t u (inr h) (inl k) = absurd (without_text key m (integer (pos t)) k.0 h.0)
+one_microstep key m t u (inr h) (inr k) = same_pos t u (one_number key m (pos t) (pos u) h.0 k.0)
+
+one_items : (ds es : List Data) → items_of ds ≡ items_of es → ds ≡ es
+one_items [] [] h = refl
+one_items [] (e ∷ es) h = cc
+one_items (d ∷ ds) [] h = cc
+one_items (d ∷ ds) (e ∷ es) h =
+    let head : d ≡ e = cc in
+    let tail : items_of ds ≡ items_of es = cc in
+    ap (λ x. x ∷ ds) head ∙ ap (λ rest. e ∷ rest) (one_items ds es tail)
+
+pub one_array : (key : List ℕ) (m : Members) (ds es : List Data) → SaysArray key m ds → SaysArray key m es → ds ≡ es
+one_array key m ds es (inl h) (inl k) = h.1 ∙ sym k.1
+one_array key m ds es (inl h) (inr k) = absurd (without_text key m (array (items_of es)) h.0 k)
+one_array key m ds es (inr h) (inl k) = absurd (without_text key m (array (items_of ds)) k.0 h)
+one_array key m ds es (inr h) (inr k) =
+    let e : Some (array (items_of ds)) ≡ Some (array (items_of es)) = sym h ∙ k in
+    let f : items_of ds ≡ items_of es = cc in
+    one_items ds es f
+
+one_strings : (ts us : List (List ℕ)) → map string ts ≡ map string us → ts ≡ us
+one_strings [] [] h = refl
+one_strings [] (u ∷ us) h = cc
+one_strings (t ∷ ts) [] h = cc
+one_strings (t ∷ ts) (u ∷ us) h =
+    let head : string t ≡ string u = cc in
+    let first : t ≡ u = cc in
+    let tail : map string ts ≡ map string us = cc in
+    ap (λ x. x ∷ ts) first ∙ ap (λ rest. u ∷ rest) (one_strings ts us tail)
+
+one_table_list : (ts us : List Members) → map table ts ≡ map table us → ts ≡ us
+one_table_list [] [] h = refl
+one_table_list [] (u ∷ us) h = cc
+one_table_list (t ∷ ts) [] h = cc
+one_table_list (t ∷ ts) (u ∷ us) h =
+    let head : table t ≡ table u = cc in
+    let first : t ≡ u = cc in
+    let tail : map table ts ≡ map table us = cc in
+    ap (λ x. x ∷ ts) first ∙ ap (λ rest. u ∷ rest) (one_table_list ts us tail)
+
+pub one_texts : (key : List ℕ) (m : Members) (ts us : List (List ℕ)) → SaysTexts key m ts → SaysTexts key m us → ts ≡ us
+one_texts key m ts us h k = one_strings ts us (one_array key m (map string ts) (map string us) h k)
+
+pub one_tables : (key : List ℕ) (m : Members) (ts us : List Members) → SaysTables key m ts → SaysTables key m us → ts ≡ us
+one_tables key m ts us h k = one_table_list ts us (one_array key m (map table ts) (map table us) h k)
+
+one_zip : {X : Type 0} (R : Members → X → Type 0) → ((m : Members) (x y : X) → R m x → R m y → x ≡ y) → (ts : List Members) (xs ys : List X)
+    → AllZip R ts xs → AllZip R ts ys → xs ≡ ys
+one_zip R one [] [] [] h k = refl
+one_zip R one [] [] (y ∷ ys) h k = absurd k
+one_zip R one [] (x ∷ xs) ys h k = absurd h
+one_zip R one (t ∷ ts) [] ys h k = absurd h
+one_zip R one (t ∷ ts) (x ∷ xs) [] h k = absurd k
+one_zip R one (t ∷ ts) (x ∷ xs) (y ∷ ys) h k = ap (λ v. v ∷ xs) (one t x y h.0 k.0) ∙ ap (λ v. y ∷ v) (one_zip R one ts xs ys h.1 k.1)
+
+one_zip_of : {X : Type 0} (R : Members → X → Type 0) → ((m : Members) (x y : X) → R m x → R m y → x ≡ y) → (key : List ℕ) (m : Members)
+    (ts us : List Members) (xs ys : List X) → SaysTables key m ts → SaysTables key m us → AllZip R ts xs → AllZip R us ys → xs ≡ ys
+one_zip_of R one key m ts us xs ys h k a b =
+    let same : us ≡ ts = one_tables key m us ts k h in
+    one_zip R one ts xs ys a (subst (λ t. AllZip R t ys) same b)
+
+pub one_each : {X : Type 0} (R : Members → X → Type 0) → ((m : Members) (x y : X) → R m x → R m y → x ≡ y) → (key : List ℕ) (m : Members)
+    (xs ys : List X) → SaysEach R key m xs → SaysEach R key m ys → xs ≡ ys
+one_each R one key m xs ys h k = one_zip_of R one key m h.tables k.tables xs ys h.there k.there h.each k.each
+
+abbrev timer_with : List ℕ → ℕ → ℕ → Timer
+timer_with n o p = record { name = n; offset = o; period = p }
+
+one_timer : (m : Members) (t u : Timer) → SaysTimer m t → SaysTimer m u → t ≡ u
+one_timer m t u h k =
+    ap (λ x. timer_with x t.offset t.period) (one_text (codes "name") m t.name u.name h.name_is.0 k.name_is.0)
+    ∙ ap (λ x. timer_with u.name x t.period) (one_duration_or_zero (codes "offset") m t.offset u.offset h.offset_is k.offset_is)
+    ∙ ap (λ x. timer_with u.name u.offset x) (one_duration_or_zero (codes "period") m t.period u.period h.period_is k.period_is)
+
+abbrev state_with : List ℕ → ℤ → State
+state_with n v = record { name = n; value = v }
+
+one_state : (m : Members) (s t : State) → SaysState m s → SaysState m t → s ≡ t
+one_state m s t h k =
+    ap (λ x. state_with x s.value) (one_text (codes "name") m s.name t.name h.name_is.0 k.name_is.0)
+    ∙ ap (λ x. state_with t.name x) (one_number (codes "value") m s.value t.value h.value_is k.value_is)
+
+abbrev reaction_with : List (List ℕ) → List (List ℕ) → ReactionDraft
+reaction_with t b = record { triggers = t; body = b }
+
+one_reaction : (m : Members) (r q : ReactionDraft) → SaysReaction m r → SaysReaction m q → r ≡ q
+one_reaction m r q h k =
+    ap (λ x. reaction_with x r.body) (one_texts (codes "triggers") m r.triggers q.triggers h.triggers_are.0 k.triggers_are.0)
+    ∙ ap (λ x. reaction_with q.triggers x) (one_texts (codes "body") m r.body q.body h.body_is k.body_is)
+
+abbrev program_with : List State → List ReactionDraft → ProgramDraft
+program_with s r = record { states = s; reactions = r }
+
+one_program : (m : Members) (p q : ProgramDraft) → SaysProgram m p → SaysProgram m q → p ≡ q
+one_program m p q h k =
+    ap (λ x. program_with x p.reactions) (one_each SaysState one_state (codes "state") m p.states q.states h.states_are k.states_are)
+    ∙ ap (λ x. program_with q.states x) (one_each SaysReaction one_reaction (codes "reaction") m p.reactions q.reactions h.reactions_are k.reactions_are)
+
+abbrev slots_with : Bool → List (List ℕ) → List (List ℕ) → List Timer → List (List ℕ) → List (List ℕ) → Slots
+slots_with b i o t a p = record { startup = b; inputs = i; outputs = o; timers = t; actions = a; physical = p }
+
+one_slots : (rs qs : List ReactionDraft) (m : Members) (s t : Slots) → rs ≡ qs → SaysSlots rs m s → SaysSlots qs m t → s ≡ t
+one_slots rs qs m s t e h k =
+    ap (λ x. slots_with x s.inputs s.outputs s.timers s.actions s.physical) (h.startup_is ∙ ap wants_startup e ∙ sym k.startup_is)
+    ∙ ap (λ x. slots_with t.startup x s.outputs s.timers s.actions s.physical) (one_texts (codes "inputs") m s.inputs t.inputs h.inputs_are.0 k.inputs_are.0)
+    ∙ ap (λ x. slots_with t.startup t.inputs x s.timers s.actions s.physical) (one_texts (codes "outputs") m s.outputs t.outputs h.outputs_are.0 k.outputs_are.0)
+    ∙ ap (λ x. slots_with t.startup t.inputs t.outputs x s.actions s.physical) (one_each SaysTimer one_timer (codes "timers") m s.timers t.timers h.timers_are k.timers_are)
+    ∙ ap (λ x. slots_with t.startup t.inputs t.outputs t.timers x s.physical) (one_texts (codes "actions") m s.actions t.actions h.actions_are.0 k.actions_are.0)
+    ∙ ap (λ x. slots_with t.startup t.inputs t.outputs t.timers t.actions x) (one_texts (codes "physical") m s.physical t.physical h.physical_are.0 k.physical_are.0)
+
+abbrev federate_with : List ℕ → Slots → Federate
+federate_with n s = record { name = n; slots = s }
+
+one_federate : (m : Members) (f g : Federate) → SaysFederate m f → SaysFederate m g → f ≡ g
+one_federate m f g h k =
+    let rs = one_each SaysReaction one_reaction (codes "reaction") m h.reactions k.reactions h.reactions_are k.reactions_are in
+    ap (λ x. federate_with x f.slots) (one_text (codes "name") m f.name g.name h.name_is.0.0 k.name_is.0.0)
+    ∙ ap (λ x. federate_with g.name x) (one_slots h.reactions k.reactions m f.slots g.slots rs h.slots_are k.slots_are)
+
+abbrev port_with : List ℕ → List ℕ → PortName
+port_with f p = record { federate = f; port = p }
+
+pub one_port : (key : List ℕ) (m : Members) (p q : PortName) → SaysPort key m p → SaysPort key m q → p ≡ q
+one_port key m p q h k =
+    let e = one_text key m (p.federate ++ (codes "." ++ p.port)) (q.federate ++ (codes "." ++ q.port)) h.text_is k.text_is in
+    let s = one_split p.federate p.port q.federate q.port h.federate_named k.federate_named e in
+    ap (λ x. port_with x p.port) s.0 ∙ ap (λ x. port_with q.federate x) s.1
+
+abbrev connection_with : PortName → PortName → Option ℕ → ConnectionDraft
+connection_with f t a = record { from = f; to = t; after = a }
+
+one_connection : (m : Members) (c e : ConnectionDraft) → SaysConnection m c → SaysConnection m e → c ≡ e
+one_connection m c e h k =
+    ap (λ x. connection_with x c.to c.after) (one_port (codes "from") m c.from e.from h.from_is k.from_is)
+    ∙ ap (λ x. connection_with e.from x c.after) (one_port (codes "to") m c.to e.to h.to_is k.to_is)
+    ∙ ap (λ x. connection_with e.from e.to x) (one_after (codes "after") m c.after e.after h.after_is k.after_is)
+
+abbrev draft_with : ℕ → List Federate → List ConnectionDraft → Draft
+draft_with s f c = record { stop = s; federates = f; connections = c }
+
+one_federates : (m : Members) (fs gs : List Federate) (ps qs : List ProgramDraft) → SaysFederates m fs ps → SaysFederates m gs qs → fs ≡ gs
+one_federates m fs gs ps qs h k =
+    one_zip_of SaysFederate one_federate (codes "federate") m h.tables k.tables fs gs h.there k.there h.each_federate k.each_federate
+
+-- a document says one list of program drafts
+pub one_program_list : (m : Members) (fs gs : List Federate) (ps qs : List ProgramDraft) → SaysFederates m fs ps → SaysFederates m gs qs → ps ≡ qs
+one_program_list m fs gs ps qs h k =
+    one_zip_of SaysProgram one_program (codes "federate") m h.tables k.tables ps qs h.there k.there h.each_program k.each_program
+
+-- and one draft
+pub one_draft : (m : Members) (d e : Draft) (ps qs : List ProgramDraft) → SaysFederation m d ps → SaysFederation m e qs → d ≡ e
+one_draft m d e ps qs h k =
+    ap (λ x. draft_with x d.federates d.connections) (one_duration (codes "stop") m d.stop e.stop h.stop_is k.stop_is)
+    ∙ ap (λ x. draft_with e.stop x d.connections)
+    (one_federates m d.federates e.federates ps qs h.federates_are k.federates_are)
+    ∙ ap (λ x. draft_with e.stop e.federates x)
+    (one_each SaysConnection one_connection (codes "connection") m d.connections e.connections h.connections_are k.connections_are)

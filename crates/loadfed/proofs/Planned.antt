@@ -1,0 +1,73 @@
+-- How faults of the plan and of programs are told.
+use Rattle.std.proofs.Common.{◌≡◌, ◌⊎◌, inl, inr, ℕ, ◌≤◌, length, Some, subst, List, refl}
+use Rattle.std.specs.Prelude.{slice_get}
+use Rattle.toml.specs.Data.{Members}
+use Rattle.plan.specs.Legal.{IsLegal}
+use Rattle.plan.specs.declared.draft.Federate.{Federate}
+use Rattle.plan.specs.declared.draft.Draft.{Draft}
+use Rattle.plan.specs.declared.fault.PlanFault.{PlanFault}
+use Rattle.plan.specs.declared.fault.PlanFault.TheVariants as plan_fault
+use Rattle.plan.specs.Faults.{StandsIn}
+use Rattle.plan.specs.Legal.{IsLegal}
+use Rattle.reactor.specs.declared.fault.ProgramFault.{ProgramFault}
+use Rattle.reactor.specs.declared.fault.ProgramFault.TheVariants as program_fault
+use Rattle.reactor.specs.Behaviour.{Behaviour}
+use Rattle.reactor.specs.Spelled.{SpellsProgram, IsFaultOf}
+use Rattle.loadfed.specs.declared.fault.LoadFault.{LoadFault}
+use Rattle.loadfed.specs.declared.fault.LoadFault.TheVariants.{NotToml, Plan, Program, Memory}
+use Rattle.loadfed.specs.Numbers.{fault_of_plan}
+use Rattle.loadfed.specs.Shape.{ProgramDraft}
+use Rattle.loadfed.specs.Loaded.{IsDocument, most_bytes, IsPlanFault, IsProgramFault, IsFaultAmong, HasLoadFault}
+use Rattle.loadfed.specs.ShapeFaults.{HasShapeFault}
+
+stands : (d : Draft) (reason : PlanFault) → StandsIn d reason → ¬ IsLegal d → IsPlanFault d (Plan reason)
+stands d reason there none = record { reason = reason; told = refl; stands = there; illegal = none }
+
+-- a fault of the plan, which isn't want of memory, stands against a plan
+pub plan_told : (d : Draft) (reason : PlanFault) → StandsIn d reason → (IsLegal d → reason ≡ plan_fault.Memory)
+    → (fault_of_plan reason ≡ Memory) ⊎ IsPlanFault d (fault_of_plan reason)
+plan_told d plan_fault.NoFederate there only = inr (stands d plan_fault.NoFederate there (λ h. let e = only h in cc))
+plan_told d (plan_fault.UnknownName p) there only = inr (stands d (plan_fault.UnknownName p) there (λ h. let e = only h in cc))
+plan_told d (plan_fault.TwoSources p) there only = inr (stands d (plan_fault.TwoSources p) there (λ h. let e = only h in cc))
+plan_told d plan_fault.OverLimit there only = inr (stands d plan_fault.OverLimit there (λ h. let e = only h in cc))
+plan_told d plan_fault.BadTimer there only = inr (stands d plan_fault.BadTimer there (λ h. let e = only h in cc))
+plan_told d plan_fault.Memory there only = inl refl
+plan_told d (plan_fault.RepeatedName name) there only = inr (stands d (plan_fault.RepeatedName name) there (λ h. let e = only h in cc))
+plan_told d (plan_fault.ZeroDelayCycle names) there only = inr (stands d (plan_fault.ZeroDelayCycle names) there (λ h. let e = only h in cc))
+
+fails : (f : Federate) (p : ProgramDraft) (reason : ProgramFault) (fault : LoadFault) → (reason ≡ program_fault.Memory → ⊥) → fault ≡ Program f.name reason
+    → IsFaultOf f.slots p.states p.reactions reason
+    → ((b : Behaviour) → SpellsProgram f.slots p.states p.reactions b → reason ≡ program_fault.Memory) → IsProgramFault f p fault
+fails f p reason fault other told there only = record { reason = reason; told = told; stands = there; unspelled = λ b says. other (only b says) }
+
+-- a fault of a program, which isn't want of memory
+pub program_told : (f : Federate) (p : ProgramDraft) (reason : ProgramFault) (fault : LoadFault) → IsFaultOf f.slots p.states p.reactions reason
+    → ((b : Behaviour) → SpellsProgram f.slots p.states p.reactions b → reason ≡ program_fault.Memory)
+    → (fault ≡ Memory) ⊎ (fault ≡ Program f.name reason) → (reason ≡ program_fault.Memory → fault ≡ Memory)
+    → (fault ≡ Memory) ⊎ IsProgramFault f p fault
+program_told f p reason fault there only (inl memory) none = inl memory
+program_told f p program_fault.Memory fault there only (inr told) none = inl (none refl)
+program_told f p (program_fault.BadLine r l) fault there only (inr told) none = inr (fails f p (program_fault.BadLine r l) fault (λ e. cc) told there only)
+program_told f p (program_fault.UnknownOperand r l) fault there only (inr told) none = inr (fails f p (program_fault.UnknownOperand r l) fault (λ e. cc) told there only)
+program_told f p program_fault.RepeatedState fault there only (inr told) none = inr (fails f p program_fault.RepeatedState fault (λ e. cc) told there only)
+
+pub among_told : (fs : List Federate) (ps : List ProgramDraft) (i : ℕ) (f : Federate) (p : ProgramDraft) (fault : LoadFault) → slice_get fs i ≡ Some f → slice_get ps i ≡ Some p
+    → (fault ≡ Memory) ⊎ IsProgramFault f p fault → (fault ≡ Memory) ⊎ IsFaultAmong fs ps fault
+among_told fs ps i f p fault here there (inl memory) = inl memory
+among_told fs ps i f p fault here there (inr h) = inr (record { place = i; federate = f; program = p; federate_is = here; program_is = there; refused = h })
+
+pub among_legal : (d e : Draft) (ps : List ProgramDraft) (fault : LoadFault) → e ≡ d → IsLegal d → (fault ≡ Memory) ⊎ IsFaultAmong e.federates ps fault
+    → (fault ≡ Memory) ⊎ (IsPlanFault d fault ⊎ (IsLegal d × IsFaultAmong d.federates ps fault))
+among_legal d e ps fault same legal (inl memory) = inl memory
+among_legal d e ps fault same legal (inr h) = inr (inr (legal, subst (λ x. IsFaultAmong x.federates ps fault) same h))
+
+pub table_told : (bytes : List ℕ) (fault : LoadFault) → length bytes ≤ most_bytes → (fault ≡ Memory) ⊎ ((fault ≡ NotToml) × ((file : Members) → ¬ (IsDocument bytes file)))
+    → (fault ≡ Memory) ⊎ HasLoadFault bytes fault
+table_told bytes fault few (inl memory) = inl memory
+table_told bytes fault few (inr h) = inr (inr (inl (record { few = few; told = h.0; none = h.1 })))
+
+pub shape_told : (bytes : List ℕ) (m file : Members) (fault : LoadFault) → m ≡ file → length bytes ≤ most_bytes → IsDocument bytes file → (fault ≡ Memory) ⊎ HasShapeFault m fault
+    → (fault ≡ Memory) ⊎ HasLoadFault bytes fault
+shape_told bytes m file fault same few document (inl memory) = inl memory
+shape_told bytes m file fault same few document (inr h) =
+    inr (inr (inr (inl (record { few = few; file = file; document = document; wrong = subst (λ x. HasShapeFault x fault) same h }))))

@@ -1,0 +1,94 @@
+-- What an input file says, and what stands against it, stage by stage.
+use Rattle.std.specs.Prelude.{◌≡◌, ℕ, ◌≤◌, ◌⊎◌, List, [], ◌∷◌, length, codes, All, AllPairs, IsSome}
+use Rattle.toml.specs.Data.{Members}
+use Rattle.plan.specs.declared.draft.Draft.{Draft}
+use Rattle.plan.specs.declared.input.Input.{Input}
+use Rattle.plan.specs.External.{found_action, AreApart}
+use Rattle.loadfed.specs.declared.fault.LoadFault.{LoadFault}
+use Rattle.loadfed.specs.declared.fault.LoadFault.TheVariants.{UnknownAction, RepeatedInput, OverLimit}
+use Rattle.loadfed.specs.Tables.{HasOnly, SaysText, SaysNumber, SaysDuration, SaysMicrostep, SaysEach}
+use Rattle.loadfed.specs.ShapeFaults.{IsWrongAt, HasUnknownKey, HasTablesFault}
+use Rattle.loadfed.specs.Loaded.{IsDocument, IsTooLong, IsNoDocument, HasFileFault}
+
+-- the keys of the file, and of one of its inputs
+abbrev pub input_file_keys : List (List ℕ)
+input_file_keys = codes "input" ∷ []
+
+abbrev pub input_keys : List (List ℕ)
+input_keys = codes "federate" ∷ codes "action" ∷ codes "time" ∷ codes "micro" ∷ codes "value" ∷ []
+
+-- a recorded input; federate and action are any texts
+pub record SaysInput (members : Members) (i : Input) : Type 0 where
+  pub keys : HasOnly input_keys members
+  pub federate_is : SaysText (codes "federate") members i.federate
+  pub action_is : SaysText (codes "action") members i.action
+  pub time_is : SaysDuration (codes "time") members i.tag.time
+  pub microstep_is : SaysMicrostep (codes "micro") members i.tag.microstep
+  pub value_is : SaysNumber (codes "value") members i.value
+
+-- recorded inputs, in their order
+pub record SaysInputs (members : Members) (inputs : List Input) : Type 0 where
+  pub keys : HasOnly input_file_keys members
+  pub inputs_are : SaysEach SaysInput (codes "input") members inputs
+
+-- what is wrong with its shape, and at which key
+abbrev pub HasInputFault : Members → LoadFault → Type 0
+HasInputFault members fault =
+    HasUnknownKey input_keys members fault
+    ⊎ (IsWrongAt (codes "federate") (SaysText (codes "federate") members) fault
+    ⊎ (IsWrongAt (codes "action") (SaysText (codes "action") members) fault
+    ⊎ (IsWrongAt (codes "time") (SaysDuration (codes "time") members) fault
+    ⊎ (IsWrongAt (codes "micro") (SaysMicrostep (codes "micro") members) fault
+    ⊎ IsWrongAt (codes "value") (SaysNumber (codes "value") members) fault))))
+
+-- the same, of the file
+abbrev pub HasInputsFault : Members → LoadFault → Type 0
+HasInputsFault members fault = HasUnknownKey input_file_keys members fault ⊎ HasTablesFault HasInputFault (codes "input") members fault
+
+-- the most bytes of an input file
+abbrev pub most_input_bytes : ℕ
+most_input_bytes = 8388608
+
+-- a file that isn't too long records these inputs
+pub record SaysInputFile (bytes : List ℕ) (inputs : List Input) : Type 0 where
+  pub few : length bytes ≤ most_input_bytes
+  pub file : Members
+  pub document : IsDocument bytes file
+  pub says : SaysInputs file inputs
+
+-- each is for a physical action that is there
+abbrev pub AreKnown : Draft → List Input → Type 0
+AreKnown d inputs = All (λ i. IsSome (found_action d.federates i)) inputs
+
+-- an action that isn't there, one twice at one tag, or too many of them
+pub record IsUnknownAction (d : Draft) (inputs : List Input) (fault : LoadFault) : Type 0 where
+  pub told : fault ≡ UnknownAction
+  pub unknown : ¬ (AreKnown d inputs)
+
+pub record IsRepeatedInput (d : Draft) (inputs : List Input) (fault : LoadFault) : Type 0 where
+  pub told : fault ≡ RepeatedInput
+  pub known : AreKnown d inputs
+  pub repeated : ¬ (AllPairs AreApart inputs)
+
+pub record AreTooManyInputs (d : Draft) (inputs : List Input) (fault : LoadFault) : Type 0 where
+  pub told : fault ≡ OverLimit
+  pub known : AreKnown d inputs
+  pub apart : AllPairs AreApart inputs
+  pub many : ¬ (length inputs ≤ 65536)
+
+abbrev pub IsFaultOfInputs : Draft → List Input → LoadFault → Type 0
+IsFaultOfInputs d inputs fault =
+    IsUnknownAction d inputs fault ⊎ (IsRepeatedInput d inputs fault ⊎ AreTooManyInputs d inputs fault)
+
+-- the recorded inputs aren't inputs of the federation
+pub record HasRecordedFault (d : Draft) (bytes : List ℕ) (fault : LoadFault) : Type 0 where
+  pub inputs : List Input
+  pub declared : SaysInputFile bytes inputs
+  pub refused : IsFaultOfInputs d inputs fault
+
+-- the stages, in their order; each says that those before it found no fault
+abbrev pub HasInputFileFault : Draft → List ℕ → LoadFault → Type 0
+HasInputFileFault d bytes fault =
+    IsTooLong most_input_bytes bytes fault
+    ⊎ (IsNoDocument most_input_bytes bytes fault
+    ⊎ (HasFileFault HasInputsFault most_input_bytes bytes fault ⊎ HasRecordedFault d bytes fault))

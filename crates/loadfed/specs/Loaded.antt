@@ -1,0 +1,107 @@
+-- What a federation file's bytes are, and what stands against them, stage by stage.
+use Rattle.std.specs.Prelude.{◌≡◌, ℕ, ◌<◌, ◌≤◌, ◌⊎◌, List, [], ◌∷◌, length, slice_get, Some, IsUtf8}
+use Rattle.toml.specs.Data.{Members}
+use Rattle.toml.specs.Parse.{parse_document}
+use Rattle.plan.specs.declared.draft.Federate.{Federate}
+use Rattle.plan.specs.declared.draft.Draft.{Draft}
+use Rattle.plan.specs.declared.fault.PlanFault.{PlanFault}
+use Rattle.plan.specs.Legal.{IsLegal}
+use Rattle.plan.specs.Faults.{StandsIn}
+use Rattle.reactor.specs.declared.fault.ProgramFault.{ProgramFault}
+use Rattle.reactor.specs.Behaviour.{Behaviour}
+use Rattle.reactor.specs.Spelled.{SpellsProgram, IsFaultOf}
+use Rattle.loadfed.specs.declared.fault.LoadFault.{LoadFault}
+use Rattle.loadfed.specs.declared.fault.LoadFault.TheVariants.{NotToml, Plan, Program, OverLimit}
+use Rattle.loadfed.specs.Shape.{ProgramDraft, SaysFederation}
+use Rattle.loadfed.specs.ShapeFaults.{HasShapeFault}
+
+-- the bytes are UTF-8, and as a TOML document this table
+pub record IsDocument (bytes : List ℕ) (file : Members) : Type 0 where
+  pub utf8 : IsUtf8 bytes
+  pub parsed : parse_document bytes ≡ Some file
+
+-- the most bytes of a federation file
+abbrev pub most_bytes : ℕ
+most_bytes = 1048576
+
+-- each program is what its federate's states and reactions spell
+abbrev pub SpellPrograms : List Federate → List ProgramDraft → List Behaviour → Type 0
+SpellPrograms [] [] [] = Unit {0}
+SpellPrograms (f ∷ federates) (p ∷ drafts) (b ∷ programs) =
+    SpellsProgram f.slots p.states p.reactions b × SpellPrograms federates drafts programs
+SpellPrograms _ _ _ = ⊥
+
+-- a file that isn't too long declares this draft, and these programs
+pub record SaysDraft (bytes : List ℕ) (d : Draft) (drafts : List ProgramDraft) : Type 0 where
+  pub few : length bytes ≤ most_bytes
+  pub file : Members
+  pub document : IsDocument bytes file
+  pub says : SaysFederation file d drafts
+
+-- a file that is a federation with these programs
+pub record IsFederationFile (bytes : List ℕ) (d : Draft) (programs : List Behaviour) : Type 0 where
+  pub drafts : List ProgramDraft
+  pub declared : SaysDraft bytes d drafts
+  pub legal : IsLegal d
+  pub spelled : SpellPrograms d.federates drafts programs
+
+-- more bytes than there may be
+pub record IsTooLong (most : ℕ) (bytes : List ℕ) (fault : LoadFault) : Type 0 where
+  pub told : fault ≡ OverLimit
+  pub long : most < length bytes
+
+-- few enough, but no TOML document
+pub record IsNoDocument (most : ℕ) (bytes : List ℕ) (fault : LoadFault) : Type 0 where
+  pub few : length bytes ≤ most
+  pub told : fault ≡ NotToml
+  pub none : (file : Members) → IsDocument bytes file → ⊥
+
+-- a document with a fault in its tables
+pub record HasFileFault (Has : Members → LoadFault → Type 0) (most : ℕ) (bytes : List ℕ) (fault : LoadFault) : Type 0 where
+  pub few : length bytes ≤ most
+  pub file : Members
+  pub document : IsDocument bytes file
+  pub wrong : Has file fault
+
+-- the draft isn't legal, for this reason
+pub record IsPlanFault (d : Draft) (fault : LoadFault) : Type 0 where
+  pub reason : PlanFault
+  pub told : fault ≡ Plan reason
+  pub stands : StandsIn d reason
+  pub illegal : ¬ IsLegal d
+
+pub record HasPlanFault (bytes : List ℕ) (fault : LoadFault) : Type 0 where
+  pub draft : Draft
+  pub drafts : List ProgramDraft
+  pub declared : SaysDraft bytes draft drafts
+  pub refused : IsPlanFault draft fault
+
+-- a federate's states and reactions spell no program, for this reason
+pub record IsProgramFault (f : Federate) (p : ProgramDraft) (fault : LoadFault) : Type 0 where
+  pub reason : ProgramFault
+  pub told : fault ≡ Program f.name reason
+  pub stands : IsFaultOf f.slots p.states p.reactions reason
+  pub unspelled : (b : Behaviour) → ¬ (SpellsProgram f.slots p.states p.reactions b)
+
+-- so it is with one of these federates
+pub record IsFaultAmong (federates : List Federate) (drafts : List ProgramDraft) (fault : LoadFault) : Type 0 where
+  pub place : ℕ
+  pub federate : Federate
+  pub program : ProgramDraft
+  pub federate_is : slice_get federates place ≡ Some federate
+  pub program_is : slice_get drafts place ≡ Some program
+  pub refused : IsProgramFault federate program fault
+
+pub record HasProgramFault (bytes : List ℕ) (fault : LoadFault) : Type 0 where
+  pub draft : Draft
+  pub drafts : List ProgramDraft
+  pub declared : SaysDraft bytes draft drafts
+  pub legal : IsLegal draft
+  pub among : IsFaultAmong draft.federates drafts fault
+
+-- the stages, in their order; each says that those before it found no fault
+abbrev pub HasLoadFault : List ℕ → LoadFault → Type 0
+HasLoadFault bytes fault =
+    IsTooLong most_bytes bytes fault
+    ⊎ (IsNoDocument most_bytes bytes fault
+    ⊎ (HasFileFault HasShapeFault most_bytes bytes fault ⊎ (HasPlanFault bytes fault ⊎ HasProgramFault bytes fault)))

@@ -1,0 +1,7 @@
+-- The members of a table that is being read.
+use Rattle.toml.specs.Data.{Members}
+use Rattle.toml.specs.View.{table_view}
+use Rattle.loadfed.specs.declared.section.Section.{Section}
+
+abbrev pub members_of : Section → Members
+members_of s = table_view s.table.now

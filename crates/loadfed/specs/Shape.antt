@@ -1,0 +1,127 @@
+-- What a federation file says, table by table.
+use Rattle.std.specs.Prelude.{◌≡◌, ◌≢◌, ℕ, ◌≤◌, Bool, List, [], ◌∷◌, ◌++◌, length, codes, IsTrue}
+use Rattle.std.specs.List.{AllZip, list_any}
+use Rattle.std.specs.Str.{bytes_eq}
+use Rattle.plan.specs.declared.slots.Slots.{Slots}
+use Rattle.plan.specs.declared.slots.Timer.{Timer}
+use Rattle.plan.specs.declared.draft.Federate.{Federate}
+use Rattle.plan.specs.declared.draft.PortName.{PortName}
+use Rattle.plan.specs.declared.draft.ConnectionDraft.{ConnectionDraft}
+use Rattle.plan.specs.declared.draft.Draft.{Draft}
+use Rattle.reactor.specs.declared.program.State.{State}
+use Rattle.reactor.specs.declared.reaction_draft.ReactionDraft.{ReactionDraft}
+use Rattle.reactor.specs.Tokens.{is_name}
+use Rattle.toml.specs.Data.{Members}
+use Rattle.loadfed.specs.Tables.{HasOnly, SaysText, SaysNumber, SaysName, SaysDuration, MaySay, SaysDurationOrZero, SaysTexts, SaysNames, SaysTables, SaysEach}
+
+-- the keys of each kind of table
+abbrev pub file_keys : List (List ℕ)
+file_keys = codes "stop" ∷ codes "federate" ∷ codes "connection" ∷ []
+
+abbrev pub federate_keys : List (List ℕ)
+federate_keys =
+    codes "name" ∷ codes "inputs" ∷ codes "outputs" ∷ codes "actions" ∷ codes "physical" ∷ codes "timers" ∷ codes "state"
+    ∷ codes "reaction" ∷ []
+
+abbrev pub timer_keys : List (List ℕ)
+timer_keys = codes "name" ∷ codes "offset" ∷ codes "period" ∷ []
+
+abbrev pub state_keys : List (List ℕ)
+state_keys = codes "name" ∷ codes "value" ∷ []
+
+abbrev pub reaction_keys : List (List ℕ)
+reaction_keys = codes "triggers" ∷ codes "body" ∷ []
+
+abbrev pub connection_keys : List (List ℕ)
+connection_keys = codes "from" ∷ codes "to" ∷ codes "after" ∷ []
+
+-- a timer, whose times are 0 where they aren't there
+pub record SaysTimer (members : Members) (t : Timer) : Type 0 where
+  pub keys : HasOnly timer_keys members
+  pub name_is : SaysName (codes "name") members t.name
+  pub offset_is : SaysDurationOrZero (codes "offset") members t.offset
+  pub period_is : SaysDurationOrZero (codes "period") members t.period
+
+-- a state and its value at first
+pub record SaysState (members : Members) (s : State) : Type 0 where
+  pub keys : HasOnly state_keys members
+  pub name_is : SaysName (codes "name") members s.name
+  pub value_is : SaysNumber (codes "value") members s.value
+
+-- at least one text
+abbrev pub SaysTriggers : Members → List (List ℕ) → Type 0
+SaysTriggers members triggers = SaysTexts (codes "triggers") members triggers × (triggers ≢ [])
+
+-- a reaction of at most 256 lines
+pub record SaysReaction (members : Members) (r : ReactionDraft) : Type 0 where
+  pub keys : HasOnly reaction_keys members
+  pub triggers_are : SaysTriggers members r.triggers
+  pub body_is : SaysTexts (codes "body") members r.body
+  pub few_lines : length r.body ≤ 256
+
+-- the states and reactions that a federate's table declares
+pub record ProgramDraft : Type 0 where
+  pub states : List State
+  pub reactions : List ReactionDraft
+
+-- at most 64 states and 64 reactions
+pub record SaysProgram (members : Members) (p : ProgramDraft) : Type 0 where
+  pub states_are : SaysEach SaysState (codes "state") members p.states
+  pub reactions_are : SaysEach SaysReaction (codes "reaction") members p.reactions
+  pub few_states : length p.states ≤ 64
+  pub few_reactions : length p.reactions ≤ 64
+
+-- whether one of these reactions has the trigger `startup`
+abbrev pub has_startup : List (List ℕ) → Bool
+has_startup triggers = list_any (λ trigger. bytes_eq trigger (codes "startup")) triggers
+
+abbrev pub wants_startup : List ReactionDraft → Bool
+wants_startup reactions = list_any (λ r. has_startup r.triggers) reactions
+
+-- slots; the startup is set exactly where one of these reactions wants it
+pub record SaysSlots (reactions : List ReactionDraft) (members : Members) (s : Slots) : Type 0 where
+  pub startup_is : s.startup ≡ wants_startup reactions
+  pub inputs_are : SaysNames (codes "inputs") members s.inputs
+  pub outputs_are : SaysNames (codes "outputs") members s.outputs
+  pub timers_are : SaysEach SaysTimer (codes "timers") members s.timers
+  pub actions_are : SaysNames (codes "actions") members s.actions
+  pub physical_are : SaysNames (codes "physical") members s.physical
+
+-- a name that isn't the coordinator's
+abbrev pub SaysFederateName : Members → List ℕ → Type 0
+SaysFederateName members name = SaysName (codes "name") members name × (name ≢ codes "coordinator")
+
+-- a federate; its startup is what its table's reactions want
+pub record SaysFederate (members : Members) (f : Federate) : Type 0 where
+  pub keys : HasOnly federate_keys members
+  pub name_is : SaysFederateName members f.name
+  pub reactions : List ReactionDraft
+  pub reactions_are : SaysEach SaysReaction (codes "reaction") members reactions
+  pub slots_are : SaysSlots reactions members f.slots
+
+-- `FEDERATE.PORT`, two names parted by one dot
+pub record SaysPort (key : List ℕ) (members : Members) (p : PortName) : Type 0 where
+  pub text_is : SaysText key members (p.federate ++ (codes "." ++ p.port))
+  pub federate_named : IsTrue (is_name p.federate)
+  pub port_named : IsTrue (is_name p.port)
+
+-- a connection, with a delay only where `after` says one
+pub record SaysConnection (members : Members) (c : ConnectionDraft) : Type 0 where
+  pub keys : HasOnly connection_keys members
+  pub from_is : SaysPort (codes "from") members c.from
+  pub to_is : SaysPort (codes "to") members c.to
+  pub after_is : MaySay SaysDuration (codes "after") members c.after
+
+-- federates one by one, and what each one's program is to be
+pub record SaysFederates (members : Members) (federates : List Federate) (programs : List ProgramDraft) : Type 0 where
+  pub tables : List Members
+  pub there : SaysTables (codes "federate") members tables
+  pub each_federate : AllZip SaysFederate tables federates
+  pub each_program : AllZip SaysProgram tables programs
+
+-- a federation: its draft, and what each of its federates' programs is to be
+pub record SaysFederation (members : Members) (d : Draft) (programs : List ProgramDraft) : Type 0 where
+  pub keys : HasOnly file_keys members
+  pub stop_is : SaysDuration (codes "stop") members d.stop
+  pub federates_are : SaysFederates members d.federates programs
+  pub connections_are : SaysEach SaysConnection (codes "connection") members d.connections

@@ -1,0 +1,110 @@
+ghost use Rattle.std.specs.Prelude.{◌≡◌, ◌⊎◌, List, IfOk, IfErr, OnOk, vec_len, length};
+ghost use Rattle.loadfed.specs.Ready.{AreReady};
+ghost use Rattle.plan.specs.declared.draft.Draft.{Draft};
+ghost use Rattle.plan.specs.Legal.{IsLegal};
+ghost use Rattle.reactor.specs.Behaviour.{Behaviour};
+ghost use Rattle.reactor.specs.Programs.{AreProgramsOf};
+ghost use Rattle.reactor.specs.Spelled.{SpellsProgram, IsReadable};
+ghost use Rattle.loadfed.specs.Loaded.{SpellPrograms, IsFederationFile, IsPlanFault, IsProgramFault, IsFaultAmong, HasLoadFault};
+ghost use Rattle.loadfed.specs.Shape.{ProgramDraft};
+
+use crate::document::document;
+use crate::fault::LoadFault;
+use crate::federation_shape::{Shape, federation_shape};
+use crate::program_shape::ProgramShape;
+use crate::section::Section;
+use plan::{Draft, Federate, Plan};
+use reactor::{Program, Programs};
+use std::alloc::Global;
+
+/// The most bytes that a federation file has.
+pub const MOST_BYTES: usize = 1_048_576;
+
+/// The federation that a file's bytes spell. The first stage that has a fault answers: size, TOML, shape, plan, programs.
+pub fn load(alloc: Global, bytes: &[u8]) -> Result<(Plan, Programs), LoadFault>
+    ensures ok { IfOk result (λ loaded. IsFederationFile bytes.now loaded.0 loaded.1) }
+    ensures programs { IfOk result (λ loaded. AreProgramsOf loaded.0 loaded.1) }
+
+    // Of a file that is a federation want of memory alone is told.
+    ensures accepts { (d : Draft) (programs : List Behaviour) → IsFederationFile bytes.now d programs → IfErr result (λ fault. fault ≡ LoadFault.Memory) }
+    ensures refused { IfErr result (λ fault. (fault ≡ LoadFault.Memory) ⊎ HasLoadFault bytes.now fault) }
+{
+    staged(alloc, bytes)
+}
+
+fn staged(alloc: Global, bytes: &[u8]) -> Result<(Plan, Programs), LoadFault>
+    ensures ok { IfOk result (λ loaded. IsFederationFile bytes.now loaded.0 loaded.1) }
+    ensures programs { IfOk result (λ loaded. AreProgramsOf loaded.0 loaded.1) }
+    ensures refused { IfErr result (λ fault. (fault ≡ LoadFault.Memory) ⊎ HasLoadFault bytes.now fault) }
+{
+    if bytes.len() > MOST_BYTES {
+        return Err(LoadFault::OverLimit);
+    }
+    let table = document(alloc, bytes)?;
+    let shape = federation_shape(alloc, &Section::new(alloc, &table))?;
+    loaded(alloc, shape)
+}
+
+/// The plan of what a file declares, and its programs.
+fn loaded(alloc: Global, shape: Shape) -> Result<(Plan, Programs), LoadFault>
+    requires { AreReady shape.draft.federates shape.programs.items }
+    ensures plan { IfOk result (λ loaded. loaded.0 ≡ shape.draft) }
+    ensures legal { OnOk result (IsLegal shape.draft) }
+    ensures spelled { IfOk result (λ loaded. SpellPrograms shape.draft.federates shape.programs.items loaded.1) }
+    ensures programs { IfOk result (λ loaded. AreProgramsOf loaded.0 loaded.1) }
+    ensures refused { IfErr result (λ fault. (fault ≡ LoadFault.Memory) ⊎ (IsPlanFault shape.draft fault ⊎ (IsLegal shape.draft × IsFaultAmong shape.draft.federates shape.programs.items fault))) }
+{
+    let Shape { draft, programs } = shape;
+    let plan = planned(alloc, draft)?;
+    plan.known();
+    let programs = parsed(alloc, &plan, programs)?;
+    match Programs::new(&plan, programs) {
+        Some(programs) => Ok((plan, programs)),
+        None => unreachable!(),
+    }
+}
+
+fn planned(alloc: Global, draft: Draft) -> Result<Plan, LoadFault>
+    ensures ok { IfOk result (λ plan. plan ≡ draft) }
+    ensures legal { OnOk result (IsLegal draft) }
+    ensures refused { IfErr result (λ fault. (fault ≡ LoadFault.Memory) ⊎ IsPlanFault draft fault) }
+{
+    match Plan::check(alloc, draft) {
+        Ok(plan) => Ok(plan),
+        Err(fault) => Err(LoadFault::of_plan(fault)),
+    }
+}
+
+/// The program of each federate, in their order.
+fn parsed(alloc: Global, plan: &Plan, shapes: Vec<ProgramShape>) -> Result<Vec<Program>, LoadFault>
+    requires { AreReady plan.now.federates shapes.items }
+    ensures ok { IfOk result (λ programs. SpellPrograms plan.now.federates shapes.items programs.items) }
+    ensures refused { IfErr result (λ fault. (fault ≡ LoadFault.Memory) ⊎ IsFaultAmong plan.now.federates shapes.items fault) }
+{
+    plan.known();
+    let federates = plan.federates();
+    let mut programs = Vec::new(alloc);
+    let mut shapes = shapes.into_iter();
+    for federate in federates {
+        match shapes.next() {
+            Some(shape) => {
+                let program = program(alloc, federate, shape)?;
+                programs.push(program)?;
+            }
+            None => unreachable!(),
+        }
+    }
+    Ok(programs)
+}
+
+fn program(alloc: Global, federate: &Federate, shape: ProgramShape) -> Result<Program, LoadFault>
+    requires { IsReadable federate.now.slots shape.states shape.reactions }
+    ensures ok { IfOk result (SpellsProgram federate.now.slots shape.states shape.reactions) }
+    ensures refused { IfErr result (λ fault. (fault ≡ LoadFault.Memory) ⊎ IsProgramFault federate.now shape fault) }
+{
+    let (states, reactions) = shape.into_parts();
+    match Program::parse(alloc, &federate.slots, states, reactions.as_slice()) {
+        Ok(program) => Ok(program),
+        Err(fault) => Err(LoadFault::of_program(&federate.name, fault)),
+    }
+}

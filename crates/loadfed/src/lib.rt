@@ -1,0 +1,23 @@
+//! The two files of a federation: what it is, and the inputs recorded for it.
+//!
+//! Promise to the layer above: `load` and `load_inputs` take exactly the texts that `specs/` says, and tell where a fault stands.
+//! Begin with `federation`, then `section`, which reads one table of a file key by key.
+#![tactic(auto)]
+
+mod connection_shape;
+mod data;
+mod document;
+pub mod fault;
+pub mod federation;
+mod federation_shape;
+mod program_shape;
+pub mod recorded;
+mod section;
+mod slots_shape;
+
+pub use fault::LoadFault;
+pub use federation::{MOST_BYTES, load};
+pub use recorded::{MOST_INPUT_BYTES, load_inputs};
+
+#[cfg(test)]
+mod tests;

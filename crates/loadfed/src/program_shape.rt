@@ -1,0 +1,142 @@
+ghost use Rattle.std.specs.Prelude.{◌≡◌, ◌≤◌, ◌⊎◌, IfOk, IfErr, length, codes};
+ghost use Rattle.loadfed.specs.Sections.{members_of};
+ghost use Rattle.loadfed.specs.Tables.{SaysTexts, SaysEach};
+ghost use Rattle.loadfed.specs.Shape.{SaysState, SaysTriggers, SaysReaction, SaysProgram};
+ghost use Rattle.loadfed.specs.ShapeFaults.{IsWrongAt, HasTooMany, HasStateFault, HasReactionFault, HasStatesFault, HasReactionsFault};
+
+use crate::fault::LoadFault;
+use crate::section::Section;
+use plan::Names;
+use reactor::{ReactionDraft, State};
+use std::alloc::Global;
+use std::marker::Model;
+
+/// The most states, and the most reactions, that a federate has.
+const MOST: usize = 64;
+
+/// The most lines that a reaction has.
+const MOST_LINES: usize = 256;
+
+/// A federate's states and reactions as a file has them.
+#[derive(Drop)]
+pub struct ProgramShape {
+    states: Vec<State>,
+    reactions: Vec<ReactionDraft>,
+}
+
+impl Model for ProgramShape {
+    ghost use Rattle.loadfed.specs.Shape.{ProgramDraft};
+
+    ghost Value = { ProgramDraft };
+
+    ghost view = { λ p. record { states = p.states.items; reactions = p.reactions.items } };
+}
+
+impl ProgramShape {
+    /// The states and reactions in a federate's table.
+    pub fn read(alloc: Global, federate: &Section<'_>) -> Result<ProgramShape, LoadFault>
+        ensures ok { IfOk result (SaysProgram (members_of federate.now)) }
+        ensures refused { IfErr result (λ fault. (fault ≡ LoadFault.Memory) ⊎ (HasStatesFault (members_of federate.now) fault ⊎ HasReactionsFault (members_of federate.now) fault)) }
+    {
+        let states = states(alloc, federate)?;
+        let reactions = reactions(alloc, federate)?;
+        Ok(ProgramShape { states, reactions })
+    }
+
+    pub fn reactions(&self) -> &[ReactionDraft]
+        ensures { result.now ≡ self.now.reactions }
+    {
+        self.reactions.as_slice()
+    }
+
+    /// The states and the reactions.
+    pub fn into_parts(self) -> (Vec<State>, Vec<ReactionDraft>)
+        ensures states { result.0.items ≡ self.states }
+        ensures reactions { result.1.items ≡ self.reactions }
+    {
+        (self.states, self.reactions)
+    }
+}
+
+fn states(alloc: Global, federate: &Section<'_>) -> Result<Vec<State>, LoadFault>
+    ensures ok { IfOk result (λ states. SaysEach SaysState (codes "state") (members_of federate.now) states.items) }
+    ensures few { IfOk result (λ states. length states.items ≤ 64) }
+    ensures refused { IfErr result (λ fault. (fault ≡ LoadFault.Memory) ⊎ HasStatesFault (members_of federate.now) fault) }
+{
+    let values = federate.array("state")?;
+    if values.len() > MOST {
+        return Err(LoadFault::OverLimit);
+    }
+    let mut states = Vec::new(alloc);
+    for value in values {
+        let section = Section::entry(alloc, "state", value)?;
+        let state = state(&section)?;
+        states.push(state)?;
+    }
+    Ok(states)
+}
+
+fn state(section: &Section<'_>) -> Result<State, LoadFault>
+    ensures ok { IfOk result (SaysState (members_of section.now)) }
+    ensures refused { IfErr result (λ fault. (fault ≡ LoadFault.Memory) ⊎ HasStateFault (members_of section.now) fault) }
+{
+    section.has_only(&["name", "value"])?;
+    let name = section.name("name")?;
+    let value = section.needed_number("value")?;
+    Ok(State { name, value })
+}
+
+fn reactions(alloc: Global, federate: &Section<'_>) -> Result<Vec<ReactionDraft>, LoadFault>
+    ensures ok { IfOk result (λ reactions. SaysEach SaysReaction (codes "reaction") (members_of federate.now) reactions.items) }
+    ensures few { IfOk result (λ reactions. length reactions.items ≤ 64) }
+    ensures refused { IfErr result (λ fault. (fault ≡ LoadFault.Memory) ⊎ HasReactionsFault (members_of federate.now) fault) }
+{
+    let values = federate.array("reaction")?;
+    if values.len() > MOST {
+        return Err(LoadFault::OverLimit);
+    }
+    let mut reactions = Vec::new(alloc);
+    for value in values {
+        let section = Section::entry(alloc, "reaction", value)?;
+        let reaction = reaction(alloc, &section)?;
+        reactions.push(reaction)?;
+    }
+    Ok(reactions)
+}
+
+fn reaction(alloc: Global, section: &Section<'_>) -> Result<ReactionDraft, LoadFault>
+    ensures ok { IfOk result (SaysReaction (members_of section.now)) }
+    ensures refused { IfErr result (λ fault. (fault ≡ LoadFault.Memory) ⊎ HasReactionFault (members_of section.now) fault) }
+{
+    section.has_only(&["triggers", "body"])?;
+    let triggers = triggers(alloc, section)?;
+    let body = body(section)?;
+    Ok(ReactionDraft { triggers, body })
+}
+
+/// The triggers in a reaction's table, of which there is at least one.
+fn triggers(alloc: Global, section: &Section<'_>) -> Result<Names, LoadFault>
+    ensures ok { IfOk result (SaysTriggers (members_of section.now)) }
+    ensures refused { IfErr result (λ fault. (fault ≡ LoadFault.Memory) ⊎ IsWrongAt (codes "triggers") (SaysTriggers (members_of section.now)) fault) }
+{
+    let triggers = section.texts("triggers")?;
+    if triggers.as_slice().is_empty() {
+        Err(LoadFault::wrong_shape(alloc, "triggers"))
+    } else {
+        Ok(triggers)
+    }
+}
+
+/// The lines in a reaction's table.
+fn body(section: &Section<'_>) -> Result<Names, LoadFault>
+    ensures ok { IfOk result (SaysTexts (codes "body") (members_of section.now)) }
+    ensures few { IfOk result (λ body. length body ≤ 256) }
+    ensures refused { IfErr result (λ fault. (fault ≡ LoadFault.Memory) ⊎ (IsWrongAt (codes "body") (SaysTexts (codes "body") (members_of section.now)) fault ⊎ HasTooMany (codes "body") 256 (members_of section.now) fault)) }
+{
+    let body = section.texts("body")?;
+    if body.as_slice().len() > MOST_LINES {
+        Err(LoadFault::OverLimit)
+    } else {
+        Ok(body)
+    }
+}

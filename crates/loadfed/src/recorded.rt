@@ -1,0 +1,95 @@
+ghost use Rattle.std.specs.Prelude.{◌≡◌, ◌⊎◌, List, IfOk, IfErr, codes};
+ghost use Rattle.plan.specs.declared.input.Input.{Input};
+ghost use Rattle.plan.specs.External.{AreInputsOf};
+ghost use Rattle.loadfed.specs.Sections.{members_of};
+ghost use Rattle.loadfed.specs.Tables.{SaysEach};
+ghost use Rattle.loadfed.specs.ShapeFaults.{HasTablesFault};
+ghost use Rattle.loadfed.specs.InputShape.{SaysInput, SaysInputs, HasInputFault, HasInputsFault, SaysInputFile, IsFaultOfInputs, HasInputFileFault};
+
+use crate::document::document;
+use crate::fault::LoadFault;
+use crate::section::Section;
+use plan::{Input, Inputs, Plan};
+use std::alloc::Global;
+use tag::FiniteTag;
+
+/// The most bytes that an input file has.
+pub const MOST_INPUT_BYTES: usize = 8_388_608;
+
+/// The inputs of this plan that a file's bytes record. The first stage that has a fault answers: size, TOML, shape, then an
+/// unknown action, a repeated input, and too many of them.
+pub fn load_inputs(alloc: Global, bytes: &[u8], plan: &Plan) -> Result<Inputs, LoadFault>
+    ensures ok { IfOk result (SaysInputFile bytes.now) }
+    ensures known { IfOk result (AreInputsOf plan.now) }
+
+    // Of a file that records inputs of the plan want of memory alone is told.
+    ensures accepts { (inputs : List Input) → SaysInputFile bytes.now inputs → AreInputsOf plan.now inputs → IfErr result (λ fault. fault ≡ LoadFault.Memory) }
+    ensures refused { IfErr result (λ fault. (fault ≡ LoadFault.Memory) ⊎ HasInputFileFault plan.now bytes.now fault) }
+{
+    staged(alloc, bytes, plan)
+}
+
+fn staged(alloc: Global, bytes: &[u8], plan: &Plan) -> Result<Inputs, LoadFault>
+    ensures ok { IfOk result (SaysInputFile bytes.now) }
+    ensures known { IfOk result (AreInputsOf plan.now) }
+    ensures refused { IfErr result (λ fault. (fault ≡ LoadFault.Memory) ⊎ HasInputFileFault plan.now bytes.now fault) }
+{
+    if bytes.len() > MOST_INPUT_BYTES {
+        return Err(LoadFault::OverLimit);
+    }
+    let table = document(alloc, bytes)?;
+    let inputs = inputs_shape(alloc, &Section::new(alloc, &table))?;
+    checked(alloc, plan, inputs)
+}
+
+fn checked(alloc: Global, plan: &Plan, inputs: Vec<Input>) -> Result<Inputs, LoadFault>
+    ensures ok { IfOk result (λ checked. checked ≡ inputs.items) }
+    ensures known { IfOk result (AreInputsOf plan.now) }
+    ensures refused { IfErr result (λ fault. (fault ≡ LoadFault.Memory) ⊎ IsFaultOfInputs plan.now inputs.items fault) }
+{
+    match Inputs::check(alloc, plan, inputs) {
+        Ok(inputs) => Ok(inputs),
+        Err(fault) => Err(LoadFault::of_inputs(fault)),
+    }
+}
+
+/// The recorded inputs in a file's table.
+fn inputs_shape(alloc: Global, file: &Section<'_>) -> Result<Vec<Input>, LoadFault>
+    ensures ok { IfOk result (λ inputs. SaysInputs (members_of file.now) inputs.items) }
+    ensures refused { IfErr result (λ fault. (fault ≡ LoadFault.Memory) ⊎ HasInputsFault (members_of file.now) fault) }
+{
+    file.has_only(&["input"])?;
+    inputs(alloc, file)
+}
+
+fn inputs(alloc: Global, file: &Section<'_>) -> Result<Vec<Input>, LoadFault>
+    ensures ok { IfOk result (λ inputs. SaysEach SaysInput (codes "input") (members_of file.now) inputs.items) }
+    ensures refused { IfErr result (λ fault. (fault ≡ LoadFault.Memory) ⊎ HasTablesFault HasInputFault (codes "input") (members_of file.now) fault) }
+{
+    let values = file.array("input")?;
+    let mut inputs = Vec::new(alloc);
+    for value in values {
+        let section = Section::entry(alloc, "input", value)?;
+        let input = input(&section)?;
+        inputs.push(input)?;
+    }
+    Ok(inputs)
+}
+
+fn input(section: &Section<'_>) -> Result<Input, LoadFault>
+    ensures ok { IfOk result (SaysInput (members_of section.now)) }
+    ensures refused { IfErr result (λ fault. (fault ≡ LoadFault.Memory) ⊎ HasInputFault (members_of section.now) fault) }
+{
+    section.has_only(&["federate", "action", "time", "micro", "value"])?;
+    let federate = section.copied_text("federate")?;
+    let action = section.copied_text("action")?;
+    let time = section.needed_duration("time")?;
+    let microstep = section.microstep("micro")?;
+    let value = section.needed_number("value")?;
+    Ok(Input {
+        federate,
+        action,
+        tag: FiniteTag::new(time, microstep),
+        value,
+    })
+}

@@ -1,0 +1,83 @@
+ghost use Rattle.std.specs.Prelude.{◌≡◌, ◌⊎◌, IfOk, IfErr, codes};
+ghost use Rattle.loadfed.specs.Sections.{members_of};
+ghost use Rattle.loadfed.specs.Tables.{SaysEach};
+ghost use Rattle.loadfed.specs.Shape.{SaysTimer, SaysSlots, has_startup, wants_startup};
+ghost use Rattle.loadfed.specs.ShapeFaults.{HasTimerFault, HasTablesFault, HasSlotsFault};
+
+use crate::fault::LoadFault;
+use crate::section::Section;
+use plan::{Slots, Text, Timer, Timers};
+use reactor::ReactionDraft;
+use std::alloc::Global;
+
+/// The slots in a federate's table; its startup is set where one of its reactions, which are these, wants it.
+pub fn slots_shape(
+    alloc: Global,
+    federate: &Section<'_>,
+    reactions: &[ReactionDraft],
+) -> Result<Slots, LoadFault>
+    ensures ok { IfOk result (SaysSlots reactions.now (members_of federate.now)) }
+    ensures refused { IfErr result (λ fault. (fault ≡ LoadFault.Memory) ⊎ HasSlotsFault (members_of federate.now) fault) }
+{
+    let inputs = federate.names("inputs")?;
+    let outputs = federate.names("outputs")?;
+    let timers = timers(alloc, federate)?;
+    let actions = federate.names("actions")?;
+    let physical = federate.names("physical")?;
+    Ok(Slots {
+        startup: want_startup(reactions),
+        inputs,
+        outputs,
+        timers,
+        actions,
+        physical,
+    })
+}
+
+/// Whether one of these reactions is triggered by startup.
+fn want_startup(reactions: &[ReactionDraft]) -> bool
+    ensures { result ≡ wants_startup reactions.now }
+{
+    match reactions {
+        [first, rest @ ..] => has_startup(first.triggers.as_slice()) || want_startup(rest),
+        [] => false,
+    }
+}
+
+fn has_startup(triggers: &[Text]) -> bool
+    ensures { result ≡ has_startup triggers.now }
+{
+    match triggers {
+        [first, rest @ ..] => first.as_str() == "startup" || has_startup(rest),
+        [] => false,
+    }
+}
+
+fn timers(alloc: Global, federate: &Section<'_>) -> Result<Timers, LoadFault>
+    ensures ok { IfOk result (SaysEach SaysTimer (codes "timers") (members_of federate.now)) }
+    ensures refused { IfErr result (λ fault. (fault ≡ LoadFault.Memory) ⊎ HasTablesFault HasTimerFault (codes "timers") (members_of federate.now) fault) }
+{
+    let values = federate.array("timers")?;
+    let mut timers = Vec::new(alloc);
+    for value in values {
+        let section = Section::entry(alloc, "timers", value)?;
+        let timer = timer(&section)?;
+        timers.push(timer)?;
+    }
+    Ok(Timers::new(timers))
+}
+
+fn timer(section: &Section<'_>) -> Result<Timer, LoadFault>
+    ensures ok { IfOk result (SaysTimer (members_of section.now)) }
+    ensures refused { IfErr result (λ fault. (fault ≡ LoadFault.Memory) ⊎ HasTimerFault (members_of section.now) fault) }
+{
+    section.has_only(&["name", "offset", "period"])?;
+    let name = section.name("name")?;
+    let offset = section.nanoseconds("offset")?;
+    let period = section.nanoseconds("period")?;
+    Ok(Timer {
+        name,
+        offset,
+        period,
+    })
+}

@@ -1,0 +1,137 @@
+ghost use Rattle.std.specs.Prelude.{◌≡◌, ℕ, ◌<◌, ◌∷◌, map, length, slice_get, All, MatchOption, IfOk, OnOk, IfErr};
+ghost use Rattle.std.specs.List.{find};
+ghost use Rattle.plan.specs.Federation.{connections_of, federate_names};
+ghost use Rattle.plan.specs.Legal.{HasNoImmediateCycle};
+ghost use Rattle.plan.specs.Cycles.{HasNoCycleAt, IsCycleFrom, begins, joins, way_from};
+ghost use Rattle.plan.specs.Faults.{StandsIn};
+
+use crate::connection::Connection;
+use crate::draft::{Draft, Federate};
+use crate::fault::PlanFault;
+use crate::ranks::is_immediate;
+use crate::text::Names;
+use std::alloc::{AllocError, Global};
+
+/// Whether one of these connections begins at the federate.
+fn begins(connections: &[Connection], federate: usize) -> bool
+    ensures { result ≡ begins connections.now federate }
+{
+    connections.iter().any(|c| c.source() == federate)
+}
+
+/// Whether the connection joins the tree.
+fn joins(root: usize, tree: &[Connection], connection: Connection) -> bool
+    ensures { result ≡ joins root tree.now connection }
+{
+    is_immediate(connection)
+        && (connection.target() == root || begins(tree, connection.target()))
+        && !begins(tree, connection.source())
+}
+
+/// The first connection that joins the tree.
+fn next_branch(connections: &[Connection], root: usize, tree: &[Connection]) -> Option<Connection>
+    ensures { result ≡ find (joins root tree.now) connections.now }
+{
+    connections.iter().copied().find(|&c| joins(root, tree, c))
+}
+
+/// The way along a connection and then the tree, to its root.
+fn way_along(
+    alloc: Global,
+    first: Connection,
+    tree: &[Connection],
+) -> Result<Vec<Connection>, AllocError>
+    ensures { IfOk result (λ path. path.items ≡ first ∷ way_from first.target tree.now) }
+{
+    let mut path = Vec::new(alloc);
+    path.push(first)?;
+    let mut federate = first.target();
+    for &branch in tree {
+        if branch.source() == federate {
+            path.push(branch)?;
+            federate = branch.target();
+        }
+    }
+    Ok(path)
+}
+
+/// A cycle without any delay through a federate, where none is through a lower one. There are so many federates.
+///
+/// A tree grows backwards from the federate, its newest connection first, until one begins at the federate itself.
+fn cycle_from(
+    alloc: Global,
+    connections: &[Connection],
+    start: usize,
+    count: usize,
+) -> Result<Option<Vec<Connection>>, AllocError>
+    requires ends { All (λ c. (c.source < count) × (c.target < count)) connections.now }
+    requires within { start < count }
+    requires none_lower { (lower : ℕ) → lower < start → HasNoCycleAt connections.now lower }
+    ensures { IfOk result (λ r. MatchOption r (HasNoCycleAt connections.now start) (λ path. IsCycleFrom connections.now start path.items)) }
+{
+    let mut tree = Vec::new(alloc);
+    for _branches in 0..count {
+        let Some(branch) = next_branch(connections, start, tree.as_slice()) else {
+            return Ok(None);
+        };
+        if branch.source() == start {
+            let path = way_along(alloc, branch, tree.as_slice())?;
+            return Ok(Some(path));
+        }
+        tree.insert(0, branch)?;
+    }
+    Ok(None)
+}
+
+/// The cycle without any delay whose lowest federate is the lowest. There are so many federates.
+fn lowest_cycle(
+    alloc: Global,
+    connections: &[Connection],
+    count: usize,
+) -> Result<Option<Vec<Connection>>, AllocError>
+    requires ends { All (λ c. (c.source < count) × (c.target < count)) connections.now }
+    ensures { IfOk result (λ r. MatchOption r (HasNoImmediateCycle connections.now) (λ path. (start : ℕ) × IsCycleFrom connections.now start path.items)) }
+{
+    for start in 0..count {
+        if let Some(path) = cycle_from(alloc, connections, start, count)? {
+            return Ok(Some(path));
+        }
+    }
+    Ok(None)
+}
+
+/// The names of the federates from which these connections go.
+fn names_along(
+    alloc: Global,
+    federates: &[Federate],
+    path: &[Connection],
+) -> Result<Names, AllocError>
+    requires { All (λ c. c.source < length federates.now) path.now }
+    ensures { IfOk result (λ names. map (λ name. Some name) names ≡ map (λ c. slice_get (federate_names federates.now) c.source) path.now) }
+{
+    let mut names = Vec::new(alloc);
+    for connection in path {
+        names.push(federates[connection.source()].name.clone()?)?;
+    }
+    Ok(Names::new(names))
+}
+
+/// Refuses a draft, whose connections by number these are, in which a cycle is without any delay.
+pub(crate) fn refuse_cycle(
+    alloc: Global,
+    draft: &Draft,
+    connections: &[Connection],
+) -> Result<(), PlanFault>
+    requires { connections.now ≡ connections_of draft.now }
+    ensures ok { OnOk result (HasNoImmediateCycle connections.now) }
+    ensures fault { IfErr result (StandsIn draft.now) }
+{
+    let federates = draft.federates.as_slice();
+    match lowest_cycle(alloc, connections, federates.len())? {
+        None => Ok(()),
+        Some(path) => {
+            let names = names_along(alloc, federates, path.as_slice())?;
+            Err(PlanFault::ZeroDelayCycle(names))
+        }
+    }
+}
