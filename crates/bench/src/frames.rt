@@ -1,6 +1,6 @@
 //! Frames written and read a second: ten million of them, in pieces of several sizes.
 
-use anyhow::{Context, Result, bail};
+use anyhow::{Result, bail};
 use signal::{Frame, FrameReader, Signal, write_frame};
 use std::alloc::Global;
 use std::rt::Clock;
@@ -67,30 +67,35 @@ fn read(reader: &mut FrameReader, bytes: &[u8], size: usize) -> Result<u64> {
 /// Messages, each with an announcement, a confirmation and an acknowledgement.
 fn batch(alloc: Global) -> Result<Vec<Frame>> {
     let mut frames = Vec::new(alloc);
-    for number in 0..u64::from(BATCH) {
-        let time = Time::new(number % 1_000_000_000).context("below 2^62 ns")?;
-        let tag = FiniteTag::new(time, 0);
-        let signal = match number % 4 {
-            0 => Signal::Net(Tag::new(time, 0)),
-            1 => Signal::Msg {
-                connection: 7,
-                tag,
-                value: -1,
+    for number in 0..BATCH {
+        let frame = match signal(number) {
+            Some(signal) => Frame::Data {
+                incarnation: 1,
+                number: u64::from(number),
+                signal,
             },
-            2 => Signal::Ltc(tag),
-            _ => {
-                frames.push(Frame::Ack {
-                    incarnation: 1,
-                    last_taken: number,
-                })?;
-                continue;
-            }
+            None => Frame::Ack {
+                incarnation: 1,
+                last_taken: u64::from(number),
+            },
         };
-        frames.push(Frame::Data {
-            incarnation: 1,
-            number,
-            signal,
-        })?;
+        frames.push(frame)?;
     }
     Ok(frames)
+}
+
+/// None where an acknowledgement stands.
+fn signal(number: u32) -> Option<Signal> {
+    let time = Time::new(u64::from(number))?;
+    let tag = FiniteTag::new(time, 0);
+    match number % 4 {
+        0 => Some(Signal::Net(Tag::new(time, 0))),
+        1 => Some(Signal::Msg {
+            connection: 7,
+            tag,
+            value: -1,
+        }),
+        2 => Some(Signal::Ltc(tag)),
+        _ => None,
+    }
 }

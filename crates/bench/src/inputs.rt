@@ -3,7 +3,7 @@
 use anyhow::{Result, bail};
 use loadfed::{load, load_inputs};
 use plan::{Inputs, Plan};
-use std::alloc::Global;
+use std::alloc::{AllocError, Global};
 use std::rt::Clock;
 use std::time::Instant;
 
@@ -45,11 +45,17 @@ fn inputs(alloc: Global, text: &str, plan: &Plan) -> Result<Inputs> {
 }
 
 /// An input each nanosecond.
-fn text(alloc: Global) -> Result<String> {
+fn text(alloc: Global) -> Result<String, AllocError> {
     let mut text = String::new(alloc);
     for time in 0..INPUTS {
-        text.push_str("[[input]]\nfederate = \"f\"\naction = \"p\"\n")?;
-        text.push_str(format!(in alloc; "time = \"{time} ns\"\nvalue = 1\n")?.as_str())?;
+        push_input(&mut text, time)?;
     }
     Ok(text)
+}
+
+fn push_input(text: &mut String, time: u32) -> Result<(), AllocError> {
+    write!(
+        text,
+        "[[input]]\nfederate = \"f\"\naction = \"p\"\ntime = \"{time} ns\"\nvalue = 1\n"
+    )
 }

@@ -1,11 +1,9 @@
 //! Turns a second of the undivided program, with several numbers of pending events: one federate sends to itself each
 //! microsecond of the first second, while another's timer waits for the second one.
-ghost use Rattle.std.specs.Prelude.{IfOk};
-ghost use Rattle.plan.specs.External.{AreInputsOf};
 
 use anyhow::{Result, bail};
 use loadfed::load;
-use plan::{Inputs, Plan};
+use plan::Inputs;
 use std::alloc::Global;
 use std::rt::Clock;
 use std::time::Instant;
@@ -28,7 +26,9 @@ fn turns_per_second(rt: &impl Clock, alloc: Global, federation: &str, turns: u32
         Ok(loaded) => loaded,
         Err(fault) => bail!("the federation is refused: {}", fault.number()),
     };
-    let inputs = no_inputs(alloc, &plan)?;
+    let Ok(inputs) = Inputs::check(alloc, &plan, Vec::new(alloc)) else {
+        bail!("no memory for no inputs");
+    };
     let Ok(mut whole) = Whole::new(alloc, &plan, &programs, &inputs) else {
         bail!("no memory to begin");
     };
@@ -37,15 +37,6 @@ fn turns_per_second(rt: &impl Clock, alloc: Global, federation: &str, turns: u32
         bail!("no memory for {turns} turns");
     };
     Ok(f64::from(made) / start.elapsed(rt)?.as_secs_f64())
-}
-
-fn no_inputs(alloc: Global, plan: &Plan) -> Result<Inputs>
-    ensures { IfOk result (AreInputsOf plan.now) }
-{
-    match Inputs::check(alloc, plan, Vec::new(alloc)) {
-        Ok(inputs) => Ok(inputs),
-        Err(fault) => bail!("no inputs are refused: {}", fault.number()),
-    }
 }
 
 /// The federation; its timer fires so many times from 1 s on.

@@ -1,5 +1,5 @@
 -- Rows as text: who, when, what was present, and what was set.
-use Rattle.std.specs.Prelude.{ℕ, if◌then◌else◌, List, [], ◌∷◌, ◌++◌, slice_get, slice_index_or, Option, None, Some, codes}
+use Rattle.std.specs.Prelude.{ℕ, if◌then◌else◌, List, [], ◌++◌, slice_get, slice_index_or, Option, None, Some, codes}
 use Rattle.std.specs.List.{flat_map, join_by}
 use Rattle.std.specs.Fmt.{signed_decimal}
 use Rattle.tag.specs.Printed.{printed_tag}
@@ -13,6 +13,10 @@ use Rattle.reactor.specs.Resolution.{slot_names}
 -- the name at this place of these
 abbrev pub name_at : List (List ℕ) → ℕ → List ℕ
 name_at names place = slice_index_or names place []
+
+-- names, each after a space
+abbrev pub spaced : List (List ℕ) → List ℕ
+spaced names = flat_map (λ name. codes " " ++ name) names
 
 -- a name with a value, as `total=3`
 abbrev pub valued : List (List ℕ) → Entry → List ℕ

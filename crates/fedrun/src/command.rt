@@ -1,8 +1,9 @@
-ghost use Rattle.std.specs.Prelude.{◌≡◌, ◌≤◌, IfOk, IfErr, OnOk, string_bytes};
+ghost use Rattle.std.specs.Prelude.{◌≡◌, ◌≢◌, ◌≤◌, IfOk, IfErr, OnOk, map, string_bytes, vec_len};
 ghost use Rattle.std.specs.Io.KnownBytes.{Appends};
 ghost use Rattle.plan.specs.External.{AreInputsOf};
 ghost use Rattle.reactor.specs.Programs.{AreProgramsOf};
-ghost use Rattle.fedrun.specs.Told.{status_of, IsRunText, PrintsRun, PrintsPlan, PrintsAnswer};
+ghost use Rattle.fedrun.specs.declared.files.FileFault.{FileFault as FileFaultOf};
+ghost use Rattle.fedrun.specs.Told.{status_of, told_of_file, IsFileFault, IsRunFault, IsCheckFault, IsWholeFault, IsRunText, PrintsRun, PrintsPlan, PrintsAnswer};
 
 use crate::fault::Fault;
 use crate::files::{FileFault, Files};
@@ -26,7 +27,7 @@ pub fn command<R: AllocGlobal, F: Files, O: Write, E: Write>(
     out: &mut O,
     err: &mut E,
 ) -> u8
-    ensures done { result ≡ 0 → PrintsAnswer (O.contents out.old) (O.contents out.new) }
+    ensures done { result ≡ 0 → PrintsAnswer (map string_bytes words.now) (O.contents out.old) (O.contents out.new) }
     ensures quiet { result ≡ 0 → err.new ≡ err.old }
     ensures untouched { result ≡ 1 → out.new ≡ out.old }
     ensures unused { result ≡ 2 → out.new ≡ out.old }
@@ -52,8 +53,8 @@ fn run<'a, F: Files, O: Write>(
     files: &mut F,
     out: &mut O,
 ) -> Result<(), Fault<'a>>
-    ensures ok { OnOk result (PrintsAnswer (O.contents out.old) (O.contents out.new)) }
-    ensures err { IfErr result (λ fault. status_of fault ≤ 2 → out.new ≡ out.old) }
+    ensures ok { OnOk result (PrintsAnswer (map string_bytes words.entry.now) (O.contents out.old) (O.contents out.new)) }
+    ensures err { IfErr result (λ fault. fault ≢ Fault.CannotWrite → out.new ≡ out.old) }
 {
     match read_words(alloc, words)? {
         Request::Whole {
@@ -74,8 +75,9 @@ fn whole<'a, F: Files, O: Write>(
     files: &mut F,
     out: &mut O,
 ) -> Result<(), Fault<'a>>
-    ensures ok { OnOk result (PrintsRun (O.contents out.old) (O.contents out.new)) }
-    ensures err { IfErr result (λ fault. status_of fault ≤ 2 → out.new ≡ out.old) }
+    ensures ok { OnOk result (PrintsRun turns (O.contents out.old) (O.contents out.new)) }
+    ensures told { IfErr result (IsWholeFault federation.entry inputs.entry) }
+    ensures err { IfErr result (λ fault. fault ≢ Fault.CannotWrite → out.new ≡ out.old) }
 {
     let (plan, programs) = loaded(alloc, federation, files)?;
     let inputs = inputs_of(alloc, inputs, &plan, files)?;
@@ -92,7 +94,8 @@ fn check<'a, F: Files, O: Write>(
     out: &mut O,
 ) -> Result<(), Fault<'a>>
     ensures ok { OnOk result (PrintsPlan (O.contents out.old) (O.contents out.new)) }
-    ensures err { IfErr result (λ fault. status_of fault ≤ 2 → out.new ≡ out.old) }
+    ensures told { IfErr result (IsCheckFault federation.entry) }
+    ensures err { IfErr result (λ fault. fault ≢ Fault.CannotWrite → out.new ≡ out.old) }
 {
     let (plan, _programs) = loaded(alloc, federation, files)?;
     plan.known();
@@ -109,7 +112,7 @@ fn loaded<'a, F: Files>(
     files: &mut F,
 ) -> Result<(Plan, Programs), Fault<'a>>
     ensures ok { IfOk result (λ loaded. AreProgramsOf loaded.0 loaded.1) }
-    ensures err { IfErr result (λ fault. status_of fault ≤ 2) }
+    ensures err { IfErr result (IsFileFault name.entry) }
 {
     let bytes = bytes_of(name, files, MOST_BYTES)?;
     match load(alloc, bytes.as_slice()) {
@@ -126,7 +129,7 @@ fn inputs_of<'a, F: Files>(
     files: &mut F,
 ) -> Result<Inputs, Fault<'a>>
     ensures ok { IfOk result (AreInputsOf plan.now) }
-    ensures err { IfErr result (λ fault. status_of fault ≤ 2) }
+    ensures err { IfErr result (IsFileFault name.entry) }
 {
     let bytes = if name == "-" {
         Vec::new(alloc)
@@ -141,7 +144,8 @@ fn inputs_of<'a, F: Files>(
 
 /// The bytes of a file that has at most so many.
 fn bytes_of<'a, F: Files>(name: &'a str, files: &mut F, most: usize) -> Result<Vec<u8>, Fault<'a>>
-    ensures err { IfErr result (λ fault. status_of fault ≤ 2) }
+    ensures few { IfOk result (λ bytes. vec_len bytes ≤ most) }
+    ensures err { IfErr result (λ fault. (why : FileFaultOf) × (fault ≡ told_of_file name.entry why)) }
 {
     match files.bytes(name, most) {
         Ok(bytes) => Ok(bytes),
@@ -162,7 +166,7 @@ fn whole_text(
     requires programs { AreProgramsOf plan.now programs.now }
     requires inputs { AreInputsOf plan.now inputs.now }
     ensures ok { IfOk result (λ text. IsRunText plan.now programs.now inputs.now turns (string_bytes text)) }
-    ensures err { IfErr result (λ fault. status_of fault ≡ 3) }
+    ensures err { IfErr result IsRunFault }
 {
     let mut program = Whole::new(alloc, plan, programs, inputs).map_err(Fault::of_whole)?;
     let _made = program.turns(turns).map_err(Fault::of_whole)?;

@@ -100,7 +100,7 @@ pub enum Fault<'a> {
 }
 
 impl Fault<'_> {
-    ghost use Rattle.fedrun.specs.Told.{status_of};
+    ghost use Rattle.fedrun.specs.Told.{status_of, no_memory_loading, no_memory_printing, no_memory_in_turns, told_of_load, told_of_plan, told_of_program};
 
     /// The exit status that goes with it.
     pub fn status(&self) -> u8
@@ -115,7 +115,7 @@ impl Fault<'_> {
 
     /// No memory before anything was loaded.
     pub fn no_memory_loading() -> Fault<'static>
-        ensures { status_of result ≡ 1 }
+        ensures { result ≡ no_memory_loading }
     {
         Fault::MemoryLoading {
             number: LoadFault::Memory.number(),
@@ -124,14 +124,14 @@ impl Fault<'_> {
 
     /// No memory after all was loaded, where it has no number of its own.
     pub fn no_memory_running() -> Fault<'static>
-        ensures { status_of result ≡ 3 }
+        ensures { result ≡ no_memory_printing }
     {
         Fault::MemoryRunning { number: NO_MEMORY }
     }
 
     /// How a fault of loading is told.
     pub fn of_load(fault: LoadFault) -> Fault<'static>
-        ensures { status_of result ≡ 1 }
+        ensures { result ≡ told_of_load fault }
     {
         let number = fault.number();
         match fault {
@@ -147,7 +147,7 @@ impl Fault<'_> {
     }
 
     fn of_plan(fault: PlanFault) -> Fault<'static>
-        ensures { status_of result ≡ 1 }
+        ensures { result ≡ told_of_plan fault }
     {
         let number = fault.number();
         match fault {
@@ -166,7 +166,7 @@ impl Fault<'_> {
     }
 
     fn of_program(federate: Text, fault: ProgramFault) -> Fault<'static>
-        ensures { status_of result ≡ 1 }
+        ensures { result ≡ told_of_program federate fault }
     {
         let number = fault.number();
         match fault {
@@ -189,11 +189,10 @@ impl Fault<'_> {
 
     /// How a fault of the undivided program is told.
     pub fn of_whole(fault: Memory) -> Fault<'static>
-        ensures { status_of result ≡ 3 }
+        ensures { result ≡ no_memory_in_turns }
     {
-        Fault::MemoryRunning {
-            number: fault.number(),
-        }
+        let number = fault.number();
+        Fault::MemoryRunning { number }
     }
 }
 
@@ -202,8 +201,14 @@ impl Fault<'_> {
 pub struct Cycle(pub Names);
 
 impl fmt::Display for Cycle {
+    ghost use Rattle.std.specs.Prelude.{Some};
+    ghost use Rattle.fedrun.specs.Printed.{spaced};
+
+    ghost output = { λ cycle. Some (spaced cycle.0) };
+
     fn fmt<W: fmt::Write>(&self, f: &mut fmt::Formatter<W>) -> fmt::Result {
-        for name in self.0.as_slice() {
+        let names = self.0.as_slice();
+        for name in names {
             let name = name.as_str();
             write!(f, " {name}")?;
         }

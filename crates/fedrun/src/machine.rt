@@ -1,4 +1,7 @@
-ghost use Rattle.std.specs.Prelude.{◌≤◌, IfOk, vec_len};
+ghost use Rattle.std.specs.Prelude.{◌≡◌, ◌≢◌, ◌<◌, ◌≤◌, IfOk, IfSome, OnOk, length, vec_len};
+ghost use Rattle.std.specs.IoError.{error_kind};
+ghost use Rattle.std.specs.Io.KnownBytes.{Consumes, IsAtEnd};
+ghost use Rattle.fedrun.specs.declared.files.FileFault.TheVariants.{Unreadable, OverLimit, Memory};
 
 use crate::files::{FileFault, Files};
 use std::alloc::Global;
@@ -12,7 +15,9 @@ pub struct MachineFiles<'a, R> {
 }
 
 impl<'a, R> MachineFiles<'a, R> {
-    pub fn new(rt: &'a R) -> MachineFiles<'a, R> {
+    pub fn new(rt: &'a R) -> MachineFiles<'a, R>
+        ensures { result.rt ≡ rt.entry }
+    {
         MachineFiles { rt }
     }
 }
@@ -24,7 +29,12 @@ impl<R: rt::Files + AllocGlobal> Files for MachineFiles<'_, R> {
     }
 }
 
-fn fault_of(error: &io::Error) -> FileFault {
+/// How an error of the machine's is told.
+fn fault_of(error: &io::Error) -> FileFault
+    ensures memory { error_kind error.now ≡ ErrorKind.OutOfMemory → result ≡ Memory }
+    ensures other { error_kind error.now ≢ ErrorKind.OutOfMemory → result ≡ Unreadable }
+    ensures short { result ≢ OverLimit }
+{
     if error.kind() == ErrorKind::OutOfMemory {
         FileFault::Memory
     } else {
@@ -33,8 +43,11 @@ fn fault_of(error: &io::Error) -> FileFault {
 }
 
 /// What is left of a file, if it is at most so many bytes.
-fn read_to_end(alloc: Global, file: &mut impl Read, most: usize) -> Result<Vec<u8>, FileFault>
+fn read_to_end<F: Read>(alloc: Global, file: &mut F, most: usize) -> Result<Vec<u8>, FileFault>
     ensures few { IfOk result (λ bytes. vec_len bytes ≤ most) }
+    ensures all { IfOk result (λ bytes. Consumes (F.remaining file.old) (F.remaining file.new) bytes.items) }
+    ensures end { OnOk result (IsAtEnd (F.remaining file.new)) }
+    ensures over { result ≡ Err OverLimit → IfSome (F.remaining file.old) (λ left. most < length left) }
 {
     let mut bytes = Vec::new(alloc);
     let mut piece = [0u8; 4096];

@@ -16,8 +16,9 @@ mod words;
 
 use fault::Fault;
 use machine::MachineFiles;
-use std::env;
+use std::io::ErrorKind;
 use std::process::ExitCode;
+use std::{env, io};
 
 fn main(rt: HostRuntime) -> ExitCode {
     ExitCode::from(status(&rt))
@@ -36,10 +37,19 @@ fn status(rt: &HostRuntime) -> u8 {
     }
 }
 
+/// Words that are no text are no command.
+fn fault_of(error: &io::Error) -> Fault<'static> {
+    if error.kind() == ErrorKind::OutOfMemory {
+        Fault::no_memory_loading()
+    } else {
+        Fault::Usage
+    }
+}
+
 /// The words after the program's name.
 fn words_of(rt: &HostRuntime) -> Result<Vec<String>, Fault<'static>> {
     let mut words = Vec::new(rt.alloc());
-    let given = env::args(rt).map_err(|_| Fault::no_memory_loading())?;
+    let given = env::args(rt).map_err(|error| fault_of(&error))?;
     for word in given.skip(1) {
         words.push(word).map_err(|_| Fault::no_memory_loading())?;
     }

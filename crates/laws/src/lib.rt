@@ -1,4 +1,4 @@
-//! The laws that carry the headline, over every lawful network, each as the contract of a function with an empty body.
+//! The laws on which the goal stands, over every lawful network, each as the contract of a function with an empty body.
 //!
 //! Promise to the layer above: whatever steps as `protocol` defines, in whatever order, takes nothing late, computes a beginning of
 //! the undivided program's rows, and all of them once it is finished or stuck. Begin with `nothing_is_refused`, whose words are in

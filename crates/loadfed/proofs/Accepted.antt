@@ -1,5 +1,5 @@
--- A federation file meets no refusal but want of memory.
-use Rattle.std.proofs.Common.{◌≡◌, ◌⊎◌, inl, inr, ℕ, zero, suc, Result, Ok, Err, List, [], ◌∷◌, Some, None, sym, ◌∙◌, subst, arith}
+-- A file is one federation at most, and meets no refusal but want of memory.
+use Rattle.std.proofs.Common.{◌≡◌, ◌⊎◌, inl, inr, ℕ, zero, suc, Result, Ok, Err, List, [], ◌∷◌, Some, None, refl, sym, ap, ◌∙◌, subst, arith}
 use Rattle.std.specs.Prelude.{slice_get, IsUtf8, IfErr}
 use Rattle.toml.specs.Data.{Members}
 use Rattle.toml.specs.Parse.{parse_document}
@@ -8,6 +8,7 @@ use Rattle.plan.specs.declared.draft.Draft.{Draft}
 use Rattle.plan.specs.Legal.{IsLegal}
 use Rattle.reactor.specs.Behaviour.{Behaviour}
 use Rattle.reactor.specs.Spelled.{SpellsProgram}
+use Rattle.reactor.proofs.OneReading.{one_program}
 use Rattle.loadfed.specs.declared.fault.LoadFault.{LoadFault}
 use Rattle.loadfed.specs.declared.fault.LoadFault.TheVariants.{Memory}
 use Rattle.loadfed.specs.Shape.{ProgramDraft, SaysFederation}
@@ -25,12 +26,37 @@ no_document bytes none file h = let e : Some file ≡ None = sym h.parsed ∙ no
 same_file : (bytes : List ℕ) (d e : Draft) (ps qs : List ProgramDraft) (h : SaysDraft bytes d ps) (k : SaysDraft bytes e qs) → SaysFederation h.file e qs
 same_file bytes d e ps qs h k = subst (λ m. SaysFederation m e qs) (one_document bytes k.file h.file k.document h.document) k.says
 
-same_draft : (bytes : List ℕ) (d e : Draft) (ps qs : List ProgramDraft) → SaysDraft bytes d ps → SaysDraft bytes e qs → d ≡ e
+pub same_draft : (bytes : List ℕ) (d e : Draft) (ps qs : List ProgramDraft) → SaysDraft bytes d ps → SaysDraft bytes e qs → d ≡ e
 same_draft bytes d e ps qs h k = one_draft h.file d e ps qs h.says (same_file bytes d e ps qs h k)
 
-same_programs : (bytes : List ℕ) (d e : Draft) (ps qs : List ProgramDraft) → SaysDraft bytes d ps → SaysDraft bytes e qs → ps ≡ qs
+pub same_programs : (bytes : List ℕ) (d e : Draft) (ps qs : List ProgramDraft) → SaysDraft bytes d ps → SaysDraft bytes e qs → ps ≡ qs
 same_programs bytes d e ps qs h k =
     one_program_list h.file d.federates e.federates ps qs h.says.federates_are (same_file bytes d e ps qs h k).federates_are
+
+one_spelled : (fs : List Federate) (ps : List ProgramDraft) (bs cs : List Behaviour) → SpellPrograms fs ps bs → SpellPrograms fs ps cs → bs ≡ cs
+one_spelled [] [] [] [] h k = refl
+one_spelled [] [] [] (c ∷ cs) h k = absurd k
+one_spelled [] [] (b ∷ bs) cs h k = absurd h
+one_spelled [] (p ∷ ps) bs cs h k = absurd h
+one_spelled (f ∷ fs) [] bs cs h k = absurd h
+one_spelled (f ∷ fs) (p ∷ ps) [] cs h k = absurd h
+one_spelled (f ∷ fs) (p ∷ ps) (b ∷ bs) [] h k = absurd k
+one_spelled (f ∷ fs) (p ∷ ps) (b ∷ bs) (c ∷ cs) h k =
+    ap (λ x. x ∷ bs) (one_program f.slots p.states p.reactions b c h.0 k.0) ∙ ap (λ rest. c ∷ rest) (one_spelled fs ps bs cs h.1 k.1)
+
+-- the programs, where the file is that of another draft too
+spelled_too : (bytes : List ℕ) (d e : Draft) (ps qs : List ProgramDraft) (bs : List Behaviour) → SaysDraft bytes d ps → SaysDraft bytes e qs
+    → SpellPrograms d.federates ps bs → SpellPrograms e.federates qs bs
+spelled_too bytes d e ps qs bs h k spelled =
+    subst (λ x. SpellPrograms e.federates x bs) (same_programs bytes d e ps qs h k)
+    (subst (λ x. SpellPrograms x.federates ps bs) (same_draft bytes d e ps qs h k) spelled)
+
+pub one_federation_draft : (bytes : List ℕ) (d e : Draft) (bs cs : List Behaviour) → IsFederationFile bytes d bs → IsFederationFile bytes e cs → d ≡ e
+one_federation_draft bytes d e bs cs h k = same_draft bytes d e h.drafts k.drafts h.declared k.declared
+
+pub one_federation_programs : (bytes : List ℕ) (d e : Draft) (bs cs : List Behaviour) → IsFederationFile bytes d bs → IsFederationFile bytes e cs → bs ≡ cs
+one_federation_programs bytes d e bs cs h k =
+    one_spelled e.federates k.drafts bs cs (spelled_too bytes d e h.drafts k.drafts bs h.declared k.declared h.spelled) k.spelled
 
 spelled_at : (fs : List Federate) (ps : List ProgramDraft) (bs : List Behaviour) (i : ℕ) (f : Federate) (p : ProgramDraft) → SpellPrograms fs ps bs
     → slice_get fs i ≡ Some f → slice_get ps i ≡ Some p → (b : Behaviour) × SpellsProgram f.slots p.states p.reactions b
@@ -63,9 +89,7 @@ no_load_fault bytes d bs fault file (inr (inr (inr (inl h)))) =
     let same = same_draft bytes d h.draft file.drafts h.drafts file.declared h.declared in
     h.refused.illegal (subst IsLegal same file.legal)
 no_load_fault bytes d bs fault file (inr (inr (inr (inr h)))) =
-    let same = same_draft bytes d h.draft file.drafts h.drafts file.declared h.declared in
-    let programs = same_programs bytes d h.draft file.drafts h.drafts file.declared h.declared in
-    let spelled = subst (λ ps. SpellPrograms h.draft.federates ps bs) programs (subst (λ x. SpellPrograms x.federates file.drafts bs) same file.spelled) in
+    let spelled = spelled_too bytes d h.draft file.drafts h.drafts bs file.declared h.declared file.spelled in
     none_among h.draft.federates h.drafts bs fault spelled h.among
 
 pub accepted : (bytes : List ℕ) (fault : LoadFault) → (fault ≡ Memory) ⊎ HasLoadFault bytes fault → (d : Draft) (bs : List Behaviour) → IsFederationFile bytes d bs

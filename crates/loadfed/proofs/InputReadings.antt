@@ -35,6 +35,12 @@ none_inputs : (fault : LoadFault) (m : Members) (is : List Input) → SaysInputs
 none_inputs fault m is s (inl h) = none_unknown _ m fault s.keys h
 none_inputs fault m is s (inr h) = none_in_tables SaysInput HasInputFault fault (none_input fault) (codes "input") m is s.inputs_are h
 
+pub same_inputs : (bytes : List ℕ) (is js : List Input) → SaysInputFile bytes is → SaysInputFile bytes js → is ≡ js
+same_inputs bytes is js h k =
+    let same = one_document bytes k.file h.file k.document h.document in
+    let says = subst (λ m. SaysInputs m js) same k.says in
+    one_each SaysInput one_input (codes "input") h.file is js h.says.inputs_are says.inputs_are
+
 none_of_inputs : (d : Draft) (is : List Input) (fault : LoadFault) → AreInputsOf d is → IsFaultOfInputs d is fault → ⊥
 none_of_inputs d is fault a (inl h) = h.unknown a.known
 none_of_inputs d is fault a (inr (inl h)) = h.repeated a.apart
@@ -50,11 +56,7 @@ no_input_file_fault d bytes is fault file all (inr (inr (inl h))) =
     let same = one_document bytes h.file file.file h.document file.document in
     none_inputs fault file.file is file.says (subst (λ m. HasInputsFault m fault) same h.wrong)
 no_input_file_fault d bytes is fault file all (inr (inr (inr h))) =
-    let other = h.declared in
-    let same = one_document bytes other.file file.file other.document file.document in
-    let says = subst (λ m. SaysInputs m h.inputs) same other.says in
-    let one : h.inputs ≡ is = one_each SaysInput one_input (codes "input") file.file h.inputs is says.inputs_are file.says.inputs_are in
-    none_of_inputs d is fault all (subst (λ x. IsFaultOfInputs d x fault) one h.refused)
+    none_of_inputs d is fault all (subst (λ x. IsFaultOfInputs d x fault) (same_inputs bytes h.inputs is h.declared file) h.refused)
 
 pub inputs_accepted : (d : Draft) (bytes : List ℕ) (fault : LoadFault) → (fault ≡ Memory) ⊎ HasInputFileFault d bytes fault → (is : List Input) → SaysInputFile bytes is → AreInputsOf d is
     → fault ≡ Memory

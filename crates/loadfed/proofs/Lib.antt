@@ -14,7 +14,7 @@ pub mod Refusals
 pub mod KeyReadings
 pub mod TableReadings
 pub mod ShapeReadings
--- a federation file meets no refusal
+-- a file is one federation at most, which meets no refusal
 pub mod Accepted
 -- how faults of the plan and of programs are told
 pub mod Planned

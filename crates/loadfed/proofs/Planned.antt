@@ -1,6 +1,6 @@
 -- How faults of the plan and of programs are told.
 use Rattle.std.proofs.Common.{◌≡◌, ◌⊎◌, inl, inr, ℕ, ◌≤◌, length, Some, subst, List, refl}
-use Rattle.std.specs.Prelude.{slice_get}
+use Rattle.std.specs.Prelude.{◌≢◌, slice_get}
 use Rattle.toml.specs.Data.{Members}
 use Rattle.plan.specs.Legal.{IsLegal}
 use Rattle.plan.specs.declared.draft.Federate.{Federate}
@@ -20,25 +20,25 @@ use Rattle.loadfed.specs.Shape.{ProgramDraft}
 use Rattle.loadfed.specs.Loaded.{IsDocument, most_bytes, IsPlanFault, IsProgramFault, IsFaultAmong, HasLoadFault}
 use Rattle.loadfed.specs.ShapeFaults.{HasShapeFault}
 
-stands : (d : Draft) (reason : PlanFault) → StandsIn d reason → ¬ IsLegal d → IsPlanFault d (Plan reason)
-stands d reason there none = record { reason = reason; told = refl; stands = there; illegal = none }
+stands : (d : Draft) (reason : PlanFault) → StandsIn d reason → reason ≢ plan_fault.Memory → (IsLegal d → reason ≡ plan_fault.Memory) → IsPlanFault d (Plan reason)
+stands d reason there other only = record { reason = reason; told = refl; not_memory = other; stands = there; illegal = λ h. other (only h) }
 
 -- a fault of the plan, which isn't want of memory, stands against a plan
 pub plan_told : (d : Draft) (reason : PlanFault) → StandsIn d reason → (IsLegal d → reason ≡ plan_fault.Memory)
     → (fault_of_plan reason ≡ Memory) ⊎ IsPlanFault d (fault_of_plan reason)
-plan_told d plan_fault.NoFederate there only = inr (stands d plan_fault.NoFederate there (λ h. let e = only h in cc))
-plan_told d (plan_fault.UnknownName p) there only = inr (stands d (plan_fault.UnknownName p) there (λ h. let e = only h in cc))
-plan_told d (plan_fault.TwoSources p) there only = inr (stands d (plan_fault.TwoSources p) there (λ h. let e = only h in cc))
-plan_told d plan_fault.OverLimit there only = inr (stands d plan_fault.OverLimit there (λ h. let e = only h in cc))
-plan_told d plan_fault.BadTimer there only = inr (stands d plan_fault.BadTimer there (λ h. let e = only h in cc))
+plan_told d plan_fault.NoFederate there only = inr (stands d plan_fault.NoFederate there (λ e. cc) only)
+plan_told d (plan_fault.UnknownName p) there only = inr (stands d (plan_fault.UnknownName p) there (λ e. cc) only)
+plan_told d (plan_fault.TwoSources p) there only = inr (stands d (plan_fault.TwoSources p) there (λ e. cc) only)
+plan_told d plan_fault.OverLimit there only = inr (stands d plan_fault.OverLimit there (λ e. cc) only)
+plan_told d plan_fault.BadTimer there only = inr (stands d plan_fault.BadTimer there (λ e. cc) only)
 plan_told d plan_fault.Memory there only = inl refl
-plan_told d (plan_fault.RepeatedName name) there only = inr (stands d (plan_fault.RepeatedName name) there (λ h. let e = only h in cc))
-plan_told d (plan_fault.ZeroDelayCycle names) there only = inr (stands d (plan_fault.ZeroDelayCycle names) there (λ h. let e = only h in cc))
+plan_told d (plan_fault.RepeatedName name) there only = inr (stands d (plan_fault.RepeatedName name) there (λ e. cc) only)
+plan_told d (plan_fault.ZeroDelayCycle names) there only = inr (stands d (plan_fault.ZeroDelayCycle names) there (λ e. cc) only)
 
-fails : (f : Federate) (p : ProgramDraft) (reason : ProgramFault) (fault : LoadFault) → (reason ≡ program_fault.Memory → ⊥) → fault ≡ Program f.name reason
+fails : (f : Federate) (p : ProgramDraft) (reason : ProgramFault) (fault : LoadFault) → reason ≢ program_fault.Memory → fault ≡ Program f.name reason
     → IsFaultOf f.slots p.states p.reactions reason
     → ((b : Behaviour) → SpellsProgram f.slots p.states p.reactions b → reason ≡ program_fault.Memory) → IsProgramFault f p fault
-fails f p reason fault other told there only = record { reason = reason; told = told; stands = there; unspelled = λ b says. other (only b says) }
+fails f p reason fault other told there only = record { reason = reason; told = told; not_memory = other; stands = there; unspelled = λ b says. other (only b says) }
 
 -- a fault of a program, which isn't want of memory
 pub program_told : (f : Federate) (p : ProgramDraft) (reason : ProgramFault) (fault : LoadFault) → IsFaultOf f.slots p.states p.reactions reason

@@ -10,10 +10,11 @@ use Rattle.loadfed.specs.Tables.{HasOnly, SaysText, SaysNumber, SaysDuration, Sa
 use Rattle.loadfed.specs.ShapeFaults.{IsWrongAt, HasUnknownKey, HasTablesFault}
 use Rattle.loadfed.specs.Loaded.{IsDocument, IsTooLong, IsNoDocument, HasFileFault}
 
--- the keys of the file, and of one of its inputs
+-- the keys of an input file
 abbrev pub input_file_keys : List (List ℕ)
 input_file_keys = codes "input" ∷ []
 
+-- the keys of a recorded input
 abbrev pub input_keys : List (List ℕ)
 input_keys = codes "federate" ∷ codes "action" ∷ codes "time" ∷ codes "micro" ∷ codes "value" ∷ []
 
@@ -31,7 +32,7 @@ pub record SaysInputs (members : Members) (inputs : List Input) : Type 0 where
   pub keys : HasOnly input_file_keys members
   pub inputs_are : SaysEach SaysInput (codes "input") members inputs
 
--- what is wrong with its shape, and at which key
+-- what is wrong with the shape of a recorded input, and at which key
 abbrev pub HasInputFault : Members → LoadFault → Type 0
 HasInputFault members fault =
     HasUnknownKey input_keys members fault
@@ -41,7 +42,7 @@ HasInputFault members fault =
     ⊎ (IsWrongAt (codes "micro") (SaysMicrostep (codes "micro") members) fault
     ⊎ IsWrongAt (codes "value") (SaysNumber (codes "value") members) fault))))
 
--- the same, of the file
+-- what is wrong with the shape of an input file, and at which key
 abbrev pub HasInputsFault : Members → LoadFault → Type 0
 HasInputsFault members fault = HasUnknownKey input_file_keys members fault ⊎ HasTablesFault HasInputFault (codes "input") members fault
 
@@ -56,26 +57,29 @@ pub record SaysInputFile (bytes : List ℕ) (inputs : List Input) : Type 0 where
   pub document : IsDocument bytes file
   pub says : SaysInputs file inputs
 
--- each is for a physical action that is there
+-- each input is for a physical action that is there
 abbrev pub AreKnown : Draft → List Input → Type 0
 AreKnown d inputs = All (λ i. IsSome (found_action d.federates i)) inputs
 
--- an action that isn't there, one twice at one tag, or too many of them
+-- an input is for an action that isn't there
 pub record IsUnknownAction (d : Draft) (inputs : List Input) (fault : LoadFault) : Type 0 where
   pub told : fault ≡ UnknownAction
   pub unknown : ¬ (AreKnown d inputs)
 
+-- all actions are there, and one of them has two inputs at one tag
 pub record IsRepeatedInput (d : Draft) (inputs : List Input) (fault : LoadFault) : Type 0 where
   pub told : fault ≡ RepeatedInput
   pub known : AreKnown d inputs
   pub repeated : ¬ (AllPairs AreApart inputs)
 
+-- all actions are there, none has two inputs at one tag, and there are more inputs than there may be
 pub record AreTooManyInputs (d : Draft) (inputs : List Input) (fault : LoadFault) : Type 0 where
   pub told : fault ≡ OverLimit
   pub known : AreKnown d inputs
   pub apart : AllPairs AreApart inputs
   pub many : ¬ (length inputs ≤ 65536)
 
+-- what stands against recorded inputs, the first that does: an unknown action, a repeated input, too many of them
 abbrev pub IsFaultOfInputs : Draft → List Input → LoadFault → Type 0
 IsFaultOfInputs d inputs fault =
     IsUnknownAction d inputs fault ⊎ (IsRepeatedInput d inputs fault ⊎ AreTooManyInputs d inputs fault)

@@ -1,13 +1,15 @@
 -- What a federation file's bytes are, and what stands against them, stage by stage.
-use Rattle.std.specs.Prelude.{◌≡◌, ℕ, ◌<◌, ◌≤◌, ◌⊎◌, List, [], ◌∷◌, length, slice_get, Some, IsUtf8}
+use Rattle.std.specs.Prelude.{◌≡◌, ◌≢◌, ℕ, ◌<◌, ◌≤◌, ◌⊎◌, List, [], ◌∷◌, length, slice_get, Some, IsUtf8}
 use Rattle.toml.specs.Data.{Members}
 use Rattle.toml.specs.Parse.{parse_document}
 use Rattle.plan.specs.declared.draft.Federate.{Federate}
 use Rattle.plan.specs.declared.draft.Draft.{Draft}
 use Rattle.plan.specs.declared.fault.PlanFault.{PlanFault}
+use Rattle.plan.specs.declared.fault.PlanFault.TheVariants as plan_fault
 use Rattle.plan.specs.Legal.{IsLegal}
 use Rattle.plan.specs.Faults.{StandsIn}
 use Rattle.reactor.specs.declared.fault.ProgramFault.{ProgramFault}
+use Rattle.reactor.specs.declared.fault.ProgramFault.TheVariants as program_fault
 use Rattle.reactor.specs.Behaviour.{Behaviour}
 use Rattle.reactor.specs.Spelled.{SpellsProgram, IsFaultOf}
 use Rattle.loadfed.specs.declared.fault.LoadFault.{LoadFault}
@@ -63,27 +65,30 @@ pub record HasFileFault (Has : Members → LoadFault → Type 0) (most : ℕ) (b
   pub document : IsDocument bytes file
   pub wrong : Has file fault
 
--- the draft isn't legal, for this reason
+-- the draft isn't legal, for this reason, which isn't want of memory
 pub record IsPlanFault (d : Draft) (fault : LoadFault) : Type 0 where
   pub reason : PlanFault
   pub told : fault ≡ Plan reason
+  pub not_memory : reason ≢ plan_fault.Memory
   pub stands : StandsIn d reason
   pub illegal : ¬ IsLegal d
 
+-- the file declares a draft that isn't legal, for this reason
 pub record HasPlanFault (bytes : List ℕ) (fault : LoadFault) : Type 0 where
   pub draft : Draft
   pub drafts : List ProgramDraft
   pub declared : SaysDraft bytes draft drafts
   pub refused : IsPlanFault draft fault
 
--- a federate's states and reactions spell no program, for this reason
+-- a federate's states and reactions spell no program, for this reason, which isn't want of memory
 pub record IsProgramFault (f : Federate) (p : ProgramDraft) (fault : LoadFault) : Type 0 where
   pub reason : ProgramFault
   pub told : fault ≡ Program f.name reason
+  pub not_memory : reason ≢ program_fault.Memory
   pub stands : IsFaultOf f.slots p.states p.reactions reason
   pub unspelled : (b : Behaviour) → ¬ (SpellsProgram f.slots p.states p.reactions b)
 
--- so it is with one of these federates
+-- one of these federates has states and reactions that spell no program, for this reason
 pub record IsFaultAmong (federates : List Federate) (drafts : List ProgramDraft) (fault : LoadFault) : Type 0 where
   pub place : ℕ
   pub federate : Federate
@@ -92,6 +97,7 @@ pub record IsFaultAmong (federates : List Federate) (drafts : List ProgramDraft)
   pub program_is : slice_get drafts place ≡ Some program
   pub refused : IsProgramFault federate program fault
 
+-- the file declares a legal draft, of which one federate's states and reactions spell no program, for this reason
 pub record HasProgramFault (bytes : List ℕ) (fault : LoadFault) : Type 0 where
   pub draft : Draft
   pub drafts : List ProgramDraft

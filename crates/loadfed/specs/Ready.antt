@@ -15,6 +15,6 @@ pub record IsReady (f : Federate) (p : ProgramDraft) : Type 0 where
   pub few_reactions : length p.reactions ≤ 64
   pub few_lines : All (λ r. length r.body ≤ 256) p.reactions
 
--- so it is with each, and there are as many of both
+-- each federate with its program is so, and there are as many programs as federates
 abbrev pub AreReady : List Federate → List ProgramDraft → Type 0
 AreReady federates drafts = AllZip IsReady federates drafts

@@ -14,24 +14,29 @@ use Rattle.reactor.specs.Tokens.{is_name}
 use Rattle.toml.specs.Data.{Members}
 use Rattle.loadfed.specs.Tables.{HasOnly, SaysText, SaysNumber, SaysName, SaysDuration, MaySay, SaysDurationOrZero, SaysTexts, SaysNames, SaysTables, SaysEach}
 
--- the keys of each kind of table
+-- the keys of a federation file
 abbrev pub file_keys : List (List ℕ)
 file_keys = codes "stop" ∷ codes "federate" ∷ codes "connection" ∷ []
 
+-- the keys of a federate
 abbrev pub federate_keys : List (List ℕ)
 federate_keys =
     codes "name" ∷ codes "inputs" ∷ codes "outputs" ∷ codes "actions" ∷ codes "physical" ∷ codes "timers" ∷ codes "state"
     ∷ codes "reaction" ∷ []
 
+-- the keys of a timer
 abbrev pub timer_keys : List (List ℕ)
 timer_keys = codes "name" ∷ codes "offset" ∷ codes "period" ∷ []
 
+-- the keys of a state
 abbrev pub state_keys : List (List ℕ)
 state_keys = codes "name" ∷ codes "value" ∷ []
 
+-- the keys of a reaction
 abbrev pub reaction_keys : List (List ℕ)
 reaction_keys = codes "triggers" ∷ codes "body" ∷ []
 
+-- the keys of a connection
 abbrev pub connection_keys : List (List ℕ)
 connection_keys = codes "from" ∷ codes "to" ∷ codes "after" ∷ []
 
@@ -71,10 +76,11 @@ pub record SaysProgram (members : Members) (p : ProgramDraft) : Type 0 where
   pub few_states : length p.states ≤ 64
   pub few_reactions : length p.reactions ≤ 64
 
--- whether one of these reactions has the trigger `startup`
+-- one of these triggers is `startup`
 abbrev pub has_startup : List (List ℕ) → Bool
 has_startup triggers = list_any (λ trigger. bytes_eq trigger (codes "startup")) triggers
 
+-- one of these reactions has the trigger `startup`
 abbrev pub wants_startup : List ReactionDraft → Bool
 wants_startup reactions = list_any (λ r. has_startup r.triggers) reactions
 

@@ -24,13 +24,15 @@ HasOnly known members = All (λ key. IsTrue (is_among known key)) (keys_in membe
 abbrev pub IsWithout : List ℕ → Members → Type 0
 IsWithout key members = get_member key members ≡ None
 
--- a text, a whole number, or a name stands at the key
+-- a text stands at the key
 abbrev pub SaysText : List ℕ → Members → List ℕ → Type 0
 SaysText key members text = get_member key members ≡ Some (string text)
 
+-- a whole number stands at the key
 abbrev pub SaysNumber : List ℕ → Members → ℤ → Type 0
 SaysNumber key members number = get_member key members ≡ Some (integer number)
 
+-- a name stands at the key
 abbrev pub SaysName : List ℕ → Members → List ℕ → Type 0
 SaysName key members name = SaysText key members name × IsTrue (is_name name)
 
@@ -57,13 +59,15 @@ abbrev pub SaysArray : List ℕ → Members → List Data → Type 0
 SaysArray key members entries =
     (IsWithout key members × (entries ≡ [])) ⊎ (get_member key members ≡ Some (array (items_of entries)))
 
--- an array of texts, of names, or of tables
+-- an array of texts, of which there are none where the table hasn't the key
 abbrev pub SaysTexts : List ℕ → Members → List (List ℕ) → Type 0
 SaysTexts key members texts = SaysArray key members (map string texts)
 
+-- an array of names, of which there are none where the table hasn't the key
 abbrev pub SaysNames : List ℕ → Members → List (List ℕ) → Type 0
 SaysNames key members names = SaysTexts key members names × All (λ name. IsTrue (is_name name)) names
 
+-- an array of tables, of which there are none where the table hasn't the key
 abbrev pub SaysTables : List ℕ → Members → List Members → Type 0
 SaysTables key members tables = SaysArray key members (map table tables)
 

@@ -1,4 +1,4 @@
-ghost use Rattle.std.specs.Prelude.{◌≡◌, ◌⊎◌, List, IfOk, IfErr, OnOk, vec_len, length};
+ghost use Rattle.std.specs.Prelude.{◌≡◌, ◌≤◌, ◌⊎◌, List, IfOk, IfErr, OnOk, vec_len, length};
 ghost use Rattle.loadfed.specs.Ready.{AreReady};
 ghost use Rattle.plan.specs.declared.draft.Draft.{Draft};
 ghost use Rattle.plan.specs.Legal.{IsLegal};
@@ -28,6 +28,9 @@ pub fn load(alloc: Global, bytes: &[u8]) -> Result<(Plan, Programs), LoadFault>
     // Of a file that is a federation want of memory alone is told.
     ensures accepts { (d : Draft) (programs : List Behaviour) → IsFederationFile bytes.now d programs → IfErr result (λ fault. fault ≡ LoadFault.Memory) }
     ensures refused { IfErr result (λ fault. (fault ≡ LoadFault.Memory) ⊎ HasLoadFault bytes.now fault) }
+
+    // Of a file over its limit it is never told.
+    ensures memory { IfErr result (λ fault. fault ≡ LoadFault.Memory → length bytes.now ≤ 1048576) }
 {
     staged(alloc, bytes)
 }
@@ -36,6 +39,7 @@ fn staged(alloc: Global, bytes: &[u8]) -> Result<(Plan, Programs), LoadFault>
     ensures ok { IfOk result (λ loaded. IsFederationFile bytes.now loaded.0 loaded.1) }
     ensures programs { IfOk result (λ loaded. AreProgramsOf loaded.0 loaded.1) }
     ensures refused { IfErr result (λ fault. (fault ≡ LoadFault.Memory) ⊎ HasLoadFault bytes.now fault) }
+    ensures memory { IfErr result (λ fault. fault ≡ LoadFault.Memory → length bytes.now ≤ 1048576) }
 {
     if bytes.len() > MOST_BYTES {
         return Err(LoadFault::OverLimit);

@@ -10,6 +10,7 @@ mod document;
 pub mod fault;
 pub mod federation;
 mod federation_shape;
+pub mod laws;
 mod program_shape;
 pub mod recorded;
 mod section;
@@ -18,6 +19,3 @@ mod slots_shape;
 pub use fault::LoadFault;
 pub use federation::{MOST_BYTES, load};
 pub use recorded::{MOST_INPUT_BYTES, load_inputs};
-
-#[cfg(test)]
-mod tests;

@@ -1,4 +1,4 @@
-ghost use Rattle.std.specs.Prelude.{◌≡◌, ◌⊎◌, List, IfOk, IfErr, codes};
+ghost use Rattle.std.specs.Prelude.{◌≡◌, ◌≤◌, ◌⊎◌, List, IfOk, IfErr, codes, length};
 ghost use Rattle.plan.specs.declared.input.Input.{Input};
 ghost use Rattle.plan.specs.External.{AreInputsOf};
 ghost use Rattle.loadfed.specs.Sections.{members_of};
@@ -25,6 +25,9 @@ pub fn load_inputs(alloc: Global, bytes: &[u8], plan: &Plan) -> Result<Inputs, L
     // Of a file that records inputs of the plan want of memory alone is told.
     ensures accepts { (inputs : List Input) → SaysInputFile bytes.now inputs → AreInputsOf plan.now inputs → IfErr result (λ fault. fault ≡ LoadFault.Memory) }
     ensures refused { IfErr result (λ fault. (fault ≡ LoadFault.Memory) ⊎ HasInputFileFault plan.now bytes.now fault) }
+
+    // Of a file over its limit it is never told.
+    ensures memory { IfErr result (λ fault. fault ≡ LoadFault.Memory → length bytes.now ≤ 8388608) }
 {
     staged(alloc, bytes, plan)
 }
@@ -33,6 +36,7 @@ fn staged(alloc: Global, bytes: &[u8], plan: &Plan) -> Result<Inputs, LoadFault>
     ensures ok { IfOk result (SaysInputFile bytes.now) }
     ensures known { IfOk result (AreInputsOf plan.now) }
     ensures refused { IfErr result (λ fault. (fault ≡ LoadFault.Memory) ⊎ HasInputFileFault plan.now bytes.now fault) }
+    ensures memory { IfErr result (λ fault. fault ≡ LoadFault.Memory → length bytes.now ≤ 8388608) }
 {
     if bytes.len() > MOST_INPUT_BYTES {
         return Err(LoadFault::OverLimit);

@@ -39,7 +39,7 @@ impl<'a> Section<'a> {
         }
     }
 
-    /// Faults of a key that is none of these.
+    /// Refuses a key that is none of these.
     pub fn has_only(&self, known: &[&str]) -> Result<(), LoadFault>
         ensures ok { OnOk result (HasOnly (map (λ k. k.now) known.now) (members_of self.now)) }
         ensures refused { IfErr result (λ fault. (fault ≡ LoadFault.Memory) ⊎ HasUnknownKey (map (λ k. k.now) known.now) (members_of self.now) fault) }

@@ -1,4 +1,4 @@
--- What a network keeps, so that the laws hold of it. Every legal federation with its programs and inputs is to give such a network.
+-- What a network keeps, so that the laws hold of it. Every legal federation with its programs and inputs gives such a network.
 use Rattle.std.specs.Prelude.{◌≡◌, ◌≢◌, ℕ, ◌<◌, ◌≤◌, ◌^◌, ℤ, List, All, AllPairs, IsTrue, Option}
 use Rattle.tag.specs.LogicalTime.{LogicalTime, IsFinite, origin, one_microstep, is_at_most}
 use Rattle.network.specs.Connection.{Connection}

@@ -9,13 +9,13 @@ use Rattle.std.proofs.lemmas.List.Kept.{AllPairs-cons}
 use Rattle.std.proofs.lemmas.Map.Made.{IsDistinct-from_AllPairs}
 use Rattle.std.proofs.lemmas.Map.Steps.{length-le_from_distinct_below}
 use Rattle.tag.specs.LogicalTime.{origin}
-use Rattle.network.specs.Connection.{Connection, IsPath}
+use Rattle.network.specs.Connection.{Connection, IsPath, total_of}
 use Rattle.plan.specs.declared.draft.Draft.{Draft}
 use Rattle.plan.specs.Federation.{connections_of, federate_count, is_immediate, level_of, rank_of, IsLevel}
 use Rattle.plan.specs.Legal.{IsLegal, HasNoImmediateCycle}
 use Rattle.plan.proofs.Levels.{EndsBelow}
 use Rattle.plan.proofs.Plans.{ends_below}
-use Rattle.plan.proofs.Paths.{AreImmediate, immediate_from_total, total_from_immediate, immediate_from_test, IsPath-snoc, immediate-snoc, within_longest, within_attained, before_by-lt_later}
+use Rattle.plan.proofs.Paths.{AreImmediate, immediate_from_total, total_from_immediate, immediate_test, immediate_from_test, IsPath-snoc, immediate-snoc, within_longest, within_attained, before_by-lt_later}
 
 -- ---- a path without any delay meets no federate twice
 
@@ -125,4 +125,18 @@ rank_rises d c legal contained immediate =
     = All-contains (λ (x : Connection). (x.source < federate_count d) × (x.target < federate_count d)) (connections_of d) c (ends_below d) contained in
     before_by-lt_later (level_of d) (federate_count d) c.source c.target ends.0 (inl (level_rises d legal c contained immediate))
 
-pub ruleset level_laws = (level_is, rank_rises)
+rises_along : (d : Draft) → IsLegal d → (i : ℕ) (path : List Connection) (j : ℕ) → IsPath (connections_of d) i path j → AreImmediate path → rank_of d i < rank_of d j
+rises_along d legal i [] j is_path each = absurd is_path
+rises_along d legal i (c ∷ []) j is_path each =
+    subst (λ m. rank_of d m < rank_of d j) is_path.1
+    (subst (λ m. rank_of d c.source < rank_of d m) is_path.2 (rank_rises d c legal is_path.0 (immediate_test c each.0)))
+rises_along d legal i (c ∷ b ∷ rest) j is_path each =
+    let first : rank_of d c.source < rank_of d c.target = rank_rises d c legal is_path.0 (immediate_test c each.0) in
+    let further : rank_of d c.target < rank_of d j = rises_along d legal c.target (b ∷ rest) j is_path.2 each.1 in
+    let whole : rank_of d c.source < rank_of d j = omega arith in
+    subst (λ m. rank_of d m < rank_of d j) is_path.1 whole
+
+pub path_rises : (d : Draft) (i j : ℕ) (path : List Connection) → IsLegal d → IsPath (connections_of d) i path j → total_of path ≡ origin → rank_of d i < rank_of d j
+path_rises d i j path legal is_path total = rises_along d legal i path j is_path (immediate_from_total path total)
+
+pub ruleset level_laws = (level_is, path_rises)

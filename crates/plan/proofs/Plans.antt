@@ -1,13 +1,13 @@
 -- Drafts that were checked.
-use Rattle.std.proofs.Common.{◌≡◌, ℕ, suc, zero, ◌+◌, ◌<◌, ◌≤◌, List, [], ◌∷◌, length, refl, ap, sym, ◌∙◌, arith, subst, map, get_or, inl, inr, ◌^◌}
+use Rattle.std.proofs.Common.{◌≡◌, ℕ, suc, zero, ◌+◌, ◌<◌, List, [], ◌∷◌, length, refl, ap, sym, ◌∙◌, arith, subst, map, get_or, inl, inr, ◌^◌}
 use Rattle.std.specs.Prelude.{All, AllPairs, IsSome, IfSome, Option, None, Some, Result, Ok, Err, IfErr, slice_get, slice_index}
 use Rattle.std.specs.List.{filter_map, cons_option}
-use Rattle.std.proofs.lemmas.List.Elements.{All-nil, All-cons, All-contains}
+use Rattle.std.proofs.lemmas.List.Elements.{All-nil, All-cons}
 use Rattle.std.proofs.lemmas.Option.{slice_get_within, get_or_from_slice_get}
 use Rattle.std.proofs.lemmas.Slice.Eq.{bytes_eq-Decides}
 use Rattle.std.proofs.lemmas.Map.Made.{AllPairs-from_IsDistinct}
 use Rattle.tag.specs.LogicalTime.{LogicalTime}
-use Rattle.network.specs.Connection.{Connection, IsPath}
+use Rattle.network.specs.Connection.{Connection}
 use Rattle.network.specs.Lawful.{EndApart}
 use Rattle.plan.specs.declared.draft.Federate.{Federate}
 use Rattle.plan.specs.declared.draft.PortName.{PortName}
@@ -158,7 +158,7 @@ not_two_sources d p legal two =
     (first_joins.slot ∙ ap (λ (f : Found). first_input + f.place) same ∙ sym later_joins.slot)
 
 not_a_cycle : (d : Draft) (names : List (List ℕ)) → IsLegal d → IsNamedCycle d names → ⊥
-not_a_cycle d names legal named = legal.no_immediate_cycle named.start named.path named.cycle.is_path named.cycle.immediate
+not_a_cycle d names legal named = legal.no_immediate_cycle named.start named.path named.cycle.way.is_path named.cycle.way.immediate
 
 other_faults : (d : Draft) (e : PlanFault) → StandsIn d e → IsLegal d → e ≡ Memory
 other_faults d NoFederate stands legal =

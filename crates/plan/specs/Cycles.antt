@@ -1,6 +1,5 @@
--- Cycles without any delay, and the words in which one is looked for.
-use Rattle.std.specs.Prelude.{◌≡◌, ◌≢◌, ℕ, ◌≤◌, Bool, not, ◌&&◌, ◌||◌, nat_eq, if◌then◌else◌, List, [], ◌∷◌, All, AllPairs}
-use Rattle.std.specs.List.{list_any}
+-- Cycles without any delay, and the tree by which one is found.
+use Rattle.std.specs.Prelude.{◌≡◌, ◌≢◌, ℕ, ◌≤◌, ◌⊎◌, List, [], ◌∷◌, All, AllPairs, Any, IsTrue}
 use Rattle.tag.specs.LogicalTime.{origin}
 use Rattle.network.specs.Connection.{Connection, IsPath, total_of}
 use Rattle.plan.specs.Federation.{is_immediate}
@@ -9,22 +8,32 @@ use Rattle.plan.specs.Federation.{is_immediate}
 abbrev pub HasNoCycleAt : List Connection → ℕ → Type 0
 HasNoCycleAt connections start = (path : List Connection) → IsPath connections start path start → total_of path ≡ origin → ⊥
 
--- a path without any delay from this federate to itself, which is its lowest; none stands twice on it
-pub record IsCycleFrom (connections : List Connection) (start : ℕ) (path : List Connection) : Type 0 where
-  pub is_path : IsPath connections start path start
+-- a path without any delay, of which no two connections begin at one federate
+pub record IsWay (connections : List Connection) (start : ℕ) (path : List Connection) (goal : ℕ) : Type 0 where
+  pub is_path : IsPath connections start path goal
   pub immediate : total_of path ≡ origin
-  pub lowest : All (λ c. start ≤ c.source) path
   pub apart : AllPairs (λ c d. c.source ≢ d.source) path
 
+-- such a path from a federate to itself, which is its lowest
+pub record IsCycleFrom (connections : List Connection) (start : ℕ) (path : List Connection) : Type 0 where
+  pub way : IsWay connections start path start
+  pub lowest : All (λ c. start ≤ c.source) path
+
 -- one of these connections begins at the federate
-abbrev pub begins : List Connection → ℕ → Bool
-begins connections federate = list_any (λ c. nat_eq c.source federate) connections
+abbrev pub IsSource : List Connection → ℕ → Type 0
+IsSource connections federate = Any (λ c. c.source ≡ federate) connections
 
--- a connection without delay that leads to the root or to where one of the tree begins, from where none of it does
-abbrev pub joins : ℕ → List Connection → Connection → Bool
-joins root tree c = is_immediate c && (nat_eq c.target root || begins tree c.target) && not (begins tree c.source)
+-- the federate is the root, or one of the tree begins there
+abbrev pub IsReached : ℕ → List Connection → ℕ → Type 0
+IsReached root tree federate = (federate ≡ root) ⊎ IsSource tree federate
 
--- the way from a federate: from where it has come to, on by the first of the connections left that begins there
-abbrev pub way_from : ℕ → List Connection → List Connection
-way_from federate [] = []
-way_from federate (c ∷ tree) = if nat_eq c.source federate then c ∷ way_from c.target tree else way_from federate tree
+-- a connection without delay to the root or to where one of the tree begins, from where none of the tree does
+pub record JoinsTree (root : ℕ) (tree : List Connection) (c : Connection) : Type 0 where
+  pub immediate : IsTrue (is_immediate c)
+  pub onward : IsReached root tree c.target
+  pub apart : ¬ IsSource tree c.source
+
+-- connections, the newest first, each of which joins the tree of those before it
+abbrev pub IsTree : ℕ → List Connection → Type 0
+IsTree root [] = Unit {0}
+IsTree root (c ∷ older) = JoinsTree root older c × IsTree root older

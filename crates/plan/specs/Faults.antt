@@ -9,7 +9,7 @@ use Rattle.plan.specs.Naming.{AreDistinct}
 use Rattle.plan.specs.Numbering.{all_names}
 use Rattle.plan.specs.Federation.{federate_names, found_output, found_input, connections_of}
 use Rattle.plan.specs.Legal.{IsWithinLimits, IsTimerInRange}
-use Rattle.plan.specs.Cycles.{IsCycleFrom}
+use Rattle.plan.specs.Cycles.{HasNoCycleAt, IsCycleFrom}
 
 -- an element stands at two places of a list
 pub record StandsTwice {X : Type 0} (xs : List X) (x : X) : Type 0 where
@@ -68,6 +68,7 @@ pub record IsNamedCycle (d : Draft) (names : List (List ℕ)) : Type 0 where
   pub start : ℕ
   pub path : List Connection
   pub cycle : IsCycleFrom (connections_of d) start path
+  pub none_lower : (lower : ℕ) → lower < start → HasNoCycleAt (connections_of d) lower
   pub named : map (λ name. Some name) names ≡ map (λ c. slice_get (federate_names d.federates) c.source) path
 
 -- the fault is in the draft; of want of memory no draft says anything

@@ -12,6 +12,7 @@ use Rattle.plan.specs.declared.draft.Draft.{Draft}
 use Rattle.plan.specs.Naming.{place_of}
 use Rattle.plan.specs.Numbering.{first_input}
 
+-- the names of federates, in their order
 abbrev pub federate_names : List Federate → List (List ℕ)
 federate_names federates = map (λ f. f.name) federates
 
@@ -36,9 +37,11 @@ found_in names_of federates federate name =
     (λ number. option_map (λ place. record { federate = number; place = place }) (place_in names_of (slice_get federates number) name))
     (federate_number federates federate)
 
+-- the output port of this name, by the numbers of its federate and its place there
 abbrev pub found_output : List Federate → PortName → Option Found
 found_output federates p = found_in (λ s. s.outputs) federates p.federate p.port
 
+-- the input port of this name, by the numbers of its federate and its place there
 abbrev pub found_input : List Federate → PortName → Option Found
 found_input federates p = found_in (λ s. s.inputs) federates p.federate p.port
 

@@ -48,7 +48,7 @@ pub record IsLeastRow (connections : List Connection) (count i : ℕ) (row : Lis
   pub len : length row ≡ count
   pub delays : (j : ℕ) → j < count → slice_index_or row j None ≡ least_within connections count i j
 
--- those from each of so many federates
+-- the least delays from each of so many federates to each of them
 pub record IsLeastTable (connections : List Connection) (count : ℕ) (table : List (List (Option LogicalTime))) : Type 0 where
   pub len : length table ≡ count
   pub rows : (i : ℕ) → i < count → IsLeastRow connections count i (slice_index_or table i [])

@@ -1,7 +1,6 @@
 -- Legal federations.
-use Rattle.std.specs.Prelude.{◌≡◌, ℕ, ◌^◌, ◌<◌, ◌≤◌, List, length, All, AllPairs, IsSome, IfSome}
-use Rattle.tag.specs.LogicalTime.{origin}
-use Rattle.network.specs.Connection.{Connection, IsPath, total_of}
+use Rattle.std.specs.Prelude.{ℕ, ◌^◌, ◌<◌, ◌≤◌, List, length, All, AllPairs, IsSome, IfSome}
+use Rattle.network.specs.Connection.{Connection}
 use Rattle.network.specs.Lawful.{EndApart}
 use Rattle.plan.specs.declared.slots.Slots.{Slots}
 use Rattle.plan.specs.declared.slots.Timer.{Timer}
@@ -9,6 +8,7 @@ use Rattle.plan.specs.declared.draft.Draft.{Draft}
 use Rattle.plan.specs.Naming.{AreDistinct}
 use Rattle.plan.specs.Numbering.{all_names}
 use Rattle.plan.specs.Federation.{federate_names, found_output, found_input, connections_of}
+use Rattle.plan.specs.Cycles.{HasNoCycleAt}
 
 -- a federate has at most 32 of each kind of slot
 pub record IsWithinLimits (s : Slots) : Type 0 where
@@ -22,10 +22,11 @@ pub record IsWithinLimits (s : Slots) : Type 0 where
 abbrev pub IsTimerInRange : Timer → Type 0
 IsTimerInRange t = (t.offset < 2 ^ 62) × (t.period < 2 ^ 62)
 
--- no path from a federate to itself is without any delay
+-- no path from any federate to itself is without any delay
 abbrev pub HasNoImmediateCycle : List Connection → Type 0
-HasNoImmediateCycle connections = (i : ℕ) (path : List Connection) → IsPath connections i path i → total_of path ≡ origin → ⊥
+HasNoImmediateCycle connections = (federate : ℕ) → HasNoCycleAt connections federate
 
+-- a draft that is a federation: within its limits, with names and ports as they must be, and without a cycle of no delay
 pub record IsLegal (d : Draft) : Type 0 where
   -- there is a federate, and there are at most 64 federates and 1024 connections
   pub some_federate : 0 < length d.federates

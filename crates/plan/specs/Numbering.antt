@@ -4,19 +4,23 @@ use Rattle.std.specs.Prelude.{ℕ, ◌+◌, Bool, ◌&&◌, ◌||◌, nat_eq, na
 use Rattle.plan.specs.declared.slots.Slots.{Slots}
 use Rattle.plan.specs.declared.slots.Timer.{Timer}
 
+-- the slot of startup
 abbrev pub startup_slot : ℕ
 startup_slot = 0
 
--- the slot of the first input, timer, action and physical action
+-- the slot of the first input
 abbrev pub first_input : ℕ
 first_input = 1
 
+-- the slot of the first timer
 abbrev pub first_timer : Slots → ℕ
 first_timer s = 1 + length s.inputs
 
+-- the slot of the first action
 abbrev pub first_action : Slots → ℕ
 first_action s = first_timer s + length s.timers
 
+-- the slot of the first physical action
 abbrev pub first_physical : Slots → ℕ
 first_physical s = first_action s + length s.actions
 
@@ -28,6 +32,7 @@ slot_count s = first_physical s + length s.physical
 abbrev pub is_bare : Slots → ℕ → Bool
 is_bare s slot = nat_eq slot startup_slot || (nat_le (first_timer s) slot && nat_lt slot (first_action s))
 
+-- the names of timers, in their order
 abbrev pub timer_names : List Timer → List (List ℕ)
 timer_names timers = map (λ t. t.name) timers
 

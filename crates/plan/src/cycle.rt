@@ -1,8 +1,7 @@
-ghost use Rattle.std.specs.Prelude.{◌≡◌, ℕ, ◌<◌, ◌∷◌, map, length, slice_get, All, MatchOption, IfOk, OnOk, IfErr};
-ghost use Rattle.std.specs.List.{find};
+ghost use Rattle.std.specs.Prelude.{◌≡◌, ℕ, ◌<◌, ◌↔◌, ◌∷◌, map, length, slice_get, IsTrue, All, Contains, MatchOption, IfOk, OnOk, IfErr};
 ghost use Rattle.plan.specs.Federation.{connections_of, federate_names};
 ghost use Rattle.plan.specs.Legal.{HasNoImmediateCycle};
-ghost use Rattle.plan.specs.Cycles.{HasNoCycleAt, IsCycleFrom, begins, joins, way_from};
+ghost use Rattle.plan.specs.Cycles.{HasNoCycleAt, IsCycleFrom, IsWay, IsSource, IsReached, JoinsTree, IsTree};
 ghost use Rattle.plan.specs.Faults.{StandsIn};
 
 use crate::connection::Connection;
@@ -14,34 +13,41 @@ use std::alloc::{AllocError, Global};
 
 /// Whether one of these connections begins at the federate.
 fn begins(connections: &[Connection], federate: usize) -> bool
-    ensures { result ≡ begins connections.now federate }
+    ensures { IsTrue result ↔ IsSource connections.now federate }
 {
     connections.iter().any(|c| c.source() == federate)
 }
 
+/// Whether the federate is the root, or a connection of the tree begins at it.
+fn is_reached(root: usize, tree: &[Connection], federate: usize) -> bool
+    ensures { IsTrue result ↔ IsReached root tree.now federate }
+{
+    federate == root || begins(tree, federate)
+}
+
 /// Whether the connection joins the tree.
 fn joins(root: usize, tree: &[Connection], connection: Connection) -> bool
-    ensures { result ≡ joins root tree.now connection }
+    ensures { IsTrue result ↔ JoinsTree root tree.now connection }
 {
     is_immediate(connection)
-        && (connection.target() == root || begins(tree, connection.target()))
+        && is_reached(root, tree, connection.target())
         && !begins(tree, connection.source())
 }
 
-/// The first connection that joins the tree.
+/// A connection that joins the tree, where one does.
 fn next_branch(connections: &[Connection], root: usize, tree: &[Connection]) -> Option<Connection>
-    ensures { result ≡ find (joins root tree.now) connections.now }
+    ensures { MatchOption result (All (λ c. ¬ JoinsTree root tree.now c) connections.now) (λ c. Contains connections.now c × JoinsTree root tree.now c) }
 {
     connections.iter().copied().find(|&c| joins(root, tree, c))
 }
 
-/// The way along a connection and then the tree, to its root.
+/// The way along a connection that joins the tree, and on along the tree to its root.
 fn way_along(
     alloc: Global,
     first: Connection,
     tree: &[Connection],
 ) -> Result<Vec<Connection>, AllocError>
-    ensures { IfOk result (λ path. path.items ≡ first ∷ way_from first.target tree.now) }
+    ensures { IfOk result (λ path. (root : ℕ) → JoinsTree root tree.now first → IsTree root tree.now → IsWay (first ∷ tree.now) first.source path.items root) }
 {
     let mut path = Vec::new(alloc);
     path.push(first)?;
@@ -90,7 +96,7 @@ fn lowest_cycle(
     count: usize,
 ) -> Result<Option<Vec<Connection>>, AllocError>
     requires ends { All (λ c. (c.source < count) × (c.target < count)) connections.now }
-    ensures { IfOk result (λ r. MatchOption r (HasNoImmediateCycle connections.now) (λ path. (start : ℕ) × IsCycleFrom connections.now start path.items)) }
+    ensures { IfOk result (λ r. MatchOption r (HasNoImmediateCycle connections.now) (λ path. (start : ℕ) × IsCycleFrom connections.now start path.items × ((lower : ℕ) → lower < start → HasNoCycleAt connections.now lower))) }
 {
     for start in 0..count {
         if let Some(path) = cycle_from(alloc, connections, start, count)? {

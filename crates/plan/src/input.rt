@@ -103,7 +103,7 @@ fn know_tags(inputs: &[Input])
 }
 
 /// An occurrence of a physical action: its federate's number, its place among that federate's, and a tag.
-#[derive(Clone, Copy, Debug, PartialEq, Eq, Hash)]
+#[derive(Clone, Copy, PartialEq, Eq, Hash)]
 struct Occurrence {
     federate: usize,
     place: usize,

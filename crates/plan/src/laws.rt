@@ -1,10 +1,10 @@
 //! What holds of every legal draft, as functions with no body.
-ghost use Rattle.std.specs.Prelude.{◌≡◌, ℕ, ◌<◌, Contains, IsTrue, All, IfSome, MatchOption};
-ghost use Rattle.tag.specs.LogicalTime.{sum_of};
-ghost use Rattle.network.specs.Connection.{Connection, IsLeastDelay, IsUnreachable};
+ghost use Rattle.std.specs.Prelude.{◌≡◌, ℕ, ◌<◌, List, All, IfSome, MatchOption};
+ghost use Rattle.tag.specs.LogicalTime.{origin, sum_of};
+ghost use Rattle.network.specs.Connection.{Connection, IsPath, total_of, IsLeastDelay, IsUnreachable};
 ghost use Rattle.network.specs.Tables.{IsWithin};
 ghost use Rattle.plan.specs.declared.draft.Draft.{Draft};
-ghost use Rattle.plan.specs.Federation.{IsLevel, connections_of, level_of, rank_of, federate_count, is_immediate};
+ghost use Rattle.plan.specs.Federation.{IsLevel, connections_of, level_of, rank_of, federate_count};
 ghost use Rattle.plan.specs.Least.{least_of, IsTotalWithin};
 ghost use Rattle.plan.specs.Legal.{IsLegal};
 
@@ -14,10 +14,10 @@ pub fn levels_are_longest_paths()
     ensures { (d : Draft) (j : ℕ) → IsLegal d → IsLevel (connections_of d) j (level_of d j) }
 {}
 
-/// Ranks rise along connections without delay.
+/// Ranks rise along paths without any delay, so along each connection without delay.
 #[tactic(auto, using(crate::proofs::Legality::level_laws))]
 pub fn ranks_rise()
-    ensures { (d : Draft) (c : Connection) → IsLegal d → Contains (connections_of d) c → IsTrue (is_immediate c) → rank_of d c.source < rank_of d c.target }
+    ensures { (d : Draft) (i j : ℕ) (path : List Connection) → IsLegal d → IsPath (connections_of d) i path j → total_of path ≡ origin → rank_of d i < rank_of d j }
 {}
 
 /// No two federates have one rank, and ranks are below the number of federates.

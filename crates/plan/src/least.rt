@@ -119,6 +119,3 @@ fn lesser(first: Option<Delay>, second: Option<Delay>) -> Option<Delay>
         (Some(a), Some(b)) => Some(if b < a { b } else { a }),
     }
 }
-
-#[cfg(test)]
-mod tests;

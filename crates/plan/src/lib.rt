@@ -27,6 +27,3 @@ pub use input::{Input, Inputs};
 pub use plan::Plan;
 pub use slots::{Slots, Timer, Timers};
 pub use text::{Names, Text};
-
-#[cfg(test)]
-mod tests;

@@ -69,6 +69,7 @@ pub(crate) fn refuse_out_of_range(draft: &Draft) -> Result<(), PlanFault>
     ensures limits { OnOk result (IsWithinAllLimits draft.now) }
     ensures timers { OnOk result (AreTimersInRange draft.now) }
     ensures fault { IfErr result (StandsIn draft.now) }
+    ensures memory { IfErr result (λ e. ¬ (e ≡ PlanFault.Memory)) }
 {
     if draft.federates.as_slice().is_empty() {
         return Err(PlanFault::NoFederate);

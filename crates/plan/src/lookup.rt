@@ -8,7 +8,7 @@ use crate::text::{Text, place_in};
 use std::marker::Model;
 
 /// Where a port or an action was found: the federate's number, and the place among its names of that kind.
-#[derive(Clone, Copy, Debug)]
+#[derive(Clone, Copy)]
 pub(crate) struct Found {
     pub(crate) federate: usize,
     pub(crate) place: usize,

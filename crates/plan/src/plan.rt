@@ -2,6 +2,7 @@ ghost use Rattle.std.specs.Prelude.{◌≡◌, ◌<◌, length, OnOk, IfOk, IfEr
 ghost use Rattle.network.specs.Connection.{IsLeastDelay, IsUnreachable};
 ghost use Rattle.plan.specs.Federation.{connections_of, rank_of, stop_of, federate_count};
 ghost use Rattle.plan.specs.Least.{least_of, IsTotalWithin};
+ghost use Rattle.plan.specs.Faults.{IsWithinAllLimits, AreTimersInRange};
 
 use crate::connect::connect;
 use crate::connection::Connection;
@@ -50,6 +51,9 @@ impl Plan {
         // Of a legal draft want of memory alone is told.
         ensures accepts { IsLegal draft → IfErr result (λ e. e ≡ PlanFault.Memory) }
         ensures fault { IfErr result (StandsIn draft) }
+
+        // Of a draft over a limit, or with a timer out of range, it is never told.
+        ensures memory { IfErr result (λ e. e ≡ PlanFault.Memory → (0 < length draft.federates) × IsWithinAllLimits draft × AreTimersInRange draft) }
     {
         Plan::planned(alloc, draft)
     }
@@ -58,6 +62,7 @@ impl Plan {
         ensures ok { IfOk result (λ plan. plan ≡ draft) }
         ensures legal { OnOk result (IsLegal draft) }
         ensures fault { IfErr result (StandsIn draft) }
+        ensures memory { IfErr result (λ e. e ≡ PlanFault.Memory → (0 < length draft.federates) × IsWithinAllLimits draft × AreTimersInRange draft) }
     {
         refuse_out_of_range(&draft)?;
         refuse_repeated(alloc, &draft)?;

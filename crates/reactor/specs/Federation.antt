@@ -10,11 +10,12 @@ use Rattle.plan.specs.External.{external_of}
 use Rattle.reactor.specs.Behaviour.{Behaviour}
 use Rattle.reactor.specs.Effect.{effect_of, effect_before, opening_states}
 
--- a federate's number of slots, and of output ports
+-- a federate's number of slots
 abbrev pub slots_of : Option Federate → ℕ
 slots_of None = 0
 slots_of (Some f) = slot_count f.slots
 
+-- a federate's number of output ports
 abbrev pub ports_of : Option Federate → ℕ
 ports_of None = 0
 ports_of (Some f) = length f.slots.outputs

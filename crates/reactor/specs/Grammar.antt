@@ -13,6 +13,7 @@ pub data WrittenOperand : Type 0 where
   ValueAt : List ℕ → WrittenOperand
   PresenceAt : List ℕ → WrittenOperand
 
+-- an operand alone, or an operator between two
 pub data WrittenExpression : Type 0 where
   Alone : WrittenOperand → WrittenExpression
   Combined : WrittenOperand → Operator → WrittenOperand → WrittenExpression
@@ -23,6 +24,7 @@ pub data WrittenStatement : Type 0 where
   OutputTo : List ℕ → WrittenOperand → WrittenStatement
   ScheduleAfter : List ℕ → ℕ → WrittenOperand → WrittenStatement
 
+-- a statement, and the condition before it if there is one
 pub record WrittenLine : Type 0 where
   pub condition : Option WrittenOperand
   pub statement : WrittenStatement
@@ -38,6 +40,7 @@ SpellsOperand (StateNamed x) token = IsTrue (is_name x) × (token ≡ x)
 SpellsOperand (ValueAt x) token = IsTrue (is_slot_name x) × (token ≡ codes "in." ++ x)
 SpellsOperand (PresenceAt x) token = IsTrue (is_slot_name x) × (token ≡ codes "has." ++ x)
 
+-- how an operator is written
 abbrev pub operator_token : Operator → List ℕ
 operator_token Plus = codes "+"
 operator_token Minus = codes "-"
@@ -76,5 +79,6 @@ SpellsGuarded (Some a) statement tokens =
     (token : List ℕ) × (rest : List (List ℕ)) × (tokens ≡ codes "when" ∷ token ∷ codes ":" ∷ rest)
     × SpellsOperand a token × SpellsStatement statement rest
 
+-- a line: its statement, after its condition if it has one
 abbrev pub SpellsLine : WrittenLine → List (List ℕ) → Type 0
 SpellsLine line tokens = SpellsGuarded line.condition line.statement tokens

@@ -28,6 +28,7 @@ trigger_slot s x = place_of (slot_names s) x
 abbrev pub operand_slot : Slots → List ℕ → Option ℕ
 operand_slot s x = if not s.startup && bytes_eq x (codes "startup") then None else trigger_slot s x
 
+-- the names of states, in their order
 abbrev pub state_names : List StateOf.State → List (List ℕ)
 state_names states = map (λ s. s.name) states
 
@@ -42,11 +43,13 @@ operand_of s states (StateNamed x) = option_map State (place_of (state_names sta
 operand_of s states (ValueAt x) = option_map (value_at_slot s) (operand_slot s x)
 operand_of s states (PresenceAt x) = option_map Presence (operand_slot s x)
 
+-- a written expression by numbers, where its names are there
 abbrev pub expression_of : Slots → List StateOf.State → WrittenExpression → Option Expression
 expression_of s states (Alone a) = option_map Single (operand_of s states a)
 expression_of s states (Combined a operator b) =
     option_and_then (λ left. option_map (λ right. Binary left operator right) (operand_of s states b)) (operand_of s states a)
 
+-- a written statement by numbers, where its names are there
 abbrev pub statement_of : Slots → List StateOf.State → WrittenStatement → Option Statement
 statement_of s states (AssignTo x expression) =
     option_and_then (λ k. option_map (λ e. Assign k e) (expression_of s states expression)) (place_of (state_names states) x)
@@ -57,6 +60,7 @@ statement_of s states (ScheduleAfter c time a) =
     (λ place. option_map (λ value. Schedule (first_action s + place) (delay_of time) value) (operand_of s states a))
     (place_of s.actions c)
 
+-- a written condition by numbers, if there is one, where its name is there
 abbrev pub condition_of : Slots → List StateOf.State → Option WrittenOperand → Option (Option Operand)
 condition_of s states None = Some None
 condition_of s states (Some a) = option_map Some (operand_of s states a)

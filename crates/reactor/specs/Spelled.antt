@@ -36,11 +36,11 @@ pub record SpellsProgram (s : Slots) (states : List StateOf.State) (drafts : Lis
   pub states_apart : AreDistinct (state_names states)
   pub reactions : AllZip (SpellsReaction s states) b.reactions drafts
 
--- no line is written so
+-- the text is written in none of the forms of lines
 abbrev pub HasNoForm : List ℕ → Type 0
 HasNoForm text = (written : WrittenLine) → ¬ (IsWritten text written)
 
--- it is written in such a form, with a name that isn't there
+-- the text is written in one of the forms, with a name that isn't there
 abbrev pub HasUnknownName : Slots → List StateOf.State → List ℕ → Type 0
 HasUnknownName s states text = (written : WrittenLine) × IsWritten text written × (line_of s states written ≡ None)
 

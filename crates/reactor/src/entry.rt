@@ -91,14 +91,6 @@ impl Entries {
     {
         self.entries
     }
-
-    /// The same entries again.
-    pub fn try_clone(&self) -> Result<Entries, Memory>
-        ensures { IfOk result (λ entries. entries ≡ self.now) }
-    {
-        let entries = self.entries.clone()?;
-        Ok(Entries { entries })
-    }
 }
 
 /// The value of the first entry at a place.

@@ -50,7 +50,7 @@ impl<T: Drop> From<AllocFailed<T>> for ProgramFault {
 }
 
 /// What is wrong with one line.
-#[derive(Clone, Copy, Debug, PartialEq, Eq)]
+#[derive(Clone, Copy)]
 pub(crate) enum LineFault {
     NoForm,
     UnknownName,

@@ -5,7 +5,7 @@ ghost use Rattle.reactor.specs.declared.fault.ProgramFault.TheVariants as Progra
 use crate::fault::ProgramFault;
 use std::alloc::{AllocError, AllocFailed};
 
-/// No memory was to be had for a turn.
+/// No memory was to be had, for a turn or for what is made before the first.
 #[derive(Clone, Copy, Debug, PartialEq, Eq)]
 pub struct Memory;
 

@@ -27,6 +27,9 @@ impl Program {
         ensures spelled { IfOk result (SpellsProgram slots.now states.items reactions.now) }
         ensures accepts { (spelled : Behaviour) → SpellsProgram slots.now states.items reactions.now spelled → IfErr result (λ fault. fault ≡ Memory) }
         ensures refused { IfErr result (IsFaultOf slots.now states.items reactions.now) }
+
+        // Of states of one name it is never told.
+        ensures memory { IfErr result (λ fault. fault ≡ Memory → AreDistinct (state_names states.items)) }
     {
         if !are_distinct(states.as_slice()) {
             return Err(ProgramFault::RepeatedState);

@@ -40,6 +40,3 @@ pub(crate) fn body(
     }
     Ok(lines)
 }
-
-#[cfg(test)]
-mod tests;

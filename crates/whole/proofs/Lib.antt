@@ -12,5 +12,3 @@ pub mod MadeLemmas
 pub mod Turns
 -- what comes from outside
 pub mod Outside
--- Programs that may be read.
-pub mod Readable

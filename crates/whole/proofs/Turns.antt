@@ -20,13 +20,13 @@ use Rattle.plan.specs.Federation.{federate_count}
 use Rattle.plan.specs.Numbering.{slot_count}
 use Rattle.reactor.specs.Behaviour.{Behaviour}
 use Rattle.reactor.specs.Federation.{network_of, slots_of, ports_of, effect_by, opening_by}
-use Rattle.reactor.specs.Programs.{HaveProgramsOf}
+use Rattle.reactor.specs.Programs.{HaveProgramsOf, HaveSlotsOf}
 use Rattle.reactor.specs.Effect.{opening_states}
 use Rattle.plan.specs.External.{external_of}
 use Rattle.whole.specs.declared.step.Made.{Made}
 use Rattle.whole.specs.Progress.{Progress, later_by}
 use Rattle.reactor.specs.Turn.{Reactor}
-use Rattle.whole.specs.Kept.{states_of, states_in, programs_in, undivided_of, IsInRange, IsAfterTurns, HasSlotsOf, HaveSlotsOf}
+use Rattle.whole.specs.Kept.{states_of, states_in, programs_in, undivided_of, IsInRange, IsAfterTurns, HasSlotsOf}
 use Rattle.whole.specs.Made.{effect_at, row_at, pending_after, IsMadeAt}
 use Rattle.whole.proofs.Joined.{made_by-in_range}
 
@@ -51,25 +51,31 @@ states_in-set reactors k r below =
     ]
 
 -- programs of federates have their slots
-pub slots_of_programs : (federates : List Federate) (programs : List Behaviour) → HaveProgramsOf federates programs
-    → map (λ b. b.slots) programs ≡ map (λ f. f.slots) federates
-slots_of_programs [] [] h = refl
+pub slots_of_programs : (federates : List Federate) (programs : List Behaviour) → HaveProgramsOf federates programs → HaveSlotsOf federates programs
+slots_of_programs [] [] h = tt
 slots_of_programs [] (b ∷ bs) h = absurd h
 slots_of_programs (f ∷ fs) [] h = absurd h
-slots_of_programs (f ∷ fs) (b ∷ bs) h =
-    let here : b.slots ≡ f.slots = sym h.0.0 in
-    let others : map (λ b. b.slots) bs ≡ map (λ f. f.slots) fs = slots_of_programs fs bs h.1 in
+slots_of_programs (f ∷ fs) (b ∷ bs) h = (h.0.0, slots_of_programs fs bs h.1)
+
+same_slots : (federates : List Federate) (programs : List Behaviour) → HaveSlotsOf federates programs
+    → map (λ b. b.slots) programs ≡ map (λ f. f.slots) federates
+same_slots [] [] h = refl
+same_slots [] (b ∷ bs) h = absurd h
+same_slots (f ∷ fs) [] h = absurd h
+same_slots (f ∷ fs) (b ∷ bs) h =
+    let here : b.slots ≡ f.slots = sym h.0 in
+    let others : map (λ b. b.slots) bs ≡ map (λ f. f.slots) fs = same_slots fs bs h.1 in
     cc
 
 -- there are as many reactors as federates
-pub reactor_count : (d : Draft) (reactors : List Reactor) → HaveSlotsOf d (programs_in reactors) → length reactors ≡ federate_count d
+pub reactor_count : (d : Draft) (reactors : List Reactor) → HaveSlotsOf d.federates (programs_in reactors) → length reactors ≡ federate_count d
 reactor_count d reactors programs =
-    sym (length-map reactors (λ r. r.behaviour)) ∙ sym (length-map (programs_in reactors) (λ b. b.slots)) ∙ ap length programs ∙ length-map d.federates (λ f. f.slots)
+    sym (length-map reactors (λ r. r.behaviour)) ∙ sym (length-map (programs_in reactors) (λ b. b.slots)) ∙ ap length (same_slots d.federates (programs_in reactors) programs) ∙ length-map d.federates (λ f. f.slots)
 
 -- a reactor has the slots of its federate
-pub has_slots : (d : Draft) (reactors : List Reactor) (federate : ℕ) (r : Reactor) → HaveSlotsOf d (programs_in reactors) → slice_get reactors federate ≡ Some r → HasSlotsOf d federate r
+pub has_slots : (d : Draft) (reactors : List Reactor) (federate : ℕ) (r : Reactor) → HaveSlotsOf d.federates (programs_in reactors) → slice_get reactors federate ≡ Some r → HasSlotsOf d federate r
 has_slots d reactors federate r programs is =
-    sym (slice_get-map (λ f. f.slots) d.federates federate) ∙ ap (λ xs. slice_get xs federate) (sym programs) ∙
+    sym (slice_get-map (λ f. f.slots) d.federates federate) ∙ ap (λ xs. slice_get xs federate) (sym (same_slots d.federates (programs_in reactors) programs)) ∙
     slice_get-map (λ b. b.slots) (programs_in reactors) federate ∙
     ap (λ o. option_map (λ b. b.slots) o) (slice_get-map (λ r. r.behaviour) reactors federate ∙ ap (λ o. option_map (λ r. r.behaviour) o) is)
 
@@ -178,7 +184,7 @@ opened-programs programs reactors is = ap (λ rs. programs_in rs) is ∙ program
 -- before the first turn
 pub kept-opening :
     (d : Draft) (inputs : List Input) (programs : List Behaviour) (reactors : List Reactor) (pending : List Event) (rows : List Row) →
-    HaveSlotsOf d programs → reactors ≡ map opened programs → pending ≡ external_of d inputs → All (IsInRange d) pending → rows ≡ [] →
+    HaveSlotsOf d.federates programs → reactors ≡ map opened programs → pending ≡ external_of d inputs → All (IsInRange d) pending → rows ≡ [] →
     IsAfterTurns d inputs reactors pending rows
 kept-opening d inputs programs reactors pending rows are is_reactors is_pending in_range is_rows =
     let same : programs_in reactors ≡ programs = opened-programs programs reactors is_reactors in

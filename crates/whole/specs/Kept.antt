@@ -7,6 +7,7 @@ use Rattle.plan.specs.declared.draft.Draft.{Draft}
 use Rattle.plan.specs.declared.input.Input.{Input}
 use Rattle.plan.specs.Federation.{federate_count}
 use Rattle.reactor.specs.Behaviour.{Behaviour}
+use Rattle.reactor.specs.Programs.{HaveSlotsOf}
 use Rattle.reactor.specs.Federation.{network_of}
 use Rattle.reactor.specs.Turn.{Reactor}
 
@@ -31,13 +32,9 @@ undivided_of reactors pending rows = record { states = states_in reactors; pendi
 abbrev pub IsInRange : Draft → Event → Type 0
 IsInRange d e = e.reactor < federate_count d
 
--- there is a program for each federate, with its slots
-abbrev pub HaveSlotsOf : Draft → List Behaviour → Type 0
-HaveSlotsOf d programs = map (λ b. b.slots) programs ≡ map (λ f. f.slots) d.federates
-
--- they are those after as many turns as there are rows
+-- reactors, events and rows are those after as many turns as there are rows
 pub record IsAfterTurns (d : Draft) (inputs : List Input) (reactors : List Reactor) (pending : List Event) (rows : List Row) : Type 0 where
-  pub programs : HaveSlotsOf d (programs_in reactors)
+  pub programs : HaveSlotsOf d.federates (programs_in reactors)
   pub undivided : undivided_after (network_of d (programs_in reactors) inputs) (length rows) ≡ undivided_of reactors pending rows
   pub in_range : All (IsInRange d) pending
 

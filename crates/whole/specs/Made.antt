@@ -15,7 +15,7 @@ use Rattle.whole.specs.declared.step.Made.{Made}
 abbrev pub effect_at : Reactor → List Event → ℕ → LogicalTime → Effect
 effect_at r pending federate tag = effect_of r.behaviour r.states (present_at pending federate tag)
 
--- its row
+-- the row of a reactor's turn at a tag, with these events pending
 abbrev pub row_at : Reactor → List Event → ℕ → LogicalTime → Row
 row_at r pending federate tag =
     record {
@@ -25,11 +25,12 @@ row_at r pending federate tag =
       outputs = listed (length r.behaviour.slots.outputs) (effect_at r pending federate tag).outputs;
     }
 
--- what is pending after it; neither programs nor recorded inputs matter
+-- what is pending after a reactor's turn at a tag; neither programs nor recorded inputs matter
 abbrev pub pending_after : Draft → Reactor → List Event → ℕ → LogicalTime → List Event
 pending_after d r pending federate tag =
     filter (λ e. not (is_at federate tag e)) pending ++ made_by (network_of d [] []) federate tag (effect_at r pending federate tag)
 
+-- what a turn of this federate at this tag makes: the reactor's states after it, the turn's row, and what is pending then
 pub record IsMadeAt (d : Draft) (r : Reactor) (events : List Event) (federate : ℕ) (tag : LogicalTime) (made : Made) : Type 0 where
   pub states : made.turn.states ≡ (effect_at r events federate tag).states
   pub fits : length made.turn.states ≡ length r.states

@@ -8,25 +8,26 @@ use Rattle.plan.specs.declared.input.Input.{Input}
 use Rattle.reactor.specs.Behaviour.{Behaviour}
 use Rattle.reactor.specs.Federation.{network_of}
 
+-- what an undivided program was made from, and how many turns were made
 pub record Progress : Type 0 where
   pub draft : Draft
   pub programs : List Behaviour
   pub inputs : List Input
   pub turns : ℕ
 
--- its network
+-- the network of the federation with its programs and recorded inputs
 abbrev pub network_in : Progress → Network
 network_in p = network_of p.draft p.programs p.inputs
 
--- where the undivided program of that network is after so many turns
+-- where the undivided program is after the turns made
 abbrev pub undivided_in : Progress → Undivided
 undivided_in p = undivided_after (network_in p) p.turns
 
--- the rows of so many turns
+-- the rows of the turns made
 abbrev pub rows_in : Progress → List Row
 rows_in p = whole (network_in p) p.turns
 
--- what is pending after them
+-- what is pending after the turns made
 abbrev pub pending_in : Progress → List Event
 pending_in p = (undivided_in p).pending
 

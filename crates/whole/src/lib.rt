@@ -13,6 +13,3 @@ pub mod whole;
 
 pub use event::{Event, Source};
 pub use whole::Whole;
-
-#[cfg(test)]
-mod tests;

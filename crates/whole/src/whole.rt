@@ -35,6 +35,7 @@ impl<'a> Model for Whole<'a> {
 }
 
 impl<'a> Whole<'a> {
+    ghost use Rattle.std.specs.Prelude.{length};
     ghost use Rattle.whole.specs.Progress.{rows_in, pending_in, later_by};
 
     /// Before the first turn.
@@ -78,7 +79,8 @@ impl<'a> Whole<'a> {
 
     /// One for each turn, oldest first.
     pub fn rows(&self) -> &[Row]
-        ensures { result.now ≡ rows_in self.now }
+        ensures rows { result.now ≡ rows_in self.now }
+        ensures one_for_each_turn { length result.now ≡ self.now.turns }
     {
         self.rows.as_slice()
     }

@@ -1,6 +1,6 @@
 use Rattle.std.proofs.Common.{rules, ◌<◌, ℕ, ap, sym, length, subst}
 use Rattle.std.specs.Prelude.{All}
-use Rattle.plan.specs.Cycles.{IsCycleFrom}
+use Rattle.plan.specs.Cycles.{HasNoCycleAt, IsCycleFrom}
 use Rattle.plan.proofs.Cycles.{sources_on_path}
 use Rattle.plan.proofs.Plans.{ends_below_at}
 use Rattle.plan.proofs.cycle.refuse_cycle.Goals as goal
@@ -12,8 +12,8 @@ lowest_cycle-requires c = record {
 
 pub names_along-requires : goal.names_along-requires
 names_along-requires c =
-    let cycle : (start : ℕ) × IsCycleFrom c.args.connections.now start c.in-Some.path.items = search rules in
+    let cycle : (start : ℕ) × IsCycleFrom c.args.connections.now start c.in-Some.path.items × ((lower : ℕ) → lower < start → HasNoCycleAt c.args.connections.now lower) = search rules in
     subst (λ es. All (λ x. x.source < length c.as_slice-federates.result.now) es) (sym c.as_slice.ensures.value)
     (sources_on_path c.args.connections.now (length c.as_slice-federates.result.now) cycle.0 c.in-Some.path.items cycle.0
     (ends_below_at c.args.draft.now c.args.connections.now (length c.as_slice-federates.result.now) c.requires (ap length c.as_slice-federates.ensures))
-    cycle.1.is_path)
+    cycle.1.way.is_path)

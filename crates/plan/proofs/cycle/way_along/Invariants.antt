@@ -1,5 +1,5 @@
 use Rattle.std.proofs.Common.{◌≡◌, ◌++◌, ◌∷◌, drop}
-use Rattle.plan.specs.Cycles.{way_from}
+use Rattle.plan.proofs.Cycles.{way_from}
 use Rattle.plan.proofs.cycle.way_along.Given as goal
 
 abbrev pub invariant-loop-branch : goal.invariant-loop-branch

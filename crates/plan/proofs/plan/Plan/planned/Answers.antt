@@ -1,4 +1,4 @@
-use Rattle.std.proofs.Common.{rules, ◌∙◌, ◌<◌, ◌^◌, ap, subst, length}
+use Rattle.std.proofs.Common.{◌∙◌, ◌<◌, ◌^◌, ap, subst, length}
 use Rattle.std.specs.Prelude.{AllPairs}
 use Rattle.network.specs.Lawful.{EndApart}
 use Rattle.plan.specs.Federation.{connections_of}

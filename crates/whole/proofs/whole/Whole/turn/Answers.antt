@@ -1,5 +1,5 @@
 -- The first turn among what is pending is made, and what is kept is kept.
-use Rattle.std.proofs.Common.{◌≡◌, ℕ, ◌+◌, ◌<◌, List, [], ◌∷◌, length, Some, refl, ap, sym, ◌∙◌, subst, slice_set}
+use Rattle.std.proofs.Common.{◌≡◌, ℕ, ◌+◌, ◌<◌, List, [], ◌∷◌, length, Some, refl, ap, sym, ◌∙◌, arith, subst, slice_set}
 use Rattle.std.proofs.lemmas.List.{length-append}
 use Rattle.std.proofs.lemmas.Option.{slice_get-get_or}
 use Rattle.network.specs.Undivided.{first_of_turns}
@@ -17,6 +17,20 @@ returns-in_default-clause-made c =
     first_of_turns-none (network_of c.self.inside.plan.now (programs_in c.self.inside.reactors.items) c.self.inside.inputs.now) c.self.inside.pending.items
     (rw (← c.as_slice.ensures.value) (c.in_default.ensures.first (programs_in c.self.inside.reactors.items) c.self.inside.inputs.now)) in
     (refl, subst IsDone c.self.view_is (ap (λ u. u.pending) c.self.invariant.undivided ∙ none))
+
+pub index-requires : goal.index-requires
+index-requires c =
+    let there : c.federate-federate.result < length c.self.inside.reactors.items =
+    rw (reactor_count c.self.inside.plan.now c.self.inside.reactors.items c.self.invariant.programs, c.federate-federate.ensures) c.in-Some.ensures.in_range in
+    let counted = c.self.inside.reactors.ok.0 in
+    omega (arith, counted, there)
+
+pub index_mut-reactor-requires : goal.index_mut-reactor-requires
+index_mut-reactor-requires c =
+    let there : c.federate-federate.result < length c.self.inside.reactors.items =
+    rw (reactor_count c.self.inside.plan.now c.self.inside.reactors.items c.self.invariant.programs, c.federate-federate.ensures) c.in-Some.ensures.in_range in
+    let counted = c.self.inside.reactors.ok.0 in
+    omega (arith, counted, there)
 
 pub turn_at-requires-clause-slots : goal.turn_at-requires-clause-slots
 turn_at-requires-clause-slots c =

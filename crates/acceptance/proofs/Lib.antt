@@ -1,0 +1,2 @@
+-- parts of a program that may be read
+pub mod Readable

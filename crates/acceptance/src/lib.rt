@@ -1,0 +1,28 @@
+//! Tests of what the crates below it let others call, and of what no clause there says: rows of small federations, least
+//! delays of worked examples, which lines and keys are refused and how, that calls succeed with ample memory, and that want
+//! of memory is told and nothing else. It has nothing of its own: a crate with tests is proved twice, so `plan`, `reactor`,
+//! `loadfed` and `whole` have theirs here.
+//!
+//! Begin with `federations`, whose texts the others load.
+#![tactic(auto)]
+
+#[cfg(test)]
+mod delays;
+#[cfg(test)]
+mod drafts;
+#[cfg(test)]
+mod federations;
+#[cfg(test)]
+mod files;
+#[cfg(test)]
+mod inputs;
+#[cfg(test)]
+mod lines;
+#[cfg(test)]
+mod memory;
+#[cfg(test)]
+mod plans;
+#[cfg(test)]
+mod programs;
+#[cfg(test)]
+mod rows;

@@ -1,0 +1,3 @@
+-- Lemmas.
+-- what is made of any words
+pub mod CommandLine
