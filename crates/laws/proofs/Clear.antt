@@ -8,7 +8,7 @@ use Rattle.network.specs.Lawful.{IsLawful}
 use Rattle.network.specs.Tables.{Table, IsTable}
 use Rattle.signal.specs.declared.signal.Signal.{Signal}
 use Rattle.signal.specs.declared.signal.Signal.TheVariants.{Net, Ltc, Tag, Msg}
-use Rattle.protocol.specs.Undone.{Held, put, put_all, drop_up_to, is_held_before, is_for_same}
+use Rattle.network.specs.Undone.{Held, put, put_all, drop_up_to, is_held_before, is_for_same}
 use Rattle.protocol.specs.Machine.{Member, standings_of}
 use Rattle.laws.proofs.Tags.{place, above, at_most_true, to_at_most, place_within}
 use Rattle.laws.proofs.Transit.{least_above}

@@ -12,7 +12,7 @@ use Rattle.signal.specs.declared.signal.Signal.{Signal}
 use Rattle.signal.specs.declared.signal.Signal.TheVariants.{Net, Ltc, Tag, Msg}
 use Rattle.protocol.specs.Refusals.{late, old_grant, wrong_signal, not_yours, below_grant, not_rising, after_stop}
 use Rattle.protocol.specs.Outcome.{Outcome, Refused, Nothing, Done, made_or, with_made}
-use Rattle.protocol.specs.Undone.{Held, put, first_tag, look, drop_up_to}
+use Rattle.network.specs.Undone.{Held, put, first_tag, look, drop_up_to}
 use Rattle.protocol.specs.Federate.{is_past, is_reached, is_told, next_event, accept_message, federate_announces, advance_to, turn_at, effect_of, scheduled_by, messages_from}
 use Rattle.protocol.specs.Standing.{Standing, after_message, after_net, after_ltc}
 use Rattle.protocol.specs.Grant.{Rule, IsSafeRule}

@@ -17,7 +17,7 @@ use Rattle.order.proofs.Lists.{from_each, each_more}
 use Rattle.order.proofs.Maker.{maker}
 use Rattle.signal.specs.declared.signal.Signal.{Signal}
 use Rattle.signal.specs.declared.signal.Signal.TheVariants.{Net, Ltc, Tag, Msg}
-use Rattle.protocol.specs.Undone.{Held, look}
+use Rattle.network.specs.Undone.{Held, look}
 use Rattle.protocol.specs.Federate.{is_past}
 use Rattle.protocol.specs.Grant.{Rule, IsSafeRule}
 use Rattle.protocol.specs.Machine.{Member, after_moves}

@@ -13,7 +13,7 @@ use Rattle.order.specs.Consistent.{IsConsistent}
 use Rattle.order.proofs.WholeTrace.{has_every_row}
 use Rattle.signal.specs.declared.signal.Signal.{Signal}
 use Rattle.signal.specs.declared.signal.Signal.TheVariants.{Net, Ltc, Tag, Msg}
-use Rattle.protocol.specs.Undone.{Held}
+use Rattle.network.specs.Undone.{Held}
 use Rattle.protocol.specs.Machine.{Member}
 use Rattle.laws.specs.Runs.{is_message, IsQuiet}
 use Rattle.laws.specs.Chains.{IsWalk, IsPending, undone, down, up}

@@ -22,7 +22,7 @@ use Rattle.order.proofs.OneMore.{sees_newest, sees_kept}
 use Rattle.order.proofs.ReadBack.{in_trace}
 use Rattle.signal.specs.declared.signal.Signal.{Signal}
 use Rattle.signal.specs.declared.signal.Signal.TheVariants.{Ltc}
-use Rattle.protocol.specs.Undone.{Held, look, first_tag, drop_up_to}
+use Rattle.network.specs.Undone.{Held, look, first_tag, drop_up_to}
 use Rattle.protocol.specs.Federate.{effect_of, scheduled_by, messages_from, turn_at}
 use Rattle.protocol.specs.Machine.{Member, with_member, stepped}
 use Rattle.laws.specs.Histories.{histories_of}

@@ -7,7 +7,7 @@ use Rattle.network.specs.Network.{Network}
 use Rattle.network.specs.Lawful.{IsLawful}
 use Rattle.signal.specs.declared.signal.Signal.{Signal}
 use Rattle.signal.specs.declared.signal.Signal.TheVariants.{Net, Ltc, Tag, Msg}
-use Rattle.protocol.specs.Undone.{Held, put, put_all, look, first_tag, drop_up_to}
+use Rattle.network.specs.Undone.{Held, put, put_all, look, first_tag, drop_up_to}
 use Rattle.protocol.specs.Federate.{Federate, next_event, turn_at, effect_of, scheduled_by, messages_from, is_reached, opening_federate, held_of}
 use Rattle.protocol.specs.Standing.{Standing, opening_standing, with_tag, after_message, after_net, after_ltc, after_grant}
 use Rattle.laws.proofs.Tags.{place, top, above, IsOptional, at_most_true, to_at_most, reached_true, same_itself, place_of_forever, place_of_origin, place_within, finite_is_logical, finite_before_forever, forever_is_logical, origin_is_logical}

@@ -13,7 +13,7 @@ use Rattle.order.proofs.Lists.{Among, each, each_more, each_both, each_among, fi
 use Rattle.order.proofs.Newest.{PortFacts, port_facts}
 use Rattle.signal.specs.declared.signal.Signal.{Signal}
 use Rattle.signal.specs.declared.signal.Signal.TheVariants.{Net, Ltc, Tag, Msg}
-use Rattle.protocol.specs.Undone.{Held}
+use Rattle.network.specs.Undone.{Held}
 use Rattle.protocol.specs.Federate.{scheduled_at, scheduled_by, message_over, sent_over, messages_from}
 use Rattle.laws.proofs.Tags.{same_true}
 use Rattle.laws.proofs.Turns.{same_number}

@@ -8,7 +8,7 @@ use Rattle.network.specs.Lawful.{IsLawful}
 use Rattle.network.specs.Tables.{Table, IsTable}
 use Rattle.signal.specs.declared.signal.Signal.{Signal}
 use Rattle.signal.specs.declared.signal.Signal.TheVariants.{Net, Ltc, Tag, Msg}
-use Rattle.protocol.specs.Undone.{Held}
+use Rattle.network.specs.Undone.{Held}
 use Rattle.protocol.specs.Federate.{is_past}
 use Rattle.protocol.specs.Grant.{Rule, IsSafeRule}
 use Rattle.protocol.specs.Machine.{Member, Move, after_moves}

@@ -20,7 +20,7 @@ use Rattle.signal.specs.declared.signal.Signal.{Signal}
 use Rattle.signal.specs.declared.signal.Signal.TheVariants.{Net, Ltc, Tag, Msg}
 use Rattle.protocol.specs.Refusals.{late, old_grant, wrong_signal}
 use Rattle.protocol.specs.Outcome.{Outcome, Refused, Nothing, Done, made_or, with_made}
-use Rattle.protocol.specs.Undone.{Held, put, put_all, look, first_tag, drop_up_to, is_held_before, is_for_same}
+use Rattle.network.specs.Undone.{Held, put, put_all, look, first_tag, drop_up_to, is_held_before, is_for_same}
 use Rattle.protocol.specs.Federate.{Federate, Stepped, held_of, opening_federate, is_past, is_reached, is_told, next_event, accept_message, federate_accepts, federate_announces, advance_to, federate_advances, effect_of, scheduled_at, scheduled_by, row_of_turn, turn_at}
 use Rattle.protocol.specs.Coordinator.{Coordinated, coordinator_accepts}
 use Rattle.protocol.specs.Grant.{Rule, IsSafeRule}

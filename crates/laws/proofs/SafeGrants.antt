@@ -3,14 +3,14 @@ use Rattle.std.proofs.Common.{◌≡◌, ℕ, zero, suc, ◌^◌, ◌<◌, ◌�
 use Rattle.std.specs.Prelude.{nat_eq, nat_lt, IsSomeAnd, if◌then◌else◌, ◌&&◌, ◌||◌}
 use Rattle.std.specs.List.{list_all}
 use Rattle.std.proofs.lemmas.Bool.Decides.{nat_tests}
-use Rattle.tag.specs.LogicalTime.{LogicalTime, IsLogicalTime, IsFinite, is_before, is_at_most, sum_of, forever}
+use Rattle.tag.specs.LogicalTime.{LogicalTime, IsLogicalTime, IsFinite, is_before, is_at_most, sum_of, forever, lesser, greater, predecessor_of}
 use Rattle.network.specs.Connection.{Connection}
 use Rattle.network.specs.Network.{Network}
 use Rattle.network.specs.Lawful.{IsLawful}
 use Rattle.network.specs.Tables.{Table}
 use Rattle.protocol.specs.Federate.{is_past}
-use Rattle.protocol.specs.Standing.{Standing, lesser}
-use Rattle.protocol.specs.Grant.{after_completed, all_below, is_before_arrival, passes_paths, passes_connection, passes_connections, is_eligible, grant_next, IsSafe, IsSafeRule, greater, lesser_arrival, bound_by_paths, bound_by_connections, bound_of, predecessor_of, grant_widest, is_safe, if_safe, grant_chosen}
+use Rattle.protocol.specs.Standing.{Standing}
+use Rattle.protocol.specs.Grant.{after_completed, all_below, is_before_arrival, passes_paths, passes_connection, passes_connections, is_eligible, grant_next, IsSafe, IsSafeRule, lesser_arrival, bound_by_paths, bound_by_connections, bound_of, grant_widest, is_safe, if_safe, grant_chosen}
 use Rattle.laws.specs.Runs.{IsFullRule}
 use Rattle.laws.proofs.Tags.{at_most_true, finite_is_logical, finite_before_forever, finite_by_place, before_then}
 use Rattle.laws.proofs.Tests.{both_left, both_right, both_hold, either_case, either_of}

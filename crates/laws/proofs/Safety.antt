@@ -15,7 +15,7 @@ use Rattle.signal.specs.declared.signal.Signal.{Signal}
 use Rattle.signal.specs.declared.signal.Signal.TheVariants.{Net, Ltc, Tag, Msg}
 use Rattle.protocol.specs.Refusals.{late, old_grant, wrong_signal, not_yours, below_grant, not_rising, after_stop}
 use Rattle.protocol.specs.Outcome.{Outcome, Refused, Nothing, Done, made_or, with_made}
-use Rattle.protocol.specs.Undone.{first_tag, put}
+use Rattle.network.specs.Undone.{first_tag, put}
 use Rattle.protocol.specs.Federate.{Federate, Stepped, is_past, is_reached, is_told, next_event, accept_message, federate_announces, advance_to, federate_advances, turn_at}
 use Rattle.protocol.specs.Standing.{Standing, after_message, after_net, after_ltc, after_grant}
 use Rattle.protocol.specs.Grant.{Rule, IsSafe, IsSafeRule, after_completed}

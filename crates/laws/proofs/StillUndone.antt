@@ -2,7 +2,7 @@
 use Rattle.std.proofs.Common.{◌≡◌, ℕ, ◌+◌, ◌<◌, ◌≤◌, Bool, true, false, cond, List, [], ◌∷◌, refl, sym, ap, subst, arith, min, max}
 use Rattle.std.specs.Prelude.{if◌then◌else◌, ◌||◌, ◌&&◌, nat_eq, nat_lt}
 use Rattle.tag.specs.LogicalTime.{LogicalTime, IsLogicalTime, is_before, is_same}
-use Rattle.protocol.specs.Undone.{Held, is_held_before, is_for_same, put, put_all, drop_up_to}
+use Rattle.network.specs.Undone.{Held, is_held_before, is_for_same, put, put_all, drop_up_to}
 use Rattle.laws.proofs.Tags.{place, top, before_true, before_false, same_true}
 use Rattle.laws.proofs.Tests.{both_left}
 

@@ -12,7 +12,7 @@ use Rattle.network.specs.Tables.{Table, IsLeastTable}
 use Rattle.signal.specs.declared.signal.Signal.{Signal}
 use Rattle.signal.specs.declared.signal.Signal.TheVariants.{Net}
 use Rattle.protocol.specs.Outcome.{Nothing, Done}
-use Rattle.protocol.specs.Undone.{Held, first_tag}
+use Rattle.network.specs.Undone.{Held, first_tag}
 use Rattle.protocol.specs.Federate.{Stepped, is_past, is_reached, is_told, next_event, advance_to, turn_at}
 use Rattle.protocol.specs.Standing.{Standing}
 use Rattle.protocol.specs.Grant.{Rule, IsSafeRule, is_before_arrival, passes_paths, passes_connections}

@@ -5,7 +5,7 @@ use Rattle.std.proofs.lemmas.Bool.Decides.{nat_tests}
 use Rattle.tag.specs.LogicalTime.{LogicalTime, IsLogicalTime, is_before, is_same}
 use Rattle.signal.specs.declared.signal.Signal.{Signal}
 use Rattle.signal.specs.declared.signal.Signal.TheVariants.{Net, Ltc, Tag, Msg}
-use Rattle.protocol.specs.Undone.{Held, is_held_before, is_for_same, put, put_all, drop_up_to}
+use Rattle.network.specs.Undone.{Held, is_held_before, is_for_same, put, put_all, drop_up_to}
 use Rattle.protocol.specs.Standing.{Standing}
 use Rattle.laws.proofs.Tags.{place, top, before_false, same_true, place_within}
 use Rattle.laws.proofs.Transit.{least_above}

@@ -2,8 +2,8 @@
 use Rattle.std.proofs.Common.{◌≡◌, ℕ, ◌+◌, ◌<◌, ◌≤◌, Bool, true, false, cond, List, [], ◌∷◌, refl, ap, arith, min, max}
 use Rattle.std.specs.Prelude.{filter, nat_lt, if◌then◌else◌}
 use Rattle.std.proofs.lemmas.Bool.Decides.{nat_tests}
-use Rattle.tag.specs.LogicalTime.{LogicalTime, IsLogicalTime, is_before, is_same}
-use Rattle.protocol.specs.Standing.{lesser, least_with, with_tag}
+use Rattle.tag.specs.LogicalTime.{LogicalTime, IsLogicalTime, is_before, is_same, lesser}
+use Rattle.protocol.specs.Standing.{least_with, with_tag}
 use Rattle.laws.proofs.Tags.{place, top, before_true, before_false, same_true, place_within}
 
 -- the least of these from a place on

@@ -9,7 +9,7 @@ use Rattle.network.specs.Network.{Network, Scheduling}
 use Rattle.network.specs.Lawful.{IsOwn, IsExternal, IsPlainDelay, no_delay, microstep, some_time}
 use Rattle.signal.specs.declared.signal.Signal.{Signal}
 use Rattle.signal.specs.declared.signal.Signal.TheVariants.{Net, Ltc, Tag, Msg}
-use Rattle.protocol.specs.Undone.{Held}
+use Rattle.network.specs.Undone.{Held}
 use Rattle.protocol.specs.Federate.{held_of, scheduled_at, message_over, sent_over, messages_from}
 use Rattle.laws.proofs.Tags.{place, top, before_true, at_most_true, same_true, finite_is_logical, origin_is_logical, sum_is_logical, sum_later, finite_by_place}
 use Rattle.laws.proofs.Upward.{next_ltc, IsOver, last_ltc, IsUp, least_key, AreNets}

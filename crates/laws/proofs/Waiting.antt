@@ -11,7 +11,7 @@ use Rattle.signal.specs.declared.signal.Signal.{Signal}
 use Rattle.signal.specs.declared.signal.Signal.TheVariants.{Net, Ltc, Tag, Msg}
 use Rattle.order.specs.Newest.{or_else}
 use Rattle.order.proofs.Maker.{maker}
-use Rattle.protocol.specs.Undone.{Held, put, put_all, look, drop_up_to, is_held_before, is_for_same}
+use Rattle.network.specs.Undone.{Held, put, put_all, look, drop_up_to, is_held_before, is_for_same}
 use Rattle.protocol.specs.Machine.{Member}
 use Rattle.laws.proofs.Tags.{place, above, before_true, before_false, same_true}
 use Rattle.laws.proofs.StillUndone.{IsUndone}

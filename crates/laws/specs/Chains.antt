@@ -4,7 +4,7 @@ use Rattle.tag.specs.LogicalTime.{LogicalTime}
 use Rattle.network.specs.Connection.{Connection, then_along}
 use Rattle.network.specs.Network.{Network}
 use Rattle.signal.specs.declared.signal.Signal.TheVariants.{Msg}
-use Rattle.protocol.specs.Undone.{Held}
+use Rattle.network.specs.Undone.{Held}
 use Rattle.protocol.specs.Federate.{is_past}
 use Rattle.protocol.specs.Grant.{Rule}
 use Rattle.protocol.specs.Machine.{Member, Move, after_moves}

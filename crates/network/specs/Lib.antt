@@ -5,6 +5,8 @@ pub mod Connection
 pub mod Event
 -- reactors, connections and external events together
 pub mod Network
+-- the events that one reactor has still to run
+pub mod Undone
 -- the undivided program: its turns, its rows, and each reactor's part of them
 pub mod Undivided
 -- what a network has to keep, so that the laws hold of it

@@ -9,7 +9,7 @@ use Rattle.signal.specs.declared.signal.Signal.{Signal}
 use Rattle.signal.specs.declared.signal.Signal.TheVariants.{Net, Ltc, Tag, Msg}
 use Rattle.protocol.specs.Refusals.{late, old_grant, wrong_signal}
 use Rattle.protocol.specs.Outcome.{Outcome, Refused, Nothing, Done}
-use Rattle.protocol.specs.Undone.{Held, put, put_all, look, first_tag, drop_up_to}
+use Rattle.network.specs.Undone.{Held, put, put_all, look, first_tag, drop_up_to}
 
 -- granted: up to which tag it may run. completed: the last tag that it ran. announced: the last NET, if no tag was run since
 pub record Federate : Type 0 where

@@ -1,12 +1,12 @@
 -- Which federate may be granted which tag: so that no message can still come to it at or below that tag.
-use Rattle.std.specs.Prelude.{◌≡◌, ℕ, zero, suc, ◌-◌, ◌^◌, ◌⊎◌, Bool, true, ◌&&◌, ◌||◌, nat_eq, nat_lt, IsTrue, if◌then◌else◌, List, [], ◌∷◌, Contains, Option, None, Some}
+use Rattle.std.specs.Prelude.{◌≡◌, ℕ, zero, suc, ◌⊎◌, Bool, true, ◌&&◌, ◌||◌, nat_eq, nat_lt, IsTrue, if◌then◌else◌, List, [], ◌∷◌, Contains, Option, None, Some}
 use Rattle.std.specs.List.{list_all}
-use Rattle.tag.specs.LogicalTime.{LogicalTime, IsLogicalTime, IsFinite, origin, forever, is_before, is_at_most, sum_of, successor_of}
+use Rattle.tag.specs.LogicalTime.{LogicalTime, IsLogicalTime, IsFinite, origin, forever, is_before, is_at_most, sum_of, successor_of, predecessor_of, lesser, greater}
 use Rattle.network.specs.Connection.{Connection, IsLeastDelay}
 use Rattle.network.specs.Network.{Network}
 use Rattle.network.specs.Tables.{Table}
 use Rattle.protocol.specs.Federate.{is_past}
-use Rattle.protocol.specs.Standing.{Standing, lesser}
+use Rattle.protocol.specs.Standing.{Standing}
 
 -- which tag to grant a federate, if any, where all stand so
 abbrev pub Rule : Type 0
@@ -67,10 +67,6 @@ is_eligible n table standings j =
 abbrev pub grant_next : Network → Table → Rule
 grant_next n table standings j = if is_eligible n table standings j then Some (standings j).next else None
 
--- the greater of two tags
-abbrev pub greater : LogicalTime → LogicalTime → LogicalTime
-greater g h = if is_before g h then h else g
-
 -- the lesser of a tag and of what arrives this delay after the next tag, if there is a path
 abbrev pub lesser_arrival : LogicalTime → Option LogicalTime → LogicalTime → LogicalTime
 lesser_arrival next None other = other
@@ -94,13 +90,6 @@ bound_by_connections standings j (c ∷ rest) =
 abbrev pub bound_of : Network → Table → (ℕ → Standing) → ℕ → LogicalTime
 bound_of n table standings j =
     greater (bound_by_paths table standings j n.reactors) (bound_by_connections standings j n.connections)
-
--- the greatest tag before this one, which isn't the first
-abbrev pub predecessor_of : LogicalTime → LogicalTime
-predecessor_of g =
-    if nat_lt 0 g.microstep
-    then record { time = g.time; microstep = g.microstep - 1 }
-    else record { time = g.time - 1; microstep = 2 ^ 32 - 1 }
 
 -- the wider grant: each eligible federate gets as much as is safe
 abbrev pub grant_widest : Network → Table → Rule

@@ -3,8 +3,6 @@
 pub mod Refusals
 -- how a step ends
 pub mod Outcome
--- the events that a federate has still to run
-pub mod Undone
 -- a federate's steps
 pub mod Federate
 -- what the coordinator knows of one federate

@@ -1,6 +1,6 @@
 -- What the coordinator knows of one federate.
 use Rattle.std.specs.Prelude.{Bool, true, false, if◌then◌else◌, List, [], ◌∷◌, filter, Option, None, Some}
-use Rattle.tag.specs.LogicalTime.{LogicalTime, origin, is_before, is_same}
+use Rattle.tag.specs.LogicalTime.{LogicalTime, origin, is_before, is_same, lesser}
 
 -- completed: its last LTC. granted: the last TAG to it. announced: a NET came. next: before this tag it does nothing, unless
 -- a message is routed to it first. transit: the tags of messages routed to it, strictly rising, without those that an LTC of it has
@@ -14,10 +14,6 @@ pub record Standing : Type 0 where
 
 abbrev pub opening_standing : Standing
 opening_standing = record { completed = None; granted = None; announced = false; next = origin; transit = [] }
-
--- the lesser of two tags
-abbrev pub lesser : LogicalTime → LogicalTime → LogicalTime
-lesser g h = if is_before g h then g else h
 
 -- the least of a tag and of these
 abbrev pub least_with : LogicalTime → List LogicalTime → LogicalTime

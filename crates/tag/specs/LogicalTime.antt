@@ -1,5 +1,5 @@
 -- Logical time. A tag is a point of it, a delay is a length of it; both are a time and a microstep.
-use Rattle.std.specs.Prelude.{◌≡◌, ℕ, ◌+◌, ◌*◌, ◌^◌, ◌<◌, ◌≤◌, Bool, if◌then◌else◌, nat_lt, nat_eq, ◌&&◌, ◌||◌}
+use Rattle.std.specs.Prelude.{◌≡◌, ℕ, ◌+◌, ◌-◌, ◌*◌, ◌^◌, ◌<◌, ◌≤◌, Bool, if◌then◌else◌, nat_lt, nat_eq, ◌&&◌, ◌||◌}
 
 -- a time in nanoseconds, then a microstep
 pub record LogicalTime : Type 0 where
@@ -36,6 +36,14 @@ is_at_most g h = nat_lt g.time h.time || (nat_eq g.time h.time && nat_lt g.micro
 abbrev pub is_same : LogicalTime → LogicalTime → Bool
 is_same g h = nat_eq g.time h.time && nat_eq g.microstep h.microstep
 
+-- the lesser of two
+abbrev pub lesser : LogicalTime → LogicalTime → LogicalTime
+lesser g h = if is_before g h then g else h
+
+-- the greater of two
+abbrev pub greater : LogicalTime → LogicalTime → LogicalTime
+greater g h = if is_before g h then h else g
+
 -- its number in that order, where microsteps are below 2^32
 abbrev pub place : LogicalTime → ℕ
 place g = g.time * 2 ^ 32 + g.microstep
@@ -70,6 +78,13 @@ one_microstep = record { time = 0; microstep = 1 }
 -- the tag after g
 abbrev pub successor_of : LogicalTime → LogicalTime
 successor_of g = sum_of g one_microstep
+
+-- the greatest tag before this one, which isn't the first; before FOREVER comes the last finite tag
+abbrev pub predecessor_of : LogicalTime → LogicalTime
+predecessor_of g =
+    if nat_lt 0 g.microstep
+    then record { time = g.time; microstep = g.microstep - 1 }
+    else record { time = g.time - 1; microstep = 2 ^ 32 - 1 }
 
 -- the delay of a connection's `after` or of a scheduling with this time: 0 is one microstep
 abbrev pub delay_of : ℕ → LogicalTime

@@ -1,4 +1,4 @@
--- The events that a federate has still to run: a list that strictly rises by tag and slot, with one value for a slot at a tag.
+-- The events that one reactor has still to run: a list that strictly rises by tag and slot, with one value for a slot at a tag.
 use Rattle.std.specs.Prelude.{ℕ, ℤ, Bool, ◌&&◌, ◌||◌, nat_eq, nat_lt, if◌then◌else◌, List, [], ◌∷◌, filter, Option, None, Some}
 use Rattle.tag.specs.LogicalTime.{LogicalTime, is_before, is_same}
 
