@@ -1,6 +1,6 @@
 -- Whatever moves are made, all that is pending stays clear of what is completed.
 use Rattle.std.proofs.Common.{◌≡◌, ℕ, ◌+◌, ◌<◌, ◌≤◌, Bool, true, false, cond, List, [], ◌∷◌, ◌++◌, length, refl, sym, ap, subst, ◌∙◌, arith, Option, None, Some, ℤ}
-use Rattle.std.specs.Prelude.{slice_get, map, nat_eq, if◌then◌else◌, ◌&&◌, ◌||◌}
+use Rattle.std.specs.Prelude.{slice_get, map, nat_eq, if◌then◌else◌, not, ◌&&◌, ◌||◌}
 use Rattle.std.proofs.Math.Path.{fun_ext}
 use Rattle.std.proofs.lemmas.Bool.{eq-eqb}
 use Rattle.tag.specs.LogicalTime.{LogicalTime, IsLogicalTime, is_at_most, is_same, forever}
@@ -10,7 +10,7 @@ use Rattle.network.specs.Lawful.{IsLawful}
 use Rattle.network.specs.Tables.{Table, IsTable}
 use Rattle.signal.specs.declared.signal.Signal.{Signal}
 use Rattle.signal.specs.declared.signal.Signal.TheVariants.{Net, Ltc, Tag, Msg}
-use Rattle.protocol.specs.Refusals.{late, old_grant, wrong_signal, not_yours, below_grant, not_rising, after_stop}
+use Rattle.protocol.specs.declared.refusal.Refusal.TheVariants.{Late, OldGrant, WrongSignal, NotYours, BelowGrant, NotRising, AfterStop}
 use Rattle.protocol.specs.Outcome.{Outcome, Refused, Nothing, Done, made_or, with_made}
 use Rattle.network.specs.Undone.{Held, put, first_tag, look, drop_up_to}
 use Rattle.protocol.specs.Federate.{is_past, is_reached, is_told, next_event, accept_message, federate_announces, advance_to, turn_at, effect_of, scheduled_by, messages_from}
@@ -33,7 +33,7 @@ abbrev pub AllClear : Network → (ℕ → Member) → Type 0
 AllClear n members = (k : ℕ) → IsMemberClear n (completed_of members) k (members k).federate.undone (members k).up (members k).down
 
 abbrev pub MakesClear : Network → Outcome (ℕ → Member) → Type 0
-MakesClear n (Refused number) = Unit {0}
+MakesClear n (Refused refusal) = Unit {0}
 MakesClear n Nothing = Unit {0}
 MakesClear n (Done members) = AllClear n members
 
@@ -127,22 +127,22 @@ kept_clears n members i mine e own clear =
 
 -- how one federate's step ends: what it completed stays
 abbrev pub StaysClear : Network → (ℕ → Option LogicalTime) → ℕ → Option LogicalTime → Outcome Member → Type 0
-StaysClear n completed i was (Refused number) = Unit {0}
+StaysClear n completed i was (Refused refusal) = Unit {0}
 StaysClear n completed i was Nothing = Unit {0}
 StaysClear n completed i was (Done m) = (m.federate.completed ≡ was) × IsMemberClear n completed i m.federate.undone m.up m.down
 
 stays_unless : (n : Network) (members : ℕ → Member) (i : ℕ) (o : Outcome Member) (b : Bool) → StaysClear n (completed_of members) i (members i).federate.completed o → AllClear n members → MakesClear n (if b then Nothing else with_made (with_member members i) o)
 stays_unless n members i o true s clear = tt
-stays_unless n members i (Refused number) false s clear = tt
+stays_unless n members i (Refused refusal) false s clear = tt
 stays_unless n members i Nothing false s clear = tt
 stays_unless n members i (Done m) false s clear = kept_clears n members i m s.0 s.1 clear
 
-two_ifs : {A : Type 0} (P : Outcome A → Type 0) (b c : Bool) (x y z : Outcome A) → P x → P y → P z → P (if b then (if c then x else y) else z)
+two_ifs : {A : Type 0} (P : Outcome A → Type 0) (b c : Bool) (x y z : Outcome A) → P x → P y → P z → P (if not b then z else if not c then y else x)
 two_ifs P true true x y z p q r = p
 two_ifs P true false x y z p q r = q
 two_ifs P false c x y z p q r = r
 
-three_ifs : {A : Type 0} (P : Outcome A → Type 0) (b c d : Bool) (x y z u : Outcome A) → P x → P y → P z → P u → P (if b then (if c then (if d then x else y) else z) else u)
+three_ifs : {A : Type 0} (P : Outcome A → Type 0) (b c d : Bool) (x y z u : Outcome A) → P x → P y → P z → P u → P (if not b then u else if not c then z else if not d then y else x)
 three_ifs P true true true x y z u p q r t = p
 three_ifs P true true false x y z u p q r t = q
 three_ifs P true false d x y z u p q r t = r
@@ -155,7 +155,7 @@ message_stays : (n : Network) (completed : ℕ → Option LogicalTime) (i : ℕ)
 message_stays n completed i m rest None s v p a = tt
 message_stays n completed i m rest (Some c) s v p a =
     two_ifs (λ x. StaysClear n completed i m.federate.completed (with_made (stepped m rest) x)) (nat_eq c.target i && is_at_most s n.stop) (is_past m.federate.completed s && is_past m.federate.granted s)
-    (Done (record { after = record m.federate { undone = put (record { tag = s; slot = c.slot; value = v }) m.federate.undone }; sent = [] })) (Refused late) (Refused wrong_signal)
+    (Done (record { after = record m.federate { undone = put (record { tag = s; slot = c.slot; value = v }) m.federate.undone }; sent = [] })) (Refused Late) (Refused WrongSignal)
     (refl, record { held = put_clear n completed i (record { tag = s; slot = c.slot; value = v }) m.federate.undone p a.held; upward = with_nothing n completed m.up a.upward; downward = a.downward })
     tt tt
 
@@ -165,7 +165,7 @@ take_stays n completed i m (Net g ∷ rest) a = tt
 take_stays n completed i m (Ltc g ∷ rest) a = tt
 take_stays n completed i m (Tag g ∷ rest) a =
     two_ifs (λ x. StaysClear n completed i m.federate.completed (with_made (stepped m rest) x)) (is_at_most g n.stop) (is_past m.federate.granted g)
-    (Done (record { after = record m.federate { granted = Some g }; sent = [] })) (Refused old_grant) (Refused wrong_signal)
+    (Done (record { after = record m.federate { granted = Some g }; sent = [] })) (Refused OldGrant) (Refused WrongSignal)
     (refl, record { held = a.held; upward = with_nothing n completed m.up a.upward; downward = a.downward }) tt tt
 take_stays n completed i m (Msg c s v ∷ rest) a =
     message_stays n completed i m rest (slice_get n.connections c) s v a.downward.0 (record { held = a.held; upward = a.upward; downward = a.downward.1 })
@@ -186,7 +186,7 @@ advance_clears n table members j (Some g) lost lawful facts sound first clear = 
 
 -- what the coordinator sends is clear
 abbrev pub SendsClear : Network → (ℕ → Option LogicalTime) → Outcome Coordinated → Type 0
-SendsClear n completed (Refused number) = Unit {0}
+SendsClear n completed (Refused refusal) = Unit {0}
 SendsClear n completed Nothing = Unit {0}
 SendsClear n completed (Done made) = (j : ℕ) → AreDownClear n completed j (sent_to j made.sent)
 
@@ -199,15 +199,15 @@ route_sends n completed standings i k s v None c = tt
 route_sends n completed standings i k s v (Some c) clear =
     three_ifs (SendsClear n completed) (nat_eq c.source i) (is_at_most s n.stop) (is_past (standings c.target).granted s)
     (Done (record { after = with_standing standings c.target (after_message (standings c.target) s); sent = record { federate = c.target; signal = Msg k s v } ∷ [] }))
-    (Refused below_grant) (Refused after_stop) (Refused not_yours)
+    (Refused BelowGrant) (Refused AfterStop) (Refused NotYours)
     (λ j. post_clear n completed j c.target k s v (nat_eq j c.target) (λ e. (let P : ℕ → Type 0 = λ x. IsClear n completed x s in subst P (sym (same_number j c.target e)) clear)))
     tt tt tt
 
 coordinator_sends : (n : Network) (completed : ℕ → Option LogicalTime) (standings : ℕ → Standing) (i : ℕ) (signal : Signal) (rest : List Signal) → AreUpClear n completed (signal ∷ rest) → SendsClear n completed (coordinator_takes n standings i signal)
 coordinator_sends n completed standings i (Net g) rest a =
-    two_ifs (SendsClear n completed) (is_at_most g n.stop || is_same g forever) (is_past (standings i).completed g) (Done (noted standings i (after_net (standings i) g))) (Refused not_rising) (Refused after_stop) (λ j. tt) tt tt
+    two_ifs (SendsClear n completed) (is_at_most g n.stop || is_same g forever) (is_past (standings i).completed g) (Done (noted standings i (after_net (standings i) g))) (Refused NotRising) (Refused AfterStop) (λ j. tt) tt tt
 coordinator_sends n completed standings i (Ltc g) rest a =
-    two_ifs (SendsClear n completed) (is_at_most g n.stop) (is_past (standings i).completed g) (Done (noted standings i (after_ltc (standings i) g))) (Refused not_rising) (Refused after_stop) (λ j. tt) tt tt
+    two_ifs (SendsClear n completed) (is_at_most g n.stop) (is_past (standings i).completed g) (Done (noted standings i (after_ltc (standings i) g))) (Refused NotRising) (Refused AfterStop) (λ j. tt) tt tt
 coordinator_sends n completed standings i (Tag g) rest a = tt
 coordinator_sends n completed standings i (Msg k s v) rest a = route_sends n completed standings i k s v (slice_get n.connections k) a.0
 
@@ -230,7 +230,7 @@ made_clears n rule members made clear sent k =
     record { held = (clear k).held; upward = (clear k).upward; downward = down_clear-append n (completed_of members) k (members k).down (sent_to k (made.sent ++ grants_from n rule made.after 0 n.reactors)) (clear k).downward more }
 
 coordinated_clears : (n : Network) (rule : Rule) (members : ℕ → Member) (o : Outcome Coordinated) → AllClear n members → SendsClear n (completed_of members) o → MakesClear n (with_made (λ made. λ j. coordinated made j (members j)) (with_made (with_grants n rule) o))
-coordinated_clears n rule members (Refused number) clear sent = tt
+coordinated_clears n rule members (Refused refusal) clear sent = tt
 coordinated_clears n rule members Nothing clear sent = tt
 coordinated_clears n rule members (Done made) clear sent = made_clears n rule members made clear sent
 
@@ -257,7 +257,7 @@ move_clears n table rule members (Advance i) lawful facts sound clear = advance_
 move_clears n table rule members (Lose i) lawful facts sound clear = kept_clears n members i (record (members i) { lost = true }) refl (clear i) clear
 
 made_or_clear : (n : Network) (members : ℕ → Member) (o : Outcome (ℕ → Member)) → AllClear n members → MakesClear n o → AllClear n (made_or members o)
-made_or_clear n members (Refused number) c m = c
+made_or_clear n members (Refused refusal) c m = c
 made_or_clear n members Nothing c m = c
 made_or_clear n members (Done after) c m = m
 

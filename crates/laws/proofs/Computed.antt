@@ -3,7 +3,7 @@ use Rattle.std.proofs.Common.{◌≡◌, ℕ, false, Some, refl, ◌∙◌}
 use Rattle.tag.specs.LogicalTime.{forever}
 use Rattle.network.specs.Examples.{at}
 use Rattle.network.specs.Undivided.{whole, part}
-use Rattle.protocol.specs.Refusals.{below_grant}
+use Rattle.protocol.specs.declared.refusal.Refusal.TheVariants.{BelowGrant}
 use Rattle.protocol.specs.Outcome.{Refused}
 use Rattle.protocol.specs.Federate.{federate_announces, federate_advances}
 use Rattle.protocol.specs.Grant.{Rule, grant_next, passes_paths}
@@ -77,19 +77,19 @@ pub ring_not_by_paths : passes_paths ring ring_table (standings_of (ring_after f
 unfolding ring_after
 ring_not_by_paths = frozen_gives 3 ring ring_rules first_moves (λ members. passes_paths ring ring_table (standings_of members) 1 (at 0 0)) ∙ refl
 
-pub last_ltcs_refused : next_taken two_microsteps by_last_ltcs both_microsteps 0 ≡ Refused below_grant
+pub last_ltcs_refused : next_taken two_microsteps by_last_ltcs both_microsteps 0 ≡ Refused BelowGrant
 unfolding next_taken
 last_ltcs_refused =
     frozen_gives 3 two_microsteps (λ move. by_last_ltcs) both_microsteps
     (λ members. outcome_of two_microsteps by_last_ltcs members (ToCoordinator 0)) ∙ refl
 
-pub equal_paths_refused : next_taken one_tag by_equal_paths first_turn 0 ≡ Refused below_grant
+pub equal_paths_refused : next_taken one_tag by_equal_paths first_turn 0 ≡ Refused BelowGrant
 unfolding next_taken
 equal_paths_refused =
     frozen_gives 3 one_tag (λ move. by_equal_paths) first_turn
     (λ members. outcome_of one_tag by_equal_paths members (ToCoordinator 0)) ∙ refl
 
-pub direct_refused : next_taken both_ends by_direct second_turn 1 ≡ Refused below_grant
+pub direct_refused : next_taken both_ends by_direct second_turn 1 ≡ Refused BelowGrant
 unfolding next_taken
 direct_refused =
     frozen_gives 3 both_ends (λ move. by_direct) second_turn

@@ -1,6 +1,6 @@
 -- After every list of moves what waits is what the histories call for, and so they are consistent.
 use Rattle.std.proofs.Common.{◌≡◌, ℕ, zero, suc, ◌<◌, Bool, true, false, cond, List, [], ◌∷◌, ◌++◌, length, refl, sym, ap, subst, ◌∙◌, Option, None, Some, ℤ}
-use Rattle.std.specs.Prelude.{slice_get, filter, map, nat_eq, if◌then◌else◌, ◌&&◌, ◌||◌, AllPairs}
+use Rattle.std.specs.Prelude.{slice_get, filter, map, nat_eq, if◌then◌else◌, not, ◌&&◌, ◌||◌, AllPairs}
 use Rattle.std.specs.List.{AllByRecursion}
 use Rattle.std.proofs.lemmas.Bool.{eq-eqb, false_from_ne_true}
 use Rattle.std.proofs.lemmas.List.{append-nil}
@@ -19,7 +19,7 @@ use Rattle.order.proofs.Maker.{maker, source_or, is_for_parts, events_for}
 use Rattle.order.proofs.Newest.{PortFacts, port_facts, latest_value}
 use Rattle.signal.specs.declared.signal.Signal.{Signal}
 use Rattle.signal.specs.declared.signal.Signal.TheVariants.{Net, Ltc, Tag, Msg}
-use Rattle.protocol.specs.Refusals.{late, old_grant, wrong_signal, not_yours, below_grant, not_rising, after_stop}
+use Rattle.protocol.specs.declared.refusal.Refusal.TheVariants.{Late, OldGrant, WrongSignal, NotYours, BelowGrant, NotRising, AfterStop}
 use Rattle.protocol.specs.Outcome.{Outcome, Refused, Nothing, Done, made_or, with_made}
 use Rattle.network.specs.Undone.{put, look, first_tag}
 use Rattle.protocol.specs.Federate.{held_of, is_past, is_reached, is_told, next_event, accept_message, federate_announces, advance_to, turn_at}
@@ -43,7 +43,7 @@ HasTrace n members = (trace : ℕ → List Turn) × IsTraced n members trace
 
 -- how a move ends
 abbrev pub MoveTraces : Network → Outcome (ℕ → Member) → Type 0
-MoveTraces n (Refused number) = Unit {0}
+MoveTraces n (Refused refusal) = Unit {0}
 MoveTraces n Nothing = Unit {0}
 MoveTraces n (Done members) = AllClear n members → HasTrace n members
 
@@ -73,13 +73,13 @@ stays_traced n members trace i m s w = record {
 
 -- how one federate's step ends
 abbrev pub StepTraces : Network → ℕ → Member → List Signal → Outcome Member → Type 0
-StepTraces n i was down (Refused number) = Unit {0}
+StepTraces n i was down (Refused refusal) = Unit {0}
 StepTraces n i was down Nothing = Unit {0}
 StepTraces n i was down (Done m) = StaysTraced n i was down m
 
 step_traces : (n : Network) (members : ℕ → Member) (i : ℕ) (o : Outcome Member) (lost : Bool) → StepTraces n i (members i) (members i).down o → HasTrace n members → MoveTraces n (if lost then Nothing else with_made (with_member members i) o)
 step_traces n members i o true s w = tt
-step_traces n members i (Refused number) false s w = tt
+step_traces n members i (Refused refusal) false s w = tt
 step_traces n members i Nothing false s w = tt
 step_traces n members i (Done m) false s w = λ clear. (w.0, stays_traced n members w.0 i m s w.1)
 
@@ -106,7 +106,7 @@ message_stays n i m rest k (Some c) s v e = by_tests (nat_eq c.target i && is_at
         ap (or_else (last_message n i t slot rest)) (look_put (record { tag = s; slot = c.slot; value = v }) m.federate.undone t slot ∙ ap (λ (x : Option ℤ). or_else x (look m.federate.undone t slot)) brought)
         ∙ sym (or_apart (last_message n i t slot rest) (brought_over (slice_get n.connections k) s v i t slot) (look m.federate.undone t slot))
 
-    by_tests : (b d : Bool) → (nat_eq c.target i && is_at_most s n.stop) ≡ b → StepTraces n i m (Msg k s v ∷ rest) (with_made (stepped m rest) (if b then (if d then Done (record { after = record m.federate { undone = put (record { tag = s; slot = c.slot; value = v }) m.federate.undone }; sent = [] }) else Refused late) else Refused wrong_signal))
+    by_tests : (b d : Bool) → (nat_eq c.target i && is_at_most s n.stop) ≡ b → StepTraces n i m (Msg k s v ∷ rest) (with_made (stepped m rest) (if not b then Refused WrongSignal else if not d then Refused Late else Done (record { after = record m.federate { undone = put (record { tag = s; slot = c.slot; value = v }) m.federate.undone }; sent = [] })))
     by_tests true true h = record {
       rows = refl;
       up = nothing_up n m.up;
@@ -115,7 +115,7 @@ message_stays n i m rest k (Some c) s v e = by_tests (nat_eq c.target i && is_at
     by_tests true false h = tt
     by_tests false d h = tt
 
-grant_stays : (n : Network) (i : ℕ) (m : Member) (g : LogicalTime) (rest : List Signal) (b d : Bool) → StepTraces n i m (Tag g ∷ rest) (with_made (stepped m rest) (if b then (if d then Done (record { after = record m.federate { granted = Some g }; sent = [] }) else Refused old_grant) else Refused wrong_signal))
+grant_stays : (n : Network) (i : ℕ) (m : Member) (g : LogicalTime) (rest : List Signal) (b d : Bool) → StepTraces n i m (Tag g ∷ rest) (with_made (stepped m rest) (if not b then Refused WrongSignal else if not d then Refused OldGrant else Done (record { after = record m.federate { granted = Some g }; sent = [] })))
 grant_stays n i m g rest true true = record { rows = refl; up = nothing_up n m.up; rest = λ t slot. refl }
 grant_stays n i m g rest true false = tt
 grant_stays n i m g rest false d = tt
@@ -165,7 +165,7 @@ module _ (n : Network) (members : ℕ → Member) (i : ℕ) (rest : List Signal)
   Sends sent = (a : ℕ) (t : LogicalTime) (slot : ℕ) → SendsAt sent a t slot
 
   abbrev TakeSends : Outcome Coordinated → Type 0
-  TakeSends (Refused number) = Unit {0}
+  TakeSends (Refused refusal) = Unit {0}
   TakeSends Nothing = Unit {0}
   TakeSends (Done made) = Sends made.sent
 
@@ -179,10 +179,6 @@ module _ (n : Network) (members : ℕ → Member) (i : ℕ) (rest : List Signal)
   nothing_sends signal e nothing a t slot =
       let up = popped_same signal e a t slot (nothing a t slot) (maker n a slot) in
       λ y. or_else (up y) (or_else (last_message n a t slot (members a).down) (look (members a).federate.undone t slot))
-
-  if_sends : (b : Bool) (x : Outcome Coordinated) (number : ℕ) → (b ≡ true → TakeSends x) → TakeSends (if b then x else Refused number)
-  if_sends true x number h = h refl
-  if_sends false x number h = tt
 
   abbrev post_to : ℕ → ℕ → LogicalTime → ℤ → List Post
   post_to target k s v = record { federate = target; signal = Msg k s v } ∷ []
@@ -221,7 +217,7 @@ module _ (n : Network) (members : ℕ → Member) (i : ℕ) (rest : List Signal)
           let sent = sent_brings_none a t slot c.target k s v (nat_eq a c.target) none in
           λ y. or_else (up y) (or_else (or_else (sent y) (last_message n a t slot (members a).down)) (look (members a).federate.undone t slot))
 
-  noted_sends : (signal : Signal) (b d : Bool) (standings : ℕ → Standing) (mine : Standing) → (members i).up ≡ signal ∷ rest → ((a : ℕ) (t : LogicalTime) (slot : ℕ) → last_message n a t slot (signal ∷ rest) ≡ last_message n a t slot rest) → TakeSends (if b then (if d then Done (noted standings i mine) else Refused not_rising) else Refused after_stop)
+  noted_sends : (signal : Signal) (b d : Bool) (standings : ℕ → Standing) (mine : Standing) → (members i).up ≡ signal ∷ rest → ((a : ℕ) (t : LogicalTime) (slot : ℕ) → last_message n a t slot (signal ∷ rest) ≡ last_message n a t slot rest) → TakeSends (if not b then Refused AfterStop else if not d then Refused NotRising else Done (noted standings i mine))
   noted_sends signal true true standings mine e nothing = nothing_sends signal e nothing
   noted_sends signal true false standings mine e nothing = tt
   noted_sends signal false d standings mine e nothing = tt
@@ -230,7 +226,7 @@ module _ (n : Network) (members : ℕ → Member) (i : ℕ) (rest : List Signal)
   route_sends L standings k s v None e at = tt
   route_sends L standings k s v (Some c) e at = by_tests (nat_eq c.source i) (is_at_most s n.stop) (is_past (standings c.target).granted s) refl
     where
-      by_tests : (b d f : Bool) → nat_eq c.source i ≡ b → TakeSends (if b then (if d then (if f then Done (record { after = with_standing standings c.target (after_message (standings c.target) s); sent = record { federate = c.target; signal = Msg k s v } ∷ [] }) else Refused below_grant) else Refused after_stop) else Refused not_yours)
+      by_tests : (b d f : Bool) → nat_eq c.source i ≡ b → TakeSends (if not b then Refused NotYours else if not d then Refused AfterStop else if not f then Refused BelowGrant else Done (record { after = with_standing standings c.target (after_message (standings c.target) s); sent = record { federate = c.target; signal = Msg k s v } ∷ [] }))
       by_tests true true true h = message_sends k s v c e at (at_index (PortFacts n) n.connections k c (port_facts n L) at) (same_number c.source i h)
       by_tests true true false h = tt
       by_tests true false f h = tt
@@ -275,7 +271,7 @@ module _ (n : Network) (members : ℕ → Member) (i : ℕ) (rest : List Signal)
           ∙ sends a t slot)
 
   coordinated_traces : (rule : Rule) (o : Outcome Coordinated) → TakeSends o → HasTrace n members → MoveTraces n (with_made (λ made. λ j. coordinated made j (popped j)) (with_made (with_grants n rule) o))
-  coordinated_traces rule (Refused number) sends w = tt
+  coordinated_traces rule (Refused refusal) sends w = tt
   coordinated_traces rule Nothing sends w = tt
   coordinated_traces rule (Done made) sends w = λ clear. made_traces rule made sends w
 
@@ -297,7 +293,7 @@ move_traces n table rule members (Advance i) lawful sound replayed w = advance_t
 move_traces n table rule members (Lose i) lawful sound replayed w = λ clear. (w.0, stays_traced n members w.0 i (record (members i) { lost = true }) (lose_stays n i (members i)) w.1)
 
 made_traced : (n : Network) (members : ℕ → Member) (o : Outcome (ℕ → Member)) → HasTrace n members → MoveTraces n o → AllClear n (made_or members o) → HasTrace n (made_or members o)
-made_traced n members (Refused number) w m clear = w
+made_traced n members (Refused refusal) w m clear = w
 made_traced n members Nothing w m clear = w
 made_traced n members (Done after) w m clear = m clear
 

@@ -1,6 +1,6 @@
 -- What each federate keeps of its turns: its rows and its states are those of replaying the history that its rows tell.
 use Rattle.std.proofs.Common.{◌≡◌, ℕ, ◌<◌, ◌≤◌, Bool, true, false, cond, IsTrue, List, [], ◌∷◌, ◌++◌, length, refl, sym, ap, subst, ◌∙◌, arith, Option, None, Some, ℤ}
-use Rattle.std.specs.Prelude.{slice_get, filter, map, reverse, nat_eq, if◌then◌else◌, ◌&&◌, All}
+use Rattle.std.specs.Prelude.{slice_get, filter, map, reverse, nat_eq, if◌then◌else◌, not, ◌&&◌, All}
 use Rattle.std.specs.List.{AllByRecursion}
 use Rattle.std.proofs.lemmas.Bool.Decides.{nat_tests}
 use Rattle.std.proofs.lemmas.List.{map-append, reverse-append}
@@ -18,7 +18,8 @@ use Rattle.order.proofs.Meet.{IsRising}
 use Rattle.order.proofs.ReadBack.{listing_reads}
 use Rattle.signal.specs.declared.signal.Signal.{Signal}
 use Rattle.signal.specs.declared.signal.Signal.TheVariants.{Net, Ltc, Tag, Msg}
-use Rattle.protocol.specs.Refusals.{late, old_grant, wrong_signal}
+use Rattle.protocol.specs.declared.refusal.Refusal.{Refusal}
+use Rattle.protocol.specs.declared.refusal.Refusal.TheVariants.{Late, OldGrant, WrongSignal}
 use Rattle.protocol.specs.Outcome.{Outcome, Refused, Nothing, Done, made_or, with_made}
 use Rattle.network.specs.Undone.{Held, put, put_all, look, first_tag, drop_up_to, is_held_before, is_for_same}
 use Rattle.protocol.specs.Federate.{Federate, Stepped, held_of, opening_federate, is_past, is_reached, is_told, next_event, accept_message, federate_accepts, federate_announces, advance_to, federate_advances, effect_of, scheduled_at, scheduled_by, row_of_turn, turn_at}
@@ -168,13 +169,13 @@ turn_replays n j f g lawful undone first r =
 
 -- how a federate's step ends
 abbrev pub StepReplays : Network → ℕ → Outcome Stepped → Type 0
-StepReplays n j (Refused number) = Unit {0}
+StepReplays n j (Refused refusal) = Unit {0}
 StepReplays n j Nothing = Unit {0}
 StepReplays n j (Done made) = IsReplayed n j made.after
 
-step_if : (n : Network) (j : ℕ) (b : Bool) (x : Outcome Stepped) (number : ℕ) → (b ≡ true → StepReplays n j x) → StepReplays n j (if b then x else Refused number)
-step_if n j true x number h = h refl
-step_if n j false x number h = tt
+step_if : (n : Network) (j : ℕ) (b : Bool) (x : Outcome Stepped) (refusal : Refusal) → (b ≡ true → StepReplays n j x) → StepReplays n j (if not b then Refused refusal else x)
+step_if n j true x refusal h = h refl
+step_if n j false x refusal h = tt
 
 message_replays : (n : Network) (j : ℕ) (f : Federate) (number : ℕ) (o : Option Connection) (g : LogicalTime) (v : ℤ) → IsLawful n → slice_get n.connections number ≡ o → IsReplayed n j f → StepReplays n j (accept_message n j f o g v)
 message_replays n j f number None g v lawful e r = tt
@@ -183,8 +184,8 @@ message_replays n j f number (Some c) g v lawful e r =
     let made : Stepped = record { after = record f { undone = put (record { tag = g; slot = c.slot; value = v }) f.undone }; sent = [] } in
     let connected : IsConnected n c = contained_is n c lawful (contains_at n.connections number c e) in
     let P : ℕ → Type 0 = λ x. c.slot < n.slots x in
-    step_if n j (nat_eq c.target j && is_at_most g n.stop) (if is_past f.completed g && is_past f.granted g then Done made else Refused late) wrong_signal
-    (λ t. step_if n j (is_past f.completed g && is_past f.granted g) (Done made) late
+    step_if n j (nat_eq c.target j && is_at_most g n.stop) (if not (is_past f.completed g && is_past f.granted g) then Refused Late else Done made) WrongSignal
+    (λ t. step_if n j (is_past f.completed g && is_past f.granted g) (Done made) Late
     (λ q. record {
       slots = put_at_slots (n.slots j) (record { tag = g; slot = c.slot; value = v }) f.undone (subst P (same_number c.target j (both_left (nat_eq c.target j) (is_at_most g n.stop) t)) connected.slot) r.slots;
       rows = r.rows;
@@ -199,8 +200,8 @@ accepts_replays n j f (Net g) lawful r = tt
 accepts_replays n j f (Ltc g) lawful r = tt
 accepts_replays n j f (Tag g) lawful r =
     let made : Stepped = record { after = record f { granted = Some g }; sent = [] } in
-    step_if n j (is_at_most g n.stop) (if is_past f.granted g then Done made else Refused old_grant) wrong_signal
-    (λ t. step_if n j (is_past f.granted g) (Done made) old_grant
+    step_if n j (is_at_most g n.stop) (if not (is_past f.granted g) then Refused OldGrant else Done made) WrongSignal
+    (λ t. step_if n j (is_past f.granted g) (Done made) OldGrant
     (λ q. record { slots = r.slots; rows = r.rows; states = r.states; newest = r.newest; taken = r.taken; rising = r.rising }))
 accepts_replays n j f (Msg number g v) lawful r = message_replays n j f number (slice_get n.connections number) g v lawful refl r
 
@@ -221,7 +222,7 @@ abbrev pub AllReplayed : Network → (ℕ → Member) → Type 0
 AllReplayed n members = (j : ℕ) → IsReplayed n j (members j).federate
 
 abbrev MoveReplays : Network → Outcome (ℕ → Member) → Type 0
-MoveReplays n (Refused number) = Unit {0}
+MoveReplays n (Refused refusal) = Unit {0}
 MoveReplays n Nothing = Unit {0}
 MoveReplays n (Done members) = AllReplayed n members
 
@@ -234,7 +235,7 @@ member_replays n members i m own all j =
 
 step_replays : (n : Network) (members : ℕ → Member) (i : ℕ) (rest : List Signal) (o : Outcome Stepped) (lost : Bool) → StepReplays n i o → AllReplayed n members → MoveReplays n (if lost then Nothing else with_made (with_member members i) (with_made (stepped (members i) rest) o))
 step_replays n members i rest o true s all = tt
-step_replays n members i rest (Refused number) false s all = tt
+step_replays n members i rest (Refused refusal) false s all = tt
 step_replays n members i rest Nothing false s all = tt
 step_replays n members i rest (Done made) false s all = member_replays n members i (stepped (members i) rest made) s all
 
@@ -244,7 +245,7 @@ take_replays n members i [] false lawful all = tt
 take_replays n members i (signal ∷ rest) lost lawful all = step_replays n members i rest (federate_accepts n i (members i).federate signal) lost (accepts_replays n i (members i).federate signal lawful (all i)) all
 
 coordinated_replays : (n : Network) (members : ℕ → Member) (o : Outcome Coordinated) → AllReplayed n members → MoveReplays n (with_made (λ made. λ j. coordinated made j (members j)) o)
-coordinated_replays n members (Refused number) all = tt
+coordinated_replays n members (Refused refusal) all = tt
 coordinated_replays n members Nothing all = tt
 coordinated_replays n members (Done made) all = all
 
@@ -263,7 +264,7 @@ move_replays n table rule members (Advance i) lawful sound all =
 move_replays n table rule members (Lose i) lawful sound all = member_replays n members i (record (members i) { lost = true }) (all i) all
 
 made_replays : (n : Network) (members : ℕ → Member) (o : Outcome (ℕ → Member)) → AllReplayed n members → MoveReplays n o → AllReplayed n (made_or members o)
-made_replays n members (Refused number) all m = all
+made_replays n members (Refused refusal) all m = all
 made_replays n members Nothing all m = all
 made_replays n members (Done after) all m = m
 

@@ -1,6 +1,6 @@
 -- The steps of the machine: none is refused, and each keeps what is kept.
 use Rattle.std.proofs.Common.{◌≡◌, ℕ, zero, suc, ◌+◌, ◌<◌, ◌≤◌, ◌⊎◌, inl, inr, Bool, true, false, cond, IsTrue, List, [], ◌∷◌, ◌++◌, length, refl, sym, ap, subst, ◌∙◌, arith, Option, None, Some, ℤ}
-use Rattle.std.specs.Prelude.{slice_get, filter, map, nat_eq, nat_lt, if◌then◌else◌, ◌&&◌, ◌||◌}
+use Rattle.std.specs.Prelude.{slice_get, filter, map, nat_eq, nat_lt, if◌then◌else◌, not, ◌&&◌, ◌||◌}
 use Rattle.std.proofs.Math.Path.{fun_ext}
 use Rattle.std.proofs.lemmas.Bool.{eq-eqb, cases_lt}
 use Rattle.std.proofs.lemmas.Bool.Decides.{nat_tests}
@@ -13,7 +13,8 @@ use Rattle.network.specs.Lawful.{IsLawful, IsConnected}
 use Rattle.network.specs.Tables.{Table, IsTable}
 use Rattle.signal.specs.declared.signal.Signal.{Signal}
 use Rattle.signal.specs.declared.signal.Signal.TheVariants.{Net, Ltc, Tag, Msg}
-use Rattle.protocol.specs.Refusals.{late, old_grant, wrong_signal, not_yours, below_grant, not_rising, after_stop}
+use Rattle.protocol.specs.declared.refusal.Refusal.{Refusal}
+use Rattle.protocol.specs.declared.refusal.Refusal.TheVariants.{Late, OldGrant, WrongSignal, NotYours, BelowGrant, NotRising, AfterStop}
 use Rattle.protocol.specs.Outcome.{Outcome, Refused, Nothing, Done, made_or, with_made}
 use Rattle.network.specs.Undone.{first_tag, put}
 use Rattle.protocol.specs.Federate.{Federate, Stepped, is_past, is_reached, is_told, next_event, accept_message, federate_announces, advance_to, federate_advances, turn_at}
@@ -27,7 +28,7 @@ use Rattle.laws.proofs.Downward.{EndsAt}
 use Rattle.laws.proofs.Turns.{plain_is_logical, same_number}
 use Rattle.laws.proofs.Kept.{IsKept, net_keeps, net_raises, ltc_keeps, message_keeps, route_keeps, grant_keeps, tag_keeps, taken_keeps, announce_keeps, turn_keeps, opening_is_kept}
 use Rattle.laws.proofs.Backing.{all_at, IsBacked, IsLater, is_later_itself, at_most_itself, backed_later, at_update, grant_is_later, safe_is_backed, message_is_past, message_keeps_backing}
-use Rattle.laws.proofs.Tests.{both_hold, if_holds}
+use Rattle.laws.proofs.Tests.{both_hold, if_passed}
 
 -- what is kept of a member
 abbrev pub IsMember : Network → ℕ → Member → Type 0
@@ -40,13 +41,13 @@ pub record IsSound (n : Network) (table : Table) (members : ℕ → Member) : Ty
 
 -- a move that isn't refused, and keeps it all
 abbrev pub Goes : Network → Table → Outcome (ℕ → Member) → Type 0
-Goes n table (Refused number) = ⊥
+Goes n table (Refused refusal) = ⊥
 Goes n table Nothing = Unit {0}
 Goes n table (Done members) = IsSound n table members
 
 -- the same of what one federate does: its standing stays
 abbrev pub MemberGoes : Network → ℕ → Standing → Outcome Member → Type 0
-MemberGoes n j s (Refused number) = ⊥
+MemberGoes n j s (Refused refusal) = ⊥
 MemberGoes n j s Nothing = Unit {0}
 MemberGoes n j s (Done m) = IsMember n j m × (m.standing ≡ s)
 
@@ -70,7 +71,7 @@ member_sound n table members i m s k e =
     }
 
 member_goes : (n : Network) (table : Table) (members : ℕ → Member) (i : ℕ) (o : Outcome Member) → IsSound n table members → MemberGoes n i (members i).standing o → Goes n table (with_made (with_member members i) o)
-member_goes n table members i (Refused number) s g = g
+member_goes n table members i (Refused refusal) s g = g
 member_goes n table members i Nothing s g = tt
 member_goes n table members i (Done m) s g = member_sound n table members i m s g.0 g.1
 
@@ -87,8 +88,8 @@ message_goes : (n : Network) (j : ℕ) (m : Member) (rest : List Signal) (o : Op
 message_goes n j m rest None g v ends stop completed granted k = absurd ends
 message_goes n j m rest (Some c) g v ends stop completed granted k =
     let made : Stepped = record { after = record m.federate { undone = put (record { tag = g; slot = c.slot; value = v }) m.federate.undone }; sent = [] } in
-    let inner = if_holds (is_past m.federate.completed g && is_past m.federate.granted g) (Done made) (Refused late) (both_hold (is_past m.federate.completed g) (is_past m.federate.granted g) completed granted) in
-    let outer = if_holds (nat_eq c.target j && is_at_most g n.stop) (if is_past m.federate.completed g && is_past m.federate.granted g then Done made else Refused late) (Refused wrong_signal) (both_hold (nat_eq c.target j) (is_at_most g n.stop) (eq-eqb c.target j ends) stop) in
+    let inner = if_passed (is_past m.federate.completed g && is_past m.federate.granted g) (Refused Late) (Done made) (both_hold (is_past m.federate.completed g) (is_past m.federate.granted g) completed granted) in
+    let outer = if_passed (nat_eq c.target j && is_at_most g n.stop) (Refused WrongSignal) (if not (is_past m.federate.completed g && is_past m.federate.granted g) then Refused Late else Done made) (both_hold (nat_eq c.target j) (is_at_most g n.stop) (eq-eqb c.target j ends) stop) in
     let P : Outcome Stepped → Type 0 = λ x. MemberGoes n j m.standing (with_made (stepped m rest) x) in
     subst P (sym (outer ∙ inner)) (nothing_sent n j m.standing made.after m.up rest (k c.slot), refl)
 
@@ -100,8 +101,8 @@ take_goes n j m (Ltc g ∷ rest) lawful k = absurd k.downward
 take_goes n j m (Tag g ∷ rest) lawful k =
     let made : Stepped = record { after = record m.federate { granted = Some g }; sent = [] } in
     let past = to_past m.federate.granted g k.own_granted_tag k.downward.0 k.downward.1 in
-    let inner = if_holds (is_past m.federate.granted g) (Done made) (Refused old_grant) past in
-    let outer = if_holds (is_at_most g n.stop) (if is_past m.federate.granted g then Done made else Refused old_grant) (Refused wrong_signal) k.downward.2 in
+    let inner = if_passed (is_past m.federate.granted g) (Refused OldGrant) (Done made) past in
+    let outer = if_passed (is_at_most g n.stop) (Refused WrongSignal) (if not (is_past m.federate.granted g) then Refused OldGrant else Done made) k.downward.2 in
     let P : Outcome Stepped → Type 0 = λ x. MemberGoes n j m.standing (with_made (stepped m rest) x) in
     subst P (sym (outer ∙ inner)) (nothing_sent n j m.standing made.after m.up rest (tag_keeps n j m.standing m.federate m.up rest g k), refl)
 take_goes n j m (Msg c g v ∷ rest) lawful k =
@@ -307,9 +308,9 @@ over_goes n table rule members i k g v rest source (Some c) lawful facts safe so
     let same = at_update S (after_message (members c.target).standing g) (members j).standing j c.target (λ q. ap (λ x. (members x).standing.granted) (sym q)) refl in
     let T : Option LogicalTime → Type 0 = λ x. IsBacked n table made.after j x in
     subst T (sym same) before) in
-    let inner = if_holds (is_past (members c.target).standing.granted g) (Done made) (Refused below_grant) past in
-    let middle = if_holds (is_at_most g n.stop) (if is_past (members c.target).standing.granted g then Done made else Refused below_grant) (Refused after_stop) over.2 in
-    let outer = if_holds (nat_eq c.source i) (if is_at_most g n.stop then (if is_past (members c.target).standing.granted g then Done made else Refused below_grant) else Refused after_stop) (Refused not_yours) (eq-eqb c.source i from_i) in
+    let inner = if_passed (is_past (members c.target).standing.granted g) (Refused BelowGrant) (Done made) past in
+    let middle = if_passed (is_at_most g n.stop) (Refused AfterStop) (if not (is_past (members c.target).standing.granted g) then Refused BelowGrant else Done made) over.2 in
+    let outer = if_passed (nat_eq c.source i) (Refused NotYours) (if not (is_at_most g n.stop) then Refused AfterStop else if not (is_past (members c.target).standing.granted g) then Refused BelowGrant else Done made) (eq-eqb c.source i from_i) in
     let P : Outcome Coordinated → Type 0 = λ x. Goes n table (with_made (λ made. λ j. coordinated made j (with_member members i (record (members i) { up = rest }) j)) (with_made (with_grants n rule) x)) in
     subst P (sym (outer ∙ middle ∙ inner)) (with_grants_sound n table rule made W safe kept backed)
 
@@ -323,8 +324,8 @@ coordinator_goes n table rule members i (Net g ∷ rest) lawful facts safe sound
     let later : IsLater (members i).standing mine =
     (to_at_most (members i).standing.next mine.next k.next_tag kept.next_tag (net_raises n i (members i).standing (members i).federate rest (members i).down g k), at_most_itself (after_completed (members i).standing.completed)) in
     let past = to_past (members i).standing.completed g k.completed_tag k.upward.0 k.upward.1 in
-    let inner = if_holds (is_past (members i).standing.completed g) (Done made) (Refused not_rising) past in
-    let outer = if_holds (is_at_most g n.stop || is_same g forever) (if is_past (members i).standing.completed g then Done made else Refused not_rising) (Refused after_stop) k.upward.2 in
+    let inner = if_passed (is_past (members i).standing.completed g) (Refused NotRising) (Done made) past in
+    let outer = if_passed (is_at_most g n.stop || is_same g forever) (Refused AfterStop) (if not (is_past (members i).standing.completed g) then Refused NotRising else Done made) k.upward.2 in
     let P : Outcome Coordinated → Type 0 = λ x. Goes n table (with_made (λ made. λ j. coordinated made j (with_member members i (record (members i) { up = rest }) j)) (with_made (with_grants n rule) x)) in
     subst P (sym (outer ∙ inner)) (noted_goes n table rule members i rest mine safe sound kept later refl)
 coordinator_goes n table rule members i (Ltc c ∷ rest) lawful facts safe sound k =
@@ -335,8 +336,8 @@ coordinator_goes n table rule members i (Ltc c ∷ rest) lawful facts safe sound
     (after_completed_least (members i).standing.completed c k.completed_tag k.upward.0 k.upward.1) (successor_at_least c k.upward.0) in
     let later : IsLater (members i).standing mine = (at_most_itself (members i).standing.next, rises) in
     let past = to_past (members i).standing.completed c k.completed_tag k.upward.0 k.upward.1 in
-    let inner = if_holds (is_past (members i).standing.completed c) (Done made) (Refused not_rising) past in
-    let outer = if_holds (is_at_most c n.stop) (if is_past (members i).standing.completed c then Done made else Refused not_rising) (Refused after_stop) k.upward.2 in
+    let inner = if_passed (is_past (members i).standing.completed c) (Refused NotRising) (Done made) past in
+    let outer = if_passed (is_at_most c n.stop) (Refused AfterStop) (if not (is_past (members i).standing.completed c) then Refused NotRising else Done made) k.upward.2 in
     let P : Outcome Coordinated → Type 0 = λ x. Goes n table (with_made (λ made. λ j. coordinated made j (with_member members i (record (members i) { up = rest }) j)) (with_made (with_grants n rule) x)) in
     subst P (sym (outer ∙ inner)) (noted_goes n table rule members i rest mine safe sound kept later refl)
 coordinator_goes n table rule members i (Tag g ∷ rest) lawful facts safe sound k = absurd k.upward
@@ -364,7 +365,7 @@ pub opening_sound : (n : Network) (table : Table) → IsLawful n → IsSound n t
 opening_sound n table lawful = record { kept = λ j. opening_is_kept n j lawful; backed = λ j. tt }
 
 made_sound : (n : Network) (table : Table) (members : ℕ → Member) (o : Outcome (ℕ → Member)) → IsSound n table members → Goes n table o → IsSound n table (made_or members o)
-made_sound n table members (Refused number) s g = s
+made_sound n table members (Refused refusal) s g = s
 made_sound n table members Nothing s g = s
 made_sound n table members (Done after) s g = g
 
@@ -376,11 +377,11 @@ moves_sound n table rules (move ∷ earlier) lawful facts safe =
     made_sound n table (after_moves n rules earlier) (outcome_of n (rules (length earlier)) (after_moves n rules earlier) move) before
     (move_goes n table (rules (length earlier)) (after_moves n rules earlier) move lawful facts (safe (length earlier)) before)
 
-pub goes_refused : (n : Network) (table : Table) (o : Outcome (ℕ → Member)) (number : ℕ) → Goes n table o → o ≡ Refused number → ⊥
-goes_refused n table o number g e = let P : Outcome (ℕ → Member) → Type 0 = λ x. Goes n table x in subst P e g
+pub goes_refused : (n : Network) (table : Table) (o : Outcome (ℕ → Member)) (refusal : Refusal) → Goes n table o → o ≡ Refused refusal → ⊥
+goes_refused n table o refusal g e = let P : Outcome (ℕ → Member) → Type 0 = λ x. Goes n table x in subst P e g
 
 -- no move is refused
-pub none_refused : (n : Network) (table : Table) (rules : ℕ → Rule) (moves : List Move) (move : Move) (number : ℕ) → IsLawful n → IsTable n table → ((k : ℕ) → IsSafeRule n table (rules k)) → outcome_of n (rules (length moves)) (after_moves n rules moves) move ≡ Refused number → ⊥
-none_refused n table rules moves move number lawful facts safe e =
-    goes_refused n table (outcome_of n (rules (length moves)) (after_moves n rules moves) move) number
+pub none_refused : (n : Network) (table : Table) (rules : ℕ → Rule) (moves : List Move) (move : Move) (refusal : Refusal) → IsLawful n → IsTable n table → ((k : ℕ) → IsSafeRule n table (rules k)) → outcome_of n (rules (length moves)) (after_moves n rules moves) move ≡ Refused refusal → ⊥
+none_refused n table rules moves move refusal lawful facts safe e =
+    goes_refused n table (outcome_of n (rules (length moves)) (after_moves n rules moves) move) refusal
     (move_goes n table (rules (length moves)) (after_moves n rules moves) move lawful facts (safe (length moves)) (moves_sound n table rules moves lawful facts safe)) e

@@ -95,7 +95,7 @@ settled_by_grants n table rule standings safe full tags j l =
 
 -- a move leaves nobody eligible
 abbrev pub Settles : Network → Table → Outcome (ℕ → Member) → Type 0
-Settles n table (Refused number) = Unit {0}
+Settles n table (Refused refusal) = Unit {0}
 Settles n table Nothing = Unit {0}
 Settles n table (Done members) = NobodyIsEligible n table (standings_of members)
 
@@ -107,7 +107,7 @@ member_settles n table members i m e s =
 
 step_settles : (n : Network) (table : Table) (members : ℕ → Member) (i : ℕ) (rest : List Signal) (o : Outcome Stepped) (b : Bool) → NobodyIsEligible n table (standings_of members) → Settles n table (if b then Nothing else with_made (with_member members i) (with_made (stepped (members i) rest) o))
 step_settles n table members i rest o true s = tt
-step_settles n table members i rest (Refused number) false s = tt
+step_settles n table members i rest (Refused refusal) false s = tt
 step_settles n table members i rest Nothing false s = tt
 step_settles n table members i rest (Done made) false s = member_settles n table members i (stepped (members i) rest made) refl s
 
@@ -117,7 +117,7 @@ take_settles n table members i [] false s = tt
 take_settles n table members i (signal ∷ rest) b s = step_settles n table members i rest (federate_accepts n i (members i).federate signal) b s
 
 grants_settle : (n : Network) (table : Table) (rule : Rule) (members : ℕ → Member) (o : Outcome Coordinated) → IsSafeRule n table rule → IsFullRule n table rule → Goes n table (with_made (λ made. λ j. coordinated made j (members j)) (with_made (with_grants n rule) o)) → Settles n table (with_made (λ made. λ j. coordinated made j (members j)) (with_made (with_grants n rule) o))
-grants_settle n table rule members (Refused number) safe full g = tt
+grants_settle n table rule members (Refused refusal) safe full g = tt
 grants_settle n table rule members Nothing safe full g = tt
 grants_settle n table rule members (Done made) safe full g =
     let P : LogicalTime → Type 0 = λ x. IsLogicalTime x in
@@ -136,7 +136,7 @@ move_settles n table rule members (Advance i) safe full g s = step_settles n tab
 move_settles n table rule members (Lose i) safe full g s = member_settles n table members i (record (members i) { lost = true }) refl s
 
 made_settles : (n : Network) (table : Table) (members : ℕ → Member) (o : Outcome (ℕ → Member)) → NobodyIsEligible n table (standings_of members) → Settles n table o → NobodyIsEligible n table (standings_of (made_or members o))
-made_settles n table members (Refused number) s m = s
+made_settles n table members (Refused refusal) s m = s
 made_settles n table members Nothing s m = s
 made_settles n table members (Done after) s m = m
 

@@ -1,6 +1,6 @@
 -- What tests say that are made of tests.
 use Rattle.std.proofs.Common.{◌≡◌, ◌⊎◌, inl, inr, Bool, true, false, refl}
-use Rattle.std.specs.Prelude.{if◌then◌else◌, ◌&&◌, ◌||◌}
+use Rattle.std.specs.Prelude.{if◌then◌else◌, not, ◌&&◌, ◌||◌}
 
 pub both_left : (a b : Bool) → (a && b) ≡ true → a ≡ true
 both_left true b h = refl
@@ -23,7 +23,7 @@ either_of true b h = refl
 either_of false b (inl h) = cc
 either_of false b (inr h) = h
 
--- tests that hold choose
-pub if_holds : {A : Type 0} (b : Bool) (x y : A) → b ≡ true → (if b then x else y) ≡ x
-if_holds true x y h = refl
-if_holds false x y h = cc
+-- tests that hold refuse nothing
+pub if_passed : {A : Type 0} (b : Bool) (x y : A) → b ≡ true → (if not b then x else y) ≡ y
+if_passed true x y h = refl
+if_passed false x y h = cc

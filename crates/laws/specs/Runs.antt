@@ -6,6 +6,7 @@ use Rattle.network.specs.Network.{Network}
 use Rattle.network.specs.Tables.{Table}
 use Rattle.signal.specs.declared.signal.Signal.{Signal}
 use Rattle.signal.specs.declared.signal.Signal.TheVariants.{Net, Ltc, Tag, Msg}
+use Rattle.protocol.specs.declared.refusal.Refusal.{Refusal}
 use Rattle.protocol.specs.Outcome.{Refused, Nothing}
 use Rattle.protocol.specs.Federate.{federate_announces, federate_advances}
 use Rattle.protocol.specs.Standing.{Standing}
@@ -14,7 +15,7 @@ use Rattle.protocol.specs.Machine.{Member, Move, outcome_of, after_moves}
 
 -- whatever was done before, whatever comes next isn't refused
 abbrev pub RefusesNothing : Network → (ℕ → Rule) → Type 0
-RefusesNothing n rules = (moves : List Move) (move : Move) (number : ℕ) → outcome_of n (rules (length moves)) (after_moves n rules moves) move ≢ Refused number
+RefusesNothing n rules = (moves : List Move) (move : Move) (refusal : Refusal) → outcome_of n (rules (length moves)) (after_moves n rules moves) move ≢ Refused refusal
 
 -- a message
 abbrev pub is_message : Signal → Bool

@@ -19,7 +19,7 @@ ghost use Rattle.laws.specs.Ring.{ring, ring_table, ring_after, first_moves, all
 ghost use Rattle.laws.specs.WeakerRules.{by_last_ltcs, by_equal_paths, by_direct, two_microsteps, one_tag, both_ends, line_table, both_microsteps, first_turn, second_turn, next_taken};
 ghost use Rattle.network.specs.Examples.{at};
 ghost use Rattle.network.specs.Tables.{Table, IsTable, IsLeastTable, IsAttained};
-ghost use Rattle.protocol.specs.Refusals.{below_grant};
+ghost use Rattle.protocol.specs.declared.refusal.Refusal.TheVariants.{BelowGrant};
 ghost use Rattle.protocol.specs.Outcome.{Refused};
 ghost use Rattle.protocol.specs.Machine.{standings_of};
 ghost use Rattle.laws.specs.Chains.{CompletesNothingEarly};
@@ -127,9 +127,9 @@ pub fn the_ring_ends()
 /// in place of <; and by next tags over direct connections alone. The tables are those of the least delays: by `nothing_is_refused`,
 /// rules that grant what is safe refuse nothing on these networks, whatever the moves.
 pub fn weaker_rules_fail()
-    ensures last_ltcs { next_taken two_microsteps by_last_ltcs both_microsteps 0 ≡ Refused below_grant }
-    ensures equal_paths { next_taken one_tag by_equal_paths first_turn 0 ≡ Refused below_grant }
-    ensures direct { next_taken both_ends by_direct second_turn 1 ≡ Refused below_grant }
+    ensures last_ltcs { next_taken two_microsteps by_last_ltcs both_microsteps 0 ≡ Refused BelowGrant }
+    ensures equal_paths { next_taken one_tag by_equal_paths first_turn 0 ≡ Refused BelowGrant }
+    ensures direct { next_taken both_ends by_direct second_turn 1 ≡ Refused BelowGrant }
     ensures last_ltcs_table { IsLeastTable two_microsteps (line_table (at 10 0)) }
     ensures equal_paths_table { IsLeastTable one_tag (line_table (at 0 0)) }
     ensures direct_table { IsLeastTable both_ends (line_table (at 0 0)) }

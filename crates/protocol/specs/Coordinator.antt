@@ -1,11 +1,11 @@
 -- The coordinator: what it does with a federate's signal, and which TAGs then go out. It knows each federate's standing, by number.
-use Rattle.std.specs.Prelude.{ℕ, zero, suc, ◌+◌, ◌||◌, nat_eq, nat_lt, if◌then◌else◌, List, [], ◌∷◌, ◌++◌, slice_get, Option, None, Some}
+use Rattle.std.specs.Prelude.{ℕ, zero, suc, ◌+◌, not, ◌||◌, nat_eq, nat_lt, if◌then◌else◌, List, [], ◌∷◌, ◌++◌, slice_get, Option, None, Some}
 use Rattle.tag.specs.LogicalTime.{LogicalTime, forever, is_at_most, is_same}
 use Rattle.network.specs.Connection.{Connection}
 use Rattle.network.specs.Network.{Network}
 use Rattle.signal.specs.declared.signal.Signal.{Signal}
 use Rattle.signal.specs.declared.signal.Signal.TheVariants.{Net, Ltc, Tag, Msg}
-use Rattle.protocol.specs.Refusals.{not_yours, below_grant, not_rising, after_stop, not_for_coordinator}
+use Rattle.protocol.specs.declared.refusal.Refusal.TheVariants.{NotYours, BelowGrant, NotRising, AfterStop, NotForCoordinator}
 use Rattle.protocol.specs.Outcome.{Outcome, Refused, Done, with_made}
 use Rattle.protocol.specs.Federate.{is_past}
 use Rattle.protocol.specs.Standing.{Standing, after_message, after_net, after_ltc, after_grant}
@@ -25,22 +25,17 @@ pub record Coordinated : Type 0 where
 abbrev pub with_standing : (ℕ → Standing) → ℕ → Standing → ℕ → Standing
 with_standing standings i mine j = if nat_eq j i then mine else standings j
 
--- a message from federate i over a connection, which goes on to the connection's end
+-- a message from federate i over a connection: it goes on to the connection's end
 abbrev pub route : Network → (ℕ → Standing) → ℕ → Signal → Option Connection → LogicalTime → Outcome Coordinated
-route n standings i message None tag = Refused not_yours
+route n standings i message None tag = Refused NotYours
 route n standings i message (Some c) tag =
-    if nat_eq c.source i
-    then
-    (if is_at_most tag n.stop
-    then
-    (if is_past (standings c.target).granted tag
-    then Done (record {
+    if not (nat_eq c.source i) then Refused NotYours
+    else if not (is_at_most tag n.stop) then Refused AfterStop
+    else if not (is_past (standings c.target).granted tag) then Refused BelowGrant
+    else Done (record {
       after = with_standing standings c.target (after_message (standings c.target) tag);
       sent = record { federate = c.target; signal = message } ∷ [];
     })
-    else Refused below_grant)
-    else Refused after_stop)
-    else Refused not_yours
 
 -- federate i's standing is replaced, and nothing goes out
 abbrev pub noted : (ℕ → Standing) → ℕ → Standing → Coordinated
@@ -49,14 +44,14 @@ noted standings i mine = record { after = with_standing standings i mine; sent =
 -- what a signal of federate i changes, before any TAG goes out
 abbrev pub coordinator_takes : Network → (ℕ → Standing) → ℕ → Signal → Outcome Coordinated
 coordinator_takes n standings i (Net tag) =
-    if is_at_most tag n.stop || is_same tag forever
-    then (if is_past (standings i).completed tag then Done (noted standings i (after_net (standings i) tag)) else Refused not_rising)
-    else Refused after_stop
+    if not (is_at_most tag n.stop || is_same tag forever) then Refused AfterStop
+    else if not (is_past (standings i).completed tag) then Refused NotRising
+    else Done (noted standings i (after_net (standings i) tag))
 coordinator_takes n standings i (Ltc tag) =
-    if is_at_most tag n.stop
-    then (if is_past (standings i).completed tag then Done (noted standings i (after_ltc (standings i) tag)) else Refused not_rising)
-    else Refused after_stop
-coordinator_takes n standings i (Tag tag) = Refused not_for_coordinator
+    if not (is_at_most tag n.stop) then Refused AfterStop
+    else if not (is_past (standings i).completed tag) then Refused NotRising
+    else Done (noted standings i (after_ltc (standings i) tag))
+coordinator_takes n standings i (Tag tag) = Refused NotForCoordinator
 coordinator_takes n standings i (Msg connection tag value) =
     route n standings i (Msg connection tag value) (slice_get n.connections connection) tag
 

@@ -1,5 +1,5 @@
 -- A federate: one reactor of a network, which runs a tag once that is granted. What it does with a signal, and what it says by itself.
-use Rattle.std.specs.Prelude.{ℕ, ◌+◌, ℤ, Bool, true, false, ◌&&◌, nat_eq, if◌then◌else◌, List, [], ◌∷◌, ◌++◌, map, filter, slice_get, Option, None, Some, unwrap_or}
+use Rattle.std.specs.Prelude.{ℕ, ◌+◌, ℤ, Bool, true, false, not, ◌&&◌, nat_eq, if◌then◌else◌, List, [], ◌∷◌, ◌++◌, map, filter, slice_get, Option, None, Some, unwrap_or}
 use Rattle.tag.specs.LogicalTime.{LogicalTime, forever, is_before, is_at_most, is_same, sum_of}
 use Rattle.network.specs.Connection.{Connection}
 use Rattle.network.specs.Event.{Event, listed}
@@ -7,7 +7,7 @@ use Rattle.network.specs.Network.{Network, Scheduling, Effect}
 use Rattle.network.specs.Undivided.{Row}
 use Rattle.signal.specs.declared.signal.Signal.{Signal}
 use Rattle.signal.specs.declared.signal.Signal.TheVariants.{Net, Ltc, Tag, Msg}
-use Rattle.protocol.specs.Refusals.{late, old_grant, wrong_signal}
+use Rattle.protocol.specs.declared.refusal.Refusal.TheVariants.{Late, OldGrant, WrongSignal}
 use Rattle.protocol.specs.Outcome.{Outcome, Refused, Nothing, Done}
 use Rattle.network.specs.Undone.{Held, put, put_all, look, first_tag, drop_up_to}
 
@@ -51,32 +51,25 @@ abbrev pub is_reached : Option LogicalTime → LogicalTime → Bool
 is_reached None tag = false
 is_reached (Some other) tag = is_at_most tag other
 
--- a TAG: it has to be not later than stop, or it is a wrong signal; then later than the last one, or it is an old grant
+-- a TAG
 abbrev pub accept_grant : Network → Federate → LogicalTime → Outcome Stepped
 accept_grant n f tag =
-    if is_at_most tag n.stop
-    then (if is_past f.granted tag then Done (record { after = record f { granted = Some tag }; sent = [] }) else Refused old_grant)
-    else Refused wrong_signal
+    if not (is_at_most tag n.stop) then Refused WrongSignal
+    else if not (is_past f.granted tag) then Refused OldGrant
+    else Done (record { after = record f { granted = Some tag }; sent = [] })
 
--- a message over a connection: that has to end here, and the tag to be not later than stop, or it is a wrong signal; then later than
--- what is completed and granted, or it is late. It is put among the undone events
+-- a message over a connection: it is put among the undone events
 abbrev pub accept_message : Network → ℕ → Federate → Option Connection → LogicalTime → ℤ → Outcome Stepped
-accept_message n j f None tag value = Refused wrong_signal
+accept_message n j f None tag value = Refused WrongSignal
 accept_message n j f (Some c) tag value =
-    if nat_eq c.target j && is_at_most tag n.stop
-    then
-    (if is_past f.completed tag && is_past f.granted tag
-    then Done (record {
-      after = record f { undone = put (record { tag = tag; slot = c.slot; value = value }) f.undone };
-      sent = [];
-    })
-    else Refused late)
-    else Refused wrong_signal
+    if not (nat_eq c.target j && is_at_most tag n.stop) then Refused WrongSignal
+    else if not (is_past f.completed tag && is_past f.granted tag) then Refused Late
+    else Done (record { after = record f { undone = put (record { tag = tag; slot = c.slot; value = value }) f.undone }; sent = [] })
 
 -- what federate j does with a signal
 abbrev pub federate_accepts : Network → ℕ → Federate → Signal → Outcome Stepped
-federate_accepts n j f (Net tag) = Refused wrong_signal
-federate_accepts n j f (Ltc tag) = Refused wrong_signal
+federate_accepts n j f (Net tag) = Refused WrongSignal
+federate_accepts n j f (Ltc tag) = Refused WrongSignal
 federate_accepts n j f (Tag tag) = accept_grant n f tag
 federate_accepts n j f (Msg connection tag value) = accept_message n j f (slice_get n.connections connection) tag value
 

@@ -1,5 +1,5 @@
 -- The two sides of a federation, step by step on signals, and the machine that both make with the queues between them.
--- the refusals by their numbers
+-- the numbers of the refusals
 pub mod Refusals
 -- how a step ends
 pub mod Outcome

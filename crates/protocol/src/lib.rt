@@ -1,7 +1,9 @@
-//! What a federate and the coordinator do with each signal, and how they work together: definitions, with no code.
+//! What a federate and the coordinator do with each signal, and how they work together: definitions, and the refusals as code.
 //!
 //! Promise to the layer above: words to cite. Begin with `specs/Federate` and `specs/Coordinator`, then `specs/Machine`.
 #![tactic(auto)]
+
+pub mod refusal;
 
 ghost use Rattle.std.specs.Prelude.{◌≡◌, false, pos, [], ◌∷◌};
 ghost use Rattle.signal.specs.declared.signal.Signal.{Signal};
@@ -9,6 +11,8 @@ ghost use Rattle.network.specs.Examples.{at};
 ghost use Rattle.protocol.specs.Grant.{passes_paths};
 ghost use Rattle.protocol.specs.Machine.{standings_of};
 ghost use Rattle.protocol.specs.Examples.{counter, counter_table, announced, routed, counted, summed, first_sum};
+
+pub use refusal::Refusal;
 
 /// The first grant of a federate without upstream, its message and its LTC; the TAG to the next federate goes out once the LTC has
 /// come, by its direct connection alone: over paths it wouldn't.
