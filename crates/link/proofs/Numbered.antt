@@ -3,9 +3,6 @@ use Rattle.std.proofs.Common.{◌≡◌, ℕ, zero, suc, ◌+◌, List, [], ◌�
 use Rattle.signal.specs.declared.signal.Signal.{Signal}
 use Rattle.signal.specs.declared.frame.Frame.TheVariants.{Data}
 use Rattle.link.specs.Answer.{numbered}
-use Rattle.link.specs.End.{End}
-use Rattle.link.specs.End as whole
-use Rattle.link.specs.Image.{image_of, resent_by}
 
 -- one more signal, read by `v`, is one more frame
 pub numbered-push : {X : Type 0} (v : X → Signal) (incarnation first : ℕ) (xs : List X) (x : X) (n : ℕ) → n ≡ first + length xs →
@@ -25,14 +22,5 @@ pub drop-numbered : (incarnation first k n : ℕ) (xs : List Signal) → n ≡ f
 drop-numbered incarnation first zero n xs e = let same : first ≡ n = omega arith in ap (λ m. numbered incarnation m xs) same
 drop-numbered incarnation first (suc k) n [] e = refl
 drop-numbered incarnation first (suc k) n (x ∷ xs) e = drop-numbered incarnation (first + 1) k n xs (omega arith)
-
--- an end sends again what its image tells
-pub resent_by-image_of : (e : End) → resent_by (image_of e) ≡ whole.resent_by e
-resent_by-image_of e =
-    let n : e.acknowledged + 1 ≡ 1 + e.acknowledged = omega arith in
-    let same = drop-numbered e.incarnation 1 e.acknowledged (e.acknowledged + 1) e.offered n in
-    rw (← same) refl
-
-pub ruleset resent = (resent_by-image_of)
 
 pub ruleset lengths = (length-numbered)

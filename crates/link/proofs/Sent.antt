@@ -9,8 +9,10 @@ use Rattle.signal.specs.declared.signal.Signal.{Signal}
 use Rattle.signal.specs.declared.frame.Frame.{Frame}
 use Rattle.signal.specs.declared.frame.Frame.TheVariants.{Hello, Data, Ack, Refuse}
 use Rattle.link.specs.Answer.{numbered}
-use Rattle.link.specs.End.{End, offer_of, after_offer, resent_by}
+use Rattle.link.specs.End.{End, IsLawful, after_offer}
+use Rattle.link.specs.Image.{offer_of, resent_by}
 use Rattle.link.specs.Taken.{Carries}
+use Rattle.link.proofs.Ends.{last_number-length, resent_by-offered}
 
 slice_get-append : (xs ys : List Signal) (k : ℕ) (x : Signal) → slice_get xs k ≡ Some x → slice_get (xs ++ ys) k ≡ Some x
 slice_get-append xs ys k x e =
@@ -40,15 +42,12 @@ Carries-more incarnation offered more (Data k n s) c = λ own positive. slice_ge
 Carries-more incarnation offered more (Ack _ _) c = tt
 Carries-more incarnation offered more (Refuse _ _) c = tt
 
-carried_by_offer : (e : End) (s : Signal) (k n : ℕ) (x : Signal) → offer_of e s ≡ Ok (Data k n x) → slice_get (e.offered ++ s ∷ []) (n - 1) ≡ Some x
-carried_by_offer e s k n x o = grind (arith, nat_tests, slice_get-push)
-
 -- the frame of an offer
-pub Carries-offer : (e : End) (s : Signal) (f : Frame) → offer_of e s ≡ Ok f → Carries e.incarnation (after_offer e s).offered f
-Carries-offer e s (Hello _ _ _) o = tt
-Carries-offer e s (Data k n x) o = λ own positive. carried_by_offer e s k n x o
-Carries-offer e s (Ack _ _) o = tt
-Carries-offer e s (Refuse _ _) o = tt
+pub Carries-offer : (e : End) (s : Signal) (f : Frame) → IsLawful e → offer_of e.image s ≡ Ok f → Carries e.image.incarnation (after_offer e s).offered f
+Carries-offer e s (Hello _ _ _) lawful o = tt
+Carries-offer e s (Data k n x) lawful o = λ own positive. let number = last_number-length e lawful in grind (arith, nat_tests, slice_get-push)
+Carries-offer e s (Ack _ _) lawful o = tt
+Carries-offer e s (Refuse _ _) lawful o = tt
 
 -- signals numbered behind those that stand before them
 numbered_carry : (incarnation : ℕ) (before signals : List Signal) (first : ℕ) → first ≡ length before + 1 →
@@ -64,8 +63,9 @@ numbered_carry incarnation before (s ∷ signals) first e =
     All-cons (Carries incarnation all) (Data incarnation first s) (numbered incarnation (first + 1) signals) first_carries rest
 
 -- all frames that are sent again
-pub Carries-resent : (e : End) → All (Carries e.incarnation e.offered) (resent_by e)
-Carries-resent e =
-    let all = All-drop (Carries e.incarnation e.offered) e.acknowledged (numbered e.incarnation 1 e.offered) (numbered_carry e.incarnation [] e.offered 1 refl) in
-    let P = Carries e.incarnation e.offered in
-    elim e.closed as (λ b. All P (cond b [] (drop e.acknowledged (numbered e.incarnation 1 e.offered)))) [ true ↦ All-nil P | false ↦ all ]
+pub Carries-resent : (e : End) → IsLawful e → All (Carries e.image.incarnation e.offered) (resent_by e.image)
+Carries-resent e lawful =
+    let P = Carries e.image.incarnation e.offered in
+    let all = All-drop P e.image.acknowledged (numbered e.image.incarnation 1 e.offered) (numbered_carry e.image.incarnation [] e.offered 1 refl) in
+    let either = elim e.image.closed as (λ b. All P (cond b [] (drop e.image.acknowledged (numbered e.image.incarnation 1 e.offered)))) [ true ↦ All-nil P | false ↦ all ] in
+    subst (All P) (sym (resent_by-offered e lawful)) either

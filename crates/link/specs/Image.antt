@@ -1,4 +1,5 @@
 -- What a caller sees of a link end: of the signals offered the kept ones alone. Each answer and each step is of this image.
+-- A number of a signal is 0 where there is none yet.
 use Rattle.std.specs.Prelude.{ℕ, ◌+◌, ◌-◌, ◌^◌, ◌<◌, ◌≤◌, Bool, true, false, if◌then◌else◌, nat_eq, List, [], ◌∷◌, ◌++◌, length, drop, min, max, Option, Some, None, Result, Ok, Err}
 use Rattle.signal.specs.declared.signal.Signal.{Signal}
 use Rattle.signal.specs.declared.frame.Frame.{Frame}
@@ -6,7 +7,6 @@ use Rattle.signal.specs.declared.frame.Frame.TheVariants.{Hello, Data, Ack, Refu
 use Rattle.link.specs.declared.arrival.Arrival.{Arrival}
 use Rattle.link.specs.declared.fault.LinkFault.{LinkFault}
 use Rattle.link.specs.Answer.{is_own, answer_when_open, numbered}
-use Rattle.link.specs.End.{End, kept_by}
 
 -- one end of the link of a federate in an incarnation, as a caller sees it
 pub record Image : Type 0 where
@@ -14,22 +14,13 @@ pub record Image : Type 0 where
   pub incarnation : ℕ
   -- the signals offered without the first `acknowledged` ones
   pub kept : List Signal
+  -- the number up to which the other side is known to have taken them
   pub acknowledged : ℕ
+  -- the number of the other side's last signal that was taken here
   pub taken : ℕ
   pub closed : Bool
+  -- how many signals may be kept
   pub room : ℕ
-
--- what is forgotten: the signals that were acknowledged
-abbrev pub image_of : End → Image
-image_of e = record {
-  federate = e.federate;
-  incarnation = e.incarnation;
-  kept = kept_by e;
-  acknowledged = e.acknowledged;
-  taken = e.taken;
-  closed = e.closed;
-  room = e.room;
-}
 
 -- an image with what is reserved: how many offers take no memory
 pub record EndView : Type 0 where

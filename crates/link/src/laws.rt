@@ -1,38 +1,28 @@
 //! What holds of ends for themselves. Each function is a law: it does nothing.
-ghost use Rattle.std.specs.Prelude.{◌≡◌, ◌≢◌, ◌+◌, ℕ, ◌≤◌, ◌++◌, length, take, IsOk, All, List};
+ghost use Rattle.std.specs.Prelude.{◌≡◌, ◌≢◌, ◌+◌, ℕ, ◌≤◌, ◌++◌, [], length, take, drop, if◌then◌else◌, IsOk, All, List};
 ghost use Rattle.signal.specs.declared.signal.Signal.{Signal};
 ghost use Rattle.signal.specs.declared.frame.Frame.{Frame};
-ghost use Rattle.link.specs.Image.{Image, IsImage, image_of, room_left, offer_of, answer_of, resent_by, ack_of, hello_of, after_offer, after_frame, after_close, blank};
+ghost use Rattle.link.specs.Answer.{numbered};
+ghost use Rattle.link.specs.Image.{Image, IsImage, last_number, room_left, offer_of, answer_of, resent_by, after_offer, after_frame, after_close, blank};
 ghost use Rattle.link.specs.End.{End, IsLawful};
 ghost use Rattle.link.specs.End as whole;
 ghost use Rattle.link.specs.Taken.{Carries, after_all, taken_of};
 
 use crate::arrival::Arrival;
 
-/// What an end answers is a function of its image.
-#[tactic(auto, using(crate::proofs::Numbered::resent))]
-pub fn image_answers()
-    ensures room { (e : End) → IsLawful e → room_left (image_of e) ≡ whole.room_left e }
-    ensures offer { (e : End) (signal : Signal) → IsLawful e → offer_of (image_of e) signal ≡ whole.offer_of e signal }
-    ensures answer { (e : End) (frame : Frame) → IsLawful e → answer_of (image_of e) frame ≡ whole.answer_of e frame }
-    ensures ack { (e : End) → ack_of (image_of e) ≡ whole.ack_of e }
-    ensures hello { (e : End) → hello_of (image_of e) ≡ whole.hello_of e }
-    ensures resent { (e : End) → resent_by (image_of e) ≡ whole.resent_by e }
-{}
-
-/// What becomes of an end's image is a function of the image.
-pub fn image_follows()
-    ensures blank { (federate incarnation room : ℕ) → image_of (whole.blank federate incarnation room) ≡ blank federate incarnation room }
-    ensures offer { (e : End) (signal : Signal) → IsLawful e → image_of (whole.after_offer e signal) ≡ after_offer (image_of e) signal }
-    ensures frame { (e : End) (frame : Frame) → image_of (whole.after_frame e frame) ≡ after_frame (image_of e) frame }
-    ensures close { (e : End) → image_of (whole.after_close e) ≡ after_close (image_of e) }
+/// What a caller sees of an end tells how many signals were offered, and which of their frames are sent again.
+#[tactic(auto, using(crate::proofs::Ends::ends))]
+pub fn image_tells()
+    ensures number { (e : End) → IsLawful e → last_number e.image ≡ length e.offered }
+    ensures resent { (e : End) → IsLawful e → resent_by e.image ≡ (if e.image.closed then [] else drop e.image.acknowledged (numbered e.image.incarnation 1 e.offered)) }
 {}
 
 /// An end stays lawful.
+#[tactic(auto, using(crate::proofs::Ends::ends))]
 pub fn stays_lawful()
     ensures blank { (federate incarnation room : ℕ) → IsLawful (whole.blank federate incarnation room) }
     ensures offer { (e : End) (signal : Signal) → IsLawful e → IsLawful (whole.after_offer e signal) }
-    ensures frame { (e : End) (frame : Frame) → IsLawful e → IsOk (whole.answer_of e frame) → IsLawful (whole.after_frame e frame) }
+    ensures frame { (e : End) (frame : Frame) → IsLawful e → IsOk (answer_of e.image frame) → IsLawful (whole.after_frame e frame) }
     ensures close { (e : End) → IsLawful e → IsLawful (whole.after_close e) }
 {}
 
@@ -69,7 +59,7 @@ pub fn takes_a_beginning()
 /// Each frame that an end sends carries the signal of its number, and goes on to do so as more is offered.
 #[tactic(none)]
 pub fn sends_what_was_offered()
-    ensures offer { (e : End) (signal : Signal) (frame : Frame) → whole.offer_of e signal ≡ Ok frame → Carries e.incarnation (whole.after_offer e signal).offered frame }
-    ensures resent { (e : End) → All (Carries e.incarnation e.offered) (whole.resent_by e) }
+    ensures offer { (e : End) (signal : Signal) (frame : Frame) → IsLawful e → offer_of e.image signal ≡ Ok frame → Carries e.image.incarnation (whole.after_offer e signal).offered frame }
+    ensures resent { (e : End) → IsLawful e → All (Carries e.image.incarnation e.offered) (resent_by e.image) }
     ensures later { (incarnation : ℕ) (offered more : List Signal) (frame : Frame) → Carries incarnation offered frame → Carries incarnation (offered ++ more) frame }
 {}
