@@ -8,6 +8,8 @@ pub mod Joined
 pub mod Occurrences
 -- Levels and ranks.
 pub mod Levels
+-- What comes to one federate from outside, and when a timer fires.
+pub mod Outside
 -- Drafts that were checked.
 pub mod Plans
 -- Paths without any delay.

@@ -1,5 +1,5 @@
 -- What comes to a federation from outside: startups, firings of timers, and recorded inputs, up to stop.
-use Rattle.std.specs.Prelude.{◌≡◌, ℕ, zero, suc, ◌+◌, ◌-◌, ◌/◌, ◌≤◌, ℤ, pos, nat_eq, nat_le, if◌then◌else◌, List, [], ◌∷◌, ◌++◌, map, filter, length, All, AllPairs, IsSome, Option, None, Some, slice_get}
+use Rattle.std.specs.Prelude.{◌≡◌, ℕ, zero, suc, ◌+◌, ◌-◌, ◌*◌, ◌/◌, ◌≤◌, ℤ, pos, Bool, nat_eq, nat_le, if◌then◌else◌, List, [], ◌∷◌, ◌++◌, map, filter, length, All, AllPairs, IsSome, Option, None, Some, slice_get}
 use Rattle.std.specs.Option.{option_map}
 use Rattle.std.specs.List.{filter_map}
 use Rattle.tag.specs.LogicalTime.{LogicalTime, origin, is_at_most, IsFinite}
@@ -41,12 +41,14 @@ firings_from stop federate slot (t ∷ rest) =
 abbrev pub startup_of : ℕ → Slots → List Event
 startup_of federate s = if s.startup then outside origin federate startup_slot (pos 0) ∷ [] else []
 
--- startups and firings of federates, the first of which has this number
+-- a federate's startup, and the firings of its timers
+abbrev pub own_events : ℕ → ℕ → Slots → List Event
+own_events stop federate s = startup_of federate s ++ firings_from stop federate (first_timer s) s.timers
+
+-- those of federates, the first of which has this number
 abbrev pub own_events_from : ℕ → ℕ → List Federate → List Event
 own_events_from stop federate [] = []
-own_events_from stop federate (f ∷ rest) =
-    startup_of federate f.slots ++ firings_from stop federate (first_timer f.slots) f.slots.timers
-    ++ own_events_from stop (federate + 1) rest
+own_events_from stop federate (f ∷ rest) = own_events stop federate f.slots ++ own_events_from stop (federate + 1) rest
 
 -- the physical action of a recorded input
 abbrev pub found_action : List Federate → Input → Option Found
@@ -73,6 +75,30 @@ input_events d inputs = filter (λ e. is_at_most e.tag (stop_of d)) (filter_map 
 -- all external events
 abbrev pub external_of : Draft → List Input → List Event
 external_of d inputs = own_events_from d.stop 0 d.federates ++ input_events d inputs
+
+-- an event for this federate
+abbrev pub is_for : ℕ → Event → Bool
+is_for federate e = nat_eq e.reactor federate
+
+-- the startup and the firings of this federate, where it is there
+abbrev pub own_events_in : ℕ → ℕ → Option Federate → List Event
+own_events_in stop federate None = []
+own_events_in stop federate (Some f) = own_events stop federate f.slots
+
+-- recorded inputs of one federate, up to stop
+abbrev pub input_events_to : Draft → List Input → ℕ → List Event
+input_events_to d inputs federate = filter (is_for federate) (input_events d inputs)
+
+-- the external events of one federate
+abbrev pub external_to : Draft → List Input → ℕ → List Event
+external_to d inputs federate = own_events_in d.stop federate (slice_get d.federates federate) ++ input_events_to d inputs federate
+
+-- a timer fires at this tag, up to stop: at microstep 0, at the offset, or later by a multiple of the period
+pub record FiresAt (stop : ℕ) (t : Timer) (tag : LogicalTime) : Type 0 where
+  pub microstep : tag.microstep ≡ 0
+  pub in_time : tag.time ≤ stop
+  pub periods : ℕ
+  pub time : tag.time ≡ t.offset + periods * t.period
 
 -- two recorded inputs aren't for one action at one tag
 abbrev pub AreApart : Input → Input → Type 0

@@ -1,9 +1,12 @@
 //! What holds of every legal draft, as functions with no body.
-ghost use Rattle.std.specs.Prelude.{◌≡◌, ℕ, ◌<◌, List, All, IfSome, MatchOption};
-ghost use Rattle.tag.specs.LogicalTime.{origin, sum_of};
+ghost use Rattle.std.specs.Prelude.{◌≡◌, ◌↔◌, ℕ, ◌<◌, List, All, Contains, IfSome, MatchOption, filter};
+ghost use Rattle.tag.specs.LogicalTime.{LogicalTime, origin, sum_of};
 ghost use Rattle.network.specs.Connection.{Connection, IsPath, total_of, IsLeastDelay, IsUnreachable};
 ghost use Rattle.network.specs.Tables.{IsWithin};
 ghost use Rattle.plan.specs.declared.draft.Draft.{Draft};
+ghost use Rattle.plan.specs.declared.input.Input.{Input};
+ghost use Rattle.plan.specs.declared.slots.Timer.{Timer};
+ghost use Rattle.plan.specs.External.{external_of, external_to, is_for, firing_times, FiresAt};
 ghost use Rattle.plan.specs.Federation.{IsLevel, connections_of, level_of, rank_of, federate_count};
 ghost use Rattle.plan.specs.Least.{least_of, IsTotalWithin};
 ghost use Rattle.plan.specs.Legal.{IsLegal};
@@ -40,4 +43,15 @@ pub fn least_delays_are_least()
 pub fn least_delays_follow_connections()
     ensures direct { (d : Draft) → IsLegal d → All (λ c. IsWithin (least_of d c.source c.target) c.delay) (connections_of d) }
     ensures onward { (d : Draft) (j : ℕ) → IsLegal d → All (λ c. IfSome (least_of d c.target j) (λ rest. IsWithin (least_of d c.source j) (sum_of c.delay rest))) (connections_of d) }
+{}
+
+/// The external events of one federate are its part of all external events.
+#[tactic(auto, using(crate::proofs::Outside::external_parts))]
+pub fn external_events_are_those_of_federates()
+    ensures { (d : Draft) (inputs : List Input) (federate : ℕ) → external_to d inputs federate ≡ filter (is_for federate) (external_of d inputs) }
+{}
+
+/// A timer fires, up to stop, at its offset and each multiple of its period later, and never else.
+pub fn timers_fire_by_their_periods()
+    ensures { (stop : ℕ) (t : Timer) (tag : LogicalTime) → FiresAt stop t tag ↔ ((tag.microstep ≡ 0) × Contains (firing_times stop t) tag.time) }
 {}

@@ -16,7 +16,7 @@ use Rattle.plan.specs.declared.input.Input.{Input}
 use Rattle.plan.specs.Naming.{place_of}
 use Rattle.plan.specs.Numbering.{startup_slot, first_timer, first_action, first_physical, slot_count}
 use Rattle.plan.specs.Federation.{Found, place_in, federate_names, federate_number, stop_of}
-use Rattle.plan.specs.External.{outside, times_from, firing_count, firing_times, firings_from, startup_of, own_events_from, found_action, slot_in, physical_slot, input_event, input_events, external_of, AreApart, AreInputsOf}
+use Rattle.plan.specs.External.{outside, times_from, firing_count, firing_times, firings_from, startup_of, own_events, own_events_from, found_action, slot_in, physical_slot, input_event, input_events, external_of, AreApart, AreInputsOf}
 use Rattle.plan.specs.Legal.{IsLegal}
 use Rattle.plan.proofs.Joined.{found_in_parts}
 use Rattle.plan.proofs.Places.{slice_get-place_of}
@@ -110,11 +110,7 @@ startup_apart number s = chosen s.startup
         (AllPairs-nil FallApart)
     chosen false = AllPairs-nil FallApart
 
--- a federate's startup, and the firings of its timers
-abbrev own_events : ℕ → ℕ → Federate → List Event
-own_events stop number f = startup_of number f.slots ++ firings_from stop number (first_timer f.slots) f.slots.timers
-
-own_events_are : (stop number : ℕ) (f : Federate) → All (λ e. e.reactor ≡ number) (own_events stop number f)
+own_events_are : (stop number : ℕ) (f : Federate) → All (λ e. e.reactor ≡ number) (own_events stop number f.slots)
 own_events_are stop number f =
     All-append (λ (e : Event). e.reactor ≡ number) (startup_of number f.slots) (firings_from stop number (first_timer f.slots) f.slots.timers)
     (All-weaker (IsStartup number) (λ (e : Event). e.reactor ≡ number) (λ e start. start.0)
@@ -122,7 +118,7 @@ own_events_are stop number f =
     (All-weaker (IsFrom number (first_timer f.slots)) (λ (e : Event). e.reactor ≡ number) (λ e from. from.0)
     (firings_from stop number (first_timer f.slots) f.slots.timers) (firings_are_from stop number (first_timer f.slots) f.slots.timers))
 
-own_events_apart : (stop number : ℕ) (f : Federate) → AllPairs FallApart (own_events stop number f)
+own_events_apart : (stop number : ℕ) (f : Federate) → AllPairs FallApart (own_events stop number f.slots)
 own_events_apart stop number f =
     AllPairs-append FallApart (startup_of number f.slots) (firings_from stop number (first_timer f.slots) f.slots.timers)
     (startup_apart number f.slots) (firings_apart stop number (first_timer f.slots) f.slots.timers)
@@ -141,17 +137,17 @@ IsNoEarlier number e = number ≤ e.reactor
 all_are_from : (stop number : ℕ) (fs : List Federate) → All (IsNoEarlier number) (own_events_from stop number fs)
 all_are_from stop number [] = All-nil (IsNoEarlier number)
 all_are_from stop number (f ∷ fs) =
-    All-append (IsNoEarlier number) (own_events stop number f) (own_events_from stop (number + 1) fs)
-    (All-weaker (λ (e : Event). e.reactor ≡ number) (IsNoEarlier number) (λ e here. omega arith) (own_events stop number f) (own_events_are stop number f))
+    All-append (IsNoEarlier number) (own_events stop number f.slots) (own_events_from stop (number + 1) fs)
+    (All-weaker (λ (e : Event). e.reactor ≡ number) (IsNoEarlier number) (λ e here. omega arith) (own_events stop number f.slots) (own_events_are stop number f))
     (All-weaker (IsNoEarlier (number + 1)) (IsNoEarlier number) (λ e later. omega arith)
     (own_events_from stop (number + 1) fs) (all_are_from stop (number + 1) fs))
 
 all_apart : (stop number : ℕ) (fs : List Federate) → AllPairs FallApart (own_events_from stop number fs)
 all_apart stop number [] = AllPairs-nil FallApart
 all_apart stop number (f ∷ fs) =
-    AllPairs-append FallApart (own_events stop number f) (own_events_from stop (number + 1) fs)
+    AllPairs-append FallApart (own_events stop number f.slots) (own_events_from stop (number + 1) fs)
     (own_events_apart stop number f) (all_apart stop (number + 1) fs)
-    (across (λ (e : Event). e.reactor ≡ number) (IsNoEarlier (number + 1)) FallApart (own_events stop number f) (own_events_from stop (number + 1) fs)
+    (across (λ (e : Event). e.reactor ≡ number) (IsNoEarlier (number + 1)) FallApart (own_events stop number f.slots) (own_events_from stop (number + 1) fs)
     (λ d e here later tags reactors slots. omega arith)
     (own_events_are stop number f) (all_are_from stop (number + 1) fs))
 

@@ -1,5 +1,5 @@
 -- Where and when the external events of a legal draft are.
-use Rattle.std.proofs.Common.{◌≡◌, ℕ, zero, suc, ◌+◌, ◌-◌, ◌*◌, ◌/◌, ◌<◌, ◌≤◌, ◌^◌, ◌⊎◌, inl, inr, pos, Bool, true, false, List, [], ◌∷◌, ◌++◌, length, map, get_or, refl, ap, sym, arith, subst, Option, None, Some, IsTrue, nat_eq, nat_le, if◌then◌else◌, suc-mul, mul-le-mul_right, div-mul-le_self}
+use Rattle.std.proofs.Common.{◌≡◌, ℕ, zero, suc, ◌+◌, ◌-◌, ◌*◌, ◌/◌, ◌<◌, ◌≤◌, ◌^◌, ◌⊎◌, inl, inr, pos, Bool, true, false, List, [], ◌∷◌, ◌++◌, length, map, get_or, refl, ap, sym, arith, subst, Option, None, Some, IsTrue, nat_eq, nat_le, if◌then◌else◌, suc-mul}
 use Rattle.std.specs.Prelude.{All, slice_get}
 use Rattle.std.specs.Option.{option_map}
 use Rattle.std.specs.List.{filter_map}
@@ -14,8 +14,9 @@ use Rattle.plan.specs.declared.draft.Draft.{Draft}
 use Rattle.plan.specs.declared.input.Input.{Input}
 use Rattle.plan.specs.Numbering.{startup_slot, first_timer, first_action, first_physical, slot_count}
 use Rattle.plan.specs.Federation.{Found, stop_of}
-use Rattle.plan.specs.External.{outside, times_from, firing_count, firing_times, firings_from, startup_of, own_events_from, found_action, slot_in, physical_slot, input_event, input_events, AreInputsOf}
+use Rattle.plan.specs.External.{outside, times_from, firing_count, firing_times, firings_from, startup_of, own_events, own_events_from, found_action, slot_in, physical_slot, input_event, input_events, AreInputsOf}
 use Rattle.plan.specs.Legal.{IsLegal}
+use Rattle.plan.proofs.Outside.{firing_in_time}
 use Rattle.reactor.proofs.Pairs.{All-filter_map}
 use Rattle.reactor.proofs.Wiring.{found_at}
 
@@ -53,27 +54,10 @@ times_within time period (suc count) stop early =
     let there : time + suc k * period ≤ stop = early (suc k) (omega arith) in
     omega (arith, suc-mul k period)))
 
-tests_so : (offset stop period : ℕ) → (nat_le offset stop ≡ true → offset ≤ stop) × (nat_eq period 0 ≡ true → period ≡ 0)
-tests_so offset stop period = (λ is. grind (arith, nat_tests), λ is. grind (arith, nat_tests))
-
-each_in_time : (stop offset period k : ℕ) (b c : Bool) → nat_le offset stop ≡ b → nat_eq period 0 ≡ c
-    → k < (if b then (if c then 1 else (stop - offset) / period + 1) else 0) → offset + k * period ≤ stop
-each_in_time stop offset period k false c b_is c_is below = absurd (omega arith)
-each_in_time stop offset period k true true b_is c_is below =
-    let early : offset ≤ stop = (tests_so offset stop period).0 b_is in
-    let none : k ≡ 0 = omega arith in
-    subst (λ m. offset + m * period ≤ stop) (sym none) (omega arith)
-each_in_time stop offset period k true false b_is c_is below =
-    let early : offset ≤ stop = (tests_so offset stop period).0 b_is in
-    let few : k ≤ (stop - offset) / period = omega arith in
-    let longest : k * period ≤ (stop - offset) / period * period = mul-le-mul_right period few in
-    let bound : (stop - offset) / period * period ≤ stop - offset = div-mul-le_self (stop - offset) period in
-    omega arith
-
 pub firings_in_time : (stop : ℕ) (t : Timer) → All (λ time. time ≤ stop) (firing_times stop t)
 firings_in_time stop t =
     times_within t.offset t.period (firing_count stop t) stop
-    (λ k below. each_in_time stop t.offset t.period k (nat_le t.offset stop) (nat_eq t.period 0) refl refl below)
+    (firing_in_time stop t)
 
 -- ---- startups and firings
 
@@ -119,7 +103,7 @@ own_outside d within number [] there = All-nil (IsOutside IsOwnSlot d)
 own_outside d within number (f ∷ fs) there =
     let same : number + 0 ≡ number = omega arith in
     let here : slice_get d.federates number ≡ Some f = subst (λ k. slice_get d.federates k ≡ Some f) same (there 0 f refl) in
-    All-append (IsOutside IsOwnSlot d) (startup_of number f.slots ++ firings_from d.stop number (first_timer f.slots) f.slots.timers)
+    All-append (IsOutside IsOwnSlot d) (own_events d.stop number f.slots)
     (own_events_from d.stop (number + 1) fs)
     (All-append (IsOutside IsOwnSlot d) (startup_of number f.slots) (firings_from d.stop number (first_timer f.slots) f.slots.timers)
     (startup_outside d within number f here)
