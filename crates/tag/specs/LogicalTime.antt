@@ -1,5 +1,5 @@
 -- Logical time. A tag is a point of it, a delay is a length of it; both are a time and a microstep.
-use Rattle.std.specs.Prelude.{◌≡◌, ℕ, ◌+◌, ◌-◌, ◌*◌, ◌^◌, ◌<◌, ◌≤◌, Bool, if◌then◌else◌, nat_lt, nat_eq, ◌&&◌, ◌||◌}
+use Rattle.std.specs.Prelude.{◌≡◌, ℕ, ◌+◌, ◌-◌, ◌*◌, ◌^◌, ◌<◌, ◌≤◌, Bool, if◌then◌else◌, nat_lt, nat_eq, ◌&&◌, ◌||◌, Option, None, Some}
 
 -- a time in nanoseconds, then a microstep
 pub record LogicalTime : Type 0 where
@@ -85,6 +85,10 @@ predecessor_of g =
     if nat_lt 0 g.microstep
     then record { time = g.time; microstep = g.microstep - 1 }
     else record { time = g.time - 1; microstep = 2 ^ 32 - 1 }
+
+-- the greatest tag before this one; there is none before the first
+abbrev pub tag_before : LogicalTime → Option LogicalTime
+tag_before g = if is_same g origin then None else Some (predecessor_of g)
 
 -- the delay of a connection's `after` or of a scheduling with this time: 0 is one microstep
 abbrev pub delay_of : ℕ → LogicalTime

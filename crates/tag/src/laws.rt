@@ -1,7 +1,7 @@
 //! The laws of tags, delays and durations: each function's contract is one, for all logical times.
 
-ghost use Rattle.std.specs.Prelude.{◌≡◌, ℕ, ◌+◌, ◌-◌, ◌*◌, ◌^◌, ◌<◌, ◌≤◌, ◌≢◌, ◌⊎◌, ◌↔◌, List, ◌++◌, length, All, IsTrue, false, min, max};
-ghost use Rattle.tag.specs.LogicalTime.{LogicalTime, IsLogicalTime, CarriesNothing, origin, forever, logical_time, is_before, is_at_most, is_same, place, sum_of, successor_of};
+ghost use Rattle.std.specs.Prelude.{◌≡◌, ℕ, ◌+◌, ◌-◌, ◌*◌, ◌^◌, ◌<◌, ◌≤◌, ◌≢◌, ◌⊎◌, ◌↔◌, List, ◌++◌, length, All, IfSome, IsSomeAnd, IsTrue, Some, false, min, max};
+ghost use Rattle.tag.specs.LogicalTime.{LogicalTime, IsLogicalTime, IsFinite, CarriesNothing, origin, forever, logical_time, is_before, is_at_most, is_same, place, sum_of, successor_of, tag_before};
 ghost use Rattle.tag.specs.Total.{total_of, IsConnectionDelay};
 ghost use Rattle.tag.specs.Duration.{Spells};
 ghost use Rattle.tag.specs.Printed.{printed_time};
@@ -64,6 +64,15 @@ pub fn successors_are_least()
     ensures later { (g : LogicalTime) → IsLogicalTime g → g ≢ forever → IsTrue (is_before g (successor_of g)) }
     ensures least { (g h : LogicalTime) → IsLogicalTime g → IsLogicalTime h → IsTrue (is_before g h) → IsTrue (is_at_most (successor_of g) h) }
     ensures forever_stays { successor_of forever ≡ forever }
+{}
+
+/// What `pred` gives is the greatest earlier tag, and takes `succ` back.
+pub fn predecessors_are_greatest()
+    ensures earlier { (g : LogicalTime) → IfSome (tag_before g) (λ h. IsTrue (is_before h g)) }
+    ensures greatest { (g h : LogicalTime) → IsLogicalTime g → IsLogicalTime h → IsTrue (is_before h g) → IsSomeAnd (tag_before g) (λ k. IsTrue (is_at_most h k)) }
+    ensures finite { (g : LogicalTime) → IsLogicalTime g → IfSome (tag_before g) IsFinite }
+    ensures of_successor { (g : LogicalTime) → IsLogicalTime g → g ≢ forever → tag_before (successor_of g) ≡ Some g }
+    ensures then_successor { (g : LogicalTime) → IsLogicalTime g → IfSome (tag_before g) (λ h. successor_of h ≡ g) }
 {}
 
 /// Sums at the limits of times and microsteps.

@@ -15,6 +15,6 @@ pub mod time;
 pub use delay::Delay;
 pub use duration::{DurationFault, parse_duration};
 pub use finite_tag::FiniteTag;
-pub use sums::{plus, succ, then};
+pub use sums::{plus, pred, succ, then};
 pub use tag::Tag;
 pub use time::Time;

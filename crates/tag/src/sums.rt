@@ -1,5 +1,5 @@
 ghost use Rattle.std.specs.Prelude.{◌≡◌, MatchOption};
-ghost use Rattle.tag.specs.LogicalTime.{LogicalTime, IsLogicalTime, forever, sum_of, successor_of};
+ghost use Rattle.tag.specs.LogicalTime.{LogicalTime, IsLogicalTime, forever, sum_of, successor_of, tag_before};
 
 use crate::delay::Delay;
 use crate::tag::Tag;
@@ -32,6 +32,18 @@ pub fn succ(tag: Tag) -> Tag
     ensures { result ≡ successor_of tag }
 {
     plus(tag, Delay::after(Time::zero()))
+}
+
+/// The greatest earlier tag; None for the first tag.
+pub fn pred(tag: Tag) -> Option<Tag>
+    ensures { result ≡ tag_before tag }
+{
+    tag.known();
+    let (time, microstep) = match tag.microstep().checked_sub(1) {
+        Some(microstep) => (tag.time(), microstep),
+        None => (tag.time().checked_sub(1)?, u32::MAX),
+    };
+    Time::new(time).map(|time| Tag::new(time, microstep))
 }
 
 /// None where the sum is FOREVER.

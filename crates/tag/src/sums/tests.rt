@@ -45,3 +45,16 @@ fn successors(rt: HostRuntime) {
     assert_eq!(rt; succ(tag(5, u32::MAX)), tag(6, 0));
     assert_eq!(rt; succ(Tag::FOREVER), Tag::FOREVER);
 }
+
+#[test]
+fn predecessors(rt: HostRuntime) {
+    for (start, earlier) in [
+        (tag(5, 4), Some(tag(5, 3))),
+        (tag(1, 0), Some(tag(0, u32::MAX))),
+        (tag(0, 1), Some(tag(0, 0))),
+        (tag(0, 0), None),
+        (Tag::FOREVER, Some(tag((1 << 62) - 1, u32::MAX))),
+    ] {
+        assert_eq!(rt; pred(start), earlier, "before {start}");
+    }
+}
