@@ -11,6 +11,8 @@ mod delays;
 #[cfg(test)]
 mod drafts;
 #[cfg(test)]
+mod durations;
+#[cfg(test)]
 mod federations;
 #[cfg(test)]
 mod files;
@@ -26,3 +28,5 @@ mod plans;
 mod programs;
 #[cfg(test)]
 mod rows;
+#[cfg(test)]
+mod tags;

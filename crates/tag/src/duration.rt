@@ -128,6 +128,3 @@ fn number(digits: &[u8]) -> Option<u64>
     }
     Some(number)
 }
-
-#[cfg(test)]
-mod tests;

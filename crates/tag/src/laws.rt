@@ -2,11 +2,13 @@
 
 ghost use Rattle.std.specs.Prelude.{◌≡◌, ℕ, ◌+◌, ◌-◌, ◌*◌, ◌^◌, ◌<◌, ◌≤◌, ◌≢◌, ◌⊎◌, ◌↔◌, List, ◌++◌, length, All, IfSome, IsSomeAnd, IsTrue, Some, false, min, max};
 ghost use Rattle.tag.specs.LogicalTime.{LogicalTime, IsLogicalTime, IsFinite, CarriesNothing, origin, forever, logical_time, is_before, is_at_most, is_same, place, sum_of, successor_of, tag_before};
+ghost use Rattle.tag.specs.Compared.{IsOrderOfTags};
 ghost use Rattle.tag.specs.Total.{total_of, IsConnectionDelay};
 ghost use Rattle.tag.specs.Duration.{Spells};
 ghost use Rattle.tag.specs.Printed.{printed_time};
 
 use crate::delay::Delay;
+use crate::finite_tag::FiniteTag;
 use crate::tag::Tag;
 
 /// Of two tags one is earlier, or they are one.
@@ -102,3 +104,10 @@ pub fn forever_of_both_kinds() -> (Tag, Delay)
 {
     (Tag::FOREVER, Delay::FOREVER)
 }
+
+/// `==`, `<`, `<=`, `min` and `max` of the code are those of the definitions.
+pub fn code_compares_as_defined()
+    ensures tags { IsOrderOfTags ⟦<Tag as PartialEq>⟧.eq ⟦<Tag as PartialOrd>⟧.partial_cmp ⟦<Tag as Ord>⟧.cmp }
+    ensures delays { IsOrderOfTags ⟦<Delay as PartialEq>⟧.eq ⟦<Delay as PartialOrd>⟧.partial_cmp ⟦<Delay as Ord>⟧.cmp }
+    ensures finite_tags { IsOrderOfTags ⟦<FiniteTag as PartialEq>⟧.eq ⟦<FiniteTag as PartialOrd>⟧.partial_cmp ⟦<FiniteTag as Ord>⟧.cmp }
+{}

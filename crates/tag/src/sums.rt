@@ -62,6 +62,3 @@ fn sum(time: u64, microstep: u32, delay: Delay) -> Option<(Time, u32)>
     };
     Time::new(time).map(|time| (time, microstep))
 }
-
-#[cfg(test)]
-mod tests;

@@ -90,6 +90,3 @@ impl fmt::Display for Tag {
         }
     }
 }
-
-#[cfg(test)]
-mod tests;

@@ -1,4 +1,6 @@
-use super::*;
+//! Which texts are durations, and of how many nanoseconds.
+use std::test::Fail;
+use tag::{DurationFault, parse_duration};
 
 #[test]
 fn durations(rt: HostRuntime) {
@@ -42,14 +44,12 @@ fn refused_durations(rt: HostRuntime) {
 }
 
 #[test]
-fn faults(rt: HostRuntime) -> Result<(), std::test::Fail> {
-    assert_eq!(rt;
-        DurationFault::BadDuration.to_string(rt.alloc())?.as_str(),
-        "1 BadDuration"
-    );
-    assert_eq!(rt;
-        DurationFault::TooLong.to_string(rt.alloc())?.as_str(),
-        "2 TooLong"
-    );
+fn faults(rt: HostRuntime) -> Result<(), Fail> {
+    for (fault, text) in [
+        (DurationFault::BadDuration, "1 BadDuration"),
+        (DurationFault::TooLong, "2 TooLong"),
+    ] {
+        assert_eq!(rt; fault.to_string(rt.alloc())?.as_str(), text);
+    }
     Ok(())
 }
