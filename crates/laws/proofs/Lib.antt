@@ -70,3 +70,5 @@ pub mod EveryRow
 pub mod TwoRuns
 -- What every run computes.
 pub mod Computes
+-- What a federate keeps by itself.
+pub mod FederateAlone

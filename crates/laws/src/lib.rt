@@ -5,6 +5,7 @@
 //! `specs/Runs`, then `prefix` and `finished`.
 #![tactic(auto)]
 
+pub mod alone;
 pub mod finished;
 pub mod prefix;
 

@@ -11,6 +11,8 @@ pub mod Standing
 pub mod Grant
 -- the coordinator's step
 pub mod Coordinator
+-- what each side keeps by itself, and what it sends, whatever the other side says
+pub mod Alone
 -- federates, coordinator and the queues between them
 pub mod Machine
 -- a small federation, on which the definitions are computed

@@ -18,3 +18,9 @@ abbrev pub with_made : {A B : Type 0} → (A → B) → Outcome A → Outcome B
 with_made change (Refused refusal) = Refused refusal
 with_made change Nothing = Nothing
 with_made change (Done made) = Done (change made)
+
+-- what holds of what was made, if something was
+abbrev pub IfDone : {A : Type 0} → Outcome A → (A → Type 0) → Type 0
+IfDone (Refused refusal) holds = Unit {0}
+IfDone Nothing holds = Unit {0}
+IfDone (Done made) holds = holds made
