@@ -72,3 +72,5 @@ pub mod TwoRuns
 pub mod Computes
 -- What a federate keeps by itself.
 pub mod FederateAlone
+-- What the coordinator keeps by itself.
+pub mod CoordinatorAlone

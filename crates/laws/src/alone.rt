@@ -3,11 +3,16 @@
 ghost use Rattle.std.specs.Prelude.{◌≡◌, ℕ, IsTrue};
 ghost use Rattle.network.specs.Network.{Network};
 ghost use Rattle.network.specs.Lawful.{IsLawful};
+ghost use Rattle.network.specs.Tables.{Table};
 ghost use Rattle.signal.specs.Signal.{IsSignal};
 ghost use Rattle.signal.specs.declared.signal.Signal.{Signal};
 ghost use Rattle.protocol.specs.Outcome.{IfDone};
 ghost use Rattle.protocol.specs.Federate.{Federate, opening_federate, federate_accepts, federate_announces, federate_advances};
-ghost use Rattle.protocol.specs.Alone.{IsFederate, is_of_turn, is_sent_after, completed_by};
+ghost use Rattle.protocol.specs.Standing.{Standing, opening_standing};
+ghost use Rattle.protocol.specs.Grant.{Rule, IsSafeRule};
+ghost use Rattle.protocol.specs.Coordinator.{coordinator_accepts};
+ghost use Rattle.protocol.specs.Machine.{sent_to};
+ghost use Rattle.protocol.specs.Alone.{IsFederate, IsStanding, is_of_turn, is_sent_after, completed_by, is_of_step, is_sent_past, granted_by};
 
 /// A federate stays a federate at each step, whatever signals come.
 pub fn a_federate_stays_one()
@@ -29,4 +34,21 @@ pub fn a_federate_sends_in_order()
         (λ made. IsTrue (is_sent_after f.completed made.sent) × (made.after.completed ≡ completed_by f.completed made.sent)) }
     ensures advance { (n : Network) (j : ℕ) (f : Federate) → IsFederate n j f → IfDone (federate_advances n j f)
         (λ made. IsTrue (is_of_turn made.sent) × IsTrue (is_sent_after f.completed made.sent) × (made.after.completed ≡ completed_by f.completed made.sent)) }
+{}
+
+/// What the coordinator knows of each federate stays as it should, whatever signals come, by any rule that grants what is safe.
+pub fn standings_stay()
+    ensures opening { IsStanding opening_standing }
+    ensures accept { (n : Network) (table : Table) (rule : Rule) (standings : ℕ → Standing) (i : ℕ) (signal : Signal) → IsSafeRule n table rule →
+        IsSignal signal → ((j : ℕ) → IsStanding (standings j)) →
+        IfDone (coordinator_accepts n rule standings i signal) (λ made. (j : ℕ) → IsStanding (made.after j)) }
+{}
+
+/// In one step the coordinator sends each federate at most one message, and then at most one TAG. Both are later than what it was
+/// granted before, and the TAG is what it is granted then.
+pub fn the_coordinator_sends_in_order()
+    ensures { (n : Network) (table : Table) (rule : Rule) (standings : ℕ → Standing) (i : ℕ) (signal : Signal) → IsSafeRule n table rule →
+        IsSignal signal → ((j : ℕ) → IsStanding (standings j)) → IfDone (coordinator_accepts n rule standings i signal)
+        (λ made. (j : ℕ) → IsTrue (is_of_step (sent_to j made.sent)) × IsTrue (is_sent_past (standings j).granted (sent_to j made.sent)) ×
+        ((made.after j).granted ≡ granted_by (standings j).granted (sent_to j made.sent))) }
 {}
