@@ -11,6 +11,8 @@ pub mod Undone
 pub mod Undivided
 -- what a network has to keep, so that the laws hold of it
 pub mod Lawful
+-- its reactors, connections and stop alone
+pub mod Wiring
 -- tables of least delays
 pub mod Tables
 -- small networks on which the definitions are computed

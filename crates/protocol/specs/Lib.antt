@@ -9,8 +9,12 @@ pub mod Federate
 pub mod Standing
 -- which federate may be granted which tag
 pub mod Grant
+-- before which tag nothing can arrive
+pub mod Bound
 -- the coordinator's step
 pub mod Coordinator
+-- standings as a list, and whether all is finished
+pub mod Standings
 -- what each side keeps by itself, and what it sends, whatever the other side says
 pub mod Alone
 -- federates, coordinator and the queues between them
