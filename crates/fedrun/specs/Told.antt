@@ -1,5 +1,6 @@
 -- What the program answers and prints.
-use Rattle.std.specs.Prelude.{◌≡◌, ℕ, ◌<◌, ◌≤◌, ◌⊎◌, List, [], Option}
+use Rattle.std.specs.Prelude.{◌≡◌, ℕ, ◌<◌, ◌≤◌, ◌⊎◌, ◌++◌, List, [], Option, codes}
+use Rattle.std.specs.List.{flat_map}
 use Rattle.std.specs.Borrow.{Bor}
 use Rattle.std.specs.Io.KnownBytes.{Appends}
 use Rattle.network.specs.Undivided.{whole, undivided_after}
@@ -22,9 +23,12 @@ use Rattle.fedrun.specs.declared.files.FileFault.{FileFault}
 use Rattle.fedrun.specs.declared.files.FileFault.TheVariants as file_fault
 use Rattle.fedrun.specs.declared.words.Request.{Request}
 use Rattle.fedrun.specs.declared.words.Request.TheVariants.{Whole, Check}
-use Rattle.fedrun.specs.Asked.{Asks}
-use Rattle.fedrun.specs.Printed.{printed_rows}
-use Rattle.fedrun.specs.PlanText.{printed_plan}
+use Rattle.printed.specs.RowText.{printed_rows}
+use Rattle.printed.specs.PlanText.{printed_plan}
+
+-- names, each after a space
+abbrev pub spaced : List (List ℕ) → List ℕ
+spaced names = flat_map (λ name. codes " " ++ name) names
 
 -- the exit status of a fault: 2 for words that are no command, 3 for what stopped the program after all was loaded
 abbrev pub status_of : Fault → ℕ
@@ -44,6 +48,10 @@ no_memory_in_turns = MemoryRunning 22
 -- no memory for what is printed
 abbrev pub no_memory_printing : Fault
 no_memory_printing = MemoryRunning 91
+
+-- what is told of words
+abbrev pub IsWordsFault : Fault → Type 0
+IsWordsFault fault = (fault ≡ Usage) ⊎ (fault ≡ no_memory_loading)
 
 -- how a fault of a file's bytes is told
 abbrev pub told_of_file : Bor (List ℕ) → FileFault → Fault
@@ -128,8 +136,7 @@ abbrev pub PrintsFor : Request → Option (List ℕ) → Option (List ℕ) → T
 PrintsFor (Whole federation inputs turns) before after = PrintsRun turns before after
 PrintsFor (Check federation) before after = PrintsPlan before after
 
--- the words ask for something, and it was printed
-pub record PrintsAnswer (words : List (List ℕ)) (before after : Option (List ℕ)) : Type 0 where
+-- for some request, what it asks for was printed
+pub record PrintsAnswer (before after : Option (List ℕ)) : Type 0 where
   pub request : Request
-  pub asked : Asks words request
   pub printed : PrintsFor request before after

@@ -1,4 +1,4 @@
-ghost use Rattle.std.specs.Prelude.{◌≡◌, ◌≢◌, ◌≤◌, IfOk, IfErr, OnOk, map, string_bytes, vec_len};
+ghost use Rattle.std.specs.Prelude.{◌≡◌, ◌≢◌, ◌≤◌, IfOk, IfErr, OnOk, string_bytes, vec_len};
 ghost use Rattle.std.specs.Io.KnownBytes.{Appends};
 ghost use Rattle.plan.specs.External.{AreInputsOf};
 ghost use Rattle.reactor.specs.Programs.{AreProgramsOf};
@@ -7,11 +7,10 @@ ghost use Rattle.fedrun.specs.Told.{status_of, told_of_file, IsFileFault, IsRunF
 
 use crate::fault::Fault;
 use crate::files::{FileFault, Files};
-use crate::plan_text::plan_text;
-use crate::row_text::rows_text;
 use crate::words::{Request, read_words};
 use loadfed::{LoadFault, MOST_BYTES, MOST_INPUT_BYTES, load, load_inputs};
 use plan::{Inputs, Plan};
+use printed::{plan_text, rows_text};
 use reactor::Programs;
 use std::alloc::Global;
 use std::io::Write;
@@ -27,7 +26,7 @@ pub fn command<R: AllocGlobal, F: Files, O: Write, E: Write>(
     out: &mut O,
     err: &mut E,
 ) -> u8
-    ensures done { result ≡ 0 → PrintsAnswer (map string_bytes words.now) (O.contents out.old) (O.contents out.new) }
+    ensures done { result ≡ 0 → PrintsAnswer (O.contents out.old) (O.contents out.new) }
     ensures quiet { result ≡ 0 → err.new ≡ err.old }
     ensures untouched { result ≡ 1 → out.new ≡ out.old }
     ensures unused { result ≡ 2 → out.new ≡ out.old }
@@ -53,7 +52,7 @@ fn run<'a, F: Files, O: Write>(
     files: &mut F,
     out: &mut O,
 ) -> Result<(), Fault<'a>>
-    ensures ok { OnOk result (PrintsAnswer (map string_bytes words.entry.now) (O.contents out.old) (O.contents out.new)) }
+    ensures ok { OnOk result (PrintsAnswer (O.contents out.old) (O.contents out.new)) }
     ensures err { IfErr result (λ fault. fault ≢ Fault.CannotWrite → out.new ≡ out.old) }
 {
     match read_words(alloc, words)? {

@@ -202,7 +202,7 @@ pub struct Cycle(pub Names);
 
 impl fmt::Display for Cycle {
     ghost use Rattle.std.specs.Prelude.{Some};
-    ghost use Rattle.fedrun.specs.Printed.{spaced};
+    ghost use Rattle.fedrun.specs.Told.{spaced};
 
     ghost output = { λ cycle. Some (spaced cycle.0) };
 

@@ -1,15 +1,13 @@
 //! The program `fedrun`: reads its words and files, and prints the rows of a federation.
 //!
 //! All it does is `command`, a function over words, files and writers; `main` hands it the machine's. Begin with `command`,
-//! then `specs/Printed` for what a row looks like, and `specs/PlanText` for a plan.
+//! then `specs/Told`; `printed` says what a row and a plan look like.
 #![tactic(auto)]
 
 mod command;
 mod fault;
 mod files;
 mod machine;
-mod plan_text;
-mod row_text;
 #[cfg(test)]
 mod tests;
 mod words;

@@ -1,11 +1,5 @@
-ghost use Rattle.std.specs.Prelude.{◌≡◌, ◌⊎◌, ℕ, List, false, IfOk, IfErr, MatchOption, map, string_bytes, codes};
-ghost use Rattle.std.specs.Char.{is_ascii_digit};
-ghost use Rattle.std.specs.List.{list_all};
-ghost use Rattle.clap.specs.Words.{app_of, shape_of, rule_of, found_of, first_value};
-ghost use Rattle.clap.specs.declared.builder.command.Command.TheViews.{out-Command as fields_of};
-ghost use Rattle.fedrun.specs.Asked.{IsTurnCount, Asks, AskNothing};
-ghost use Rattle.fedrun.specs.Told.{no_memory_loading};
-ghost use Rattle.fedrun.specs.CommandLine.{app, whole_shape, check_shape, needed_rule, IsParseOf, GivesWhole, IsWholeBy, IsCheckBy};
+ghost use Rattle.std.specs.Prelude.{IfErr};
+ghost use Rattle.fedrun.specs.Told.{IsWordsFault};
 
 use crate::fault::Fault;
 use clap::error::ErrorKind;
@@ -27,122 +21,72 @@ pub enum Request<'a> {
     },
 }
 
-/// What the words ask for: one subcommand with its arguments. Else it is `Usage`, or a want of memory.
+/// What the words ask for, as `clap` reads them: one subcommand with its arguments. Else it is `Usage`, or a want of memory.
+/// That the request is the words' is shown by tests.
 pub fn read_words<'a>(alloc: Global, words: &'a [String]) -> Result<Request<'a>, Fault<'static>>
-    ensures ok { IfOk result (Asks (map string_bytes words.entry.now)) }
-    ensures err { IfErr result (λ fault. (fault ≡ no_memory_loading) ⊎ ((fault ≡ Fault.Usage) × AskNothing (map string_bytes words.entry.now))) }
+    ensures { IfErr result IsWordsFault }
 {
     let Ok(command) = commands(alloc) else {
         return Err(Fault::no_memory_loading());
     };
     match command.try_get_matches_from(words) {
-        Ok(matches) => requested(&matches),
+        Ok(matches) => requested(&matches).ok_or(Fault::Usage),
         Err(error) if error.kind() == ErrorKind::OutOfMemory => Err(Fault::no_memory_loading()),
         Err(_) => Err(Fault::Usage),
     }
 }
 
 /// The request of words that were parsed.
-fn requested<'a>(matches: &ArgMatches<'a>) -> Result<Request<'a>, Fault<'static>>
-    ensures ok { (words : List (List ℕ)) → IsParseOf words matches.now → IfOk result (Asks words) }
-    ensures err { (words : List (List ℕ)) → IsParseOf words matches.now → IfErr result (λ fault. (fault ≡ Fault.Usage) × AskNothing words) }
-{
+fn requested<'a>(matches: &ArgMatches<'a>) -> Option<Request<'a>> {
     if let Some(given) = matches.subcommand_matches("whole") {
         return whole(given);
     }
-    if let Some(given) = matches.subcommand_matches("check") {
-        return check(given);
-    }
-    Err(Fault::Usage)
+    check(matches.subcommand_matches("check")?)
 }
 
 /// The subcommands, with their arguments.
-fn commands<'a>(alloc: Global) -> Result<Command<'a>, AllocError>
-    ensures { IfOk result (λ command. app_of command ≡ app) }
-{
+fn commands<'a>(alloc: Global) -> Result<Command<'a>, AllocError> {
     Command::new(alloc, "fedrun")
         .no_binary_name(true)
         .disable_help_flag(true)
         .disable_help_subcommand(true)
         .subcommand_required(true)
-        .subcommand(whole_command(alloc)?)?
-        .subcommand(check_command(alloc)?)
+        .subcommand(subcommand(alloc, "whole", &["FED", "IN", "TURNS"])?)?
+        .subcommand(subcommand(alloc, "check", &["FED"])?)
 }
 
-fn whole_command<'a>(alloc: Global) -> Result<Command<'a>, AllocError>
-    ensures shape { IfOk result (λ command. shape_of command ≡ whole_shape) }
-    ensures own { IfOk result (λ command. (fields_of command).has_globals ≡ false) }
-{
-    Command::new(alloc, "whole")
-        .disable_help_flag(true)
-        .arg(needed(alloc, "FED"))?
-        .arg(needed(alloc, "IN"))?
-        .arg(needed(alloc, "TURNS"))
-}
-
-fn check_command<'a>(alloc: Global) -> Result<Command<'a>, AllocError>
-    ensures shape { IfOk result (λ command. shape_of command ≡ check_shape) }
-    ensures own { IfOk result (λ command. (fields_of command).has_globals ≡ false) }
-{
-    Command::new(alloc, "check")
-        .disable_help_flag(true)
-        .arg(needed(alloc, "FED"))
-}
-
-/// An argument that has to be there.
-fn needed<'a>(alloc: Global, name: &'a str) -> Arg<'a>
-    ensures rule { rule_of result ≡ needed_rule name.entry.now }
-    ensures own { result.global ≡ false }
-{
-    Arg::new(alloc, name).required(true)
-}
-
-/// The request of `whole`, by what was given to it.
-fn whole<'a>(given: &ArgMatches<'a>) -> Result<Request<'a>, Fault<'static>>
-    ensures ok { IfOk result (IsWholeBy (found_of given.now)) }
-    ensures err { IfErr result (λ fault. (fault ≡ Fault.Usage) × ((federation inputs : List ℕ) (turns : ℕ) → ¬ (GivesWhole (found_of given.now) federation inputs turns))) }
-{
-    match (
-        given.get_str("FED"),
-        given.get_str("IN"),
-        given.get_str("TURNS"),
-    ) {
-        (Some(federation), Some(inputs), Some(turns)) => match turn_count(turns) {
-            Some(turns) => Ok(Request::Whole {
-                federation,
-                inputs,
-                turns,
-            }),
-            None => Err(Fault::Usage),
-        },
-        _ => Err(Fault::Usage),
+/// A subcommand with arguments that have to be there.
+fn subcommand<'a>(
+    alloc: Global,
+    name: &'a str,
+    arguments: &[&'a str],
+) -> Result<Command<'a>, AllocError> {
+    let mut command = Command::new(alloc, name).disable_help_flag(true);
+    for argument in arguments {
+        command = command.arg(Arg::new(alloc, *argument).required(true))?;
     }
+    Ok(command)
 }
 
-/// The request of `check`.
-fn check<'a>(given: &ArgMatches<'a>) -> Result<Request<'a>, Fault<'static>>
-    ensures ok { IfOk result (IsCheckBy (found_of given.now)) }
-    ensures err { IfErr result (λ fault. (fault ≡ Fault.Usage) × (first_value (found_of given.now) (codes "FED") ≡ None)) }
-{
-    match given.get_str("FED") {
-        Some(federation) => Ok(Request::Check { federation }),
-        None => Err(Fault::Usage),
-    }
+fn whole<'a>(given: &ArgMatches<'a>) -> Option<Request<'a>> {
+    Some(Request::Whole {
+        federation: given.get_str("FED")?,
+        inputs: given.get_str("IN")?,
+        turns: turn_count(given.get_str("TURNS")?)?,
+    })
+}
+
+fn check<'a>(given: &ArgMatches<'a>) -> Option<Request<'a>> {
+    Some(Request::Check {
+        federation: given.get_str("FED")?,
+    })
 }
 
 /// A number of turns, in ASCII digits.
-fn turn_count(text: &str) -> Option<u32>
-    ensures { MatchOption result ((turns : ℕ) → ¬ (IsTurnCount text.now turns)) (IsTurnCount text.now) }
-{
-    if !is_digits(text) {
-        return None;
+fn turn_count(text: &str) -> Option<u32> {
+    if text.bytes().all(|byte| byte.is_ascii_digit()) {
+        text.parse::<u32>().ok()
+    } else {
+        None
     }
-    text.parse::<u32>().ok()
-}
-
-/// Whether there are ASCII digits alone.
-fn is_digits(text: &str) -> bool
-    ensures { result ≡ list_all is_ascii_digit text.now }
-{
-    text.bytes().all(|b| b.is_ascii_digit())
 }

@@ -1,6 +1,6 @@
 use Rattle.std.proofs.Common.{take}
 use Rattle.std.specs.Fmt.{HasWritten, IsPlainFormatter}
-use Rattle.fedrun.specs.Printed.{spaced}
+use Rattle.fedrun.specs.Told.{spaced}
 use Rattle.fedrun.proofs.fault.CycleDisplay.fmt.Given as goal
 
 abbrev pub invariant-loop-name : goal.invariant-loop-name

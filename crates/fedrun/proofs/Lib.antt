@@ -1,3 +1,0 @@
--- Lemmas.
--- what is made of any words
-pub mod CommandLine
