@@ -5,25 +5,27 @@ ghost use Rattle.loadfed.specs.Numbers.{number_of, fault_of_plan, fault_of_input
 use plan::{InputFault, PlanFault, Text};
 use reactor::ProgramFault;
 use std::alloc::{AllocError, AllocFailed, Global};
+use std::fmt;
 
-/// Why a file isn't taken. Nothing of it is kept. Want of memory is `Memory`, wherever it came.
+/// Why a file isn't taken. Nothing of it is kept. But for `Memory`, whoever wrote the file caused it: the caller tells them, and
+/// may load the file again once it is changed.
 #[derive(Debug, Drop)]
 pub enum LoadFault {
     /// The bytes are no TOML document.
     NotToml,
-    /// A key that is missing, unknown, or has a value of another kind or form.
+    /// This key is missing or unknown, or has a value of another kind or form. Correct it.
     WrongShape(Text),
-    /// What the file declares is no legal federation.
+    /// What the file declares is no legal federation; the inner fault says why.
     Plan(PlanFault),
-    /// What a federate's states and reactions say is no program.
+    /// What this federate's states and reactions say is no program; the inner fault says why.
     Program { federate: Text, fault: ProgramFault },
-    /// A recorded input of a federate or a physical action that isn't there.
+    /// A recorded input of a federate or a physical action that isn't there. Correct the name.
     UnknownAction,
-    /// Two recorded inputs of one action at one tag.
+    /// Two recorded inputs of one action at one tag. Leave one out, or give it another microstep.
     RepeatedInput,
-    /// A file that is too long, or more states, reactions, lines or recorded inputs than there may be.
+    /// A file that is too long, or more states, reactions, lines or recorded inputs than there may be. Write fewer.
     OverLimit,
-    /// An allocation failed.
+    /// An allocation failed, wherever it was: the machine caused it, and the file may be good. The same call may be made again.
     Memory,
 }
 
@@ -40,10 +42,10 @@ impl LoadFault {
                 federate: _,
                 fault: _,
             } => 33,
-            LoadFault::UnknownAction => 34,
-            LoadFault::RepeatedInput => 35,
-            LoadFault::OverLimit => 36,
-            LoadFault::Memory => 37,
+            LoadFault::UnknownAction => InputFault::UnknownAction.number(),
+            LoadFault::RepeatedInput => InputFault::RepeatedInput.number(),
+            LoadFault::OverLimit => InputFault::OverLimit.number(),
+            LoadFault::Memory => InputFault::Memory.number(),
         }
     }
 
@@ -90,6 +92,30 @@ impl LoadFault {
             InputFault::RepeatedInput => LoadFault::RepeatedInput,
             InputFault::OverLimit => LoadFault::OverLimit,
             InputFault::Memory => LoadFault::Memory,
+        }
+    }
+}
+
+impl fmt::Display for LoadFault {
+    ghost use Rattle.std.specs.Prelude.{Some};
+    ghost use Rattle.loadfed.specs.Numbers.{printed_fault};
+
+    ghost output = { λ fault. Some (printed_fault fault) };
+
+    fn fmt<W: fmt::Write>(&self, f: &mut fmt::Formatter<W>) -> fmt::Result {
+        let number = self.number();
+        match self {
+            LoadFault::NotToml => write!(f, "{number} NotToml"),
+            LoadFault::WrongShape(key) => {
+                let key = key.as_str();
+                write!(f, "{number} WrongShape {key}")
+            }
+            LoadFault::Plan(fault) => write!(f, "{fault}"),
+            LoadFault::Program { federate, fault } => write!(f, "{}", fault.of(federate.as_str())),
+            LoadFault::UnknownAction => write!(f, "{}", InputFault::UnknownAction),
+            LoadFault::RepeatedInput => write!(f, "{}", InputFault::RepeatedInput),
+            LoadFault::OverLimit => write!(f, "{}", InputFault::OverLimit),
+            LoadFault::Memory => write!(f, "{}", InputFault::Memory),
         }
     }
 }

@@ -1,5 +1,7 @@
--- What each refusal says of a draft or of recorded inputs, and its number.
-use Rattle.std.specs.Prelude.{◌≡◌, ℕ, ◌<◌, ◌≤◌, ◌⊎◌, List, [], length, map, All, Any, IsSome, None, Some, slice_get, slice_index_or}
+-- What each refusal says of a draft, its number, and how it is told.
+use Rattle.std.specs.Prelude.{◌≡◌, ℕ, ◌<◌, ◌≤◌, ◌⊎◌, List, [], ◌++◌, length, map, All, Any, IsSome, None, Some, slice_get, slice_index_or, codes}
+use Rattle.std.specs.List.{flat_map}
+use Rattle.std.specs.Fmt.{decimal}
 use Rattle.network.specs.Connection.{Connection}
 use Rattle.plan.specs.declared.draft.PortName.{PortName}
 use Rattle.plan.specs.declared.draft.Draft.{Draft}
@@ -92,3 +94,26 @@ number_of OverLimit = 14
 number_of BadTimer = 15
 number_of Memory = 16
 number_of (RepeatedName name) = 17
+
+-- names, each after a space
+abbrev pub spaced : List (List ℕ) → List ℕ
+spaced names = flat_map (λ name. codes " " ++ name) names
+
+-- a port, as federate.port
+abbrev pub printed_port : PortName → List ℕ
+printed_port p = p.federate ++ (codes "." ++ p.port)
+
+-- what is told after the number: the refusal's name, and what it is about
+abbrev pub text_of : PlanFault → List ℕ
+text_of NoFederate = codes " NoFederate"
+text_of (UnknownName p) = codes " UnknownName " ++ printed_port p
+text_of (TwoSources p) = codes " TwoSources " ++ printed_port p
+text_of (ZeroDelayCycle names) = codes " ZeroDelayCycle" ++ spaced names
+text_of OverLimit = codes " OverLimit"
+text_of BadTimer = codes " BadTimer"
+text_of Memory = codes " Memory"
+text_of (RepeatedName name) = codes " RepeatedName " ++ name
+
+-- how the refusal is told
+abbrev pub printed_fault : PlanFault → List ℕ
+printed_fault fault = decimal (number_of fault) ++ text_of fault

@@ -1,5 +1,6 @@
--- The numbers of the refusals of recorded inputs.
-use Rattle.std.specs.Prelude.{ℕ}
+-- The refusals of recorded inputs: their numbers, and how they are told.
+use Rattle.std.specs.Prelude.{ℕ, List, ◌++◌, codes}
+use Rattle.std.specs.Fmt.{decimal}
 use Rattle.plan.specs.declared.fault.InputFault.{InputFault}
 use Rattle.plan.specs.declared.fault.InputFault.TheVariants.{UnknownAction, RepeatedInput, OverLimit, Memory}
 
@@ -9,3 +10,14 @@ input_number_of UnknownAction = 34
 input_number_of RepeatedInput = 35
 input_number_of OverLimit = 36
 input_number_of Memory = 37
+
+-- what is told after the number
+abbrev pub input_text_of : InputFault → List ℕ
+input_text_of UnknownAction = codes " UnknownAction"
+input_text_of RepeatedInput = codes " RepeatedInput"
+input_text_of OverLimit = codes " OverLimit"
+input_text_of Memory = codes " Memory"
+
+-- how the refusal is told
+abbrev pub printed_input_fault : InputFault → List ℕ
+printed_input_fault fault = decimal (input_number_of fault) ++ input_text_of fault

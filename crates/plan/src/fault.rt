@@ -6,24 +6,28 @@ ghost use Rattle.plan.specs.InputFaults.{input_number_of};
 use crate::draft::PortName;
 use crate::text::{Names, Text};
 use std::alloc::{AllocError, AllocFailed};
+use std::fmt;
 
-/// Why a draft is refused. Nothing of it is kept.
+/// Why a draft is refused. Nothing of it is kept. But for `Memory`, whoever wrote the draft caused it: the caller tells them,
+/// and may check the draft again once it is changed.
 #[derive(Debug, Drop)]
 pub enum PlanFault {
+    /// The draft has no federate; it needs at least one.
     NoFederate,
-    /// A port that a connection names and that isn't there.
+    /// A connection names this port, and it isn't there. Declare it, or correct the name.
     UnknownName(PortName),
-    /// An input port to which two connections go.
+    /// Two connections go to this input port. Leave one out, or declare a second port.
     TwoSources(PortName),
-    /// The federates of a cycle of connections without any delay, in its order, from the lowest number on.
+    /// Connections without any delay lead round through these federates, in the cycle's order, from the lowest number on. Give
+    /// one of the connections a delay.
     ZeroDelayCycle(Names),
-    /// A count above its limit.
+    /// More federates, connections or slots than there may be. Make the federation smaller.
     OverLimit,
-    /// An offset or period of 2^62 ns or more.
+    /// An offset or period of 2^62 ns or more. Make it shorter.
     BadTimer,
-    /// An allocation failed.
+    /// An allocation failed: the machine caused it, and the draft may be good. The same call may be made again.
     Memory,
-    /// A name of two federates, or of two slots of one federate.
+    /// Two federates, or two slots of one federate, have this name. Rename one of them.
     RepeatedName(Text),
 }
 
@@ -45,6 +49,64 @@ impl PlanFault {
     }
 }
 
+impl fmt::Display for PlanFault {
+    ghost use Rattle.std.specs.Prelude.{Some};
+    ghost use Rattle.plan.specs.Faults.{printed_fault};
+
+    ghost output = { λ fault. Some (printed_fault fault) };
+
+    fn fmt<W: fmt::Write>(&self, f: &mut fmt::Formatter<W>) -> fmt::Result {
+        let number = self.number();
+        match self {
+            PlanFault::NoFederate => write!(f, "{number} NoFederate"),
+            PlanFault::UnknownName(port) => write!(f, "{number} UnknownName {port}"),
+            PlanFault::TwoSources(port) => write!(f, "{number} TwoSources {port}"),
+            PlanFault::ZeroDelayCycle(names) => write!(
+                f,
+                "{number} ZeroDelayCycle{}",
+                Spaced(names)
+            ),
+            PlanFault::OverLimit => write!(f, "{number} OverLimit"),
+            PlanFault::BadTimer => write!(f, "{number} BadTimer"),
+            PlanFault::Memory => write!(f, "{number} Memory"),
+            PlanFault::RepeatedName(name) => write!(f, "{number} RepeatedName {}", name.as_str()),
+        }
+    }
+}
+
+impl fmt::Display for PortName {
+    ghost use Rattle.std.specs.Prelude.{Some};
+    ghost use Rattle.plan.specs.Faults.{printed_port};
+
+    ghost output = { λ port. Some (printed_port port) };
+
+    fn fmt<W: fmt::Write>(&self, f: &mut fmt::Formatter<W>) -> fmt::Result {
+        let federate = self.federate.as_str();
+        let port = self.port.as_str();
+        write!(f, "{federate}.{port}")
+    }
+}
+
+/// Names, each printed after a space.
+#[derive(Drop)]
+struct Spaced<'a>(&'a Names);
+
+impl fmt::Display for Spaced<'_> {
+    ghost use Rattle.std.specs.Prelude.{Some};
+    ghost use Rattle.plan.specs.Faults.{spaced};
+
+    ghost output = { λ names. Some (spaced names.0.now) };
+
+    fn fmt<W: fmt::Write>(&self, f: &mut fmt::Formatter<W>) -> fmt::Result {
+        let names = self.0.as_slice();
+        for name in names {
+            let name = name.as_str();
+            write!(f, " {name}")?;
+        }
+        Ok(())
+    }
+}
+
 impl From<AllocError> for PlanFault {
     ghost from_gives = { λ _ e. e ≡ Memory };
 
@@ -61,16 +123,17 @@ impl<T: Drop> From<AllocFailed<T>> for PlanFault {
     }
 }
 
-/// Why recorded inputs are refused.
+/// Why recorded inputs are refused. But for `Memory`, whoever recorded them caused it: the caller tells them, and may check
+/// them again once they are changed. The plan stays as it is.
 #[derive(Clone, Copy, Debug, PartialEq, Eq)]
 pub enum InputFault {
-    /// A federate or a physical action that isn't there.
+    /// A federate that the plan hasn't, or no physical action of it. Correct the name.
     UnknownAction,
-    /// One action twice at one tag.
+    /// Two inputs for one action at one tag. Leave one out, or give it another microstep.
     RepeatedInput,
-    /// More than 65,536 of them.
+    /// More inputs than there may be. Record fewer.
     OverLimit,
-    /// An allocation failed.
+    /// An allocation failed: the machine caused it, and the inputs may be good. The same call may be made again.
     Memory,
 }
 
@@ -84,6 +147,23 @@ impl InputFault {
             InputFault::RepeatedInput => 35,
             InputFault::OverLimit => 36,
             InputFault::Memory => 37,
+        }
+    }
+}
+
+impl fmt::Display for InputFault {
+    ghost use Rattle.std.specs.Prelude.{Some};
+    ghost use Rattle.plan.specs.InputFaults.{printed_input_fault};
+
+    ghost output = { λ fault. Some (printed_input_fault fault) };
+
+    fn fmt<W: fmt::Write>(&self, f: &mut fmt::Formatter<W>) -> fmt::Result {
+        let number = self.number();
+        match self {
+            InputFault::UnknownAction => write!(f, "{number} UnknownAction"),
+            InputFault::RepeatedInput => write!(f, "{number} RepeatedInput"),
+            InputFault::OverLimit => write!(f, "{number} OverLimit"),
+            InputFault::Memory => write!(f, "{number} Memory"),
         }
     }
 }

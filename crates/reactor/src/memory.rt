@@ -4,8 +4,10 @@ ghost use Rattle.reactor.specs.declared.fault.ProgramFault.TheVariants as Progra
 
 use crate::fault::ProgramFault;
 use std::alloc::{AllocError, AllocFailed};
+use std::fmt;
 
-/// No memory was to be had, for a turn or for what is made before the first.
+/// An allocation failed, for a turn or for what is made before the first. The machine caused it; what was lent is as it was, and
+/// the same call may be made again.
 #[derive(Clone, Copy, Debug, PartialEq, Eq)]
 pub struct Memory;
 
@@ -15,6 +17,18 @@ impl Memory {
         ensures { result ≡ fault_number ProgramFaults.Memory }
     {
         ProgramFault::Memory.number()
+    }
+}
+
+impl fmt::Display for Memory {
+    ghost use Rattle.std.specs.Prelude.{Some};
+    ghost use Rattle.reactor.specs.Fault.{printed_memory};
+
+    ghost output = { λ _. Some printed_memory };
+
+    fn fmt<W: fmt::Write>(&self, f: &mut fmt::Formatter<W>) -> fmt::Result {
+        let number = self.number();
+        write!(f, "{number} Memory")
     }
 }
 
