@@ -137,8 +137,8 @@ federate = [{ name = "f", inputs = ["x", "w"], outputs = ["y"], timers = [{ name
 
 /// Whether its slots are startup, `x`, `w` and `t`.
 fn are_found(slots: &Slots) -> bool {
-    slots.inputs.place_of("w") == Some(1)
-        && slots.outputs.place_of("x").is_none()
+    slots.inputs.place_of(b"w".as_slice()) == Some(1)
+        && slots.outputs.place_of(b"x".as_slice()).is_none()
         && !slots.is_bare(2)
         && slots.is_bare(3)
 }

@@ -1,5 +1,7 @@
 -- Where names and ports stand.
 pub mod Places
+-- A list that isn't empty, as its first item and the others.
+pub mod First
 -- What stands at two places of a list.
 pub mod Twice
 -- Declared connections and connections by numbers.

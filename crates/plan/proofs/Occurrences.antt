@@ -1,11 +1,11 @@
 -- Inputs are for one action at one tag exactly where they are one occurrence.
 use Rattle.std.proofs.Common.{◌≡◌, ◌≢◌, ℕ, ◌<◌, Bool, ◌&&◌, nat_eq, List, length, map, refl, ap, sym, ◌∙◌, subst, arith, rules, get_or, [], pos}
-use Rattle.std.specs.Prelude.{All, AllPairs, IsSome, Option, None, Some, slice_get}
+use Rattle.std.specs.Prelude.{All, AllPairs, Any, IsSome, Option, None, Some, slice_get}
 use Rattle.std.specs.Bool.{Decides}
 use Rattle.std.specs.Cmp.{IsEquivalence}
 use Rattle.std.specs.Option.{option_map}
 use Rattle.std.proofs.lemmas.Bool.Decides.{nat_tests, same_from_decides}
-use Rattle.std.proofs.lemmas.List.{length-map, get_or-map}
+use Rattle.std.proofs.lemmas.List.{length-map, get_or-map, get_or_default}
 use Rattle.tag.specs.LogicalTime.{origin}
 use Rattle.plan.specs.declared.draft.Federate.{Federate}
 use Rattle.plan.specs.declared.input.Input.{Input}
@@ -118,4 +118,9 @@ module _ (fs : List Federate) (inputs : List Input) (occurrences : List Occurren
       (subst (IsThat fs (get_or inputs j no_input)) same (that_at j no_input o (omega arith)))
       (that_at k no_input o there) (apart j k no_input first there)
 
-pub ruleset of_occurrences = (all_known, apart_from_distinct, distinct_from_apart)
+  pub some_known : 0 < length occurrences → Any (λ i. IsSome (found_action fs i)) inputs
+  some_known some =
+      let below : 0 < length inputs = subst (λ n. 0 < n) same_count some in
+      (0, get_or inputs 0 no_input, below, get_or_default inputs 0 (get_or inputs 0 no_input) no_input below, all_known 0 no_input below)
+
+pub ruleset of_occurrences = (all_known, apart_from_distinct, distinct_from_apart, some_known)

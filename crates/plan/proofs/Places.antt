@@ -1,7 +1,10 @@
 -- Where names stand.
-use Rattle.std.proofs.Common.{◌≡◌, ℕ, suc, zero, ◌<◌, Bool, true, false, List, [], ◌∷◌, length, refl, ap, sym, ◌∙◌, arith, get_or}
+use Rattle.std.proofs.Common.{◌≡◌, ℕ, suc, zero, ◌+◌, ◌<◌, ◌≤◌, Bool, true, false, inl, inr, List, [], ◌∷◌, length, map, position, refl, ap, sym, ◌∙◌, arith, nat_lt}
 use Rattle.std.specs.Prelude.{Option, None, Some, slice_get, if◌then◌else◌}
 use Rattle.std.specs.Option.{option_map}
+use Rattle.std.specs.List.{position_or_len}
+use Rattle.std.proofs.lemmas.Bool.{cases_Bool, ltb-true, ltb-false, lt-ltb, le-ltb}
+use Rattle.std.proofs.lemmas.List.{map-id}
 use Rattle.std.specs.Str.{bytes_eq}
 use Rattle.std.proofs.lemmas.Slice.Eq.{bytes_eq-Decides}
 use Rattle.plan.specs.Naming.{place_of}
@@ -17,29 +20,39 @@ bytes_eq-yes a b e = (bytes_eq-Decides a b).1 e
 pub bytes_eq-no : (a b : List ℕ) → (a ≡ b → ⊥) → bytes_eq a b ≡ false
 bytes_eq-no a b n = false_from (bytes_eq a b) (λ e. n ((bytes_eq-Decides a b).0 e))
 
-place_of-first : (m : List ℕ) (names : List (List ℕ)) (name : List ℕ) → bytes_eq m name ≡ true → place_of (m ∷ names) name ≡ Some 0
+pub place_of-first : (m : List ℕ) (names : List (List ℕ)) (name : List ℕ) → bytes_eq m name ≡ true → place_of (m ∷ names) name ≡ Some 0
 place_of-first m names name e = rw e refl
 
-place_of-rest : (m : List ℕ) (names : List (List ℕ)) (name : List ℕ) → bytes_eq m name ≡ false
+pub place_of-rest : (m : List ℕ) (names : List (List ℕ)) (name : List ℕ) → bytes_eq m name ≡ false
     → place_of (m ∷ names) name ≡ option_map suc (place_of names name)
 place_of-rest m names name e = rw e refl
 
--- a name that stands at a place and nowhere before it
-pub place_of-found : (names : List (List ℕ)) (name : List ℕ) (i : ℕ) (d : List ℕ)
-    → i < length names → get_or names i d ≡ name → ((k : ℕ) → k < i → get_or names k d ≡ name → ⊥) → place_of names name ≡ Some i
-place_of-found [] name i d below here before = absurd (omega arith)
-place_of-found (m ∷ names) name zero d below here before = place_of-first m names name (bytes_eq-yes m name here)
-place_of-found (m ∷ names) name (suc i) d below here before =
-    place_of-rest m names name (bytes_eq-no m name (before 0 (omega arith)))
-    ∙ ap (option_map suc) (place_of-found names name i d (omega arith) here (λ k h. before (suc k) (omega arith)))
+-- the place of a name, as a search for it finds it
+place-next : (b : Bool) (k n : ℕ) → nat_lt k n ≡ b → (if nat_lt (1 + k) (suc n) then Some (1 + k) else None) ≡ option_map suc (if nat_lt k n then Some k else None)
+place-next true k n is =
+    let below : k < n = ltb-true k n is in
+    let more : 1 + k < suc n = omega arith in
+    let next : 1 + k ≡ suc k = omega arith in
+    rw (is, lt-ltb (1 + k) (suc n) more, next) refl
+place-next false k n is =
+    let above : n ≤ k = ltb-false k n is in
+    let more : suc n ≤ 1 + k = omega arith in
+    rw (is, le-ltb (1 + k) (suc n) more) refl
 
--- a name that stands nowhere
-pub place_of-missing : (names : List (List ℕ)) (name : List ℕ) (d : List ℕ)
-    → ((k : ℕ) → k < length names → get_or names k d ≡ name → ⊥) → place_of names name ≡ None
-place_of-missing [] name d before = refl
-place_of-missing (m ∷ names) name d before =
-    place_of-rest m names name (bytes_eq-no m name (before 0 (omega arith)))
-    ∙ ap (option_map suc) (place_of-missing names name d (λ k h. before (suc k) (omega arith)))
+pub position-is : {X : Type 0} (name_of : X → List ℕ) (name : List ℕ) (xs : List X)
+    → position (λ x. bytes_eq (name_of x) name) xs ≡ place_of (map name_of xs) name
+position-is name_of name [] = refl
+position-is {X} name_of name (first ∷ rest) =
+    let places : ℕ = position_or_len (λ (x : X). bytes_eq (name_of x) name) rest in
+    let after : position (λ (x : X). bytes_eq (name_of x) name) rest ≡ place_of (map name_of rest) name = position-is name_of name rest in
+    elim (cases_Bool (bytes_eq (name_of first) name)) [
+      | inl same ↦ let some : 0 < suc (length rest) = omega arith in rw (same, lt-ltb 0 (suc (length rest)) some) refl
+      | inr other ↦ rw other (place-next (nat_lt places (length rest)) places (length rest) refl ∙ ap (λ o. option_map suc o) after)
+    ]
+
+-- names are what has them as names
+pub place_of-names : (names : List (List ℕ)) (name : List ℕ) → place_of (map (λ n. n) names) name ≡ place_of names name
+place_of-names names name = ap (λ ns. place_of ns name) (map-id names)
 
 suc-some : (o : Option ℕ) (k : ℕ) → option_map suc o ≡ Some (suc k) → o ≡ Some k
 suc-some None k e = cc
@@ -71,4 +84,4 @@ slice_get-place_of [] name i e = cc
 slice_get-place_of (m ∷ names) name i e =
     first_or_later m names name (slice_get-place_of names name) (bytes_eq m name) refl i e
 
-pub ruleset found_places = (place_of-found, place_of-missing)
+pub ruleset same_names = (map-id)

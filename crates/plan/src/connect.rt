@@ -6,11 +6,9 @@ use crate::connection::Connection;
 use crate::draft::Draft;
 use crate::fault::PlanFault;
 use crate::lookup::{found_input, found_output};
+use crate::slots::Slots;
 use std::alloc::Global;
 use tag::{Delay, Time};
-
-/// A federate's slot 0 is its startup; then come its inputs.
-const FIRST_INPUT: usize = 1;
 
 fn delay_after(after: Option<Time>) -> Delay
     ensures value { result ≡ delay_after after }
@@ -46,7 +44,7 @@ pub(crate) fn connect(alloc: Global, draft: &Draft) -> Result<Vec<Connection>, P
             from.federate,
             from.place,
             to.federate,
-            FIRST_INPUT + to.place,
+            Slots::FIRST_INPUT + to.place,
             delay,
         ))?;
     }

@@ -1,5 +1,6 @@
 ghost use Rattle.std.specs.Prelude.{◌≡◌};
 
+use crate::named::Named;
 use crate::slots::Slots;
 use crate::text::Text;
 use std::marker::Model;
@@ -10,6 +11,14 @@ use tag::Time;
 pub struct Federate {
     pub name: Text,
     pub slots: Slots,
+}
+
+impl Named for Federate {
+    ghost name_of = { λ f. f.name };
+
+    fn name(&self) -> &Text {
+        &self.name
+    }
 }
 
 /// Federates, in their order. Contracts see the list of them.

@@ -1,4 +1,4 @@
-ghost use Rattle.std.specs.Prelude.{◌≡◌, ◌≢◌, ◌≤◌, ◌↔◌, ◌⊎◌, map, length, All, AllPairs, IsSome, IsTrue, Some, OnOk, IfOk, IfErr, Err};
+ghost use Rattle.std.specs.Prelude.{◌≡◌, ◌≢◌, ◌<◌, ◌≤◌, ◌↔◌, ◌⊎◌, map, length, All, AllPairs, Any, IsSome, IsTrue, Some, OnOk, IfOk, IfErr, Err};
 ghost use Rattle.tag.specs.LogicalTime.{IsFinite};
 ghost use Rattle.plan.specs.External.{found_action, AreApart};
 ghost use Rattle.plan.specs.Occurrences.{occurrence_of};
@@ -54,6 +54,9 @@ impl Inputs {
         ensures unknown { result ≡ Err InputFault.UnknownAction → ¬ (All (λ i. IsSome (found_action plan.now.federates i)) inputs.items) }
         ensures repeated { result ≡ Err InputFault.RepeatedInput → All (λ i. IsSome (found_action plan.now.federates i)) inputs.items × ¬ (AllPairs AreApart inputs.items) }
         ensures over { result ≡ Err InputFault.OverLimit → All (λ i. IsSome (found_action plan.now.federates i)) inputs.items × AllPairs AreApart inputs.items × ¬ (length inputs.items ≤ 65536) }
+
+        // Where no input's action is there, nothing has to be kept.
+        ensures memory { result ≡ Err InputFault.Memory → Any (λ i. IsSome (found_action plan.now.federates i)) inputs.items }
     {
         let occurrences = occurrences(alloc, plan.federates(), inputs.as_slice())?;
         if !are_distinct(alloc, occurrences.as_slice())? {
@@ -119,6 +122,7 @@ fn occurrences(
     ensures ok { IfOk result (λ found. map (λ o. Some o) found.items ≡ map (occurrence_of federates.now) inputs.now) }
     ensures unknown { result ≡ Err InputFault.UnknownAction → ¬ (All (λ i. IsSome (found_action federates.now i)) inputs.now) }
     ensures fault { IfErr result (λ e. (e ≡ InputFault.UnknownAction) ⊎ (e ≡ InputFault.Memory)) }
+    ensures memory { result ≡ Err InputFault.Memory → Any (λ i. IsSome (found_action federates.now i)) inputs.now }
 {
     let mut occurrences = Vec::new(alloc);
     for input in inputs {
@@ -136,8 +140,12 @@ fn occurrences(
 
 /// Whether none of them is there twice.
 fn are_distinct(alloc: Global, occurrences: &[Occurrence]) -> Result<bool, AllocError>
-    ensures { IfOk result (λ distinct. IsTrue distinct ↔ AllPairs (λ a b. a ≢ b) occurrences.now) }
+    ensures distinct { IfOk result (λ distinct. IsTrue distinct ↔ AllPairs (λ a b. a ≢ b) occurrences.now) }
+    ensures memory { IfErr result (λ _. 0 < length occurrences.now) }
 {
+    if occurrences.is_empty() {
+        return Ok(true);
+    }
     let distinct: IndexSet<Occurrence> = occurrences.iter().copied().collect(alloc)?;
     Ok(distinct.len() == occurrences.len())
 }

@@ -4,7 +4,8 @@ ghost use Rattle.plan.specs.External.{found_action};
 
 use crate::draft::{Federate, PortName};
 use crate::input::Input;
-use crate::text::{Text, place_in};
+use crate::named::place_of;
+use crate::text::Text;
 use std::marker::Model;
 
 /// Where a port or an action was found: the federate's number, and the place among its names of that kind.
@@ -29,12 +30,7 @@ pub(crate) fn federate_number(federates: &[Federate], name: &Text) -> Option<usi
     ensures value { result ≡ federate_number federates.now name.now }
     ensures in_range { IfSome result (λ number. number < length federates.now) }
 {
-    for (number, federate) in federates.iter().enumerate() {
-        if federate.name.is_same(name) {
-            return Some(number);
-        }
-    }
-    None
+    place_of(federates, name.as_str().as_bytes())
 }
 
 /// The output port of this name.
@@ -42,8 +38,8 @@ pub(crate) fn found_output(federates: &[Federate], port: &PortName) -> Option<Fo
     ensures value { result ≡ found_output federates.now port.now }
 {
     let federate = federate_number(federates, &port.federate)?;
-    let names = federates[federate].slots.outputs.as_slice();
-    let place = place_in(names, port.port.as_str())?;
+    let names = &federates[federate].slots.outputs;
+    let place = names.place_of(port.port.as_str().as_bytes())?;
     Some(Found { federate, place })
 }
 
@@ -53,17 +49,23 @@ pub(crate) fn found_input(federates: &[Federate], port: &PortName) -> Option<Fou
     ensures small { IfSome result (λ found. found.place < 2 ^ 63) }
 {
     let federate = federate_number(federates, &port.federate)?;
-    let names = federates[federate].slots.inputs.as_slice();
-    let place = place_in(names, port.port.as_str())?;
+    let names = &federates[federate].slots.inputs;
+    // For the prover: a slice has fewer than 2^63 elements.
+    let _names = names.as_slice();
+    let place = names.place_of(port.port.as_str().as_bytes())?;
     Some(Found { federate, place })
 }
 
 /// The physical action of a recorded input.
 pub(crate) fn found_action(federates: &[Federate], input: &Input) -> Option<Found>
-    ensures { result ≡ found_action federates.now input.now }
+    ensures value { result ≡ found_action federates.now input.now }
+    ensures there { IfSome result (λ found. found.federate < length federates.now) }
+    ensures small { IfSome result (λ found. found.place < 2 ^ 63) }
 {
     let federate = federate_number(federates, &input.federate)?;
-    let names = federates[federate].slots.physical.as_slice();
-    let place = place_in(names, input.action.as_str())?;
+    let names = &federates[federate].slots.physical;
+    // For the prover: as above.
+    let _names = names.as_slice();
+    let place = names.place_of(input.action.as_str().as_bytes())?;
     Some(Found { federate, place })
 }

@@ -3,14 +3,18 @@ ghost use Rattle.network.specs.Connection.{IsLeastDelay, IsUnreachable};
 ghost use Rattle.plan.specs.Federation.{connections_of, rank_of, stop_of, federate_count};
 ghost use Rattle.plan.specs.Least.{least_of, IsTotalWithin};
 ghost use Rattle.plan.specs.Faults.{IsWithinAllLimits, AreTimersInRange};
+ghost use Rattle.plan.specs.External.{found_action, physical_slot};
+ghost use Rattle.std.specs.Option.{option_map};
 
 use crate::connect::connect;
 use crate::connection::Connection;
 use crate::cycle::refuse_cycle;
 use crate::draft::{Draft, Federate};
 use crate::fault::PlanFault;
+use crate::input::Input;
 use crate::least::LeastDelays;
 use crate::limits::refuse_out_of_range;
+use crate::lookup::found_action;
 use crate::ranks::ranks;
 use crate::repeated::refuse_repeated;
 use crate::sources::refuse_two_sources;
@@ -119,6 +123,16 @@ impl Plan {
         ensures few { IfSome result (IsTotalWithin (connections_of self.now) 64 from to) }
     {
         self.delays.delay(from, to)
+    }
+
+    /// The federate of a recorded input, and the slot of its physical action there, where both are there.
+    pub fn recorded_at(&self, input: &Input) -> Option<(usize, usize)>
+        ensures { result ≡ option_map (λ found. (found.federate, physical_slot self.now.federates found)) (found_action self.now.federates input.now) }
+    {
+        let found = found_action(self.federates(), input)?;
+        self.known();
+        let slots = &self.federates()[found.federate].slots;
+        Some((found.federate, slots.first_physical() + found.place))
     }
 
     pub fn federate_count(&self) -> usize

@@ -1,5 +1,8 @@
-ghost use Rattle.std.specs.Prelude.{◌≡◌};
+ghost use Rattle.std.specs.Prelude.{◌≡◌, ◌<◌, ◌↔◌, IfSome, IsTrue, length};
+ghost use Rattle.plan.specs.Naming.{place_of};
+ghost use Rattle.plan.specs.Numbering.{timer_names};
 
+use crate::named::{Named, place_of};
 use crate::text::{Names, Text};
 use std::marker::Model;
 
@@ -9,6 +12,23 @@ pub struct Timer {
     pub name: Text,
     pub offset: u64,
     pub period: u64,
+}
+
+impl Named for Timer {
+    ghost name_of = { λ t. t.name };
+
+    fn name(&self) -> &Text {
+        &self.name
+    }
+}
+
+impl Timer {
+    /// Whether both are one timer.
+    pub fn is_same(&self, other: &Timer) -> bool
+        ensures { IsTrue result ↔ (self.now ≡ other.now) }
+    {
+        self.name.is_same(&other.name) && self.offset == other.offset && self.period == other.period
+    }
 }
 
 /// Timers, in their order. Contracts see the list of them.
@@ -38,6 +58,33 @@ impl Timers {
     {
         self.timers.as_slice()
     }
+
+    /// Whether both are the same timers, in one order.
+    pub fn is_same(&self, other: &Timers) -> bool
+        ensures { IsTrue result ↔ (self.now ≡ other.now) }
+    {
+        are_same(self.as_slice(), other.as_slice())
+    }
+
+    /// The place of the first of these timers that has this name.
+    pub fn place_of(&self, name: &[u8]) -> Option<usize>
+        ensures value { result ≡ place_of (timer_names self.now) name.now }
+        ensures there { IfSome result (λ place. place < length self.now) }
+    {
+        place_of(self.as_slice(), name)
+    }
+}
+
+fn are_same(timers: &[Timer], others: &[Timer]) -> bool
+    ensures { IsTrue result ↔ (timers.now ≡ others.now) }
+{
+    match timers {
+        [first, rest @ ..] => match others {
+            [other, others @ ..] => first.is_same(other) && are_same(rest, others),
+            [] => false,
+        },
+        [] => others.is_empty(),
+    }
 }
 
 /// What a federate has: its startup, where one of its reactions wants it, and its ports, timers and actions by name.
@@ -53,17 +100,56 @@ pub struct Slots {
 
 impl Slots {
     ghost use Rattle.plan.specs.Legal.{IsWithinLimits};
-    ghost use Rattle.plan.specs.Numbering.{slot_count, is_bare};
+    ghost use Rattle.plan.specs.Numbering.{first_timer, first_action, first_physical, slot_count, is_bare};
+
+    /// The slot of startup.
+    pub const STARTUP: usize = 0;
+
+    /// The slot of the first input.
+    pub const FIRST_INPUT: usize = 1;
+
+    /// The slot of the first timer.
+    pub fn first_timer(&self) -> usize
+        requires { IsWithinLimits self.now }
+        ensures { result ≡ first_timer self.now }
+    {
+        Slots::FIRST_INPUT + self.inputs.as_slice().len()
+    }
+
+    /// The slot of the first action.
+    pub fn first_action(&self) -> usize
+        requires { IsWithinLimits self.now }
+        ensures { result ≡ first_action self.now }
+    {
+        self.first_timer() + self.timers.as_slice().len()
+    }
+
+    /// The slot of the first physical action.
+    pub fn first_physical(&self) -> usize
+        requires { IsWithinLimits self.now }
+        ensures { result ≡ first_physical self.now }
+    {
+        self.first_action() + self.actions.as_slice().len()
+    }
+
+    /// Whether both are the same slots.
+    pub fn is_same(&self, other: &Slots) -> bool
+        ensures { IsTrue result ↔ (self.now ≡ other.now) }
+    {
+        self.startup == other.startup
+            && self.inputs.is_same(&other.inputs)
+            && self.outputs.is_same(&other.outputs)
+            && self.timers.is_same(&other.timers)
+            && self.actions.is_same(&other.actions)
+            && self.physical.is_same(&other.physical)
+    }
 
     /// How many slots there are, startup among them.
     pub fn slot_count(&self) -> usize
         requires { IsWithinLimits self.now }
         ensures { result ≡ slot_count self.now }
     {
-        1 + self.inputs.as_slice().len()
-            + self.timers.as_slice().len()
-            + self.actions.as_slice().len()
-            + self.physical.as_slice().len()
+        self.first_physical() + self.physical.as_slice().len()
     }
 
     /// Whether this slot has no value: startup and timers have none.
@@ -72,6 +158,6 @@ impl Slots {
     {
         let inputs = self.inputs.as_slice().len();
         let timers = self.timers.as_slice().len();
-        slot == 0 || (inputs < slot && slot - inputs <= timers)
+        slot == Slots::STARTUP || (inputs < slot && slot - inputs <= timers)
     }
 }

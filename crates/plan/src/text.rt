@@ -1,6 +1,7 @@
 ghost use Rattle.std.specs.Prelude.{◌≡◌, ◌<◌, ◌↔◌, IsTrue, IfSome, length, string_bytes};
 ghost use Rattle.plan.specs.Naming.{place_of};
 
+use crate::named::{Named, place_of};
 use std::marker::Model;
 
 /// A text, as a name. Contracts see its bytes.
@@ -15,6 +16,14 @@ impl Model for Text {
     ghost Value = { List ℕ };
 
     ghost view = { λ t. string_bytes t.text };
+}
+
+impl Named for Text {
+    ghost name_of = { λ t. t };
+
+    fn name(&self) -> &Text {
+        self
+    }
 }
 
 impl Text {
@@ -84,24 +93,31 @@ impl Names {
         self.names
     }
 
-    /// The place of the first of these names that is this one.
-    pub fn place_of(&self, name: &str) -> Option<usize>
-        ensures { result ≡ place_of self.now name.now }
+    /// Whether both are the same names, in one order.
+    pub fn is_same(&self, other: &Names) -> bool
+        ensures { IsTrue result ↔ (self.now ≡ other.now) }
     {
-        place_in(self.as_slice(), name)
+        are_same(self.as_slice(), other.as_slice())
+    }
+
+    /// The place of the first of these names that is this one.
+    #[tactic(auto, using(crate::proofs::Places::same_names))]
+    pub fn place_of(&self, name: &[u8]) -> Option<usize>
+        ensures value { result ≡ place_of self.now name.now }
+        ensures there { IfSome result (λ place. place < length self.now) }
+    {
+        place_of(self.as_slice(), name)
     }
 }
 
-/// The place of the first of these names that is this one.
-#[tactic(auto, using(crate::proofs::Places::found_places))]
-pub(crate) fn place_in(names: &[Text], name: &str) -> Option<usize>
-    ensures value { result ≡ place_of names.now name.now }
-    ensures in_range { IfSome result (λ place. place < length names.now) }
+fn are_same(names: &[Text], others: &[Text]) -> bool
+    ensures { IsTrue result ↔ (names.now ≡ others.now) }
 {
-    for (place, n) in names.iter().enumerate() {
-        if n.is(name) {
-            return Some(place);
-        }
+    match names {
+        [first, rest @ ..] => match others {
+            [other, others @ ..] => first.is_same(other) && are_same(rest, others),
+            [] => false,
+        },
+        [] => others.is_empty(),
     }
-    None
 }

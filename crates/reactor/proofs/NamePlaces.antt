@@ -1,5 +1,5 @@
--- Where names stand.
-use Rattle.std.proofs.Common.{length-append, ◌≡◌, ℕ, suc, zero, ◌+◌, ◌<◌, Bool, true, false, cond, List, [], ◌∷◌, ◌++◌, map, length, refl, ap, sym, ◌∙◌, arith, codes, get_or}
+-- The slots that names stand for.
+use Rattle.std.proofs.Common.{length-append, ◌≡◌, ℕ, suc, zero, ◌+◌, ◌<◌, Bool, true, false, cond, List, [], ◌∷◌, ◌++◌, map, length, refl, ap, sym, ◌∙◌, arith, codes}
 use Rattle.std.specs.Prelude.{Option, None, Some}
 use Rattle.std.specs.Option.{option_map}
 use Rattle.std.specs.Str.{bytes_eq}
@@ -9,53 +9,8 @@ use Rattle.plan.specs.declared.slots.Timer.{Timer}
 use Rattle.std.specs.List.{IsDistinct, AllByRecursion}
 use Rattle.plan.specs.Naming.{place_of, AreDistinct}
 use Rattle.plan.specs.Numbering.{timer_names}
+use Rattle.plan.proofs.Places.{bytes_eq-yes, bytes_eq-no, place_of-first, place_of-rest}
 use Rattle.reactor.specs.Resolution.{trigger_slot}
-
-false_from : (b : Bool) → (b ≡ true → ⊥) → b ≡ false
-false_from true h = absurd (h refl)
-false_from false h = refl
-
--- two names are one, or the test tells them apart
-pub bytes_eq-yes : (a b : List ℕ) → a ≡ b → bytes_eq a b ≡ true
-bytes_eq-yes a b e = (bytes_eq-Decides a b).1 e
-
-pub bytes_eq-no : (a b : List ℕ) → (a ≡ b → ⊥) → bytes_eq a b ≡ false
-bytes_eq-no a b n = false_from (bytes_eq a b) (λ e. n ((bytes_eq-Decides a b).0 e))
-
-place_of-first : (m : List ℕ) (names : List (List ℕ)) (name : List ℕ) → bytes_eq m name ≡ true → place_of (m ∷ names) name ≡ Some 0
-place_of-first m names name e = rw e refl
-
-place_of-rest : (m : List ℕ) (names : List (List ℕ)) (name : List ℕ) → bytes_eq m name ≡ false
-    → place_of (m ∷ names) name ≡ option_map suc (place_of names name)
-place_of-rest m names name e = rw e refl
-
--- a name that stands at a place and nowhere before it
-pub place_of-found : (names : List (List ℕ)) (name : List ℕ) (i : ℕ) (d : List ℕ)
-    → i < length names → get_or names i d ≡ name → ((k : ℕ) → k < i → get_or names k d ≡ name → ⊥) → place_of names name ≡ Some i
-place_of-found [] name i d below here before = absurd (omega arith)
-place_of-found (m ∷ names) name zero d below here before = place_of-first m names name (bytes_eq-yes m name here)
-place_of-found (m ∷ names) name (suc i) d below here before =
-    place_of-rest m names name (bytes_eq-no m name (before 0 (omega arith)))
-    ∙ ap (option_map suc) (place_of-found names name i d (omega arith) here (λ k h. before (suc k) (omega arith)))
-
--- a name that stands nowhere
-pub place_of-missing : (names : List (List ℕ)) (name : List ℕ) (d : List ℕ)
-    → ((k : ℕ) → k < length names → get_or names k d ≡ name → ⊥) → place_of names name ≡ None
-place_of-missing [] name d before = refl
-place_of-missing (m ∷ names) name d before =
-    place_of-rest m names name (bytes_eq-no m name (before 0 (omega arith)))
-    ∙ ap (option_map suc) (place_of-missing names name d (λ k h. before (suc k) (omega arith)))
-
-pub name_at : {X : Type 0} (f : X → List ℕ) (xs : List X) (i : ℕ) (x : X) (d : List ℕ) → i < length xs → x ≡ get_or xs i x → get_or (map f xs) i d ≡ f x
-name_at f [] i x d h e = absurd (omega arith)
-name_at f (y ∷ ys) zero x d h e = ap f (sym e)
-name_at f (y ∷ ys) (suc i) x d h e = name_at f ys i x d (omega arith) e
-
-pub names_as_many : {X : Type 0} (f : X → List ℕ) (xs : List X) → length (map f xs) ≡ length xs
-names_as_many f [] = refl
-names_as_many f (x ∷ xs) = ap suc (names_as_many f xs)
-
-pub ruleset found_places = (place_of-found, place_of-missing, name_at, names_as_many)
 
 -- where a name stands in two lists, one after the other
 some_step : (b : Bool) (o p : Option ℕ) (k : ℕ) → ((j : ℕ) → o ≡ Some j → p ≡ Some j) → cond b (Some 0) (option_map suc o) ≡ Some k → cond b (Some 0) (option_map suc p) ≡ Some k

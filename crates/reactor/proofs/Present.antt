@@ -22,7 +22,8 @@ use Rattle.reactor.specs.Grammar.{WrittenOperand, WrittenNumber, StateNamed, Val
 use Rattle.reactor.specs.Resolution.{slot_names, trigger_slot, operand_slot, state_names, value_at_slot, operand_of, expression_of, statement_of, condition_of}
 use Rattle.reactor.specs.Spelled.{SpellsLineOf, SpellsReaction}
 use Rattle.reactor.specs.Behaviour.{Behaviour, HasOperand, HasExpression, HasStatement, HasLine, HasReaction, IsWellFormed}
-use Rattle.reactor.proofs.NamePlaces.{names_as_many, names_length}
+use Rattle.std.proofs.lemmas.List.{length-map}
+use Rattle.reactor.proofs.NamePlaces.{names_length}
 
 below_step : (b : Bool) (o : Option ℕ) (n k : ℕ) → ((j : ℕ) → o ≡ Some j → j < n) → cond b (Some 0) (option_map suc o) ≡ Some k → k < suc n
 below_step true o n k h e = let f : 0 ≡ k = cc in omega arith
@@ -62,7 +63,7 @@ has_operand : (b : Behaviour) (w : WrittenOperand) (o : Operand) → operand_of 
 has_operand b (WrittenNumber n) o e = let f : Number n ≡ o = cc in subst (HasOperand b) f tt
 has_operand b (StateNamed x) o e =
     let m = mapped State (place_of (state_names b.states) x) o e in
-    subst (HasOperand b) m.2 (omega (arith, place_below (state_names b.states) x m.0 m.1, names_as_many (λ (s : StateOf.State). s.name) b.states))
+    subst (HasOperand b) m.2 (omega (arith, place_below (state_names b.states) x m.0 m.1, length-map b.states (λ (s : StateOf.State). s.name)))
 has_operand b (ValueAt x) o e =
     let m = mapped (value_at_slot b.slots) (operand_slot b.slots x) o e in
     subst (HasOperand b) m.2 (has_value b (is_bare b.slots m.0) m.0 (operand_slot_below b.slots x m.0 m.1))
@@ -82,7 +83,7 @@ has_statement : (b : Behaviour) (w : WrittenStatement) (tokens : List (List ℕ)
 has_statement b (AssignTo y a) tokens i x e =
     let m = bound (λ k. option_map (λ v. Assign k v) (expression_of b.slots b.states a)) (place_of (state_names b.states) y) x e in
     let n = mapped (λ v. Assign m.0 v) (expression_of b.slots b.states a) x m.2 in
-    let k : m.0 < length b.states = omega (arith, place_below (state_names b.states) y m.0 m.1, names_as_many (λ (s : StateOf.State). s.name) b.states) in
+    let k : m.0 < length b.states = omega (arith, place_below (state_names b.states) y m.0 m.1, length-map b.states (λ (s : StateOf.State). s.name)) in
     subst (HasStatement b) n.2 (k, has_expression b a n.0 n.1)
 has_statement b (OutputTo p a) tokens i x e =
     let m = bound (λ k. option_map (λ v. Output k v) (operand_of b.slots b.states a)) (place_of b.slots.outputs p) x e in

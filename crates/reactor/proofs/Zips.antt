@@ -1,6 +1,5 @@
 -- Two lists whose items fit, place by place, as both grow.
-use Rattle.std.proofs.lemmas.List.{take_all}
-use Rattle.std.proofs.Common.{◌-◌, ◌≤◌, drop, ◌∙◌, ◌≡◌, ℕ, zero, suc, ◌+◌, ◌<◌, List, [], ◌∷◌, ◌++◌, length, get_or, take, sym, subst, arith, add-one, Some, refl, ap}
+use Rattle.std.proofs.Common.{◌≡◌, ℕ, zero, suc, ◌+◌, ◌<◌, List, [], ◌∷◌, ◌++◌, length, get_or, take, sym, subst, arith, add-one, Some, refl, ap}
 use Rattle.std.specs.Prelude.{slice_get}
 use Rattle.std.specs.List.{AllZip}
 
@@ -20,11 +19,6 @@ pub slice_get-here : {A : Type 0} (ys : List A) (i : ℕ) (y : A) → i < length
 slice_get-here [] i y h e = absurd (omega arith)
 slice_get-here (z ∷ ys) zero y h e = ap (λ v. Some v) (sym e)
 slice_get-here (z ∷ ys) (suc i) y h e = slice_get-here ys i y (omega arith) e
-
--- a list that has a first item, as that and the others
-pub uncons : {A : Type 0} (s : List A) (x : A) → 1 ≤ length s → x ≡ get_or s 0 x → s ≡ x ∷ take (length s - 1) (drop 1 s)
-uncons [] x h e = absurd (omega arith)
-uncons (y ∷ ys) x h e = ap (λ v. v ∷ ys) (sym e) ∙ ap (λ rest. x ∷ rest) (sym (take_all (length (y ∷ ys) - 1) ys (omega arith)))
 
 pub all_zip_lengths : {A B : Type 0} (R : A → B → Type 0) (xs : List A) (ys : List B) → AllZip R xs ys → length xs ≡ length ys
 all_zip_lengths R [] [] h = refl

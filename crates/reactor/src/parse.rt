@@ -8,11 +8,11 @@ ghost use Rattle.reactor.specs.Spelled.{SpellsReaction, SpellsProgram, IsTrigger
 ghost use Rattle.reactor.specs.declared.fault.ProgramFault.TheVariants.{Memory};
 
 use crate::fault::ProgramFault;
-use crate::places::{state_place, trigger_slot};
+use crate::places::trigger_slot;
 use crate::program::{Body, Program, Reaction, State, Triggers};
 use crate::reaction_draft::ReactionDraft;
 use crate::reading::body;
-use plan::{Slots, Text};
+use plan::{Slots, Text, place_of};
 use std::alloc::{AllocError, Global};
 
 impl Program {
@@ -50,7 +50,7 @@ fn are_distinct(states: &[State]) -> bool
 {
     match states {
         [first, rest @ ..] => {
-            state_place(rest, first.name.as_str().as_bytes()).is_none() && are_distinct(rest)
+            place_of(rest, first.name.as_str().as_bytes()).is_none() && are_distinct(rest)
         }
         [] => true,
     }

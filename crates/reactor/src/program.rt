@@ -1,6 +1,6 @@
 ghost use Rattle.std.specs.Prelude.{◌≡◌};
 
-use plan::{Slots, Text};
+use plan::{Named, Slots, Text};
 use std::marker::Model;
 use tag::Delay;
 
@@ -118,6 +118,14 @@ pub struct Reaction {
 pub struct State {
     pub name: Text,
     pub value: i64,
+}
+
+impl Named for State {
+    ghost name_of = { λ s. s.name };
+
+    fn name(&self) -> &Text {
+        &self.name
+    }
 }
 
 /// A reactor's program: its slots, its states, and its reactions. What they name is there.

@@ -2,7 +2,7 @@ ghost use Rattle.std.specs.Prelude.{◌≡◌, ◌↔◌, IsTrue, IsSome, IfSome
 ghost use Rattle.reactor.specs.Programs.{AreProgramsOf, HaveProgramsOf, HaveSlotsOf};
 
 use crate::program::Program;
-use plan::{Federate, Plan, Slots, Text, Timer};
+use plan::{Federate, Plan};
 use std::marker::Model;
 
 /// A program for each federate of a plan, in their order. Contracts see the list of them.
@@ -49,57 +49,10 @@ fn have_slots(federates: &[Federate], programs: &[Program]) -> bool
         [federate, federates @ ..] => match programs {
             [program, programs @ ..] => {
                 program.known();
-                are_same_slots(&federate.slots, program.slots()) && have_slots(federates, programs)
+                federate.slots.is_same(program.slots()) && have_slots(federates, programs)
             }
             [] => false,
         },
         [] => programs.is_empty(),
     }
-}
-
-fn are_same_slots(a: &Slots, b: &Slots) -> bool
-    ensures { IsTrue result ↔ (a.now ≡ b.now) }
-{
-    a.startup == b.startup
-        && are_same_names(a.inputs.as_slice(), b.inputs.as_slice())
-        && are_same_names(a.outputs.as_slice(), b.outputs.as_slice())
-        && are_same_timers(a.timers.as_slice(), b.timers.as_slice())
-        && are_same_names(a.actions.as_slice(), b.actions.as_slice())
-        && are_same_names(a.physical.as_slice(), b.physical.as_slice())
-}
-
-fn are_same_names(a: &[Text], b: &[Text]) -> bool
-    ensures { IsTrue result ↔ (a.now ≡ b.now) }
-{
-    match a {
-        [x, xs @ ..] => match b {
-            [y, ys @ ..] => is_same_text(x, y) && are_same_names(xs, ys),
-            [] => false,
-        },
-        [] => b.is_empty(),
-    }
-}
-
-fn are_same_timers(a: &[Timer], b: &[Timer]) -> bool
-    ensures { IsTrue result ↔ (a.now ≡ b.now) }
-{
-    match a {
-        [x, xs @ ..] => match b {
-            [y, ys @ ..] => is_same_timer(x, y) && are_same_timers(xs, ys),
-            [] => false,
-        },
-        [] => b.is_empty(),
-    }
-}
-
-fn is_same_timer(a: &Timer, b: &Timer) -> bool
-    ensures { IsTrue result ↔ (a.now ≡ b.now) }
-{
-    is_same_text(&a.name, &b.name) && a.offset == b.offset && a.period == b.period
-}
-
-fn is_same_text(a: &Text, b: &Text) -> bool
-    ensures { IsTrue result ↔ (a.now ≡ b.now) }
-{
-    a.as_str() == b.as_str()
 }

@@ -8,10 +8,10 @@ ghost use Rattle.reactor.specs.Reading.{IsReading, slot_read};
 use super::answer::{after, numbered};
 use crate::fault::LineFault;
 use crate::number::number;
-use crate::places::{operand_slot, state_place};
+use crate::places::operand_slot;
 use crate::program::{Operand, State};
 use crate::token::is_name;
-use plan::Slots;
+use plan::{Slots, place_of};
 
 /// Reads an operand: a number, a state, or what is at a slot or whether something is.
 pub(super) fn operand(slots: &Slots, states: &[State], token: &[u8]) -> Result<Operand, LineFault>
@@ -25,7 +25,7 @@ pub(super) fn operand(slots: &Slots, states: &[State], token: &[u8]) -> Result<O
         return Ok(Operand::Presence(slot(slots, name)?));
     }
     if is_name(token) {
-        return Ok(Operand::State(numbered(true, state_place(states, token))?));
+        return Ok(Operand::State(numbered(true, place_of(states, token))?));
     }
     match number(token) {
         Some(number) => Ok(Operand::Number(number)),

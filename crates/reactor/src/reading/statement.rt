@@ -11,10 +11,9 @@ use super::expression::expression;
 use super::operand::operand;
 use super::schedule::schedule;
 use crate::fault::LineFault;
-use crate::places::{place_of, state_place};
 use crate::program::{State, Statement};
 use crate::token::{is_name, next_token, only_token};
-use plan::Slots;
+use plan::{Slots, place_of};
 
 /// Reads a statement.
 pub(super) fn statement(
@@ -51,7 +50,7 @@ fn output(slots: &Slots, states: &[State], port: &[u8], rest: &[u8]) -> Result<S
     let Some(value) = only_token(rest) else {
         return Err(LineFault::NoForm);
     };
-    let port = numbered(is_name(port), place_of(slots.outputs.as_slice(), port));
+    let port = numbered(is_name(port), slots.outputs.place_of(port));
     let value = operand(slots, states, value);
     let (port, value) = both(port, value)?;
     Ok(Statement::Output(port, value))
@@ -68,7 +67,7 @@ fn assignment(
     requires no_output { (port : List ℕ) → state.now ≡ codes "out." ++ port → ⊥ }
     ensures { IsReading (λ w. SpellsStatement w (state.now ∷ codes "=" ∷ tokens_of rest.now)) (statement_of slots.now states.now) result }
 {
-    let state = numbered(is_name(state), state_place(states, state));
+    let state = numbered(is_name(state), place_of(states, state));
     let value = expression(slots, states, rest);
     let (state, value) = both(state, value)?;
     Ok(Statement::Assign(state, value))

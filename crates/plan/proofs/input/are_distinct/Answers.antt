@@ -5,8 +5,8 @@ use Rattle.plan.specs.declared.input.Occurrence.{Occurrence}
 use Rattle.plan.proofs.Occurrences.{is_one, is_one-Decides, is_one-equivalence}
 use Rattle.plan.proofs.input.are_distinct.Goals as goal
 
-pub returns : goal.returns
-returns c =
+pub returns-clause-distinct : goal.returns-clause-distinct
+returns-clause-distinct c =
     let run = c.in_ok-distinct.ensures.runs tt in
     let items : run.0.items ≡ c.args.occurrences.now = search rules in
     let made = subst (λ (xs : List Occurrence). bag.IsFromIterResult is_one xs c.in_ok-distinct.distinct) items run.3.1 in

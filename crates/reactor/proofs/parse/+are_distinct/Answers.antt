@@ -32,8 +32,8 @@ pub returns-then-is_none : goal.returns-then-is_none
 returns-then-is_none t c =
     let split = names_split c.args.states.now c.first-item.result c.in-len1-up.len_at_least c.first-item.is in
     let named : c.as_bytes.result.now ≡ c.first-item.result.name = cc (c.as_bytes.ensures.value, c.as_str.ensures) in
-    let found : c.state_place.result ≡ place_of (state_names (others c.args.states.now)) c.first-item.result.name = c.state_place.ensures ∙ ap (place_of (state_names (others c.args.states.now))) named in
-    let alone : place_of (state_names (others c.args.states.now)) c.first-item.result.name ≡ None = sym found ∙ is_none c.state_place.result c.if-is_none.ensures in
+    let found : c.place_of.result ≡ place_of (state_names (others c.args.states.now)) c.first-item.result.name = c.place_of.ensures.value ∙ ap (place_of (state_names (others c.args.states.now))) named in
+    let alone : place_of (state_names (others c.args.states.now)) c.first-item.result.name ≡ None = sym found ∙ is_none c.place_of.result c.if-is_none.ensures in
     let P : List (List ℕ) → Type 0 = AreDistinct in (
       λ y. subst P (sym split) (distinct_more c.first-item.result.name (state_names (others c.args.states.now)) alone (c.are_distinct.ensures.0 y)),
       λ d. c.are_distinct.ensures.1 (distinct_less c.first-item.result.name (state_names (others c.args.states.now)) (subst P split d)).1,
@@ -43,10 +43,10 @@ pub returns-else-is_none : goal.returns-else-is_none
 returns-else-is_none t c =
     let split = names_split c.args.states.now c.first-item.result c.in-len1-up.len_at_least c.first-item.is in
     let named : c.as_bytes.result.now ≡ c.first-item.result.name = cc (c.as_bytes.ensures.value, c.as_str.ensures) in
-    let found : c.state_place.result ≡ place_of (state_names (others c.args.states.now)) c.first-item.result.name = c.state_place.ensures ∙ ap (place_of (state_names (others c.args.states.now))) named in
+    let found : c.place_of.result ≡ place_of (state_names (others c.args.states.now)) c.first-item.result.name = c.place_of.ensures.value ∙ ap (place_of (state_names (others c.args.states.now))) named in
     let P : List (List ℕ) → Type 0 = AreDistinct in (
       λ y. absurd (clash c.is_none.result y c.if-is_none.false),
-      λ d. absurd (some_none c.state_place.result c.if-is_none.ensures (found ∙ (distinct_less c.first-item.result.name (state_names (others c.args.states.now)) (subst P split d)).0)),
+      λ d. absurd (some_none c.place_of.result c.if-is_none.ensures (found ∙ (distinct_less c.first-item.result.name (state_names (others c.args.states.now)) (subst P split d)).0)),
     )
   where
     clash : (b : Bool) → IsTrue b → b ≡ false → ⊥

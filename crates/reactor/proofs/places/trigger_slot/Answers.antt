@@ -9,34 +9,34 @@ returns-in-Some c =
     let i : Some c.in-Some.place ≡ place_of c.args.slots.now.inputs c.args.name.now = cc (c.in-Some.ensures.value) in
     slot_input c.args.slots.now c.args.name.now c.eq.result (cc) c.if-eq.false c.in-Some.place i
 
-pub returns-in-Some-timer_place : goal.returns-in-Some-timer_place
-returns-in-Some-timer_place c =
-    let i : None ≡ place_of c.args.slots.now.inputs c.args.name.now = cc (c.in_default.ensures.value) in
-    let t : Some c.in-Some-timer_place.place ≡ place_of (timer_names c.args.slots.now.timers) c.args.name.now = cc (c.in-Some-timer_place.ensures.value) in
-    let found = slot_timer c.args.slots.now c.args.name.now c.eq.result (cc) c.if-eq.false i c.in-Some-timer_place.place t in
-    rw c.as_slice-inputs.ensures found
-
 pub returns-in-Some-place_of : goal.returns-in-Some-place_of
 returns-in-Some-place_of c =
     let i : None ≡ place_of c.args.slots.now.inputs c.args.name.now = cc (c.in_default.ensures.value) in
-    let t : None ≡ place_of (timer_names c.args.slots.now.timers) c.args.name.now = cc (c.in_default-timer_place.ensures.value) in
-    let a : Some c.in-Some-place_of.place ≡ place_of c.args.slots.now.actions c.args.name.now = cc (c.in-Some-place_of.ensures.value) in
-    let found = slot_action c.args.slots.now c.args.name.now c.eq.result (cc) c.if-eq.false i t c.in-Some-place_of.place a in
-    rw (c.as_slice-inputs.ensures, c.as_slice-timers.ensures) found
+    let t : Some c.in-Some-place_of.place ≡ place_of (timer_names c.args.slots.now.timers) c.args.name.now = cc (c.in-Some-place_of.ensures.value) in
+    let found = slot_timer c.args.slots.now c.args.name.now c.eq.result (cc) c.if-eq.false i c.in-Some-place_of.place t in
+    rw c.first_timer.ensures found
 
 pub returns-in-Some-place_of-2 : goal.returns-in-Some-place_of-2
 returns-in-Some-place_of-2 c =
     let i : None ≡ place_of c.args.slots.now.inputs c.args.name.now = cc (c.in_default.ensures.value) in
-    let t : None ≡ place_of (timer_names c.args.slots.now.timers) c.args.name.now = cc (c.in_default-timer_place.ensures.value) in
-    let a : None ≡ place_of c.args.slots.now.actions c.args.name.now = cc (c.in_default-place_of.ensures.value) in
-    let p : Some c.in-Some-place_of-2.place ≡ place_of c.args.slots.now.physical c.args.name.now = cc (c.in-Some-place_of-2.ensures.value) in
-    let found = slot_physical c.args.slots.now c.args.name.now c.eq.result (cc) c.if-eq.false i t a c.in-Some-place_of-2.place p in
-    rw (c.as_slice-inputs.ensures, c.as_slice-timers.ensures, c.as_slice-actions.ensures) found
+    let t : None ≡ place_of (timer_names c.args.slots.now.timers) c.args.name.now = cc (c.in_default-place_of.ensures.value) in
+    let a : Some c.in-Some-place_of-2.place ≡ place_of c.args.slots.now.actions c.args.name.now = cc (c.in-Some-place_of-2.ensures.value) in
+    let found = slot_action c.args.slots.now c.args.name.now c.eq.result (cc) c.if-eq.false i t c.in-Some-place_of-2.place a in
+    rw c.first_action.ensures found
+
+pub returns-in-Some-place_of-3 : goal.returns-in-Some-place_of-3
+returns-in-Some-place_of-3 c =
+    let i : None ≡ place_of c.args.slots.now.inputs c.args.name.now = cc (c.in_default.ensures.value) in
+    let t : None ≡ place_of (timer_names c.args.slots.now.timers) c.args.name.now = cc (c.in_default-place_of.ensures.value) in
+    let a : None ≡ place_of c.args.slots.now.actions c.args.name.now = cc (c.in_default-place_of-2.ensures.value) in
+    let p : Some c.in-Some-place_of-3.place ≡ place_of c.args.slots.now.physical c.args.name.now = cc (c.in-Some-place_of-3.ensures.value) in
+    let found = slot_physical c.args.slots.now c.args.name.now c.eq.result (cc) c.if-eq.false i t a c.in-Some-place_of-3.place p in
+    rw c.first_physical.ensures found
 
 pub returns : goal.returns
 returns c =
     let i : None ≡ place_of c.args.slots.now.inputs c.args.name.now = cc (c.in_default.ensures.value) in
-    let t : None ≡ place_of (timer_names c.args.slots.now.timers) c.args.name.now = cc (c.in_default-timer_place.ensures.value) in
-    let a : None ≡ place_of c.args.slots.now.actions c.args.name.now = cc (c.in_default-place_of.ensures.value) in
-    let p : None ≡ place_of c.args.slots.now.physical c.args.name.now = cc (c.in_default-place_of-2.ensures.value) in
+    let t : None ≡ place_of (timer_names c.args.slots.now.timers) c.args.name.now = cc (c.in_default-place_of.ensures.value) in
+    let a : None ≡ place_of c.args.slots.now.actions c.args.name.now = cc (c.in_default-place_of-2.ensures.value) in
+    let p : None ≡ place_of c.args.slots.now.physical c.args.name.now = cc (c.in_default-place_of-3.ensures.value) in
     slot_missing c.args.slots.now c.args.name.now c.eq.result (cc) c.if-eq.false i t a p

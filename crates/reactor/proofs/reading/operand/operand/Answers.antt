@@ -31,11 +31,11 @@ returns-in-Some-after c =
 pub returns-in_err-numbered : goal.returns-in_err-numbered
 returns-in_err-numbered c =
     let p = err_from_is_err_and c.from_residual-in_err-numbered.result c.from_residual-in_err-numbered.ensures.1 in
-    rw (p.1, p.2) (state_reading c.args.slots.now c.args.states.now c.args.token.now (sym c.is_name.ensures ∙ c.if-is_name.true) c.state_place.result c.state_place.ensures (Err c.in_err-numbered.field-0.0) c.in_err-numbered.ensures)
+    rw (p.1, p.2) (state_reading c.args.slots.now c.args.states.now c.args.token.now (sym c.is_name.ensures ∙ c.if-is_name.true) c.place_of.result c.place_of.ensures.value (Err c.in_err-numbered.field-0.0) c.in_err-numbered.ensures)
 
 pub returns-then-is_name : goal.returns-then-is_name
 returns-then-is_name c =
-    state_reading c.args.slots.now c.args.states.now c.args.token.now (sym c.is_name.ensures ∙ c.if-is_name.true) c.state_place.result c.state_place.ensures (Ok c.in_ok-numbered.field-0) c.in_ok-numbered.ensures
+    state_reading c.args.slots.now c.args.states.now c.args.token.now (sym c.is_name.ensures ∙ c.if-is_name.true) c.place_of.result c.place_of.ensures.value (Ok c.in_ok-numbered.field-0) c.in_ok-numbered.ensures
 
 pub returns-in-Some-number : goal.returns-in-Some-number
 returns-in-Some-number c =
