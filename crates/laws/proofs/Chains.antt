@@ -11,7 +11,7 @@ use Rattle.protocol.specs.Grant.{after_completed}
 use Rattle.laws.proofs.Tags.{place, above, IsOptional, before_true, sum_is_logical, sum_left, sum_right, before_then, after_completed_least}
 use Rattle.laws.proofs.Turns.{plain_is_logical}
 use Rattle.laws.proofs.Backing.{HoldsByPaths, HoldsByConnections, IsBacked}
-use Rattle.laws.proofs.Eligibility.{contained_at, contained_is, path_begins}
+use Rattle.laws.proofs.Eligibility.{contained_at, contained_is, lawful_is_wired, path_begins}
 use Rattle.laws.proofs.ShortPaths.{path_of_walk}
 use Rattle.laws.proofs.FixedPoints.{within_path, sum_before_along}
 use Rattle.laws.specs.Chains.{IsWalk}
@@ -38,7 +38,7 @@ ahead_by_paths : (n : Network) (table : Table) (standings : ℕ → Standing) (k
 ahead_by_paths n table standings k j s tag c rest lawful facts next h w =
     let path = path_of_walk n.connections k j c rest w in
     let d = within_found (table k j) (total_of (c ∷ rest)) (within_path n table k j (c ∷ rest) facts path) in
-    let first = h k d.0 (path_begins n k j (c ∷ rest) lawful path) d.1 in
+    let first = h k d.0 (path_begins n k j (c ∷ rest) (lawful_is_wired n lawful) path) d.1 in
     let second = before_then tag (sum_of (standings k).next d.0) (sum_of s d.0) first (sum_left (standings k).next s d.0 next) in
     let third = before_then tag (sum_of s d.0) (sum_of s (total_of (c ∷ rest))) second (sum_right s d.0 (total_of (c ∷ rest)) d.2) in
     before_then tag (sum_of s (total_of (c ∷ rest))) (then_along s (c ∷ rest)) third (sum_before_along s c.delay rest)

@@ -3,11 +3,13 @@ use Rattle.std.proofs.Common.{◌≡◌, ℕ, zero, suc, ◌<◌, ◌⊎◌, inl
 use Rattle.std.specs.Prelude.{slice_get, nat_eq, if◌then◌else◌, ◌&&◌, ◌||◌, Contains, MatchOption}
 use Rattle.std.specs.List.{list_all}
 use Rattle.std.proofs.lemmas.Bool.{eqb-true}
+use Rattle.std.proofs.lemmas.List.Elements.{All-weaker}
 use Rattle.std.proofs.lemmas.Option.{slice_get_within, get_or_from_slice_get, slice_get_read}
 use Rattle.tag.specs.LogicalTime.{LogicalTime, is_before, is_at_most, sum_of}
 use Rattle.network.specs.Connection.{Connection, IsPath, IsLeastDelay, IsUnreachable}
 use Rattle.network.specs.Network.{Network}
 use Rattle.network.specs.Lawful.{IsLawful, IsConnected}
+use Rattle.network.specs.Wiring.{IsBetween, IsWired}
 use Rattle.network.specs.Tables.{Table, IsLeastTable}
 use Rattle.protocol.specs.Federate.{is_past}
 use Rattle.protocol.specs.Standing.{Standing}
@@ -26,11 +28,19 @@ contains_at xs k x e = (k, slice_get_within xs k x e, get_or_from_slice_get xs k
 pub contained_is : (n : Network) (c : Connection) → IsLawful n → Contains n.connections c → IsConnected n c
 contained_is n c lawful h = let at = contained_at n.connections c h in all_at (IsConnected n) n.connections at.0 c lawful.connected at.1
 
+pub between_is : (n : Network) (c : Connection) → IsWired n → Contains n.connections c → IsBetween n.reactors c
+between_is n c wired h = let at = contained_at n.connections c h in all_at (IsBetween n.reactors) n.connections at.0 c wired.connections at.1
+
+-- a lawful network is wired
+pub lawful_is_wired : (n : Network) → IsLawful n → IsWired n
+lawful_is_wired n lawful =
+    record { stop = lawful.stop; connections = All-weaker (IsConnected n) (IsBetween n.reactors) (λ c k. record { source = k.source; target = k.target }) n.connections lawful.connected }
+
 -- a path begins at a reactor that is there
-pub path_begins : (n : Network) (i j : ℕ) (path : List Connection) → IsLawful n → IsPath n.connections i path j → i < n.reactors
-path_begins n i j [] lawful p = absurd p
-path_begins n i j (c ∷ []) lawful p = let P : ℕ → Type 0 = λ x. x < n.reactors in subst P p.1 (contained_is n c lawful p.0).source
-path_begins n i j (c ∷ d ∷ rest) lawful p = let P : ℕ → Type 0 = λ x. x < n.reactors in subst P p.1 (contained_is n c lawful p.0).source
+pub path_begins : (n : Network) (i j : ℕ) (path : List Connection) → IsWired n → IsPath n.connections i path j → i < n.reactors
+path_begins n i j [] wired p = absurd p
+path_begins n i j (c ∷ []) wired p = let P : ℕ → Type 0 = λ x. x < n.reactors in subst P p.1 (between_is n c wired p.0).source
+path_begins n i j (c ∷ d ∷ rest) wired p = let P : ℕ → Type 0 = λ x. x < n.reactors in subst P p.1 (between_is n c wired p.0).source
 
 pub all_below_from : (count : ℕ) (test : ℕ → Bool) → ((i : ℕ) → i < count → test i ≡ true) → all_below count test ≡ true
 all_below_from zero test h = refl
@@ -57,29 +67,29 @@ connections_from n standings j tag h =
     (λ k c e. if_from (nat_eq c.target j) (is_before tag (sum_of (after_completed (standings c.source).completed) c.delay)) (λ t. h c (contains_at n.connections k c e) (eqb-true c.target j t)))
 
 -- the table's entry is no more than a least delay
-least_of_table : (connections : List Connection) (i j : ℕ) (o : Option LogicalTime) (delay : LogicalTime) → MatchOption o (IsUnreachable connections i j) (λ d. IsLeastDelay connections i j d) → IsLeastDelay connections i j delay → (d : LogicalTime) × (o ≡ Some d) × (is_at_most d delay ≡ true)
+pub least_of_table : (connections : List Connection) (i j : ℕ) (o : Option LogicalTime) (delay : LogicalTime) → MatchOption o (IsUnreachable connections i j) (λ d. IsLeastDelay connections i j d) → IsLeastDelay connections i j delay → (d : LogicalTime) × (o ≡ Some d) × (is_at_most d delay ≡ true)
 least_of_table connections i j None delay m least = absurd (m least.attained.0 least.attained.1)
 least_of_table connections i j (Some d) delay m least =
     let P : LogicalTime → Type 0 = λ x. is_at_most d x ≡ true in
     (d, refl, subst P least.attained.2 (m.least least.attained.0 least.attained.1))
 
-by_paths : (n : Network) (table : Table) (standings : ℕ → Standing) (j : ℕ) (tag : LogicalTime) → IsLawful n → IsLeastTable n table → passes_paths n table standings j tag ≡ true → ByPaths n standings j tag
-by_paths n table standings j tag lawful least h i delay is =
+by_paths : (n : Network) (table : Table) (standings : ℕ → Standing) (j : ℕ) (tag : LogicalTime) → IsWired n → IsLeastTable n table → passes_paths n table standings j tag ≡ true → ByPaths n standings j tag
+by_paths n table standings j tag wired least h i delay is =
     let at = least_of_table n.connections i j (table i j) delay (least i j) is in
-    let begins = path_begins n i j is.attained.0 lawful is.attained.1 in
+    let begins = path_begins n i j is.attained.0 wired is.attained.1 in
     before_then tag (sum_of (standings i).next at.0) (sum_of (standings i).next delay) (paths_hold n table standings j tag h i at.0 begins at.1) (sum_right (standings i).next at.0 delay at.2)
 
 by_connections : (n : Network) (standings : ℕ → Standing) (j : ℕ) (tag : LogicalTime) → passes_connections n standings j tag ≡ true → ByConnections n standings j tag
 by_connections n standings j tag h c within t = let at = contained_at n.connections c within in connections_hold n standings j tag h at.0 c at.1 t
 
-pub paths_by_table : (n : Network) (table : Table) (standings : ℕ → Standing) (j : ℕ) (tag : LogicalTime) → IsLawful n → IsLeastTable n table → ByPaths n standings j tag ↔ IsTrue (passes_paths n table standings j tag)
-paths_by_table n table standings j tag lawful least = (paths_from n table standings j tag least, by_paths n table standings j tag lawful least)
+pub paths_by_table : (n : Network) (table : Table) (standings : ℕ → Standing) (j : ℕ) (tag : LogicalTime) → IsWired n → IsLeastTable n table → ByPaths n standings j tag ↔ IsTrue (passes_paths n table standings j tag)
+paths_by_table n table standings j tag wired least = (paths_from n table standings j tag least, by_paths n table standings j tag wired least)
 
 pub connections_by_test : (n : Network) (standings : ℕ → Standing) (j : ℕ) (tag : LogicalTime) → ByConnections n standings j tag ↔ IsTrue (passes_connections n standings j tag)
 connections_by_test n standings j tag = (connections_from n standings j tag, by_connections n standings j tag)
 
-to_formula : (n : Network) (table : Table) (standings : ℕ → Standing) (j : ℕ) → IsLawful n → IsLeastTable n table → is_eligible n table standings j ≡ true → Eligible n standings j
-to_formula n table standings j lawful least h =
+to_formula : (n : Network) (table : Table) (standings : ℕ → Standing) (j : ℕ) → IsWired n → IsLeastTable n table → is_eligible n table standings j ≡ true → Eligible n standings j
+to_formula n table standings j wired least h =
     let next = (standings j).next in
     let a = (standings j).announced in
     let b = is_past (standings j).granted next in
@@ -91,7 +101,7 @@ to_formula n table standings j lawful least h =
       not_granted = eligible_not_granted a b c (p || q) h;
       in_time = eligible_in_time a b c (p || q) h;
       safe = elim (either_case p q (eligible_safe a b c (p || q) h)) [
-        | inl x ↦ inl (by_paths n table standings j next lawful least x)
+        | inl x ↦ inl (by_paths n table standings j next wired least x)
         | inr x ↦ inr (by_connections n standings j next x)
       ];
     }
@@ -110,5 +120,5 @@ to_test n table standings j least e =
     ] in
     both_hold (a && b && c) (p || q) (both_hold (a && b) c (both_hold a b e.announced e.not_granted) e.in_time) (either_of p q safe)
 
-pub eligible_by_table : (n : Network) (table : Table) (standings : ℕ → Standing) (j : ℕ) → IsLawful n → IsLeastTable n table → Eligible n standings j ↔ IsTrue (is_eligible n table standings j)
-eligible_by_table n table standings j lawful least = (to_test n table standings j least, to_formula n table standings j lawful least)
+pub eligible_by_table : (n : Network) (table : Table) (standings : ℕ → Standing) (j : ℕ) → IsWired n → IsLeastTable n table → Eligible n standings j ↔ IsTrue (is_eligible n table standings j)
+eligible_by_table n table standings j wired least = (to_test n table standings j least, to_formula n table standings j wired least)

@@ -74,3 +74,9 @@ pub mod Computes
 pub mod FederateAlone
 -- What the coordinator keeps by itself.
 pub mod CoordinatorAlone
+-- The coordinator's step goes by the wiring of a network alone.
+pub mod Wired
+-- The bound, by the table and by itself.
+pub mod FirstArrivals
+-- Standings as a list.
+pub mod ListedStandings

@@ -6,7 +6,7 @@ use Rattle.std.proofs.lemmas.Bool.Decides.{nat_tests}
 use Rattle.tag.specs.LogicalTime.{LogicalTime, IsLogicalTime, IsFinite, is_before, is_at_most, sum_of, forever, lesser, greater, predecessor_of}
 use Rattle.network.specs.Connection.{Connection}
 use Rattle.network.specs.Network.{Network}
-use Rattle.network.specs.Lawful.{IsLawful}
+use Rattle.network.specs.Wiring.{IsWired}
 use Rattle.network.specs.Tables.{Table}
 use Rattle.protocol.specs.Federate.{is_past}
 use Rattle.protocol.specs.Standing.{Standing}
@@ -33,30 +33,30 @@ given_by : (b : Bool) (given tag : LogicalTime) → (if b then Some given else N
 given_by true given tag e = (refl, cc)
 given_by false given tag e = cc
 
-finite_in_time : (n : Network) (g : LogicalTime) → IsLawful n → IsLogicalTime g → is_at_most g n.stop ≡ true → IsFinite g
-finite_in_time n g lawful p h =
-    let stop = finite_before_forever n.stop lawful.stop in
-    let low = at_most_true g n.stop p (finite_is_logical n.stop lawful.stop) h in
+finite_in_time : (n : Network) (g : LogicalTime) → IsWired n → IsLogicalTime g → is_at_most g n.stop ≡ true → IsFinite g
+finite_in_time n g wired p h =
+    let stop = finite_before_forever n.stop wired.stop in
+    let low = at_most_true g n.stop p (finite_is_logical n.stop wired.stop) h in
     record { time = finite_by_place g p (omega arith); microstep = p.microstep }
 
-pub next_is_safe : (n : Network) (table : Table) (standings : ℕ → Standing) (j : ℕ) → IsLawful n → ((i : ℕ) → IsLogicalTime (standings i).next) → is_eligible n table standings j ≡ true → IsSafe n table standings j (standings j).next
-next_is_safe n table standings j lawful tags h =
+pub next_is_safe : (n : Network) (table : Table) (standings : ℕ → Standing) (j : ℕ) → IsWired n → ((i : ℕ) → IsLogicalTime (standings i).next) → is_eligible n table standings j ≡ true → IsSafe n table standings j (standings j).next
+next_is_safe n table standings j wired tags h =
     let a = (standings j).announced in
     let b = is_past (standings j).granted (standings j).next in
     let c = is_at_most (standings j).next n.stop in
     let d = passes_paths n table standings j (standings j).next || passes_connections n standings j (standings j).next in
     record {
-      finite = finite_in_time n (standings j).next lawful (tags j) (eligible_in_time a b c d h);
+      finite = finite_in_time n (standings j).next wired (tags j) (eligible_in_time a b c d h);
       later = eligible_not_granted a b c d h;
       in_time = eligible_in_time a b c d h;
       safe = eligible_safe a b c d h;
     }
 
-pub next_rule_is_safe : (n : Network) (table : Table) → IsLawful n → IsSafeRule n table (grant_next n table)
-next_rule_is_safe n table lawful standings tags j tag e =
+pub next_rule_is_safe : (n : Network) (table : Table) → IsWired n → IsSafeRule n table (grant_next n table)
+next_rule_is_safe n table wired standings tags j tag e =
     let given = given_by (is_eligible n table standings j) (standings j).next tag e in
     let P : LogicalTime → Type 0 = λ x. IsSafe n table standings j x in
-    subst P given.1 (next_is_safe n table standings j lawful tags given.0)
+    subst P given.1 (next_is_safe n table standings j wired tags given.0)
 
 before_lesser_if : (tag g h : LogicalTime) (b : Bool) → is_before tag g ≡ true → is_before tag h ≡ true → is_before tag (if b then g else h) ≡ true
 before_lesser_if tag g h true p q = p
@@ -85,10 +85,10 @@ before_connections standings j tag (c ∷ rest) f h =
     before_connection tag (sum_of (after_completed (standings c.source).completed) c.delay) (bound_by_connections standings j rest) (nat_eq c.target j) (both_left now others h)
     (before_connections standings j tag rest f (both_right now others h))
 
-lesser_at_most_first : (g h : LogicalTime) → is_at_most (lesser g h) g ≡ true
+pub lesser_at_most_first : (g h : LogicalTime) → is_at_most (lesser g h) g ≡ true
 lesser_at_most_first g h = grind (arith, nat_tests)
 
-lesser_at_most_second : (g h : LogicalTime) → is_at_most (lesser g h) h ≡ true
+pub lesser_at_most_second : (g h : LogicalTime) → is_at_most (lesser g h) h ≡ true
 lesser_at_most_second g h = grind (arith, nat_tests)
 
 arrival_passes : (tag next : LogicalTime) (o : Option LogicalTime) (other : LogicalTime) → is_before tag (lesser_arrival next o other) ≡ true → is_before_arrival tag next o ≡ true
@@ -126,14 +126,14 @@ greater_is_one : (P : LogicalTime → Type 0) (g h : LogicalTime) (b : Bool) →
 greater_is_one P g h true p q = q
 greater_is_one P g h false p q = p
 
-greater_splits : (tag g h : LogicalTime) (b : Bool) → is_before tag (if b then h else g) ≡ true → (is_before tag g ≡ true) ⊎ (is_before tag h ≡ true)
+pub greater_splits : (tag g h : LogicalTime) (b : Bool) → is_before tag (if b then h else g) ≡ true → (is_before tag g ≡ true) ⊎ (is_before tag h ≡ true)
 greater_splits tag g h true p = inr p
 greater_splits tag g h false p = inl p
 
-greater_from_first : (tag g h : LogicalTime) → is_before tag g ≡ true → is_before tag (greater g h) ≡ true
+pub greater_from_first : (tag g h : LogicalTime) → is_before tag g ≡ true → is_before tag (greater g h) ≡ true
 greater_from_first tag g h p = grind (arith, nat_tests)
 
-greater_from_second : (tag g h : LogicalTime) → is_before tag h ≡ true → is_before tag (greater g h) ≡ true
+pub greater_from_second : (tag g h : LogicalTime) → is_before tag h ≡ true → is_before tag (greater g h) ≡ true
 greater_from_second tag g h p = grind (arith, nat_tests)
 
 sum_microstep : (g d : LogicalTime) → (sum_of g d).microstep < 2 ^ 32
@@ -208,9 +208,9 @@ safe_is_bounded n table standings j tag f h =
       | inr p ↦ greater_from_second tag a b (before_connections standings j tag n.connections f p)
     ]
 
-pub widest_is_safe : (n : Network) (table : Table) (standings : ℕ → Standing) (j : ℕ) → IsLawful n → ((i : ℕ) → IsLogicalTime (standings i).next) → is_eligible n table standings j ≡ true → IsSafe n table standings j (lesser (predecessor_of (bound_of n table standings j)) n.stop)
-widest_is_safe n table standings j lawful tags h =
-    let safe = next_is_safe n table standings j lawful tags h in
+pub widest_is_safe : (n : Network) (table : Table) (standings : ℕ → Standing) (j : ℕ) → IsWired n → ((i : ℕ) → IsLogicalTime (standings i).next) → is_eligible n table standings j ≡ true → IsSafe n table standings j (lesser (predecessor_of (bound_of n table standings j)) n.stop)
+widest_is_safe n table standings j wired tags h =
+    let safe = next_is_safe n table standings j wired tags h in
     let bound = bound_of n table standings j in
     let next = (standings j).next in
     let before : is_before next bound ≡ true = safe_is_bounded n table standings j next (finite_before next safe.finite) safe.safe in
@@ -219,45 +219,45 @@ widest_is_safe n table standings j lawful tags h =
     (is_before (bound_by_paths table standings j n.reactors) (bound_by_connections standings j n.connections))
     (connections_microstep standings j n.connections) (paths_microstep table standings j n.reactors) in
     let within = time_within (lesser (predecessor_of bound) n.stop) n.stop (lesser_at_most_second (predecessor_of bound) n.stop) in
-    let end = lawful.stop.time in
+    let end = wired.stop.time in
     let grows : is_at_most next (lesser (predecessor_of bound) n.stop) ≡ true =
     at_least_both next (predecessor_of bound) n.stop (is_before (predecessor_of bound) n.stop) (predecessor_at_least next bound (tags j).microstep before) safe.in_time in
     record {
       finite = record {
         time = omega arith;
-        microstep = one_microstep_of (predecessor_of bound) n.stop (is_before (predecessor_of bound) n.stop) (predecessor_microstep bound small) lawful.stop.microstep;
+        microstep = one_microstep_of (predecessor_of bound) n.stop (is_before (predecessor_of bound) n.stop) (predecessor_microstep bound small) wired.stop.microstep;
       };
       later = past_then (standings j).granted next (lesser (predecessor_of bound) n.stop) safe.later grows;
       in_time = lesser_at_most_second (predecessor_of bound) n.stop;
       safe = bound_is_safe n table standings j (lesser (predecessor_of bound) n.stop) (lesser_before (predecessor_of bound) n.stop bound (predecessor_before next bound before));
     }
 
-pub widest_rule_is_safe : (n : Network) (table : Table) → IsLawful n → IsSafeRule n table (grant_widest n table)
-widest_rule_is_safe n table lawful standings tags j tag e =
+pub widest_rule_is_safe : (n : Network) (table : Table) → IsWired n → IsSafeRule n table (grant_widest n table)
+widest_rule_is_safe n table wired standings tags j tag e =
     let given = given_by (is_eligible n table standings j) (lesser (predecessor_of (bound_of n table standings j)) n.stop) tag e in
     let P : LogicalTime → Type 0 = λ x. IsSafe n table standings j x in
-    subst P given.1 (widest_is_safe n table standings j lawful tags given.0)
+    subst P given.1 (widest_is_safe n table standings j wired tags given.0)
 
 given_full : (b : Bool) (given : LogicalTime) (P : LogicalTime → Type 0) → b ≡ true → P given → IsSomeAnd (if b then Some given else None) P
 given_full true given P e p = p
 given_full false given P e p = cc
 
-pub next_rule_is_full : (n : Network) (table : Table) → IsLawful n → IsFullRule n table (grant_next n table)
-next_rule_is_full n table lawful standings tags j e =
+pub next_rule_is_full : (n : Network) (table : Table) → IsFullRule n table (grant_next n table)
+next_rule_is_full n table standings tags j e =
     given_full (is_eligible n table standings j) (standings j).next (λ tag. IsTrue (is_at_most (standings j).next tag)) e (at_most_itself (standings j).next)
 
-widest_is_at_least : (n : Network) (table : Table) (standings : ℕ → Standing) (j : ℕ) → IsLawful n → ((i : ℕ) → IsLogicalTime (standings i).next) → is_eligible n table standings j ≡ true → is_at_most (standings j).next (lesser (predecessor_of (bound_of n table standings j)) n.stop) ≡ true
-widest_is_at_least n table standings j lawful tags h =
-    let safe = next_is_safe n table standings j lawful tags h in
+widest_is_at_least : (n : Network) (table : Table) (standings : ℕ → Standing) (j : ℕ) → IsWired n → ((i : ℕ) → IsLogicalTime (standings i).next) → is_eligible n table standings j ≡ true → is_at_most (standings j).next (lesser (predecessor_of (bound_of n table standings j)) n.stop) ≡ true
+widest_is_at_least n table standings j wired tags h =
+    let safe = next_is_safe n table standings j wired tags h in
     let bound = bound_of n table standings j in
     let next = (standings j).next in
     let before : is_before next bound ≡ true = safe_is_bounded n table standings j next (finite_before next safe.finite) safe.safe in
     at_least_both next (predecessor_of bound) n.stop (is_before (predecessor_of bound) n.stop) (predecessor_at_least next bound (tags j).microstep before) safe.in_time
 
-pub widest_rule_is_full : (n : Network) (table : Table) → IsLawful n → IsFullRule n table (grant_widest n table)
-widest_rule_is_full n table lawful standings tags j e =
+pub widest_rule_is_full : (n : Network) (table : Table) → IsWired n → IsFullRule n table (grant_widest n table)
+widest_rule_is_full n table wired standings tags j e =
     given_full (is_eligible n table standings j) (lesser (predecessor_of (bound_of n table standings j)) n.stop) (λ tag. IsTrue (is_at_most (standings j).next tag)) e
-    (widest_is_at_least n table standings j lawful tags e)
+    (widest_is_at_least n table standings j wired tags e)
 
 finite_by_tests : (g : LogicalTime) → nat_lt g.time (2 ^ 62) ≡ true → nat_lt g.microstep (2 ^ 32) ≡ true → IsFinite g
 finite_by_tests g p q = record { time = grind (arith, nat_tests); microstep = grind (arith, nat_tests) }

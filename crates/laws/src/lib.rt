@@ -6,13 +6,16 @@
 #![tactic(auto)]
 
 pub mod alone;
+pub mod bounds;
 pub mod finished;
 pub mod prefix;
+pub mod standings;
 
 ghost use Rattle.std.specs.Prelude.{◌≡◌, ◌↔◌, ℕ, false, IsTrue, Option};
 ghost use Rattle.tag.specs.LogicalTime.{LogicalTime, forever};
 ghost use Rattle.network.specs.Network.{Network};
 ghost use Rattle.network.specs.Lawful.{IsLawful};
+ghost use Rattle.network.specs.Wiring.{IsWired};
 ghost use Rattle.protocol.specs.Standing.{Standing};
 ghost use Rattle.protocol.specs.Grant.{Rule, ByPaths, ByConnections, Eligible, is_eligible, passes_paths, passes_connections, grant_next, grant_widest, grant_chosen, IsSafeRule};
 ghost use Rattle.network.specs.Undivided.{part, whole};
@@ -36,19 +39,19 @@ pub fn nothing_is_refused()
 /// Rules that grant what is safe: each eligible federate's next tag; the greatest tag before anything can still arrive at it; and
 /// any choice of tags, of which those go out that are safe.
 pub fn grants_are_safe()
-    ensures next { (n : Network) (table : Table) → IsLawful n → IsSafeRule n table (grant_next n table) }
-    ensures widest { (n : Network) (table : Table) → IsLawful n → IsSafeRule n table (grant_widest n table) }
+    ensures next { (n : Network) (table : Table) → IsWired n → IsSafeRule n table (grant_next n table) }
+    ensures widest { (n : Network) (table : Table) → IsWired n → IsSafeRule n table (grant_widest n table) }
     ensures chosen { (n : Network) (table : Table) (choice : ℕ → Option LogicalTime) → IsSafeRule n table (grant_chosen n table choice) }
 {}
 
 /// Where the table is that of the least delays, what the coordinator tests is what is said over all paths and all connections: of
 /// any tag, that nothing arrives at or below it, over paths or over direct connections; and who is eligible.
 pub fn eligible_by_the_table()
-    ensures paths { (n : Network) (table : Table) (standings : ℕ → Standing) (j : ℕ) (tag : LogicalTime) → IsLawful n → IsLeastTable n table →
+    ensures paths { (n : Network) (table : Table) (standings : ℕ → Standing) (j : ℕ) (tag : LogicalTime) → IsWired n → IsLeastTable n table →
         (ByPaths n standings j tag ↔ IsTrue (passes_paths n table standings j tag)) }
     ensures connections { (n : Network) (standings : ℕ → Standing) (j : ℕ) (tag : LogicalTime) →
         (ByConnections n standings j tag ↔ IsTrue (passes_connections n standings j tag)) }
-    ensures eligible { (n : Network) (table : Table) (standings : ℕ → Standing) (j : ℕ) → IsLawful n → IsLeastTable n table →
+    ensures eligible { (n : Network) (table : Table) (standings : ℕ → Standing) (j : ℕ) → IsWired n → IsLeastTable n table →
         (Eligible n standings j ↔ IsTrue (is_eligible n table standings j)) }
 {}
 
@@ -82,8 +85,8 @@ pub fn a_stuck_run_is_quiet()
 
 /// Both forms of grant, the next tag and the widest, leave no eligible federate without a grant.
 pub fn grants_are_full()
-    ensures next { (n : Network) (table : Table) → IsLawful n → IsFullRule n table (grant_next n table) }
-    ensures widest { (n : Network) (table : Table) → IsLawful n → IsFullRule n table (grant_widest n table) }
+    ensures next { (n : Network) (table : Table) → IsFullRule n table (grant_next n table) }
+    ensures widest { (n : Network) (table : Table) → IsWired n → IsFullRule n table (grant_widest n table) }
 {}
 
 /// The table of the least delays over all paths keeps the two facts of `IsTable`, which the laws go by, in a network of at most 64

@@ -1,5 +1,5 @@
 -- The standings of all federates as a list, by their numbers; and whether all is finished.
-use Rattle.std.specs.Prelude.{ℕ, zero, suc, ◌+◌, Bool, ◌&&◌, List, [], ◌∷◌, get_or}
+use Rattle.std.specs.Prelude.{ℕ, zero, suc, Bool, ◌&&◌, List, [], ◌∷◌, get_or}
 use Rattle.tag.specs.LogicalTime.{forever, is_same}
 use Rattle.network.specs.Network.{Network}
 use Rattle.signal.specs.declared.signal.Signal.{Signal}
