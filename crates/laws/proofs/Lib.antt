@@ -80,3 +80,5 @@ pub mod Wired
 pub mod FirstArrivals
 -- Standings as a list.
 pub mod ListedStandings
+-- What is completed is the tag of the last row.
+pub mod LastRows

@@ -13,6 +13,7 @@ ghost use Rattle.order.specs.Settled.{BeginsWith, IsEnough};
 ghost use Rattle.order.specs.History.{up_to};
 ghost use Rattle.order.specs.Consistent.{IsInTime};
 ghost use Rattle.protocol.specs.Federate.{is_reached};
+ghost use Rattle.protocol.specs.Alone.{last_row_tag};
 ghost use Rattle.protocol.specs.Grant.{Rule, IsSafeRule};
 ghost use Rattle.protocol.specs.Machine.{Move, after_moves};
 ghost use Rattle.laws.specs.Rows.{rows_of_run, rows_up_to};
@@ -27,6 +28,13 @@ pub fn rows_are_a_beginning()
     ensures from_then_on { (n : Network) (table : Table) (rules : ℕ → Rule) → IsLawful n → IsTable n table →
         ((move : ℕ) → IsSafeRule n table (rules move)) → (moves : List Move) (j : ℕ) → j < n.reactors →
         (turns : ℕ) → IsEnough n.stop turns → BeginsWith (part j (whole n turns)) (rows_of_run n rules moves j) }
+{}
+
+/// Whatever moves were made, what a federate completed last is the tag of its last row.
+pub fn the_last_row_is_completed()
+    ensures { (n : Network) (table : Table) (rules : ℕ → Rule) (moves : List Move) (j : ℕ) → IsLawful n → IsTable n table →
+        ((move : ℕ) → IsSafeRule n table (rules move)) →
+        (after_moves n rules moves j).federate.completed ≡ last_row_tag (after_moves n rules moves j).federate.rows }
 {}
 
 /// In two runs of one network, whatever the moves, the rules and the tables, a federate took the same turns up to a tag that is
