@@ -2,9 +2,10 @@
 use Rattle.std.proofs.Common.{◌≡◌, ℕ, zero, suc, ◌<◌, ◌⊎◌, inl, inr, Bool, true, false, List, [], ◌∷◌, refl, sym, ap, subst, ◌∙◌, arith, Option, None, Some}
 use Rattle.std.specs.Prelude.{slice_get, All, IfSome, nat_eq, if◌then◌else◌, ◌||◌}
 use Rattle.std.specs.List.{list_all}
-use Rattle.std.proofs.lemmas.Bool.{eq-eqb, cases_lt}
-use Rattle.std.proofs.lemmas.Bool.Decides.{nat_tests}
+use Rattle.std.proofs.lemmas.Bool.{eq-eqb, cases_lt, eqb-true}
 use Rattle.tag.specs.LogicalTime.{LogicalTime, is_before, is_at_most, sum_of}
+use Rattle.tag.proofs.Order.{at_most_reflexive, before_then}
+use Rattle.tag.proofs.SumLaws.{sum_monotone_left, sum_monotone_right, sum_twice_at_least}
 use Rattle.network.specs.Connection.{Connection}
 use Rattle.network.specs.Network.{Network}
 use Rattle.network.specs.Tables.{Table, IsWithin, IsTable}
@@ -12,8 +13,7 @@ use Rattle.protocol.specs.Federate.{is_past}
 use Rattle.protocol.specs.Standing.{Standing, after_message, after_grant}
 use Rattle.protocol.specs.Coordinator.{with_standing}
 use Rattle.protocol.specs.Grant.{after_completed, all_below, is_before_arrival, passes_paths, passes_connection, passes_connections}
-use Rattle.laws.proofs.Tags.{sum_twice, sum_left, sum_right, before_then}
-use Rattle.laws.proofs.Turns.{all_first, all_rest, same_number}
+use Rattle.laws.proofs.Turns.{all_first, all_rest}
 use Rattle.laws.proofs.Tests.{both_left, both_right, either_case}
 
 pub all_at : {X : Type 0} (P : X → Type 0) (xs : List X) (k : ℕ) (x : X) → All P xs → slice_get xs k ≡ Some x → P x
@@ -37,18 +37,15 @@ IsBacked n table standings j (Some tag) = HoldsByPaths n table standings j tag �
 abbrev pub IsLater : Standing → Standing → Type 0
 IsLater s t = (is_at_most s.next t.next ≡ true) × (is_at_most (after_completed s.completed) (after_completed t.completed) ≡ true)
 
-pub at_most_itself : (g : LogicalTime) → is_at_most g g ≡ true
-at_most_itself g = grind (arith, nat_tests)
-
 pub is_later_itself : (s : Standing) → IsLater s s
-is_later_itself s = (at_most_itself s.next, at_most_itself (after_completed s.completed))
+is_later_itself s = (at_most_reflexive s.next, at_most_reflexive (after_completed s.completed))
 
 pub backed_later : (n : Network) (table : Table) (standings after : ℕ → Standing) (j : ℕ) (o : Option LogicalTime) → ((i : ℕ) → IsLater (standings i) (after i)) → IsBacked n table standings j o → IsBacked n table after j o
 backed_later n table standings after j None l b = tt
-backed_later n table standings after j (Some g) l (inl h) = inl (λ i d m e. before_then g (sum_of (standings i).next d) (sum_of (after i).next d) (h i d m e) (sum_left (standings i).next (after i).next d (l i).0))
+backed_later n table standings after j (Some g) l (inl h) = inl (λ i d m e. before_then g (sum_of (standings i).next d) (sum_of (after i).next d) (h i d m e) (sum_monotone_left (standings i).next (after i).next d (l i).0))
 backed_later n table standings after j (Some g) l (inr h) =
     inr (λ k c e t. before_then g (sum_of (after_completed (standings c.source).completed) c.delay) (sum_of (after_completed (after c.source).completed) c.delay) (h k c e t)
-    (sum_left (after_completed (standings c.source).completed) (after_completed (after c.source).completed) c.delay (l c.source).1))
+    (sum_monotone_left (after_completed (standings c.source).completed) (after_completed (after c.source).completed) c.delay (l c.source).1))
 
 at_if : {A : Type 0} (P : A → Type 0) (mine other : A) (b : Bool) → (b ≡ true → P mine) → P other → P (if b then mine else other)
 at_if P mine other true m o = m refl
@@ -56,7 +53,7 @@ at_if P mine other false m o = o
 
 -- what holds of the new one and of the old one holds after an update
 pub at_update : {A : Type 0} (P : A → Type 0) (mine other : A) (j i : ℕ) → (j ≡ i → P mine) → P other → P (if nat_eq j i then mine else other)
-at_update P mine other j i m o = at_if P mine other (nat_eq j i) (λ e. m (same_number j i e)) o
+at_update P mine other j i m o = at_if P mine other (nat_eq j i) (λ e. m (eqb-true j i e)) o
 
 pub grant_is_later : (s : Standing) (o : Option LogicalTime) → IsLater s (after_grant s o)
 grant_is_later s None = is_later_itself s
@@ -116,11 +113,11 @@ message_is_past n table standings k c s None t e l m a b = refl
 message_is_past n table standings k c s (Some g) t e l m a (inl h) =
     let w = within_at (table c.source c.target) c.delay (all_at (λ x. IsWithin (table x.source x.target) x.delay) n.connections k c t.direct e) in
     let first = h c.source w.0 l w.1 in
-    let second = sum_left (standings c.source).next s w.0 m in
-    let third = sum_right s w.0 c.delay w.2 in
+    let second = sum_monotone_left (standings c.source).next s w.0 m in
+    let third = sum_monotone_right s w.0 c.delay w.2 in
     before_then g (sum_of s w.0) (sum_of s c.delay) (before_then g (sum_of (standings c.source).next w.0) (sum_of s w.0) first second) third
 message_is_past n table standings k c s (Some g) t e l m a (inr h) =
-    before_then g (sum_of (after_completed (standings c.source).completed) c.delay) (sum_of s c.delay) (h k c e refl) (sum_left (after_completed (standings c.source).completed) s c.delay a)
+    before_then g (sum_of (after_completed (standings c.source).completed) c.delay) (sum_of s c.delay) (h k c e refl) (sum_monotone_left (after_completed (standings c.source).completed) s c.delay a)
 
 -- and it lowers its receiver's next tag no further than other grants are backed
 pub message_keeps_backing : (n : Network) (table : Table) (standings : ℕ → Standing) (k : ℕ) (c : Connection) (s : LogicalTime) (j : ℕ) (o : Option LogicalTime) → IsTable n table → slice_get n.connections k ≡ Some c → c.source < n.reactors → is_at_most (standings c.source).next s ≡ true → IsBacked n table standings j o → IsBacked n table (with_standing standings c.target (after_message (standings c.target) (sum_of s c.delay))) j o
@@ -131,9 +128,9 @@ message_keeps_backing n table standings k c s j (Some g) t e l m (inl h) =
     let on = if_some_at (table c.target j) d (λ rest. IsWithin (table c.source j) (sum_of c.delay rest)) q
     (all_at (λ x. IfSome (table x.target j) (λ rest. IsWithin (table x.source j) (sum_of x.delay rest))) n.connections k c (t.onward j) e) in
     let w = within_at (table c.source j) (sum_of c.delay d) on in
-    let first = before_then g (sum_of (standings c.source).next w.0) (sum_of s w.0) (h c.source w.0 l w.1) (sum_left (standings c.source).next s w.0 m) in
-    let second = before_then g (sum_of s w.0) (sum_of s (sum_of c.delay d)) first (sum_right s w.0 (sum_of c.delay d) w.2) in
-    before_then g (sum_of s (sum_of c.delay d)) (sum_of (sum_of s c.delay) d) second (sum_twice s c.delay d)) in
+    let first = before_then g (sum_of (standings c.source).next w.0) (sum_of s w.0) (h c.source w.0 l w.1) (sum_monotone_left (standings c.source).next s w.0 m) in
+    let second = before_then g (sum_of s w.0) (sum_of s (sum_of c.delay d)) first (sum_monotone_right s w.0 (sum_of c.delay d) w.2) in
+    before_then g (sum_of s (sum_of c.delay d)) (sum_of (sum_of s c.delay) d) second (sum_twice_at_least s c.delay d)) in
     let P : Standing → Type 0 = λ x. is_before g (sum_of x.next d) ≡ true in
     at_update P (after_message (standings c.target) (sum_of s c.delay)) (standings i) i c.target
     (λ q. (

@@ -2,7 +2,7 @@
 use Rattle.std.proofs.Common.{◌≡◌, ℕ, ◌+◌, ◌*◌, ◌<◌, ◌≤◌, Bool, cond, List, [], ◌∷◌, ◌++◌, refl, ap, subst, ◌∙◌, arith}
 use Rattle.std.specs.List.{AllByRecursion}
 use Rattle.tag.specs.LogicalTime.{LogicalTime, place}
-use Rattle.tag.proofs.Order.{at_most_reflexive, at_most_places, finite_is_logical}
+use Rattle.tag.proofs.Order.{at_most_places, at_most_reflexive, finite_is_logical}
 use Rattle.network.specs.Network.{Network}
 use Rattle.network.specs.Undivided.{whole, part}
 use Rattle.network.specs.Lawful.{IsLawful}
@@ -24,7 +24,7 @@ begins_by n L T S c j there (x ∷ xs) e turns enough =
     let called = subst Called e (each (IsCalledFor n T j) (T j) (c.called_for j there)) in
     let settled = subst Done e (each (λ turn. S j turn.tag) (T j) (c.settled j there)) in
     let here : IsCalledFor n T j x = called.0 in
-    let low : place x.tag ≤ place n.stop = at_most_places (finite_is_logical here.place.finite) (finite_is_logical L.stop) here.place.in_time in
+    let low : place x.tag ≤ place n.stop = at_most_places _ _ (finite_is_logical _ here.place.finite) (finite_is_logical _ L.stop) here.place.in_time in
     let begins = rows_are_a_beginning n L T S c j x.tag turns here.place settled.0 (omega arith) in
     let same : up_to x.tag (T j) ≡ x ∷ xs = ap (up_to x.tag) e ∙ ap (λ (b : Bool). cond b (x ∷ xs) (up_to x.tag xs)) (at_most_reflexive x.tag) in
     (begins.0, begins.1 ∙ ap (λ (h : List Turn). rows_of n j h ++ begins.0) same)

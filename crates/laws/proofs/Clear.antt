@@ -1,16 +1,18 @@
 -- All that is pending stays clear of what is completed, whatever moves are made.
 use Rattle.std.proofs.Common.{◌≡◌, ℕ, ◌+◌, ◌≤◌, Bool, true, false, cond, List, [], ◌∷◌, ◌++◌, refl, sym, subst, arith, Option, None, Some}
 use Rattle.std.specs.Prelude.{slice_get, nat_eq, if◌then◌else◌}
-use Rattle.tag.specs.LogicalTime.{LogicalTime, IsLogicalTime, is_before, sum_of}
-use Rattle.network.specs.Connection.{Connection, then_along}
+use Rattle.tag.specs.LogicalTime.{LogicalTime, IsLogicalTime, is_before, sum_of, place}
+use Rattle.tag.proofs.Order.{at_most_from_places, at_most_places, place_bound}
+use Rattle.network.specs.Connection.{Connection, then_along, IsWalk}
 use Rattle.network.specs.Network.{Network}
 use Rattle.network.specs.Lawful.{IsLawful}
 use Rattle.network.specs.Tables.{Table, IsTable}
 use Rattle.signal.specs.declared.signal.Signal.{Signal}
 use Rattle.signal.specs.declared.signal.Signal.TheVariants.{Net, Ltc, Tag, Msg}
 use Rattle.network.specs.Undone.{Held, put, put_all, drop_up_to, is_held_before, is_for_same}
+use Rattle.network.proofs.Walks.{along_monotone}
 use Rattle.protocol.specs.Machine.{Member, standings_of}
-use Rattle.laws.proofs.Tags.{place, above, at_most_true, to_at_most, place_within}
+use Rattle.laws.proofs.Tags.{above}
 use Rattle.laws.proofs.Transit.{least_above}
 use Rattle.laws.proofs.Upward.{IsOver, IsUp, least_key, last_is_later, source_at_least}
 use Rattle.laws.proofs.Downward.{IsDown, AreCovered}
@@ -19,9 +21,7 @@ use Rattle.laws.proofs.Turns.{AreMessages}
 use Rattle.laws.proofs.Kept.{IsKept}
 use Rattle.laws.proofs.Backing.{IsBacked, at_update}
 use Rattle.laws.proofs.Eligibility.{contains_at}
-use Rattle.laws.proofs.ShortPaths.{along_left}
 use Rattle.laws.proofs.Chains.{IsClear, IsAhead, along_is_logical, backed_is_ahead, message_is_ahead}
-use Rattle.laws.specs.Chains.{IsWalk}
 
 -- events of reactor k
 abbrev pub AreClear : Network → (ℕ → Option LogicalTime) → ℕ → List Held → Type 0
@@ -121,12 +121,12 @@ behind n i m k = let a = last_is_later n i (above m.standing.completed) m.up k.u
 pub ahead_of : (n : Network) (table : Table) (members : ℕ → Member) (j k : ℕ) (g γ s : LogicalTime) → IsTurn n table members j g γ → IsLogicalTime s → place (members k).standing.next ≤ place s → IsClear n (completed_of members) k s → IsAhead n j k s γ
 ahead_of n table members j k g γ s t p l clear =
     backed_is_ahead n table (standings_of members) (completed_of members) k j s γ t.lawful t.facts (λ i. (t.kept i).completed_tag) (λ i. behind n i (members i) (t.kept i)) p t.logical
-    (to_at_most (members k).standing.next s (t.kept k).next_tag p l) clear t.backed
+    (at_most_from_places (members k).standing.next s (t.kept k).next_tag p l) clear t.backed
 
 pub held_after : (n : Network) (table : Table) (members : ℕ → Member) (j k low : ℕ) (g γ : LogicalTime) (u : List Held) → IsTurn n table members j g γ → IsUndone n.stop low u → place (members k).standing.next ≤ first_place u → (k ≡ j → place g + 1 ≤ first_place u) → AreClear n (completed_of members) k u → AreClear n (completed_with (completed_of members) j g) k u
 held_after n table members j k low g γ [] t h l here a = tt
 held_after n table members j k low g γ (x ∷ rest) t h l here a =
-    let next = first_at_least n.stop (place x.tag) rest (place_within x.tag h.0) h.3 in (
+    let next = first_at_least n.stop (place x.tag) rest (place_bound x.tag h.0) h.3 in (
       clear_after n (completed_of members) j k g x.tag a.0 (λ path w. walk_past n j k g γ x.tag path (ahead_of n table members j k g γ x.tag t h.0 l a.0) t.within here w),
       held_after n table members j k (place x.tag) g γ rest t h.3 (omega arith) (λ e. (let b = here e in omega arith)) a.1,
     )
@@ -150,7 +150,7 @@ over_after n table members i j number g γ source s (Some c) t e over p next low
     clear_after n (completed_of members) j c.target g s clear
     (λ path w. (
     let ahead = message_is_ahead n table (standings_of members) (completed_of members) i j c source s γ path t.lawful t.facts (λ x. (t.kept x).completed_tag) (λ x. behind n x (members x) (t.kept x)) p t.logical
-    (contains_at n.connections number c e) over.0 over.1 (to_at_most (members i).standing.next source (t.kept i).next_tag p next) low clear t.backed w in
+    (contains_at n.connections number c e) over.0 over.1 (at_most_from_places (members i).standing.next source (t.kept i).next_tag p next) low clear t.backed w in
     let within = t.within in
     omega arith))
 
@@ -174,7 +174,7 @@ later_past n j g γ s (c ∷ rest) ahead within l grows w = let a = ahead c rest
 -- what j schedules at g is later, and a chain from it is no earlier than the same chain from g
 later_clear : (n : Network) (completed : ℕ → Option LogicalTime) (j : ℕ) (g γ s : LogicalTime) → IsLawful n → IsLogicalTime g → IsLogicalTime s → place g + 1 ≤ place s → place g ≤ place γ → IsClear n completed j g → IsAhead n j j g γ → IsClear n (completed_with completed j g) j s
 later_clear n completed j g γ s lawful p q l within clear ahead i path w =
-    let grows = at_most_true (then_along g path) (then_along s path) (along_is_logical n j i g path lawful p w) (along_is_logical n j i s path lawful q w) (along_left g s path (to_at_most g s p q (omega arith))) in
+    let grows = at_most_places (then_along g path) (then_along s path) (along_is_logical n j i g path lawful p w) (along_is_logical n j i s path lawful q w) (along_monotone g s path (at_most_from_places g s p q (omega arith))) in
     let P : Option LogicalTime → Type 0 = λ o. above o ≤ place (then_along s path) in
     let was = clear i path w in
     let Q : ℕ → Type 0 = λ x. IsWalk n.connections j path x in

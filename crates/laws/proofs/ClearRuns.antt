@@ -2,8 +2,9 @@
 use Rattle.std.proofs.Common.{◌≡◌, ℕ, ◌+◌, ◌<◌, ◌≤◌, Bool, true, false, cond, List, [], ◌∷◌, ◌++◌, length, refl, sym, ap, subst, ◌∙◌, arith, Option, None, Some, ℤ}
 use Rattle.std.specs.Prelude.{slice_get, map, nat_eq, if◌then◌else◌, not, ◌&&◌, ◌||◌}
 use Rattle.std.proofs.Math.Path.{fun_ext}
-use Rattle.std.proofs.lemmas.Bool.{eq-eqb}
-use Rattle.tag.specs.LogicalTime.{LogicalTime, IsLogicalTime, is_at_most, is_same, forever}
+use Rattle.std.proofs.lemmas.Bool.{eq-eqb, eqb-true}
+use Rattle.tag.specs.LogicalTime.{LogicalTime, IsLogicalTime, is_at_most, is_same, forever, place}
+use Rattle.tag.proofs.Order.{finite_is_logical, place_of_finite}
 use Rattle.network.specs.Connection.{Connection}
 use Rattle.network.specs.Network.{Network}
 use Rattle.network.specs.Lawful.{IsLawful}
@@ -18,10 +19,10 @@ use Rattle.protocol.specs.Standing.{Standing, after_message, after_net, after_lt
 use Rattle.protocol.specs.Grant.{Rule, IsSafeRule}
 use Rattle.protocol.specs.Coordinator.{Post, Coordinated, with_standing, noted, route, coordinator_takes, grant_to, grants_from, with_grants}
 use Rattle.protocol.specs.Machine.{Member, Move, ToCoordinator, ToFederate, Announce, Advance, Lose, opening_member, with_member, standings_of, sent_to, coordinated, coordinator_takes_from, stepped, federate_takes_from, outcome_of, after_moves}
-use Rattle.laws.proofs.Tags.{place, above, IsOptional, reached_true, finite_is_logical, finite_before_forever}
+use Rattle.laws.proofs.Tags.{IsOptional, above, reached_true}
 use Rattle.laws.proofs.Downward.{last_tag_is_later}
 use Rattle.laws.proofs.StillUndone.{first_at_least, drop_is_undone}
-use Rattle.laws.proofs.Turns.{messages_of_turn, scheduled_are_held, same_number}
+use Rattle.laws.proofs.Turns.{messages_of_turn, scheduled_are_held}
 use Rattle.laws.proofs.Kept.{first_is}
 use Rattle.laws.proofs.Backing.{IsBacked, at_update}
 use Rattle.laws.proofs.Safety.{IsSound, tag_if, sent-append, grants_sent, moves_sound}
@@ -62,7 +63,7 @@ turn_mine n table members j g γ t first reached clear =
     let k = t.kept j in
     let f = (members j).federate in
     let stop = finite_is_logical n.stop t.lawful.stop in
-    let end = finite_before_forever n.stop t.lawful.stop in
+    let end = place_of_finite n.stop t.lawful.stop in
     let is = first_is n.stop (above f.completed) f.undone g k.undone first in
     let high = is.2 in
     let least = is.3 in
@@ -111,7 +112,7 @@ turn_clears n table members j g lawful facts sound first reached clear =
     let Q : ℕ → Type 0 = λ x. IsMemberClear n (completed_with (completed_of members) j g) x mine.federate.undone mine.up mine.down in
     subst P (sym same)
     (λ x. member_if n (completed_with (completed_of members) j g) x mine (members x) (nat_eq x j)
-    (λ e. subst Q (sym (same_number x j e)) own)
+    (λ e. subst Q (sym (eqb-true x j e)) own)
     (λ e. turn_other n table members j x g grant.0 t (apart_if x j e) clear))
 
 -- a member is replaced by one that completed the same
@@ -123,7 +124,7 @@ kept_clears n members i mine e own clear =
     at_update S mine (members x) x i (λ q. e ∙ ap (λ y. (members y).federate.completed) (sym q)) refl)) in
     let Q : ℕ → Type 0 = λ x. IsMemberClear n (completed_of members) x mine.federate.undone mine.up mine.down in
     subst P (sym same)
-    (λ x. member_if n (completed_of members) x mine (members x) (nat_eq x i) (λ q. subst Q (sym (same_number x i q)) own) (λ q. clear x))
+    (λ x. member_if n (completed_of members) x mine (members x) (nat_eq x i) (λ q. subst Q (sym (eqb-true x i q)) own) (λ q. clear x))
 
 -- how one federate's step ends: what it completed stays
 abbrev pub StaysClear : Network → (ℕ → Option LogicalTime) → ℕ → Option LogicalTime → Outcome Member → Type 0
@@ -200,7 +201,7 @@ route_sends n completed standings i k s v (Some c) clear =
     three_ifs (SendsClear n completed) (nat_eq c.source i) (is_at_most s n.stop) (is_past (standings c.target).granted s)
     (Done (record { after = with_standing standings c.target (after_message (standings c.target) s); sent = record { federate = c.target; signal = Msg k s v } ∷ [] }))
     (Refused BelowGrant) (Refused AfterStop) (Refused NotYours)
-    (λ j. post_clear n completed j c.target k s v (nat_eq j c.target) (λ e. (let P : ℕ → Type 0 = λ x. IsClear n completed x s in subst P (sym (same_number j c.target e)) clear)))
+    (λ j. post_clear n completed j c.target k s v (nat_eq j c.target) (λ e. (let P : ℕ → Type 0 = λ x. IsClear n completed x s in subst P (sym (eqb-true j c.target e)) clear)))
     tt tt tt
 
 coordinator_sends : (n : Network) (completed : ℕ → Option LogicalTime) (standings : ℕ → Standing) (i : ℕ) (signal : Signal) (rest : List Signal) → AreUpClear n completed (signal ∷ rest) → SendsClear n completed (coordinator_takes n standings i signal)

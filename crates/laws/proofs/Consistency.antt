@@ -3,10 +3,11 @@ use Rattle.std.proofs.Common.{◌≡◌, ℕ, suc, ◌<◌, ◌⊎◌, inl, inr,
 use Rattle.std.specs.Prelude.{slice_get, nat_eq, if◌then◌else◌, ◌&&◌, Contains}
 use Rattle.std.specs.List.{AllByRecursion}
 use Rattle.std.proofs.Math.Path.{fun_ext}
-use Rattle.std.proofs.lemmas.Bool.{true_from_ne_false}
-use Rattle.tag.specs.LogicalTime.{LogicalTime, IsLogicalTime, is_before, is_at_most, is_same, sum_of}
-use Rattle.tag.proofs.Order.{before_irreflexive, before_transitive, at_most_by_before}
-use Rattle.network.specs.Connection.{Connection, then_along}
+use Rattle.std.proofs.lemmas.Bool.{true_from_ne_false, eqb-true}
+use Rattle.tag.specs.LogicalTime.{LogicalTime, IsLogicalTime, is_before, is_at_most, is_same, sum_of, place}
+use Rattle.tag.proofs.Order.{at_most_by_before, at_most_from_places, at_most_then, before_irreflexive, before_transitive, finite_is_logical, not_before, same_is_equal}
+use Rattle.tag.proofs.SumLaws.{sum_monotone_left}
+use Rattle.network.specs.Connection.{Connection, then_along, IsWalk}
 use Rattle.network.specs.Network.{Network}
 use Rattle.network.specs.Lawful.{IsLawful}
 use Rattle.network.specs.Tables.{Table, IsTable}
@@ -21,10 +22,9 @@ use Rattle.network.specs.Undone.{Held, look}
 use Rattle.protocol.specs.Federate.{is_past}
 use Rattle.protocol.specs.Grant.{Rule, IsSafeRule}
 use Rattle.protocol.specs.Machine.{Member, after_moves}
-use Rattle.laws.specs.Chains.{IsWalk, IsPending, undone, down, up}
+use Rattle.laws.specs.Chains.{IsPending, undone, down, up}
 use Rattle.laws.specs.Histories.{histories_of, IsSettled, StaysConsistent}
-use Rattle.laws.proofs.Tags.{place, above, IsOptional, same_true, finite_is_logical, to_at_most, sum_left, at_most_then, not_before}
-use Rattle.laws.proofs.Turns.{same_number}
+use Rattle.laws.proofs.Tags.{IsOptional, above}
 use Rattle.laws.proofs.Eligibility.{contains_at}
 use Rattle.laws.proofs.Safety.{moves_sound}
 use Rattle.laws.proofs.Pending.{completes_nothing_early}
@@ -54,7 +54,7 @@ some_of false v w h = cc
 
 leads_over : (o : Option Connection) (a slot : ℕ) → leads_to o a slot ≡ true → (c : Connection) × (o ≡ Some c) × (c.target ≡ a)
 leads_over None a slot h = cc
-leads_over (Some c) a slot h = (c, refl, same_number c.target a (both_left (nat_eq c.target a) (nat_eq c.slot slot) h))
+leads_over (Some c) a slot h = (c, refl, eqb-true c.target a (both_left (nat_eq c.target a) (nat_eq c.slot slot) h))
 
 one_further : (n : Network) (a : ℕ) (t : LogicalTime) (x : Signal) (rest : List Signal) → HasMessage n a t rest → HasMessage n a t (x ∷ rest)
 one_further n a t x rest m = record { at = suc m.at; number = m.number; value = m.value; connection = m.connection; is = m.is; over = m.over; target = m.target }
@@ -63,7 +63,7 @@ message_here : (n : Network) (a : ℕ) (t : LogicalTime) (slot k : ℕ) (s : Log
 message_here n a t slot k s v w rest h =
     let both = some_of (leads_to (slice_get n.connections k) a slot && is_same s t) v w h in
     let over = leads_over (slice_get n.connections k) a slot (both_left (leads_to (slice_get n.connections k) a slot) (is_same s t) both) in
-    let same : s ≡ t = same_true s t (both_right (leads_to (slice_get n.connections k) a slot) (is_same s t) both) in
+    let same : s ≡ t = same_is_equal s t (both_right (leads_to (slice_get n.connections k) a slot) (is_same s t) both) in
     record { at = 0; number = k; value = v; connection = over.0; is = ap (λ (x : LogicalTime). Some (Msg k x v)) same; over = over.1; target = over.2 }
 
 message_found : (n : Network) (a : ℕ) (t : LogicalTime) (slot : ℕ) (v : ℤ) (xs : List Signal) → last_message n a t slot xs ≡ Some v → HasMessage n a t xs
@@ -90,7 +90,7 @@ event_if t slot v x rest false here more h = let found = more h in record { at =
 event_found : (t : LogicalTime) (slot : ℕ) (v : ℤ) (u : List Held) → look u t slot ≡ Some v → HasEvent t u
 event_found t slot v [] h = cc
 event_found t slot v (x ∷ rest) h =
-    event_if t slot v x rest (is_same x.tag t && nat_eq x.slot slot) (λ k. same_true x.tag t (both_left (is_same x.tag t) (nat_eq x.slot slot) k)) (event_found t slot v rest) h
+    event_if t slot v x rest (is_same x.tag t && nat_eq x.slot slot) (λ k. same_is_equal x.tag t (both_left (is_same x.tag t) (nat_eq x.slot slot) k)) (event_found t slot v rest) h
 
 -- what waits is pending
 waiting_pending : (n : Network) (members : ℕ → Member) (a : ℕ) (t : LogicalTime) (slot : ℕ) (v : ℤ) → waiting n members a t slot ≡ Some v → IsPending n members a t
@@ -124,7 +124,7 @@ settled_along n members s c within settled k u path p w =
     true_from_ne_false (is_before s (then_along u path)) (λ late. (
     let P : LogicalTime → Type 0 = λ x. is_before (sum_of s c.delay) x ≡ true in
     let on : is_before (sum_of s c.delay) (sum_of (then_along u path) c.delay) ≡ true = subst P (along_on u path c) (settled k u (path ++ c ∷ []) p (walk_on n.connections k path c within w)) in
-    let low = sum_left (then_along u path) s c.delay ((at_most_by_before (then_along u path) s).1 late) in
+    let low = sum_monotone_left (then_along u path) s c.delay ((at_most_by_before (then_along u path) s).1 late) in
     let not = not_before (sum_of s c.delay) (sum_of (then_along u path) c.delay) low in
     cc))
 
@@ -135,7 +135,7 @@ each_at P (c ∷ rest) f = (f 0 c refl, each_at P rest (λ k d e. f (suc k) d e)
 -- what is past is before whatever is past the completed tag
 past_before : (o : Option LogicalTime) (g x : LogicalTime) → IsOptional o → IsLogicalTime g → place g < above o → is_past o x ≡ true → is_before g x ≡ true
 past_before None g x p q l h = absurd (omega arith)
-past_before (Some c) g x p q l h = at_most_then g c x (to_at_most g c q p (omega arith)) h
+past_before (Some c) g x p q l h = at_most_then g c x (at_most_from_places g c q p (omega arith)) h
 
 traced_by_histories : (n : Network) (members : ℕ → Member) → HasTrace n members → IsTraced n members (histories_of members)
 traced_by_histories n members w =

@@ -1,12 +1,11 @@
 -- What stands in the queue from the coordinator to a federate: messages, and TAGs that rise.
 use Rattle.std.proofs.Common.{◌≡◌, ℕ, ◌+◌, ◌≤◌, IsTrue, List, [], ◌∷◌, ◌++◌, refl, arith, Option, None, Some}
 use Rattle.std.specs.Prelude.{slice_get}
-use Rattle.tag.specs.LogicalTime.{LogicalTime, IsLogicalTime, is_at_most}
+use Rattle.tag.specs.LogicalTime.{LogicalTime, IsLogicalTime, is_at_most, place}
 use Rattle.network.specs.Connection.{Connection}
 use Rattle.network.specs.Network.{Network}
 use Rattle.signal.specs.declared.signal.Signal.{Signal}
 use Rattle.signal.specs.declared.signal.Signal.TheVariants.{Net, Ltc, Tag, Msg}
-use Rattle.laws.proofs.Tags.{place}
 use Rattle.laws.proofs.Transit.{Covers}
 
 -- over a connection that ends at j

@@ -6,16 +6,18 @@ use Rattle.std.proofs.lemmas.Bool.{eqb-true}
 use Rattle.std.proofs.lemmas.List.Elements.{All-weaker}
 use Rattle.std.proofs.lemmas.Option.{slice_get_within, get_or_from_slice_get, slice_get_read}
 use Rattle.tag.specs.LogicalTime.{LogicalTime, is_before, is_at_most, sum_of}
+use Rattle.tag.proofs.Order.{before_then}
+use Rattle.tag.proofs.SumLaws.{sum_monotone_right}
 use Rattle.network.specs.Connection.{Connection, IsPath, IsLeastDelay, IsUnreachable}
 use Rattle.network.specs.Network.{Network}
 use Rattle.network.specs.Lawful.{IsLawful, IsConnected}
 use Rattle.network.specs.Wiring.{IsBetween, IsWired}
 use Rattle.network.specs.Tables.{Table, IsLeastTable}
+use Rattle.network.proofs.Lawful.{contained_is}
 use Rattle.protocol.specs.Federate.{is_past}
 use Rattle.protocol.specs.Standing.{Standing}
 use Rattle.protocol.specs.Grant.{after_completed, ByPaths, ByConnections, Eligible, all_below, is_before_arrival, passes_paths, passes_connection, passes_connections, is_eligible}
-use Rattle.laws.proofs.Tags.{sum_right, before_then}
-use Rattle.laws.proofs.Backing.{all_at, paths_hold, connections_hold}
+use Rattle.laws.proofs.Backing.{paths_hold, connections_hold}
 use Rattle.laws.proofs.SafeGrants.{eligible_announced, eligible_not_granted, eligible_in_time, eligible_safe}
 use Rattle.laws.proofs.Tests.{both_hold, either_case, either_of}
 
@@ -24,9 +26,6 @@ contained_at xs x h = (h.0, slice_get_read xs (length xs) h.0 x refl h.1 (sym h.
 
 pub contains_at : {X : Type 0} (xs : List X) (k : ℕ) (x : X) → slice_get xs k ≡ Some x → Contains xs x
 contains_at xs k x e = (k, slice_get_within xs k x e, get_or_from_slice_get xs k x x e)
-
-pub contained_is : (n : Network) (c : Connection) → IsLawful n → Contains n.connections c → IsConnected n c
-contained_is n c lawful h = let at = contained_at n.connections c h in all_at (IsConnected n) n.connections at.0 c lawful.connected at.1
 
 pub between_is : (n : Network) (c : Connection) → IsWired n → Contains n.connections c → IsBetween n.reactors c
 between_is n c wired h = let at = contained_at n.connections c h in all_at (IsBetween n.reactors) n.connections at.0 c wired.connections at.1
@@ -77,7 +76,7 @@ by_paths : (n : Network) (table : Table) (standings : ℕ → Standing) (j : ℕ
 by_paths n table standings j tag wired least h i delay is =
     let at = least_of_table n.connections i j (table i j) delay (least i j) is in
     let begins = path_begins n i j is.attained.0 wired is.attained.1 in
-    before_then tag (sum_of (standings i).next at.0) (sum_of (standings i).next delay) (paths_hold n table standings j tag h i at.0 begins at.1) (sum_right (standings i).next at.0 delay at.2)
+    before_then tag (sum_of (standings i).next at.0) (sum_of (standings i).next delay) (paths_hold n table standings j tag h i at.0 begins at.1) (sum_monotone_right (standings i).next at.0 delay at.2)
 
 by_connections : (n : Network) (standings : ℕ → Standing) (j : ℕ) (tag : LogicalTime) → passes_connections n standings j tag ≡ true → ByConnections n standings j tag
 by_connections n standings j tag h c within t = let at = contained_at n.connections c within in connections_hold n standings j tag h at.0 c at.1 t

@@ -1,7 +1,8 @@
 -- What is left where a next tag is FOREVER: nothing to do.
 use Rattle.std.proofs.Common.{◌≡◌, ℕ, ◌+◌, ◌≤◌, true, false, List, [], ◌∷◌, refl, ap, subst, ◌∙◌, arith, Some}
 use Rattle.std.specs.List.{list_any}
-use Rattle.tag.specs.LogicalTime.{LogicalTime, is_at_most, forever}
+use Rattle.tag.specs.LogicalTime.{LogicalTime, is_at_most, forever, place}
+use Rattle.tag.proofs.Order.{at_most_places, finite_is_logical, place_of_finite, place_of_forever, top}
 use Rattle.network.specs.Network.{Network}
 use Rattle.network.specs.Lawful.{IsLawful}
 use Rattle.network.specs.Tables.{Table, IsTable}
@@ -11,7 +12,7 @@ use Rattle.network.specs.Undone.{Held}
 use Rattle.protocol.specs.Grant.{Rule, IsSafeRule}
 use Rattle.protocol.specs.Machine.{Member, Move, after_moves}
 use Rattle.laws.specs.Runs.{is_message, IsQuiet}
-use Rattle.laws.proofs.Tags.{place, top, above, place_of_forever, at_most_true, finite_is_logical, finite_before_forever}
+use Rattle.laws.proofs.Tags.{above}
 use Rattle.laws.proofs.Transit.{least_above}
 use Rattle.laws.proofs.Upward.{next_ltc, IsUp, least_key, source_at_least}
 use Rattle.laws.proofs.Downward.{IsDown, AreCovered}
@@ -35,8 +36,8 @@ no_message_up n i low (Tag g ∷ rest) lawful h t = absurd h
 no_message_up n i low (Msg k g v ∷ rest) lawful h t =
     let is = source_at_least n i low rest h.0 h.3 h.1 in
     let key = is.2 in
-    let end = finite_before_forever n.stop lawful.stop in
-    let before = at_most_true h.0 n.stop is.0 (finite_is_logical n.stop lawful.stop) (source_in_time n i low rest h.0 h.3 h.1) in
+    let end = place_of_finite n.stop lawful.stop in
+    let before = at_most_places h.0 n.stop is.0 (finite_is_logical n.stop lawful.stop) (source_in_time n i low rest h.0 h.3 h.1) in
     absurd (omega arith)
 
 no_message_down : (n : Network) (j low : ℕ) (transit : List LogicalTime) (down : List Signal) → IsLawful n → IsDown n j low down → AreCovered transit down → top ≤ least_above 0 transit → list_any is_message down ≡ false
@@ -46,14 +47,14 @@ no_message_down n j low transit (Ltc g ∷ rest) lawful h c t = absurd h
 no_message_down n j low transit (Tag g ∷ rest) lawful h c t = no_message_down n j (place g + 1) transit rest lawful h.3 c t
 no_message_down n j low transit (Msg k g v ∷ rest) lawful h c t =
     let here = c.0 0 (omega arith) in
-    let end = finite_before_forever n.stop lawful.stop in
-    let before = at_most_true g n.stop h.1 (finite_is_logical n.stop lawful.stop) h.3 in
+    let end = place_of_finite n.stop lawful.stop in
+    let before = at_most_places g n.stop h.1 (finite_is_logical n.stop lawful.stop) h.3 in
     absurd (omega arith)
 
 nothing_undone : (n : Network) (low : ℕ) (u : List Held) → IsLawful n → IsUndone n.stop low u → top ≤ first_place u → u ≡ []
 nothing_undone n low [] lawful h t = refl
 nothing_undone n low (x ∷ rest) lawful h t =
-    let end = finite_before_forever n.stop lawful.stop in
+    let end = place_of_finite n.stop lawful.stop in
     let before = h.2 in
     absurd (omega arith)
 

@@ -5,7 +5,7 @@ use Rattle.std.specs.List.{list_any}
 use Rattle.std.proofs.lemmas.List.{append-nil}
 use Rattle.std.proofs.lemmas.List.Folds.{list_any_at}
 use Rattle.tag.specs.LogicalTime.{LogicalTime, place}
-use Rattle.network.specs.Connection.{Connection}
+use Rattle.network.specs.Connection.{Connection, IsWalk}
 use Rattle.network.specs.Network.{Network}
 use Rattle.network.specs.Undivided.{Row, whole, part}
 use Rattle.network.specs.Lawful.{IsLawful}
@@ -14,15 +14,16 @@ use Rattle.order.proofs.WholeTrace.{has_every_row}
 use Rattle.signal.specs.declared.signal.Signal.{Signal}
 use Rattle.signal.specs.declared.signal.Signal.TheVariants.{Net, Ltc, Tag, Msg}
 use Rattle.network.specs.Undone.{Held}
+use Rattle.network.proofs.Lawful.{contained_is}
 use Rattle.protocol.specs.Machine.{Member}
 use Rattle.laws.specs.Runs.{is_message, IsQuiet}
-use Rattle.laws.specs.Chains.{IsWalk, IsPending, undone, down, up}
+use Rattle.laws.specs.Chains.{IsPending, undone, down, up}
 use Rattle.laws.specs.Histories.{histories_of}
 use Rattle.order.specs.Settled.{BeginsWith}
 use Rattle.laws.specs.Rows.{HasEveryRow}
 use Rattle.laws.proofs.Tags as tags
 use Rattle.laws.proofs.Upward.{IsOver, IsUp}
-use Rattle.laws.proofs.Eligibility.{contained_at, contains_at, contained_is}
+use Rattle.laws.proofs.Eligibility.{contained_at, contains_at}
 use Rattle.laws.proofs.Safety.{IsMember}
 use Rattle.laws.proofs.Replay.{IsReplayed}
 use Rattle.laws.proofs.Beginnings.{begins_whole}
@@ -43,7 +44,7 @@ sender_is n i low [] at number s v c h q e = cc
 sender_is n i low (Net g ∷ rest) zero number s v c h q e = cc
 sender_is n i low (Net g ∷ rest) (suc at) number s v c h q e = sender_is n i low rest at number s v c h.3 q e
 sender_is n i low (Ltc g ∷ rest) zero number s v c h q e = cc
-sender_is n i low (Ltc g ∷ rest) (suc at) number s v c h q e = sender_is n i (tags.place g + 1) rest at number s v c h.3 q e
+sender_is n i low (Ltc g ∷ rest) (suc at) number s v c h q e = sender_is n i (place g + 1) rest at number s v c h.3 q e
 sender_is n i low (Tag g ∷ rest) at number s v c h q e = absurd h
 sender_is n i low (Msg d t w ∷ rest) zero number s v c h q e =
     let first : d ≡ number = cc in

@@ -1,42 +1,28 @@
 -- A table of which the two facts hold is at most every path's total; so where its entries are totals of paths, they are the least delays.
-use Rattle.std.proofs.Common.{◌≡◌, ℕ, true, List, [], ◌∷◌, subst, Option, None, Some}
-use Rattle.std.specs.Prelude.{All, Contains, IfSome, MatchOption}
-use Rattle.tag.specs.LogicalTime.{LogicalTime, is_at_most, sum_of}
-use Rattle.network.specs.Connection.{Connection, IsPath, then_along, total_of, IsLeastDelay, IsUnreachable}
+use Rattle.std.proofs.Common.{ℕ, List, [], ◌∷◌, subst, Option, None, Some}
+use Rattle.std.specs.Prelude.{IfSome, MatchOption}
+use Rattle.std.proofs.lemmas.List.Elements.{All-contains}
+use Rattle.tag.specs.LogicalTime.{LogicalTime, sum_of}
+use Rattle.tag.proofs.SumLaws.{sum_monotone_right}
+use Rattle.network.specs.Connection.{Connection, IsPath, total_of, IsLeastDelay, IsUnreachable}
 use Rattle.network.specs.Network.{Network}
 use Rattle.network.specs.Tables.{Table, IsLeastTable, IsTable, IsWithin, IsAttained}
-use Rattle.laws.proofs.Tags.{sum_twice, sum_right, at_most_transitive}
-use Rattle.laws.proofs.Backing.{all_at, at_most_itself}
-use Rattle.laws.proofs.Eligibility.{contained_at}
-use Rattle.laws.proofs.ShortPaths.{along_left}
-
--- hop by hop is never less
-pub sum_before_along : (g d : LogicalTime) (path : List Connection) → is_at_most (sum_of g (then_along d path)) (then_along (sum_of g d) path) ≡ true
-sum_before_along g d [] = at_most_itself (sum_of g d)
-sum_before_along g d (c ∷ rest) =
-    at_most_transitive (sum_of g (then_along (sum_of d c.delay) rest)) (then_along (sum_of g (sum_of d c.delay)) rest) (then_along (sum_of (sum_of g d) c.delay) rest)
-    (sum_before_along g (sum_of d c.delay) rest) (along_left (sum_of g (sum_of d c.delay)) (sum_of (sum_of g d) c.delay) rest (sum_twice g d c.delay))
-
-within_more : (o : Option LogicalTime) (a b : LogicalTime) → IsWithin o a → is_at_most a b ≡ true → IsWithin o b
-within_more None a b h l = h
-within_more (Some d) a b h l = at_most_transitive d a b h l
+use Rattle.network.proofs.Walks.{sum_before_along}
+use Rattle.network.proofs.Tables.{within_more}
 
 within_onward : (o here : Option LogicalTime) (delay total : LogicalTime) → IsWithin o total → IfSome o (λ rest. IsWithin here (sum_of delay rest)) → IsWithin here (sum_of delay total)
 within_onward None here delay total h k = absurd h
-within_onward (Some d) here delay total h k = within_more here (sum_of delay d) (sum_of delay total) k (sum_right delay d total h)
-
-contained_holds : {X : Type 0} (P : X → Type 0) (xs : List X) (x : X) → All P xs → Contains xs x → P x
-contained_holds P xs x a h = let at = contained_at xs x h in all_at P xs at.0 x a at.1
+within_onward (Some d) here delay total h k = within_more here (sum_of delay d) (sum_of delay total) k (sum_monotone_right delay d total h)
 
 pub within_path : (n : Network) (table : Table) (i j : ℕ) (path : List Connection) → IsTable n table → IsPath n.connections i path j → IsWithin (table i j) (total_of path)
 within_path n table i j [] t p = absurd p
 within_path n table i j (c ∷ []) t p =
-    let here = contained_holds (λ x. IsWithin (table x.source x.target) x.delay) n.connections c t.direct p.0 in
+    let here = All-contains (λ (x : Connection). IsWithin (table x.source x.target) x.delay) n.connections c t.direct p.0 in
     let P : ℕ → Type 0 = λ x. IsWithin (table x c.target) c.delay in
     let Q : ℕ → Type 0 = λ x. IsWithin (table i x) c.delay in
     subst Q p.2 (subst P p.1 here)
 within_path n table i j (c ∷ d ∷ rest) t p =
-    let on = contained_holds (λ x. IfSome (table x.target j) (λ y. IsWithin (table x.source j) (sum_of x.delay y))) n.connections c (t.onward j) p.0 in
+    let on = All-contains (λ (x : Connection). IfSome (table x.target j) (λ y. IsWithin (table x.source j) (sum_of x.delay y))) n.connections c (t.onward j) p.0 in
     let short = within_onward (table c.target j) (table c.source j) c.delay (total_of (d ∷ rest)) (within_path n table c.target j (d ∷ rest) t p.2) on in
     let P : ℕ → Type 0 = λ x. IsWithin (table x j) (total_of (c ∷ d ∷ rest)) in
     subst P p.1 (within_more (table c.source j) (sum_of c.delay (total_of (d ∷ rest))) (total_of (c ∷ d ∷ rest)) short (sum_before_along c.delay d.delay rest))

@@ -4,7 +4,8 @@ use Rattle.std.specs.Prelude.{filter, nat_eq, if◌then◌else◌, ◌&&◌}
 use Rattle.std.specs.List.{AllByRecursion}
 use Rattle.std.proofs.lemmas.Bool.{or_parts, cases_eq, false_from_ne_true}
 use Rattle.std.proofs.lemmas.Bool.Decides.{nat_tests}
-use Rattle.tag.specs.LogicalTime.{LogicalTime, IsFinite, is_before, is_at_most, is_same}
+use Rattle.tag.specs.LogicalTime.{LogicalTime, IsFinite, is_before, is_at_most, is_same, place}
+use Rattle.tag.proofs.Order.{at_most_from_places, before_from_places, finite_by_place, finite_is_logical, place_of_finite, same_is_equal, same_itself}
 use Rattle.network.specs.Connection.{Connection}
 use Rattle.network.specs.Event.{present_at}
 use Rattle.network.specs.Network.{Network, Effect}
@@ -26,7 +27,7 @@ use Rattle.network.specs.Undone.{Held, look, first_tag, drop_up_to}
 use Rattle.protocol.specs.Federate.{effect_of, scheduled_by, messages_from, turn_at}
 use Rattle.protocol.specs.Machine.{Member, with_member, stepped}
 use Rattle.laws.specs.Histories.{histories_of}
-use Rattle.laws.proofs.Tags.{place, above, to_before, to_at_most, same_true, same_itself, finite_is_logical, finite_before_forever, finite_by_place}
+use Rattle.laws.proofs.Tags.{above}
 use Rattle.laws.proofs.StillUndone.{IsUndone}
 use Rattle.laws.proofs.Kept.{first_is}
 use Rattle.laws.proofs.Backing.{at_update}
@@ -73,7 +74,7 @@ first_seen (x ∷ rest) g e =
 absent : (bound : ℕ) (t : LogicalTime) (h : List Turn) → bound ≤ place t → AllByRecursion (λ x. place x.tag < bound) h → has_turn_at t h ≡ false
 absent bound t [] l a = refl
 absent bound t (x ∷ xs) l a =
-    let other : is_same x.tag t ≡ false = false_from_ne_true (is_same x.tag t) (λ e. let same : place x.tag ≡ place t = ap place (same_true x.tag t e) in let less = a.0 in omega arith) in
+    let other : is_same x.tag t ≡ false = false_from_ne_true (is_same x.tag t) (λ e. let same : place x.tag ≡ place t = ap place (same_is_equal x.tag t e) in let less = a.0 in omega arith) in
     ap (λ (b : Bool). b || has_turn_at t xs) other ∙ absent bound t xs l a.1
 
 -- a turn of federate j
@@ -215,14 +216,14 @@ module _ (n : Network) (L : IsLawful n) (members : ℕ → Member) (j : ℕ) (g 
     tag_is : IsFinite g × IsTrue (is_at_most g n.stop) × (above (members j).federate.completed ≤ place g)
     tag_is =
         let stop = finite_is_logical n.stop L.stop in
-        let end = finite_before_forever n.stop L.stop in
+        let end = place_of_finite n.stop L.stop in
         let is = first_is n.stop (above (members j).federate.completed) (members j).federate.undone g kept.undone first in
         let high = is.2 in
-        (record { time = finite_by_place g is.0 (omega arith); microstep = is.0.microstep }, to_at_most g n.stop is.0 stop high, is.1)
+        (record { time = finite_by_place g is.0 (omega arith); microstep = is.0.microstep }, at_most_from_places g n.stop is.0 stop high, is.1)
 
     earlier : AllByRecursion (λ y. IsTrue (is_before y.tag g)) (trace j)
     earlier = each_more (IsTaken n (members j).federate.completed) (λ y. IsTrue (is_before y.tag g))
-        (λ y t. (let p = t.past in let low = tag_is.2 in to_before y.tag g (finite_is_logical y.tag t.finite) (finite_is_logical g tag_is.0) (omega arith))) (trace j) (turns_taken j)
+        (λ y t. (let p = t.past in let low = tag_is.2 in before_from_places y.tag g (finite_is_logical y.tag t.finite) (finite_is_logical g tag_is.0) (omega arith))) (trace j) (turns_taken j)
 
     -- who sees what: what the turn makes comes first
     sees_more : (a : ℕ) → a < n.reactors → (t : LogicalTime) (slot : ℕ) → sees n with_taken a t slot ≡ or_else (makes a t slot) (sees n trace a t slot)

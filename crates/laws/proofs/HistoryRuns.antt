@@ -2,9 +2,10 @@
 use Rattle.std.proofs.Common.{◌≡◌, ℕ, zero, suc, ◌<◌, Bool, true, false, cond, List, [], ◌∷◌, ◌++◌, length, refl, sym, ap, subst, ◌∙◌, Option, None, Some, ℤ}
 use Rattle.std.specs.Prelude.{slice_get, filter, map, nat_eq, if◌then◌else◌, not, ◌&&◌, ◌||◌, AllPairs}
 use Rattle.std.specs.List.{AllByRecursion}
-use Rattle.std.proofs.lemmas.Bool.{eq-eqb, false_from_ne_true}
+use Rattle.std.proofs.lemmas.Bool.{eq-eqb, false_from_ne_true, eqb-true}
 use Rattle.std.proofs.lemmas.List.{append-nil}
 use Rattle.tag.specs.LogicalTime.{LogicalTime, is_at_most, is_same, forever}
+use Rattle.tag.proofs.Order.{same_is_equal}
 use Rattle.network.specs.Connection.{Connection}
 use Rattle.network.specs.Event.{Event}
 use Rattle.network.specs.Network.{Network}
@@ -28,8 +29,6 @@ use Rattle.protocol.specs.Grant.{Rule, IsSafeRule}
 use Rattle.protocol.specs.Coordinator.{Post, Coordinated, with_standing, noted, route, coordinator_takes, grant_to, grants_from, with_grants}
 use Rattle.protocol.specs.Machine.{Member, Move, ToCoordinator, ToFederate, Announce, Advance, Lose, opening_member, with_member, standings_of, sent_to, coordinated, coordinator_takes_from, stepped, federate_takes_from, outcome_of, after_moves}
 use Rattle.laws.specs.Histories.{histories_of}
-use Rattle.laws.proofs.Tags.{same_true}
-use Rattle.laws.proofs.Turns.{same_number}
 use Rattle.laws.proofs.Safety.{IsSound, tag_if, sent-append, grants_sent, moves_sound}
 use Rattle.laws.proofs.ClearRuns.{AllClear, moves_clear}
 use Rattle.laws.proofs.Replay.{AllReplayed, moves_replay}
@@ -200,8 +199,8 @@ module _ (n : Network) (members : ℕ → Member) (i : ℕ) (rest : List Signal)
       by_test : (b : Bool) → (leads_to (Some c) a slot && is_same s t) ≡ b → SendsAt (post_to c.target k s v) a t slot
       by_test true q =
           let leads = both_left (leads_to (Some c) a slot) (is_same s t) q in
-          let there : c.target ≡ a = same_number c.target a (both_left (nat_eq c.target a) (nat_eq c.slot slot) leads) in
-          let place : c.slot ≡ slot = same_number c.slot slot (both_right (nat_eq c.target a) (nat_eq c.slot slot) leads) in
+          let there : c.target ≡ a = eqb-true c.target a (both_left (nat_eq c.target a) (nat_eq c.slot slot) leads) in
+          let place : c.slot ≡ slot = eqb-true c.slot slot (both_right (nat_eq c.target a) (nat_eq c.slot slot) leads) in
           let target : nat_eq a c.target ≡ true = eq-eqb a c.target (sym there) in
           let found : maker n c.target c.slot ≡ c.source = ap (λ (o : Option ℕ). source_or o c.target) facts.found in
           let sender : maker n a slot ≡ i = (λ y. maker n (sym there y) (sym place y)) ∙ (found ∙ from) in
@@ -227,7 +226,7 @@ module _ (n : Network) (members : ℕ → Member) (i : ℕ) (rest : List Signal)
   route_sends L standings k s v (Some c) e at = by_tests (nat_eq c.source i) (is_at_most s n.stop) (is_past (standings c.target).granted s) refl
     where
       by_tests : (b d f : Bool) → nat_eq c.source i ≡ b → TakeSends (if not b then Refused NotYours else if not d then Refused AfterStop else if not f then Refused BelowGrant else Done (record { after = with_standing standings c.target (after_message (standings c.target) s); sent = record { federate = c.target; signal = Msg k s v } ∷ [] }))
-      by_tests true true true h = message_sends k s v c e at (at_index (PortFacts n) n.connections k c (port_facts n L) at) (same_number c.source i h)
+      by_tests true true true h = message_sends k s v c e at (at_index (PortFacts n) n.connections k c (port_facts n L) at) (eqb-true c.source i h)
       by_tests true true false h = tt
       by_tests true false f h = tt
       by_tests false d f h = tt
@@ -308,7 +307,7 @@ outside_first a t slot e rest apart true true false p q r h =
 outside_first a t slot e rest apart true true true p q r h =
     let here : (is_same e.tag t && nat_eq e.slot slot) ≡ true = (λ y. q y && r y) in
     let none : filter (is_for a t slot) rest ≡ [] = none_kept (is_for a t slot) rest (each_more (FallApart e) (λ x. is_for a t slot x ≡ false)
-    (λ x w. false_from_ne_true (is_for a t slot x) (λ k. let parts = is_for_parts a t slot x k in w (same_true e.tag t q ∙ sym (same_true x.tag t parts.1.0)) (same_number e.reactor a p ∙ sym parts.0) (same_number e.slot slot r ∙ sym parts.1.1))) rest apart) in
+    (λ x w. false_from_ne_true (is_for a t slot x) (λ k. let parts = is_for_parts a t slot x k in w (same_is_equal e.tag t q ∙ sym (same_is_equal x.tag t parts.1.0)) (eqb-true e.reactor a p ∙ sym parts.0) (eqb-true e.slot slot r ∙ sym parts.1.1))) rest apart) in
     (λ y. or_else (h y) (if here y then Some e.value else None))
     ∙ ((λ y. or_else (latest_value (none y)) (Some e.value)) ∙ sym (ap (λ (l : List Event). latest_value (e ∷ l)) none))
 

@@ -2,7 +2,8 @@
 use Rattle.std.proofs.Common.{◌≡◌, ℕ, ◌+◌, ◌≤◌, IsTrue, inl, inr, List, [], ◌∷◌, ◌++◌, refl, ap, subst, ◌∙◌, arith, min, max, Some, ℤ}
 use Rattle.std.specs.Prelude.{slice_get, filter, map, unwrap_or, nat_eq, ◌||◌}
 use Rattle.std.proofs.lemmas.Bool.Decides.{nat_tests}
-use Rattle.tag.specs.LogicalTime.{LogicalTime, IsLogicalTime, is_before, is_at_most, is_same, forever}
+use Rattle.tag.specs.LogicalTime.{LogicalTime, IsLogicalTime, is_before, is_at_most, is_same, forever, place}
+use Rattle.tag.proofs.Order.{at_most_from_places, at_most_places, finite_is_logical, forever_is_logical, origin_is_logical, place_bound, place_of_finite, place_of_forever, place_of_origin, same_itself, top}
 use Rattle.network.specs.Network.{Network}
 use Rattle.network.specs.Lawful.{IsLawful}
 use Rattle.signal.specs.declared.signal.Signal.{Signal}
@@ -10,7 +11,7 @@ use Rattle.signal.specs.declared.signal.Signal.TheVariants.{Net, Ltc, Tag, Msg}
 use Rattle.network.specs.Undone.{Held, put, put_all, look, first_tag, drop_up_to}
 use Rattle.protocol.specs.Federate.{Federate, next_event, turn_at, effect_of, scheduled_by, messages_from, is_reached, opening_federate, held_of}
 use Rattle.protocol.specs.Standing.{Standing, opening_standing, with_tag, after_message, after_net, after_ltc, after_grant}
-use Rattle.laws.proofs.Tags.{place, top, above, IsOptional, at_most_true, to_at_most, reached_true, same_itself, place_of_forever, place_of_origin, place_within, finite_is_logical, finite_before_forever, forever_is_logical, origin_is_logical}
+use Rattle.laws.proofs.Tags.{IsOptional, above, reached_true}
 use Rattle.laws.proofs.Transit.{least_above, AreTags, above_rises, above_one_more, tags_one_more, above_later, tags_later, lesser_is_tag, place_of_lesser, least_is_tag, place_of_least, covers_one_more, covers_it, covers_later}
 use Rattle.laws.proofs.Upward.{last_ltc, IsUp, least_key, AreNets, last_is_later, last-append, up-append, key-append, nets-append, nets_in_transit, nets_one_more}
 use Rattle.laws.proofs.Downward.{EndsAt, IsDown, last_tag, last_tag_is_later, AreCovered, down-append, last_tag-append, covered-append, covered_in_transit}
@@ -202,7 +203,7 @@ route_keeps n j s f up down c g v ends p l stop k =
       undone = k.undone;
       told = told_after_route s (after_message s g) f.announced g up refl e zero_more k.told;
       passed = (let q = passes_completed n j s f up down k in omega arith);
-      found = λ x m. (let q = above_one_more x g s.transit in let r = message-append x down (Msg c g v ∷ []) in let h = k.found x m in let w = place_within g p in grind (arith, nat_tests));
+      found = λ x m. (let q = above_one_more x g s.transit in let r = message-append x down (Msg c g v ∷ []) in let h = k.found x m in let w = place_bound g p in grind (arith, nat_tests));
     }
 
 -- after a TAG to it went out
@@ -295,7 +296,7 @@ taken_keeps n j s f up rest c g v slot stop k =
       completed_granted = k.completed_granted;
       undone =
           put_is_undone n.stop (above f.completed) (record { tag = g; slot = slot; value = v }) f.undone k.downward.1 (omega arith)
-          (at_most_true g n.stop k.downward.1 stop k.downward.3) k.undone;
+          (at_most_places g n.stop k.downward.1 stop k.downward.3) k.undone;
       told = k.told;
       passed = k.passed;
       found = λ x m. (let a = undone_after_put x (record { tag = g; slot = slot; value = v }) f.undone in let h = k.found x m in grind (arith, nat_tests));
@@ -311,11 +312,11 @@ next_is_tag stop low (x ∷ rest) h = h.0
 
 next_in_time : (stop : LogicalTime) (low : ℕ) (u : List Held) → IsLogicalTime stop → IsUndone stop low u → IsTrue (is_at_most (unwrap_or (first_tag u) forever) stop || is_same (unwrap_or (first_tag u) forever) forever)
 next_in_time stop low [] p h = either_of (is_at_most forever stop) (is_same forever forever) (inr (same_itself forever))
-next_in_time stop low (x ∷ rest) p h = either_of (is_at_most x.tag stop) (is_same x.tag forever) (inl (to_at_most x.tag stop h.0 p h.2))
+next_in_time stop low (x ∷ rest) p h = either_of (is_at_most x.tag stop) (is_same x.tag forever) (inl (at_most_from_places x.tag stop h.0 p h.2))
 
-first_within : (stop : LogicalTime) (low : ℕ) (u : List Held) → IsUndone stop low u → first_place u ≤ top
+pub first_within : (stop : LogicalTime) (low : ℕ) (u : List Held) → IsUndone stop low u → first_place u ≤ top
 first_within stop low [] h = omega arith
-first_within stop low (x ∷ rest) h = place_within x.tag h.0
+first_within stop low (x ∷ rest) h = place_bound x.tag h.0
 
 -- after it announced
 pub announce_keeps : (n : Network) (j : ℕ) (s : Standing) (f : Federate) (up down : List Signal) → IsLogicalTime n.stop → IsKept n j s f up down → IsKept n j s (record f { announced = Some (next_event f) }) (up ++ Net (next_event f) ∷ []) down
@@ -366,7 +367,7 @@ first_is stop low (x ∷ rest) g h e =
 pub turn_keeps : (n : Network) (j : ℕ) (s : Standing) (f : Federate) (up down : List Signal) (g : LogicalTime) → IsLawful n → first_tag f.undone ≡ Some g → IsTrue (is_reached f.granted g) → IsKept n j s f up down → IsKept n j s (turn_at n j f g).after (up ++ (turn_at n j f g).sent) down
 turn_keeps n j s f up down g lawful first reached k =
     let stop = finite_is_logical n.stop lawful.stop in
-    let end = finite_before_forever n.stop lawful.stop in
+    let end = place_of_finite n.stop lawful.stop in
     let is = first_is n.stop (above f.completed) f.undone g k.undone first in
     let low = is.1 in
     let high = is.2 in
@@ -397,7 +398,7 @@ turn_keeps n j s f up down g lawful first reached k =
       chain = was ∙ is_last;
       upward =
           up-append n j (above s.completed) up (turn_at n j f g).sent k.upward
-          (turn_is_up n j (last_ltc (above s.completed) up) g (messages_from n j g (effect_of n j f g).outputs 0 n.connections) is.0 (omega arith) (to_at_most g n.stop is.0 stop high) messages);
+          (turn_is_up n j (last_ltc (above s.completed) up) g (messages_from n j g (effect_of n j f g).outputs 0 n.connections) is.0 (omega arith) (at_most_from_places g n.stop is.0 stop high) messages);
       nets =
           nets-append (above s.completed) (first_place f.undone) (first_place (turn_at n j f g).after.undone) s.transit up (turn_at n j f g).sent k.nets (omega arith) (omega arith)
           (nets_of_turn n j (last_ltc (above s.completed) up) (first_place (turn_at n j f g).after.undone) s.transit g (messages_from n j g (effect_of n j f g).outputs 0 n.connections) messages);

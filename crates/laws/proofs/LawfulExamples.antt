@@ -3,9 +3,10 @@ use Rattle.std.proofs.Common.{◌≡◌, ◌≢◌, ℕ, zero, suc, ◌<◌, Lis
 use Rattle.std.specs.Prelude.{pos, All, AllPairs, Contains, IfSome}
 use Rattle.tag.specs.LogicalTime.{LogicalTime, origin, sum_of}
 use Rattle.network.specs.Connection.{Connection}
-use Rattle.network.specs.Event.{Event}
-use Rattle.network.specs.Examples.{at, outside}
-use Rattle.network.specs.Lawful.{IsLawful, IsConnected, EndApart, IsExternal, FallApart, IsOwn, no_delay, some_time}
+use Rattle.network.specs.Event.{Event, outside}
+use Rattle.network.specs.Examples.{at}
+use Rattle.network.specs.Lawful.{IsLawful, IsConnected, EndApart, IsExternal, FallApart, IsOwn}
+use Rattle.tag.specs.Total.{no_delay, some_delay}
 use Rattle.network.specs.Tables.{IsLeastTable, IsTable, IsWithin, IsAttained}
 use Rattle.laws.specs.Ring.{ring, ring_table}
 use Rattle.laws.specs.WeakerRules.{two_microsteps, one_tag, both_ends, line_table}
@@ -47,7 +48,7 @@ ring_is_lawful = record {
   some_reactor = omega arith;
   few_reactors = omega arith;
   stop = record { time = omega arith; microstep = omega arith };
-  connected = all_cons (IsConnected ring) ring_0 (ring_1 ∷ ring_2 ∷ []) (record { source = omega arith; port = omega arith; target = omega arith; slot = omega arith; delay = no_delay }) (all_cons (IsConnected ring) ring_1 (ring_2 ∷ []) (record { source = omega arith; port = omega arith; target = omega arith; slot = omega arith; delay = no_delay }) (all_cons (IsConnected ring) ring_2 ([]) (record { source = omega arith; port = omega arith; target = omega arith; slot = omega arith; delay = (some_time (omega arith) (omega arith)) }) (all_nil (IsConnected ring))));
+  connected = all_cons (IsConnected ring) ring_0 (ring_1 ∷ ring_2 ∷ []) (record { source = omega arith; port = omega arith; target = omega arith; slot = omega arith; delay = no_delay }) (all_cons (IsConnected ring) ring_1 (ring_2 ∷ []) (record { source = omega arith; port = omega arith; target = omega arith; slot = omega arith; delay = no_delay }) (all_cons (IsConnected ring) ring_2 ([]) (record { source = omega arith; port = omega arith; target = omega arith; slot = omega arith; delay = (some_delay (5, omega arith, refl)) }) (all_nil (IsConnected ring))));
   one_source = pairs_cons EndApart ring_0 (ring_1 ∷ ring_2 ∷ []) (all_cons (EndApart ring_0) ring_1 (ring_2 ∷ []) (λ e f. absurd (omega arith)) (all_cons (EndApart ring_0) ring_2 ([]) (λ e f. absurd (omega arith)) (all_nil (EndApart ring_0)))) (pairs_cons EndApart ring_1 (ring_2 ∷ []) (all_cons (EndApart ring_1) ring_2 ([]) (λ e f. absurd (omega arith)) (all_nil (EndApart ring_1))) (pairs_cons EndApart ring_2 ([]) (all_nil (EndApart ring_2)) (pairs_nil EndApart)));
   ports_apart = all_cons (λ c. All (λ e. e.reactor ≡ c.target → e.slot ≢ c.slot) ring.external) ring_0 (ring_1 ∷ ring_2 ∷ []) (all_cons (λ e. e.reactor ≡ ring_0.target → e.slot ≢ ring_0.slot) ring_event_0 (ring_event_1 ∷ []) (λ a b. absurd (omega arith)) (all_cons (λ e. e.reactor ≡ ring_0.target → e.slot ≢ ring_0.slot) ring_event_1 ([]) (λ a b. absurd (omega arith)) (all_nil (λ e. e.reactor ≡ ring_0.target → e.slot ≢ ring_0.slot)))) (all_cons (λ c. All (λ e. e.reactor ≡ c.target → e.slot ≢ c.slot) ring.external) ring_1 (ring_2 ∷ []) (all_cons (λ e. e.reactor ≡ ring_1.target → e.slot ≢ ring_1.slot) ring_event_0 (ring_event_1 ∷ []) (λ a b. absurd (omega arith)) (all_cons (λ e. e.reactor ≡ ring_1.target → e.slot ≢ ring_1.slot) ring_event_1 ([]) (λ a b. absurd (omega arith)) (all_nil (λ e. e.reactor ≡ ring_1.target → e.slot ≢ ring_1.slot)))) (all_cons (λ c. All (λ e. e.reactor ≡ c.target → e.slot ≢ c.slot) ring.external) ring_2 ([]) (all_cons (λ e. e.reactor ≡ ring_2.target → e.slot ≢ ring_2.slot) ring_event_0 (ring_event_1 ∷ []) (λ a b. absurd (omega arith)) (all_cons (λ e. e.reactor ≡ ring_2.target → e.slot ≢ ring_2.slot) ring_event_1 ([]) (λ a b. absurd (omega arith)) (all_nil (λ e. e.reactor ≡ ring_2.target → e.slot ≢ ring_2.slot)))) (all_nil (λ c. All (λ e. e.reactor ≡ c.target → e.slot ≢ c.slot) ring.external))));
   external = all_cons (IsExternal ring) ring_event_0 (ring_event_1 ∷ []) (record { reactor = omega arith; slot = omega arith; tag = record { time = omega arith; microstep = omega arith }; in_time = refl }) (all_cons (IsExternal ring) ring_event_1 ([]) (record { reactor = omega arith; slot = omega arith; tag = record { time = omega arith; microstep = omega arith }; in_time = refl }) (all_nil (IsExternal ring)));
@@ -75,7 +76,7 @@ two_microsteps_is_lawful = record {
   some_reactor = omega arith;
   few_reactors = omega arith;
   stop = record { time = omega arith; microstep = omega arith };
-  connected = all_cons (IsConnected two_microsteps) two_microsteps_0 (two_microsteps_1 ∷ []) (record { source = omega arith; port = omega arith; target = omega arith; slot = omega arith; delay = (some_time (omega arith) (omega arith)) }) (all_cons (IsConnected two_microsteps) two_microsteps_1 ([]) (record { source = omega arith; port = omega arith; target = omega arith; slot = omega arith; delay = no_delay }) (all_nil (IsConnected two_microsteps)));
+  connected = all_cons (IsConnected two_microsteps) two_microsteps_0 (two_microsteps_1 ∷ []) (record { source = omega arith; port = omega arith; target = omega arith; slot = omega arith; delay = (some_delay (10, omega arith, refl)) }) (all_cons (IsConnected two_microsteps) two_microsteps_1 ([]) (record { source = omega arith; port = omega arith; target = omega arith; slot = omega arith; delay = no_delay }) (all_nil (IsConnected two_microsteps)));
   one_source = pairs_cons EndApart two_microsteps_0 (two_microsteps_1 ∷ []) (all_cons (EndApart two_microsteps_0) two_microsteps_1 ([]) (λ e f. absurd (omega arith)) (all_nil (EndApart two_microsteps_0))) (pairs_cons EndApart two_microsteps_1 ([]) (all_nil (EndApart two_microsteps_1)) (pairs_nil EndApart));
   ports_apart = all_cons (λ c. All (λ e. e.reactor ≡ c.target → e.slot ≢ c.slot) two_microsteps.external) two_microsteps_0 (two_microsteps_1 ∷ []) (all_cons (λ e. e.reactor ≡ two_microsteps_0.target → e.slot ≢ two_microsteps_0.slot) two_microsteps_event_0 (two_microsteps_event_1 ∷ []) (λ a b. absurd (omega arith)) (all_cons (λ e. e.reactor ≡ two_microsteps_0.target → e.slot ≢ two_microsteps_0.slot) two_microsteps_event_1 ([]) (λ a b. absurd (omega arith)) (all_nil (λ e. e.reactor ≡ two_microsteps_0.target → e.slot ≢ two_microsteps_0.slot)))) (all_cons (λ c. All (λ e. e.reactor ≡ c.target → e.slot ≢ c.slot) two_microsteps.external) two_microsteps_1 ([]) (all_cons (λ e. e.reactor ≡ two_microsteps_1.target → e.slot ≢ two_microsteps_1.slot) two_microsteps_event_0 (two_microsteps_event_1 ∷ []) (λ a b. absurd (omega arith)) (all_cons (λ e. e.reactor ≡ two_microsteps_1.target → e.slot ≢ two_microsteps_1.slot) two_microsteps_event_1 ([]) (λ a b. absurd (omega arith)) (all_nil (λ e. e.reactor ≡ two_microsteps_1.target → e.slot ≢ two_microsteps_1.slot)))) (all_nil (λ c. All (λ e. e.reactor ≡ c.target → e.slot ≢ c.slot) two_microsteps.external)));
   external = all_cons (IsExternal two_microsteps) two_microsteps_event_0 (two_microsteps_event_1 ∷ []) (record { reactor = omega arith; slot = omega arith; tag = record { time = omega arith; microstep = omega arith }; in_time = refl }) (all_cons (IsExternal two_microsteps) two_microsteps_event_1 ([]) (record { reactor = omega arith; slot = omega arith; tag = record { time = omega arith; microstep = omega arith }; in_time = refl }) (all_nil (IsExternal two_microsteps)));

@@ -26,8 +26,6 @@ pub mod SafeGrants
 pub mod Eligibility
 -- What a run in which every next tag is FOREVER still holds.
 pub mod Ending
--- Paths without cycles: for each path there is one of few connections whose total is no more.
-pub mod ShortPaths
 -- Least delays over all paths give the two facts.
 pub mod LeastTables
 -- Runs that are computed: all members are looked at after each move.

@@ -2,9 +2,10 @@
 use Rattle.std.proofs.Common.{◌≡◌, ◌≢◌, ℕ, zero, suc, ◌+◌, ◌⊎◌, inl, inr, Bool, true, false, cond, List, [], ◌∷◌, refl, sym, ap, ◌∙◌, arith, Option, None, Some, ℤ}
 use Rattle.std.specs.Prelude.{slice_get, filter, map, nat_eq, if◌then◌else◌, ◌&&◌, AllPairs}
 use Rattle.std.specs.List.{AllByRecursion}
-use Rattle.std.proofs.lemmas.Bool.{false_from_ne_true, eq-eqb}
+use Rattle.std.proofs.lemmas.Bool.{false_from_ne_true, eq-eqb, eqb-true}
 use Rattle.std.proofs.lemmas.Bool.Decides.{nat_tests}
 use Rattle.tag.specs.LogicalTime.{LogicalTime, is_at_most, is_same, sum_of}
+use Rattle.tag.proofs.Order.{same_is_equal}
 use Rattle.network.specs.Connection.{Connection}
 use Rattle.network.specs.Network.{Network, Scheduling, Effect}
 use Rattle.network.specs.Lawful.{IsLawful, IsOwn, EndApart}
@@ -15,14 +16,12 @@ use Rattle.signal.specs.declared.signal.Signal.{Signal}
 use Rattle.signal.specs.declared.signal.Signal.TheVariants.{Net, Ltc, Tag, Msg}
 use Rattle.network.specs.Undone.{Held}
 use Rattle.protocol.specs.Federate.{scheduled_at, scheduled_by, message_over, sent_over, messages_from}
-use Rattle.laws.proofs.Tags.{same_true}
-use Rattle.laws.proofs.Turns.{same_number}
 use Rattle.laws.proofs.Tests.{both_left, both_right}
 use Rattle.laws.proofs.Waiting.{leads_to, brought_over, last_message, found_in, last_held, last_message-append, or_nothing, brought_none}
 
 -- a tag up to stop isn't one after stop
 not_after : (n : Network) (g t : LogicalTime) → is_at_most t n.stop ≡ true → is_at_most g n.stop ≡ false → is_same g t ≡ false
-not_after n g t p q = false_from_ne_true (is_same g t) (λ k. let same : is_at_most g n.stop ≡ is_at_most t n.stop = ap (λ (x : LogicalTime). is_at_most x n.stop) (same_true g t k) in cc)
+not_after n g t p q = false_from_ne_true (is_same g t) (λ k. let same : is_at_most g n.stop ≡ is_at_most t n.stop = ap (λ (x : LogicalTime). is_at_most x n.stop) (same_is_equal g t k) in cc)
 
 none_of : (b : Bool) (v : ℤ) → b ≡ false → (if b then Some v else None) ≡ None
 none_of true v e = cc
@@ -71,7 +70,7 @@ abbrev pub NoPort : List Connection → ℕ → ℕ → Type 0
 NoPort cs a slot = AllByRecursion (λ c. c.target ≡ a → c.slot ≢ slot) cs
 
 not_led : (c : Connection) (a slot : ℕ) → (c.target ≡ a → c.slot ≢ slot) → leads_to (Some c) a slot ≡ true → ⊥
-not_led c a slot h k = h (same_number c.target a (both_left (nat_eq c.target a) (nat_eq c.slot slot) k)) (same_number c.slot slot (both_right (nat_eq c.target a) (nat_eq c.slot slot) k))
+not_led c a slot h k = h (eqb-true c.target a (both_left (nat_eq c.target a) (nat_eq c.slot slot) k)) (eqb-true c.slot slot (both_right (nat_eq c.target a) (nat_eq c.slot slot) k))
 
 messages_elsewhere : (n : Network) (j : ℕ) (g : LogicalTime) (outputs : ℕ → Option ℤ) (number : ℕ) (cs : List Connection) (a : ℕ) (t : LogicalTime) (slot : ℕ) → Stand n number cs → NoPort cs a slot → last_message n a t slot (messages_from n j g outputs number cs) ≡ None
 messages_elsewhere n j g outputs number [] a t slot here w = refl
@@ -149,7 +148,7 @@ turn_holds n g effect t slot below = all_scheduled n g effect.schedulings t slot
 unscheduled : (ss : List Scheduling) (g : LogicalTime) (slot : ℕ) (t : LogicalTime) → AllByRecursion (λ s. s.slot ≢ slot) ss → last_in_list ss g slot t ≡ None
 unscheduled [] g slot t w = refl
 unscheduled (s ∷ rest) g slot t w =
-    let other : (is_same (sum_of g s.delay) t && nat_eq s.slot slot) ≡ false = false_from_ne_true (is_same (sum_of g s.delay) t && nat_eq s.slot slot) (λ k. w.0 (same_number s.slot slot (both_right (is_same (sum_of g s.delay) t) (nat_eq s.slot slot) k))) in
+    let other : (is_same (sum_of g s.delay) t && nat_eq s.slot slot) ≡ false = false_from_ne_true (is_same (sum_of g s.delay) t && nat_eq s.slot slot) (λ k. w.0 (eqb-true s.slot slot (both_right (is_same (sum_of g s.delay) t) (nat_eq s.slot slot) k))) in
     let first = none_of (is_same (sum_of g s.delay) t && nat_eq s.slot slot) s.value other in
     let others = unscheduled rest g slot t w.1 in
     λ y. or_else (others y) (first y)
@@ -174,7 +173,7 @@ find_port n [] a slot w = inr tt
 find_port n (c ∷ rest) a slot w = by_test (leads_to (Some c) a slot) refl (find_port n rest a slot w.1)
   where
     by_test : (b : Bool) → leads_to (Some c) a slot ≡ b → IsPort n a slot ⊎ NoPort rest a slot → IsPort n a slot ⊎ NoPort (c ∷ rest) a slot
-    by_test true e more = inl (c, w.0, same_number c.target a (both_left (nat_eq c.target a) (nat_eq c.slot slot) e), same_number c.slot slot (both_right (nat_eq c.target a) (nat_eq c.slot slot) e))
+    by_test true e more = inl (c, w.0, eqb-true c.target a (both_left (nat_eq c.target a) (nat_eq c.slot slot) e), eqb-true c.slot slot (both_right (nat_eq c.target a) (nat_eq c.slot slot) e))
     by_test false e more = elim more [
       | inl found ↦ inl found
       | inr none ↦ inr ((λ p q. (let there : leads_to (Some c) a slot ≡ true = led c a slot p q in cc)), none)

@@ -1,24 +1,26 @@
 -- What is pending, one by one: it is in range, and clear of what is completed.
 use Rattle.std.proofs.Common.{◌≡◌, ℕ, zero, suc, ◌+◌, IsTrue, List, [], ◌∷◌, refl, sym, subst, Option, None, Some, ℤ}
 use Rattle.std.specs.Prelude.{slice_get}
-use Rattle.tag.specs.LogicalTime.{LogicalTime, IsLogicalTime}
-use Rattle.network.specs.Connection.{Connection, then_along}
+use Rattle.tag.specs.LogicalTime.{LogicalTime, IsLogicalTime, place}
+use Rattle.tag.proofs.SumLaws.{sum_is_logical}
+use Rattle.tag.proofs.Paths.{plain_is_logical}
+use Rattle.network.specs.Connection.{Connection, then_along, IsWalk}
 use Rattle.network.specs.Network.{Network}
 use Rattle.network.specs.Lawful.{IsLawful}
 use Rattle.network.specs.Tables.{Table, IsTable}
 use Rattle.signal.specs.declared.signal.Signal.{Signal}
 use Rattle.signal.specs.declared.signal.Signal.TheVariants.{Net, Ltc, Tag, Msg}
 use Rattle.network.specs.Undone.{Held}
+use Rattle.network.proofs.Lawful.{contained_is}
 use Rattle.protocol.specs.Federate.{is_past}
 use Rattle.protocol.specs.Grant.{Rule, IsSafeRule}
 use Rattle.protocol.specs.Machine.{Member, Move, after_moves}
-use Rattle.laws.specs.Chains.{IsWalk, IsPending, undone, down, up}
-use Rattle.laws.proofs.Tags.{place, above, to_past, sum_is_logical}
+use Rattle.laws.specs.Chains.{IsPending, undone, down, up}
+use Rattle.laws.proofs.Tags.{above, to_past}
 use Rattle.laws.proofs.Upward.{IsOver, IsUp, source_at_least}
 use Rattle.laws.proofs.Downward.{IsDown}
 use Rattle.laws.proofs.StillUndone.{IsUndone}
-use Rattle.laws.proofs.Turns.{plain_is_logical}
-use Rattle.laws.proofs.Eligibility.{contained_at, contains_at, contained_is}
+use Rattle.laws.proofs.Eligibility.{contained_at, contains_at}
 use Rattle.laws.proofs.Safety.{IsSound, moves_sound}
 use Rattle.laws.proofs.Chains.{IsClear, along_is_logical}
 use Rattle.laws.proofs.Clear.{AreClear, IsClearOver, AreUpClear, AreDownClear, completed_of}

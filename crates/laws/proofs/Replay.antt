@@ -5,7 +5,9 @@ use Rattle.std.specs.List.{AllByRecursion}
 use Rattle.std.proofs.lemmas.Bool.Decides.{nat_tests}
 use Rattle.std.proofs.lemmas.List.{map-append, reverse-append}
 use Rattle.std.proofs.lemmas.List.Kept.{AllPairs-cons}
-use Rattle.tag.specs.LogicalTime.{LogicalTime, IsFinite, is_before, is_at_most, is_same}
+use Rattle.std.proofs.lemmas.Bool.{eqb-true}
+use Rattle.tag.specs.LogicalTime.{LogicalTime, IsFinite, is_before, is_at_most, is_same, place}
+use Rattle.tag.proofs.Order.{at_most_from_places, before_from_places, finite_by_place, finite_is_logical, place_of_finite}
 use Rattle.network.specs.Connection.{Connection}
 use Rattle.network.specs.Event.{Event, listed}
 use Rattle.network.specs.Network.{Network, Scheduling}
@@ -22,16 +24,17 @@ use Rattle.protocol.specs.declared.refusal.Refusal.{Refusal}
 use Rattle.protocol.specs.declared.refusal.Refusal.TheVariants.{Late, OldGrant, WrongSignal}
 use Rattle.protocol.specs.Outcome.{Outcome, Refused, Nothing, Done, made_or, with_made}
 use Rattle.network.specs.Undone.{Held, put, put_all, look, first_tag, drop_up_to, is_held_before, is_for_same}
+use Rattle.network.proofs.Lawful.{contained_is}
 use Rattle.protocol.specs.Federate.{Federate, Stepped, held_of, opening_federate, is_past, is_reached, is_told, next_event, accept_message, federate_accepts, federate_announces, advance_to, federate_advances, effect_of, scheduled_at, scheduled_by, row_of_turn, turn_at}
 use Rattle.protocol.specs.Coordinator.{Coordinated, coordinator_accepts}
 use Rattle.protocol.specs.Grant.{Rule, IsSafeRule}
 use Rattle.protocol.specs.Machine.{Member, Move, ToCoordinator, ToFederate, Announce, Advance, Lose, with_member, standings_of, coordinated, coordinator_takes_from, stepped, federate_takes_from, outcome_of, after_moves}
-use Rattle.laws.proofs.Tags.{place, above, to_before, to_at_most, finite_is_logical, finite_before_forever, finite_by_place}
+use Rattle.laws.proofs.Tags.{above}
 use Rattle.laws.proofs.StillUndone.{IsUndone}
-use Rattle.laws.proofs.Turns.{all_first, all_rest, same_number}
+use Rattle.laws.proofs.Turns.{all_first, all_rest}
 use Rattle.laws.proofs.Kept.{first_is}
 use Rattle.laws.proofs.Backing.{at_update}
-use Rattle.laws.proofs.Eligibility.{contains_at, contained_is}
+use Rattle.laws.proofs.Eligibility.{contains_at}
 use Rattle.laws.proofs.Tests.{both_left}
 use Rattle.laws.proofs.Safety.{IsSound, moves_sound}
 
@@ -77,7 +80,7 @@ external_at_slots n j [] a = tt
 external_at_slots n j (e ∷ rest) a =
     let here : IsExternal n e = all_first (IsExternal n) e rest a in
     let P : ℕ → Type 0 = λ x. e.slot < n.slots x in
-    external_if (n.slots j) j e rest (nat_eq e.reactor j) (λ q. subst P (same_number e.reactor j q) here.slot) (external_at_slots n j rest (all_rest (IsExternal n) e rest a))
+    external_if (n.slots j) j e rest (nat_eq e.reactor j) (λ q. subst P (eqb-true e.reactor j q) here.slot) (external_at_slots n j rest (all_rest (IsExternal n) e rest a))
 
 not_here : (a : Bool) (x slot : ℕ) → x < slot → (a && nat_eq x slot) ≡ false
 not_here true x slot l = grind (arith, nat_tests)
@@ -142,7 +145,7 @@ turn_replays n j f g lawful undone first r =
     let is = first_is n.stop (above f.completed) f.undone g undone first in
     let low = is.1 in
     let high = is.2 in
-    let end = finite_before_forever n.stop lawful.stop in
+    let end = place_of_finite n.stop lawful.stop in
     let row : row_of_turn n j f g ≡ row_after n j (history_of f.rows) (turn_taken f g) = ap (λ (s : List ℤ). record { reactor = j; tag = g; inputs = listed (n.slots j) (look f.undone g); outputs = listed (n.ports j) (n.effect j s (look f.undone g)).outputs }) r.states in
     let Rows : List Turn → Type 0 = λ h. (turn_at n j f g).after.rows ≡ rows_of n j h in
     let States : List Turn → Type 0 = λ h. (turn_at n j f g).after.states ≡ states_after n j h in
@@ -159,12 +162,12 @@ turn_replays n j f g lawful undone first r =
       newest = subst Newest (sym grows) refl;
       taken =
           subst Taken (sym grows) (
-            record { finite = record { time = finite_by_place g is.0 (omega arith); microstep = is.0.microstep }; in_time = to_at_most g n.stop is.0 stop high; past = omega arith },
+            record { finite = record { time = finite_by_place g is.0 (omega arith); microstep = is.0.microstep }; in_time = at_most_from_places g n.stop is.0 stop high; past = omega arith },
             each_more (IsTaken n f.completed) (IsTaken n (Some g)) (λ x t. (let p = t.past in record { finite = t.finite; in_time = t.in_time; past = omega arith })) (history_of f.rows) r.taken,
           );
       rising =
           subst Rising (sym grows)
-          (each_more (IsTaken n f.completed) (λ y. IsTrue (is_before y.tag g)) (λ x t. (let p = t.past in to_before x.tag g (finite_is_logical x.tag t.finite) is.0 (omega arith))) (history_of f.rows) r.taken, r.rising);
+          (each_more (IsTaken n f.completed) (λ y. IsTrue (is_before y.tag g)) (λ x t. (let p = t.past in before_from_places x.tag g (finite_is_logical x.tag t.finite) is.0 (omega arith))) (history_of f.rows) r.taken, r.rising);
     }
 
 -- how a federate's step ends
@@ -187,7 +190,7 @@ message_replays n j f number (Some c) g v lawful e r =
     step_if n j (nat_eq c.target j && is_at_most g n.stop) (if not (is_past f.completed g && is_past f.granted g) then Refused Late else Done made) WrongSignal
     (λ t. step_if n j (is_past f.completed g && is_past f.granted g) (Done made) Late
     (λ q. record {
-      slots = put_at_slots (n.slots j) (record { tag = g; slot = c.slot; value = v }) f.undone (subst P (same_number c.target j (both_left (nat_eq c.target j) (is_at_most g n.stop) t)) connected.slot) r.slots;
+      slots = put_at_slots (n.slots j) (record { tag = g; slot = c.slot; value = v }) f.undone (subst P (eqb-true c.target j (both_left (nat_eq c.target j) (is_at_most g n.stop) t)) connected.slot) r.slots;
       rows = r.rows;
       states = r.states;
       newest = r.newest;

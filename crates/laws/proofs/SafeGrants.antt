@@ -4,6 +4,8 @@ use Rattle.std.specs.Prelude.{nat_eq, nat_lt, IsSomeAnd, if◌then◌else◌, �
 use Rattle.std.specs.List.{list_all}
 use Rattle.std.proofs.lemmas.Bool.Decides.{nat_tests}
 use Rattle.tag.specs.LogicalTime.{LogicalTime, IsLogicalTime, IsFinite, is_before, is_at_most, sum_of, forever, lesser, greater, predecessor_of}
+use Rattle.tag.proofs.Order.{lesser_at_most_first, lesser_at_most_second, predecessor_before, predecessor_at_least, predecessor_microstep, at_most_reflexive, before_then, finite_up_to}
+use Rattle.tag.proofs.SumLaws.{sum_microstep_below}
 use Rattle.network.specs.Connection.{Connection}
 use Rattle.network.specs.Network.{Network}
 use Rattle.network.specs.Wiring.{IsWired}
@@ -12,9 +14,7 @@ use Rattle.protocol.specs.Federate.{is_past}
 use Rattle.protocol.specs.Standing.{Standing}
 use Rattle.protocol.specs.Grant.{after_completed, all_below, is_before_arrival, passes_paths, passes_connection, passes_connections, is_eligible, grant_next, IsSafe, IsSafeRule, lesser_arrival, bound_by_paths, bound_by_connections, bound_of, grant_widest, is_safe, if_safe, grant_chosen}
 use Rattle.laws.specs.Runs.{IsFullRule}
-use Rattle.laws.proofs.Tags.{at_most_true, finite_is_logical, finite_before_forever, finite_by_place, before_then}
 use Rattle.laws.proofs.Tests.{both_left, both_right, both_hold, either_case, either_of}
-use Rattle.laws.proofs.Backing.{at_most_itself}
 
 -- the parts of the test
 pub eligible_announced : (a b c d : Bool) → (a && b && c && d) ≡ true → a ≡ true
@@ -33,12 +33,6 @@ given_by : (b : Bool) (given tag : LogicalTime) → (if b then Some given else N
 given_by true given tag e = (refl, cc)
 given_by false given tag e = cc
 
-finite_in_time : (n : Network) (g : LogicalTime) → IsWired n → IsLogicalTime g → is_at_most g n.stop ≡ true → IsFinite g
-finite_in_time n g wired p h =
-    let stop = finite_before_forever n.stop wired.stop in
-    let low = at_most_true g n.stop p (finite_is_logical n.stop wired.stop) h in
-    record { time = finite_by_place g p (omega arith); microstep = p.microstep }
-
 pub next_is_safe : (n : Network) (table : Table) (standings : ℕ → Standing) (j : ℕ) → IsWired n → ((i : ℕ) → IsLogicalTime (standings i).next) → is_eligible n table standings j ≡ true → IsSafe n table standings j (standings j).next
 next_is_safe n table standings j wired tags h =
     let a = (standings j).announced in
@@ -46,7 +40,7 @@ next_is_safe n table standings j wired tags h =
     let c = is_at_most (standings j).next n.stop in
     let d = passes_paths n table standings j (standings j).next || passes_connections n standings j (standings j).next in
     record {
-      finite = finite_in_time n (standings j).next wired (tags j) (eligible_in_time a b c d h);
+      finite = finite_up_to (standings j).next n.stop (tags j) wired.stop (eligible_in_time a b c d h);
       later = eligible_not_granted a b c d h;
       in_time = eligible_in_time a b c d h;
       safe = eligible_safe a b c d h;
@@ -84,12 +78,6 @@ before_connections standings j tag (c ∷ rest) f h =
     let others = list_all (passes_connection standings j tag) rest in
     before_connection tag (sum_of (after_completed (standings c.source).completed) c.delay) (bound_by_connections standings j rest) (nat_eq c.target j) (both_left now others h)
     (before_connections standings j tag rest f (both_right now others h))
-
-pub lesser_at_most_first : (g h : LogicalTime) → is_at_most (lesser g h) g ≡ true
-lesser_at_most_first g h = grind (arith, nat_tests)
-
-pub lesser_at_most_second : (g h : LogicalTime) → is_at_most (lesser g h) h ≡ true
-lesser_at_most_second g h = grind (arith, nat_tests)
 
 arrival_passes : (tag next : LogicalTime) (o : Option LogicalTime) (other : LogicalTime) → is_before tag (lesser_arrival next o other) ≡ true → is_before_arrival tag next o ≡ true
 arrival_passes tag next None other h = refl
@@ -136,16 +124,13 @@ greater_from_first tag g h p = grind (arith, nat_tests)
 pub greater_from_second : (tag g h : LogicalTime) → is_before tag h ≡ true → is_before tag (greater g h) ≡ true
 greater_from_second tag g h p = grind (arith, nat_tests)
 
-sum_microstep : (g d : LogicalTime) → (sum_of g d).microstep < 2 ^ 32
-sum_microstep g d = grind (arith, nat_tests)
-
 one_microstep_of : (g h : LogicalTime) (b : Bool) → g.microstep < 2 ^ 32 → h.microstep < 2 ^ 32 → (if b then g else h).microstep < 2 ^ 32
 one_microstep_of g h true p q = p
 one_microstep_of g h false p q = q
 
 arrival_microstep : (next : LogicalTime) (o : Option LogicalTime) (other : LogicalTime) → other.microstep < 2 ^ 32 → (lesser_arrival next o other).microstep < 2 ^ 32
 arrival_microstep next None other h = h
-arrival_microstep next (Some d) other h = one_microstep_of (sum_of next d) other (is_before (sum_of next d) other) (sum_microstep next d) h
+arrival_microstep next (Some d) other h = one_microstep_of (sum_of next d) other (is_before (sum_of next d) other) (sum_microstep_below next d) h
 
 paths_microstep : (table : Table) (standings : ℕ → Standing) (j count : ℕ) → (bound_by_paths table standings j count).microstep < 2 ^ 32
 paths_microstep table standings j zero = omega arith
@@ -159,16 +144,7 @@ connections_microstep : (standings : ℕ → Standing) (j : ℕ) (cs : List Conn
 connections_microstep standings j [] = omega arith
 connections_microstep standings j (c ∷ rest) =
     connection_microstep (sum_of (after_completed (standings c.source).completed) c.delay) (bound_by_connections standings j rest) (nat_eq c.target j)
-    (sum_microstep (after_completed (standings c.source).completed) c.delay) (connections_microstep standings j rest)
-
-predecessor_before : (g b : LogicalTime) → is_before g b ≡ true → is_before (predecessor_of b) b ≡ true
-predecessor_before g b h = grind (arith, nat_tests)
-
-predecessor_at_least : (g b : LogicalTime) → g.microstep < 2 ^ 32 → is_before g b ≡ true → is_at_most g (predecessor_of b) ≡ true
-predecessor_at_least g b m h = grind (arith, nat_tests)
-
-predecessor_microstep : (b : LogicalTime) → b.microstep < 2 ^ 32 → (predecessor_of b).microstep < 2 ^ 32
-predecessor_microstep b h = grind (arith, nat_tests)
+    (sum_microstep_below (after_completed (standings c.source).completed) c.delay) (connections_microstep standings j rest)
 
 at_least_both : (g a b : LogicalTime) (t : Bool) → is_at_most g a ≡ true → is_at_most g b ≡ true → is_at_most g (if t then a else b) ≡ true
 at_least_both g a b true p q = p
@@ -244,7 +220,7 @@ given_full false given P e p = cc
 
 pub next_rule_is_full : (n : Network) (table : Table) → IsFullRule n table (grant_next n table)
 next_rule_is_full n table standings tags j e =
-    given_full (is_eligible n table standings j) (standings j).next (λ tag. IsTrue (is_at_most (standings j).next tag)) e (at_most_itself (standings j).next)
+    given_full (is_eligible n table standings j) (standings j).next (λ tag. IsTrue (is_at_most (standings j).next tag)) e (at_most_reflexive (standings j).next)
 
 widest_is_at_least : (n : Network) (table : Table) (standings : ℕ → Standing) (j : ℕ) → IsWired n → ((i : ℕ) → IsLogicalTime (standings i).next) → is_eligible n table standings j ≡ true → is_at_most (standings j).next (lesser (predecessor_of (bound_of n table standings j)) n.stop) ≡ true
 widest_is_at_least n table standings j wired tags h =

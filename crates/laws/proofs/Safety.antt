@@ -2,11 +2,14 @@
 use Rattle.std.proofs.Common.{◌≡◌, ℕ, zero, suc, ◌+◌, ◌<◌, ◌≤◌, ◌⊎◌, inl, inr, Bool, true, false, cond, IsTrue, List, [], ◌∷◌, ◌++◌, length, refl, sym, ap, subst, ◌∙◌, arith, Option, None, Some, ℤ}
 use Rattle.std.specs.Prelude.{slice_get, filter, map, nat_eq, nat_lt, if◌then◌else◌, not, ◌&&◌, ◌||◌}
 use Rattle.std.proofs.Math.Path.{fun_ext}
-use Rattle.std.proofs.lemmas.Bool.{eq-eqb, cases_lt}
+use Rattle.std.proofs.lemmas.Bool.{eq-eqb, cases_lt, eqb-true}
 use Rattle.std.proofs.lemmas.Bool.Decides.{nat_tests}
 use Rattle.std.proofs.lemmas.List.{append-nil, append_assoc, map-append}
 use Rattle.std.proofs.lemmas.List.Elements.{filter-append}
-use Rattle.tag.specs.LogicalTime.{LogicalTime, IsLogicalTime, is_at_most, is_same, sum_of, successor_of, forever}
+use Rattle.tag.specs.LogicalTime.{LogicalTime, IsLogicalTime, is_at_most, is_same, sum_of, successor_of, forever, place}
+use Rattle.tag.proofs.Order.{at_most_from_places, at_most_reflexive, at_most_transitive, finite_is_logical}
+use Rattle.tag.proofs.SumLaws.{successor_at_least, sum_is_logical}
+use Rattle.tag.proofs.Paths.{plain_is_logical}
 use Rattle.network.specs.Connection.{Connection}
 use Rattle.network.specs.Network.{Network}
 use Rattle.network.specs.Lawful.{IsLawful, IsConnected}
@@ -22,12 +25,11 @@ use Rattle.protocol.specs.Standing.{Standing, after_message, after_net, after_lt
 use Rattle.protocol.specs.Grant.{Rule, IsSafe, IsSafeRule, after_completed}
 use Rattle.protocol.specs.Coordinator.{Post, Coordinated, with_standing, noted, route, grant_to, grant_post, grants_from, with_grants}
 use Rattle.protocol.specs.Machine.{Member, Move, ToCoordinator, ToFederate, Announce, Advance, Lose, opening_member, with_member, standings_of, sent_to, coordinated, coordinator_takes_from, stepped, federate_takes_from, outcome_of, after_moves}
-use Rattle.laws.proofs.Tags.{place, above, past_true, to_past, to_at_most, finite_is_logical, sum_is_logical, after_completed_least, at_most_transitive, successor_at_least}
+use Rattle.laws.proofs.Tags.{above, after_completed_least, past_true, to_past}
 use Rattle.laws.proofs.Upward.{IsOver, source_at_least}
 use Rattle.laws.proofs.Downward.{EndsAt}
-use Rattle.laws.proofs.Turns.{plain_is_logical, same_number}
 use Rattle.laws.proofs.Kept.{IsKept, net_keeps, net_raises, ltc_keeps, message_keeps, route_keeps, grant_keeps, tag_keeps, taken_keeps, announce_keeps, turn_keeps, opening_is_kept}
-use Rattle.laws.proofs.Backing.{all_at, IsBacked, IsLater, is_later_itself, at_most_itself, backed_later, at_update, grant_is_later, safe_is_backed, message_is_past, message_keeps_backing}
+use Rattle.laws.proofs.Backing.{all_at, IsBacked, IsLater, is_later_itself, backed_later, at_update, grant_is_later, safe_is_backed, message_is_past, message_keeps_backing}
 use Rattle.laws.proofs.Tests.{both_hold, if_passed}
 
 -- what is kept of a member
@@ -245,7 +247,7 @@ noted_goes n table rule members i rest mine safe s k l g =
     with_grants_sound n table rule (noted (standings_of members) i mine) (with_member members i (record (members i) { up = rest })) safe
     (λ j. (
     let P : ℕ → Type 0 = λ x. IsKept n x mine (members i).federate rest (members i).down in
-    noted_if n j mine (members j).standing (record (members i) { up = rest }) (members j) (nat_eq j i) (λ e. subst P (sym (same_number j i e)) k) (s.kept j) refl))
+    noted_if n j mine (members j).standing (record (members i) { up = rest }) (members j) (nat_eq j i) (λ e. subst P (sym (eqb-true j i e)) k) (s.kept j) refl))
     (λ j. (
     let later : (x : ℕ) → IsLater (members x).standing (with_standing (standings_of members) i mine x) = λ x. (
     let Q : Standing → Type 0 = λ y. IsLater (members x).standing y in
@@ -275,7 +277,7 @@ over_goes n table rule members i k g v rest source (Some c) lawful facts safe so
     let from_i : c.source ≡ i = over.0 in
     let is_sum : g ≡ sum_of source c.delay = over.1 in
     let A : ℕ → Type 0 = λ x. is_at_most (members x).standing.next source ≡ true in
-    let at_next : is_at_most (members c.source).standing.next source ≡ true = subst A (sym from_i) (to_at_most (members i).standing.next source popped.next_tag tag next) in
+    let at_next : is_at_most (members c.source).standing.next source ≡ true = subst A (sym from_i) (at_most_from_places (members i).standing.next source popped.next_tag tag next) in
     let B : ℕ → Type 0 = λ x. is_at_most (after_completed (members x).standing.completed) source ≡ true in
     let at_completed : is_at_most (after_completed (members c.source).standing.completed) source ≡ true = subst B (sym from_i) (after_completed_least (members i).standing.completed source popped.completed_tag tag completed) in
     let C : LogicalTime → Type 0 = λ x. is_past (members c.target).standing.granted x ≡ true in
@@ -289,12 +291,12 @@ over_goes n table rule members i k g v rest source (Some c) lawful facts safe so
     let W : ℕ → Member = with_member members i (record (members i) { up = rest }) in
     let E : ℕ → Type 0 = λ x. IsKept n x (members i).standing (members i).federate rest (members i).down in
     let waiting : (j : ℕ) → IsKept n j (members j).standing (W j).federate (W j).up (W j).down =
-    λ j. popped_if n j (record (members i) { up = rest }) (members j) (nat_eq j i) (λ q. subst E (sym (same_number j i q)) popped) (sound.kept j) (λ q. ap (λ x. (members x).standing) (same_number j i q)) in
+    λ j. popped_if n j (record (members i) { up = rest }) (members j) (nat_eq j i) (λ q. subst E (sym (eqb-true j i q)) popped) (sound.kept j) (λ q. ap (λ x. (members x).standing) (eqb-true j i q)) in
     let F : ℕ → Type 0 = λ x. above (members x).standing.granted ≤ place g in
     let kept : (j : ℕ) → IsKept n j (made.after j) (W j).federate (W j).up ((W j).down ++ sent_to j made.sent) =
     λ j. routed_if n j c.target (after_message (members c.target).standing g) (members j).standing (W j).federate (W j).up (W j).down (Msg k g v) (nat_eq j c.target)
     (λ q. (
-    let same : j ≡ c.target = same_number j c.target q in
+    let same : j ≡ c.target = eqb-true j c.target q in
     let G : Option Connection → Type 0 = λ x. EndsAt j x in
     let ends : EndsAt j (slice_get n.connections k) = subst G (sym e) (sym same) in
     let H : ℕ → Type 0 = λ x. IsKept n j (after_message (members x).standing g) (W j).federate (W j).up ((W j).down ++ Msg k g v ∷ []) in
@@ -322,7 +324,7 @@ coordinator_goes n table rule members i (Net g ∷ rest) lawful facts safe sound
     let made : Coordinated = noted (standings_of members) i mine in
     let kept = net_keeps n i (members i).standing (members i).federate rest (members i).down g k in
     let later : IsLater (members i).standing mine =
-    (to_at_most (members i).standing.next mine.next k.next_tag kept.next_tag (net_raises n i (members i).standing (members i).federate rest (members i).down g k), at_most_itself (after_completed (members i).standing.completed)) in
+    (at_most_from_places (members i).standing.next mine.next k.next_tag kept.next_tag (net_raises n i (members i).standing (members i).federate rest (members i).down g k), at_most_reflexive (after_completed (members i).standing.completed)) in
     let past = to_past (members i).standing.completed g k.completed_tag k.upward.0 k.upward.1 in
     let inner = if_passed (is_past (members i).standing.completed g) (Refused NotRising) (Done made) past in
     let outer = if_passed (is_at_most g n.stop || is_same g forever) (Refused AfterStop) (if not (is_past (members i).standing.completed g) then Refused NotRising else Done made) k.upward.2 in
@@ -334,7 +336,7 @@ coordinator_goes n table rule members i (Ltc c ∷ rest) lawful facts safe sound
     let kept = ltc_keeps n i (members i).standing (members i).federate rest (members i).down c k in
     let rises = at_most_transitive (after_completed (members i).standing.completed) c (successor_of c)
     (after_completed_least (members i).standing.completed c k.completed_tag k.upward.0 k.upward.1) (successor_at_least c k.upward.0) in
-    let later : IsLater (members i).standing mine = (at_most_itself (members i).standing.next, rises) in
+    let later : IsLater (members i).standing mine = (at_most_reflexive (members i).standing.next, rises) in
     let past = to_past (members i).standing.completed c k.completed_tag k.upward.0 k.upward.1 in
     let inner = if_passed (is_past (members i).standing.completed c) (Refused NotRising) (Done made) past in
     let outer = if_passed (is_at_most c n.stop) (Refused AfterStop) (if not (is_past (members i).standing.completed c) then Refused NotRising else Done made) k.upward.2 in

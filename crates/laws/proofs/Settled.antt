@@ -5,6 +5,7 @@ use Rattle.std.specs.List.{list_all}
 use Rattle.std.proofs.Math.Path.{fun_ext}
 use Rattle.std.proofs.lemmas.Bool.Decides.{nat_tests}
 use Rattle.tag.specs.LogicalTime.{LogicalTime, IsLogicalTime, is_before, is_at_most, sum_of}
+use Rattle.tag.proofs.Order.{not_before}
 use Rattle.network.specs.Network.{Network}
 use Rattle.network.specs.Lawful.{IsLawful}
 use Rattle.network.specs.Tables.{Table, IsTable}
@@ -16,7 +17,6 @@ use Rattle.protocol.specs.Grant.{Rule, IsSafeRule, after_completed, all_below, i
 use Rattle.protocol.specs.Coordinator.{Coordinated, coordinator_takes, grant_to, with_grants}
 use Rattle.protocol.specs.Machine.{Member, Move, ToCoordinator, ToFederate, Announce, Advance, Lose, with_member, standings_of, coordinated, coordinator_takes_from, stepped, federate_takes_from, outcome_of, after_moves}
 use Rattle.laws.specs.Runs.{IsFullRule}
-use Rattle.laws.proofs.Tags.{not_before}
 use Rattle.laws.proofs.Safety.{Goes, standing_stays, move_goes, moves_sound}
 
 -- nobody is eligible

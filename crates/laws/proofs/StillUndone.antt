@@ -1,9 +1,9 @@
 -- What a federate has still to run: a list that rises, all of it from a place on and up to stop.
 use Rattle.std.proofs.Common.{◌≡◌, ℕ, ◌+◌, ◌<◌, ◌≤◌, Bool, true, false, cond, List, [], ◌∷◌, refl, sym, ap, subst, arith, min, max}
 use Rattle.std.specs.Prelude.{if◌then◌else◌, ◌||◌, ◌&&◌, nat_eq, nat_lt}
-use Rattle.tag.specs.LogicalTime.{LogicalTime, IsLogicalTime, is_before, is_same}
+use Rattle.tag.specs.LogicalTime.{LogicalTime, IsLogicalTime, is_before, is_same, place}
+use Rattle.tag.proofs.Order.{before_places, not_before_places, same_is_equal, top}
 use Rattle.network.specs.Undone.{Held, is_held_before, is_for_same, put, put_all, drop_up_to}
-use Rattle.laws.proofs.Tags.{place, top, before_true, before_false, same_true}
 use Rattle.laws.proofs.Tests.{both_left}
 
 abbrev pub IsUndone : LogicalTime → ℕ → List Held → Type 0
@@ -48,9 +48,9 @@ pub put_is_undone : (stop : LogicalTime) (low : ℕ) (e : Held) (u : List Held) 
 put_is_undone stop low e [] p l s h = (p, l, s, tt)
 put_is_undone stop low e (x ∷ rest) p l s h =
     put_cases stop low e x rest (put e rest) (is_held_before e x) (is_for_same e x) p l s h
-    (either_one e.tag x.tag (is_before e.tag x.tag) (is_same e.tag x.tag) (nat_lt e.slot x.slot) (before_true e.tag x.tag p h.0) (same_true e.tag x.tag))
-    (λ b. before_false e.tag x.tag p h.0 (either_first (is_before e.tag x.tag) (is_same e.tag x.tag) (nat_lt e.slot x.slot) b))
-    (λ b. same_true e.tag x.tag (both_left (is_same e.tag x.tag) (nat_eq e.slot x.slot) b))
+    (either_one e.tag x.tag (is_before e.tag x.tag) (is_same e.tag x.tag) (nat_lt e.slot x.slot) (before_places e.tag x.tag p h.0) (same_is_equal e.tag x.tag))
+    (λ b. not_before_places e.tag x.tag p h.0 (either_first (is_before e.tag x.tag) (is_same e.tag x.tag) (nat_lt e.slot x.slot) b))
+    (λ b. same_is_equal e.tag x.tag (both_left (is_same e.tag x.tag) (nat_eq e.slot x.slot) b))
     (λ m. put_is_undone stop (place x.tag) e rest p m s h.3)
 
 first_cases : (e x : Held) (rest more : List Held) (b c : Bool) → min (place x.tag) (place e.tag) ≤ first_place (if b then e ∷ x ∷ rest else (if c then e ∷ rest else x ∷ more))
@@ -73,5 +73,5 @@ drop_cases stop low m g x kept false p s l w t f r = let a = f refl in r m (omeg
 pub drop_is_undone : (stop : LogicalTime) (low m : ℕ) (g : LogicalTime) (u : List Held) → IsLogicalTime g → IsUndone stop low u → m ≤ max low (place g + 1) → IsUndone stop m (drop_up_to g u)
 drop_is_undone stop low m g [] p h w = tt
 drop_is_undone stop low m g (x ∷ rest) p h w =
-    drop_cases stop low m g x (drop_up_to g rest) (is_before g x.tag) h.0 h.2 h.1 w (before_true g x.tag p h.0) (before_false g x.tag p h.0)
+    drop_cases stop low m g x (drop_up_to g rest) (is_before g x.tag) h.0 h.2 h.1 w (before_places g x.tag p h.0) (not_before_places g x.tag p h.0)
     (λ k l. drop_is_undone stop (place x.tag) k g rest p h.3 l)

@@ -1,14 +1,17 @@
 -- A stuck run has nothing left to do: the least event that is undone would be granted, and would be run.
-use Rattle.std.proofs.Common.{◌≡◌, ℕ, zero, suc, ◌+◌, ◌*◌, ◌<◌, ◌≤◌, inl, inr, Bool, true, false, List, [], ◌∷◌, refl, sym, ap, subst, ◌∙◌, arith, min, Option, None, Some}
+use Rattle.std.proofs.Common.{◌≡◌, ℕ, zero, suc, ◌+◌, ◌*◌, ◌<◌, ◌≤◌, inl, inr, Bool, true, false, List, [], ◌∷◌, refl, ap, subst, ◌∙◌, arith, min, Option, None, Some}
 use Rattle.std.specs.Prelude.{if◌then◌else◌, ◌&&◌, ◌||◌, Contains, MatchOption}
 use Rattle.std.specs.List.{list_any}
 use Rattle.std.proofs.lemmas.Bool.{cases_lt}
 use Rattle.std.proofs.lemmas.Bool.Decides.{nat_tests}
-use Rattle.tag.specs.LogicalTime.{LogicalTime, IsLogicalTime, is_before, is_at_most, is_same, sum_of, origin}
-use Rattle.network.specs.Connection.{Connection, IsPath, then_along, total_of, IsLeastDelay, IsUnreachable}
+use Rattle.tag.specs.LogicalTime.{LogicalTime, is_before, is_at_most, sum_of, origin, place}
+use Rattle.tag.proofs.Order.{at_most_from_places, at_most_then, before_from_places, before_then, finite_is_logical, not_forever, place_bound, place_of_finite, same_is_equal, top}
+use Rattle.tag.proofs.SumLaws.{sum_at_least_first, sum_later}
+use Rattle.network.specs.Connection.{Connection, IsPath, total_of, IsLeastDelay, IsUnreachable}
 use Rattle.network.specs.Network.{Network}
-use Rattle.network.specs.Lawful.{IsLawful, IsPlainDelay}
+use Rattle.network.specs.Lawful.{IsLawful}
 use Rattle.network.specs.Tables.{Table, IsLeastTable}
+use Rattle.network.proofs.Walks.{AreImmediate, immediate_from_total}
 use Rattle.signal.specs.declared.signal.Signal.{Signal}
 use Rattle.signal.specs.declared.signal.Signal.TheVariants.{Net}
 use Rattle.protocol.specs.Outcome.{Nothing, Done}
@@ -18,22 +21,19 @@ use Rattle.protocol.specs.Standing.{Standing}
 use Rattle.protocol.specs.Grant.{Rule, IsSafeRule, is_before_arrival, passes_paths, passes_connections}
 use Rattle.protocol.specs.Machine.{Member, Move, standings_of, after_moves}
 use Rattle.laws.specs.Runs.{IsStuck, IsQuiet, IsFullRule, is_message}
-use Rattle.laws.proofs.Tags.{place, top, above, same_true, to_before, to_at_most, not_past, to_reached, at_most_then, before_then, at_most_transitive, sum_at_least, sum_later, sum_is_logical, at_most_origin, finite_by_place, finite_is_logical, finite_before_forever, place_within}
+use Rattle.laws.proofs.Tags.{above, not_past, to_reached}
 use Rattle.laws.proofs.Transit.{least_above}
 use Rattle.laws.proofs.Upward.{last_ltc}
 use Rattle.laws.proofs.Downward.{last_tag}
 use Rattle.laws.proofs.StillUndone.{IsUndone, first_place}
 use Rattle.laws.proofs.Told.{undone_from, message_from, IsTold, first_is_least}
-use Rattle.laws.proofs.Turns.{plain_is_logical}
-use Rattle.laws.proofs.Kept.{IsKept, next_place}
-use Rattle.laws.proofs.Backing.{all_at, at_most_itself}
-use Rattle.laws.proofs.Eligibility.{contained_at, contained_is, all_below_from}
-use Rattle.laws.proofs.ShortPaths.{walk_of_path, total_from_origin}
+use Rattle.laws.proofs.Kept.{IsKept, next_place, first_within}
+use Rattle.laws.proofs.Backing.{all_at}
+use Rattle.laws.proofs.Eligibility.{contained_at, all_below_from}
 use Rattle.laws.proofs.LeastTables.{least_table_is_table}
 use Rattle.laws.proofs.Safety.{moves_sound}
 use Rattle.laws.proofs.Settled.{NobodyIsEligible, moves_settle}
 use Rattle.laws.proofs.Tests.{either_of}
-use Rattle.laws.specs.Chains.{IsWalk}
 
 told_if : (b : Bool) (made : Stepped) → (if b then Nothing else Done made) ≡ Nothing → b ≡ true
 told_if true made e = refl
@@ -41,7 +41,7 @@ told_if false made e = cc
 
 told_is : (o : Option LogicalTime) (g : LogicalTime) → is_told o g ≡ true → o ≡ Some g
 told_is None g e = cc
-told_is (Some x) g e = ap Some (same_true x g e)
+told_is (Some x) g e = ap Some (same_is_equal x g e)
 
 told_taken : (s : Standing) (g : LogicalTime) → IsTold s (Some g) [] → (s.announced ≡ true) × (place s.next ≡ min (place g) (least_above 0 s.transit))
 told_taken s g (inl h) = absurd h
@@ -51,11 +51,7 @@ first_from : (stop : LogicalTime) (start low : ℕ) (u : List Held) → IsUndone
 first_from stop start low [] h = omega arith
 first_from stop start low (x ∷ rest) h =
     let again : IsUndone stop (place x.tag) (x ∷ rest) = (h.0, omega arith, h.2, h.3) in
-    first_is_least stop (place x.tag) low (x ∷ rest) (place_within x.tag h.0) again
-
-first_within : (stop : LogicalTime) (start : ℕ) (u : List Held) → IsUndone stop start u → first_place u ≤ top
-first_within stop start [] h = omega arith
-first_within stop start (x ∷ rest) h = place_within x.tag h.0
+    first_is_least stop (place x.tag) low (x ∷ rest) (place_bound x.tag h.0) again
 
 all_above : (low : ℕ) (xs : List LogicalTime) → low ≤ least_above 0 xs → least_above low xs ≤ least_above 0 xs
 all_above low [] h = omega arith
@@ -84,47 +80,32 @@ stuck_next n j m k st =
     let next = taken.1 in
     (taken.0, omega arith)
 
--- along a path no tag gets smaller
-along_at_least : (all : List Connection) (i j : ℕ) (g : LogicalTime) (path : List Connection) → ((x : Connection) → Contains all x → IsPlainDelay x.delay) → IsLogicalTime g → IsWalk all i path j → is_at_most g (then_along g path) ≡ true
-along_at_least all i j g [] plain p w = at_most_itself g
-along_at_least all i j g (c ∷ rest) plain p w =
-    at_most_transitive g (sum_of g c.delay) (then_along (sum_of g c.delay) rest) (sum_at_least g c.delay p)
-    (along_at_least all c.target j (sum_of g c.delay) rest plain (sum_is_logical g c.delay p (plain_is_logical c.delay (plain c w.0))) w.2)
-
 connection_ranks : (n : Network) (c : Connection) → IsLawful n → Contains n.connections c → c.delay ≡ origin → n.rank c.source < n.rank c.target
 connection_ranks n c lawful h e =
     let at = contained_at n.connections c h in
     all_at (λ x. x.delay ≡ origin → n.rank x.source < n.rank x.target) n.connections at.0 c lawful.ranks_rise at.1 e
 
 -- along a path without delay ranks rise
-path_ranks : (n : Network) (i j : ℕ) (path : List Connection) → IsLawful n → IsPath n.connections i path j → total_of path ≡ origin → n.rank i < n.rank j
-path_ranks n i j [] lawful p e = absurd p
-path_ranks n i j (c ∷ []) lawful p e =
-    let rises = connection_ranks n c lawful p.0 e in
+immediate_ranks : (n : Network) (i j : ℕ) (path : List Connection) → IsLawful n → IsPath n.connections i path j → AreImmediate path → n.rank i < n.rank j
+immediate_ranks n i j [] lawful p each = absurd p
+immediate_ranks n i j (c ∷ []) lawful p each =
+    let rises = connection_ranks n c lawful p.0 each.0 in
     let P : ℕ → Type 0 = λ x. n.rank x < n.rank c.target in
     let Q : ℕ → Type 0 = λ x. n.rank i < n.rank x in
     subst Q p.2 (subst P p.1 rises)
-path_ranks n i j (c ∷ d ∷ rest) lawful p e =
-    let plain : (x : Connection) → Contains n.connections x → IsPlainDelay x.delay = λ x h. (contained_is n x lawful h).delay in
-    let walk = walk_of_path n.connections c.target j (d ∷ rest) p.2 in
-    let logical = plain_is_logical c.delay (plain c p.0) in
-    let A : LogicalTime → Type 0 = λ x. is_at_most c.delay x ≡ true in
-    let none : c.delay ≡ origin = at_most_origin c.delay (subst A e (along_at_least n.connections c.target j c.delay (d ∷ rest) plain logical walk)) in
-    let onward : total_of (d ∷ rest) ≡ origin =
-    sym (total_from_origin d rest (plain_is_logical d.delay (plain d walk.0))) ∙ ap (λ x. then_along x (d ∷ rest)) (sym none) ∙ e in
-    let later = path_ranks n c.target j (d ∷ rest) lawful p.2 onward in
-    let rises = connection_ranks n c lawful p.0 none in
+immediate_ranks n i j (c ∷ d ∷ rest) lawful p each =
+    let later = immediate_ranks n c.target j (d ∷ rest) lawful p.2 each.1 in
+    let rises = connection_ranks n c lawful p.0 each.0 in
     let P : ℕ → Type 0 = λ x. n.rank x < n.rank c.target in
     let first = subst P p.1 rises in
     omega arith
 
+path_ranks : (n : Network) (i j : ℕ) (path : List Connection) → IsLawful n → IsPath n.connections i path j → total_of path ≡ origin → n.rank i < n.rank j
+path_ranks n i j path lawful p e = immediate_ranks n i j path lawful p (immediate_from_total path e)
+
 table_ranks : (n : Network) (i j : ℕ) (o : Option LogicalTime) (d : LogicalTime) → IsLawful n → MatchOption o (IsUnreachable n.connections i j) (λ delay. IsLeastDelay n.connections i j delay) → o ≡ Some d → d ≡ origin → n.rank i < n.rank j
 table_ranks n i j None d lawful m e z = cc
 table_ranks n i j (Some x) d lawful m e z = let same : x ≡ d = cc in path_ranks n i j m.attained.0 lawful m.attained.1 (m.attained.2 ∙ same ∙ z)
-
-not_origin : (d : LogicalTime) (b : Bool) → (b ≡ true → d ≡ origin) → (d ≡ origin → ⊥) → b ≡ false
-not_origin d true s h = absurd (h (s refl))
-not_origin d false s h = refl
 
 remaining : (a b c d : Bool) → a ≡ true → c ≡ true → d ≡ true → (a && b && c && d) ≡ false → b ≡ false
 remaining a false c d p q r h = refl
@@ -169,14 +150,14 @@ arrives_later n table members i j d lawful least halted l m small e earliest =
     let ri = lawful.ranks i l in
     let rj = lawful.ranks j m in
     elim (cases_lt (place nj) (place ni)) [
-      | inl later ↦ before_then nj ni (sum_of ni d) (to_before nj ni tj ti later) (sum_at_least ni d ti)
+      | inl later ↦ before_then nj ni (sum_of ni d) (before_from_places nj ni tj ti later) (sum_at_least_first ni d ti)
       | inr not_later ↦
           let no_earlier : (first_place (members j).federate.undone ≤ first_place (members i).federate.undone) × (n.rank j ≤ n.rank i) = compared (first_place (members i).federate.undone) (first_place (members j).federate.undone) (n.rank i) (n.rank j) (omega arith) (omega arith) (omega arith) earliest in
           let a = no_earlier.0 in
           let b = no_earlier.1 in
           let apart : d ≡ origin → ⊥ = λ z. (let r = table_ranks n i j (table i j) d lawful (least i j) e z in omega arith) in
-          let moved = sum_later ni d ti (not_origin d (is_same d origin) (same_true d origin) apart) (finite_by_place ni ti (omega arith)) in
-          at_most_then nj ni (sum_of ni d) (to_at_most nj ni tj ti (omega arith)) moved
+          let moved = sum_later ni d ti (not_forever ni (omega arith)) apart in
+          at_most_then nj ni (sum_of ni d) (at_most_from_places nj ni tj ti (omega arith)) moved
     ]
 
 -- so no event is undone
@@ -193,9 +174,9 @@ nothing_undone n table members j (x ∷ rest) lawful least halted m e earlier =
     let first : first_place f.undone ≡ place x.tag = ap first_place e in
     let next = at_j.1 in
     let stop = finite_is_logical n.stop lawful.stop in
-    let end = finite_before_forever n.stop lawful.stop in
+    let end = place_of_finite n.stop lawful.stop in
     let high = undone.2 in
-    let in_time = to_at_most s.next n.stop k.next_tag stop (omega arith) in
+    let in_time = at_most_from_places s.next n.stop k.next_tag stop (omega arith) in
     let paths : passes_paths n table (standings_of members) j s.next ≡ true =
     all_below_from n.reactors (λ i. is_before_arrival s.next (members i).standing.next (table i j))
     (λ i l. arrival_if s.next (members i).standing.next (table i j)

@@ -2,12 +2,12 @@
 use Rattle.std.proofs.Common.{◌≡◌, ℕ, ◌+◌, ◌≤◌, ◌⊎◌, inl, inr, Bool, true, false, cond, List, [], ◌∷◌, ◌++◌, refl, ap, subst, ◌∙◌, arith, min, Option, None, Some, ℤ}
 use Rattle.std.specs.Prelude.{nat_lt, nat_eq, if◌then◌else◌}
 use Rattle.std.proofs.lemmas.Bool.Decides.{nat_tests}
-use Rattle.tag.specs.LogicalTime.{LogicalTime, IsLogicalTime, is_before, is_same}
+use Rattle.tag.specs.LogicalTime.{LogicalTime, IsLogicalTime, is_before, is_same, place}
+use Rattle.tag.proofs.Order.{not_before_places, place_bound, same_is_equal, top}
 use Rattle.signal.specs.declared.signal.Signal.{Signal}
 use Rattle.signal.specs.declared.signal.Signal.TheVariants.{Net, Ltc, Tag, Msg}
 use Rattle.network.specs.Undone.{Held, is_held_before, is_for_same, put, put_all, drop_up_to}
 use Rattle.protocol.specs.Standing.{Standing}
-use Rattle.laws.proofs.Tags.{place, top, before_false, same_true, place_within}
 use Rattle.laws.proofs.Transit.{least_above}
 use Rattle.laws.proofs.StillUndone.{IsUndone}
 use Rattle.laws.proofs.Tests.{both_left}
@@ -97,7 +97,7 @@ pub undone_after_put : (low : ℕ) (e : Held) (u : List Held) → undone_from lo
 undone_after_put low e [] = omega arith
 undone_after_put low e (x ∷ rest) =
     put_from low e x rest (put e rest) (is_held_before e x) (is_for_same e x)
-    (λ b. same_true e.tag x.tag (both_left (is_same e.tag x.tag) (nat_eq e.slot x.slot) b)) (undone_after_put low e rest)
+    (λ b. same_is_equal e.tag x.tag (both_left (is_same e.tag x.tag) (nat_eq e.slot x.slot) b)) (undone_after_put low e rest)
 
 pub undone_with : (low : ℕ) (e : Held) (u : List Held) → undone_from low (e ∷ u) ≤ undone_from low u
 undone_with low e u = grind (arith, nat_tests)
@@ -114,13 +114,13 @@ dropped_from low g x kept rest false l f r = let a = f refl in grind (arith, nat
 pub undone_after_drop : (stop : LogicalTime) (start low : ℕ) (g : LogicalTime) (u : List Held) → IsLogicalTime g → place g + 1 ≤ low → IsUndone stop start u → undone_from low (drop_up_to g u) ≤ undone_from low u
 undone_after_drop stop start low g [] p l h = omega arith
 undone_after_drop stop start low g (x ∷ rest) p l h =
-    dropped_from low g x (drop_up_to g rest) rest (is_before g x.tag) l (before_false g x.tag p h.0) (undone_after_drop stop (place x.tag) low g rest p l h.3)
+    dropped_from low g x (drop_up_to g rest) rest (is_before g x.tag) l (not_before_places g x.tag p h.0) (undone_after_drop stop (place x.tag) low g rest p l h.3)
 
 -- none is before the first
 pub first_is_least : (stop : LogicalTime) (start low : ℕ) (u : List Held) → start ≤ top → IsUndone stop start u → start ≤ undone_from low u
 first_is_least stop start low [] s h = s
 first_is_least stop start low (x ∷ rest) s h =
-    let w = place_within x.tag h.0 in
+    let w = place_bound x.tag h.0 in
     let r = first_is_least stop (place x.tag) low rest w h.3 in
     let a = h.1 in
     grind (arith, nat_tests)

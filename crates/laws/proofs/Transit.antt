@@ -2,9 +2,9 @@
 use Rattle.std.proofs.Common.{◌≡◌, ℕ, ◌+◌, ◌<◌, ◌≤◌, Bool, true, false, cond, List, [], ◌∷◌, refl, ap, arith, min, max}
 use Rattle.std.specs.Prelude.{filter, nat_lt, if◌then◌else◌}
 use Rattle.std.proofs.lemmas.Bool.Decides.{nat_tests}
-use Rattle.tag.specs.LogicalTime.{LogicalTime, IsLogicalTime, is_before, is_same, lesser}
+use Rattle.tag.specs.LogicalTime.{LogicalTime, IsLogicalTime, is_before, is_same, lesser, place}
+use Rattle.tag.proofs.Order.{before_places, not_before_places, place_bound, same_is_equal, top}
 use Rattle.protocol.specs.Standing.{least_with, with_tag}
-use Rattle.laws.proofs.Tags.{place, top, before_true, before_false, same_true, place_within}
 
 -- the least of these from a place on
 abbrev pub least_above : ℕ → List LogicalTime → ℕ
@@ -31,7 +31,7 @@ one_more_before low g x rest false false same r = grind (arith, nat_tests)
 
 pub above_one_more : (low : ℕ) (g : LogicalTime) (xs : List LogicalTime) → least_above low (with_tag g xs) ≡ least_above low (g ∷ xs)
 above_one_more low g [] = refl
-above_one_more low g (x ∷ rest) = one_more_before low g x rest (is_before g x) (is_same g x) (same_true g x) (above_one_more low g rest)
+above_one_more low g (x ∷ rest) = one_more_before low g x rest (is_before g x) (is_same g x) (same_is_equal g x) (above_one_more low g rest)
 
 one_more_tag : (g x : LogicalTime) (rest : List LogicalTime) (b c : Bool) → IsLogicalTime g → IsLogicalTime x → AreTags rest → AreTags (with_tag g rest) → AreTags (if b then g ∷ x ∷ rest else (if c then x ∷ rest else x ∷ with_tag g rest))
 one_more_tag g x rest true c p q a r = (p, (q, a))
@@ -50,7 +50,7 @@ later_cases low c x rest kept false t f r = let h = f refl in grind (arith, nat_
 pub above_later : (low : ℕ) (c : LogicalTime) (xs : List LogicalTime) → IsLogicalTime c → AreTags xs → least_above low (filter (λ t. is_before c t) xs) ≡ least_above (max low (place c + 1)) xs
 above_later low c [] p a = refl
 above_later low c (x ∷ rest) p a =
-    later_cases low c x rest (filter (λ t. is_before c t) rest) (is_before c x) (before_true c x p a.0) (before_false c x p a.0) (above_later low c rest p a.1)
+    later_cases low c x rest (filter (λ t. is_before c t) rest) (is_before c x) (before_places c x p a.0) (not_before_places c x p a.0) (above_later low c rest p a.1)
 
 tags_kept : (x : LogicalTime) (kept : List LogicalTime) (b : Bool) → IsLogicalTime x → AreTags kept → AreTags (cond b (x ∷ kept) kept)
 tags_kept x kept true p a = (p, a)
@@ -72,14 +72,14 @@ place_of_one g h true t f = let l = t refl in omega arith
 place_of_one g h false t f = let l = f refl in omega arith
 
 pub place_of_lesser : (g h : LogicalTime) → IsLogicalTime g → IsLogicalTime h → place (lesser g h) ≡ min (place g) (place h)
-place_of_lesser g h p q = place_of_one g h (is_before g h) (before_true g h p q) (before_false g h p q)
+place_of_lesser g h p q = place_of_one g h (is_before g h) (before_places g h p q) (not_before_places g h p q)
 
 pub least_is_tag : (g : LogicalTime) (xs : List LogicalTime) → IsLogicalTime g → AreTags xs → IsLogicalTime (least_with g xs)
 least_is_tag g [] p a = p
 least_is_tag g (x ∷ rest) p a = lesser_is_tag x (least_with g rest) a.0 (least_is_tag g rest p a.1)
 
 pub place_of_least : (g : LogicalTime) (xs : List LogicalTime) → IsLogicalTime g → AreTags xs → place (least_with g xs) ≡ min (place g) (least_above 0 xs)
-place_of_least g [] p a = let w = place_within g p in omega arith
+place_of_least g [] p a = let w = place_bound g p in omega arith
 place_of_least g (x ∷ rest) p a =
     let r = place_of_least g rest p a.1 in
     let s = place_of_lesser x (least_with g rest) a.0 (least_is_tag g rest p a.1) in

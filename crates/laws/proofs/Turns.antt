@@ -1,24 +1,21 @@
 -- What a turn makes: messages over its federate's connections and then an LTC, and later events.
-use Rattle.std.proofs.Common.{◌≡◌, ◌≢◌, ℕ, suc, ◌+◌, ◌<◌, ◌≤◌, Bool, true, false, cond, IsTrue, List, [], ◌∷◌, ◌++◌, refl, sym, ap, subst, ◌∙◌, arith, min, Option, None, Some, ℤ}
+use Rattle.std.proofs.Common.{◌≡◌, ℕ, suc, ◌+◌, ◌<◌, ◌≤◌, Bool, true, false, cond, IsTrue, List, [], ◌∷◌, ◌++◌, refl, sym, ap, subst, ◌∙◌, arith, min, Option, None, Some, ℤ}
 use Rattle.std.specs.Prelude.{slice_get, if◌then◌else◌, filter, map, All, nat_eq}
-use Rattle.std.proofs.lemmas.Bool.Decides.{nat_tests}
-use Rattle.tag.specs.LogicalTime.{LogicalTime, IsLogicalTime, is_at_most, is_same, sum_of, origin}
+use Rattle.std.proofs.lemmas.Bool.{eqb-true}
+use Rattle.tag.specs.LogicalTime.{LogicalTime, IsLogicalTime, is_at_most, sum_of, place}
+use Rattle.tag.proofs.Order.{at_most_places, before_places, finite_is_logical, not_forever, top}
+use Rattle.tag.proofs.SumLaws.{sum_is_logical, sum_later}
+use Rattle.tag.proofs.Paths.{plain_is_logical}
 use Rattle.network.specs.Connection.{Connection}
 use Rattle.network.specs.Event.{Event}
 use Rattle.network.specs.Network.{Network, Scheduling}
-use Rattle.network.specs.Lawful.{IsOwn, IsExternal, IsPlainDelay, no_delay, microstep, some_time}
+use Rattle.network.specs.Lawful.{IsOwn, IsExternal}
 use Rattle.signal.specs.declared.signal.Signal.{Signal}
 use Rattle.signal.specs.declared.signal.Signal.TheVariants.{Net, Ltc, Tag, Msg}
 use Rattle.network.specs.Undone.{Held}
 use Rattle.protocol.specs.Federate.{held_of, scheduled_at, message_over, sent_over, messages_from}
-use Rattle.laws.proofs.Tags.{place, top, before_true, at_most_true, same_true, finite_is_logical, origin_is_logical, sum_is_logical, sum_later, finite_by_place}
 use Rattle.laws.proofs.Upward.{next_ltc, IsOver, last_ltc, IsUp, least_key, AreNets}
 use Rattle.laws.proofs.StillUndone.{AreHeld}
-
-pub plain_is_logical : (d : LogicalTime) → IsPlainDelay d → IsLogicalTime d
-plain_is_logical d no_delay = origin_is_logical
-plain_is_logical d microstep = record { time = omega arith; microstep = omega arith; forever_alone = λ h. absurd (omega arith) }
-plain_is_logical d (some_time a b) = record { time = omega arith; microstep = omega arith; forever_alone = λ h. refl }
 
 -- messages of a turn at this tag of federate j
 abbrev pub AreMessages : Network → ℕ → LogicalTime → List Signal → Type 0
@@ -49,9 +46,6 @@ sent_if : (n : Network) (j number : ℕ) (g : LogicalTime) (c : Connection) (o :
 sent_if n j number g c o true e s = message_is n j number g c o e (s refl)
 sent_if n j number g c o false e s = tt
 
-pub same_number : (a b : ℕ) → nat_eq a b ≡ true → a ≡ b
-same_number a b h = grind (arith, nat_tests)
-
 pub messages_of_turn : (n : Network) (j : ℕ) (g : LogicalTime) (outputs : ℕ → Option ℤ) (number : ℕ) (connections : List Connection) → ((m : ℕ) → slice_get connections m ≡ slice_get n.connections (number + m)) → AreMessages n j g (messages_from n j g outputs number connections)
 messages_of_turn n j g outputs number [] here = tt
 messages_of_turn n j g outputs number (c ∷ rest) here =
@@ -60,7 +54,7 @@ messages_of_turn n j g outputs number (c ∷ rest) here =
     let onward : (m : ℕ) → slice_get rest m ≡ slice_get n.connections ((number + 1) + m) =
     λ m. (let moved : number + suc m ≡ (number + 1) + m = omega arith in here (suc m) ∙ ap (slice_get n.connections) moved) in
     messages-append n j g (sent_over n j g outputs number c) (messages_from n j g outputs (number + 1) rest)
-    (sent_if n j number g c (outputs c.port) (nat_eq c.source j) first (same_number c.source j))
+    (sent_if n j number g c (outputs c.port) (nat_eq c.source j) first (eqb-true c.source j))
     (messages_of_turn n j g outputs (number + 1) rest onward)
 
 pub next_of_turn : (n : Network) (j : ℕ) (g : LogicalTime) (xs : List Signal) → AreMessages n j g xs → next_ltc (xs ++ Ltc g ∷ []) ≡ Some g
@@ -104,10 +98,6 @@ all_first P x xs h = h 0 x (omega arith)
 pub all_rest : {X : Type 0} (P : X → Type 0) (x : X) (xs : List X) → All P (x ∷ xs) → All P xs
 all_rest P x xs h = λ k d l. h (suc k) d (omega arith)
 
-not_same : (d : LogicalTime) (b : Bool) → (b ≡ true → d ≡ origin) → d ≢ origin → b ≡ false
-not_same d true s h = absurd (h (s refl))
-not_same d false s h = refl
-
 held_if : (stop : LogicalTime) (low : ℕ) (x : Held) (more : List Held) (b : Bool) → IsLogicalTime x.tag → low ≤ place x.tag → (b ≡ true → place x.tag ≤ place stop) → AreHeld stop low more → AreHeld stop low (cond b (x ∷ more) more)
 held_if stop low x more true p l t r = (p, l, t refl, r)
 held_if stop low x more false p l t r = r
@@ -119,9 +109,9 @@ scheduled_are_held n j g (s ∷ rest) p q l a =
     let own : IsOwn n j s = all_first (IsOwn n j) s rest a in
     let delay = plain_is_logical s.delay own.delay in
     let sum = sum_is_logical g s.delay p delay in
-    let later = before_true g (sum_of g s.delay) p sum (sum_later g s.delay p (not_same s.delay (is_same s.delay origin) (same_true s.delay origin) own.later) (finite_by_place g p l)) in
+    let later = before_places g (sum_of g s.delay) p sum (sum_later g s.delay p (not_forever g l) own.later) in
     held_if n.stop (place g + 1) (scheduled_at g s) (filter (λ e. is_at_most e.tag n.stop) (map (scheduled_at g) rest)) (is_at_most (sum_of g s.delay) n.stop)
-    sum (omega arith) (at_most_true (sum_of g s.delay) n.stop sum q) (scheduled_are_held n j g rest p q l (all_rest (IsOwn n j) s rest a))
+    sum (omega arith) (at_most_places (sum_of g s.delay) n.stop sum q) (scheduled_are_held n j g rest p q l (all_rest (IsOwn n j) s rest a))
 
 external_if : (stop : LogicalTime) (e : Event) (j : ℕ) (rest : List Event) (b : Bool) → IsLogicalTime e.tag → place e.tag ≤ place stop → AreHeld stop 0 (map held_of (filter (λ x. nat_eq x.reactor j) rest)) → AreHeld stop 0 (map held_of (cond b (e ∷ filter (λ x. nat_eq x.reactor j) rest) (filter (λ x. nat_eq x.reactor j) rest)))
 external_if stop e j rest true p l r = (p, omega arith, l, r)
@@ -133,4 +123,4 @@ external_are_held n j [] q a = tt
 external_are_held n j (e ∷ rest) q a =
     let here : IsExternal n e = all_first (IsExternal n) e rest a in
     let p = finite_is_logical e.tag here.tag in
-    external_if n.stop e j rest (nat_eq e.reactor j) p (at_most_true e.tag n.stop p q here.in_time) (external_are_held n j rest q (all_rest (IsExternal n) e rest a))
+    external_if n.stop e j rest (nat_eq e.reactor j) p (at_most_places e.tag n.stop p q here.in_time) (external_are_held n j rest q (all_rest (IsExternal n) e rest a))

@@ -1,12 +1,12 @@
 -- What stands in the queue from a federate to the coordinator: its NETs, its LTCs, and before each LTC the messages of that turn.
 use Rattle.std.proofs.Common.{◌≡◌, ℕ, ◌+◌, ◌≤◌, IsTrue, List, [], ◌∷◌, ◌++◌, refl, subst, arith, min, Option, None, Some}
 use Rattle.std.specs.Prelude.{slice_get, ◌||◌}
-use Rattle.tag.specs.LogicalTime.{LogicalTime, IsLogicalTime, is_at_most, is_same, sum_of, forever}
+use Rattle.tag.specs.LogicalTime.{LogicalTime, IsLogicalTime, is_at_most, is_same, sum_of, forever, place}
+use Rattle.tag.proofs.Order.{top}
 use Rattle.network.specs.Connection.{Connection}
 use Rattle.network.specs.Network.{Network}
 use Rattle.signal.specs.declared.signal.Signal.{Signal}
 use Rattle.signal.specs.declared.signal.Signal.TheVariants.{Net, Ltc, Tag, Msg}
-use Rattle.laws.proofs.Tags.{place, top}
 use Rattle.laws.proofs.Transit.{least_above, Covers}
 
 -- the next LTC: of messages the tag of the turn that sent them

@@ -1,10 +1,10 @@
 -- What waits for a slot at a tag: on queues the last message for it, and what is undone.
 use Rattle.std.proofs.Common.{◌≡◌, ℕ, ◌<◌, ◌≤◌, Bool, true, false, cond, List, [], ◌∷◌, ◌++◌, refl, sym, ap, ◌∙◌, inl, inr, arith, Option, None, Some, ℤ}
 use Rattle.std.specs.Prelude.{slice_get, nat_eq, if◌then◌else◌, ◌&&◌}
-use Rattle.std.proofs.lemmas.Bool.{false_from_ne_true}
+use Rattle.std.proofs.lemmas.Bool.{false_from_ne_true, eqb-true}
 use Rattle.std.proofs.lemmas.Bool.Decides.{nat_tests}
-use Rattle.tag.specs.LogicalTime.{LogicalTime, IsLogicalTime, is_before, is_same}
-use Rattle.tag.proofs.Order.{one_of_three}
+use Rattle.tag.specs.LogicalTime.{LogicalTime, IsLogicalTime, is_before, is_same, place}
+use Rattle.tag.proofs.Order.{before_places, not_before_places, one_of_three, same_is_equal}
 use Rattle.network.specs.Connection.{Connection}
 use Rattle.network.specs.Network.{Network}
 use Rattle.signal.specs.declared.signal.Signal.{Signal}
@@ -13,9 +13,8 @@ use Rattle.order.specs.Newest.{or_else}
 use Rattle.order.proofs.Maker.{maker}
 use Rattle.network.specs.Undone.{Held, put, put_all, look, drop_up_to, is_held_before, is_for_same}
 use Rattle.protocol.specs.Machine.{Member}
-use Rattle.laws.proofs.Tags.{place, above, before_true, before_false, same_true}
+use Rattle.laws.proofs.Tags.{above}
 use Rattle.laws.proofs.StillUndone.{IsUndone}
-use Rattle.laws.proofs.Turns.{same_number}
 use Rattle.laws.proofs.Tests.{both_left, both_right}
 use Rattle.laws.proofs.Clear.{AreClear, IsClearOver, AreUpClear, AreDownClear, completed_of}
 use Rattle.laws.proofs.ClearRuns.{AllClear}
@@ -97,8 +96,8 @@ not_both e x t slot h k l = grind (arith, nat_tests)
 put_found : (e x : Held) (rest more : List Held) (t : LogicalTime) (slot : ℕ) (b c : Bool) → is_for_same e x ≡ c → look more t slot ≡ or_else (found_in e t slot) (look rest t slot) → look (if b then e ∷ x ∷ rest else (if c then e ∷ rest else x ∷ more)) t slot ≡ or_else (found_in e t slot) (look (x ∷ rest) t slot)
 put_found e x rest more t slot true c h r = found_or (is_same e.tag t && nat_eq e.slot slot) e.value (look (x ∷ rest) t slot)
 put_found e x rest more t slot false true h r =
-    let p : e.tag ≡ x.tag = same_true e.tag x.tag (both_left (is_same e.tag x.tag) (nat_eq e.slot x.slot) h) in
-    let q : e.slot ≡ x.slot = same_number e.slot x.slot (both_right (is_same e.tag x.tag) (nat_eq e.slot x.slot) h) in
+    let p : e.tag ≡ x.tag = same_is_equal e.tag x.tag (both_left (is_same e.tag x.tag) (nat_eq e.slot x.slot) h) in
+    let q : e.slot ≡ x.slot = eqb-true e.slot x.slot (both_right (is_same e.tag x.tag) (nat_eq e.slot x.slot) h) in
     replaced (is_same e.tag t && nat_eq e.slot slot) (is_same x.tag t && nat_eq x.slot slot) e.value x.value (look rest t slot) (λ y. is_same (p y) t && nat_eq (q y) slot)
 put_found e x rest more t slot false false h r =
     ap (λ (o : Option ℤ). if is_same x.tag t && nat_eq x.slot slot then Some x.value else o) r
@@ -117,8 +116,8 @@ look_put_all (e ∷ rest) u t slot =
 
 pub equal_places : (g h : LogicalTime) → IsLogicalTime g → IsLogicalTime h → place g ≡ place h → g ≡ h
 equal_places g h p q e = elim (one_of_three g h) [
-  | inl b ↦ (let l = before_true g h p q b in absurd (omega arith))
-  | inr r ↦ elim r [ inl s ↦ s | inr b ↦ (let l = before_true h g q p b in absurd (omega arith)) ]
+  | inl b ↦ (let l = before_places g h p q b in absurd (omega arith))
+  | inr r ↦ elim r [ inl s ↦ s | inr b ↦ (let l = before_places h g q p b in absurd (omega arith)) ]
 ]
 
 drop_found : (x : Held) (rest kept : List Held) (t : LogicalTime) (slot : ℕ) (b : Bool) → (b ≡ false → (is_same x.tag t && nat_eq x.slot slot) ≡ false) → look kept t slot ≡ look rest t slot → look (cond b (x ∷ kept) kept) t slot ≡ look (x ∷ rest) t slot
@@ -132,21 +131,21 @@ look_drop stop low g t slot (x ∷ rest) p l h other =
     let a = h.1 in
     drop_found x rest (drop_up_to g rest) t slot (is_before g x.tag)
     (λ e. false_from_ne_true (is_same x.tag t && nat_eq x.slot slot) (λ k. (
-    let high = before_false g x.tag p h.0 e in
-    other (equal_places g x.tag p h.0 (omega arith) ∙ same_true x.tag t (both_left (is_same x.tag t) (nat_eq x.slot slot) k)))))
+    let high = not_before_places g x.tag p h.0 e in
+    other (equal_places g x.tag p h.0 (omega arith) ∙ same_is_equal x.tag t (both_left (is_same x.tag t) (nat_eq x.slot slot) k)))))
     (look_drop stop (place x.tag) g t slot rest p (omega arith) h.3 other)
 
 pub brought_none : (o : Option Connection) (s : LogicalTime) (v : ℤ) (a : ℕ) (t : LogicalTime) (slot : ℕ) → (leads_to o a slot ≡ true → s ≡ t → ⊥) → brought_over o s v a t slot ≡ None
 brought_none o s v a t slot h =
     ap (λ (b : Bool). if b then Some v else None)
-    (false_from_ne_true (leads_to o a slot && is_same s t) (λ k. h (both_left (leads_to o a slot) (is_same s t) k) (same_true s t (both_right (leads_to o a slot) (is_same s t) k))))
+    (false_from_ne_true (leads_to o a slot && is_same s t) (λ k. h (both_left (leads_to o a slot) (is_same s t) k) (same_is_equal s t (both_right (leads_to o a slot) (is_same s t) k))))
 
 -- nothing waits at a completed tag
 over_none : (n : Network) (completed : ℕ → Option LogicalTime) (o : Option Connection) (s : LogicalTime) (v : ℤ) (a : ℕ) (t : LogicalTime) (slot : ℕ) → place t < above (completed a) → IsClearOver n completed o s → brought_over o s v a t slot ≡ None
 over_none n completed None s v a t slot l clear = refl
 over_none n completed (Some c) s v a t slot l clear =
     brought_none (Some c) s v a t slot (λ k e. (
-    let there : c.target ≡ a = same_number c.target a (both_left (nat_eq c.target a) (nat_eq c.slot slot) k) in
+    let there : c.target ≡ a = eqb-true c.target a (both_left (nat_eq c.target a) (nat_eq c.slot slot) k) in
     let low : above (completed a) ≤ place s = clear a [] there in
     let same : place s ≡ place t = ap place e in
     omega arith))
@@ -176,7 +175,7 @@ held_none n completed a t slot [] l clear = refl
 held_none n completed a t slot (x ∷ rest) l clear =
     let other : (is_same x.tag t && nat_eq x.slot slot) ≡ false = false_from_ne_true (is_same x.tag t && nat_eq x.slot slot) (λ k. (
     let low = clear.0 a [] refl in
-    let same : place x.tag ≡ place t = ap place (same_true x.tag t (both_left (is_same x.tag t) (nat_eq x.slot slot) k)) in
+    let same : place x.tag ≡ place t = ap place (same_is_equal x.tag t (both_left (is_same x.tag t) (nat_eq x.slot slot) k)) in
     omega arith)) in
     ap (λ (b : Bool). if b then Some x.value else look rest t slot) other ∙ held_none n completed a t slot rest l clear.1
 

@@ -1,18 +1,13 @@
 -- Chains of what is pending: from an event on, over connections, hop by hop.
-use Rattle.std.specs.Prelude.{◌≡◌, ℕ, ℤ, List, [], ◌∷◌, Contains, IsTrue, Some, slice_get}
+use Rattle.std.specs.Prelude.{◌≡◌, ℕ, ℤ, List, Contains, IsTrue, Some, slice_get}
 use Rattle.tag.specs.LogicalTime.{LogicalTime}
-use Rattle.network.specs.Connection.{Connection, then_along}
+use Rattle.network.specs.Connection.{Connection, IsWalk, then_along}
 use Rattle.network.specs.Network.{Network}
 use Rattle.signal.specs.declared.signal.Signal.TheVariants.{Msg}
 use Rattle.network.specs.Undone.{Held}
 use Rattle.protocol.specs.Federate.{is_past}
 use Rattle.protocol.specs.Grant.{Rule}
 use Rattle.protocol.specs.Machine.{Member, Move, after_moves}
-
--- connections one after the other from i to j; none lead from i to i
-abbrev pub IsWalk : List Connection → ℕ → List Connection → ℕ → Type 0
-IsWalk all i [] j = i ≡ j
-IsWalk all i (c ∷ rest) j = Contains all c × (c.source ≡ i) × IsWalk all c.target rest j
 
 -- pending for reactor k at a tag: an event that is undone there, or a message for it on its way down to it, or up from its sender
 pub data IsPending (n : Network) (members : ℕ → Member) (k : ℕ) (tag : LogicalTime) : Type 0 where

@@ -1,13 +1,13 @@
 -- What the federates of the machine have run so far, and how far that is settled.
 use Rattle.std.specs.Prelude.{ℕ, List, IsTrue}
 use Rattle.tag.specs.LogicalTime.{LogicalTime, is_before}
-use Rattle.network.specs.Connection.{Connection, then_along}
+use Rattle.network.specs.Connection.{Connection, IsWalk, then_along}
 use Rattle.network.specs.Network.{Network}
 use Rattle.order.specs.History.{Turn, history_of}
 use Rattle.order.specs.Consistent.{IsConsistent}
 use Rattle.protocol.specs.Grant.{Rule}
 use Rattle.protocol.specs.Machine.{Member, Move, after_moves}
-use Rattle.laws.specs.Chains.{IsWalk, IsPending}
+use Rattle.laws.specs.Chains.{IsPending}
 
 -- the turns that each federate took, lost ones included
 abbrev pub histories_of : (ℕ → Member) → ℕ → List Turn

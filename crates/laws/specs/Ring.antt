@@ -2,8 +2,9 @@
 -- 0, the second together with what comes round. Each hands on one more than it gets.
 use Rattle.std.specs.Prelude.{ℕ, zero, suc, ℤ, pos, ◌+ℤ◌, List, [], ◌∷◌, ◌++◌, Option, None, Some, unwrap_or}
 use Rattle.network.specs.Network.{Network, Effect}
-use Rattle.network.specs.Examples.{at, outside}
+use Rattle.network.specs.Examples.{at}
 use Rattle.network.specs.Tables.{Table}
+use Rattle.network.specs.Event.{outside}
 use Rattle.protocol.specs.Examples.{first_of}
 use Rattle.protocol.specs.Grant.{grant_next}
 use Rattle.protocol.specs.Machine.{Move, ToCoordinator, ToFederate, Announce, Advance, Member, after_moves}

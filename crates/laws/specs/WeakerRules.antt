@@ -2,9 +2,9 @@
 use Rattle.std.specs.Prelude.{ℕ, zero, suc, Bool, true, false, ◌&&◌, ◌||◌, nat_eq, if◌then◌else◌, List, [], ◌∷◌, Option, None, Some, pos}
 use Rattle.std.specs.List.{list_all}
 use Rattle.tag.specs.LogicalTime.{LogicalTime, is_before, is_at_most, sum_of}
-use Rattle.network.specs.Event.{Event}
+use Rattle.network.specs.Event.{Event, outside}
 use Rattle.network.specs.Network.{Network}
-use Rattle.network.specs.Examples.{at, outside}
+use Rattle.network.specs.Examples.{at}
 use Rattle.network.specs.Tables.{Table}
 use Rattle.protocol.specs.Outcome.{Outcome}
 use Rattle.protocol.specs.Federate.{is_past}

@@ -1,6 +1,8 @@
--- Connections, and the paths that they make. Reactors, ports and slots go by number.
-use Rattle.std.specs.Prelude.{◌≡◌, ℕ, List, [], ◌∷◌, Contains, IsTrue}
+-- Connections, and the walks and paths that they make. Reactors, ports and slots go by number.
+use Rattle.std.specs.Prelude.{◌≡◌, ℕ, List, [], ◌∷◌, Contains, IsTrue, map}
+use Rattle.std.specs.List.{fold}
 use Rattle.tag.specs.LogicalTime.{LogicalTime, sum_of, is_at_most}
+use Rattle.tag.specs.Total as delays
 
 -- from an output port of one reactor to a slot (an input port) of another, or of the same
 pub record Connection : Type 0 where
@@ -10,21 +12,27 @@ pub record Connection : Type 0 where
   pub slot : ℕ
   pub delay : LogicalTime
 
--- a path of these connections from i to j: a nonempty list, each beginning where the one before ends
+-- these connections lead from i to j, each from where the one before ends; none at all lead from i to i
+abbrev pub IsWalk : List Connection → ℕ → List Connection → ℕ → Type 0
+IsWalk connections i [] j = i ≡ j
+IsWalk connections i (c ∷ rest) j = Contains connections c × (c.source ≡ i) × IsWalk connections c.target rest j
+
+-- a path from i to j: at least one connection
 abbrev pub IsPath : List Connection → ℕ → List Connection → ℕ → Type 0
 IsPath connections i [] j = ⊥
-IsPath connections i (c ∷ []) j = Contains connections c × (c.source ≡ i) × (c.target ≡ j)
-IsPath connections i (c ∷ d ∷ rest) j = Contains connections c × (c.source ≡ i) × IsPath connections c.target (d ∷ rest) j
+IsPath connections i (c ∷ rest) j = IsWalk connections i (c ∷ rest) j
+
+-- the delays of connections, one after the other
+abbrev pub delays_of : List Connection → List LogicalTime
+delays_of path = map (λ c. c.delay) path
 
 -- a delay, then those of further connections, from the first on
 abbrev pub then_along : LogicalTime → List Connection → LogicalTime
-then_along delay [] = delay
-then_along delay (c ∷ rest) = then_along (sum_of delay c.delay) rest
+then_along delay path = fold sum_of delay (delays_of path)
 
--- the total of a path: its delays, one then the next, from its first connection on
+-- the total of a path: that of its delays
 abbrev pub total_of : List Connection → LogicalTime
-total_of [] = record { time = 0; microstep = 0 }
-total_of (c ∷ rest) = then_along c.delay rest
+total_of path = delays.total_of (delays_of path)
 
 -- a delay that some path from i to j has as its total, and no path has less
 pub record IsLeastDelay (connections : List Connection) (i j : ℕ) (delay : LogicalTime) : Type 0 where

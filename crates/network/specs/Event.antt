@@ -1,7 +1,7 @@
 -- Events, and which of several events for one slot at one tag is present there.
 use Rattle.std.specs.Prelude.{ℕ, zero, suc, ◌+◌, ℤ, Bool, ◌&&◌, ◌||◌, nat_eq, nat_lt, if◌then◌else◌, List, [], ◌∷◌, ◌++◌, filter, Option, None, Some}
 use Rattle.std.specs.Option.{option_map}
-use Rattle.tag.specs.LogicalTime.{LogicalTime, is_before, is_same}
+use Rattle.tag.specs.LogicalTime.{LogicalTime, origin, is_before, is_same}
 
 -- where an event comes from: the tag of the turn that made it, and its place in that turn's list of schedulings (0 for an
 -- output, and for an external event)
@@ -16,6 +16,11 @@ pub record Event : Type 0 where
   pub slot : ℕ
   pub source : Source
   pub value : ℤ
+
+-- an event from outside; no reactor made it, so its source is the first tag
+abbrev pub outside : LogicalTime → ℕ → ℕ → ℤ → Event
+outside tag reactor slot value =
+    record { tag = tag; reactor = reactor; slot = slot; source = record { tag = origin; place = 0 }; value = value }
 
 -- the first is later than the second: by tag, then by place
 abbrev pub is_later : Source → Source → Bool

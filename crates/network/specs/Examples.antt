@@ -2,18 +2,13 @@
 -- at (1 ns, 1), since the first one's microstep carries.
 use Rattle.std.specs.Prelude.{ℕ, ℤ, pos, List, [], ◌∷◌, Option, None, nat_eq, if◌then◌else◌}
 use Rattle.tag.specs.LogicalTime.{LogicalTime, one_microstep}
-use Rattle.network.specs.Event.{Event, Entry}
+use Rattle.network.specs.Event.{Entry, outside}
 use Rattle.network.specs.Network.{Network, Effect}
 use Rattle.network.specs.Undivided.{Row}
 
 -- a tag
 abbrev pub at : ℕ → ℕ → LogicalTime
 at time microstep = record { time = time; microstep = microstep }
-
--- what comes from outside for a reactor's slot
-abbrev pub outside : LogicalTime → ℕ → ℕ → ℤ → Event
-outside tag reactor slot value =
-    record { tag = tag; reactor = reactor; slot = slot; source = record { tag = at 0 0; place = 0 }; value = value }
 
 -- the gateway hands on what comes from outside at its slot 1; the other reactor does nothing
 abbrev pub gateway_effect : ℕ → List ℤ → (ℕ → Option ℤ) → Effect

@@ -1,15 +1,10 @@
 -- What a network keeps, so that the laws hold of it. Every legal federation with its programs and inputs gives such a network.
-use Rattle.std.specs.Prelude.{◌≡◌, ◌≢◌, ℕ, ◌<◌, ◌≤◌, ◌^◌, ℤ, List, All, AllPairs, IsTrue, Option}
-use Rattle.tag.specs.LogicalTime.{LogicalTime, IsFinite, origin, one_microstep, is_at_most}
+use Rattle.std.specs.Prelude.{◌≡◌, ◌≢◌, ℕ, ◌<◌, ◌≤◌, ℤ, List, All, AllPairs, IsTrue, Option}
+use Rattle.tag.specs.LogicalTime.{IsFinite, origin, is_at_most}
+use Rattle.tag.specs.Total.{IsPlainDelay}
 use Rattle.network.specs.Connection.{Connection}
 use Rattle.network.specs.Event.{Event}
 use Rattle.network.specs.Network.{Network, Scheduling}
-
--- a delay that a connection or a scheduling may have: none, one microstep, or a time below 2^62
-pub data IsPlainDelay : LogicalTime → Type 0 where
-  no_delay : IsPlainDelay origin
-  microstep : IsPlainDelay one_microstep
-  some_time : {time : ℕ} → 0 < time → time < 2 ^ 62 → IsPlainDelay (record { time = time; microstep = 0 })
 
 -- both ends of a connection are there
 pub record IsConnected (n : Network) (c : Connection) : Type 0 where

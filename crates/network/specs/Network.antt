@@ -1,5 +1,5 @@
 -- A network: reactors that react to what is present, connections between them, and what comes from outside.
-use Rattle.std.specs.Prelude.{ℕ, ℤ, List, Option}
+use Rattle.std.specs.Prelude.{ℕ, ℤ, nat_eq, if◌then◌else◌, List, Option}
 use Rattle.tag.specs.LogicalTime.{LogicalTime}
 use Rattle.network.specs.Connection.{Connection}
 use Rattle.network.specs.Event.{Event}
@@ -34,3 +34,7 @@ pub record Network : Type 0 where
   pub opening : ℕ → List ℤ
   -- what each reactor makes of its states and of what is present at its slots
   pub effect : ℕ → List ℤ → (ℕ → Option ℤ) → Effect
+
+-- values by number, with one of them replaced
+abbrev pub with_one : {A : Type 0} → (ℕ → A) → ℕ → A → ℕ → A
+with_one values which mine other = if nat_eq other which then mine else values other

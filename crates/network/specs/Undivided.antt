@@ -4,7 +4,7 @@ use Rattle.std.specs.List.{flat_map}
 use Rattle.tag.specs.LogicalTime.{LogicalTime, is_before, is_at_most, is_same, sum_of}
 use Rattle.network.specs.Connection.{Connection}
 use Rattle.network.specs.Event.{Event, Entry, is_at, present_at, listed}
-use Rattle.network.specs.Network.{Network, Scheduling, Effect}
+use Rattle.network.specs.Network.{Network, Scheduling, Effect, with_one}
 
 -- one turn of one reactor: what was present, and which outputs were set
 pub record Row : Type 0 where
@@ -12,6 +12,16 @@ pub record Row : Type 0 where
   pub tag : LogicalTime
   pub inputs : List Entry
   pub outputs : List Entry
+
+-- the row of a reactor's turn at a tag, with these states and with this present
+abbrev pub row_of_turn : Network → ℕ → LogicalTime → List ℤ → (ℕ → Option ℤ) → Row
+row_of_turn n reactor tag states present =
+    record {
+      reactor = reactor;
+      tag = tag;
+      inputs = listed (n.slots reactor) present;
+      outputs = listed (n.ports reactor) (n.effect reactor states present).outputs;
+    }
 
 -- all states, all that is pending, and the rows so far, oldest first
 pub record Undivided : Type 0 where
@@ -23,9 +33,13 @@ pub record Undivided : Type 0 where
 abbrev pub opening_of : Network → Undivided
 opening_of n = record { states = n.opening; pending = n.external; rows = [] }
 
--- the first event's turn is before the second's: by tag, then by the reactors' ranks
+-- a reactor's turn at a tag is before another's: by tag, then by the reactors' ranks
+abbrev pub comes_before : Network → ℕ → LogicalTime → ℕ → LogicalTime → Bool
+comes_before n reactor tag other other_tag = is_before tag other_tag || (is_same tag other_tag && nat_lt (n.rank reactor) (n.rank other))
+
+-- the first event's turn is before the second's
 abbrev pub is_turn_before : Network → Event → Event → Bool
-is_turn_before n a b = is_before a.tag b.tag || (is_same a.tag b.tag && nat_lt (n.rank a.reactor) (n.rank b.reactor))
+is_turn_before n a b = comes_before n a.reactor a.tag b.reactor b.tag
 
 -- the earlier of two turns
 abbrev pub earlier_of : Network → Event → Option Event → Event
@@ -77,17 +91,11 @@ effect_at n u reactor tag = n.effect reactor (u.states reactor) (present_at u.pe
 
 -- the row of that turn
 abbrev pub row_at : Network → Undivided → ℕ → LogicalTime → Row
-row_at n u reactor tag =
-    record {
-      reactor = reactor;
-      tag = tag;
-      inputs = listed (n.slots reactor) (present_at u.pending reactor tag);
-      outputs = listed (n.ports reactor) (effect_at n u reactor tag).outputs;
-    }
+row_at n u reactor tag = row_of_turn n reactor tag (u.states reactor) (present_at u.pending reactor tag)
 
 -- the states with one reactor's replaced
 abbrev pub with_states : (ℕ → List ℤ) → ℕ → List ℤ → ℕ → List ℤ
-with_states states reactor mine other = if nat_eq other reactor then mine else states other
+with_states states reactor mine = with_one states reactor mine
 
 -- after a turn of a reactor at a tag: all that was pending for it there is gone, and what it made is pending
 abbrev pub after_turn_at : Network → Undivided → ℕ → LogicalTime → Undivided

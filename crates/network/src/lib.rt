@@ -1,11 +1,14 @@
 //! Networks of reactors, and the undivided program that they are: definitions, with no code.
 //!
-//! Promise to the layer above: words to cite. Begin with `specs/Network`, then `specs/Undivided`.
+//! Promise to the layer above: words to cite, and what holds of walks and paths (`proofs`). Begin with `specs/Network`, then
+//! `specs/Undivided`.
 #![tactic(auto)]
 
-ghost use Rattle.std.specs.Prelude.{◌≡◌, List, map};
-ghost use Rattle.tag.specs.Total as delays;
-ghost use Rattle.network.specs.Connection.{Connection, total_of};
+ghost use Rattle.std.specs.Prelude.{◌≡◌, ◌≤◌, ℕ, List, IsTrue, length};
+ghost use Rattle.tag.specs.LogicalTime.{is_at_most};
+ghost use Rattle.network.specs.Connection.{Connection, IsPath, total_of};
+ghost use Rattle.network.specs.Network.{Network};
+ghost use Rattle.network.specs.Lawful.{IsLawful};
 ghost use Rattle.network.specs.Undivided.{whole};
 ghost use Rattle.network.specs.Examples.{gateway, gateway_rows};
 
@@ -14,8 +17,8 @@ pub fn microsteps_carry()
     ensures { whole gateway 6 ≡ gateway_rows }
 {}
 
-/// The total of a path is that of its delays, one after the other.
-#[tactic(auto, using(crate::proofs::Totals::total))]
-pub fn totals_by_delays()
-    ensures { (path : List Connection) → total_of path ≡ delays.total_of (map (λ c. c.delay) path) }
+/// For each path there is one of at most as many connections as there are reactors, and its total is no more.
+pub fn short_paths_are_enough()
+    ensures { (n : Network) (i j : ℕ) (path : List Connection) → IsLawful n → IsPath n.connections i path j →
+        (short : List Connection) × IsPath n.connections i short j × (length short ≤ n.reactors) × IsTrue (is_at_most (total_of short) (total_of path)) }
 {}

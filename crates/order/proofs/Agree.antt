@@ -99,7 +99,7 @@ module _ (n : Network) (L : IsLawful n) (T U : ℕ → List Turn) (S R : ℕ →
 
     earlier_same : back_to (λ s. is_before s t) (T j) ≡ back_to (λ s. is_before s t) (U j)
     earlier_same = meet (λ s. is_before s t) (InTime n) (T j) (U j) (in_time_first j there) (in_time_second j there) (λ s r w.
-        let less = before_places (finite_is_logical w.0) (finite_is_logical p) r in
+        let less = before_places _ _ (finite_is_logical _ w.0) (finite_is_logical _ p) r in
         before j s (omega arith) there w.0 w.1 (c.earlier j s t r k) (d.earlier j s t r l))
 
     agree_here : WithTurn t (T j) ⊎ WithoutTurn t (T j) → WithTurn t (U j) ⊎ WithoutTurn t (U j) → up_to t (T j) ≡ up_to t (U j)

@@ -79,3 +79,6 @@ filter_twice p r h (y ∷ ys) = twice_step p r y ys (p y) (r y) refl refl (h y) 
 pub all_among : {X : Type 0} (xs : List X) → AllByRecursion (λ x. Among x xs) xs
 all_among [] = tt
 all_among (x ∷ xs) = (inl refl, each_more (λ y. Among y xs) (λ y. Among y (x ∷ xs)) (λ y m. inr m) xs (all_among xs))
+
+pub no_pairs : {X : Type 0} (R : X → X → Type 0) → AllPairs R []
+no_pairs R = λ i j d a b. absurd (omega arith)

@@ -5,7 +5,7 @@ use Rattle.std.specs.List.{AllByRecursion, flat_map}
 use Rattle.std.proofs.lemmas.Bool.{eqb-true, or_cases, or_parts, and_parts}
 use Rattle.std.proofs.lemmas.Bool.Decides.{nat_tests}
 use Rattle.tag.specs.LogicalTime.{LogicalTime, IsFinite, is_before, is_at_most, is_same, sum_of, place}
-use Rattle.tag.proofs.Order.{finite_is_logical, before_places, same_is_equal}
+use Rattle.tag.proofs.Order.{finite_is_logical, before_places, same_is_equal, finite_is_not_forever}
 use Rattle.tag.proofs.SumLaws.{sum_later}
 use Rattle.network.specs.Connection.{Connection}
 use Rattle.network.specs.Event.{Event, is_at}
@@ -14,7 +14,7 @@ use Rattle.network.specs.Undivided.{message_of, carried_by, scheduled_from, made
 use Rattle.network.specs.Lawful.{IsLawful, IsOwn}
 use Rattle.order.proofs.Lists.{each, each_append, each_filter}
 use Rattle.order.proofs.Keys.{key}
-use Rattle.order.proofs.Rising.{Lawfully, connections_lawful, connection_key, finite_is_not_forever}
+use Rattle.order.proofs.Rising.{Lawfully, connections_lawful, connection_key}
 
 -- some connection leads from reactor i at s to reactor j at t
 abbrev pub connects : ℕ → LogicalTime → ℕ → LogicalTime → List Connection → Bool
@@ -50,7 +50,7 @@ not_then b s u t h p = grind (arith, nat_tests)
 all_scheduled_not_at : (n : Network) (i j : ℕ) (t s : LogicalTime) → IsFinite s → (nat_eq i j && is_before s t) ≡ false → (place : ℕ) (ss : List Scheduling) → AllByRecursion (IsOwn n i) ss → AllByRecursion (NotAt j t) (scheduled_from i s place ss)
 all_scheduled_not_at n i j t s p h place [] w = tt
 all_scheduled_not_at n i j t s p h place (x ∷ xs) w = (
-  not_then (nat_eq i j) s (sum_of s x.delay) t h (sum_later s x.delay (finite_is_logical p) (finite_is_not_forever s p) w.0.later),
+  not_then (nat_eq i j) s (sum_of s x.delay) t h (sum_later s x.delay (finite_is_logical _ p) (finite_is_not_forever s p) w.0.later),
   all_scheduled_not_at n i j t s p h (place + 1) xs w.1,
 )
 
@@ -97,7 +97,7 @@ reached_before n L Settled earlier i j t s p q below k v h = elim (or_cases (nat
   | inl here ↦
       (let parts = and_parts (nat_eq i j) (is_before s t) here in
       let same : i ≡ j = eqb-true i j parts.0 in
-      let less = before_places (finite_is_logical p) (finite_is_logical q) parts.1 in
+      let less = before_places _ _ (finite_is_logical _ p) (finite_is_logical _ q) parts.1 in
       let mine : Settled j s = earlier s t j parts.1 k in
       let number : key n j s < key n j t = omega arith in
       (rw same mine, rw same number))

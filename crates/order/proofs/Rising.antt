@@ -1,17 +1,18 @@
 -- Each turn of the undivided program is later than the one before.
-use Rattle.std.proofs.Common.{◌≡◌, ℕ, ◌+◌, ◌^◌, ◌<◌, ◌≤◌, ◌⊎◌, inl, inr, ℤ, List, [], ◌∷◌, ◌++◌, Bool, true, false, cond, IsTrue, refl, ap, arith}
+use Rattle.std.proofs.Common.{◌≡◌, ℕ, ◌+◌, ◌<◌, ◌≤◌, inl, inr, ℤ, List, [], ◌∷◌, ◌++◌, Bool, true, false, cond, IsTrue, refl, arith}
 use Rattle.std.specs.Prelude.{nat_eq, Option, None, Some}
 use Rattle.std.specs.List.{AllByRecursion, flat_map}
 use Rattle.std.proofs.lemmas.Bool.{eqb-true}
-use Rattle.std.proofs.lemmas.Bool.Decides.{nat_tests}
-use Rattle.tag.specs.LogicalTime.{LogicalTime, IsLogicalTime, IsFinite, is_at_most, place, origin, forever, sum_of}
-use Rattle.tag.proofs.Order.{finite_is_logical, before_places, at_most_places}
+use Rattle.tag.specs.LogicalTime.{LogicalTime, IsLogicalTime, IsFinite, is_at_most, place, origin, sum_of}
+use Rattle.tag.specs.Total.{IsPlainDelay}
+use Rattle.tag.proofs.Order.{finite_is_logical, before_places, at_most_places, finite_is_not_forever, finite_up_to}
 use Rattle.tag.proofs.SumLaws.{sum_is_logical, sum_at_least_first, sum_later}
+use Rattle.tag.proofs.Paths.{plain_is_logical, none_or_some}
 use Rattle.network.specs.Connection.{Connection}
 use Rattle.network.specs.Event.{Event}
 use Rattle.network.specs.Network.{Network, Scheduling, Effect}
 use Rattle.network.specs.Undivided.{message_of, carried_by, scheduled_from, made_by}
-use Rattle.network.specs.Lawful.{IsLawful, IsPlainDelay, no_delay, microstep, some_time, IsConnected, IsExternal, IsOwn}
+use Rattle.network.specs.Lawful.{IsLawful, IsConnected, IsExternal, IsOwn}
 use Rattle.order.proofs.Lists.{each, each_append, each_filter}
 use Rattle.order.proofs.Keys.{key, low_rank}
 
@@ -24,35 +25,19 @@ pub record IsLater (n : Network) (bound : ℕ) (e : Event) : Type 0 where
   pub sound : IsExternal n e
   pub later : bound < event_key n e
 
-plain_is_logical : (d : LogicalTime) → IsPlainDelay d → IsLogicalTime d
-plain_is_logical d no_delay = record { time = omega arith; microstep = omega arith; forever_alone = λ h. refl }
-plain_is_logical d microstep = record { time = omega arith; microstep = omega arith; forever_alone = λ h. absurd (omega arith) }
-plain_is_logical d (some_time {time = t} a b) = record { time = omega arith; microstep = omega arith; forever_alone = λ h. refl }
-
-finite_up_to : (g stop : LogicalTime) → IsLogicalTime g → IsFinite stop → IsTrue (is_at_most g stop) → IsFinite g
-finite_up_to g stop p q h = record { time = grind (arith, nat_tests); microstep = p.microstep }
-
-pub finite_is_not_forever : (g : LogicalTime) → IsFinite g → g ≡ forever → ⊥
-finite_is_not_forever g p e = let t = p.time in let f : g.time ≡ 2 ^ 62 = ap (λ (x : LogicalTime). x.time) e in omega arith
-
 sum_place : (g d : LogicalTime) → IsFinite g → IsLogicalTime d → place g ≤ place (sum_of g d)
-sum_place g d p q = at_most_places (finite_is_logical p) (sum_is_logical g d (finite_is_logical p) q) (sum_at_least_first g d (finite_is_logical p))
+sum_place g d p q = at_most_places _ _ (finite_is_logical _ p) (sum_is_logical g d (finite_is_logical _ p) q) (sum_at_least_first g d (finite_is_logical _ p))
 
 sum_place_later : (g d : LogicalTime) → IsFinite g → IsLogicalTime d → (d ≡ origin → ⊥) → place g < place (sum_of g d)
 sum_place_later g d p q h =
-    before_places (finite_is_logical p) (sum_is_logical g d (finite_is_logical p) q) (sum_later g d (finite_is_logical p) (finite_is_not_forever g p) h)
-
-origin_or_not : (d : LogicalTime) → IsPlainDelay d → (d ≡ origin) ⊎ (d ≡ origin → ⊥)
-origin_or_not d no_delay = inl refl
-origin_or_not d microstep = inr (λ e. let f : 1 ≡ 0 = ap (λ (x : LogicalTime). x.microstep) e in absurd (omega arith))
-origin_or_not d (some_time {time = t} a b) = inr (λ e. let f : t ≡ 0 = ap (λ (x : LogicalTime). x.time) e in absurd (omega arith))
+    before_places _ _ (finite_is_logical _ p) (sum_is_logical g d (finite_is_logical _ p) q) (sum_later g d (finite_is_logical _ p) (finite_is_not_forever g p) h)
 
 -- a turn at the end of a connection is later than the one at its beginning
 pub connection_key : (n : Network) → IsLawful n → (c : Connection) → IsConnected n c → (c.delay ≡ origin → n.rank c.source < n.rank c.target) → (t : LogicalTime) → IsFinite t → key n c.source t < key n c.target (sum_of t c.delay)
 connection_key n L c w r t p =
     let low = low_rank n L c.source w.source in
     let d = plain_is_logical c.delay w.delay in
-    elim (origin_or_not c.delay w.delay) [
+    elim (none_or_some c.delay w.delay) [
       | inl e ↦ let rise = r e in let stay = sum_place t c.delay p d in omega arith
       | inr e ↦ let rise = sum_place_later t c.delay p d e in omega arith
     ]
@@ -61,7 +46,7 @@ pub scheduling_key : (n : Network) → IsLawful n → (j : ℕ) → j < n.reacto
 scheduling_key n L j h d t w e p = let rise = sum_place_later t d p (plain_is_logical d w) e in omega arith
 
 pub sum_is_finite : (n : Network) → IsLawful n → (t d : LogicalTime) → IsFinite t → IsPlainDelay d → IsTrue (is_at_most (sum_of t d) n.stop) → IsFinite (sum_of t d)
-sum_is_finite n L t d p w h = finite_up_to (sum_of t d) n.stop (sum_is_logical t d (finite_is_logical p) (plain_is_logical d w)) L.stop h
+sum_is_finite n L t d p w h = finite_up_to (sum_of t d) n.stop (sum_is_logical t d (finite_is_logical _ p) (plain_is_logical d w)) L.stop h
 
 -- what a connection keeps in a lawful network
 pub record Lawfully (n : Network) (c : Connection) : Type 0 where

@@ -3,14 +3,12 @@ use Rattle.std.proofs.Common.{◌≡◌, ◌<◌, [], ◌∷◌, true, refl, ap,
 use Rattle.std.specs.Prelude.{AllPairs}
 use Rattle.std.proofs.lemmas.List.Kept.{AllPairs-cons}
 use Rattle.tag.specs.LogicalTime.{LogicalTime}
-use Rattle.network.specs.Event.{Event}
-use Rattle.network.specs.Lawful.{IsLawful, microstep, IsConnected, IsExternal, FallApart, IsOwn}
-use Rattle.network.specs.Examples.{gateway, at, outside}
+use Rattle.tag.specs.Total.{some_delay}
+use Rattle.network.specs.Event.{Event, outside}
+use Rattle.network.specs.Lawful.{IsLawful, IsConnected, IsExternal, FallApart, IsOwn}
+use Rattle.network.specs.Examples.{gateway, at}
 use Rattle.order.specs.Consistent.{IsConsistent, Where}
-use Rattle.order.proofs.Lists.{from_each}
-
-no_pairs : (R : Event → Event → Type 0) → AllPairs R []
-no_pairs R = λ i j d a b. absurd (omega arith)
+use Rattle.order.proofs.Lists.{from_each, no_pairs}
 
 -- the events for the gateway itself come at two times
 two_times : (a b : LogicalTime) → a.time ≡ 0 → b.time ≡ 1 → a ≡ b → ⊥
@@ -37,7 +35,7 @@ gateway_is_lawful = record {
   few_reactors = omega arith;
   stop = record { time = omega arith; microstep = omega arith };
   connected = from_each (IsConnected gateway) gateway.connections
-      (record { source = omega arith; port = omega arith; target = omega arith; slot = omega arith; delay = microstep }, tt);
+      (record { source = omega arith; port = omega arith; target = omega arith; slot = omega arith; delay = some_delay (0, omega arith, refl) }, tt);
   one_source = λ i j d a b. absurd (omega arith);
   ports_apart = from_each (λ c. All (λ e. e.reactor ≡ c.target → e.slot ≡ c.slot → ⊥) gateway.external) gateway.connections
       (from_each (λ e. e.reactor ≡ 1 → e.slot ≡ 1 → ⊥) gateway.external ((λ p q. absurd (omega arith)), ((λ p q. absurd (omega arith)), ((λ p q. absurd (omega arith)), tt))), tt);

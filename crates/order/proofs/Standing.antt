@@ -11,7 +11,7 @@ use Rattle.network.specs.Network.{Network}
 use Rattle.network.specs.Undivided.{Undivided, Row, is_turn_before, earlier_of, first_of_turns, made_by, effect_at, row_at, after_turn_at, after_turn_of, undivided_after, whole}
 use Rattle.network.specs.Lawful.{IsLawful, IsExternal}
 use Rattle.order.specs.Settled.{is_row_before, is_ahead_of, is_settled}
-use Rattle.order.proofs.Lists.{Among, each, from_each, each_more, each_append, each_among, each_filter, each_both, each_of_none}
+use Rattle.order.proofs.Lists.{Among, each, from_each, each_more, each_append, each_among, each_filter, each_both, each_of_none, no_pairs}
 use Rattle.order.proofs.Keys.{key, low_rank, key-before, key_injective}
 use Rattle.order.proofs.Rising.{event_key, IsLater, made_later}
 
@@ -133,9 +133,6 @@ reached_turn n L turns u r (Some e) h =
       standing = standing_turn n L u r.bound e r.standing h;
     }
 
-no_pairs : {X : Type 0} (R : X → X → Type 0) → AllPairs R []
-no_pairs R = λ i j d a b. absurd (omega arith)
-
 pub reached : (n : Network) → IsLawful n → (turns : ℕ) → Reached n turns (undivided_after n turns)
 reached n L zero =
     record {
@@ -178,6 +175,7 @@ next_is_later n L turns e f p q =
 
 -- a turn past a number that leaves room for every rank is later than the tag
 well_before : (g h : LogicalTime) (r s : ℕ) → h.microstep < 2 ^ 32 → s < 64 → place g * 64 + 64 ≤ place h * 64 + s → IsTrue (is_before g h)
+unfolding place
 well_before g h r s m b le = let more : place g < place h = omega arith in grind (arith, nat_tests)
 
 ahead : (n : Network) → IsLawful n → (es : List Event) (bound : ℕ) → AllByRecursion (IsDue n bound) es → (j : ℕ) (t : LogicalTime) → place t * 64 + 64 ≤ bound → (o : Option Event) → FirstIs n es o → IsTrue (is_ahead_of n j t o)

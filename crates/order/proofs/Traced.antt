@@ -58,7 +58,7 @@ absent n j t (x ∷ xs) a =
     ap (λ (b : Bool). b || has_turn_at t xs) other ∙ absent n j t xs a.1
 
 below_tag : (n : Network) (j : ℕ) (s t : LogicalTime) → IsFinite s → IsFinite t → key n j s < key n j t → IsTrue (is_before s t)
-below_tag n j s t p q h = before_from_places (finite_is_logical p) (finite_is_logical q) (omega arith)
+below_tag n j s t p q h = before_from_places _ _ (finite_is_logical _ p) (finite_is_logical _ q) (omega arith)
 
 of_this : (states : ℕ → List ℤ) (j : ℕ) (mine : List ℤ) → with_states states j mine j ≡ mine
 of_this states j mine = let e : nat_eq j j ≡ true = grind (arith, nat_tests) in ap (λ (b : Bool). cond b mine (states j)) e

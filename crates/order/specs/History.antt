@@ -1,9 +1,9 @@
 -- Histories: the turns that a reactor took, newest first, and what replaying them gives.
 use Rattle.std.specs.Prelude.{ℕ, ℤ, Bool, false, ◌||◌, nat_eq, if◌then◌else◌, List, [], ◌∷◌, ◌++◌, map, reverse, AllPairs, IsTrue, Option, None, Some}
 use Rattle.tag.specs.LogicalTime.{LogicalTime, is_before, is_at_most, is_same}
-use Rattle.network.specs.Event.{Entry, listed}
+use Rattle.network.specs.Event.{Entry}
 use Rattle.network.specs.Network.{Network, Effect}
-use Rattle.network.specs.Undivided.{Row, part}
+use Rattle.network.specs.Undivided.{Row, row_of_turn, part}
 
 -- a turn: at which tag, and what was present at the reactor's slots
 pub record Turn : Type 0 where
@@ -60,13 +60,7 @@ up_to tag history = back_to (λ other. is_at_most other tag) history
 
 -- the row of a turn after a history
 abbrev pub row_after : Network → ℕ → List Turn → Turn → Row
-row_after n reactor earlier turn =
-    record {
-      reactor = reactor;
-      tag = turn.tag;
-      inputs = listed (n.slots reactor) turn.present;
-      outputs = listed (n.ports reactor) (effect_after n reactor earlier turn).outputs;
-    }
+row_after n reactor earlier turn = row_of_turn n reactor turn.tag (states_after n reactor earlier) turn.present
 
 -- the rows of a history, oldest first
 abbrev pub rows_of : Network → ℕ → List Turn → List Row

@@ -1,13 +1,9 @@
 -- The order of turns, beginnings of their rows, and what is settled in the undivided program.
-use Rattle.std.specs.Prelude.{◌≡◌, ℕ, ◌+◌, ◌*◌, ◌≤◌, Bool, true, ◌&&◌, ◌||◌, nat_lt, List, ◌++◌, Option, None, Some}
-use Rattle.tag.specs.LogicalTime.{LogicalTime, place, is_before, is_same}
+use Rattle.std.specs.Prelude.{◌≡◌, ℕ, ◌+◌, ◌*◌, ◌≤◌, Bool, true, List, ◌++◌, Option, None, Some}
+use Rattle.tag.specs.LogicalTime.{LogicalTime, place}
 use Rattle.network.specs.Event.{Event}
 use Rattle.network.specs.Network.{Network}
-use Rattle.network.specs.Undivided.{Undivided, Row, first_of_turns}
-
--- this reactor's turn at this tag is before the other's at the other tag: by tag, then by rank
-abbrev pub comes_before : Network → ℕ → LogicalTime → ℕ → LogicalTime → Bool
-comes_before n reactor tag other other_tag = is_before tag other_tag || (is_same tag other_tag && nat_lt (n.rank reactor) (n.rank other))
+use Rattle.network.specs.Undivided.{Undivided, Row, comes_before, first_of_turns}
 
 -- one row's turn is before another's
 abbrev pub is_row_before : Network → Row → Row → Bool

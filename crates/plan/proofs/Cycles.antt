@@ -8,40 +8,29 @@ use Rattle.std.proofs.lemmas.List.Elements.{All-nil, All-cons, All-head, All-tai
 use Rattle.std.proofs.lemmas.List.Kept.{AllPairs-cons}
 use Rattle.std.proofs.lemmas.Map.Made.{IsDistinct-from_AllPairs}
 use Rattle.std.proofs.lemmas.Map.Steps.{length-le_from_distinct_below}
+use Rattle.std.proofs.lemmas.Bool.{eqb-true}
 use Rattle.tag.specs.LogicalTime.{origin}
-use Rattle.network.specs.Connection.{Connection, IsPath}
+use Rattle.network.specs.Connection.{Connection, IsWalk, IsPath}
+use Rattle.network.proofs.Walks.{AreImmediate, walk_of_path, immediate_from_total, total_from_immediate}
 use Rattle.plan.specs.Cycles.{HasNoCycleAt, IsCycleFrom, IsWay, IsSource, IsReached, JoinsTree, IsTree}
 use Rattle.plan.proofs.Levels.{EndsBelow}
-use Rattle.plan.proofs.Paths.{AreImmediate, immediate_from_total, total_from_immediate, immediate_test, immediate_from_test}
+use Rattle.plan.proofs.Paths.{immediate_test, immediate_from_test}
 
--- ---- ways without any delay, that of no connection too
+-- ---- walks without any delay
 
 abbrev pub Leads : List Connection → ℕ → List Connection → ℕ → Type 0
-Leads cs i [] j = i ≡ j
-Leads cs i (c ∷ rest) j = Contains cs c × (c.delay ≡ origin) × (c.source ≡ i) × Leads cs c.target rest j
-
-leads_from_path : (cs : List Connection) (i : ℕ) (path : List Connection) (j : ℕ) → IsPath cs i path j → AreImmediate path → Leads cs i path j
-leads_from_path cs i [] j is_path each = absurd is_path
-leads_from_path cs i (c ∷ []) j is_path each = (is_path.0, each.0, is_path.1, is_path.2)
-leads_from_path cs i (c ∷ d ∷ rest) j is_path each =
-    (is_path.0, each.0, is_path.1, leads_from_path cs c.target (d ∷ rest) j is_path.2 each.1)
-
-path_from_leads : (cs : List Connection) (i : ℕ) (c : Connection) (rest : List Connection) (j : ℕ) → Leads cs i (c ∷ rest) j → IsPath cs i (c ∷ rest) j
-path_from_leads cs i c [] j leads = (leads.0, leads.2, leads.3)
-path_from_leads cs i c (d ∷ rest) j leads = (leads.0, leads.2, path_from_leads cs c.target d rest j leads.3)
-
-immediate_from_leads : (cs : List Connection) (i : ℕ) (path : List Connection) (j : ℕ) → Leads cs i path j → AreImmediate path
-immediate_from_leads cs i [] j leads = tt
-immediate_from_leads cs i (c ∷ rest) j leads = (leads.1, immediate_from_leads cs c.target rest j leads.3)
+Leads cs i walk j = IsWalk cs i walk j × AreImmediate walk
 
 further : (cs : List Connection) (i : ℕ) (front : List Connection) (j : ℕ) (back : List Connection) (k : ℕ)
     → Leads cs i front j → Leads cs j back k → Leads cs i (front ++ back) k
-further cs i [] j back k first next = subst (λ m. Leads cs m back k) (sym first) next
-further cs i (c ∷ front) j back k first next = (first.0, first.1, first.2, further cs c.target front j back k first.3 next)
+further cs i [] j back k first next = subst (λ m. Leads cs m back k) (sym first.0) next
+further cs i (c ∷ front) j back k first next =
+    let on : Leads cs c.target (front ++ back) k = further cs c.target front j back k (first.0.2, first.1.1) next in
+    ((first.0.0, first.0.1, on.0), (first.1.0, on.1))
 
 leads_nowhere : (cs : List Connection) (i : ℕ) (c : Connection) (rest : List Connection) → HasNoCycleAt cs i → Leads cs i (c ∷ rest) i → ⊥
 leads_nowhere cs i c rest none leads =
-    none (c ∷ rest) (path_from_leads cs i c rest i leads) (total_from_immediate (c ∷ rest) (immediate_from_leads cs i (c ∷ rest) i leads))
+    none (c ∷ rest) leads.0 (total_from_immediate (c ∷ rest) leads.1)
 
 -- ---- a cycle goes round from each of its federates
 
@@ -51,9 +40,9 @@ each_on : (cs : List Connection) (P : ℕ → Type 0) (i : ℕ) (path : List Con
 each_on cs P i [] j leads reached = All-nil (λ (c : Connection). P c.source)
 each_on cs P i (c ∷ rest) j leads reached =
     All-cons (λ (x : Connection). P x.source) c rest
-    (subst P (sym leads.2) (reached i [] c rest refl leads))
-    (each_on cs P c.target rest j leads.3
-    (λ m front d back first next. reached m (c ∷ front) d back (leads.0, leads.1, leads.2, first) next))
+    (subst P (sym leads.0.1) (reached i [] c rest (refl, tt) leads))
+    (each_on cs P c.target rest j (leads.0.2, leads.1.1)
+    (λ m front d back first next. reached m (c ∷ front) d back ((leads.0.0, leads.0.1, first.0), (leads.1.0, first.1)) next))
 
 -- so where none goes through a lower federate, it begins with its lowest
 lowest_from : (cs : List Connection) (start : ℕ) (path : List Connection) → ((lower : ℕ) → lower < start → HasNoCycleAt cs lower)
@@ -137,15 +126,15 @@ closed_by_one cs root tree closed i c contained immediate source onward =
 
 closed_back : (cs : List Connection) (root : ℕ) (tree : List Connection) → All (λ c. ¬ JoinsTree root tree c) cs
     → (i : ℕ) (c : Connection) (rest : List Connection) → Leads cs i (c ∷ rest) root → IsSource tree i
-closed_back cs root tree closed i c [] leads = closed_by_one cs root tree closed i c leads.0 leads.1 leads.2 (inl leads.3)
+closed_back cs root tree closed i c [] leads = closed_by_one cs root tree closed i c leads.0.0 leads.1.0 leads.0.1 (inl leads.0.2)
 closed_back cs root tree closed i c (d ∷ rest) leads =
-    closed_by_one cs root tree closed i c leads.0 leads.1 leads.2 (inr (closed_back cs root tree closed c.target d rest leads.3))
+    closed_by_one cs root tree closed i c leads.0.0 leads.1.0 leads.0.1 (inr (closed_back cs root tree closed c.target d rest (leads.0.2, leads.1.1)))
 
 -- so none is on a cycle with the root
 pub none_from_closed : (cs : List Connection) (root : ℕ) (tree : List Connection) → IsGrown cs root tree
     → All (λ c. ¬ JoinsTree root tree c) cs → HasNoCycleAt cs root
 none_from_closed cs root tree grown closed path is_path total =
-    round path (leads_from_path cs root path root is_path (immediate_from_total path total)) is_path
+    round path (walk_of_path cs root path root is_path, immediate_from_total path total) is_path
   where
     round : (path : List Connection) → Leads cs root path root → IsPath cs root path root → ⊥
     round [] leads is_path = is_path
@@ -200,15 +189,12 @@ abbrev pub way_from : ℕ → List Connection → List Connection
 way_from federate [] = []
 way_from federate (c ∷ tree) = if nat_eq c.source federate then c ∷ way_from c.target tree else way_from federate tree
 
-number_of_test : (m n : ℕ) → nat_eq m n ≡ true → m ≡ n
-number_of_test m n e = grind (arith, nat_tests)
-
 no_number_of_test : (m n : ℕ) → nat_eq m n ≡ false → m ≢ n
 no_number_of_test m n e = grind (arith, nat_tests)
 
 way_leads : (cs : List Connection) (root : ℕ) (tree : List Connection) → All (λ c. Contains cs c) tree → IsTree root tree
     → (i : ℕ) → IsReached root tree i → Leads cs i (way_from i tree) root
-way_leads cs root [] contained is_tree i (inl here) = here
+way_leads cs root [] contained is_tree i (inl here) = (here, tt)
 way_leads cs root [] contained is_tree i (inr there) = absurd (no_source i there)
 way_leads cs root (c ∷ tree) contained is_tree i start =
     chosen (nat_eq c.source i) refl start (way_leads cs root tree (All-tail (λ (x : Connection). Contains cs x) c tree contained) is_tree.1)
@@ -225,7 +211,8 @@ way_leads cs root (c ∷ tree) contained is_tree i start =
         → ((j : ℕ) → IsReached root tree j → Leads cs j (way_from j tree) root)
         → Leads cs i (if b then c ∷ way_from c.target tree else way_from i tree) root
     chosen true e start rest =
-        (All-head (λ (x : Connection). Contains cs x) c tree contained, immediate_from_test c is_tree.0.immediate, number_of_test c.source i e, rest c.target is_tree.0.onward)
+        let on : Leads cs c.target (way_from c.target tree) root = rest c.target is_tree.0.onward in
+        ((All-head (λ (x : Connection). Contains cs x) c tree contained, eqb-true c.source i e, on.0), (immediate_from_test c is_tree.0.immediate, on.1))
     chosen false e start rest = rest i (later (no_number_of_test c.source i e) start)
 
 -- what holds of each federate at which a tree begins holds along the way
@@ -266,17 +253,13 @@ pub way_whole : (first : Connection) (tree path : List Connection) → path ≡ 
     → (root : ℕ) → JoinsTree root tree first → IsTree root tree → IsWay (first ∷ tree) first.source path root
 way_whole first tree path whole root joined is_tree =
     let contained : All (λ c. Contains (first ∷ tree) c) (first ∷ tree) = λ k d below. Contains-get_or (first ∷ tree) k d below in
-    let leads : Leads (first ∷ tree) first.source (first ∷ way_from first.target tree) root = (
-      All-head (λ (x : Connection). Contains (first ∷ tree) x) first tree contained,
-      immediate_from_test first joined.immediate,
-      refl,
-      way_leads (first ∷ tree) root tree (All-tail (λ (x : Connection). Contains (first ∷ tree) x) first tree contained) is_tree first.target joined.onward,
-    ) in
+    let on : Leads (first ∷ tree) first.target (way_from first.target tree) root
+    = way_leads (first ∷ tree) root tree (All-tail (λ (x : Connection). Contains (first ∷ tree) x) first tree contained) is_tree first.target joined.onward in
     subst (λ p. IsWay (first ∷ tree) first.source p root) (sym whole)
     (record {
-      is_path = path_from_leads (first ∷ tree) first.source first (way_from first.target tree) root leads;
+      is_path = (All-head (λ (x : Connection). Contains (first ∷ tree) x) first tree contained, refl, on.0);
       immediate = total_from_immediate (first ∷ way_from first.target tree)
-          (immediate_from_leads (first ∷ tree) first.source (first ∷ way_from first.target tree) root leads);
+          (immediate_from_test first joined.immediate, on.1);
       apart = AllPairs-cons (λ (x y : Connection). x.source ≢ y.source) first (way_from first.target tree)
           (apart_from_way tree first.source first.target joined.apart) (way_apart root tree is_tree first.target);
     })
@@ -298,7 +281,7 @@ cycle_found cs start tree c path none grown contained source way =
     = subst (λ m. IsPath cs m path start) source (path_of_more (c ∷ tree) cs within c.source path start way.is_path) in
     record {
       way = record { is_path = is_path; immediate = way.immediate; apart = way.apart };
-      lowest = lowest_from cs start path none (leads_from_path cs start path start is_path (immediate_from_total path way.immediate));
+      lowest = lowest_from cs start path none (walk_of_path cs start path start is_path, immediate_from_total path way.immediate);
     }
 
 -- ---- federates on a path

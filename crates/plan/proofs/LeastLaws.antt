@@ -1,12 +1,13 @@
 -- Least delays of legal drafts.
-use Rattle.std.proofs.Common.{◌≡◌, ℕ, ◌<◌, ◌≤◌, ◌^◌, List, [], ◌∷◌, length, refl, sym, ◌∙◌, subst, inl, inr, arith, get_or}
-use Rattle.std.specs.Prelude.{All, Contains, IfSome, MatchOption, Option, None, Some}
+use Rattle.std.proofs.Common.{◌≡◌, ℕ, ◌<◌, ◌≤◌, ◌^◌, List, [], ◌∷◌, length, refl, sym, ◌∙◌, subst, arith, get_or}
+use Rattle.std.specs.Prelude.{All, IfSome, MatchOption, Option, None, Some}
 use Rattle.std.specs.List.{filter_map, cons_option}
-use Rattle.std.proofs.lemmas.List.Elements.{All-nil, All-cons, All-head, All-tail, All-contains_itself}
+use Rattle.std.proofs.lemmas.List.Elements.{All-nil, All-cons, All-head, All-tail}
 use Rattle.tag.specs.LogicalTime.{LogicalTime, sum_of}
-use Rattle.tag.specs.Total.{IsConnectionDelay}
+use Rattle.tag.specs.Total.{IsPlainDelay, no_delay, some_delay}
 use Rattle.network.specs.Connection.{Connection, IsLeastDelay, IsUnreachable}
 use Rattle.network.specs.Tables.{IsWithin}
+use Rattle.network.proofs.Tables.{each_contained}
 use Rattle.plan.specs.declared.draft.ConnectionDraft.{ConnectionDraft}
 use Rattle.plan.specs.declared.draft.Draft.{Draft}
 use Rattle.plan.specs.Federation.{delay_after, connection_of, connections_of, federate_count}
@@ -27,16 +28,16 @@ each_numbered {Y = Y} Q P h (x ∷ xs) given each = whatever (h x) refl (each_nu
     whatever None is rest = rest
     whatever (Some y) is rest = All-cons P y (filter_map h xs) (each x y (All-head Q x xs given) is) rest
 
-delay_after_is : (after : Option ℕ) → IfSome after (λ t. t < 2 ^ 62) → IsConnectionDelay (delay_after after)
-delay_after_is None below = inl refl
-delay_after_is (Some time) below = inr (time, below, refl)
+pub plain_after : (after : Option ℕ) → IfSome after (λ t. t < 2 ^ 62) → IsPlainDelay (delay_after after)
+plain_after None below = no_delay
+plain_after (Some time) below = some_delay (time, below, refl)
 
-pub connection_delays : (d : Draft) → IsLegal d → All (λ c. IsConnectionDelay c.delay) (connections_of d)
+pub connection_delays : (d : Draft) → IsLegal d → All (λ c. IsPlainDelay c.delay) (connections_of d)
 connection_delays d legal =
-    each_numbered (λ (c : ConnectionDraft). IfSome c.after (λ t. t < 2 ^ 62)) (λ (c : Connection). IsConnectionDelay c.delay) (connection_of d.federates) d.connections legal.delays
+    each_numbered (λ (c : ConnectionDraft). IfSome c.after (λ t. t < 2 ^ 62)) (λ (c : Connection). IsPlainDelay c.delay) (connection_of d.federates) d.connections legal.delays
     (λ c x below is.
     let joins : Joins d.federates c x = joins_from_connection_of d.federates c x is in
-    subst (λ g. IsConnectionDelay g) (sym joins.delay) (delay_after_is c.after below))
+    subst (λ g. IsPlainDelay g) (sym joins.delay) (plain_after c.after below))
 
 -- ---- least delays
 
@@ -54,9 +55,6 @@ few d i j legal = by (least_of d i j) (attained (connections_of d) (federate_cou
         record { path = found.path; is_path = found.is_path; total = found.total; few = omega arith }
 
 pub ruleset least_delays = (least, few)
-
-each_contained : {X : Type 0} (P : X → Type 0) (xs : List X) → ((x : X) → Contains xs x → P x) → All P xs
-each_contained P xs each k d below = each (get_or xs k d) (All-contains_itself xs k d below)
 
 pub direct : (d : Draft) → IsLegal d → All (λ c. IsWithin (least_of d c.source c.target) c.delay) (connections_of d)
 direct d legal =

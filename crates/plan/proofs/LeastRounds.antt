@@ -1,24 +1,22 @@
 -- Least delays, as they are computed: round by round, a connection more each time.
 use Rattle.std.proofs.Common.{◌≡◌, ℕ, suc, ◌+◌, ◌<◌, inl, inr, Bool, true, false, List, [], ◌∷◌, ◌++◌, length, refl, ap, sym, ◌∙◌, arith, get_or, drop, below_more, subst}
 use Rattle.std.specs.Prelude.{Option, None, Some, nat_eq, if◌then◌else◌, slice_set}
-use Rattle.std.proofs.lemmas.Bool.Decides.{nat_tests, eqb_tells}
+use Rattle.std.proofs.lemmas.Bool.Decides.{eqb_tells}
 use Rattle.std.proofs.lemmas.List.{drop_more, get_or_default, get_or_append_left, get_or_push, get_or-set_same, get_or-set_other}
 use Rattle.std.proofs.lemmas.List.Elements.{All-head, All-tail}
 use Rattle.tag.specs.LogicalTime.{LogicalTime}
+use Rattle.tag.proofs.Order.{lesser_associates}
 use Rattle.network.specs.Connection.{Connection}
-use Rattle.plan.specs.Least.{lesser, lesser_of, least_ending, least_into, least_within, IsLeastRow}
+use Rattle.plan.specs.Least.{lesser_of, least_ending, least_into, least_within, IsLeastRow}
 use Rattle.plan.proofs.Levels.{EndsBelow}
 
 -- ---- the lesser of three
-
-lesser_assoc : (d e f : LogicalTime) → lesser (lesser d e) f ≡ lesser d (lesser e f)
-lesser_assoc d e f = grind (arith, nat_tests)
 
 lesser_of_assoc : (o p q : Option LogicalTime) → lesser_of (lesser_of o p) q ≡ lesser_of o (lesser_of p q)
 lesser_of_assoc None p q = refl
 lesser_of_assoc (Some d) None q = refl
 lesser_of_assoc (Some d) (Some e) None = refl
-lesser_of_assoc (Some d) (Some e) (Some f) = ap Some (lesser_assoc d e f)
+lesser_of_assoc (Some d) (Some e) (Some f) = ap Some (sym (lesser_associates f e d))
 
 lesser_of_none : (o : Option LogicalTime) → lesser_of o None ≡ o
 lesser_of_none None = refl

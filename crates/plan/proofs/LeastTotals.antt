@@ -1,22 +1,21 @@
 -- What is defined as the least delay is the least total of all paths.
-use Rattle.std.proofs.Common.{◌≡◌, ℕ, zero, suc, ◌+◌, ◌<◌, ◌≤◌, ◌^◌, Bool, true, false, List, [], ◌∷◌, ◌++◌, length, map, refl, ap, sym, ◌∙◌, subst, arith, get_or, length-append, IsTrue, ◌-◌}
+use Rattle.std.proofs.Common.{◌≡◌, ℕ, zero, suc, ◌+◌, ◌<◌, ◌≤◌, Bool, true, false, List, [], ◌∷◌, ◌++◌, length, refl, ap, sym, ◌∙◌, subst, arith, get_or, length-append, ◌-◌}
 use Rattle.std.specs.Prelude.{All, Contains, IfSome, MatchOption, Option, None, Some, nat_eq, if◌then◌else◌}
 use Rattle.std.specs.Option.{option_map}
 use Rattle.std.proofs.lemmas.Bool.Decides.{nat_tests}
-use Rattle.std.proofs.lemmas.List.{length-map}
-use Rattle.std.proofs.lemmas.List.Elements.{All-contains, All-cons, All-nil}
-use Rattle.tag.specs.LogicalTime.{LogicalTime, IsLogicalTime, is_before, is_at_most, sum_of}
-use Rattle.tag.specs.Total.{IsConnectionDelay}
-use Rattle.tag.proofs.Order.{at_most_transitive}
+use Rattle.std.proofs.lemmas.List.Elements.{All-contains}
+use Rattle.std.proofs.lemmas.Bool.{eqb-true}
+use Rattle.tag.specs.LogicalTime.{LogicalTime, is_before, sum_of}
+use Rattle.tag.specs.Total.{IsPlainDelay}
 use Rattle.tag.proofs.SumLaws.{sum_monotone_left}
-use Rattle.tag.proofs.Paths.{path_cut, connection_delay_is_short}
-use Rattle.network.specs.Connection.{Connection, IsPath, then_along, total_of, IsLeastDelay, IsUnreachable}
-use Rattle.network.proofs.Totals.{total}
+use Rattle.network.specs.Connection.{Connection, IsWalk, IsPath, then_along, total_of, IsLeastDelay, IsUnreachable}
+use Rattle.network.proofs.Walks.{ArePlain, total-cons, joined_path}
+use Rattle.network.proofs.ShortPaths.{EndBelow, Shortened, shortened}
 use Rattle.network.specs.Tables.{IsWithin}
+use Rattle.network.proofs.Tables.{within_more}
 use Rattle.plan.specs.Least.{lesser_of, least_ending, least_into, least_within, IsTotalWithin}
 use Rattle.plan.proofs.Levels.{EndsBelow}
 use Rattle.plan.proofs.Paths.{IsPath-snoc}
-use Rattle.plan.proofs.ShortPaths.{IsWalk, walk_from_path, Shortened, shortened}
 
 -- ---- the lesser of two
 
@@ -40,10 +39,6 @@ lesser_second None p bound within = within
 lesser_second (Some d) None bound within = absurd within
 lesser_second (Some d) (Some e) bound within = grind (arith, nat_tests)
 
-within_more : (o : Option LogicalTime) (a b : LogicalTime) → IsWithin o a → IsTrue (is_at_most a b) → IsWithin o b
-within_more None a b within le = within
-within_more (Some d) a b within le = at_most_transitive d a b within le
-
 -- ---- it is the total of a path
 
 along-snoc : (g : LogicalTime) (path : List Connection) (c : Connection) → then_along g (path ++ c ∷ []) ≡ sum_of (then_along g path) c.delay
@@ -54,9 +49,6 @@ total-snoc : (cs : List Connection) (i : ℕ) (path : List Connection) (j : ℕ)
 total-snoc cs i [] j c is_path = absurd is_path
 total-snoc cs i (b ∷ rest) j c is_path = along-snoc b.delay rest c
 
-same_number : (a b : ℕ) → nat_eq a b ≡ true → a ≡ b
-same_number a b e = grind (arith, nat_tests)
-
 ending_attained : (cs : List Connection) (most i : ℕ) (c : Connection) → Contains cs c → IfSome (least_within cs most i c.source) (IsTotalWithin cs most i c.source)
     → IfSome (least_ending (least_within cs most i) i c) (IsTotalWithin cs (suc most) i c.target)
 ending_attained cs most i c contained before =
@@ -66,7 +58,7 @@ ending_attained cs most i c contained before =
   where
     alone : (b : Bool) → nat_eq c.source i ≡ b → IfSome (if b then Some c.delay else None) (IsTotalWithin cs (suc most) i c.target)
     alone false e = tt
-    alone true e = record { path = c ∷ []; is_path = (contained, same_number c.source i e, refl); total = refl; few = omega arith }
+    alone true e = record { path = c ∷ []; is_path = (contained, eqb-true c.source i e, refl); total = refl; few = omega arith }
 
     after : (o : Option LogicalTime) → IfSome o (IsTotalWithin cs most i c.source) → IfSome (option_map (λ d. sum_of d c.delay) o) (IsTotalWithin cs (suc most) i c.target)
     after None so_far = tt
@@ -91,7 +83,7 @@ into_attained cs most i j (c ∷ rest) each before =
     here : (b : Bool) → nat_eq c.target j ≡ b → IfSome (if b then least_ending (least_within cs most i) i c else None) (IsTotalWithin cs (suc most) i j)
     here false e = tt
     here true e =
-        subst (λ m. IfSome (least_ending (least_within cs most i) i c) (IsTotalWithin cs (suc most) i m)) (same_number c.target j e)
+        subst (λ m. IfSome (least_ending (least_within cs most i) i c) (IsTotalWithin cs (suc most) i m)) (eqb-true c.target j e)
         (ending_attained cs most i c (each c (0, omega arith, refl)) (before c.source))
 
 pub attained : (cs : List Connection) (most i j : ℕ) → IfSome (least_within cs most i j) (IsTotalWithin cs most i j)
@@ -143,22 +135,26 @@ within_along cs most i v j bound (c ∷ rest) walk so_far all is =
 within_short : (cs : List Connection) (most i : ℕ) (path : List Connection) (j : ℕ) → IsPath cs i path j → length path ≤ most → IsWithin (least_within cs most i j) (total_of path)
 within_short cs most i [] j is_path few = absurd is_path
 within_short cs most i (c ∷ rest) j is_path few =
-    let walk : IsWalk cs i (c ∷ rest) j = walk_from_path cs i (c ∷ rest) j is_path in
     let first : IsWithin (least_within cs (suc (most - length (c ∷ rest))) i c.target) c.delay
-    = subst (λ m. IsWithin (least_within cs (suc (most - length (c ∷ rest))) m c.target) c.delay) walk.1 (within_first cs (most - length (c ∷ rest)) c walk.0) in
-    within_along cs (suc (most - length (c ∷ rest))) i c.target j c.delay rest walk.2 first most (omega arith)
+    = subst (λ m. IsWithin (least_within cs (suc (most - length (c ∷ rest))) m c.target) c.delay) is_path.1 (within_first cs (most - length (c ∷ rest)) c is_path.0) in
+    within_along cs (suc (most - length (c ∷ rest))) i c.target j c.delay rest is_path.2 first most (omega arith)
 
-delays_are_logical : (cs : List Connection) → All (λ c. IsConnectionDelay c.delay) cs → (x : Connection) → Contains cs x → IsLogicalTime x.delay
-delays_are_logical cs plain x within = (connection_delay_is_short x.delay (All-contains (λ (c : Connection). IsConnectionDelay c.delay) cs x plain within)).logical
+each_plain : (cs : List Connection) → All (λ c. IsPlainDelay c.delay) cs → ArePlain cs
+each_plain cs plain x within = All-contains (λ (c : Connection). IsPlainDelay c.delay) cs x plain within
+
+targets_below : (cs : List Connection) (count : ℕ) → EndsBelow count cs → EndBelow count cs
+targets_below cs count ends x within =
+    let below : (x.source < count) × (x.target < count) = All-contains (λ (c : Connection). (c.source < count) × (c.target < count)) cs x ends within in
+    below.1
 
 -- of any path
-pub within_every : (cs : List Connection) (count i : ℕ) (path : List Connection) (j : ℕ) → EndsBelow count cs → All (λ c. IsConnectionDelay c.delay) cs → IsPath cs i path j
+pub within_every : (cs : List Connection) (count i : ℕ) (path : List Connection) (j : ℕ) → EndsBelow count cs → All (λ c. IsPlainDelay c.delay) cs → IsPath cs i path j
     → IsWithin (least_within cs count i j) (total_of path)
 within_every cs count i path j ends plain is_path =
-    let short : Shortened cs count i j path = shortened cs count ends (delays_are_logical cs plain) i path j is_path in
+    let short : Shortened cs count i j path = shortened cs count (targets_below cs count ends) (each_plain cs plain) i path j is_path in
     within_more (least_within cs count i j) (total_of short.path) (total_of path) (within_short cs count i short.path j short.is_path short.few) short.total
 
-pub least_is : (cs : List Connection) (count i j : ℕ) → EndsBelow count cs → All (λ c. IsConnectionDelay c.delay) cs
+pub least_is : (cs : List Connection) (count i j : ℕ) → EndsBelow count cs → All (λ c. IsPlainDelay c.delay) cs
     → MatchOption (least_within cs count i j) (IsUnreachable cs i j) (λ delay. IsLeastDelay cs i j delay)
 least_is cs count i j ends plain = by (least_within cs count i j) (attained cs count i j) (λ path is_path. within_every cs count i path j ends plain is_path)
   where
@@ -169,30 +165,11 @@ least_is cs count i j ends plain = by (least_within cs count i j) (attained cs c
 
 -- ---- least delays along a connection
 
-pub within_direct : (cs : List Connection) (count : ℕ) (c : Connection) → EndsBelow count cs → All (λ c. IsConnectionDelay c.delay) cs → Contains cs c
+pub within_direct : (cs : List Connection) (count : ℕ) (c : Connection) → EndsBelow count cs → All (λ c. IsPlainDelay c.delay) cs → Contains cs c
     → IsWithin (least_within cs count c.source c.target) c.delay
 within_direct cs count c ends plain contained = within_every cs count c.source (c ∷ []) c.target ends plain (contained, refl, refl)
 
-delays_along : (cs : List Connection) → All (λ c. IsConnectionDelay c.delay) cs → (i : ℕ) (walk : List Connection) (j : ℕ) → IsWalk cs i walk j → All IsConnectionDelay (map (λ (c : Connection). c.delay) walk)
-delays_along cs plain i [] j walk = All-nil IsConnectionDelay
-delays_along cs plain i (c ∷ rest) j walk =
-    All-cons IsConnectionDelay c.delay (map (λ (x : Connection). x.delay) rest)
-    (All-contains (λ (x : Connection). IsConnectionDelay x.delay) cs c plain walk.0) (delays_along cs plain c.target rest j walk.2)
-
--- a connection before a short path
-total-cons : (cs : List Connection) → All (λ c. IsConnectionDelay c.delay) cs → (c : Connection) → Contains cs c → (path : List Connection) (j : ℕ) → IsPath cs c.target path j
-    → length path < 2 ^ 31 → total_of (c ∷ path) ≡ sum_of c.delay (total_of path)
-total-cons cs plain c contained path j is_path few =
-    let walk : IsWalk cs c.source (c ∷ path) j = (contained, refl, walk_from_path cs c.target path j is_path) in
-    total (c ∷ path)
-    ∙ path_cut (c.delay ∷ []) (map (λ (x : Connection). x.delay) path) (delays_along cs plain c.source (c ∷ path) j walk) (omega (arith, length-map path (λ (x : Connection). x.delay)))
-    ∙ ap (sum_of c.delay) (sym (total path))
-
-joined_path : (cs : List Connection) (c : Connection) → Contains cs c → (path : List Connection) (j : ℕ) → IsPath cs c.target path j → IsPath cs c.source (c ∷ path) j
-joined_path cs c contained [] j is_path = absurd is_path
-joined_path cs c contained (e ∷ rest) j is_path = (contained, refl, is_path)
-
-pub within_onward : (cs : List Connection) (count j : ℕ) (c : Connection) → count ≤ 64 → EndsBelow count cs → All (λ c. IsConnectionDelay c.delay) cs → Contains cs c
+pub within_onward : (cs : List Connection) (count j : ℕ) (c : Connection) → count ≤ 64 → EndsBelow count cs → All (λ c. IsPlainDelay c.delay) cs → Contains cs c
     → IfSome (least_within cs count c.target j) (λ rest. IsWithin (least_within cs count c.source j) (sum_of c.delay rest))
 within_onward cs count j c small ends plain contained = by (least_within cs count c.target j) (attained cs count c.target j)
   where
@@ -201,5 +178,5 @@ within_onward cs count j c small ends plain contained = by (least_within cs coun
     by (Some d) found =
         let few : length found.path ≤ count = found.few in
         subst (λ x. IsWithin (least_within cs count c.source j) x)
-        (total-cons cs plain c contained found.path j found.is_path (omega arith) ∙ ap (sum_of c.delay) found.total)
+        (total-cons cs (each_plain cs plain) c contained found.path j found.is_path (omega arith) ∙ ap (sum_of c.delay) found.total)
         (within_every cs count c.source (c ∷ found.path) j ends plain (joined_path cs c contained found.path j found.is_path))

@@ -15,7 +15,8 @@ use Rattle.plan.specs.Federation.{connections_of, federate_count, is_immediate, 
 use Rattle.plan.specs.Legal.{IsLegal, HasNoImmediateCycle}
 use Rattle.plan.proofs.Levels.{EndsBelow}
 use Rattle.plan.proofs.Plans.{ends_below}
-use Rattle.plan.proofs.Paths.{AreImmediate, immediate_from_total, total_from_immediate, immediate_test, immediate_from_test, IsPath-snoc, immediate-snoc, within_longest, within_attained, before_by-lt_later}
+use Rattle.network.proofs.Walks.{AreImmediate, immediate_from_total, total_from_immediate}
+use Rattle.plan.proofs.Paths.{immediate_test, immediate_from_test, IsPath-snoc, immediate-snoc, within_longest, within_attained, before_by-lt_later}
 
 -- ---- a path without any delay meets no federate twice
 

@@ -20,8 +20,6 @@ pub mod Paths
 pub mod Cycles
 -- Levels and ranks of legal drafts.
 pub mod Legality
--- Paths that meet no federate twice.
-pub mod ShortPaths
 -- Least delays are least totals of paths.
 pub mod LeastTotals
 -- Least delays, as they are computed.

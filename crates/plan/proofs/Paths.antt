@@ -2,51 +2,14 @@
 use Rattle.std.proofs.Common.{◌≡◌, ℕ, suc, zero, ◌+◌, ◌<◌, ◌≤◌, Bool, true, false, List, [], ◌∷◌, ◌++◌, length, max, refl, ap, sym, ◌∙◌, arith, get_or, subst, inl, inr, ◌⊎◌, length-append}
 use Rattle.std.specs.Prelude.{Contains, ◌&&◌, ◌||◌, nat_eq, nat_lt, if◌then◌else◌}
 use Rattle.std.proofs.lemmas.Bool.Decides.{nat_tests, leb_tells, eqb_tells}
-use Rattle.tag.specs.LogicalTime.{LogicalTime, origin, sum_of, is_same}
-use Rattle.network.specs.Connection.{Connection, IsPath, then_along, total_of}
+use Rattle.std.proofs.lemmas.Bool.{eqb-true}
+use Rattle.tag.specs.LogicalTime.{origin, is_same, logical_time}
+use Rattle.network.specs.Connection.{Connection, IsPath}
+use Rattle.network.proofs.Walks.{AreImmediate}
 use Rattle.plan.specs.Federation.{is_immediate, above, level_within, before_by}
 use Rattle.plan.proofs.Levels.{before_by-le}
 
--- ---- paths whose total is none
-
--- no connection of these has a delay
-abbrev pub AreImmediate : List Connection → Type 0
-AreImmediate [] = Unit {0}
-AreImmediate (c ∷ rest) = (c.delay ≡ origin) × AreImmediate rest
-
-time_of_sum : (a m b k : ℕ) → sum_of (record { time = a; microstep = m }) (record { time = b; microstep = k }) ≡ origin
-    → (a ≡ 0) × (m ≡ 0) × (b ≡ 0) × (k ≡ 0)
-time_of_sum a m b k e =
-    let time : (sum_of (record { time = a; microstep = m }) (record { time = b; microstep = k })).time ≡ 0 = ap (λ (g : LogicalTime). g.time) e in
-    let microstep : (sum_of (record { time = a; microstep = m }) (record { time = b; microstep = k })).microstep ≡ 0 = ap (λ (g : LogicalTime). g.microstep) e in
-    (grind (arith, nat_tests), grind (arith, nat_tests), grind (arith, nat_tests), grind (arith, nat_tests))
-
-abbrev at_time : ℕ → ℕ → LogicalTime
-at_time a m = record { time = a; microstep = m }
-
-sum_parts : (g d : LogicalTime) → sum_of g d ≡ origin → (g ≡ origin) × (d ≡ origin)
-sum_parts g d e =
-    let parts : (g.time ≡ 0) × (g.microstep ≡ 0) × (d.time ≡ 0) × (d.microstep ≡ 0) = time_of_sum g.time g.microstep d.time d.microstep e in
-    (ap (λ a. at_time a g.microstep) parts.0 ∙ ap (λ m. at_time 0 m) parts.1, ap (λ a. at_time a d.microstep) parts.2 ∙ ap (λ m. at_time 0 m) parts.3)
-
-along_parts : (g : LogicalTime) (rest : List Connection) → then_along g rest ≡ origin → (g ≡ origin) × AreImmediate rest
-along_parts g [] e = (e, tt)
-along_parts g (c ∷ rest) e =
-    let further : (sum_of g c.delay ≡ origin) × AreImmediate rest = along_parts (sum_of g c.delay) rest e in
-    let both : (g ≡ origin) × (c.delay ≡ origin) = sum_parts g c.delay further.0 in
-    (both.0, (both.1, further.1))
-
-pub immediate_from_total : (path : List Connection) → total_of path ≡ origin → AreImmediate path
-immediate_from_total [] e = tt
-immediate_from_total (c ∷ rest) e = along_parts c.delay rest e
-
-along_none : (rest : List Connection) → AreImmediate rest → then_along origin rest ≡ origin
-along_none [] each = refl
-along_none (c ∷ rest) each = ap (λ d. then_along (sum_of origin d) rest) each.0 ∙ along_none rest each.1
-
-pub total_from_immediate : (path : List Connection) → AreImmediate path → total_of path ≡ origin
-total_from_immediate [] each = refl
-total_from_immediate (c ∷ rest) each = ap (λ d. then_along d rest) each.0 ∙ along_none rest each.1
+-- ---- connections without delay
 
 pub immediate_test : (c : Connection) → c.delay ≡ origin → is_immediate c ≡ true
 immediate_test c e = ap (λ d. is_same d origin) e
@@ -55,7 +18,7 @@ pub immediate_from_test : (c : Connection) → is_immediate c ≡ true → c.del
 immediate_from_test c e =
     let time : c.delay.time ≡ 0 = grind (arith, nat_tests) in
     let microstep : c.delay.microstep ≡ 0 = grind (arith, nat_tests) in
-    ap (λ a. at_time a c.delay.microstep) time ∙ ap (λ m. at_time 0 m) microstep
+    ap (λ a. logical_time a c.delay.microstep) time ∙ ap (λ m. logical_time 0 m) microstep
 
 -- ---- one more connection at the end
 
@@ -190,16 +153,13 @@ comes_by f j (b ∷ cs) some = chosen (nat_eq b.target j && is_immediate b) refl
     is : (t : Bool) → (nat_eq b.target j && is_immediate b) ≡ t → above f j (b ∷ cs) ≡ (if t then max (f b.source + 1) (above f j cs) else above f j cs)
     is t e = ap (λ (u : Bool). if u then max (f b.source + 1) (above f j cs) else above f j cs) e
 
-    number_of_test : (m n : ℕ) → nat_eq m n ≡ true → m ≡ n
-    number_of_test m n e = grind (arith, nat_tests)
-
     first : (nat_eq b.target j && is_immediate b) ≡ true → above f j (b ∷ cs) ≡ f b.source + 1 → ComesBy f j (b ∷ cs)
     first e level =
         let both : (nat_eq b.target j ≡ true) × (is_immediate b ≡ true) = both_true (nat_eq b.target j) (is_immediate b) e in
         record {
           last = b;
           contained = (0, omega arith, refl);
-          target = number_of_test b.target j both.0;
+          target = eqb-true b.target j both.0;
           immediate = both.1;
           level = level;
         }

@@ -1,9 +1,10 @@
 -- What comes to a federation from outside: startups, firings of timers, and recorded inputs, up to stop.
-use Rattle.std.specs.Prelude.{◌≡◌, ℕ, zero, suc, ◌+◌, ◌-◌, ◌*◌, ◌/◌, ◌≤◌, ℤ, pos, Bool, nat_eq, nat_le, if◌then◌else◌, List, [], ◌∷◌, ◌++◌, map, filter, length, All, AllPairs, IsSome, Option, None, Some, slice_get}
+use Rattle.std.specs.Prelude.{◌≡◌, ℕ, zero, suc, ◌+◌, ◌-◌, ◌*◌, ◌/◌, ◌≤◌, pos, Bool, nat_eq, nat_le, if◌then◌else◌, List, [], ◌∷◌, ◌++◌, map, filter, length, All, AllPairs, IsSome, Option, None, Some, slice_get}
 use Rattle.std.specs.Option.{option_map}
 use Rattle.std.specs.List.{filter_map}
 use Rattle.tag.specs.LogicalTime.{LogicalTime, origin, is_at_most, IsFinite}
 use Rattle.network.specs.Event.{Event}
+pub use Rattle.network.specs.Event.{outside}
 use Rattle.plan.specs.declared.slots.Slots.{Slots}
 use Rattle.plan.specs.declared.slots.Timer.{Timer}
 use Rattle.plan.specs.declared.draft.Federate.{Federate}
@@ -11,11 +12,6 @@ use Rattle.plan.specs.declared.draft.Draft.{Draft}
 use Rattle.plan.specs.declared.input.Input.{Input}
 use Rattle.plan.specs.Numbering.{startup_slot, first_timer, first_physical}
 use Rattle.plan.specs.Federation.{Found, found_in, stop_of}
-
--- an event from outside; nothing in the federation made it, so its source is the first tag
-abbrev pub outside : LogicalTime → ℕ → ℕ → ℤ → Event
-outside tag federate slot value =
-    record { tag = tag; reactor = federate; slot = slot; source = record { tag = origin; place = 0 }; value = value }
 
 -- so many times, each a period after the one before
 abbrev pub times_from : ℕ → ℕ → ℕ → List ℕ

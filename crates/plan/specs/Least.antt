@@ -1,20 +1,16 @@
 -- Least delays: how much later, at the least, what leaves one federate can arrive at another.
 use Rattle.std.specs.Prelude.{◌≡◌, ℕ, zero, suc, ◌<◌, ◌≤◌, nat_eq, if◌then◌else◌, List, [], ◌∷◌, length, slice_index_or, Option, None, Some}
 use Rattle.std.specs.Option.{option_map}
-use Rattle.tag.specs.LogicalTime.{LogicalTime, is_before, sum_of}
+use Rattle.tag.specs.LogicalTime.{LogicalTime, lesser, sum_of}
 use Rattle.network.specs.Connection.{Connection, IsPath, total_of}
 use Rattle.plan.specs.declared.draft.Draft.{Draft}
 use Rattle.plan.specs.Federation.{connections_of, federate_count}
-
--- the lesser of two delays
-abbrev pub lesser : LogicalTime → LogicalTime → LogicalTime
-lesser d e = if is_before e d then e else d
 
 -- the lesser of those that are there
 abbrev pub lesser_of : Option LogicalTime → Option LogicalTime → Option LogicalTime
 lesser_of None other = other
 lesser_of (Some d) None = Some d
-lesser_of (Some d) (Some e) = Some (lesser d e)
+lesser_of (Some d) (Some e) = Some (lesser e d)
 
 -- the least total of a path from i with this last connection: of it alone, or of a path to its source and then it, where
 -- `least` gives the least total of a path from i to each federate

@@ -2,7 +2,7 @@
 use Rattle.std.specs.Prelude.{ℕ, zero, suc, ◌+◌, not, ◌||◌, nat_eq, nat_lt, if◌then◌else◌, List, [], ◌∷◌, ◌++◌, slice_get, Option, None, Some}
 use Rattle.tag.specs.LogicalTime.{LogicalTime, forever, is_at_most, is_same}
 use Rattle.network.specs.Connection.{Connection}
-use Rattle.network.specs.Network.{Network}
+use Rattle.network.specs.Network.{Network, with_one}
 use Rattle.signal.specs.declared.signal.Signal.{Signal}
 use Rattle.signal.specs.declared.signal.Signal.TheVariants.{Net, Ltc, Tag, Msg}
 use Rattle.protocol.specs.declared.refusal.Refusal.TheVariants.{NotYours, BelowGrant, NotRising, AfterStop, NotForCoordinator}
@@ -23,7 +23,7 @@ pub record Coordinated : Type 0 where
 
 -- the standings with one federate's replaced
 abbrev pub with_standing : (ℕ → Standing) → ℕ → Standing → ℕ → Standing
-with_standing standings i mine j = if nat_eq j i then mine else standings j
+with_standing standings i mine = with_one standings i mine
 
 -- a message from federate i over a connection: it goes on to the connection's end
 abbrev pub route : Network → (ℕ → Standing) → ℕ → Signal → Option Connection → LogicalTime → Outcome Coordinated

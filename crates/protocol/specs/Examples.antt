@@ -3,8 +3,9 @@ use Rattle.std.specs.Prelude.{ℕ, ℤ, pos, ◌+ℤ◌, List, [], ◌∷◌, Op
 use Rattle.tag.specs.LogicalTime.{origin}
 use Rattle.network.specs.Network.{Network, Effect}
 use Rattle.network.specs.Undivided.{Row}
-use Rattle.network.specs.Examples.{at, outside, row_of, entry}
+use Rattle.network.specs.Examples.{at, row_of, entry}
 use Rattle.network.specs.Tables.{Table}
+use Rattle.network.specs.Event.{outside}
 use Rattle.protocol.specs.Grant.{grant_next}
 use Rattle.protocol.specs.Machine.{Move, ToCoordinator, ToFederate, Announce, Advance, Member, after_moves}
 

@@ -2,8 +2,9 @@
 use Rattle.std.specs.Prelude.{ℕ, ◌+◌, ℤ, Bool, true, false, not, ◌&&◌, nat_eq, if◌then◌else◌, List, [], ◌∷◌, ◌++◌, map, filter, slice_get, Option, None, Some, unwrap_or}
 use Rattle.tag.specs.LogicalTime.{LogicalTime, forever, is_before, is_at_most, is_same, sum_of}
 use Rattle.network.specs.Connection.{Connection}
-use Rattle.network.specs.Event.{Event, listed}
+use Rattle.network.specs.Event.{Event}
 use Rattle.network.specs.Network.{Network, Scheduling, Effect}
+use Rattle.network.specs.Undivided as undivided
 use Rattle.network.specs.Undivided.{Row}
 use Rattle.signal.specs.declared.signal.Signal.{Signal}
 use Rattle.signal.specs.declared.signal.Signal.TheVariants.{Net, Ltc, Tag, Msg}
@@ -119,13 +120,7 @@ messages_from n j tag outputs number (c ∷ rest) =
 
 -- the row of a turn
 abbrev pub row_of_turn : Network → ℕ → Federate → LogicalTime → Row
-row_of_turn n j f tag =
-    record {
-      reactor = j;
-      tag = tag;
-      inputs = listed (n.slots j) (look f.undone tag);
-      outputs = listed (n.ports j) (effect_of n j f tag).outputs;
-    }
+row_of_turn n j f tag = undivided.row_of_turn n j tag f.states (look f.undone tag)
 
 -- a turn at a tag: its messages go out, then its LTC
 abbrev pub turn_at : Network → ℕ → Federate → LogicalTime → Stepped

@@ -1,6 +1,6 @@
 -- All federates, the coordinator, and the queues between them.
 use Rattle.std.specs.Prelude.{ℕ, Bool, true, false, nat_eq, if◌then◌else◌, List, [], ◌∷◌, ◌++◌, length, map, filter}
-use Rattle.network.specs.Network.{Network}
+use Rattle.network.specs.Network.{Network, with_one}
 use Rattle.signal.specs.declared.signal.Signal.{Signal}
 use Rattle.protocol.specs.Outcome.{Outcome, Nothing, Done, made_or, with_made}
 use Rattle.protocol.specs.Federate.{Federate, Stepped, opening_federate, federate_accepts, federate_announces, federate_advances}
@@ -32,7 +32,7 @@ opening_member n j =
 
 -- with one member replaced
 abbrev pub with_member : (ℕ → Member) → ℕ → Member → ℕ → Member
-with_member members i mine j = if nat_eq j i then mine else members j
+with_member members i mine = with_one members i mine
 
 -- all standings
 abbrev pub standings_of : (ℕ → Member) → ℕ → Standing

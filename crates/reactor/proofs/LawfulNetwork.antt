@@ -1,14 +1,16 @@
 -- A legal plan with its programs and inputs gives a lawful network.
-use Rattle.std.proofs.Common.{◌≡◌, ◌≢◌, ℕ, ◌<◌, ◌≤◌, ◌⊎◌, inl, inr, ℤ, List, refl, ap, sym, ◌∙◌, arith, subst, get_or, Option, None, Some, IsSomeAnd, MatchOption}
+use Rattle.std.proofs.Common.{◌≡◌, ◌≢◌, ℕ, ◌<◌, ◌≤◌, ◌⊎◌, inl, inr, ℤ, List, refl, ap, sym, arith, subst, get_or, Option, None, Some, IsSomeAnd, MatchOption}
 use Rattle.std.specs.Prelude.{All, slice_get}
 use Rattle.std.proofs.lemmas.List.Elements.{All-nil, All-append, All-weaker, Contains-get_or}
 use Rattle.std.proofs.lemmas.Option.{slice_get_within}
 use Rattle.std.proofs.lemmas.Slice.Zip.{AllZip-right}
 use Rattle.tag.specs.LogicalTime.{LogicalTime, origin, is_same}
+use Rattle.tag.specs.Total.{some_delay}
+use Rattle.tag.proofs.Paths.{after_is_some}
 use Rattle.network.specs.Connection.{Connection}
 use Rattle.network.specs.Event.{Event}
 use Rattle.network.specs.Network.{Scheduling}
-use Rattle.network.specs.Lawful.{IsConnected, IsExternal, IsOwn, IsLawful, IsPlainDelay}
+use Rattle.network.specs.Lawful.{IsConnected, IsExternal, IsOwn, IsLawful}
 use Rattle.network.specs.Tables.{IsLawfulWith}
 use Rattle.plan.specs.Least.{least_of}
 use Rattle.plan.proofs.LeastLaws.{least, direct, onward}
@@ -25,7 +27,7 @@ use Rattle.plan.proofs.Paths.{before_by-lt, before_by-injective}
 use Rattle.reactor.specs.Behaviour.{Behaviour, IsWellFormed}
 use Rattle.reactor.specs.Programs.{AreProgramsOf}
 use Rattle.reactor.specs.Federation.{slots_of, ports_of, effect_by, network_of}
-use Rattle.reactor.proofs.Wiring.{IsWired, all_wired, same_federate, plain_after, some_delay}
+use Rattle.reactor.proofs.Wiring.{IsWired, all_wired, same_federate}
 use Rattle.reactor.proofs.Outside.{IsOutside, IsOwnSlot, IsInputSlot, own_events_outside, inputs_outside}
 use Rattle.reactor.proofs.Apart.{external_apart}
 use Rattle.reactor.proofs.Scheduled.{IsAction, schedules_actions}
@@ -123,8 +125,8 @@ own d programs inputs legal are number f b f_is same s action =
     let high : s.slot < first_physical f.slots = subst (λ t. s.slot < first_physical t) (sym same) action.no_physical in
     record {
       slot = slot_there d number s.slot f f_is (omega arith);
-      delay = subst IsPlainDelay (sym action.delay.2) (plain_after action.delay.0 action.delay.1);
-      later = λ none. some_delay action.delay.0 (sym action.delay.2 ∙ none);
+      delay = some_delay action.delay;
+      later = after_is_some s.delay action.delay;
       no_port =
           All-weaker (IsWired d) (λ c. c.target ≡ number → c.slot ≢ s.slot)
           (λ c w target slots.

@@ -1,20 +1,21 @@
 -- What the programs of a federation schedule.
 use Rattle.std.proofs.Common.{ℕ, ◌<◌, ◌≤◌, ℤ, Bool, true, false, List, [], ◌∷◌, All, fold, Option, if◌then◌else◌}
 use Rattle.std.proofs.lemmas.List.Elements.{All-nil, All-head, All-tail, All-push}
+use Rattle.tag.specs.Total.{IsAfterDelay}
 use Rattle.network.specs.Network.{Scheduling, Effect}
 use Rattle.plan.specs.Numbering.{first_action, first_physical}
 use Rattle.reactor.specs.declared.program.Statement.{Statement}
 use Rattle.reactor.specs.declared.program.Statement.TheVariants.{Assign, Output, Schedule}
 use Rattle.reactor.specs.declared.program.Line.{Line}
 use Rattle.reactor.specs.declared.program.Reaction.{Reaction}
-use Rattle.reactor.specs.Behaviour.{Behaviour, IsAfterTime, HasStatement, HasLine, HasReaction, IsWellFormed}
+use Rattle.reactor.specs.Behaviour.{Behaviour, HasStatement, HasLine, HasReaction, IsWellFormed}
 use Rattle.reactor.specs.Effect.{operand_value, after_statement, is_done, after_line, is_triggered, after_reaction, effect_before, effect_of}
 
 -- at an action's slot, after a time below 2^62
 pub record IsAction (b : Behaviour) (s : Scheduling) : Type 0 where
   pub action : first_action b.slots ≤ s.slot
   pub no_physical : s.slot < first_physical b.slots
-  pub delay : IsAfterTime s.delay
+  pub delay : IsAfterDelay s.delay
 
 abbrev SchedulesActions : Behaviour → Effect → Type 0
 SchedulesActions b e = All (IsAction b) e.schedulings

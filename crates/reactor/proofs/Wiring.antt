@@ -1,12 +1,10 @@
 -- Where the connections of a legal draft begin and end, and which delays there are.
-use Rattle.std.proofs.Common.{◌≡◌, ℕ, ◌+◌, ◌<◌, ◌≤◌, ◌^◌, Bool, true, false, List, length, refl, ap, sym, ◌∙◌, arith, subst, Option, None, Some, IfSome, nat_lt, if◌then◌else◌}
+use Rattle.std.proofs.Common.{◌≡◌, ℕ, ◌+◌, ◌<◌, ◌≤◌, ◌^◌, List, length, refl, ap, sym, ◌∙◌, arith, subst, Option, None, Some, IfSome}
 use Rattle.std.specs.Prelude.{All, slice_get}
 use Rattle.std.specs.Option.{option_map, option_and_then}
-use Rattle.std.proofs.lemmas.Bool.Decides.{nat_tests}
 use Rattle.std.proofs.lemmas.Option.{slice_get_within}
-use Rattle.tag.specs.LogicalTime.{LogicalTime, origin, one_microstep, delay_of}
+use Rattle.tag.specs.Total.{IsPlainDelay}
 use Rattle.network.specs.Connection.{Connection}
-use Rattle.network.specs.Lawful.{IsPlainDelay, no_delay, microstep, some_time}
 use Rattle.plan.specs.declared.slots.Slots.{Slots}
 use Rattle.plan.specs.declared.draft.Federate.{Federate}
 use Rattle.plan.specs.declared.draft.ConnectionDraft.{ConnectionDraft}
@@ -14,37 +12,10 @@ use Rattle.plan.specs.declared.draft.Draft.{Draft}
 use Rattle.plan.specs.Numbering.{first_input, first_timer}
 use Rattle.plan.specs.Federation.{Found, place_in, found_in, found_output, found_input, delay_after, connection_of, connections_of}
 use Rattle.plan.specs.Legal.{IsLegal}
+use Rattle.plan.proofs.LeastLaws.{plain_after}
 use Rattle.plan.proofs.Joined.{found_in_parts}
 use Rattle.plan.proofs.Places.{slice_get-place_of}
 use Rattle.reactor.proofs.Pairs.{All-filter_map}
-
--- ---- delays
-
-positive : (time : ℕ) → nat_lt 0 time ≡ true → 0 < time
-positive time is = grind (arith, nat_tests)
-
-pub plain_after : (time : ℕ) → time < 2 ^ 62 → IsPlainDelay (delay_of time)
-plain_after time within = chosen (nat_lt 0 time) refl
-  where
-    chosen : (b : Bool) → nat_lt 0 time ≡ b → IsPlainDelay (if b then record { time = time; microstep = 0 } else one_microstep)
-    chosen true is = some_time (positive time is) within
-    chosen false is = microstep
-
-pub some_delay : (time : ℕ) → delay_of time ≡ origin → ⊥
-some_delay time = chosen (nat_lt 0 time) refl
-  where
-    chosen : (b : Bool) → nat_lt 0 time ≡ b → (if b then record { time = time; microstep = 0 } else one_microstep) ≡ origin → ⊥
-    chosen true is none =
-        let some : 0 < time = positive time is in
-        let zero_time : time ≡ 0 = ap (λ (g : LogicalTime). g.time) none in
-        omega arith
-    chosen false is none =
-        let no_step : one_microstep.microstep ≡ 0 = ap (λ (g : LogicalTime). g.microstep) none in
-        omega arith
-
-plain_delay : (after : Option ℕ) → IfSome after (λ t. t < 2 ^ 62) → IsPlainDelay (delay_after after)
-plain_delay None within = no_delay
-plain_delay (Some time) within = plain_after time within
 
 -- ---- ends
 
@@ -108,7 +79,7 @@ wired_between d c from to within from_is to_is =
       port = source.2;
       input = omega arith;
       no_timer = omega arith;
-      delay = plain_delay c.after within;
+      delay = plain_after c.after within;
     }
 
 wired : (d : Draft) (c : ConnectionDraft) (x : Connection) → IfSome c.after (λ t. t < 2 ^ 62) → connection_of d.federates c ≡ Some x → IsWired d x

@@ -1,8 +1,8 @@
 -- The laws of sums, of tags with delays as of delays with delays.
-use Rattle.std.proofs.Common.{◌≡◌, ◌+◌, ◌*◌, ◌^◌, ◌<◌, IsTrue, arith, min, max, inl, inr}
+use Rattle.std.proofs.Common.{◌≡◌, ◌+◌, ◌*◌, ◌^◌, ◌<◌, ◌≤◌, IsTrue, arith, min, max, inl, inr}
 use Rattle.std.proofs.lemmas.Bool.Decides.{nat_tests}
 use Rattle.std.proofs.lemmas.Bool.{cases_lt}
-use Rattle.tag.specs.LogicalTime.{LogicalTime, IsLogicalTime, CarriesNothing, is_before, is_at_most, place, origin, forever, sum_of, successor_of}
+use Rattle.tag.specs.LogicalTime.{LogicalTime, IsLogicalTime, CarriesNothing, is_before, is_at_most, place, origin, forever, sum_of, one_microstep, successor_of}
 
 pub sum_is_logical : (g d : LogicalTime) → IsLogicalTime g → IsLogicalTime d → IsLogicalTime (sum_of g d)
 sum_is_logical g d p q = record {
@@ -12,6 +12,7 @@ sum_is_logical g d p q = record {
 }
 
 pub place-sum_of : (g d : LogicalTime) → IsLogicalTime g → IsLogicalTime d → place (sum_of g d) ≡ min (2 ^ 94) (min (place g + place d) (g.time * 2 ^ 32 + max (2 ^ 32) (place d)))
+unfolding place
 place-sum_of g d p q = grind (arith, nat_tests)
 
 twice_moving : (g a b : LogicalTime) → 0 < b.time → IsTrue (is_at_most (sum_of g (sum_of a b)) (sum_of (sum_of g a) b))
@@ -39,6 +40,12 @@ sum_monotone_right g d e p = grind (arith, nat_tests)
 pub sum_at_least_first : (g d : LogicalTime) → IsLogicalTime g → IsTrue (is_at_most g (sum_of g d))
 sum_at_least_first g d p = grind (arith, nat_tests)
 
+pub sum_microstep : (g d : LogicalTime) → (sum_of g d).microstep ≤ g.microstep + d.microstep
+sum_microstep g d = grind (arith, nat_tests)
+
+pub sum_microstep_below : (g d : LogicalTime) → (sum_of g d).microstep < 2 ^ 32
+sum_microstep_below g d = grind (arith, nat_tests)
+
 pub sum_later : (g d : LogicalTime) → IsLogicalTime g → (g ≡ forever → ⊥) → (d ≡ origin → ⊥) → IsTrue (is_before g (sum_of g d))
 sum_later g d p f n = grind (arith, nat_tests)
 
@@ -47,3 +54,6 @@ successor_later g p f = grind (arith, nat_tests)
 
 pub successor_least : (g h : LogicalTime) → IsLogicalTime g → IsLogicalTime h → IsTrue (is_before g h) → IsTrue (is_at_most (successor_of g) h)
 successor_least g h p q b = grind (arith, nat_tests)
+
+pub successor_at_least : (g : LogicalTime) → IsLogicalTime g → IsTrue (is_at_most g (successor_of g))
+successor_at_least g p = sum_at_least_first g one_microstep p

@@ -45,7 +45,7 @@ abbrev pub greater : LogicalTime → LogicalTime → LogicalTime
 greater g h = if is_before g h then h else g
 
 -- its number in that order, where microsteps are below 2^32
-abbrev pub place : LogicalTime → ℕ
+unfoldable pub place : LogicalTime → ℕ
 place g = g.time * 2 ^ 32 + g.microstep
 
 -- a microstep that would pass 2^32 - 1 carries: it is the start of the next nanosecond

@@ -1,5 +1,5 @@
--- The total of a path: how much later what leaves its first federate arrives at its last.
-use Rattle.std.specs.Prelude.{◌≡◌, ℕ, ◌^◌, ◌<◌, ◌⊎◌, List, [], ◌∷◌}
+-- The total of a path, which is how much later what leaves its first federate arrives at its last; and permitted delays.
+use Rattle.std.specs.Prelude.{◌≡◌, ℕ, ◌^◌, ◌<◌, List, [], ◌∷◌}
 use Rattle.std.specs.List.{fold}
 use Rattle.tag.specs.LogicalTime.{LogicalTime, origin, sum_of, delay_of}
 
@@ -8,6 +8,11 @@ abbrev pub total_of : List LogicalTime → LogicalTime
 total_of [] = origin
 total_of (d ∷ ds) = fold sum_of d ds
 
--- a delay that a connection may have: none, or that of an `after`
-abbrev pub IsConnectionDelay : LogicalTime → Type 0
-IsConnectionDelay d = (d ≡ origin) ⊎ ((time : ℕ) × (time < 2 ^ 62) × (d ≡ delay_of time))
+-- the delay of an `after` or of a scheduling, whose time is below 2^62
+abbrev pub IsAfterDelay : LogicalTime → Type 0
+IsAfterDelay delay = (time : ℕ) × (time < 2 ^ 62) × (delay ≡ delay_of time)
+
+-- a delay that a connection or a scheduling may have: none, or that of an `after`
+pub data IsPlainDelay : LogicalTime → Type 0 where
+  no_delay : IsPlainDelay origin
+  some_delay : {delay : LogicalTime} → IsAfterDelay delay → IsPlainDelay delay

@@ -1,9 +1,9 @@
 //! The laws of tags, delays and durations: each function's contract is one, for all logical times.
 
 ghost use Rattle.std.specs.Prelude.{◌≡◌, ℕ, ◌+◌, ◌-◌, ◌*◌, ◌^◌, ◌<◌, ◌≤◌, ◌≢◌, ◌⊎◌, ◌↔◌, List, ◌++◌, length, All, IfSome, IsSomeAnd, IsTrue, Some, false, min, max};
-ghost use Rattle.tag.specs.LogicalTime.{LogicalTime, IsLogicalTime, IsFinite, CarriesNothing, origin, forever, logical_time, is_before, is_at_most, is_same, place, sum_of, successor_of, tag_before};
+ghost use Rattle.tag.specs.LogicalTime.{LogicalTime, IsLogicalTime, IsFinite, CarriesNothing, origin, forever, logical_time, one_microstep, is_before, is_at_most, is_same, place, sum_of, successor_of, tag_before};
 ghost use Rattle.tag.specs.Compared.{IsOrderOfTags};
-ghost use Rattle.tag.specs.Total.{total_of, IsConnectionDelay};
+ghost use Rattle.tag.specs.Total.{total_of, IsPlainDelay};
 ghost use Rattle.tag.specs.Duration.{Spells};
 ghost use Rattle.tag.specs.Printed.{printed_time};
 
@@ -20,6 +20,7 @@ pub fn order_is_total()
     ensures same { (g h : LogicalTime) → IsTrue (is_same g h) ↔ (g ≡ h) }
 {}
 
+#[tactic(auto, unfolding(crate::specs::LogicalTime::place))]
 /// A tag may be taken for its place, one number.
 pub fn places_keep_the_order()
     ensures before { (g h : LogicalTime) → g.microstep < 2 ^ 32 → h.microstep < 2 ^ 32 → IsTrue (is_before g h) ↔ (place g < place h) }
@@ -27,6 +28,7 @@ pub fn places_keep_the_order()
     ensures one_tag_a_place { (g h : LogicalTime) → g.microstep < 2 ^ 32 → h.microstep < 2 ^ 32 → place g ≡ place h → g ≡ h }
 {}
 
+#[tactic(auto, unfolding(crate::specs::LogicalTime::place))]
 /// A sum is a tag or a delay, and where it stands.
 pub fn sums_are_logical_times()
     ensures logical { (g d : LogicalTime) → IsLogicalTime g → IsLogicalTime d → IsLogicalTime (sum_of g d) }
@@ -44,10 +46,16 @@ pub fn then_associates()
     ensures { (a b c : LogicalTime) → CarriesNothing a b → sum_of (sum_of a b) c ≡ sum_of a (sum_of b c) }
 {}
 
+/// A permitted delay is none, one microstep, or a time below 2^62 ns.
+#[tactic(auto, using(crate::proofs::Paths::plain_delays))]
+pub fn permitted_delays()
+    ensures { (d : LogicalTime) → IsPlainDelay d ↔ ((d ≡ origin) ⊎ ((d ≡ one_microstep) ⊎ ((0 < d.time) × (d.time < 2 ^ 62) × (d.microstep ≡ 0)))) }
+{}
+
 /// The total of a path of fewer than 2^32 connections, wherever the path is cut.
 pub fn paths_may_be_cut()
-    ensures cut { (front back : List LogicalTime) → All IsConnectionDelay (front ++ back) → length (front ++ back) < 2 ^ 32 → total_of (front ++ back) ≡ sum_of (total_of front) (total_of back) }
-    ensures logical { (path : List LogicalTime) → All IsConnectionDelay path → IsLogicalTime (total_of path) }
+    ensures cut { (front back : List LogicalTime) → All IsPlainDelay (front ++ back) → length (front ++ back) < 2 ^ 32 → total_of (front ++ back) ≡ sum_of (total_of front) (total_of back) }
+    ensures logical { (path : List LogicalTime) → All IsPlainDelay path → IsLogicalTime (total_of path) }
 {}
 
 /// A later tag or a longer delay gives no earlier sum, and no sum is before its first part.

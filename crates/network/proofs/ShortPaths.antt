@@ -1,37 +1,18 @@
--- For each path there is one that meets no federate twice after its first connection, and its total is no more.
+-- For each path there is one that meets no reactor twice after its first connection, and its total is no more.
 use Rattle.std.proofs.Common.{◌≡◌, ℕ, ◌<◌, ◌≤◌, ◌⊎◌, inl, inr, true, false, List, [], ◌∷◌, length, map, sym, subst, arith, eqb, IsTrue}
 use Rattle.std.specs.Prelude.{Contains}
 use Rattle.std.specs.List.{IsDistinct, AllByRecursion, list_any}
 use Rattle.std.proofs.lemmas.Bool.Decides.{eqb_tells}
 use Rattle.std.proofs.lemmas.List.{length-map}
-use Rattle.std.proofs.lemmas.List.Elements.{All-contains}
 use Rattle.std.proofs.lemmas.Map.Steps.{length-le_from_distinct_below}
 use Rattle.tag.specs.LogicalTime.{LogicalTime, IsLogicalTime, is_at_most, sum_of}
 use Rattle.tag.proofs.Order.{at_most_reflexive, at_most_transitive}
-use Rattle.tag.proofs.SumLaws.{sum_is_logical, sum_monotone_left, sum_at_least_first}
-use Rattle.network.specs.Connection.{Connection, IsPath, then_along, total_of}
-use Rattle.plan.proofs.Levels.{EndsBelow}
+use Rattle.tag.proofs.SumLaws.{sum_is_logical, sum_at_least_first}
+use Rattle.tag.proofs.Paths.{plain_is_logical}
+use Rattle.network.specs.Connection.{Connection, IsWalk, IsPath, then_along, total_of}
+use Rattle.network.proofs.Walks.{ArePlain, along_monotone}
 
--- a path, or no connection at all from i to itself
-abbrev pub IsWalk : List Connection → ℕ → List Connection → ℕ → Type 0
-IsWalk cs i [] j = i ≡ j
-IsWalk cs i (c ∷ rest) j = Contains cs c × (c.source ≡ i) × IsWalk cs c.target rest j
-
-pub walk_from_path : (cs : List Connection) (i : ℕ) (path : List Connection) (j : ℕ) → IsPath cs i path j → IsWalk cs i path j
-walk_from_path cs i [] j is_path = absurd is_path
-walk_from_path cs i (c ∷ []) j is_path = is_path
-walk_from_path cs i (c ∷ e ∷ rest) j is_path = (is_path.0, is_path.1, walk_from_path cs c.target (e ∷ rest) j is_path.2)
-
-pub path_from_walk : (cs : List Connection) (i : ℕ) (c : Connection) (rest : List Connection) (j : ℕ) → IsWalk cs i (c ∷ rest) j → IsPath cs i (c ∷ rest) j
-path_from_walk cs i c [] j walk = walk
-path_from_walk cs i c (e ∷ rest) j walk = (walk.0, walk.1, path_from_walk cs c.target e rest j walk.2)
-
--- ---- what a walk adds to a delay
-
--- a lesser delay is no more after the same connections
-pub along-monotone : (g h : LogicalTime) (walk : List Connection) → IsTrue (is_at_most g h) → IsTrue (is_at_most (then_along g walk) (then_along h walk))
-along-monotone g h [] le = le
-along-monotone g h (c ∷ rest) le = along-monotone (sum_of g c.delay) (sum_of h c.delay) rest (sum_monotone_left g h c.delay le)
+-- ---- shorter walks
 
 -- whatever comes before it, the first walk adds no more than the second
 abbrev pub IsShorter : List Connection → List Connection → Type 0
@@ -41,9 +22,9 @@ IsShorter short long = (g : LogicalTime) → IsLogicalTime g → IsTrue (is_at_m
 shorter_by_first : (c : Connection) (short rest : List Connection) → IsShorter short rest → IsShorter short (c ∷ rest)
 shorter_by_first c short rest shorter g logical =
     at_most_transitive (then_along g short) (then_along g rest) (then_along (sum_of g c.delay) rest) (shorter g logical)
-    (along-monotone g (sum_of g c.delay) rest (sum_at_least_first g c.delay logical))
+    (along_monotone g (sum_of g c.delay) rest (sum_at_least_first g c.delay logical))
 
--- ---- walks that meet no federate twice
+-- ---- walks that meet no reactor twice
 
 abbrev targets : List Connection → List ℕ
 targets walk = map (λ (c : Connection). c.target) walk
@@ -52,7 +33,7 @@ targets walk = map (λ (c : Connection). c.target) walk
 abbrev Avoids : ℕ → List Connection → Type 0
 Avoids v walk = AllByRecursion (λ q. eqb v q ≡ false) (targets walk)
 
--- a walk on from v that doesn't come back to v, nor twice to another federate
+-- a walk on from v that doesn't come back to v, nor twice to another reactor
 record Direct (cs : List Connection) (v j : ℕ) (long : List Connection) : Type 0 where
   pub short : List Connection
   pub walk : IsWalk cs v short j
@@ -90,12 +71,12 @@ avoids_or_goes_on cs v u j (c ∷ rest) walk apart =
     ]
 
 -- every walk has a shorter one that is direct
-direct : (cs : List Connection) → ((x : Connection) → Contains cs x → IsLogicalTime x.delay) → (v j : ℕ) (walk : List Connection) → IsWalk cs v walk j → Direct cs v j walk
+direct : (cs : List Connection) → ArePlain cs → (v j : ℕ) (walk : List Connection) → IsWalk cs v walk j → Direct cs v j walk
 unfolding IsDistinct
-direct cs delays v j [] walk = record { short = []; walk = walk; avoids = tt; apart = tt; shorter = λ g logical. at_most_reflexive g }
-direct cs delays v j (c ∷ rest) walk =
-    let on : Direct cs c.target j rest = direct cs delays c.target j rest walk.2 in
-    let next : IsShorter (c ∷ on.short) (c ∷ rest) = λ g logical. on.shorter (sum_of g c.delay) (sum_is_logical g c.delay logical (delays c walk.0)) in
+direct cs plain v j [] walk = record { short = []; walk = walk; avoids = tt; apart = tt; shorter = λ g logical. at_most_reflexive g }
+direct cs plain v j (c ∷ rest) walk =
+    let on : Direct cs c.target j rest = direct cs plain c.target j rest walk.2 in
+    let next : IsShorter (c ∷ on.short) (c ∷ rest) = λ g logical. on.shorter (sum_of g c.delay) (sum_is_logical g c.delay logical (plain_is_logical c.delay (plain c walk.0))) in
     elim (avoids_or_goes_on cs v v j (c ∷ on.short) (walk.0, walk.1, on.walk) (on.avoids, on.apart)) [
       | inl avoids ↦
           record { short = c ∷ on.short; walk = (walk.0, walk.1, on.walk); avoids = avoids; apart = (on.avoids, on.apart); shorter = next }
@@ -112,17 +93,21 @@ direct cs delays v j (c ∷ rest) walk =
 
 -- ---- such a walk is short
 
-targets_below : (cs : List Connection) (n : ℕ) → EndsBelow n cs → (i : ℕ) (walk : List Connection) (j : ℕ) → IsWalk cs i walk j
+-- all these connections lead to reactors with numbers below n
+abbrev pub EndBelow : ℕ → List Connection → Type 0
+EndBelow n cs = (c : Connection) → Contains cs c → c.target < n
+
+targets_below : (cs : List Connection) (n : ℕ) → EndBelow n cs → (i : ℕ) (walk : List Connection) (j : ℕ) → IsWalk cs i walk j
     → (q : ℕ) → list_any (eqb q) (targets walk) ≡ true → q < n
 targets_below cs n ends i [] j walk q found = cc
 targets_below cs n ends i (c ∷ rest) j walk q found =
-    let below : (c.source < n) × (c.target < n) = All-contains (λ (x : Connection). (x.source < n) × (x.target < n)) cs c ends walk.0 in
+    let below : c.target < n = ends c walk.0 in
     elim (eqb_tells q c.target) [
-      | inl same ↦ (let is : q ≡ c.target = same.1 in let less : c.target < n = below.1 in omega arith)
+      | inl same ↦ (let is : q ≡ c.target = same.1 in omega arith)
       | inr other ↦ targets_below cs n ends c.target rest j walk.2 q (rw other.0 at found)
     ]
 
-few_targets : (cs : List Connection) (n : ℕ) → EndsBelow n cs → (i : ℕ) (walk : List Connection) (j : ℕ) → IsWalk cs i walk j → IsDistinct eqb (targets walk) → length walk ≤ n
+few_targets : (cs : List Connection) (n : ℕ) → EndBelow n cs → (i : ℕ) (walk : List Connection) (j : ℕ) → IsWalk cs i walk j → IsDistinct eqb (targets walk) → length walk ≤ n
 few_targets cs n ends i walk j is_walk apart =
     let few : length (targets walk) ≤ n = length-le_from_distinct_below (targets walk) n apart (targets_below cs n ends i walk j is_walk) in
     omega (arith, length-map walk (λ (c : Connection). c.target))
@@ -134,17 +119,16 @@ pub record Shortened (cs : List Connection) (n i j : ℕ) (long : List Connectio
   pub few : length path ≤ n
   pub total : IsTrue (is_at_most (total_of path) (total_of long))
 
-pub shortened : (cs : List Connection) (n : ℕ) → EndsBelow n cs → ((x : Connection) → Contains cs x → IsLogicalTime x.delay)
+pub shortened : (cs : List Connection) (n : ℕ) → EndBelow n cs → ArePlain cs
     → (i : ℕ) (path : List Connection) (j : ℕ) → IsPath cs i path j → Shortened cs n i j path
 unfolding IsDistinct
-shortened cs n ends delays i [] j is_path = absurd is_path
-shortened cs n ends delays i (c ∷ rest) j is_path =
-    let walk : IsWalk cs i (c ∷ rest) j = walk_from_path cs i (c ∷ rest) j is_path in
-    let on : Direct cs c.target j rest = direct cs delays c.target j rest walk.2 in
-    let whole : IsWalk cs i (c ∷ on.short) j = (walk.0, walk.1, on.walk) in
+shortened cs n ends plain i [] j is_path = absurd is_path
+shortened cs n ends plain i (c ∷ rest) j is_path =
+    let on : Direct cs c.target j rest = direct cs plain c.target j rest is_path.2 in
+    let short : IsWalk cs i (c ∷ on.short) j = (is_path.0, is_path.1, on.walk) in
     record {
       path = c ∷ on.short;
-      is_path = path_from_walk cs i c on.short j whole;
-      few = few_targets cs n ends i (c ∷ on.short) j whole (on.avoids, on.apart);
-      total = on.shorter c.delay (delays c walk.0);
+      is_path = short;
+      few = few_targets cs n ends i (c ∷ on.short) j short (on.avoids, on.apart);
+      total = on.shorter c.delay (plain_is_logical c.delay (plain c is_path.0));
     }
