@@ -1,7 +1,7 @@
 //! Tests of what the crates below it let others call, and of what no clause there says: rows of small federations, least
 //! delays of worked examples, which lines and keys are refused and how, that calls succeed with ample memory, and that want
-//! of memory is told and nothing else. It has nothing of its own: a crate with tests is proved twice, so `plan`, `reactor`,
-//! `loadfed` and `whole` have theirs here.
+//! of memory is told and nothing else. It has nothing of its own: a crate with tests is proved twice, so the libraries have
+//! theirs here.
 //!
 //! Begin with `federations`, whose texts the others load.
 #![tactic(auto)]
@@ -20,6 +20,8 @@ mod files;
 mod inputs;
 #[cfg(test)]
 mod lines;
+#[cfg(test)]
+mod link_ends;
 #[cfg(test)]
 mod memory;
 #[cfg(test)]

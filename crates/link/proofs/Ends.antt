@@ -1,5 +1,5 @@
 -- Ends with all that they ever offered: what their images tell, and that they stay lawful.
-use Rattle.std.proofs.Common.{◌≡◌, ℕ, ◌+◌, ◌-◌, ◌≤◌, List, [], ◌∷◌, ◌++◌, length, drop, max, arith, refl, true, false, sym, ap, ◌∙◌}
+use Rattle.std.proofs.Common.{◌≡◌, ℕ, ◌+◌, ◌-◌, List, [], length, drop, max, arith, refl, ap, ◌∙◌}
 use Rattle.std.specs.Prelude.{cond}
 use Rattle.std.proofs.lemmas.List.{drop-drop, length-drop}
 use Rattle.signal.specs.declared.signal.Signal.{Signal}

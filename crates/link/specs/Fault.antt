@@ -1,4 +1,6 @@
-use Rattle.std.specs.Prelude.{ℕ}
+-- How each refusal of an end is told.
+use Rattle.std.specs.Prelude.{ℕ, List, codes}
+use Rattle.signal.specs.Fault.{told}
 use Rattle.link.specs.declared.fault.LinkFault.{LinkFault}
 use Rattle.link.specs.declared.fault.LinkFault.TheVariants.{Full, Stranger, Gap, AckOfUnsent, Memory, Closed}
 
@@ -10,3 +12,16 @@ number_of Gap = 52
 number_of AckOfUnsent = 53
 number_of Memory = 54
 number_of Closed = 55
+
+-- the name by which a refusal is told
+abbrev pub name_of : LinkFault → List ℕ
+name_of Full = codes "Full"
+name_of Stranger = codes "Stranger"
+name_of Gap = codes "Gap"
+name_of AckOfUnsent = codes "AckOfUnsent"
+name_of Memory = codes "Memory"
+name_of Closed = codes "Closed"
+
+-- what is printed of a refusal
+abbrev pub text_of : LinkFault → List ℕ
+text_of fault = told (number_of fault) (name_of fault)

@@ -1,4 +1,4 @@
--- The numbers of the refusals.
+-- The numbers and names of the refusals.
 pub mod Fault
 -- Whose a frame is, what an open end answers to it, and signals as numbered frames.
 pub mod Answer

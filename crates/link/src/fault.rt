@@ -1,22 +1,23 @@
 ghost use Rattle.std.specs.Prelude.{◌≡◌};
 
 use std::alloc::{AllocError, AllocFailed};
-use thiserror::Error;
+use std::fmt;
 
 /// Why an end refuses. The end is as it was before.
-#[derive(Clone, Copy, Debug, PartialEq, Eq, Hash, Error)]
+#[derive(Clone, Copy, Debug, PartialEq, Eq, Hash)]
 pub enum LinkFault {
-    #[error("the link has no room")]
+    /// As many signals are kept as there is room for: the other side acknowledges more slowly than this one offers.
+    /// Offer again after an acknowledgement.
     Full,
-    #[error("the frame isn't of this link")]
+    /// The other side speaks of another incarnation or another federate. Drop the frame.
     Stranger,
-    #[error("a signal before this one is missing")]
+    /// The way to here lost a signal. Drop the frame: the other side sends again all that isn't acknowledged.
     Gap,
-    #[error("a signal is acknowledged that was never offered")]
+    /// The other side acknowledges a signal that was never offered here: it isn't what it says it is. Drop the frame.
     AckOfUnsent,
-    #[error("out of memory")]
+    /// The machine had no memory for more signals. The same call may succeed later.
     Memory,
-    #[error("the link is closed")]
+    /// This side closed the link, or the other refused to go on. Nothing is said over it any more.
     Closed,
 }
 
@@ -24,7 +25,7 @@ impl LinkFault {
     ghost use Rattle.link.specs.Fault.{number_of};
 
     /// The number by which it is told.
-    pub fn number(self) -> u16
+    pub const fn number(self) -> u16
         ensures { result ≡ number_of self }
     {
         match self {
@@ -37,6 +38,27 @@ impl LinkFault {
         }
     }
 }
+
+impl fmt::Display for LinkFault {
+    ghost use Rattle.std.specs.Prelude.{Some};
+    ghost use Rattle.link.specs.Fault.{text_of};
+
+    ghost output = { λ fault. Some (text_of fault) };
+
+    fn fmt<W: fmt::Write>(&self, f: &mut fmt::Formatter<W>) -> fmt::Result {
+        let number = self.number();
+        match self {
+            LinkFault::Full => write!(f, "{number} Full"),
+            LinkFault::Stranger => write!(f, "{number} Stranger"),
+            LinkFault::Gap => write!(f, "{number} Gap"),
+            LinkFault::AckOfUnsent => write!(f, "{number} AckOfUnsent"),
+            LinkFault::Memory => write!(f, "{number} Memory"),
+            LinkFault::Closed => write!(f, "{number} Closed"),
+        }
+    }
+}
+
+impl std::error::Error for LinkFault {}
 
 impl From<AllocError> for LinkFault {
     ghost use Rattle.std.specs.Prelude.{◌≡◌};

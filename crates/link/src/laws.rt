@@ -5,7 +5,7 @@ ghost use Rattle.signal.specs.declared.frame.Frame.{Frame};
 ghost use Rattle.link.specs.Answer.{numbered};
 ghost use Rattle.link.specs.Image.{Image, IsImage, last_number, room_left, offer_of, answer_of, resent_by, after_offer, after_frame, after_close, blank};
 ghost use Rattle.link.specs.End.{End, IsLawful};
-ghost use Rattle.link.specs.End as whole;
+ghost use Rattle.link.specs.End as ends;
 ghost use Rattle.link.specs.Taken.{Carries, after_all, taken_of};
 
 use crate::arrival::Arrival;
@@ -20,10 +20,10 @@ pub fn image_tells()
 /// An end stays lawful.
 #[tactic(auto, using(crate::proofs::Ends::ends))]
 pub fn stays_lawful()
-    ensures blank { (federate incarnation room : ℕ) → IsLawful (whole.blank federate incarnation room) }
-    ensures offer { (e : End) (signal : Signal) → IsLawful e → IsLawful (whole.after_offer e signal) }
-    ensures frame { (e : End) (frame : Frame) → IsLawful e → IsOk (answer_of e.image frame) → IsLawful (whole.after_frame e frame) }
-    ensures close { (e : End) → IsLawful e → IsLawful (whole.after_close e) }
+    ensures blank { (federate incarnation room : ℕ) → IsLawful (ends.blank federate incarnation room) }
+    ensures offer { (e : End) (signal : Signal) → IsLawful e → IsLawful (ends.after_offer e signal) }
+    ensures frame { (e : End) (frame : Frame) → IsLawful e → IsOk (answer_of e.image frame) → IsLawful (ends.after_frame e frame) }
+    ensures close { (e : End) → IsLawful e → IsLawful (ends.after_close e) }
 {}
 
 /// An image stays one of an end.
@@ -59,7 +59,7 @@ pub fn takes_a_beginning()
 /// Each frame that an end sends carries the signal of its number, and goes on to do so as more is offered.
 #[tactic(none)]
 pub fn sends_what_was_offered()
-    ensures offer { (e : End) (signal : Signal) (frame : Frame) → IsLawful e → offer_of e.image signal ≡ Ok frame → Carries e.image.incarnation (whole.after_offer e signal).offered frame }
+    ensures offer { (e : End) (signal : Signal) (frame : Frame) → IsLawful e → offer_of e.image signal ≡ Ok frame → Carries e.image.incarnation (ends.after_offer e signal).offered frame }
     ensures resent { (e : End) → IsLawful e → All (Carries e.image.incarnation e.offered) (resent_by e.image) }
     ensures later { (incarnation : ℕ) (offered more : List Signal) (frame : Frame) → Carries incarnation offered frame → Carries incarnation (offered ++ more) frame }
 {}

@@ -8,9 +8,9 @@ pub mod arrival;
 pub mod fault;
 pub mod laws;
 pub mod link_end;
-#[cfg(test)]
-mod tests;
+pub mod memory;
 
 pub use arrival::Arrival;
 pub use fault::LinkFault;
 pub use link_end::LinkEnd;
+pub use memory::Memory;

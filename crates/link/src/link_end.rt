@@ -4,6 +4,7 @@ ghost use Rattle.std.specs.VecDeque.{deque_capacity, deque_len};
 
 use crate::arrival::Arrival;
 use crate::fault::LinkFault;
+use crate::memory::Memory;
 use signal::{Frame, Signal};
 use std::alloc::Global;
 use std::collections::VecDeque;
@@ -181,9 +182,8 @@ impl LinkEnd {
 
     /// All that is kept, as the frames that it was sent in; nothing where the end is closed.
     #[tactic(auto, using(crate::proofs::Numbered::lengths))]
-    pub fn resend(&self) -> Result<Vec<Frame>, LinkFault>
+    pub fn resend(&self) -> Result<Vec<Frame>, Memory>
         ensures frames { IfOk result (λ frames. frames.items ≡ resent_by self.now.image) }
-        ensures only_memory { IsOkUnless result LinkFault.Memory }
         ensures none_needed { length (resent_by self.now.image) ≡ 0 → IsOk result }
     {
         let alloc = *self.kept.allocator();
@@ -266,10 +266,9 @@ fn data_frames(
     incarnation: u32,
     before: u64,
     kept: &VecDeque<Signal>,
-) -> Result<Vec<Frame>, LinkFault>
+) -> Result<Vec<Frame>, Memory>
     requires { before + length kept.now.items < 2 ^ 64 }
     ensures frames { IfOk result (λ frames. frames.items ≡ numbered incarnation (before + 1) kept.now.items) }
-    ensures only_memory { IsOkUnless result LinkFault.Memory }
     ensures none_needed { length kept.now.items ≡ 0 → IsOk result }
 {
     let mut frames = Vec::with_capacity(alloc, kept.len())?;

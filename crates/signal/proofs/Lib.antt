@@ -1,7 +1,6 @@
 pub mod Parts
 pub mod Bodies
 pub mod Framing
-pub mod Faults
 pub mod Writing
 pub mod Streams
 pub mod Sessions

@@ -3,12 +3,12 @@ use Rattle.std.proofs.Common.{◌≡◌, ℕ, List, ◌∷◌, ◌++◌, Result,
 use Rattle.std.specs.Prelude.{OnOk}
 use Rattle.byteorder.specs.Endian.{big_bytes}
 use Rattle.tag.specs.LogicalTime.{LogicalTime}
-use Rattle.signal.specs.declared.fault.FrameFault.{FrameFault}
+use Rattle.signal.specs.declared.memory.Memory.{Memory}
 use Rattle.signal.specs.declared.frame.Frame.{Frame}
 use Rattle.signal.specs.Signal.{point_bytes, tag_bytes}
 use Rattle.signal.specs.Frame.{framed, frame_bytes}
 
-pub written_as : (f g : Frame) (bytes old new : List ℕ) (r : Result (Unit {0}) FrameFault) → f ≡ g → bytes ≡ frame_bytes g → OnOk r (new ≡ old ++ bytes) → OnOk r (new ≡ old ++ frame_bytes f)
+pub written_as : (f g : Frame) (bytes old new : List ℕ) (r : Result (Unit {0}) Memory) → f ≡ g → bytes ≡ frame_bytes g → OnOk r (new ≡ old ++ bytes) → OnOk r (new ≡ old ++ frame_bytes f)
 written_as f g bytes old new r e b h = subst (λ (x : List ℕ). OnOk r (new ≡ old ++ x)) (b ∙ ap frame_bytes (sym e)) h
 
 abbrev data_with : ℕ → ℕ → List ℕ → List ℕ

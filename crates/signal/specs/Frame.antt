@@ -1,24 +1,25 @@
 -- A frame as bytes: four bytes of length, and then that many bytes of body.
 use Rattle.std.specs.Prelude.{◌≡◌, ℕ, ◌^◌, ◌<◌, List, ◌++◌, ◌∷◌, length}
 use Rattle.byteorder.specs.Endian.{big_bytes}
+use Rattle.signal.specs.declared.wire.TheConstants.{LENGTH_SIZE, VERSION, HELLO_KIND, DATA_KIND, ACK_KIND, REFUSE_KIND}
 use Rattle.signal.specs.declared.frame.Frame.{Frame}
 use Rattle.signal.specs.declared.frame.Frame.TheVariants.{Hello, Data, Ack, Refuse}
 use Rattle.signal.specs.Signal.{signal_bytes, IsSignal}
 
 -- the body of a frame: its kind, for a Hello a version, and then its fields
 abbrev pub body_of : ℕ → Frame → List ℕ
-body_of version (Hello federate incarnation last_taken) = 1 ∷ version ∷ big_bytes 2 federate ++ big_bytes 4 incarnation ++ big_bytes 8 last_taken
-body_of version (Data incarnation number signal) = 2 ∷ big_bytes 4 incarnation ++ big_bytes 8 number ++ signal_bytes signal
-body_of version (Ack incarnation last_taken) = 3 ∷ big_bytes 4 incarnation ++ big_bytes 8 last_taken
-body_of version (Refuse incarnation refusal) = 4 ∷ big_bytes 4 incarnation ++ big_bytes 2 refusal
+body_of version (Hello federate incarnation last_taken) = HELLO_KIND ∷ version ∷ big_bytes 2 federate ++ big_bytes 4 incarnation ++ big_bytes 8 last_taken
+body_of version (Data incarnation number signal) = DATA_KIND ∷ big_bytes 4 incarnation ++ big_bytes 8 number ++ signal_bytes signal
+body_of version (Ack incarnation last_taken) = ACK_KIND ∷ big_bytes 4 incarnation ++ big_bytes 8 last_taken
+body_of version (Refuse incarnation refusal) = REFUSE_KIND ∷ big_bytes 4 incarnation ++ big_bytes 2 refusal
 
 -- a body behind its length
 abbrev pub framed : List ℕ → List ℕ
-framed body = big_bytes 4 (length body) ++ body
+framed body = big_bytes LENGTH_SIZE (length body) ++ body
 
 -- the spelling that is written
 abbrev pub frame_bytes : Frame → List ℕ
-frame_bytes frame = framed (body_of 1 frame)
+frame_bytes frame = framed (body_of VERSION frame)
 
 -- what has a spelling: every frame of the program
 abbrev pub IsFrame : Frame → Type 0

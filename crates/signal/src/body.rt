@@ -3,11 +3,15 @@
 ghost use Rattle.std.specs.Prelude.{◌≡◌, ◌<◌, length, slice_index, IfOk, IfErr, Some};
 ghost use Rattle.signal.specs.Frame.{IsBody};
 ghost use Rattle.signal.specs.Fault.{body_fault};
+ghost use Rattle.signal.specs.declared.wire.TheConstants.{ACK_KIND, DATA_KIND, HELLO_KIND, REFUSE_KIND};
 
 use crate::fault::FrameFault;
 use crate::frame::Frame;
 use crate::numbers::{take_u16, take_u32, take_u64};
 use crate::reading::{check_size, signal_of};
+use crate::wire::{
+    ACK_KIND, ACK_SIZE, BEFORE_SIGNAL, DATA_KIND, HELLO_KIND, HELLO_SIZE, REFUSE_KIND, REFUSE_SIZE,
+};
 
 /// The frame that all of these bytes spell.
 pub fn frame_of(body: &[u8]) -> Result<Frame, FrameFault>
@@ -16,21 +20,21 @@ pub fn frame_of(body: &[u8]) -> Result<Frame, FrameFault>
     ensures fault { IfErr result (λ e. body_fault body.now ≡ Some e) }
 {
     match body[0] {
-        1 => hello_of(body),
-        2 => data_of(body),
-        3 => ack_of(body),
-        4 => refuse_of(body),
+        HELLO_KIND => hello_of(body),
+        DATA_KIND => data_of(body),
+        ACK_KIND => ack_of(body),
+        REFUSE_KIND => refuse_of(body),
         _ => Err(FrameFault::BadKind),
     }
 }
 
 fn hello_of(body: &[u8]) -> Result<Frame, FrameFault>
     requires there { 0 < length body.now }
-    requires kind { slice_index body.now 0 ≡ 1 }
+    requires kind { slice_index body.now 0 ≡ HELLO_KIND }
     ensures spelled { IfOk result (IsBody body.now) }
     ensures fault { IfErr result (λ e. body_fault body.now ≡ Some e) }
 {
-    check_size(body.len(), 16)?;
+    check_size(body.len(), HELLO_SIZE)?;
     if body[1] == 0 {
         return Err(FrameFault::BadKind);
     }
@@ -46,11 +50,11 @@ fn hello_of(body: &[u8]) -> Result<Frame, FrameFault>
 
 fn data_of(body: &[u8]) -> Result<Frame, FrameFault>
     requires there { 0 < length body.now }
-    requires kind { slice_index body.now 0 ≡ 2 }
+    requires kind { slice_index body.now 0 ≡ DATA_KIND }
     ensures spelled { IfOk result (IsBody body.now) }
     ensures fault { IfErr result (λ e. body_fault body.now ≡ Some e) }
 {
-    if body.len() < 14 {
+    if body.len() <= BEFORE_SIGNAL {
         return Err(FrameFault::BadLength);
     }
     let (incarnation, rest) = take_u32(&body[1..]);
@@ -65,11 +69,11 @@ fn data_of(body: &[u8]) -> Result<Frame, FrameFault>
 
 fn ack_of(body: &[u8]) -> Result<Frame, FrameFault>
     requires there { 0 < length body.now }
-    requires kind { slice_index body.now 0 ≡ 3 }
+    requires kind { slice_index body.now 0 ≡ ACK_KIND }
     ensures spelled { IfOk result (IsBody body.now) }
     ensures fault { IfErr result (λ e. body_fault body.now ≡ Some e) }
 {
-    check_size(body.len(), 13)?;
+    check_size(body.len(), ACK_SIZE)?;
     let (incarnation, rest) = take_u32(&body[1..]);
     let (last_taken, _) = take_u64(rest);
     Ok(Frame::Ack {
@@ -80,11 +84,11 @@ fn ack_of(body: &[u8]) -> Result<Frame, FrameFault>
 
 fn refuse_of(body: &[u8]) -> Result<Frame, FrameFault>
     requires there { 0 < length body.now }
-    requires kind { slice_index body.now 0 ≡ 4 }
+    requires kind { slice_index body.now 0 ≡ REFUSE_KIND }
     ensures spelled { IfOk result (IsBody body.now) }
     ensures fault { IfErr result (λ e. body_fault body.now ≡ Some e) }
 {
-    check_size(body.len(), 7)?;
+    check_size(body.len(), REFUSE_SIZE)?;
     let (incarnation, rest) = take_u32(&body[1..]);
     let (refusal, _) = take_u16(rest);
     Ok(Frame::Refuse {

@@ -1,31 +1,24 @@
 ghost use Rattle.std.specs.Prelude.{◌≡◌};
 
-use thiserror::Error;
+use std::fmt;
 
-/// Why bytes are no frame, or why they could not be kept.
-#[derive(Clone, Copy, Debug, PartialEq, Eq, Error)]
+/// Why bytes are no frame. Who wrote them is at fault, and the stream can't be read on: whoever reads it gives it up.
+#[derive(Clone, Copy, Debug, PartialEq, Eq, Hash)]
 pub enum FrameFault {
-    /// A length of 0 or above 64, or a body shorter than its kind needs.
-    #[error("bad length")]
+    /// The writer told a length of 0 or above 64, or a body shorter than its kind needs.
     BadLength,
-    /// A byte that is no kind of a frame or of a signal, or a Hello of version 0.
-    #[error("bad kind")]
+    /// The writer told a kind of frame or of signal that there isn't, or a Hello of version 0.
     BadKind,
-    /// A time of 2^62 ns or more that isn't FOREVER, or FOREVER in another signal than a NET.
-    #[error("bad tag")]
+    /// The writer told a time of 2^62 ns or more that isn't FOREVER, or FOREVER in another signal than a NET.
     BadTag,
-    /// A body longer than its kind needs.
-    #[error("trailing bytes")]
+    /// The writer told a body longer than its kind needs.
     Trailing,
-    /// No memory for the bytes; nothing changed.
-    #[error("out of memory")]
-    Memory,
 }
 
 impl FrameFault {
     ghost use Rattle.signal.specs.Fault.{number_of};
 
-    /// The refusal's number.
+    /// The number by which it is told.
     pub fn number(self) -> u16
         ensures { result ≡ number_of self }
     {
@@ -34,7 +27,25 @@ impl FrameFault {
             FrameFault::BadKind => 41,
             FrameFault::BadTag => 42,
             FrameFault::Trailing => 43,
-            FrameFault::Memory => 44,
         }
     }
 }
+
+impl fmt::Display for FrameFault {
+    ghost use Rattle.std.specs.Prelude.{Some};
+    ghost use Rattle.signal.specs.Fault.{text_of};
+
+    ghost output = { λ fault. Some (text_of fault) };
+
+    fn fmt<W: fmt::Write>(&self, f: &mut fmt::Formatter<W>) -> fmt::Result {
+        let number = self.number();
+        match self {
+            FrameFault::BadLength => write!(f, "{number} BadLength"),
+            FrameFault::BadKind => write!(f, "{number} BadKind"),
+            FrameFault::BadTag => write!(f, "{number} BadTag"),
+            FrameFault::Trailing => write!(f, "{number} Trailing"),
+        }
+    }
+}
+
+impl std::error::Error for FrameFault {}

@@ -2,8 +2,8 @@
 //!
 //! Promise to the layer above: bytes are read as the frames that they spell, in order, however they
 //! are cut into pieces, and nothing else is read; what was written is read again. Where no frame
-//! begins, the fault of `specs/Fault` is told. Begin with `specs/Frame`, then `reader`; the laws of
-//! whole streams stand in `laws`.
+//! begins, the fault of `specs/Fault` is told. Begin with `specs/Frame`, then `reader`; the numbers of
+//! the wire stand in `wire`, the laws of whole streams in `laws`.
 #![tactic(auto)]
 
 mod body;
@@ -11,16 +11,17 @@ pub mod fault;
 pub mod frame;
 mod front;
 pub mod laws;
+pub mod memory;
 mod numbers;
 pub mod reader;
 mod reading;
 pub mod signal;
-#[cfg(test)]
-mod tests;
+pub mod wire;
 pub mod write;
 
 pub use fault::FrameFault;
 pub use frame::Frame;
+pub use memory::Memory;
 pub use reader::FrameReader;
 pub use signal::Signal;
 pub use write::write_frame;

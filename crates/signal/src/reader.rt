@@ -1,6 +1,7 @@
 use crate::fault::FrameFault;
 use crate::frame::Frame;
 use crate::front::front_of;
+use crate::memory::Memory;
 use std::alloc::Global;
 use std::marker::Model;
 
@@ -25,10 +26,11 @@ impl Model for FrameReader {
 }
 
 impl FrameReader {
-    ghost use Rattle.std.specs.Prelude.{◌≡◌, ◌≢◌, ◌≤◌, ◌<◌, OnOk, OnErr, IfErr, IsOkUnless, IsSome, IsOk, Result, Option, Ok, None, length, drop, vec_len};
+    ghost use Rattle.std.specs.Prelude.{◌≡◌, ◌+◌, ◌<◌, [], OnOk, OnErr, IsSome, IsOk, Result, Option, Ok, None, length};
     ghost use Rattle.signal.specs.Stream.{Stream, start, fed, Gives};
     ghost use Rattle.signal.specs.declared.frame.Frame.{Frame};
     ghost use Rattle.signal.specs.declared.fault.FrameFault.{FrameFault};
+    ghost use Rattle.signal.specs.declared.wire.TheConstants.{LENGTH_SIZE, LONGEST_BODY};
 
     pub fn new(alloc: Global) -> FrameReader
         ensures { result ≡ start }
@@ -41,35 +43,31 @@ impl FrameReader {
     }
 
     /// Takes the next bytes of the stream.
-    pub fn feed(&mut self, bytes: &[u8]) -> Result<(), FrameFault>
+    pub fn feed(&mut self, bytes: &[u8]) -> Result<(), Memory>
         ensures ok { OnOk result (self.new ≡ fed self.old bytes.now) }
-        ensures only_memory { IsOkUnless result FrameFault.Memory }
         ensures unchanged { OnErr result (self.new ≡ self.old) }
         ensures standing { IsSome self.old.fault → IsOk result }
+        ensures no_bytes { bytes.now ≡ [] → IsOk result }
     {
-        if self.fault.is_some() {
+        if self.fault.is_some() || bytes.is_empty() {
             return Ok(());
         }
         self.let_go();
-        self.buffer
-            .extend_from_slice(bytes)
-            .map_err(|_| FrameFault::Memory)
+        self.buffer.extend_from_slice(bytes)?;
+        Ok(())
     }
 
     /// The next frame, or None where the bytes so far end inside it. An error comes again for good.
     pub fn next(&mut self) -> Result<Option<Frame>, FrameFault>
         ensures gives { Gives self.old result self.new }
         ensures only { (answer : Result (Option Frame) FrameFault) (after : Stream) → Gives self.old answer after → (result ≡ answer) × (self.new ≡ after) }
-        ensures no_memory { IfErr result (λ e. e ≢ FrameFault.Memory) }
-        ensures held { result ≡ Ok None → length self.new.rest < 68 }
+        ensures left { result ≡ Ok None → length self.new.rest < LENGTH_SIZE + LONGEST_BODY }
     {
         self.read()
     }
 
-    #[tactic(auto, using(crate::proofs::Faults::no_memory))]
     fn read(&mut self) -> Result<Option<Frame>, FrameFault>
-        ensures gives { Gives self.old result self.new }
-        ensures no_memory { IfErr result (λ e. e ≢ FrameFault.Memory) }
+        ensures { Gives self.old result self.new }
     {
         if let Some(fault) = self.fault {
             return Err(fault);

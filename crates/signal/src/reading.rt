@@ -5,13 +5,17 @@ ghost use Rattle.byteorder.specs.Endian.{big_number};
 ghost use Rattle.tag.specs.LogicalTime.{IsFinite, IsLogicalTime};
 ghost use Rattle.signal.specs.Signal.{tag_bytes, signal_bytes, IsSignal};
 ghost use Rattle.signal.specs.Fault.{is_tag, signal_fault};
+ghost use Rattle.signal.specs.declared.wire.TheConstants.{MSG_KIND};
 
 use crate::fault::FrameFault;
 use crate::numbers::{take_u16, take_u32, take_u64};
 use crate::signal::Signal;
+use crate::wire::{
+    FOREVER_MICROSTEP, FOREVER_TIME, LTC_KIND, MSG_KIND, MSG_SIZE, NET_KIND, POINT_SIZE, TAG_KIND,
+};
 use tag::{FiniteTag, Time};
 
-/// None for a time of 2^62 or more.
+/// None for a time that isn't before FOREVER's.
 fn finite_tag_of(bytes: &[u8]) -> Option<FiniteTag>
     requires { 12 ≤ length bytes.now }
     ensures found { IfSome result (λ g. IsFinite g × (take 12 bytes.now ≡ tag_bytes g)) }
@@ -39,7 +43,7 @@ fn tag_of(bytes: &[u8]) -> Option<tag::Tag>
     let (microstep, _) = take_u32(rest);
     let tag = match Time::new(time) {
         Some(time) => tag::Tag::new(time, microstep),
-        None if time == u64::MAX && microstep == u32::MAX => tag::Tag::FOREVER,
+        None if time == FOREVER_TIME && microstep == FOREVER_MICROSTEP => tag::Tag::FOREVER,
         None => return None,
     };
     tag.known();
@@ -66,22 +70,22 @@ pub fn signal_of(bytes: &[u8]) -> Result<Signal, FrameFault>
     ensures fault { IfErr result (λ e. signal_fault bytes.now ≡ Some e) }
 {
     match bytes[0] {
-        1 => {
-            check_size(bytes.len(), 13)?;
+        NET_KIND => {
+            check_size(bytes.len(), POINT_SIZE)?;
             let tag = tag_of(&bytes[1..]).ok_or(FrameFault::BadTag)?;
             Ok(Signal::Net(tag))
         }
-        2 => {
-            check_size(bytes.len(), 13)?;
+        LTC_KIND => {
+            check_size(bytes.len(), POINT_SIZE)?;
             let tag = finite_tag_of(&bytes[1..]).ok_or(FrameFault::BadTag)?;
             Ok(Signal::Ltc(tag))
         }
-        3 => {
-            check_size(bytes.len(), 13)?;
+        TAG_KIND => {
+            check_size(bytes.len(), POINT_SIZE)?;
             let tag = finite_tag_of(&bytes[1..]).ok_or(FrameFault::BadTag)?;
             Ok(Signal::Tag(tag))
         }
-        4 => message_of(bytes),
+        MSG_KIND => message_of(bytes),
         _ => Err(FrameFault::BadKind),
     }
 }
@@ -89,11 +93,11 @@ pub fn signal_of(bytes: &[u8]) -> Result<Signal, FrameFault>
 /// The message that all of these bytes spell.
 fn message_of(bytes: &[u8]) -> Result<Signal, FrameFault>
     requires there { 0 < length bytes.now }
-    requires kind { slice_index bytes.now 0 ≡ 4 }
+    requires kind { slice_index bytes.now 0 ≡ MSG_KIND }
     ensures spelled { IfOk result (λ signal. IsSignal signal × (bytes.now ≡ signal_bytes signal)) }
     ensures fault { IfErr result (λ e. signal_fault bytes.now ≡ Some e) }
 {
-    check_size(bytes.len(), 23)?;
+    check_size(bytes.len(), MSG_SIZE)?;
     let (connection, fields) = take_u16(&bytes[1..]);
     let (value, _) = take_u64(&fields[12..]);
     let tag = finite_tag_of(fields).ok_or(FrameFault::BadTag)?;

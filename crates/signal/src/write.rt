@@ -1,23 +1,25 @@
 //! Frames as they are written.
 
-ghost use Rattle.std.specs.Prelude.{◌≡◌, ◌++◌, ◌∷◌, OnOk, OnErr, IsOkUnless};
+ghost use Rattle.std.specs.Prelude.{◌≡◌, ◌++◌, ◌∷◌, OnOk, OnErr};
 ghost use Rattle.byteorder.specs.Endian.{big_bytes};
 ghost use Rattle.signal.specs.Signal.{point_bytes, tag_bytes};
 ghost use Rattle.signal.specs.Frame.{framed, frame_bytes, Spells};
+ghost use Rattle.signal.specs.declared.wire.TheConstants.{DATA_KIND, MSG_KIND};
 
-use crate::fault::FrameFault;
 use crate::frame::Frame;
+use crate::memory::Memory;
 use crate::signal::Signal;
+use crate::wire::{
+    ACK_KIND, ACK_SIZE, BEFORE_SIGNAL, DATA_KIND, FOREVER_MICROSTEP, FOREVER_TIME, HELLO_KIND,
+    HELLO_SIZE, LTC_KIND, MSG_KIND, MSG_SIZE, NET_KIND, POINT_SIZE, REFUSE_KIND, REFUSE_SIZE,
+    TAG_KIND, VERSION,
+};
 use byteorder::{BigEndian, ByteOrder};
-
-/// The version that a Hello tells.
-const VERSION: u8 = 1;
 
 /// Appends the frame's bytes.
 #[tactic(auto, using(crate::proofs::Streams::written))]
-pub fn write_frame(frame: &Frame, bytes: &mut Vec<u8>) -> Result<(), FrameFault>
+pub fn write_frame(frame: &Frame, bytes: &mut Vec<u8>) -> Result<(), Memory>
     ensures written { OnOk result (bytes.new.items ≡ bytes.old.items ++ frame_bytes frame.now) }
-    ensures memory { IsOkUnless result FrameFault.Memory }
     ensures unchanged { OnErr result (bytes.new.items ≡ bytes.old.items) }
     ensures readable { Spells (frame_bytes frame.now) frame.now }
 {
@@ -44,22 +46,20 @@ pub fn write_frame(frame: &Frame, bytes: &mut Vec<u8>) -> Result<(), FrameFault>
     }
 }
 
-fn append(bytes: &mut Vec<u8>, more: &[u8]) -> Result<(), FrameFault>
+fn append(bytes: &mut Vec<u8>, more: &[u8]) -> Result<(), Memory>
     ensures written { OnOk result (bytes.new.items ≡ bytes.old.items ++ more.now) }
-    ensures memory { IsOkUnless result FrameFault.Memory }
     ensures unchanged { OnErr result (bytes.new.items ≡ bytes.old.items) }
 {
-    bytes
-        .extend_from_slice(more)
-        .map_err(|_| FrameFault::Memory)
+    bytes.extend_from_slice(more)?;
+    Ok(())
 }
 
 fn hello_bytes(federate: u16, incarnation: u32, last_taken: u64) -> [u8; 20]
     ensures { result ≡ frame_bytes (Frame.Hello federate incarnation last_taken) }
 {
     let mut bytes = [0; 20];
-    bytes[3] = 16;
-    bytes[4] = 1;
+    bytes[3] = HELLO_SIZE as u8;
+    bytes[4] = HELLO_KIND;
     bytes[5] = VERSION;
     BigEndian::write_u16(&mut bytes[6..], federate);
     BigEndian::write_u32(&mut bytes[8..], incarnation);
@@ -71,8 +71,8 @@ fn ack_bytes(incarnation: u32, last_taken: u64) -> [u8; 17]
     ensures { result ≡ frame_bytes (Frame.Ack incarnation last_taken) }
 {
     let mut bytes = [0; 17];
-    bytes[3] = 13;
-    bytes[4] = 3;
+    bytes[3] = ACK_SIZE as u8;
+    bytes[4] = ACK_KIND;
     BigEndian::write_u32(&mut bytes[5..], incarnation);
     BigEndian::write_u64(&mut bytes[9..], last_taken);
     bytes
@@ -82,8 +82,8 @@ fn refuse_bytes(incarnation: u32, refusal: u16) -> [u8; 11]
     ensures { result ≡ frame_bytes (Frame.Refuse incarnation refusal) }
 {
     let mut bytes = [0; 11];
-    bytes[3] = 7;
-    bytes[4] = 4;
+    bytes[3] = REFUSE_SIZE as u8;
+    bytes[4] = REFUSE_KIND;
     BigEndian::write_u32(&mut bytes[5..], incarnation);
     BigEndian::write_u16(&mut bytes[9..], refusal);
     bytes
@@ -94,20 +94,22 @@ fn write_data(
     number: u64,
     signal: Signal,
     bytes: &mut Vec<u8>,
-) -> Result<(), FrameFault>
+) -> Result<(), Memory>
     ensures written { OnOk result (bytes.new.items ≡ bytes.old.items ++ frame_bytes (Frame.Data incarnation number signal)) }
-    ensures memory { IsOkUnless result FrameFault.Memory }
     ensures unchanged { OnErr result (bytes.new.items ≡ bytes.old.items) }
 {
     match signal {
-        Signal::Net(tag) => append(bytes, &data_bytes(incarnation, number, 1, numbers_of(tag))),
+        Signal::Net(tag) => append(
+            bytes,
+            &data_bytes(incarnation, number, NET_KIND, numbers_of(tag)),
+        ),
         Signal::Ltc(tag) => append(
             bytes,
-            &data_bytes(incarnation, number, 2, numbers_of(tag.tag())),
+            &data_bytes(incarnation, number, LTC_KIND, numbers_of(tag.tag())),
         ),
         Signal::Tag(tag) => append(
             bytes,
-            &data_bytes(incarnation, number, 3, numbers_of(tag.tag())),
+            &data_bytes(incarnation, number, TAG_KIND, numbers_of(tag.tag())),
         ),
         Signal::Msg {
             connection,
@@ -132,7 +134,7 @@ fn numbers_of(tag: tag::Tag) -> (u64, u32)
 {
     tag.known();
     if tag.is_forever() {
-        (u64::MAX, u32::MAX)
+        (FOREVER_TIME, FOREVER_MICROSTEP)
     } else {
         (tag.time(), tag.microstep())
     }
@@ -140,11 +142,11 @@ fn numbers_of(tag: tag::Tag) -> (u64, u32)
 
 /// A Data whose signal is a kind and a tag.
 fn data_bytes(incarnation: u32, number: u64, kind: u8, tag: (u64, u32)) -> [u8; 30]
-    ensures { result ≡ framed (2 ∷ big_bytes 4 incarnation ++ big_bytes 8 number ++ kind ∷ point_bytes tag.0 tag.1) }
+    ensures { result ≡ framed (DATA_KIND ∷ big_bytes 4 incarnation ++ big_bytes 8 number ++ kind ∷ point_bytes tag.0 tag.1) }
 {
     let mut bytes = [0; 30];
-    bytes[3] = 26;
-    bytes[4] = 2;
+    bytes[3] = (BEFORE_SIGNAL + POINT_SIZE) as u8;
+    bytes[4] = DATA_KIND;
     BigEndian::write_u32(&mut bytes[5..], incarnation);
     BigEndian::write_u64(&mut bytes[9..], number);
     bytes[17] = kind;
@@ -161,14 +163,14 @@ fn message_bytes(
     tag: (u64, u32),
     value: u64,
 ) -> [u8; 40]
-    ensures { result ≡ framed (2 ∷ big_bytes 4 incarnation ++ big_bytes 8 number ++ 4 ∷ big_bytes 2 connection ++ point_bytes tag.0 tag.1 ++ big_bytes 8 value) }
+    ensures { result ≡ framed (DATA_KIND ∷ big_bytes 4 incarnation ++ big_bytes 8 number ++ MSG_KIND ∷ big_bytes 2 connection ++ point_bytes tag.0 tag.1 ++ big_bytes 8 value) }
 {
     let mut bytes = [0; 40];
-    bytes[3] = 36;
-    bytes[4] = 2;
+    bytes[3] = (BEFORE_SIGNAL + MSG_SIZE) as u8;
+    bytes[4] = DATA_KIND;
     BigEndian::write_u32(&mut bytes[5..], incarnation);
     BigEndian::write_u64(&mut bytes[9..], number);
-    bytes[17] = 4;
+    bytes[17] = MSG_KIND;
     BigEndian::write_u16(&mut bytes[18..], connection);
     BigEndian::write_u64(&mut bytes[20..], tag.0);
     BigEndian::write_u32(&mut bytes[28..], tag.1);
