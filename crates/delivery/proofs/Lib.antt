@@ -1,0 +1,4 @@
+-- Lists of signals: what stands at a place, and what is left from there on.
+pub mod Places
+-- What a direction offered, as more frames are sent in it.
+pub mod Ways

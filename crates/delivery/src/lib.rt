@@ -1,0 +1,33 @@
+//! From frames to signals: what a direction of a link offered, and that its frames carry it.
+//!
+//! Promise to the layer above: whatever frames are lost, repeated or come out of order, each carries what was offered under its
+//! number. Begin with `specs/Way`.
+#![tactic(auto)]
+
+ghost use Rattle.std.specs.Prelude.{◌≡◌, ℕ, ◌+◌, ◌≤◌, ◌++◌, List, length, drop, slice_get, All, IsTrue, Some, Ok};
+ghost use Rattle.signal.specs.declared.signal.Signal.{Signal};
+ghost use Rattle.signal.specs.declared.frame.Frame.{Frame};
+ghost use Rattle.link.specs.Answer.{numbered};
+ghost use Rattle.delivery.specs.Way.{offered_in, is_old, IsSaid, IsWay};
+
+/// What a direction offered: signals that are sent under the next numbers are offered after all others; old frames, as those that are
+/// sent again, bring none.
+pub fn a_direction_offers()
+    ensures more { (incarnation : ℕ) (frames : List Frame) (signals : List Signal) →
+        offered_in incarnation (frames ++ numbered incarnation (length (offered_in incarnation frames) + 1) signals) ≡ offered_in incarnation frames ++ signals }
+    ensures same { (incarnation : ℕ) (frames others : List Frame) →
+        All (λ f. IsTrue (is_old incarnation (length (offered_in incarnation frames)) f)) others → offered_in incarnation (frames ++ others) ≡ offered_in incarnation frames }
+    ensures resent { (incarnation acknowledged : ℕ) (offered : List Signal) → acknowledged ≤ length offered →
+        All (λ f. IsTrue (is_old incarnation (length offered) f)) (numbered incarnation (acknowledged + 1) (drop acknowledged offered)) }
+{}
+
+/// The frames of a direction stay what they say: as signals are offered, as they are sent again, and as more is told.
+pub fn a_direction_says_what_it_offered()
+    ensures more { (incarnation most more : ℕ) (frames : List Frame) (signals : List Signal) → most ≤ more → IsWay incarnation most frames →
+        IsWay incarnation more (frames ++ numbered incarnation (length (offered_in incarnation frames) + 1) signals) }
+    ensures old { (incarnation most more : ℕ) (frames others : List Frame) → most ≤ more → IsWay incarnation most frames →
+        All (λ f. IsTrue (is_old incarnation (length (offered_in incarnation frames)) f)) others →
+        All (IsSaid incarnation (offered_in incarnation frames) more) others → IsWay incarnation more (frames ++ others) }
+    ensures resent { (incarnation acknowledged most : ℕ) (offered : List Signal) → acknowledged ≤ length offered →
+        All (IsSaid incarnation offered most) (numbered incarnation (acknowledged + 1) (drop acknowledged offered)) }
+{}
