@@ -38,7 +38,7 @@ within_found (Some d) bound h = (d, refl, h)
 ahead_by_paths : (n : Network) (table : Table) (standings : ℕ → Standing) (k j : ℕ) (s tag : LogicalTime) (c : Connection) (rest : List Connection) → IsLawful n → IsTable n table → is_at_most (standings k).next s ≡ true → HoldsByPaths n table standings j tag → IsWalk n.connections k (c ∷ rest) j → is_before tag (then_along s (c ∷ rest)) ≡ true
 ahead_by_paths n table standings k j s tag c rest lawful facts next h w =
     let d = within_found (table k j) (total_of (c ∷ rest)) (within_path n table k j (c ∷ rest) facts w) in
-    let first = h k d.0 (path_begins n k j (c ∷ rest) lawful w) d.1 in
+    let first = h k d.0 (path_begins n k j (c ∷ rest) (lawful_is_wired n lawful) w) d.1 in
     let second = before_then tag (sum_of (standings k).next d.0) (sum_of s d.0) first (sum_monotone_left (standings k).next s d.0 next) in
     let third = before_then tag (sum_of s d.0) (sum_of s (total_of (c ∷ rest))) second (sum_monotone_right s d.0 (total_of (c ∷ rest)) d.2) in
     before_then tag (sum_of s (total_of (c ∷ rest))) (then_along s (c ∷ rest)) third (sum_before_along s c.delay rest)

@@ -5,7 +5,9 @@ use Rattle.std.specs.List.{AllByRecursion}
 use Rattle.std.proofs.lemmas.Bool.Decides.{nat_tests}
 use Rattle.std.proofs.lemmas.List.Elements.{All-filter}
 use Rattle.std.proofs.lemmas.List.Kept.{AllPairs-cons, AllPairs-filter}
+use Rattle.std.proofs.lemmas.Bool.{eqb-true}
 use Rattle.tag.specs.LogicalTime.{LogicalTime, IsLogicalTime, IsFinite, is_before, is_at_most, is_same, forever}
+use Rattle.tag.proofs.Order.{finite_is_logical, origin_is_logical}
 use Rattle.network.specs.Connection.{Connection}
 use Rattle.network.specs.Network.{Network}
 use Rattle.network.specs.Tables.{Table}
@@ -22,9 +24,7 @@ use Rattle.protocol.specs.Grant.{Rule, IsSafe, IsSafeRule}
 use Rattle.protocol.specs.Coordinator.{Post, Coordinated, with_standing, noted, route, coordinator_takes, grant_to, grants_from, with_grants, coordinator_accepts}
 use Rattle.protocol.specs.Machine.{sent_to}
 use Rattle.protocol.specs.Alone.{IsStanding, is_of_step, is_sent_past, granted_by}
-use Rattle.laws.proofs.Tags.{finite_is_logical, origin_is_logical}
 use Rattle.laws.proofs.Transit.{lesser_is_tag}
-use Rattle.laws.proofs.Turns.{same_number}
 use Rattle.laws.proofs.Backing.{at_update}
 use Rattle.laws.proofs.Safety.{tag_if, sent-append, grants_sent}
 use Rattle.laws.proofs.Tests.{both_hold}
@@ -157,7 +157,7 @@ route_taken n standings i k g v (Some c) all p =
       stands = λ j. at_update IsStanding mine (standings j) j c.target (λ q. message_stands (standings c.target) g p (all c.target)) (all j);
       granted = λ j. at_update (λ (s : Standing). s.granted ≡ (standings j).granted) mine (standings j) j c.target (λ q. ap (λ x. (standings x).granted) (sym q)) refl;
       sent = λ j. post_if (standings j).granted c.target k g v (nat_eq j c.target)
-          (λ q. (let P : ℕ → Type 0 = λ x. IsTrue (is_past (standings x).granted g) in subst P (sym (same_number j c.target q)) past));
+          (λ q. (let P : ℕ → Type 0 = λ x. IsTrue (is_past (standings x).granted g) in subst P (sym (eqb-true j c.target q)) past));
     })))
 
 signal_taken : (n : Network) (standings : ℕ → Standing) (i : ℕ) (signal : Signal) → ((j : ℕ) → IsStanding (standings j)) → IsSignal signal → IfDone (coordinator_takes n standings i signal) (IsTaken standings)

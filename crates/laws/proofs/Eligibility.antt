@@ -3,7 +3,7 @@ use Rattle.std.proofs.Common.{◌≡◌, ℕ, zero, suc, ◌<◌, ◌⊎◌, inl
 use Rattle.std.specs.Prelude.{slice_get, nat_eq, if◌then◌else◌, ◌&&◌, ◌||◌, Contains, MatchOption}
 use Rattle.std.specs.List.{list_all}
 use Rattle.std.proofs.lemmas.Bool.{eqb-true}
-use Rattle.std.proofs.lemmas.List.Elements.{All-weaker}
+use Rattle.std.proofs.lemmas.List.Elements.{All-weaker, All-contains}
 use Rattle.std.proofs.lemmas.Option.{slice_get_within, get_or_from_slice_get, slice_get_read}
 use Rattle.tag.specs.LogicalTime.{LogicalTime, is_before, is_at_most, sum_of}
 use Rattle.tag.proofs.Order.{before_then}
@@ -13,7 +13,6 @@ use Rattle.network.specs.Network.{Network}
 use Rattle.network.specs.Lawful.{IsLawful, IsConnected}
 use Rattle.network.specs.Wiring.{IsBetween, IsWired}
 use Rattle.network.specs.Tables.{Table, IsLeastTable}
-use Rattle.network.proofs.Lawful.{contained_is}
 use Rattle.protocol.specs.Federate.{is_past}
 use Rattle.protocol.specs.Standing.{Standing}
 use Rattle.protocol.specs.Grant.{after_completed, ByPaths, ByConnections, Eligible, all_below, is_before_arrival, passes_paths, passes_connection, passes_connections, is_eligible}
@@ -28,7 +27,7 @@ pub contains_at : {X : Type 0} (xs : List X) (k : ℕ) (x : X) → slice_get xs 
 contains_at xs k x e = (k, slice_get_within xs k x e, get_or_from_slice_get xs k x x e)
 
 pub between_is : (n : Network) (c : Connection) → IsWired n → Contains n.connections c → IsBetween n.reactors c
-between_is n c wired h = let at = contained_at n.connections c h in all_at (IsBetween n.reactors) n.connections at.0 c wired.connections at.1
+between_is n c wired h = All-contains (IsBetween n.reactors) n.connections c wired.connections h
 
 -- a lawful network is wired
 pub lawful_is_wired : (n : Network) → IsLawful n → IsWired n

@@ -3,16 +3,20 @@ use Rattle.std.proofs.Common.{◌≡◌, ℕ, ◌+◌, ◌<◌, Bool, true, fals
 use Rattle.std.specs.Prelude.{slice_get, filter, map, nat_eq, nat_lt, if◌then◌else◌, not, ◌&&◌, All, AllPairs}
 use Rattle.std.specs.List.{AllByRecursion, last_or}
 use Rattle.std.specs.Option.{option_map}
-use Rattle.std.proofs.lemmas.Bool.{false_from_ne_true}
+use Rattle.std.proofs.lemmas.Bool.{false_from_ne_true, eqb-true}
 use Rattle.std.proofs.lemmas.Bool.Decides.{nat_tests}
 use Rattle.std.proofs.lemmas.List.Kept.{AllPairs-cons, AllPairs-filter}
 use Rattle.tag.specs.LogicalTime.{LogicalTime, IsLogicalTime, IsFinite, is_before, is_at_most, is_same, origin, sum_of}
+use Rattle.tag.proofs.Order.{before_then, finite_is_logical, same_is_equal, finite_is_not_forever}
+use Rattle.tag.proofs.SumLaws.{sum_at_least_first, sum_is_logical, sum_later}
+use Rattle.tag.proofs.Paths.{plain_is_logical}
 use Rattle.network.specs.Connection.{Connection}
 use Rattle.network.specs.Event.{Event}
 use Rattle.network.specs.Network.{Network, Scheduling}
 use Rattle.network.specs.Undivided.{Row}
 use Rattle.network.specs.Lawful.{IsLawful, IsConnected, IsExternal, IsOwn}
 use Rattle.network.specs.Undone.{Held, is_held_before, is_for_same, put, put_all, look, first_tag, drop_up_to}
+use Rattle.network.proofs.Lawful.{contained_is}
 use Rattle.order.proofs.Lists.{each, from_each, each_more, each_filter, first_pair, later_pairs}
 use Rattle.signal.specs.Signal.{IsSignal}
 use Rattle.signal.specs.declared.signal.Signal.{Signal}
@@ -22,10 +26,9 @@ use Rattle.protocol.specs.declared.refusal.Refusal.TheVariants.{Late, OldGrant, 
 use Rattle.protocol.specs.Outcome.{Outcome, Refused, Nothing, Done, IfDone}
 use Rattle.protocol.specs.Federate.{Federate, Stepped, held_of, opening_federate, is_past, is_reached, is_told, next_event, accept_message, federate_accepts, federate_announces, advance_to, federate_advances, effect_of, scheduled_at, scheduled_by, messages_from, turn_at}
 use Rattle.protocol.specs.Alone.{IsStillToRun, IsFederate, is_of_turn, is_sent_after, completed_by}
-use Rattle.laws.proofs.Tags.{same_true, finite_is_logical, sum_is_logical, sum_later, sum_at_least, before_then}
 use Rattle.laws.proofs.Upward.{IsOver}
-use Rattle.laws.proofs.Turns.{AreMessages, messages_of_turn, plain_is_logical, all_first, all_rest, same_number}
-use Rattle.laws.proofs.Eligibility.{contains_at, contained_is}
+use Rattle.laws.proofs.Turns.{AreMessages, messages_of_turn, all_first, all_rest}
+use Rattle.laws.proofs.Eligibility.{contains_at}
 use Rattle.laws.proofs.Tests.{both_left, both_right, both_hold, either_case, either_of}
 
 -- what holds of one more event and of each that is undone holds of each once it is put
@@ -110,7 +113,7 @@ opening_undone n j (e ∷ rest) a =
     let here : IsExternal n e = all_first (IsExternal n) e rest a in
     let P : ℕ → Type 0 = λ x. e.slot < n.slots x in
     opens_if n j e rest (nat_eq e.reactor j)
-    (λ q. record { finite = here.tag; later = refl; in_time = here.in_time; slot = subst P (same_number e.reactor j q) here.slot })
+    (λ q. record { finite = here.tag; later = refl; in_time = here.in_time; slot = subst P (eqb-true e.reactor j q) here.slot })
     (opening_undone n j rest (all_rest (IsExternal n) e rest a))
 
 pub opening_is_federate : (n : Network) (j : ℕ) → IsLawful n → IsFederate n j (opening_federate n j)
@@ -150,7 +153,7 @@ message_leaves n j f number (Some c) g v lawful finite e k =
             finite = finite;
             later = both_left (is_past f.completed g) (is_past f.granted g) q;
             in_time = both_right (nat_eq c.target j) (is_at_most g n.stop) t;
-            slot = subst P (same_number c.target j (both_left (nat_eq c.target j) (is_at_most g n.stop) t)) connected.slot;
+            slot = subst P (eqb-true c.target j (both_left (nat_eq c.target j) (is_at_most g n.stop) t)) connected.slot;
           })
           (each (IsStillToRun n j f.completed) f.undone k.undone));
       rising = rising_pairs (put more f.undone) (put_rises more f.undone (pairs_rising f.undone k.rising));
@@ -201,9 +204,8 @@ scheduled_later : (n : Network) (j : ℕ) (g : LogicalTime) (ss : List Schedulin
 scheduled_later n j g [] finite a = tt
 scheduled_later n j g (s ∷ rest) finite a =
     let own : IsOwn n j s = all_first (IsOwn n j) s rest a in
-    let tag = finite_is_logical g finite in
-    let some_delay : is_same s.delay origin ≡ false = false_from_ne_true (is_same s.delay origin) (λ e. own.later (same_true s.delay origin e)) in (
-      (sum_is_logical g s.delay tag (plain_is_logical s.delay own.delay), sum_later g s.delay tag some_delay finite.time, own.slot),
+    let tag = finite_is_logical g finite in (
+      (sum_is_logical g s.delay tag (plain_is_logical s.delay own.delay), sum_later g s.delay tag (finite_is_not_forever g finite) own.later, own.slot),
       scheduled_later n j g rest finite (all_rest (IsOwn n j) s rest a),
     )
 
@@ -292,7 +294,7 @@ over_later n j completed g t None tag past over = absurd over
 over_later n j completed g t (Some c) tag past over =
     let P : LogicalTime → Type 0 = λ x. is_past completed x ≡ true in
     let is_sum : t ≡ sum_of g c.delay = over.1 in
-    subst P (sym is_sum) (past_later completed g (sum_of g c.delay) past (sum_at_least g c.delay tag))
+    subst P (sym is_sum) (past_later completed g (sum_of g c.delay) past (sum_at_least_first g c.delay tag))
 
 turn_sends : (n : Network) (j : ℕ) (completed : Option LogicalTime) (g : LogicalTime) (xs : List Signal) → IsLogicalTime g → is_past completed g ≡ true → AreMessages n j g xs → IsTrue (is_of_turn (xs ++ Ltc g ∷ [])) × IsTrue (is_sent_after completed (xs ++ Ltc g ∷ [])) × (Some g ≡ completed_by completed (xs ++ Ltc g ∷ []))
 turn_sends n j completed g [] tag past h = (refl, both_hold (is_past completed g) true past refl, refl)

@@ -4,6 +4,8 @@ use Rattle.std.specs.Prelude.{slice_get, nat_eq, if◌then◌else◌, MatchOptio
 use Rattle.std.proofs.lemmas.Bool.{eqb-true, cases_lt, eq-eqb}
 use Rattle.std.proofs.lemmas.Bool.Decides.{nat_tests}
 use Rattle.tag.specs.LogicalTime.{LogicalTime, is_before, is_at_most, is_same, sum_of, forever, lesser, greater, predecessor_of}
+use Rattle.tag.proofs.Order.{at_most_reflexive, at_most_transitive, before_then, same_is_equal, lesser_at_most_first, lesser_at_most_second}
+use Rattle.tag.proofs.SumLaws.{sum_monotone_right}
 use Rattle.network.specs.Connection.{Connection, IsLeastDelay, IsUnreachable}
 use Rattle.network.specs.Network.{Network}
 use Rattle.network.specs.Wiring.{IsWired}
@@ -11,9 +13,7 @@ use Rattle.network.specs.Tables.{Table, IsLeastTable}
 use Rattle.protocol.specs.Standing.{Standing}
 use Rattle.protocol.specs.Grant.{after_completed, Eligible, is_eligible, lesser_arrival, bound_by_paths, bound_by_connections, bound_of, grant_widest}
 use Rattle.protocol.specs.Bound.{IsArrivalByPath, IsArrivalByConnection, IsFirst, IsBound, IsWidest, IsWithin}
-use Rattle.laws.proofs.Tags.{same_true, at_most_transitive, before_then, sum_right}
-use Rattle.laws.proofs.Backing.{at_most_itself}
-use Rattle.laws.proofs.SafeGrants.{lesser_at_most_first, lesser_at_most_second, greater_splits, greater_from_first, greater_from_second}
+use Rattle.laws.proofs.SafeGrants.{greater_splits, greater_from_first, greater_from_second}
 use Rattle.laws.proofs.Eligibility.{contained_at, contains_at, path_begins, least_of_table, eligible_by_table}
 
 -- over paths, by the table
@@ -25,7 +25,7 @@ arrival_first next (Some x) other d e =
     subst P same (lesser_at_most_first (sum_of next x) other)
 
 arrival_second : (next : LogicalTime) (o : Option LogicalTime) (other : LogicalTime) → is_at_most (lesser_arrival next o other) other ≡ true
-arrival_second next None other = at_most_itself other
+arrival_second next None other = at_most_reflexive other
 arrival_second next (Some d) other = lesser_at_most_second (sum_of next d) other
 
 paths_least : (table : Table) (standings : ℕ → Standing) (j count i : ℕ) (d : LogicalTime) → i < count → table i j ≡ Some d → is_at_most (bound_by_paths table standings j count) (sum_of (standings i).next d) ≡ true
@@ -77,7 +77,7 @@ first_by_paths n table standings j wired least =
           let P : LogicalTime → Type 0 = λ x. is_at_most bound x ≡ true in
           subst P (sym a.arrives)
           (at_most_transitive bound (sum_of (standings a.from).next at.0) (sum_of (standings a.from).next a.delay)
-          (paths_least table standings j n.reactors a.from at.0 begins at.1) (sum_right (standings a.from).next at.0 a.delay at.2)));
+          (paths_least table standings j n.reactors a.from at.0 begins at.1) (sum_monotone_right (standings a.from).next at.0 a.delay at.2)));
       attained = elim (paths_attained table standings j n.reactors) [
         | inl e ↦ inl e
         | inr a ↦ inr (record { from = a.0; delay = a.1; least = least_by_match n.connections a.0 j (table a.0 j) a.1 (least a.0 j) a.2; arrives = a.3 })
@@ -91,7 +91,7 @@ connection_first arrival other false e = cc
 
 connection_second : (arrival other : LogicalTime) (b : Bool) → is_at_most (if b then lesser arrival other else other) other ≡ true
 connection_second arrival other true = lesser_at_most_second arrival other
-connection_second arrival other false = at_most_itself other
+connection_second arrival other false = at_most_reflexive other
 
 abbrev arrival_of : (ℕ → Standing) → Connection → LogicalTime
 arrival_of standings c = sum_of (after_completed (standings c.source).completed) c.delay
@@ -155,7 +155,7 @@ sum_within : (g d : LogicalTime) → is_at_most (sum_of g d) forever ≡ true
 sum_within g d = grind (arith, nat_tests)
 
 both_ways : (g h : LogicalTime) → is_at_most g h ≡ true → is_at_most h g ≡ true → g ≡ h
-both_ways g h p q = same_true g h (is_both g h p q)
+both_ways g h p q = same_is_equal g h (is_both g h p q)
   where
     is_both : (g h : LogicalTime) → is_at_most g h ≡ true → is_at_most h g ≡ true → is_same g h ≡ true
     is_both g h p q = grind (arith, nat_tests)
@@ -163,7 +163,7 @@ both_ways g h p q = same_true g h (is_both g h p q)
 first_within : (P : LogicalTime → Type 0) (g : LogicalTime) → ((tag : LogicalTime) → P tag → is_at_most tag forever ≡ true) → IsFirst P g → is_at_most g forever ≡ true
 first_within P g within f =
     let A : LogicalTime → Type 0 = λ x. is_at_most x forever ≡ true in
-    elim f.attained [ inl e ↦ subst A (sym e) (at_most_itself forever) | inr a ↦ within g a ]
+    elim f.attained [ inl e ↦ subst A (sym e) (at_most_reflexive forever) | inr a ↦ within g a ]
 
 first_at_most : (P : LogicalTime → Type 0) (g h : LogicalTime) → ((tag : LogicalTime) → P tag → is_at_most tag forever ≡ true) → IsFirst P g → IsFirst P h → is_at_most g h ≡ true
 first_at_most P g h within f k =

@@ -5,6 +5,7 @@ use Rattle.std.proofs.Math.Path.{fun_ext}
 use Rattle.std.proofs.lemmas.Bool.{cases_lt}
 use Rattle.std.proofs.lemmas.Bool.Decides.{nat_tests}
 use Rattle.tag.specs.LogicalTime.{LogicalTime, forever, is_at_most, is_same}
+use Rattle.tag.proofs.Order.{same_is_equal, same_itself}
 use Rattle.network.specs.Connection.{Connection}
 use Rattle.network.specs.Network.{Network}
 use Rattle.network.specs.Wiring.{IsWired}
@@ -18,7 +19,6 @@ use Rattle.protocol.specs.Standing.{Standing, opening_standing, after_message, a
 use Rattle.protocol.specs.Grant.{Rule}
 use Rattle.protocol.specs.Coordinator.{Coordinated, with_standing, noted, route, coordinator_takes, grant_to, with_grants, coordinator_accepts}
 use Rattle.protocol.specs.Standings.{standing_at, standings_listed, is_finished}
-use Rattle.laws.proofs.Tags.{same_true, same_itself}
 use Rattle.laws.proofs.Backing.{below_at}
 use Rattle.laws.proofs.Eligibility.{contains_at, between_is, all_below_from}
 use Rattle.laws.proofs.Tests.{both_left, both_right, both_hold}
@@ -115,7 +115,7 @@ finished_is n standings =
     let test : ℕ → Bool = λ j. (standings j).announced && is_same (standings j).next forever in (
       (λ h j l. (
           let at = below_at n.reactors test j h l in
-          (both_left (standings j).announced (is_same (standings j).next forever) at, same_true (standings j).next forever (both_right (standings j).announced (is_same (standings j).next forever) at)))),
+          (both_left (standings j).announced (is_same (standings j).next forever) at, same_is_equal (standings j).next forever (both_right (standings j).announced (is_same (standings j).next forever) at)))),
       (λ h. all_below_from n.reactors test
           (λ j l. (
           let P : LogicalTime → Type 0 = λ x. is_same x forever ≡ true in

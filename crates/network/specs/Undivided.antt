@@ -13,15 +13,15 @@ pub record Row : Type 0 where
   pub inputs : List Entry
   pub outputs : List Entry
 
+-- the row of a turn at a tag: of a reactor with so many slots and output ports, with this present, and with this effect
+abbrev pub row_made : ℕ → ℕ → ℕ → LogicalTime → (ℕ → Option ℤ) → Effect → Row
+row_made reactor slots ports tag present effect =
+    record { reactor = reactor; tag = tag; inputs = listed slots present; outputs = listed ports effect.outputs }
+
 -- the row of a reactor's turn at a tag, with these states and with this present
 abbrev pub row_of_turn : Network → ℕ → LogicalTime → List ℤ → (ℕ → Option ℤ) → Row
 row_of_turn n reactor tag states present =
-    record {
-      reactor = reactor;
-      tag = tag;
-      inputs = listed (n.slots reactor) present;
-      outputs = listed (n.ports reactor) (n.effect reactor states present).outputs;
-    }
+    row_made reactor (n.slots reactor) (n.ports reactor) tag present (n.effect reactor states present)
 
 -- all states, all that is pending, and the rows so far, oldest first
 pub record Undivided : Type 0 where

@@ -116,6 +116,6 @@ fn lesser(first: Option<Delay>, second: Option<Delay>) -> Option<Delay>
     match (first, second) {
         (None, _) => second,
         (_, None) => first,
-        (Some(a), Some(b)) => Some(if b < a { b } else { a }),
+        (Some(a), Some(b)) => Some(a.min(b)),
     }
 }
