@@ -17,6 +17,8 @@ mod federations;
 #[cfg(test)]
 mod files;
 #[cfg(test)]
+mod frames;
+#[cfg(test)]
 mod inputs;
 #[cfg(test)]
 mod lines;

@@ -1,0 +1,378 @@
+//! Frames as bytes: examples of each kind, in any pieces, and what is refused.
+ghost use Rattle.std.specs.Prelude.{◌<◌};
+
+use signal::{Frame, FrameFault, FrameReader, Signal, write_frame};
+use std::alloc::Global;
+use std::test::Fail;
+use tag::{FiniteTag, Tag, Time};
+
+const HELLO: [u8; 20] = [
+    0, 0, 0, 0x10, 0x01, 0x01, 0, 0, 0, 0, 0, 1, 0, 0, 0, 0, 0, 0, 0, 0,
+];
+
+const ACK: [u8; 17] = [0, 0, 0, 0x0d, 0x03, 0, 0, 0, 1, 0, 0, 0, 0, 0, 0, 0, 2];
+
+const REFUSE: [u8; 11] = [0, 0, 0, 0x07, 0x04, 0, 0, 0, 2, 0, 0x33];
+
+const NET_AT_ORIGIN: [u8; 30] = [
+    0, 0, 0, 0x1a, 0x02, 0, 0, 0, 1, 0, 0, 0, 0, 0, 0, 0, 1, 0x01, 0, 0, 0, 0, 0, 0, 0, 0, 0, 0, 0,
+    0,
+];
+
+const NET_FOREVER: [u8; 30] = [
+    0, 0, 0, 0x1a, 0x02, 0, 0, 0, 1, 0, 0, 0, 0, 0, 0, 0, 1, 0x01, 0xff, 0xff, 0xff, 0xff, 0xff,
+    0xff, 0xff, 0xff, 0xff, 0xff, 0xff, 0xff,
+];
+
+const MSG: [u8; 40] = [
+    0, 0, 0, 0x24, 0x02, 0, 0, 0, 1, 0, 0, 0, 0, 0, 0, 0, 5, 0x04, 0, 0, 0, 0, 0, 0, 0, 0x98, 0x96,
+    0x80, 0, 0, 0, 0, 0, 0, 0, 0, 0, 0, 0, 2,
+];
+
+const LTC: [u8; 30] = [
+    0, 0, 0, 0x1a, 0x02, 0, 0, 0, 1, 0, 0, 0, 0, 0, 0, 0, 2, 0x02, 0, 0, 0, 0, 0, 0x98, 0x96, 0x80,
+    0, 0, 0, 1,
+];
+
+/// At 10 ms.
+fn finite(microstep: u32) -> FiniteTag {
+    FiniteTag::new(Time::new(10_000_000).unwrap(), microstep)
+}
+
+fn data(number: u64, signal: Signal) -> Frame {
+    Frame::Data {
+        incarnation: 1,
+        number,
+        signal,
+    }
+}
+
+/// What the frames look like as bytes.
+const SPELLINGS: [&[u8]; 7] = [
+    &HELLO,
+    &ACK,
+    &REFUSE,
+    &NET_AT_ORIGIN,
+    &NET_FOREVER,
+    &MSG,
+    &LTC,
+];
+
+fn frames() -> [Frame; 7] {
+    let hello = Frame::Hello {
+        federate: 0,
+        incarnation: 1,
+        last_taken: 0,
+    };
+    let ack = Frame::Ack {
+        incarnation: 1,
+        last_taken: 2,
+    };
+    let refuse = Frame::Refuse {
+        incarnation: 2,
+        refusal: 51,
+    };
+    let message = Signal::Msg {
+        connection: 0,
+        tag: finite(0),
+        value: 2,
+    };
+    [
+        hello,
+        ack,
+        refuse,
+        data(1, Signal::Net(Tag::origin())),
+        data(1, Signal::Net(Tag::FOREVER)),
+        data(5, message),
+        data(2, Signal::Ltc(finite(1))),
+    ]
+}
+
+/// Those of the frames that the reader has still to give when it gives no more; None where it gives another one, or a fault.
+fn not_given<'a>(reader: &mut FrameReader, frames: &'a [Frame]) -> Option<&'a [Frame]> {
+    let mut left = frames;
+    for _ in 0..=frames.len() {
+        match reader.next() {
+            Ok(Some(frame)) => match left {
+                [first, rest @ ..] if frame == *first => left = rest,
+                _ => return None,
+            },
+            Ok(None) => return Some(left),
+            Err(_) => return None,
+        }
+    }
+    None
+}
+
+fn gives(reader: &mut FrameReader, frames: &[Frame]) -> bool {
+    matches!(not_given(reader, frames), Some([]))
+}
+
+/// Whether the frame is written as these bytes and read from them.
+fn is_spelled(alloc: Global, frame: &Frame, bytes: &[u8]) -> bool {
+    let mut out = Vec::new(alloc);
+    let mut reader = FrameReader::new(alloc);
+    write_frame(frame, &mut out).is_ok()
+        && out.as_slice() == bytes
+        && reader.feed(bytes).is_ok()
+        && gives(&mut reader, &[*frame])
+}
+
+#[test]
+fn are_written_and_read(rt: HostRuntime) {
+    for (frame, bytes) in frames().iter().zip(SPELLINGS) {
+        assert!(rt; is_spelled(rt.alloc(), frame, bytes));
+    }
+}
+
+/// Whether the bytes, fed in pieces of this size, are read as these frames.
+fn are_read(alloc: Global, bytes: &[u8], size: usize, frames: &[Frame]) -> bool
+    requires { 0 < size }
+{
+    let mut reader = FrameReader::new(alloc);
+    let mut left = frames;
+    for piece in bytes.chunks(size) {
+        if reader.feed(piece).is_err() {
+            return false;
+        }
+        match not_given(&mut reader, left) {
+            Some(rest) => left = rest,
+            None => return false,
+        }
+    }
+    left.is_empty()
+}
+
+/// All spellings, one after the other.
+fn stream(alloc: Global) -> Option<Vec<u8>> {
+    let mut stream = Vec::new(alloc);
+    for bytes in SPELLINGS {
+        stream.extend_from_slice(bytes).ok()?;
+    }
+    Some(stream)
+}
+
+#[test]
+fn are_read_in_any_pieces(rt: HostRuntime) {
+    if let Some(stream) = stream(rt.alloc()) {
+        for size in [1, 2, 7, 64, 1000] {
+            assert!(rt;
+                are_read(rt.alloc(), &stream, size, &frames()),
+                "in pieces of {size}"
+            );
+        }
+    }
+}
+
+/// Bytes, and the number of the refusal that they meet.
+const REFUSED: [(&[u8], u16); 15] = [
+    (&[0, 0, 0, 0], 40),
+    (&[0, 0, 0, 0x41], 40),
+    (&[0xff, 0, 0, 0], 40),
+    // an Ack needs 13 bytes
+    (&[0, 0, 0, 5, 0x03, 0, 0, 0, 1], 40),
+    // no signal byte
+    (
+        &[0, 0, 0, 0x0d, 0x02, 0, 0, 0, 1, 0, 0, 0, 0, 0, 0, 0, 1],
+        40,
+    ),
+    // a NET without its microstep
+    (
+        &[
+            0, 0, 0, 0x16, 0x02, 0, 0, 0, 1, 0, 0, 0, 0, 0, 0, 0, 1, 0x01, 0, 0, 0, 0, 0, 0, 0, 0,
+        ],
+        40,
+    ),
+    (&[0, 0, 0, 1, 9], 41),
+    // a Hello of version 0
+    (
+        &[
+            0, 0, 0, 0x10, 0x01, 0, 0, 0, 0, 0, 0, 1, 0, 0, 0, 0, 0, 0, 0, 0,
+        ],
+        41,
+    ),
+    // a signal of no kind, told before its length
+    (
+        &[
+            0, 0, 0, 0x0e, 0x02, 0, 0, 0, 1, 0, 0, 0, 0, 0, 0, 0, 1, 0x05,
+        ],
+        41,
+    ),
+    // a time of 2^62
+    (
+        &[
+            0, 0, 0, 0x1a, 0x02, 0, 0, 0, 1, 0, 0, 0, 0, 0, 0, 0, 1, 0x01, 0x40, 0, 0, 0, 0, 0, 0,
+            0, 0, 0, 0, 0,
+        ],
+        42,
+    ),
+    // FOREVER in an LTC
+    (
+        &[
+            0, 0, 0, 0x1a, 0x02, 0, 0, 0, 1, 0, 0, 0, 0, 0, 0, 0, 1, 0x02, 0xff, 0xff, 0xff, 0xff,
+            0xff, 0xff, 0xff, 0xff, 0xff, 0xff, 0xff, 0xff,
+        ],
+        42,
+    ),
+    // not quite FOREVER
+    (
+        &[
+            0, 0, 0, 0x1a, 0x02, 0, 0, 0, 1, 0, 0, 0, 0, 0, 0, 0, 1, 0x01, 0xff, 0xff, 0xff, 0xff,
+            0xff, 0xff, 0xff, 0xff, 0xff, 0xff, 0xff, 0xfe,
+        ],
+        42,
+    ),
+    // an Ack with a byte too many
+    (
+        &[0, 0, 0, 0x0e, 0x03, 0, 0, 0, 1, 0, 0, 0, 0, 0, 0, 0, 2, 0],
+        43,
+    ),
+    // a NET with a byte too many, told before its bad tag
+    (
+        &[
+            0, 0, 0, 0x1b, 0x02, 0, 0, 0, 1, 0, 0, 0, 0, 0, 0, 0, 1, 0x01, 0x40, 0, 0, 0, 0, 0, 0,
+            0, 0, 0, 0, 0, 0,
+        ],
+        43,
+    ),
+    // a Hello with a byte too many, told before its version
+    (
+        &[
+            0, 0, 0, 0x11, 0x01, 0, 0, 0, 0, 0, 0, 1, 0, 0, 0, 0, 0, 0, 0, 0, 0,
+        ],
+        43,
+    ),
+];
+
+/// Whether these bytes behind a frame are refused by this number for good.
+fn is_refused(alloc: Global, bytes: &[u8], number: u16) -> bool {
+    let mut reader = FrameReader::new(alloc);
+    if reader.feed(&ACK).is_err() || reader.feed(bytes).is_err() || reader.next().is_err() {
+        return false;
+    }
+    match reader.next() {
+        Err(fault) => {
+            fault.number() == number && reader.feed(&ACK).is_ok() && reader.next() == Err(fault)
+        }
+        Ok(_) => false,
+    }
+}
+
+#[test]
+fn are_refused_for_good(rt: HostRuntime) {
+    for (bytes, number) in &REFUSED {
+        assert!(rt; is_refused(rt.alloc(), *bytes, *number), "{number}");
+    }
+}
+
+/// How many acknowledgements come out of these bytes, fed in one piece, where nothing else does and nothing is left.
+fn acknowledgements(alloc: Global, bytes: &[u8]) -> Option<usize> {
+    let mut reader = FrameReader::new(alloc);
+    reader.feed(bytes).ok()?;
+    for count in 0..bytes.len() {
+        match reader.next() {
+            Ok(Some(Frame::Ack { .. })) => {}
+            Ok(None) => return Some(count),
+            _ => return None,
+        }
+    }
+    None
+}
+
+/// So many acknowledgements, one after the other.
+fn many(alloc: Global, count: usize) -> Option<Vec<u8>> {
+    let mut stream = Vec::new(alloc);
+    for _ in 0..count {
+        stream.extend_from_slice(&ACK).ok()?;
+    }
+    Some(stream)
+}
+
+#[test]
+fn a_megabyte_is_fed_at_once(rt: HostRuntime) {
+    if let Some(stream) = many(rt.alloc(), 61_681) {
+        assert!(rt; stream.len() > 1_048_576);
+        assert_eq!(rt; acknowledgements(rt.alloc(), &stream), Some(61_681));
+    }
+}
+
+#[test]
+fn no_bytes_are_fed(rt: HostRuntime) {
+    let mut reader = FrameReader::new(rt.alloc());
+    assert!(rt; reader.feed(&[]).is_ok() && gives(&mut reader, &[]));
+}
+
+#[test]
+fn are_read_inside_a_frame(rt: HostRuntime) {
+    let (front, rest) = ACK.split_at(9);
+    let mut reader = FrameReader::new(rt.alloc());
+    assert!(rt; reader.feed(front).is_ok() && gives(&mut reader, &[]));
+    assert!(rt; reader.feed(rest).is_ok() && matches!(reader.next(), Ok(Some(Frame::Ack { .. }))));
+}
+
+/// Whether a Hello of this version is read.
+fn is_hello(alloc: Global, version: u8) -> bool {
+    let mut bytes = HELLO;
+    bytes[5] = version;
+    let mut reader = FrameReader::new(alloc);
+    reader.feed(&bytes).is_ok() && matches!(reader.next(), Ok(Some(Frame::Hello { .. })))
+}
+
+#[test]
+fn any_version_is_read(rt: HostRuntime) {
+    for version in [1, 2, 255] {
+        assert!(rt; is_hello(rt.alloc(), version), "version {version}");
+    }
+}
+
+/// Each fault, its number, and what is printed of it.
+const TOLD: &[(FrameFault, u16, &str)] = &[
+    (FrameFault::BadLength, 40, "40 BadLength"),
+    (FrameFault::BadKind, 41, "41 BadKind"),
+    (FrameFault::BadTag, 42, "42 BadTag"),
+    (FrameFault::Trailing, 43, "43 Trailing"),
+];
+
+#[test]
+fn faults_are_told(rt: HostRuntime) -> Result<(), Fail> {
+    for (fault, number, text) in TOLD {
+        let printed = format!(in rt.alloc(); "{fault}")?;
+        assert!(rt;
+            fault.number() == *number && printed.as_str() == *text,
+            "{text}"
+        );
+    }
+    Ok(())
+}
+
+/// Whether the frame is written, the next time if memory was refused, when nothing was appended.
+fn is_written(frame: &Frame, stream: &mut Vec<u8>) -> bool {
+    let before = stream.len();
+    match write_frame(frame, stream) {
+        Ok(()) => true,
+        Err(memory) => {
+            memory.number() == 44 && stream.len() == before && write_frame(frame, stream).is_ok()
+        }
+    }
+}
+
+/// Whether the bytes are fed, the next time if memory was refused.
+fn are_fed(reader: &mut FrameReader, bytes: &[u8]) -> bool {
+    match reader.feed(bytes) {
+        Ok(()) => true,
+        Err(memory) => memory.number() == 44 && reader.feed(bytes).is_ok(),
+    }
+}
+
+/// Passes whichever allocation is refused: each refusal is told, and all is as before it.
+#[test]
+fn lacks_memory_for_bytes(rt: HostRuntime) {
+    let frames = frames();
+    let mut reader = FrameReader::new(rt.alloc());
+    for frame in &frames {
+        let mut bytes = Vec::new(rt.alloc());
+        assert!(rt; is_written(frame, &mut bytes));
+        assert!(rt; are_fed(&mut reader, &bytes));
+    }
+    assert!(rt; gives(&mut reader, &frames));
+}
