@@ -10,7 +10,7 @@ use Rattle.signal.specs.declared.frame.Frame.{Frame}
 use Rattle.signal.specs.declared.frame.Frame.TheVariants.{Hello, Data, Ack, Refuse}
 use Rattle.link.specs.Answer.{numbered}
 use Rattle.delivery.specs.Way.{with_offered, offered_with, offered_in, is_old, IsSaid, IsWay}
-use Rattle.delivery.proofs.Places.{get_seam, get_more}
+use Rattle.delivery.proofs.Places.{get_seam, get_more, length_of_rest}
 
 pub offered-append : (i : ℕ) (offered : List Signal) (xs ys : List Frame) → offered_with i offered (xs ++ ys) ≡ offered_with i (offered_with i offered xs) ys
 offered-append i offered [] ys = refl
@@ -101,11 +101,6 @@ length_of_take : {X : Type 0} (k : ℕ) (xs : List X) → k ≤ length xs → le
 length_of_take zero xs l = refl
 length_of_take (suc k) [] l = absurd (omega arith)
 length_of_take (suc k) (x ∷ xs) l = ap suc (length_of_take k xs (omega arith))
-
-length_of_rest : {X : Type 0} (k : ℕ) (xs : List X) → k ≤ length xs → k + length (drop k xs) ≡ length xs
-length_of_rest zero xs l = omega arith
-length_of_rest (suc k) [] l = absurd (omega arith)
-length_of_rest (suc k) (x ∷ xs) l = let r = length_of_rest k xs (omega arith) in omega arith
 
 pub resent_said : (i k most : ℕ) (offered : List Signal) → k ≤ length offered → AreSaid i offered most (numbered i (k + 1) (drop k offered))
 resent_said i k most offered l =

@@ -28,13 +28,12 @@ is_old incarnation count (Data i n _) = not (nat_eq i incarnation) || nat_le n c
 is_old incarnation count (Ack _ _) = true
 is_old incarnation count (Refuse _ _) = true
 
--- a frame that, if it is of this incarnation, carries what was offered under its number, tells at most this number of signals
--- taken, and doesn't close the link
+-- a frame that, if it is of this incarnation, carries what was offered under its number, or tells at most this number of signals taken
 abbrev pub IsSaid : (incarnation : ℕ) → List Signal → (most : ℕ) → Frame → Type 0
 IsSaid incarnation offered most (Hello _ i n) = i ≡ incarnation → n ≤ most
 IsSaid incarnation offered most (Data i n signal) = i ≡ incarnation → (0 < n) × (slice_get offered (n - 1) ≡ Some signal)
 IsSaid incarnation offered most (Ack i n) = i ≡ incarnation → n ≤ most
-IsSaid incarnation offered most (Refuse i _) = i ≡ incarnation → ⊥
+IsSaid incarnation offered most (Refuse i _) = Unit {0}
 
 -- a direction in which each frame is so, by all that it offered
 abbrev pub IsWay : (incarnation most : ℕ) → List Frame → Type 0

@@ -1,7 +1,7 @@
-//! From frames to signals: what a direction of a link offered, and that its frames carry it.
+//! From frames to signals: what a direction of a link offered, and that it is taken in order.
 //!
-//! Promise to the layer above: whatever frames are lost, repeated or come out of order, each carries what was offered under its
-//! number. Begin with `specs/Way`.
+//! Promise to the layer above: whatever frames are lost, repeated or come out of order, and whatever the nodes at both ends do, each
+//! takes a beginning of what the other offered. Begin with `specs/Link`, then `what_is_taken_was_offered`.
 #![tactic(auto)]
 
 ghost use Rattle.std.specs.Prelude.{◌≡◌, ℕ, ◌+◌, ◌≤◌, ◌++◌, List, length, drop, slice_get, All, IsTrue, Some, Ok};
@@ -9,6 +9,7 @@ ghost use Rattle.signal.specs.declared.signal.Signal.{Signal};
 ghost use Rattle.signal.specs.declared.frame.Frame.{Frame};
 ghost use Rattle.link.specs.Answer.{numbered};
 ghost use Rattle.delivery.specs.Way.{offered_in, is_old, IsSaid, IsWay};
+ghost use Rattle.delivery.specs.Link.{At, opening_link, after_acts, IsTakenInOrder, TellsNothingUnsent};
 
 /// What a direction offered: signals that are sent under the next numbers are offered after all others; old frames, as those that are
 /// sent again, bring none.
@@ -30,4 +31,17 @@ pub fn a_direction_says_what_it_offered()
         All (IsSaid incarnation (offered_in incarnation frames) more) others → IsWay incarnation more (frames ++ others) }
     ensures resent { (incarnation acknowledged most : ℕ) (offered : List Signal) → acknowledged ≤ length offered →
         All (IsSaid incarnation offered most) (numbered incarnation (acknowledged + 1) (drop acknowledged offered)) }
+{}
+
+/// Whatever is done at both sides of a link, in whatever order, what each took is what the other offered, in order, up to the number
+/// that it took: also where an end is closed. And no frame tells of signals taken that were never offered.
+pub fn what_is_taken_was_offered()
+    ensures by_second { (federate incarnation room : ℕ) (acts : List At) →
+        IsTakenInOrder incarnation (after_acts (opening_link federate incarnation room) acts).first (after_acts (opening_link federate incarnation room) acts).second }
+    ensures by_first { (federate incarnation room : ℕ) (acts : List At) →
+        IsTakenInOrder incarnation (after_acts (opening_link federate incarnation room) acts).second (after_acts (opening_link federate incarnation room) acts).first }
+    ensures first_is_told { (federate incarnation room : ℕ) (acts : List At) →
+        TellsNothingUnsent (after_acts (opening_link federate incarnation room) acts).first (after_acts (opening_link federate incarnation room) acts).second }
+    ensures second_is_told { (federate incarnation room : ℕ) (acts : List At) →
+        TellsNothingUnsent (after_acts (opening_link federate incarnation room) acts).second (after_acts (opening_link federate incarnation room) acts).first }
 {}
