@@ -1,3 +1,9 @@
 -- What the program answers.
--- exit statuses, how faults are told, and what is printed where all went well
-pub mod Told
+-- exit statuses, and how faults are told
+pub mod Faults
+-- the federation and the recorded inputs in files
+pub mod Loaded
+-- what is printed where all went well
+pub mod Printed
+-- which fault stands where not
+pub mod Refused

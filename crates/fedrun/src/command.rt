@@ -1,9 +1,13 @@
-ghost use Rattle.std.specs.Prelude.{◌≡◌, ◌≢◌, ◌≤◌, IfOk, IfErr, OnOk, string_bytes, vec_len};
+ghost use Rattle.std.specs.Prelude.{◌≡◌, ◌≢◌, ◌<◌, ◌≤◌, Bool, length, IsTrue, IfOk, IfErr, IfSome, OnOk, string_bytes, vec_len};
 ghost use Rattle.std.specs.Io.KnownBytes.{Appends};
+ghost use Rattle.printed.specs.PlanText.{printed_plan};
 ghost use Rattle.plan.specs.External.{AreInputsOf};
 ghost use Rattle.reactor.specs.Programs.{AreProgramsOf};
 ghost use Rattle.fedrun.specs.declared.files.FileFault.{FileFault as FileFaultOf};
-ghost use Rattle.fedrun.specs.Told.{status_of, told_of_file, IsFileFault, IsRunFault, IsCheckFault, IsWholeFault, IsRunText, PrintsRun, PrintsPlan, PrintsAnswer};
+ghost use Rattle.fedrun.specs.Faults.{status_of, line_of};
+ghost use Rattle.fedrun.specs.Loaded.{input_file, AreBytesOf, IsFederation, RecordsInputs};
+ghost use Rattle.fedrun.specs.Printed.{IsTurned, PrintsRows, PrintsRun, PrintsPlan, PrintsAnswer};
+ghost use Rattle.fedrun.specs.Refused.{IsFederationFault, IsInputFault, IsRunFault, IsPrintFault, IsFaultOf, TellsFault, Stands, told_of_file};
 
 use crate::fault::Fault;
 use crate::files::{FileFault, Files};
@@ -26,24 +30,59 @@ pub fn command<R: AllocGlobal, F: Files, O: Write, E: Write>(
     out: &mut O,
     err: &mut E,
 ) -> u8
-    ensures done { result ≡ 0 → PrintsAnswer (O.contents out.old) (O.contents out.new) }
+    ensures done { result ≡ 0 → PrintsAnswer (F.contents files.old) (O.contents out.old) (O.contents out.new) }
     ensures quiet { result ≡ 0 → err.new ≡ err.old }
+    ensures told { result ≢ 0 → (is_told : Bool) × TellsFault (F.contents files.old) result is_told (E.contents err.old) (E.contents err.new) }
     ensures untouched { result ≡ 1 → out.new ≡ out.old }
     ensures unused { result ≡ 2 → out.new ≡ out.old }
     ensures statuses { result ≤ 3 }
 {
-    match run(rt.alloc(), words, files, out) {
-        Ok(()) => 0,
+    answer(rt.alloc(), words, files, out, err).status
+}
+
+/// What a command answers.
+#[derive(Clone, Copy, Debug)]
+pub struct Answered {
+    /// The exit status.
+    pub status: u8,
+    /// Whether a fault was told, and its line could be written.
+    pub is_told: bool,
+}
+
+/// As `command`; the answer says too whether the line of its fault could be written.
+pub fn answer<F: Files, O: Write, E: Write>(
+    alloc: Global,
+    words: &[String],
+    files: &mut F,
+    out: &mut O,
+    err: &mut E,
+) -> Answered
+    ensures done { result.status ≡ 0 → PrintsAnswer (F.contents files.old) (O.contents out.old) (O.contents out.new) }
+    ensures quiet { result.status ≡ 0 → err.new ≡ err.old }
+    ensures told { result.status ≢ 0 → TellsFault (F.contents files.old) result.status result.is_told (E.contents err.old) (E.contents err.new) }
+    ensures untouched { result.status ≡ 1 → out.new ≡ out.old }
+    ensures unused { result.status ≡ 2 → out.new ≡ out.old }
+    ensures statuses { result.status ≤ 3 }
+{
+    match run(alloc, words, files, out) {
+        Ok(()) => Answered {
+            status: 0,
+            is_told: false,
+        },
         Err(fault) => refuse(&fault, err),
     }
 }
 
-/// Tells a fault on one line, and answers its exit status.
-pub fn refuse<E: Write>(fault: &Fault<'_>, err: &mut E) -> u8
-    ensures { result ≡ status_of fault.now }
+/// Tells a fault on one line, with its exit status.
+pub fn refuse<E: Write>(fault: &Fault<'_>, err: &mut E) -> Answered
+    ensures status { result.status ≡ status_of fault.now }
+    ensures line { IsTrue result.is_told → Appends (E.contents err.old) (E.contents err.new) (line_of fault.now) }
 {
-    let _ = writeln!(err, "fedrun: {fault}");
-    fault.status()
+    let is_told = writeln!(err, "fedrun: {fault}").is_ok();
+    Answered {
+        status: fault.status(),
+        is_told,
+    }
 }
 
 fn run<'a, F: Files, O: Write>(
@@ -52,7 +91,8 @@ fn run<'a, F: Files, O: Write>(
     files: &mut F,
     out: &mut O,
 ) -> Result<(), Fault<'a>>
-    ensures ok { OnOk result (PrintsAnswer (O.contents out.old) (O.contents out.new)) }
+    ensures ok { OnOk result (PrintsAnswer (F.contents files.old) (O.contents out.old) (O.contents out.new)) }
+    ensures stands { IfErr result (Stands (F.contents files.old)) }
     ensures err { IfErr result (λ fault. fault ≢ Fault.CannotWrite → out.new ≡ out.old) }
 {
     match read_words(alloc, words)? {
@@ -74,15 +114,13 @@ fn whole<'a, F: Files, O: Write>(
     files: &mut F,
     out: &mut O,
 ) -> Result<(), Fault<'a>>
-    ensures ok { OnOk result (PrintsRun turns (O.contents out.old) (O.contents out.new)) }
-    ensures told { IfErr result (IsWholeFault federation.entry inputs.entry) }
+    ensures ok { OnOk result (PrintsRun (F.contents files.old federation.entry.now) (input_file (F.contents files.old) inputs.entry.now) turns (O.contents out.old) (O.contents out.new)) }
+    ensures stands { IfErr result (IsFaultOf (F.contents files.old) (Request.Whole federation.entry inputs.entry turns)) }
     ensures err { IfErr result (λ fault. fault ≢ Fault.CannotWrite → out.new ≡ out.old) }
 {
     let (plan, programs) = loaded(alloc, federation, files)?;
     let inputs = inputs_of(alloc, inputs, &plan, files)?;
-    let text = whole_text(alloc, &plan, &programs, &inputs, turns)?;
-    plan.known();
-    print(out, &text)
+    print_run(alloc, &plan, &programs, &inputs, turns, out)
 }
 
 /// Prints the plan.
@@ -92,16 +130,12 @@ fn check<'a, F: Files, O: Write>(
     files: &mut F,
     out: &mut O,
 ) -> Result<(), Fault<'a>>
-    ensures ok { OnOk result (PrintsPlan (O.contents out.old) (O.contents out.new)) }
-    ensures told { IfErr result (IsCheckFault federation.entry) }
+    ensures ok { OnOk result (PrintsPlan (F.contents files.old federation.entry.now) (O.contents out.old) (O.contents out.new)) }
+    ensures stands { IfErr result (IsFaultOf (F.contents files.old) (Request.Check federation.entry)) }
     ensures err { IfErr result (λ fault. fault ≢ Fault.CannotWrite → out.new ≡ out.old) }
 {
     let (plan, _programs) = loaded(alloc, federation, files)?;
-    plan.known();
-    match plan_text(alloc, &plan) {
-        Ok(text) => print(out, &text),
-        Err(_) => Err(Fault::no_memory_running()),
-    }
+    print_plan(alloc, &plan, out)
 }
 
 /// The federation in a file.
@@ -110,13 +144,14 @@ fn loaded<'a, F: Files>(
     name: &'a str,
     files: &mut F,
 ) -> Result<(Plan, Programs), Fault<'a>>
-    ensures ok { IfOk result (λ loaded. AreProgramsOf loaded.0 loaded.1) }
-    ensures err { IfErr result (IsFileFault name.entry) }
+    ensures ok { IfOk result (λ loaded. IsFederation (F.contents files.old name.entry.now) loaded.0 loaded.1) }
+    ensures err { IfErr result (IsFederationFault name.entry (F.contents files.old)) }
+    ensures same { F.contents files.new ≡ F.contents files.old }
 {
     let bytes = bytes_of(name, files, MOST_BYTES)?;
     match load(alloc, bytes.as_slice()) {
         Ok(loaded) => Ok(loaded),
-        Err(fault) => Err(Fault::of_load(fault)),
+        Err(fault) => Err(Fault::Load(fault)),
     }
 }
 
@@ -127,8 +162,8 @@ fn inputs_of<'a, F: Files>(
     plan: &Plan,
     files: &mut F,
 ) -> Result<Inputs, Fault<'a>>
-    ensures ok { IfOk result (AreInputsOf plan.now) }
-    ensures err { IfErr result (IsFileFault name.entry) }
+    ensures ok { IfOk result (RecordsInputs (input_file (F.contents files.old) name.entry.now) plan.now) }
+    ensures err { IfErr result (IsInputFault plan.now name.entry (F.contents files.old)) }
 {
     let bytes = if name == "-" {
         Vec::new(alloc)
@@ -137,41 +172,86 @@ fn inputs_of<'a, F: Files>(
     };
     match load_inputs(alloc, bytes.as_slice(), plan) {
         Ok(inputs) => Ok(inputs),
-        Err(fault) => Err(Fault::of_load(fault)),
+        Err(fault) => Err(Fault::Load(fault)),
     }
 }
 
 /// The bytes of a file that has at most so many.
 fn bytes_of<'a, F: Files>(name: &'a str, files: &mut F, most: usize) -> Result<Vec<u8>, Fault<'a>>
+    ensures ok { IfOk result (λ bytes. AreBytesOf (F.contents files.old name.entry.now) bytes.items) }
     ensures few { IfOk result (λ bytes. vec_len bytes ≤ most) }
     ensures err { IfErr result (λ fault. (why : FileFaultOf) × (fault ≡ told_of_file name.entry why)) }
+    ensures over { result ≡ Err (Fault.Load LoadFault.OverLimit) → IfSome (F.contents files.old name.entry.now) (λ bytes. most < length bytes) }
+    ensures same { F.contents files.new ≡ F.contents files.old }
 {
     match files.bytes(name, most) {
         Ok(bytes) => Ok(bytes),
-        Err(FileFault::Unreadable) => Err(Fault::CannotRead(name)),
-        Err(FileFault::OverLimit) => Err(Fault::of_load(LoadFault::OverLimit)),
-        Err(FileFault::Memory) => Err(Fault::no_memory_loading()),
+        Err(why) => Err(told(name, why)),
     }
 }
 
-/// The rows of the undivided program after at most so many turns, one a line.
-fn whole_text(
+/// How it is told why a file's bytes can't be had.
+fn told<'a>(name: &'a str, why: FileFault) -> Fault<'a>
+    ensures { result ≡ told_of_file name.entry why }
+{
+    match why {
+        FileFault::Unreadable => Fault::CannotRead(name),
+        FileFault::OverLimit => Fault::Load(LoadFault::OverLimit),
+        FileFault::Memory => Fault::Load(LoadFault::Memory),
+    }
+}
+
+/// Prints the rows of the undivided program after at most so many turns, one a line.
+fn print_run<O: Write>(
     alloc: Global,
     plan: &Plan,
     programs: &Programs,
     inputs: &Inputs,
     turns: u32,
-) -> Result<String, Fault<'static>>
+    out: &mut O,
+) -> Result<(), Fault<'static>>
     requires programs { AreProgramsOf plan.now programs.now }
     requires inputs { AreInputsOf plan.now inputs.now }
-    ensures ok { IfOk result (λ text. IsRunText plan.now programs.now inputs.now turns (string_bytes text)) }
-    ensures err { IfErr result IsRunFault }
+    ensures ok { OnOk result (PrintsRows plan.now programs.now inputs.now turns (O.contents out.old) (O.contents out.new)) }
+    ensures stands { IfErr result IsRunFault }
+    ensures err { IfErr result (λ fault. fault ≢ Fault.CannotWrite → out.new ≡ out.old) }
 {
-    let mut program = Whole::new(alloc, plan, programs, inputs).map_err(Fault::of_whole)?;
-    let _made = program.turns(turns).map_err(Fault::of_whole)?;
+    let program = match turned(alloc, plan, programs, inputs, turns) {
+        Ok(program) => program,
+        Err(memory) => return Err(Fault::Turns(memory)),
+    };
     match rows_text(alloc, plan, program.rows()) {
-        Ok(text) => Ok(text),
-        Err(_) => Err(Fault::no_memory_running()),
+        Ok(text) => print(out, &text),
+        Err(memory) => Err(Fault::Print(memory)),
+    }
+}
+
+/// The undivided program after at most so many turns.
+fn turned<'a>(
+    alloc: Global,
+    plan: &'a Plan,
+    programs: &'a Programs,
+    inputs: &'a Inputs,
+    turns: u32,
+) -> Result<Whole<'a>, reactor::Memory>
+    requires programs { AreProgramsOf plan.now programs.now }
+    requires inputs { AreInputsOf plan.now inputs.now }
+    ensures { IfOk result (λ whole. IsTurned plan.now programs.now inputs.now turns whole) }
+{
+    let mut program = Whole::new(alloc, plan, programs, inputs)?;
+    let _made = program.turns(turns)?;
+    Ok(program)
+}
+
+/// Prints the plan.
+fn print_plan<O: Write>(alloc: Global, plan: &Plan, out: &mut O) -> Result<(), Fault<'static>>
+    ensures ok { OnOk result (Appends (O.contents out.old) (O.contents out.new) (printed_plan plan.now)) }
+    ensures stands { IfErr result IsPrintFault }
+    ensures err { IfErr result (λ fault. fault ≢ Fault.CannotWrite → out.new ≡ out.old) }
+{
+    match plan_text(alloc, plan) {
+        Ok(text) => print(out, &text),
+        Err(memory) => Err(Fault::Print(memory)),
     }
 }
 

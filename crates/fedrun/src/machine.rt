@@ -43,7 +43,7 @@ fn fault_of(error: &io::Error) -> FileFault
 }
 
 /// What is left of a file, if it is at most so many bytes.
-fn read_to_end<F: Read>(alloc: Global, file: &mut F, most: usize) -> Result<Vec<u8>, FileFault>
+pub fn read_to_end<F: Read>(alloc: Global, file: &mut F, most: usize) -> Result<Vec<u8>, FileFault>
     ensures few { IfOk result (λ bytes. vec_len bytes ≤ most) }
     ensures all { IfOk result (λ bytes. Consumes (F.remaining file.old) (F.remaining file.new) bytes.items) }
     ensures end { OnOk result (IsAtEnd (F.remaining file.new)) }

@@ -1,7 +1,7 @@
 //! The program `fedrun`: reads its words and files, and prints the rows of a federation.
 //!
 //! All it does is `command`, a function over words, files and writers; `main` hands it the machine's. Begin with `command`,
-//! then `specs/Told`; `printed` says what a row and a plan look like.
+//! then `specs/Printed` and `specs/Refused`; the crate `printed` says what a row and a plan look like.
 #![tactic(auto)]
 
 mod command;
@@ -13,6 +13,7 @@ mod tests;
 mod words;
 
 use fault::Fault;
+use loadfed::LoadFault;
 use machine::MachineFiles;
 use std::io::ErrorKind;
 use std::process::ExitCode;
@@ -31,14 +32,14 @@ fn status(rt: &HostRuntime) -> u8 {
             let mut out = rt.stdout();
             command::command(rt, words.as_slice(), &mut files, &mut out, &mut err)
         }
-        Err(fault) => command::refuse(&fault, &mut err),
+        Err(fault) => command::refuse(&fault, &mut err).status,
     }
 }
 
 /// Words that are no text are no command.
 fn fault_of(error: &io::Error) -> Fault<'static> {
     if error.kind() == ErrorKind::OutOfMemory {
-        Fault::no_memory_loading()
+        Fault::Load(LoadFault::Memory)
     } else {
         Fault::Usage
     }
@@ -49,7 +50,9 @@ fn words_of(rt: &HostRuntime) -> Result<Vec<String>, Fault<'static>> {
     let mut words = Vec::new(rt.alloc());
     let given = env::args(rt).map_err(|error| fault_of(&error))?;
     for word in given.skip(1) {
-        words.push(word).map_err(|_| Fault::no_memory_loading())?;
+        words
+            .push(word)
+            .map_err(|_| Fault::Load(LoadFault::Memory))?;
     }
     Ok(words)
 }

@@ -1,9 +1,10 @@
 ghost use Rattle.std.specs.Prelude.{IfErr};
-ghost use Rattle.fedrun.specs.Told.{IsWordsFault};
+ghost use Rattle.fedrun.specs.Refused.{IsWordsFault};
 
 use crate::fault::Fault;
 use clap::error::ErrorKind;
 use clap::{Arg, ArgMatches, Command};
+use loadfed::LoadFault;
 use std::alloc::{AllocError, Global};
 
 /// What the words ask for.
@@ -27,11 +28,11 @@ pub fn read_words<'a>(alloc: Global, words: &'a [String]) -> Result<Request<'a>,
     ensures { IfErr result IsWordsFault }
 {
     let Ok(command) = commands(alloc) else {
-        return Err(Fault::no_memory_loading());
+        return Err(Fault::Load(LoadFault::Memory));
     };
     match command.try_get_matches_from(words) {
         Ok(matches) => requested(&matches).ok_or(Fault::Usage),
-        Err(error) if error.kind() == ErrorKind::OutOfMemory => Err(Fault::no_memory_loading()),
+        Err(error) if error.kind() == ErrorKind::OutOfMemory => Err(Fault::Load(LoadFault::Memory)),
         Err(_) => Err(Fault::Usage),
     }
 }

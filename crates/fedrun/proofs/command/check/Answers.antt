@@ -1,0 +1,25 @@
+use Rattle.std.proofs.Common.{◌≡◌, ◌⊎◌, inl, inr}
+use Rattle.std.proofs.lemmas.Result.{IfErr-weaker, on_ok_weaker}
+use Rattle.fedrun.specs.Refused.{IsFaultOf, IsPrintFault}
+use Rattle.fedrun.specs.declared.words.Request.TheVariants.{Check}
+use Rattle.fedrun.proofs.command.check.Goals as goal
+
+pub returns-clause-ok : goal.returns-clause-ok
+returns-clause-ok g c =
+    on_ok_weaker c.print_plan.result (λ printed. record {
+      draft = c.in_ok-plan.plan;
+      programs = c.in_ok-plan._programs;
+      federation_is = c.in_ok-plan.ensures.ok;
+      printed = printed;
+    }) c.print_plan.ensures.ok
+
+pub returns-clause-stands : goal.returns-clause-stands
+returns-clause-stands g c =
+    IfErr-weaker c.print_plan.result IsPrintFault (IsFaultOf (g.F.Files.contents c.args.files.now) (Check c.args.federation))
+    (λ fault late. inr (record {
+      draft = c.in_ok-plan.plan;
+      programs = c.in_ok-plan._programs;
+      federation_is = c.in_ok-plan.ensures.ok;
+      later = late;
+    }))
+    c.print_plan.ensures.stands

@@ -1,0 +1,29 @@
+use Rattle.std.proofs.Common.{◌≡◌, ◌⊎◌, inl, inr, subst}
+use Rattle.std.proofs.lemmas.Result.{IfErr-weaker, on_ok_weaker}
+use Rattle.fedrun.specs.Loaded.{input_file, RecordsInputs}
+use Rattle.fedrun.specs.Refused.{IsFaultOf, IsRunFault}
+use Rattle.fedrun.specs.declared.words.Request.TheVariants.{Whole}
+use Rattle.fedrun.proofs.command.whole.Goals as goal
+
+pub returns-clause-ok : goal.returns-clause-ok
+returns-clause-ok g c =
+    on_ok_weaker c.print_run.result (λ printed. record {
+      draft = c.in_ok-plan.plan;
+      programs = c.in_ok-plan.programs;
+      recorded = c.in_ok-inputs.inputs;
+      federation_is = c.in_ok-plan.ensures.ok;
+      inputs_are = subst (λ contents. RecordsInputs (input_file contents c.args.inputs.now) c.in_ok-plan.plan c.in_ok-inputs.inputs) c.in_ok-plan.ensures.same c.in_ok-inputs.ensures.ok;
+      printed = printed;
+    }) c.print_run.ensures.ok
+
+pub returns-clause-stands : goal.returns-clause-stands
+returns-clause-stands g c =
+    IfErr-weaker c.print_run.result IsRunFault
+    (IsFaultOf (g.F.Files.contents c.args.files.now) (Whole c.args.federation c.args.inputs c.args.turns))
+    (λ fault run. inr (record {
+      draft = c.in_ok-plan.plan;
+      programs = c.in_ok-plan.programs;
+      federation_is = c.in_ok-plan.ensures.ok;
+      later = inr run;
+    }))
+    c.print_run.ensures.stands

@@ -1,0 +1,53 @@
+-- What the program prints where all went well.
+use Rattle.std.specs.Prelude.{◌≡◌, ℕ, ◌<◌, ◌≤◌, List, [], Option}
+use Rattle.std.specs.Io.KnownBytes.{Appends}
+use Rattle.plan.specs.declared.draft.Draft.{Draft}
+use Rattle.plan.specs.declared.input.Input.{Input}
+use Rattle.reactor.specs.Behaviour.{Behaviour}
+use Rattle.whole.specs.Progress.{Progress, pending_in, rows_in}
+use Rattle.printed.specs.RowText.{printed_rows}
+use Rattle.printed.specs.PlanText.{printed_plan}
+use Rattle.fedrun.specs.declared.words.Request.{Request}
+use Rattle.fedrun.specs.declared.words.Request.TheVariants.{Whole, Check}
+use Rattle.fedrun.specs.Loaded.{Contents, input_file, IsFederation, RecordsInputs}
+
+-- an undivided program after at most so many turns, fewer only where nothing is left to do
+pub record IsTurned (d : Draft) (programs : List Behaviour) (inputs : List Input) (turns : ℕ) (p : Progress) : Type 0 where
+  pub draft_is : p.draft ≡ d
+  pub programs_are : p.programs ≡ programs
+  pub inputs_are : p.inputs ≡ inputs
+  pub most : p.turns ≤ turns
+  pub finished : p.turns < turns → pending_in p ≡ []
+
+-- a writer's bytes grew by the rows of an undivided program after at most so many turns
+pub record PrintsRows (d : Draft) (programs : List Behaviour) (inputs : List Input) (turns : ℕ) (before after : Option (List ℕ)) : Type 0 where
+  pub progress : Progress
+  pub turned : IsTurned d programs inputs turns progress
+  pub printed : Appends before after (printed_rows d.federates (rows_in progress))
+
+-- a writer's bytes grew by the rows of the federation in a file, with the inputs in another, after at most so many turns
+pub record PrintsRun (federation inputs : Option (List ℕ)) (turns : ℕ) (before after : Option (List ℕ)) : Type 0 where
+  pub draft : Draft
+  pub programs : List Behaviour
+  pub recorded : List Input
+  pub federation_is : IsFederation federation draft programs
+  pub inputs_are : RecordsInputs inputs draft recorded
+  pub printed : PrintsRows draft programs recorded turns before after
+
+-- or by the plan of the federation in a file
+pub record PrintsPlan (federation before after : Option (List ℕ)) : Type 0 where
+  pub draft : Draft
+  pub programs : List Behaviour
+  pub federation_is : IsFederation federation draft programs
+  pub printed : Appends before after (printed_plan draft)
+
+-- what a request that was done printed
+abbrev pub PrintsFor : Contents → Request → Option (List ℕ) → Option (List ℕ) → Type 0
+PrintsFor contents (Whole federation inputs turns) before after =
+    PrintsRun (contents federation.now) (input_file contents inputs.now) turns before after
+PrintsFor contents (Check federation) before after = PrintsPlan (contents federation.now) before after
+
+-- for some request, what it asks for was printed
+pub record PrintsAnswer (contents : Contents) (before after : Option (List ℕ)) : Type 0 where
+  pub request : Request
+  pub printed : PrintsFor contents request before after
