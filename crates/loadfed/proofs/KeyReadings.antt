@@ -1,6 +1,6 @@
 -- What one reading of a key says of another.
 use Rattle.std.proofs.Common.{◌≡◌, ◌⊎◌, inl, inr, ℕ, ℤ, ◌<◌, ◌≤◌, ◌+◌, ◌^◌, zero, suc, List, [], ◌∷◌, ◌++◌, map, length, get_or, take, Option, Some, None, Result, Ok, Err, true, false, IsTrue, String, Global, Bor, string_bytes, refl, sym, ap, ◌∙◌, subst, arith}
-use Rattle.std.specs.Prelude.{pos, slice_get, All, Contains}
+use Rattle.std.specs.Prelude.{pos, slice_get, All, Contains, IsSome, IfSome, IfOk, IfErr}
 use Rattle.std.proofs.lemmas.List.{take_more, take_all, map-append}
 use Rattle.std.proofs.lemmas.List.Elements.{All-map}
 use Rattle.std.specs.Map.{keys_of}
@@ -8,13 +8,13 @@ use Rattle.std.specs.Map.Iter.{deref}
 use Rattle.tag.specs.Duration.{Spells}
 use Rattle.tag.specs.declared.duration.DurationFault.{DurationFault}
 use Rattle.reactor.specs.Tokens.{is_name}
-use Rattle.toml.specs.Data.{Data, string, table, Members}
+use Rattle.toml.specs.Data.{Data, string, table, Members, get_member}
 use Rattle.toml.specs.View.{view, members_view}
 use Rattle.toml.specs.declared.value.Value.{Value}
 use Rattle.loadfed.specs.Tables.{keys_in, is_among, HasOnly, SaysText, SaysNumber, SaysName, SaysDuration, MaySay, SaysDurationOrZero, SaysMicrostep, SaysArray, SaysTexts, SaysNames, SaysTables}
 use Rattle.loadfed.specs.declared.fault.LoadFault.{LoadFault}
 use Rattle.loadfed.specs.declared.fault.LoadFault.TheVariants.{WrongShape, Memory}
-use Rattle.loadfed.specs.ShapeFaults.{HasUnknownKey}
+use Rattle.loadfed.specs.ShapeFaults.{HasUnknownKey, IsWrongAt}
 use Rattle.loadfed.proofs.OneReading.{one_text, one_array, one_texts}
 
 pub where_there : {X : Type 0} (Says : List ℕ → Members → X → Type 0) (key : List ℕ) (m : Members) (x : X) → Says key m x → (o : Option X) × MaySay Says key m o
@@ -138,3 +138,40 @@ all_known known es ys same h =
     let P : List ℕ → Type 0 = λ key. IsTrue (is_among known key) in
     let Q : String Global → Type 0 = λ key. P (string_bytes key) in
     rw (keys_view es, ← same) (All-map P (λ k. string_bytes k) (map deref ys) (All-map Q deref ys h))
+
+-- where something of another kind stands, none of this kind does
+pub other_kind : {X : Type 0} (make : X → Data) (key : List ℕ) (m : Members) (d : Data) → get_member key m ≡ Some d → ((x : X) → d ≡ make x → ⊥)
+    → (o : Option X) → MaySay (λ key m x. get_member key m ≡ Some (make x)) key m o → ⊥
+other_kind make key m d there other None h = let e : None ≡ Some d = sym h ∙ there in cc
+other_kind make key m d there other (Some x) h = let e : Some d ≡ Some (make x) = sym there ∙ h in other x (cc e)
+
+-- a time that was made of a duration
+pub time_made : (key : List ℕ) (m : Members) (text : List ℕ) (nanoseconds : ℕ) (made : Option ℕ) → SaysText key m text
+    → Spells text nanoseconds × (nanoseconds < 2 ^ 62) → (nanoseconds < 2 ^ 62 → IsSome made) → IfSome made (λ t. t ≡ nanoseconds)
+    → MaySay SaysDuration key m made
+time_made key m text nanoseconds None says spelled some same = let e : false ≡ true = some spelled.1 in cc
+time_made key m text nanoseconds (Some t) says spelled some same =
+    (text, says, subst (λ n. Spells text n) (sym same) spelled.0, subst (λ n. n < 2 ^ 62) (sym same) spelled.1)
+
+-- a copy of a text that is a name
+pub name_made : (key : List ℕ) (m : Members) (text : List ℕ) (r : Result (List ℕ) LoadFault) → SaysText key m text → IfOk r (λ name. name ≡ text)
+    → IfOk r (λ name. IsTrue (is_name name)) → IfOk r (λ name. SaysName key m name)
+name_made key m text (Err fault) says copy named = tt
+name_made key m text (Ok name) says copy named = (subst (λ t. SaysText key m t) (sym copy) says, named)
+
+pub name_refused : (key : List ℕ) (m : Members) (text : List ℕ) (r : Result (List ℕ) LoadFault) → SaysText key m text
+    → IfErr r (λ fault. (fault ≡ Memory) ⊎ ((fault ≡ WrongShape key) × (is_name text ≡ false))) → IfErr r (λ fault. (fault ≡ Memory) ⊎ IsWrongAt key (SaysName key m) fault)
+name_refused key m text (Ok name) says refused = tt
+name_refused key m text (Err fault) says (inl memory) = inl memory
+name_refused key m text (Err fault) says (inr other) = inr (record { told = other.0; nothing = no_name key m text says other.1 })
+
+-- a copy of a text
+pub text_made : (key : List ℕ) (m : Members) (text : List ℕ) (r : Result (List ℕ) LoadFault) → SaysText key m text → IfOk r (λ copy. copy ≡ text)
+    → IfOk r (λ copy. SaysText key m copy)
+text_made key m text (Err fault) says copy = tt
+text_made key m text (Ok t) says copy = subst (λ t. SaysText key m t) (sym copy) says
+
+pub text_refused : (key : List ℕ) (m : Members) (r : Result (List ℕ) LoadFault) → IfErr r (λ fault. fault ≡ Memory)
+    → IfErr r (λ fault. (fault ≡ Memory) ⊎ IsWrongAt key (SaysText key m) fault)
+text_refused key m (Ok t) memory = tt
+text_refused key m (Err fault) memory = inl memory

@@ -4,6 +4,7 @@ use Rattle.toml.specs.Data.{Members}
 use Rattle.plan.specs.declared.draft.Draft.{Draft}
 use Rattle.plan.specs.declared.input.Input.{Input}
 use Rattle.plan.specs.External.{found_action, AreApart}
+use Rattle.plan.specs.Limits.{most_inputs}
 use Rattle.loadfed.specs.declared.fault.LoadFault.{LoadFault}
 use Rattle.loadfed.specs.declared.fault.LoadFault.TheVariants.{UnknownAction, RepeatedInput, OverLimit}
 use Rattle.loadfed.specs.Tables.{HasOnly, SaysText, SaysNumber, SaysDuration, SaysMicrostep, SaysEach}
@@ -77,7 +78,7 @@ pub record AreTooManyInputs (d : Draft) (inputs : List Input) (fault : LoadFault
   pub told : fault ≡ OverLimit
   pub known : AreKnown d inputs
   pub apart : AllPairs AreApart inputs
-  pub many : ¬ (length inputs ≤ 65536)
+  pub many : ¬ (length inputs ≤ most_inputs)
 
 -- what stands against recorded inputs, the first that does: an unknown action, a repeated input, too many of them
 abbrev pub IsFaultOfInputs : Draft → List Input → LoadFault → Type 0

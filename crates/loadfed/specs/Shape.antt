@@ -12,6 +12,7 @@ use Rattle.reactor.specs.declared.program.State.{State}
 use Rattle.reactor.specs.declared.reaction_draft.ReactionDraft.{ReactionDraft}
 use Rattle.reactor.specs.Tokens.{is_name}
 use Rattle.toml.specs.Data.{Members}
+use Rattle.reactor.specs.Limits.{most_states, most_reactions, most_lines}
 use Rattle.loadfed.specs.Tables.{HasOnly, SaysText, SaysNumber, SaysName, SaysDuration, MaySay, SaysDurationOrZero, SaysTexts, SaysNames, SaysTables, SaysEach}
 
 -- the keys of a federation file
@@ -57,24 +58,24 @@ pub record SaysState (members : Members) (s : State) : Type 0 where
 abbrev pub SaysTriggers : Members → List (List ℕ) → Type 0
 SaysTriggers members triggers = SaysTexts (codes "triggers") members triggers × (triggers ≢ [])
 
--- a reaction of at most 256 lines
+-- a reaction of not too many lines
 pub record SaysReaction (members : Members) (r : ReactionDraft) : Type 0 where
   pub keys : HasOnly reaction_keys members
   pub triggers_are : SaysTriggers members r.triggers
   pub body_is : SaysTexts (codes "body") members r.body
-  pub few_lines : length r.body ≤ 256
+  pub few_lines : length r.body ≤ most_lines
 
 -- the states and reactions that a federate's table declares
 pub record ProgramDraft : Type 0 where
   pub states : List State
   pub reactions : List ReactionDraft
 
--- at most 64 states and 64 reactions
+-- not too many states and reactions
 pub record SaysProgram (members : Members) (p : ProgramDraft) : Type 0 where
   pub states_are : SaysEach SaysState (codes "state") members p.states
   pub reactions_are : SaysEach SaysReaction (codes "reaction") members p.reactions
-  pub few_states : length p.states ≤ 64
-  pub few_reactions : length p.reactions ≤ 64
+  pub few_states : length p.states ≤ most_states
+  pub few_reactions : length p.reactions ≤ most_reactions
 
 -- one of these triggers is `startup`
 abbrev pub has_startup : List (List ℕ) → Bool

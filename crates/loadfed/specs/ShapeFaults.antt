@@ -1,6 +1,7 @@
 -- What is wrong with the shape of a federation file, and at which key.
 use Rattle.std.specs.Prelude.{◌≡◌, ℕ, ◌<◌, ◌⊎◌, false, List, length, slice_get, Contains, Some, codes}
 use Rattle.toml.specs.Data.{Data, table, Members}
+use Rattle.reactor.specs.Limits.{most_states, most_reactions, most_lines}
 use Rattle.loadfed.specs.declared.fault.LoadFault.{LoadFault}
 use Rattle.loadfed.specs.declared.fault.LoadFault.TheVariants.{WrongShape, OverLimit}
 use Rattle.loadfed.specs.Tables.{keys_in, is_among, SaysNumber, SaysName, SaysDuration, MaySay, SaysDurationOrZero, SaysArray, SaysTexts, SaysNames, SaysTables}
@@ -59,17 +60,17 @@ HasReactionFault members fault =
     HasUnknownKey reaction_keys members fault
     ⊎ (IsWrongAt (codes "triggers") (SaysTriggers members) fault
     ⊎ (IsWrongAt (codes "body") (SaysTexts (codes "body") members) fault
-    ⊎ HasTooMany (codes "body") 256 members fault))
+    ⊎ HasTooMany (codes "body") most_lines members fault))
 
 -- in the states of a federate: too many, or one of them
 abbrev pub HasStatesFault : Members → LoadFault → Type 0
 HasStatesFault members fault =
-    HasTooMany (codes "state") 64 members fault ⊎ HasTablesFault HasStateFault (codes "state") members fault
+    HasTooMany (codes "state") most_states members fault ⊎ HasTablesFault HasStateFault (codes "state") members fault
 
 -- in the reactions of a federate: too many, or one of them
 abbrev pub HasReactionsFault : Members → LoadFault → Type 0
 HasReactionsFault members fault =
-    HasTooMany (codes "reaction") 64 members fault ⊎ HasTablesFault HasReactionFault (codes "reaction") members fault
+    HasTooMany (codes "reaction") most_reactions members fault ⊎ HasTablesFault HasReactionFault (codes "reaction") members fault
 
 -- no array of names stands at the key
 abbrev pub HasNamesFault : List ℕ → Members → LoadFault → Type 0

@@ -5,7 +5,7 @@ ghost use Rattle.plan.specs.Legal.{IsLegal};
 ghost use Rattle.reactor.specs.Behaviour.{Behaviour};
 ghost use Rattle.reactor.specs.Programs.{AreProgramsOf};
 ghost use Rattle.reactor.specs.Spelled.{SpellsProgram, IsReadable};
-ghost use Rattle.loadfed.specs.Loaded.{SpellPrograms, IsFederationFile, IsPlanFault, IsProgramFault, IsFaultAmong, HasLoadFault};
+ghost use Rattle.loadfed.specs.Loaded.{most_bytes, SpellPrograms, IsFederationFile, IsPlanFault, IsProgramFault, IsFaultAmong, HasLoadFault};
 ghost use Rattle.loadfed.specs.Shape.{ProgramDraft};
 
 use crate::document::document;
@@ -30,7 +30,7 @@ pub fn load(alloc: Global, bytes: &[u8]) -> Result<(Plan, Programs), LoadFault>
     ensures refused { IfErr result (λ fault. (fault ≡ LoadFault.Memory) ⊎ HasLoadFault bytes.now fault) }
 
     // Of a file over its limit it is never told.
-    ensures memory { IfErr result (λ fault. fault ≡ LoadFault.Memory → length bytes.now ≤ 1048576) }
+    ensures memory { IfErr result (λ fault. fault ≡ LoadFault.Memory → length bytes.now ≤ most_bytes) }
 {
     staged(alloc, bytes)
 }
@@ -39,7 +39,7 @@ fn staged(alloc: Global, bytes: &[u8]) -> Result<(Plan, Programs), LoadFault>
     ensures ok { IfOk result (λ loaded. IsFederationFile bytes.now loaded.0 loaded.1) }
     ensures programs { IfOk result (λ loaded. AreProgramsOf loaded.0 loaded.1) }
     ensures refused { IfErr result (λ fault. (fault ≡ LoadFault.Memory) ⊎ HasLoadFault bytes.now fault) }
-    ensures memory { IfErr result (λ fault. fault ≡ LoadFault.Memory → length bytes.now ≤ 1048576) }
+    ensures memory { IfErr result (λ fault. fault ≡ LoadFault.Memory → length bytes.now ≤ most_bytes) }
 {
     if bytes.len() > MOST_BYTES {
         return Err(LoadFault::OverLimit);

@@ -1,4 +1,5 @@
 ghost use Rattle.std.specs.Prelude.{◌≡◌, ◌≤◌, ◌⊎◌, IfOk, IfErr, length, codes};
+ghost use Rattle.reactor.specs.Limits.{most_states, most_reactions, most_lines};
 ghost use Rattle.loadfed.specs.Sections.{members_of};
 ghost use Rattle.loadfed.specs.Tables.{SaysTexts, SaysEach};
 ghost use Rattle.loadfed.specs.Shape.{SaysState, SaysTriggers, SaysReaction, SaysProgram};
@@ -11,8 +12,11 @@ use reactor::{ReactionDraft, State};
 use std::alloc::Global;
 use std::marker::Model;
 
-/// The most states, and the most reactions, that a federate has.
-const MOST: usize = 64;
+/// The most states that a federate has.
+const MOST_STATES: usize = 64;
+
+/// The most reactions that a federate has.
+const MOST_REACTIONS: usize = 64;
 
 /// The most lines that a reaction has.
 const MOST_LINES: usize = 256;
@@ -60,11 +64,11 @@ impl ProgramShape {
 
 fn states(alloc: Global, federate: &Section<'_>) -> Result<Vec<State>, LoadFault>
     ensures ok { IfOk result (λ states. SaysEach SaysState (codes "state") (members_of federate.now) states.items) }
-    ensures few { IfOk result (λ states. length states.items ≤ 64) }
+    ensures few { IfOk result (λ states. length states.items ≤ most_states) }
     ensures refused { IfErr result (λ fault. (fault ≡ LoadFault.Memory) ⊎ HasStatesFault (members_of federate.now) fault) }
 {
     let values = federate.array("state")?;
-    if values.len() > MOST {
+    if values.len() > MOST_STATES {
         return Err(LoadFault::OverLimit);
     }
     let mut states = Vec::new(alloc);
@@ -88,11 +92,11 @@ fn state(section: &Section<'_>) -> Result<State, LoadFault>
 
 fn reactions(alloc: Global, federate: &Section<'_>) -> Result<Vec<ReactionDraft>, LoadFault>
     ensures ok { IfOk result (λ reactions. SaysEach SaysReaction (codes "reaction") (members_of federate.now) reactions.items) }
-    ensures few { IfOk result (λ reactions. length reactions.items ≤ 64) }
+    ensures few { IfOk result (λ reactions. length reactions.items ≤ most_reactions) }
     ensures refused { IfErr result (λ fault. (fault ≡ LoadFault.Memory) ⊎ HasReactionsFault (members_of federate.now) fault) }
 {
     let values = federate.array("reaction")?;
-    if values.len() > MOST {
+    if values.len() > MOST_REACTIONS {
         return Err(LoadFault::OverLimit);
     }
     let mut reactions = Vec::new(alloc);
@@ -130,8 +134,8 @@ fn triggers(alloc: Global, section: &Section<'_>) -> Result<Names, LoadFault>
 /// The lines in a reaction's table.
 fn body(section: &Section<'_>) -> Result<Names, LoadFault>
     ensures ok { IfOk result (SaysTexts (codes "body") (members_of section.now)) }
-    ensures few { IfOk result (λ body. length body ≤ 256) }
-    ensures refused { IfErr result (λ fault. (fault ≡ LoadFault.Memory) ⊎ (IsWrongAt (codes "body") (SaysTexts (codes "body") (members_of section.now)) fault ⊎ HasTooMany (codes "body") 256 (members_of section.now) fault)) }
+    ensures few { IfOk result (λ body. length body ≤ most_lines) }
+    ensures refused { IfErr result (λ fault. (fault ≡ LoadFault.Memory) ⊎ (IsWrongAt (codes "body") (SaysTexts (codes "body") (members_of section.now)) fault ⊎ HasTooMany (codes "body") most_lines (members_of section.now) fault)) }
 {
     let body = section.texts("body")?;
     if body.as_slice().len() > MOST_LINES {

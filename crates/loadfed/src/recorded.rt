@@ -4,7 +4,7 @@ ghost use Rattle.plan.specs.External.{AreInputsOf};
 ghost use Rattle.loadfed.specs.Sections.{members_of};
 ghost use Rattle.loadfed.specs.Tables.{SaysEach};
 ghost use Rattle.loadfed.specs.ShapeFaults.{HasTablesFault};
-ghost use Rattle.loadfed.specs.InputShape.{SaysInput, SaysInputs, HasInputFault, HasInputsFault, SaysInputFile, IsFaultOfInputs, HasInputFileFault};
+ghost use Rattle.loadfed.specs.InputShape.{most_input_bytes, SaysInput, SaysInputs, HasInputFault, HasInputsFault, SaysInputFile, IsFaultOfInputs, HasInputFileFault};
 
 use crate::document::document;
 use crate::fault::LoadFault;
@@ -27,7 +27,7 @@ pub fn load_inputs(alloc: Global, bytes: &[u8], plan: &Plan) -> Result<Inputs, L
     ensures refused { IfErr result (λ fault. (fault ≡ LoadFault.Memory) ⊎ HasInputFileFault plan.now bytes.now fault) }
 
     // Of a file over its limit it is never told.
-    ensures memory { IfErr result (λ fault. fault ≡ LoadFault.Memory → length bytes.now ≤ 8388608) }
+    ensures memory { IfErr result (λ fault. fault ≡ LoadFault.Memory → length bytes.now ≤ most_input_bytes) }
 {
     staged(alloc, bytes, plan)
 }
@@ -36,7 +36,7 @@ fn staged(alloc: Global, bytes: &[u8], plan: &Plan) -> Result<Inputs, LoadFault>
     ensures ok { IfOk result (SaysInputFile bytes.now) }
     ensures known { IfOk result (AreInputsOf plan.now) }
     ensures refused { IfErr result (λ fault. (fault ≡ LoadFault.Memory) ⊎ HasInputFileFault plan.now bytes.now fault) }
-    ensures memory { IfErr result (λ fault. fault ≡ LoadFault.Memory → length bytes.now ≤ 8388608) }
+    ensures memory { IfErr result (λ fault. fault ≡ LoadFault.Memory → length bytes.now ≤ most_input_bytes) }
 {
     if bytes.len() > MOST_INPUT_BYTES {
         return Err(LoadFault::OverLimit);

@@ -2,6 +2,8 @@
 pub mod Places
 -- A list that isn't empty, as its first item and the others.
 pub mod First
+-- A connection without any delay, as a test finds it.
+pub mod Delays
 -- What stands at two places of a list.
 pub mod Twice
 -- Declared connections and connections by numbers.

@@ -10,6 +10,7 @@ use Rattle.plan.specs.declared.slots.Timer.{Timer}
 use Rattle.plan.specs.declared.draft.Federate.{Federate}
 use Rattle.plan.specs.declared.draft.Draft.{Draft}
 use Rattle.plan.specs.declared.input.Input.{Input}
+use Rattle.plan.specs.Limits.{most_inputs}
 use Rattle.plan.specs.Numbering.{startup_slot, first_timer, first_physical}
 use Rattle.plan.specs.Federation.{Found, found_in, stop_of}
 
@@ -100,9 +101,9 @@ pub record FiresAt (stop : ℕ) (t : Timer) (tag : LogicalTime) : Type 0 where
 abbrev pub AreApart : Input → Input → Type 0
 AreApart a b = a.federate ≡ b.federate → a.action ≡ b.action → a.tag ≡ b.tag → ⊥
 
--- inputs of a federation: physical actions of it, each at most once at a tag and never at FOREVER, and at most 65,536 of them
+-- inputs of a federation: physical actions of it, each at most once at a tag and never at FOREVER, and not too many
 pub record AreInputsOf (d : Draft) (inputs : List Input) : Type 0 where
   pub known : All (λ i. IsSome (found_action d.federates i)) inputs
   pub apart : AllPairs AreApart inputs
-  pub few : length inputs ≤ 65536
+  pub few : length inputs ≤ most_inputs
   pub finite : All (λ i. IsFinite i.tag) inputs

@@ -5,18 +5,19 @@ use Rattle.network.specs.Lawful.{EndApart}
 use Rattle.plan.specs.declared.slots.Slots.{Slots}
 use Rattle.plan.specs.declared.slots.Timer.{Timer}
 use Rattle.plan.specs.declared.draft.Draft.{Draft}
+use Rattle.plan.specs.Limits.{most_federates, most_connections, most_slots}
 use Rattle.plan.specs.Naming.{AreDistinct}
 use Rattle.plan.specs.Numbering.{all_names}
 use Rattle.plan.specs.Federation.{federate_names, found_output, found_input, connections_of}
 use Rattle.plan.specs.Cycles.{HasNoCycleAt}
 
--- a federate has at most 32 of each kind of slot
+-- a federate has not too many of each kind of slot
 pub record IsWithinLimits (s : Slots) : Type 0 where
-  pub inputs : length s.inputs ≤ 32
-  pub outputs : length s.outputs ≤ 32
-  pub timers : length s.timers ≤ 32
-  pub actions : length s.actions ≤ 32
-  pub physical : length s.physical ≤ 32
+  pub inputs : length s.inputs ≤ most_slots
+  pub outputs : length s.outputs ≤ most_slots
+  pub timers : length s.timers ≤ most_slots
+  pub actions : length s.actions ≤ most_slots
+  pub physical : length s.physical ≤ most_slots
 
 -- a timer's times are below 2^62 ns
 abbrev pub IsTimerInRange : Timer → Type 0
@@ -28,10 +29,10 @@ HasNoImmediateCycle connections = (federate : ℕ) → HasNoCycleAt connections 
 
 -- a draft that is a federation: within its limits, with names and ports as they must be, and without a cycle of no delay
 pub record IsLegal (d : Draft) : Type 0 where
-  -- there is a federate, and there are at most 64 federates and 1024 connections
+  -- there is a federate, and there are not too many federates and connections
   pub some_federate : 0 < length d.federates
-  pub few_federates : length d.federates ≤ 64
-  pub few_connections : length d.connections ≤ 1024
+  pub few_federates : length d.federates ≤ most_federates
+  pub few_connections : length d.connections ≤ most_connections
   pub few_slots : All (λ f. IsWithinLimits f.slots) d.federates
   -- no two federates, and no two slots of one federate, have one name
   pub federates_apart : AreDistinct (federate_names d.federates)

@@ -4,7 +4,7 @@ use std::marker::Model;
 use tag::Delay;
 
 /// A connection by numbers: from an output port of one federate to an input's slot of another, or of the same.
-#[derive(Clone, Copy, Debug, PartialEq, Eq)]
+#[derive(Clone, Copy, PartialEq, Eq)]
 pub struct Connection {
     source: usize,
     port: usize,

@@ -7,7 +7,7 @@ use std::marker::Model;
 use tag::Time;
 
 /// A federate as it is declared.
-#[derive(Debug, Drop)]
+#[derive(Drop)]
 pub struct Federate {
     pub name: Text,
     pub slots: Slots,
@@ -22,7 +22,7 @@ impl Named for Federate {
 }
 
 /// Federates, in their order. Contracts see the list of them.
-#[derive(Debug, Drop)]
+#[derive(Drop)]
 pub struct Federates {
     federates: Vec<Federate>,
 }
@@ -58,7 +58,7 @@ pub struct PortName {
 }
 
 /// A connection as it is declared: `after` is None where it has no delay.
-#[derive(Debug, Drop)]
+#[derive(Drop)]
 pub struct ConnectionDraft {
     pub from: PortName,
     pub to: PortName,
@@ -66,7 +66,7 @@ pub struct ConnectionDraft {
 }
 
 /// Connections as they are declared, in their order. Contracts see the list of them.
-#[derive(Debug, Drop)]
+#[derive(Drop)]
 pub struct Connections {
     connections: Vec<ConnectionDraft>,
 }
@@ -95,7 +95,7 @@ impl Connections {
 }
 
 /// A federation as it is declared, legal or not.
-#[derive(Debug, Drop)]
+#[derive(Drop)]
 pub struct Draft {
     pub stop: Time,
     pub federates: Federates,

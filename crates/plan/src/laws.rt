@@ -8,6 +8,7 @@ ghost use Rattle.plan.specs.declared.input.Input.{Input};
 ghost use Rattle.plan.specs.declared.slots.Timer.{Timer};
 ghost use Rattle.plan.specs.External.{external_of, external_to, is_for, firing_times, FiresAt};
 ghost use Rattle.plan.specs.Federation.{IsLevel, connections_of, level_of, rank_of, federate_count};
+ghost use Rattle.plan.specs.Limits.{most_federates};
 ghost use Rattle.plan.specs.Least.{least_of, IsTotalWithin};
 ghost use Rattle.plan.specs.Legal.{IsLegal};
 
@@ -30,11 +31,11 @@ pub fn ranks_are_places()
     ensures apart { (d : Draft) (i j : ℕ) → i < federate_count d → j < federate_count d → rank_of d i ≡ rank_of d j → i ≡ j }
 {}
 
-/// What is defined as the least delay is so over all paths, and a path of at most 64 connections has it as its total.
+/// What is defined as the least delay is so over all paths, and a path of at most as many connections as there may be federates has it as its total.
 #[tactic(auto, using(crate::proofs::LeastLaws::least_delays))]
 pub fn least_delays_are_least()
     ensures least { (d : Draft) (i j : ℕ) → IsLegal d → MatchOption (least_of d i j) (IsUnreachable (connections_of d) i j) (IsLeastDelay (connections_of d) i j) }
-    ensures few { (d : Draft) (i j : ℕ) → IsLegal d → IfSome (least_of d i j) (IsTotalWithin (connections_of d) 64 i j) }
+    ensures few { (d : Draft) (i j : ℕ) → IsLegal d → IfSome (least_of d i j) (IsTotalWithin (connections_of d) most_federates i j) }
 {}
 
 /// Over one connection the least delay is at most its own; and where a connection leads to a path, the least delay from its

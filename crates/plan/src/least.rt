@@ -7,7 +7,7 @@ use std::marker::Model;
 use tag::{Delay, then};
 
 /// The least delays from one federate, by the number of the federate at the end.
-#[derive(Debug, Drop)]
+#[derive(Drop)]
 struct Row {
     delays: Vec<Option<Delay>>,
 }
@@ -22,7 +22,7 @@ impl Model for Row {
 }
 
 /// The least delays between federates, None where no path leads. Contracts see the rows.
-#[derive(Debug, Drop)]
+#[derive(Drop)]
 pub(crate) struct LeastDelays {
     rows: Vec<Row>,
 }

@@ -1,6 +1,7 @@
 ghost use Rattle.std.specs.Prelude.{◌≡◌, ◌<◌, length, OnOk, IfOk, IfErr, IfSome, MatchOption};
 ghost use Rattle.network.specs.Connection.{IsLeastDelay, IsUnreachable};
 ghost use Rattle.plan.specs.Federation.{connections_of, rank_of, stop_of, federate_count};
+ghost use Rattle.plan.specs.Limits.{most_federates};
 ghost use Rattle.plan.specs.Least.{least_of, IsTotalWithin};
 ghost use Rattle.plan.specs.Faults.{IsWithinAllLimits, AreTimersInRange};
 ghost use Rattle.plan.specs.External.{found_action, physical_slot};
@@ -23,7 +24,7 @@ use std::marker::Model;
 use tag::{Delay, Tag, Time};
 
 /// A legal federation. Contracts see the draft that it was made of.
-#[derive(Debug, Drop)]
+#[derive(Drop)]
 pub struct Plan {
     draft: Draft,
     connections: Vec<Connection>,
@@ -120,7 +121,7 @@ impl Plan {
         requires to { to < federate_count self.now }
         ensures value { result ≡ least_of self.now from to }
         ensures least { MatchOption result (IsUnreachable (connections_of self.now) from to) (IsLeastDelay (connections_of self.now) from to) }
-        ensures few { IfSome result (IsTotalWithin (connections_of self.now) 64 from to) }
+        ensures few { IfSome result (IsTotalWithin (connections_of self.now) most_federates from to) }
     {
         self.delays.delay(from, to)
     }

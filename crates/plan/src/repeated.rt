@@ -1,12 +1,13 @@
-ghost use Rattle.std.specs.Prelude.{◌≡◌, ◌++◌, ◌↔◌, List, map, length, Any, IsTrue, IfOk, OnOk, IfErr, MatchOption};
+ghost use Rattle.std.specs.Prelude.{◌≡◌, ◌++◌, ◌↔◌, map, Any, IsTrue, IfOk, OnOk, IfErr, MatchOption};
 ghost use Rattle.plan.specs.Naming.{AreDistinct};
-ghost use Rattle.plan.specs.Numbering.{all_names, timer_names};
+ghost use Rattle.plan.specs.Numbering.{all_names};
 ghost use Rattle.plan.specs.Federation.{federate_names};
 ghost use Rattle.plan.specs.Faults.{StandsTwice, StandsIn, HasDistinctNames};
 
 use crate::draft::{Draft, Federate};
 use crate::fault::PlanFault;
-use crate::slots::{Slots, Timer};
+use crate::named::Named;
+use crate::slots::Slots;
 use crate::text::Text;
 use std::alloc::{AllocError, Global};
 
@@ -28,6 +29,16 @@ fn repeated(names: &[&Text]) -> Result<Option<Text>, AllocError>
     Ok(None)
 }
 
+/// Adds the names of these.
+fn push_names<'a, T: Named>(names: &mut Vec<&'a Text>, more: &'a [T]) -> Result<(), AllocError>
+    ensures { OnOk result (map (λ n. n.now) names.new.items ≡ map (λ n. n.now) names.old.items ++ map T.name_of more.now) }
+{
+    for named in more {
+        names.push(named.name())?;
+    }
+    Ok(())
+}
+
 fn names_of_federates<'a>(
     alloc: Global,
     federates: &'a [Federate],
@@ -35,38 +46,19 @@ fn names_of_federates<'a>(
     ensures { IfOk result (λ v. map (λ n. n.now) v.items ≡ federate_names federates.now) }
 {
     let mut names = Vec::new(alloc);
-    for federate in federates {
-        names.push(&federate.name)?;
-    }
+    push_names(&mut names, federates)?;
     Ok(names)
 }
 
-fn push_names<'a>(names: &mut Vec<&'a Text>, more: &'a [Text]) -> Result<(), AllocError>
-    ensures { OnOk result (map (λ n. n.now) names.new.items ≡ map (λ n. n.now) names.old.items ++ more.now) }
-{
-    for name in more {
-        names.push(name)?;
-    }
-    Ok(())
-}
-
-fn push_timer_names<'a>(names: &mut Vec<&'a Text>, more: &'a [Timer]) -> Result<(), AllocError>
-    ensures { OnOk result (map (λ n. n.now) names.new.items ≡ map (λ n. n.now) names.old.items ++ timer_names more.now) }
-{
-    for timer in more {
-        names.push(&timer.name)?;
-    }
-    Ok(())
-}
-
 /// The names of all slots and outputs.
+#[tactic(auto, using(crate::proofs::Places::same_names))]
 fn names_of_slots<'a>(alloc: Global, slots: &'a Slots) -> Result<Vec<&'a Text>, AllocError>
     ensures { IfOk result (λ v. map (λ n. n.now) v.items ≡ all_names slots.now) }
 {
     let mut names = Vec::new(alloc);
     push_names(&mut names, slots.inputs.as_slice())?;
     push_names(&mut names, slots.outputs.as_slice())?;
-    push_timer_names(&mut names, slots.timers.as_slice())?;
+    push_names(&mut names, slots.timers.as_slice())?;
     push_names(&mut names, slots.actions.as_slice())?;
     push_names(&mut names, slots.physical.as_slice())?;
     Ok(names)

@@ -7,7 +7,7 @@ use crate::text::{Names, Text};
 use std::marker::Model;
 
 /// A timer: it fires at (offset, 0) and then each period; with period 0 once. Both in ns.
-#[derive(Clone, Debug, Drop)]
+#[derive(Clone, Drop)]
 pub struct Timer {
     pub name: Text,
     pub offset: u64,
@@ -32,7 +32,7 @@ impl Timer {
 }
 
 /// Timers, in their order. Contracts see the list of them.
-#[derive(Clone, Debug, Drop)]
+#[derive(Clone, Drop)]
 pub struct Timers {
     timers: Vec<Timer>,
 }
@@ -88,7 +88,7 @@ fn are_same(timers: &[Timer], others: &[Timer]) -> bool
 }
 
 /// What a federate has: its startup, where one of its reactions wants it, and its ports, timers and actions by name.
-#[derive(Clone, Debug, Drop)]
+#[derive(Clone, Drop)]
 pub struct Slots {
     pub startup: bool,
     pub inputs: Names,

@@ -1,4 +1,6 @@
 -- What reactors do.
+-- how much a program may have
+pub mod Limits
 -- what a reactor has and does
 pub mod Behaviour
 -- tokens, names and whole numbers

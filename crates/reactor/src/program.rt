@@ -50,7 +50,7 @@ pub struct Line {
 }
 
 /// Slots that trigger a reaction. Contracts see the list of their numbers.
-#[derive(Debug, Drop)]
+#[derive(Drop)]
 pub struct Triggers {
     slots: Vec<usize>,
 }
@@ -78,7 +78,7 @@ impl Triggers {
 }
 
 /// The lines of a reaction, in order. Contracts see the list of them.
-#[derive(Debug, Drop)]
+#[derive(Drop)]
 pub struct Body {
     lines: Vec<Line>,
 }
@@ -107,14 +107,14 @@ impl Body {
 }
 
 /// Runs at each tag at which one of its triggers is present; with none it never runs.
-#[derive(Debug, Drop)]
+#[derive(Drop)]
 pub struct Reaction {
     pub triggers: Triggers,
     pub body: Body,
 }
 
 /// A state by name, with its value at first.
-#[derive(Debug, Drop)]
+#[derive(Drop)]
 pub struct State {
     pub name: Text,
     pub value: i64,
@@ -129,7 +129,7 @@ impl Named for State {
 }
 
 /// A reactor's program: its slots, its states, and its reactions. What they name is there.
-#[derive(Debug, Drop)]
+#[derive(Drop)]
 pub struct Program {
     slots: Slots,
     states: Vec<State>,

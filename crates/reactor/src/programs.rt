@@ -6,7 +6,7 @@ use plan::{Federate, Plan};
 use std::marker::Model;
 
 /// A program for each federate of a plan, in their order. Contracts see the list of them.
-#[derive(Debug, Drop)]
+#[derive(Drop)]
 pub struct Programs {
     programs: Vec<Program>,
 }

@@ -4,6 +4,9 @@ ghost use Rattle.std.specs.Str.{bytes_eq};
 ghost use Rattle.reactor.specs.Tokens.{is_space, is_word_character, tokens_of, is_name_start, is_name_character, is_name, is_reserved, form_words, place_words};
 ghost use Rattle.reactor.specs.Reading.{IsFirstToken, AreFirstTokens};
 
+/// In characters, which are bytes.
+const LONGEST_NAME: usize = 32;
+
 /// Whether the text is a name: 1 to 32 letters, digits and `_`, of which the first is no digit, and no reserved word.
 pub fn is_name(text: &[u8]) -> bool
     ensures { result ≡ is_name text.now }
@@ -12,7 +15,7 @@ pub fn is_name(text: &[u8]) -> bool
         [first, rest @ ..] => {
             is_name_start(*first)
                 && are_name_characters(rest)
-                && rest.len() < 32
+                && rest.len() < LONGEST_NAME
                 && !is_reserved(text)
         }
         [] => false,
