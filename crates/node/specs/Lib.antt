@@ -1,0 +1,10 @@
+-- The numbers of a station's own refusals, and which refusals close a link.
+pub mod Numbers
+-- What a node's posts make of the link ends, and whether there is room for them.
+pub mod Mail
+-- What a node says of itself, and what its calls come to.
+pub mod Core
+-- What a caller sees of an outbox.
+pub mod Box
+-- A station, and its step.
+pub mod Step

@@ -1,0 +1,36 @@
+//! A node behind its link ends: what it does with each frame that comes, and what it says by itself.
+//!
+//! Promise to the layer above: each step of a station is the step of `specs/Step`, whatever the node's core does, and a
+//! step without memory changes nothing.
+//!
+//!     Event --> Station::step ----> LinkEnd::peek       is the frame taken at all?
+//!                    |
+//!                    +------------> Node::accept        what the node makes of its signal
+//!                    |                  +--> Outbox::reserve_all   all memory, then
+//!                    |                  +--> Outbox::put_all       the signals, as frames
+//!                    +------------> LinkEnd::receive    the frame is taken
+//!     Reply <--------+                                  the acknowledgement first, then the node's frames
+//!
+//! Begin with `specs/Core`, what a node says of itself, and `specs/Step`; then `node` and `station`.
+#![tactic(auto)]
+
+pub mod closing;
+pub mod event;
+pub mod fault;
+pub mod memory;
+pub mod node;
+pub mod node_id;
+pub mod outbox;
+pub mod post;
+pub mod reply;
+pub mod station;
+
+pub use event::Event;
+pub use fault::NodeFault;
+pub use memory::Memory;
+pub use node::Node;
+pub use node_id::NodeId;
+pub use outbox::Outbox;
+pub use post::{Outgoing, Post};
+pub use reply::Reply;
+pub use station::Station;
