@@ -17,6 +17,11 @@ abbrev pub framed : ℕ → Result Frame LinkFault → List Outgoing
 framed peer (Ok frame) = record { peer = peer; frame = frame } ∷ []
 framed peer (Err fault) = []
 
+-- with one more frame, if there is one
+abbrev pub with_frame : List Outgoing → ℕ → Option Frame → List Outgoing
+with_frame frames peer None = frames
+with_frame frames peer (Some frame) = frames ++ record { peer = peer; frame = frame } ∷ []
+
 -- a signal is offered at this end of a peer, if that doesn't refuse it
 abbrev pub offered_at : Mail → ℕ → Signal → Option Image → Mail
 offered_at m peer signal None = m
@@ -42,6 +47,14 @@ count_for peer posts = length (filter (λ post. nat_eq post.peer peer) posts)
 abbrev pub lacks : Image → ℕ → Bool
 lacks e count = not e.closed && nat_lt (room_left e) count
 
+-- a peer's end lacks room for so many signals
+abbrev pub peer_lacks : Option Image → ℕ → Bool
+peer_lacks None count = false
+peer_lacks (Some e) count = lacks e count
+
+abbrev pub lacks_at : (peer count : ℕ) → List Image → Bool
+lacks_at peer count ends = peer_lacks (slice_get ends peer) count
+
 -- some end lacks room for the posts to it, the first end being this peer's
 abbrev pub some_lacks : ℕ → List Image → List Post → Bool
 some_lacks peer [] posts = false
@@ -50,3 +63,7 @@ some_lacks peer (e ∷ ends) posts = lacks e (count_for peer posts) || some_lack
 -- some end lacks room for the posts to it
 abbrev pub lacks_room : List Image → List Post → Bool
 lacks_room ends posts = some_lacks 0 ends posts
+
+-- an end without the signals that it keeps: what no post changes
+abbrev pub bare : Image → Image
+bare e = record e { kept = [] }

@@ -1,29 +1,37 @@
-ghost use Rattle.std.specs.Prelude.{◌≡◌, List, []};
+ghost use Rattle.std.specs.Prelude.{◌≡◌, ◌≢◌, ℕ, ◌+◌, ◌≤◌, ◌<◌, List, [], ◌∷◌, map, option_map, slice_get, false, Some, Ok, Err, if◌then◌else◌, nat_eq, OnOk, IfSome, length};
+ghost use Rattle.link.specs.Image.{Image, EndView, offer_of, after_offer, after_frame, after_close, answer_of};
+ghost use Rattle.node.specs.Mail.{Mail, posted, all_posted, count_for, lacks_at, lacks_room, with_frame};
+ghost use Rattle.node.specs.Box.{HasMemory, NoneLost, IsReadyFor, IsReady, reserved_at, images, reserves};
+ghost use Rattle.node.specs.declared.fault.NodeFault.TheVariants as Faults;
 
-use crate::post::Outgoing;
+use crate::fault::NodeFault;
+use crate::post::{Outgoing, Post};
 use link::LinkEnd;
+use signal::{Frame, Signal};
 use std::alloc::Global;
 use std::marker::Model;
 
-/// The link ends of a node, and the frames of one step.
+/// The link ends of a node, and the frames that go out in one step.
+///
+/// A node reserves first, all that it will send, and then puts: what is reserved can be put without memory. A signal
+/// for a closed end, or for a peer that isn't there, is dropped.
 #[derive(Drop)]
 pub struct Outbox {
-    alloc: Global,
     ends: Vec<LinkEnd>,
     frames: Vec<Outgoing>,
     places: usize,
 }
 
 impl Model for Outbox {
-    ghost use Rattle.std.specs.Prelude.{◌+◌, ◌≤◌, map, vec_len};
+    ghost use Rattle.std.specs.Prelude.{◌+◌, ◌≤◌, vec_len};
     ghost use Rattle.std.specs.Vec.{vec_capacity};
     ghost use Rattle.node.specs.Box as box;
 
     ghost Value = { box.Outbox };
 
     ghost view = { λ b. record {
-        mail = record { ends = map (λ e. e.image) b.ends.items; frames = b.frames.items };
-        reserved = map (λ e. e.reserved) b.ends.items;
+        mail = record { ends = box.images b.ends.items; frames = b.frames.items };
+        reserved = box.reserves b.ends.items;
         places = b.places;
     } };
 
@@ -31,18 +39,137 @@ impl Model for Outbox {
 }
 
 impl Outbox {
-    ghost use Rattle.std.specs.Prelude.{map};
-
     /// An outbox with nothing to send; peer p's end stands at place p.
     pub fn new(alloc: Global, ends: Vec<LinkEnd>) -> Outbox
-        ensures ends { result.mail.ends ≡ map (λ e. e.image) ends.items }
+        ensures ends { result.mail.ends ≡ images ends.items }
         ensures frames { result.mail.frames ≡ [] }
     {
         Outbox {
-            alloc,
             ends,
             frames: Vec::new(alloc),
             places: 0,
         }
+    }
+
+    /// A peer's end.
+    pub fn end(&self, peer: usize) -> Option<&LinkEnd>
+        ensures { option_map (λ e. e.now.image) result ≡ slice_get self.now.mail.ends peer }
+    {
+        self.ends.get(peer)
+    }
+
+    /// Sees that so many signals for a peer can be put: there is room at its end, and memory is taken. It is called
+    /// once for each peer, with the count of all signals for it.
+    pub fn reserve(&mut self, peer: usize, count: usize) -> Result<(), NodeFault>
+        ensures answer { result ≢ Err Faults.Memory → result ≡ (if lacks_at peer count self.old.mail.ends then Err Faults.NoRoom else Ok tt) }
+        ensures ready { OnOk result (IsReadyFor self.new peer count) }
+        ensures places { OnOk result (self.new.places ≡ self.old.places + count) }
+        ensures none_lost { NoneLost self.old.reserved self.new.reserved }
+        ensures mail { self.new.mail ≡ self.old.mail }
+    {
+        reserve_end(&mut self.ends, peer, count)?;
+        self.reserve_places(count)
+    }
+
+    /// Sees that all these posts can be put.
+    pub fn reserve_all(&mut self, posts: &[Post]) -> Result<(), NodeFault>
+        ensures answer { result ≢ Err Faults.Memory → result ≡ (if lacks_room self.old.mail.ends posts.now then Err Faults.NoRoom else Ok tt) }
+        ensures ready { OnOk result (IsReady self.new posts.now) }
+        ensures mail { self.new.mail ≡ self.old.mail }
+    {
+        reserve_ends(&mut self.ends, posts)?;
+        self.reserve_places(posts.len())
+    }
+
+    /// Puts a signal for a peer.
+    pub fn put(&mut self, peer: usize, signal: Signal)
+        requires ready { IsReadyFor self.old peer 1 }
+        requires place { 1 ≤ self.old.places }
+        ensures put { self.new.mail ≡ posted self.old.mail (record { peer = peer; signal = signal }) }
+        ensures one_used { (p : ℕ) → reserved_at self.old.reserved p ≤ reserved_at self.new.reserved p + (if nat_eq p peer then 1 else 0) }
+        ensures place_used { self.new.places + 1 ≡ self.old.places }
+    {
+        self.places -= 1;
+        if let Some(frame) = offer_at(&mut self.ends, peer, signal) {
+            self.frames.push_reserved(Outgoing { peer, frame });
+        }
+    }
+
+    /// Puts all these, in order.
+    pub fn put_all(&mut self, posts: &[Post])
+        requires { IsReady self.old posts.now }
+        ensures { self.new.mail ≡ all_posted self.old.mail posts.now }
+    {
+        for post in posts {
+            self.put(post.peer, post.signal);
+        }
+    }
+
+    // Memory for so many more frames.
+    fn reserve_places(&mut self, count: usize) -> Result<(), NodeFault>
+        ensures answer { result ≢ Err Faults.Memory → result ≡ Ok tt }
+        ensures places { OnOk result (self.new.places ≡ self.old.places + count) }
+        ensures reserved { self.new.reserved ≡ self.old.reserved }
+        ensures mail { self.new.mail ≡ self.old.mail }
+    {
+        let Some(places) = self.places.checked_add(count) else {
+            return Err(NodeFault::Memory);
+        };
+        self.frames.reserve(places)?;
+        self.places = places;
+        Ok(())
+    }
+}
+
+// How many posts are for a peer.
+fn count_for(posts: &[Post], peer: usize) -> usize
+    ensures { result ≡ count_for peer posts.now }
+{
+    posts.iter().filter(|post| post.peer == peer).count()
+}
+
+// Room and memory at a peer's end.
+fn reserve_end(ends: &mut Vec<LinkEnd>, peer: usize, count: usize) -> Result<(), NodeFault>
+    ensures answer { result ≢ Err Faults.Memory → result ≡ (if lacks_at peer count (images ends.old.items) then Err Faults.NoRoom else Ok tt) }
+    ensures memory { OnOk result (HasMemory (images ends.new.items) (reserves ends.new.items) peer count) }
+    ensures none_lost { NoneLost (reserves ends.old.items) (reserves ends.new.items) }
+    ensures images { images ends.new.items ≡ images ends.old.items }
+{
+    let Some(end) = ends.get_mut(peer) else {
+        return Ok(());
+    };
+    if end.is_closed() {
+        return Ok(());
+    }
+    if end.room_left() < count {
+        return Err(NodeFault::NoRoom);
+    }
+    if end.reserve(count).is_err() {
+        return Err(NodeFault::Memory);
+    }
+    Ok(())
+}
+
+// Room and memory at each end, for the posts to it.
+fn reserve_ends(ends: &mut Vec<LinkEnd>, posts: &[Post]) -> Result<(), NodeFault>
+    ensures answer { result ≢ Err Faults.Memory → result ≡ (if lacks_room (images ends.old.items) posts.now then Err Faults.NoRoom else Ok tt) }
+    ensures memory { OnOk result ((p : ℕ) → HasMemory (images ends.new.items) (reserves ends.new.items) p (count_for p posts.now)) }
+    ensures images { images ends.new.items ≡ images ends.old.items }
+{
+    for peer in 0..ends.len() {
+        reserve_end(ends, peer, count_for(posts, peer))?;
+    }
+    Ok(())
+}
+
+// Offers a signal at a peer's end.
+fn offer_at(ends: &mut Vec<LinkEnd>, peer: usize, signal: Signal) -> Option<Frame>
+    requires { (e : EndView) → slice_get ends.old.items peer ≡ Some e → e.image.closed ≡ false → 0 < e.reserved }
+    ensures posted { (frames : List Outgoing) → posted (record { ends = images ends.old.items; frames = frames }) (record { peer = peer; signal = signal }) ≡ record { ends = images ends.new.items; frames = with_frame frames peer result } }
+    ensures one_used { (p : ℕ) → reserved_at (reserves ends.old.items) p ≤ reserved_at (reserves ends.new.items) p + (if nat_eq p peer then 1 else 0) }
+{
+    match ends.get_mut(peer)?.offer(signal) {
+        Ok(frame) => Some(frame),
+        Err(_) => None,
     }
 }

@@ -1,0 +1,4 @@
+-- Link ends at their peers' places, and one of them changed.
+pub mod Ends
+-- What posts make of the link ends, and that what was reserved for several serves them one after the other.
+pub mod Posts
