@@ -2,3 +2,7 @@
 pub mod Ends
 -- What posts make of the link ends, and that what was reserved for several serves them one after the other.
 pub mod Posts
+-- What an end makes of the frames that it takes in by itself.
+pub mod Notes
+-- What a station's calls of its node come to.
+pub mod Calls

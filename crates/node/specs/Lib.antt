@@ -8,3 +8,5 @@ pub mod Core
 pub mod Box
 -- A station, and its step.
 pub mod Step
+-- Which kind of frame it is.
+pub mod Kinds

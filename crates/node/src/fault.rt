@@ -1,5 +1,6 @@
 ghost use Rattle.std.specs.Prelude.{◌≡◌};
 
+use crate::memory::Memory;
 use protocol::Refusal;
 use std::alloc::{AllocError, AllocFailed};
 use thiserror::Error;
@@ -16,6 +17,21 @@ pub enum NodeFault {
     NoRoom,
     #[error("out of memory")]
     Memory,
+}
+
+impl NodeFault {
+    ghost use Rattle.node.specs.Numbers.{fault_number};
+
+    /// The number by which a station tells it.
+    pub fn number(self) -> u16
+        ensures { result ≡ fault_number self }
+    {
+        match self {
+            NodeFault::Refused(refusal) => refusal.number(),
+            NodeFault::NoRoom => 60,
+            NodeFault::Memory => Memory.number(),
+        }
+    }
 }
 
 impl From<AllocError> for NodeFault {

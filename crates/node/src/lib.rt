@@ -22,6 +22,8 @@ pub mod node;
 pub mod node_id;
 pub mod outbox;
 pub mod post;
+mod noting;
+mod replies;
 pub mod reply;
 pub mod station;
 

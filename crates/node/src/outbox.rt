@@ -1,15 +1,18 @@
-ghost use Rattle.std.specs.Prelude.{◌≡◌, ◌≢◌, ℕ, ◌+◌, ◌≤◌, ◌<◌, List, [], ◌∷◌, map, option_map, slice_get, false, Some, Ok, Err, if◌then◌else◌, nat_eq, OnOk, IfSome, length};
-ghost use Rattle.link.specs.Image.{Image, EndView, offer_of, after_offer, after_frame, after_close, answer_of};
+ghost use Rattle.std.specs.Prelude.{◌≡◌, ◌≢◌, ℕ, ◌+◌, ◌≤◌, ◌<◌, List, [], ◌∷◌, map, option_map, slice_get, false, Some, Ok, Err, if◌then◌else◌, nat_eq, OnOk, OnErr, IsOk, IfSome, length, ◌++◌, slice_set};
+ghost use Rattle.link.specs.Image.{Image, EndView, after_close, answer_of};
 ghost use Rattle.node.specs.Mail.{Mail, posted, all_posted, count_for, lacks_at, lacks_room, with_frame};
+ghost use Rattle.node.specs.Step.{received, received_at};
 ghost use Rattle.node.specs.Box.{HasMemory, NoneLost, IsReadyFor, IsReady, reserved_at, images, reserves};
 ghost use Rattle.node.specs.declared.fault.NodeFault.TheVariants as Faults;
 
 use crate::fault::NodeFault;
+use crate::memory::Memory;
 use crate::post::{Outgoing, Post};
 use link::LinkEnd;
 use signal::{Frame, Signal};
 use std::alloc::Global;
 use std::marker::Model;
+use std::mem;
 
 /// The link ends of a node, and the frames that go out in one step.
 ///
@@ -17,6 +20,7 @@ use std::marker::Model;
 /// for a closed end, or for a peer that isn't there, is dropped.
 #[derive(Drop)]
 pub struct Outbox {
+    alloc: Global,
     ends: Vec<LinkEnd>,
     frames: Vec<Outgoing>,
     places: usize,
@@ -45,6 +49,7 @@ impl Outbox {
         ensures frames { result.mail.frames ≡ [] }
     {
         Outbox {
+            alloc,
             ends,
             frames: Vec::new(alloc),
             places: 0,
@@ -53,9 +58,18 @@ impl Outbox {
 
     /// A peer's end.
     pub fn end(&self, peer: usize) -> Option<&LinkEnd>
-        ensures { option_map (λ e. e.now.image) result ≡ slice_get self.now.mail.ends peer }
+        ensures image { option_map (λ e. e.now.image) result ≡ slice_get self.now.mail.ends peer }
+        ensures there { IfSome result (λ _. peer < length self.now.mail.ends) }
     {
         self.ends.get(peer)
+    }
+
+    /// The end of a peer that is there.
+    pub(crate) fn at(&self, peer: usize) -> &LinkEnd
+        requires { peer < length self.now.mail.ends }
+        ensures { slice_get self.now.mail.ends peer ≡ Some result.now.image }
+    {
+        &self.ends[peer]
     }
 
     /// Sees that so many signals for a peer can be put: there is room at its end, and memory is taken. It is called
@@ -105,6 +119,55 @@ impl Outbox {
         }
     }
 
+    /// Whoever made it gives memory by this.
+    pub(crate) fn alloc(&self) -> Global {
+        self.alloc
+    }
+
+    /// The frame that goes out before those of the node.
+    pub(crate) fn begin(&mut self, peer: usize, frame: Frame) -> Result<(), Memory>
+        ensures begun { OnOk result (self.new.mail ≡ record { ends = self.old.mail.ends; frames = self.old.mail.frames ++ record { peer = peer; frame = frame } ∷ [] }) }
+        ensures refused { OnErr result (self.new.mail ≡ self.old.mail) }
+    {
+        self.places = 0;
+        self.frames.reserve(1)?;
+        self.frames.push_reserved(Outgoing { peer, frame });
+        Ok(())
+    }
+
+    /// Another frame in place of the first.
+    pub(crate) fn replace_first(&mut self, peer: usize, frame: Frame)
+        requires { 0 < length self.old.mail.frames }
+        ensures { self.new.mail ≡ record { ends = self.old.mail.ends; frames = slice_set self.old.mail.frames 0 (record { peer = peer; frame = frame }) } }
+    {
+        self.frames[0] = Outgoing { peer, frame };
+    }
+
+    /// Takes in a frame at a peer's end, which doesn't refuse it.
+    pub(crate) fn receive(&mut self, peer: usize, frame: &Frame)
+        requires { (e : Image) → slice_get self.old.mail.ends peer ≡ Some e → IsOk (answer_of e frame.now) }
+        ensures { self.new.mail ≡ received peer frame.now self.old.mail }
+    {
+        receive_at(&mut self.ends, peer, frame);
+    }
+
+    /// Closes a peer's end.
+    pub(crate) fn close(&mut self, peer: usize)
+        ensures frames { self.new.mail.frames ≡ self.old.mail.frames }
+        ensures ends { (e : Image) → slice_get self.old.mail.ends peer ≡ Some e → self.new.mail.ends ≡ slice_set self.old.mail.ends peer (after_close e) }
+    {
+        close_at(&mut self.ends, peer);
+    }
+
+    /// The frames, which are gone from here.
+    pub(crate) fn take_frames(&mut self) -> Vec<Outgoing>
+        ensures taken { result.items ≡ self.old.mail.frames }
+        ensures left { self.new.mail ≡ record { ends = self.old.mail.ends; frames = [] } }
+    {
+        self.places = 0;
+        mem::replace(&mut self.frames, Vec::new(self.alloc))
+    }
+
     // Memory for so many more frames.
     fn reserve_places(&mut self, count: usize) -> Result<(), NodeFault>
         ensures answer { result ≢ Err Faults.Memory → result ≡ Ok tt }
@@ -118,6 +181,25 @@ impl Outbox {
         self.frames.reserve(places)?;
         self.places = places;
         Ok(())
+    }
+}
+
+// Takes in a frame at a peer's end.
+fn receive_at(ends: &mut Vec<LinkEnd>, peer: usize, frame: &Frame)
+    requires { (e : Image) → slice_get (images ends.old.items) peer ≡ Some e → IsOk (answer_of e frame.now) }
+    ensures { images ends.new.items ≡ received_at (images ends.old.items) peer frame.now (slice_get (images ends.old.items) peer) }
+{
+    if let Some(end) = ends.get_mut(peer) {
+        end.receive(frame);
+    }
+}
+
+// Closes a peer's end.
+fn close_at(ends: &mut Vec<LinkEnd>, peer: usize)
+    ensures { (e : Image) → slice_get (images ends.old.items) peer ≡ Some e → images ends.new.items ≡ slice_set (images ends.old.items) peer (after_close e) }
+{
+    if let Some(end) = ends.get_mut(peer) {
+        end.close();
     }
 }
 
