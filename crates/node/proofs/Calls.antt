@@ -36,7 +36,7 @@ pub acts_ended : {View : Type 0} (before after : View) (ends : List Image) (mail
     (answer ≡ Ok true → IfOk result (λ reply. said reply ≡ Says mail.frames)) → (answer ≡ Ok false → IfOk result (λ reply. said reply ≡ Silent)) →
     ((f : NodeFault) → answer ≡ Err f → IfOk result (λ reply. said reply ≡ Declines (fault_number f) [])) → OnOk result (answer ≢ Err fault.Memory) →
     IfOk result (λ reply. record { station = record { node = after; ends = mail.ends }; answer = said reply } ≡
-        acts (record { node = before; ends = ends }) (ending_of (record { ends = ends; frames = [] }) made))
+    acts (record { node = before; ends = ends }) (ending_of (record { ends = ends; frames = [] }) made))
 acts_ended before after ends mail answer (Ok reply) made call done nothing refused no_memory =
     let is = call no_memory in
     acts_as before after ends mail answer reply (ending_of (record { ends = ends; frames = [] }) made) is.answers is.node is.posts done nothing refused
@@ -70,8 +70,10 @@ still_in_turn m made peer i n signal x turn found =
 -- a signal that the node takes
 pub takes_it : {View : Type 0} (s : Station View) (peer : ℕ) (e : Image) (frame : Frame) (m : Mail) (ending : Ending View) (b : Bool) →
     Ok b ≡ answer_for ending →
-    record { station = record { node = node_after s.node ending; ends = (received peer frame (mail_after m ending)).ends };
-        answer = Says (received peer frame (mail_after m ending)).frames } ≡ takes s peer e frame m ending
+    record {
+      station = record { node = node_after s.node ending; ends = (received peer frame (mail_after m ending)).ends };
+      answer = Says (received peer frame (mail_after m ending)).frames;
+    } ≡ takes s peer e frame m ending
 takes_it s peer e frame m (Refuses r) b answers = let bad : ⊥ = grind arith in absurd bad
 takes_it s peer e frame m LacksRoom b answers = let bad : ⊥ = grind arith in absurd bad
 takes_it s peer e frame m Stays b answers = refl
@@ -81,7 +83,7 @@ takes_it s peer e frame m (Moves after mail) b answers = refl
 pub refuses_it : {View : Type 0} (s : Station View) (peer : ℕ) (e : Image) (frame : Frame) (m : Mail) (ending : Ending View) (refusal : Refusal) →
     Err (fault.Refused refusal) ≡ answer_for ending → closes refusal ≡ true →
     record { station = with_end s peer (after_close e); answer = Declines (number_of refusal) (addressed peer (Refuse e.incarnation (number_of refusal) ∷ [])) } ≡
-        takes s peer e frame m ending
+    takes s peer e frame m ending
 refuses_it s peer e frame m (Refuses r) refusal answers closing =
     let same : refusal ≡ r = grind arith in rw (← same, closing) refl
 refuses_it s peer e frame m LacksRoom refusal answers closing = let bad : ⊥ = grind arith in absurd bad
@@ -103,7 +105,7 @@ pub acts_done : {View : Type 0} (s : Station View) (node : View) (first : Mail) 
     IfOk result (λ reply. record { station = record { node = after; ends = left.ends }; answer = said reply } ≡ acts s (ending_of (unsent s) (step s.node)))
 acts_done s node first after mail left answer result step is none posts call done nothing refused no_memory =
     rw (← is, posts) (acts_ended node after first.ends mail answer result (step node)
-        (λ unless. rw (← unsent_mail first none) (call unless)) done nothing refused no_memory)
+    (λ unless. rw (← unsent_mail first none) (call unless)) done nothing refused no_memory)
 
 -- the acknowledgement goes out first
 begun : {View : Type 0} (s : Station View) (node : View) (first one : Mail) (peer i n : ℕ) (signal : Signal) (e : Image) →
@@ -127,13 +129,13 @@ pub take_ok : {View : Type 0} (s : Station View) (node : View) (first : Mail) (a
     IsCall node after one two answer (step node) → answer ≡ Ok b → frame ≡ Data i n signal →
     three ≡ received peer frame two → frames ≡ three.frames → four ≡ record { ends = three.ends; frames = [] } →
     record { station = record { node = after; ends = four.ends }; answer = Says frames } ≡
-        takes s peer e (Data i n signal) (acknowledging s peer e (Data i n signal)) (ending_of (acknowledging s peer e (Data i n signal)) (step s.node))
+    takes s peer e (Data i n signal) (acknowledging s peer e (Data i n signal)) (ending_of (acknowledging s peer e (Data i n signal)) (step s.node))
 take_ok s node first after one two three four frames frame peer i n signal e answer b step is none turn begin call ok is_data receive took left =
     let same = begun s node first one peer i n signal e is none turn begin in
     let there = call_there s node after first.ends one (acknowledging s peer e (Data i n signal)) two answer step is same call in
     rw (left, took, receive, is_data, there.posts, there.node)
-        (takes_it s peer e (Data i n signal) (acknowledging s peer e (Data i n signal)) (ending_of (acknowledging s peer e (Data i n signal)) (step s.node)) b
-            (sym ok ∙ there.answers))
+    (takes_it s peer e (Data i n signal) (acknowledging s peer e (Data i n signal)) (ending_of (acknowledging s peer e (Data i n signal)) (step s.node)) b
+    (sym ok ∙ there.answers))
 
 -- the frame can be taken in after the node's posts
 pub receivable : {View : Type 0} (s : Station View) (node : View) (first : Mail) (after : View) (one two : Mail) (frame : Frame)
@@ -165,7 +167,7 @@ pub take_refused : {View : Type 0} (s : Station View) (node : View) (first : Mai
     four ≡ record { ends = three.ends; frames = set three.frames 0 (record { peer = peer; frame = Refuse i number }) } →
     frames ≡ four.frames → five ≡ record { ends = four.ends; frames = [] } →
     record { station = record { node = after; ends = five.ends }; answer = Declines number frames } ≡
-        takes s peer e (Data i n signal) (acknowledging s peer e (Data i n signal)) (ending_of (acknowledging s peer e (Data i n signal)) (step s.node))
+    takes s peer e (Data i n signal) (acknowledging s peer e (Data i n signal)) (ending_of (acknowledging s peer e (Data i n signal)) (step s.node))
 take_refused s node first after one two three four five frames peer i n number signal e answer refusal step is none turn found begin call err closing told kept closed replaced took left =
     let same = begun s node first one peer i n signal e is none turn begin in
     let there = call_there s node after first.ends one (acknowledging s peer e (Data i n signal)) two answer step is same call in
@@ -175,11 +177,11 @@ take_refused s node first after one two three four five frames peer i n number s
     let mail_is : two ≡ acknowledging s peer e (Data i n signal) = there.posts ∙ stays.1 in
     let at : slice_get two.ends peer ≡ Some e = ap (λ m. slice_get m.ends peer) mail_is ∙ found in
     let ends : five.ends ≡ set s.ends peer (after_close e) =
-        ap (λ m. m.ends) left ∙ (ap (λ m. m.ends) replaced ∙ (closed e at ∙ ap (λ m. set m.ends peer (after_close e)) mail_is)) in
+    ap (λ m. m.ends) left ∙ (ap (λ m. m.ends) replaced ∙ (closed e at ∙ ap (λ m. set m.ends peer (after_close e)) mail_is)) in
     let own = (in_turn e i n signal turn).0 in
     let sent : frames ≡ addressed peer (Refuse e.incarnation (number_of refusal) ∷ []) = rw (took, replaced, kept, mail_is, told, own) refl in
     rw (node_is, ends, sent, told)
-        (refuses_it s peer e (Data i n signal) (acknowledging s peer e (Data i n signal)) (ending_of (acknowledging s peer e (Data i n signal)) (step s.node)) refusal answers closing)
+    (refuses_it s peer e (Data i n signal) (acknowledging s peer e (Data i n signal)) (ending_of (acknowledging s peer e (Data i n signal)) (step s.node)) refusal answers closing)
 
 lets_noted : {View Row : Type 0} (core : Core View Row) (s : Station View) (peer : ℕ) (e : Image) (frame : Frame) (arrival : Arrival) →
     ((i n : ℕ) (signal : Signal) → frame ≡ Data i n signal → arrival ≡ Arrival.Signal → ⊥) → lets_in core s peer e frame arrival ≡ noted s peer e frame
@@ -191,7 +193,7 @@ pub noted_ended : {View Row : Type 0} (core : Core View Row) (s : Station View) 
     (result : Result Reply Memory) → record { node = node; ends = first.ends } ≡ s → slice_get s.ends peer ≡ Some e →
     ((i n : ℕ) (signal : Signal) → frame ≡ Data i n signal → arrival ≡ Arrival.Signal → ⊥) →
     ((x : Image) → slice_get first.ends peer ≡ Some x →
-        IfOk result (λ reply. said reply ≡ answer_with (changes x frame) (addressed peer (returned (after_frame x frame) frame)))) →
+    IfOk result (λ reply. said reply ≡ answer_with (changes x frame) (addressed peer (returned (after_frame x frame) frame)))) →
     OnOk result (left ≡ received peer frame first) →
     IfOk result (λ reply. record { station = record { node = node; ends = left.ends }; answer = said reply } ≡ lets_in core s peer e frame arrival)
 noted_ended core s node first left peer e frame arrival (Ok reply) is found other told received_is =

@@ -60,7 +60,7 @@ found_at xs i x within is = rw (slice_get-get_or xs i x within, ← is) refl
 pub posted_frame : (xs : List EndView) (i : ℕ) (x y : EndView) (signal : Signal) (frame : Frame) (frames : List Outgoing) → slice_get xs i ≡ Some x →
     offer_of x.image signal ≡ Ok frame → y.image ≡ after_offer x.image signal →
     posted (record { ends = images xs; frames = frames }) (record { peer = i; signal = signal }) ≡
-        record { ends = images (set xs i y); frames = frames ++ record { peer = i; frame = frame } ∷ [] }
+    record { ends = images (set xs i y); frames = frames ++ record { peer = i; frame = frame } ∷ [] }
 posted_frame xs i x y signal frame frames found offered after =
     rw (images_get xs i, found, offered, images_set xs i y, after) refl
 
@@ -102,3 +102,7 @@ all_have ends posts none p = let z : 0 + p ≡ p = omega arith in let h = each_h
 
 pub room_for_all : (ends : List Image) (posts : List Post) → ((p : ℕ) → lacks_at p (count_for p posts) ends ≡ false) → lacks_room ends posts ≡ false
 room_for_all ends posts each = none_lacks 0 ends posts (λ p. let z : 0 + p ≡ p = omega arith in rw z (each p))
+
+pub no_posts : (k : ℕ) (ends : List Image) → some_lacks k ends [] ≡ false
+no_posts k [] = refl
+no_posts k (e ∷ ends) = let rest = no_posts (k + 1) ends in let here : lacks e 0 ≡ false = grind arith in rw (here, rest) refl

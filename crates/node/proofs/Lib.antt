@@ -6,3 +6,5 @@ pub mod Posts
 pub mod Notes
 -- What a station's calls of its node come to.
 pub mod Calls
+-- Through every step a station's node goes on.
+pub mod Ahead

@@ -81,8 +81,14 @@ resent_after e (Hello f i n) hello ok =
     let within = hello_within e f i n ok in
     let gone : length e.kept - (length e.kept - (n - e.acknowledged)) ≡ n - e.acknowledged = omega (arith, within) in
     let first : (e.acknowledged + 1) + (n - e.acknowledged) ≡ max e.acknowledged n + 1 = omega arith in
-    rw (open_for e (Hello f i n) ok, length_numbered e.incarnation (e.acknowledged + 1) e.kept, length-drop (n - e.acknowledged) e.kept, gone,
-        numbered_drop (n - e.acknowledged) e.incarnation (e.acknowledged + 1) e.kept, first) refl
+    rw (
+      open_for e (Hello f i n) ok,
+      length_numbered e.incarnation (e.acknowledged + 1) e.kept,
+      length-drop (n - e.acknowledged) e.kept,
+      gone,
+      numbered_drop (n - e.acknowledged) e.incarnation (e.acknowledged + 1) e.kept,
+      first,
+    ) refl
 resent_after e (Data _ _ _) hello ok = elim hello [ ]
 resent_after e (Ack _ _) hello ok = elim hello [ ]
 resent_after e (Refuse _ _) hello ok = elim hello [ ]

@@ -86,7 +86,7 @@ offered_lacks : (m : Mail) (i : ℕ) (signal : Signal) (o : Option Image) (count
 offered_lacks m i signal None count is p has = fewer (slice_get m.ends p) count ((if nat_eq i p then 1 else 0) + count) (omega arith) has
 offered_lacks m i signal (Some e) count is p has =
     lacks_if (is_ok (offer_of e signal)) m i e (after_offer e signal) (m.frames ++ framed i (offer_of e signal)) count is
-        (λ offered. lacks_less e signal count offered) p has
+    (λ offered. lacks_less e signal count offered) p has
 
 -- a post uses one place at its peer's end
 pub posted_lacks : (m : Mail) (post : Post) (p count : ℕ) → lacks_at p ((if nat_eq post.peer p then 1 else 0) + count) m.ends ≡ false →
@@ -150,6 +150,6 @@ pub memory_more : (ends later : List Image) (old new : List ℕ) (posts : List P
     ((p : ℕ) → p < n → HasMemory ends old p (count_for p posts)) → ((p : ℕ) → reserved_at old p ≤ reserved_at new p) → HasMemory later new n (count_for n posts) →
     (p : ℕ) → p < n + 1 → HasMemory later new p (count_for p posts)
 memory_more ends later old new posts n same before lost last p less e found unclosed = elim (up_to p n less) [
-    inl earlier ↦ omega (arith, before p earlier e (rw (← same) found) unclosed, lost p)
+  | inl earlier ↦ omega (arith, before p earlier e (rw (← same) found) unclosed, lost p)
   | inr is ↦ memory_last later new posts p n is last e found unclosed
-  ]
+]

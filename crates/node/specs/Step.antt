@@ -125,7 +125,7 @@ noted s peer e frame =
 abbrev pub lets_in : {View Row : Type 0} → Core View Row → Station View → ℕ → Image → Frame → Arrival → Stepped View
 lets_in core s peer e (Data i n signal) arrival.Signal =
     takes s peer e (Data i n signal) (acknowledging s peer e (Data i n signal))
-        (ending_of (acknowledging s peer e (Data i n signal)) (core.accept s.node peer signal))
+    (ending_of (acknowledging s peer e (Data i n signal)) (core.accept s.node peer signal))
 lets_in core s peer e frame arrival = noted s peer e frame
 
 -- a stranger's Hello is answered by the one node that all others are linked to

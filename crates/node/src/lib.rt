@@ -17,12 +17,13 @@
 pub mod closing;
 pub mod event;
 pub mod fault;
+pub mod laws;
 pub mod memory;
 pub mod node;
 pub mod node_id;
+mod noting;
 pub mod outbox;
 pub mod post;
-mod noting;
 mod replies;
 pub mod reply;
 pub mod station;

@@ -22,7 +22,12 @@ pub trait Node: Drop {
     ghost core: { Core Self Self.Row };
 
     /// Takes a peer's signal.
-    fn accept(&mut self, peer: usize, signal: Signal, outbox: &mut Outbox) -> Result<bool, NodeFault>
+    fn accept(
+        &mut self,
+        peer: usize,
+        signal: Signal,
+        outbox: &mut Outbox,
+    ) -> Result<bool, NodeFault>
         ensures call { result ≢ Err Faults.Memory → IsCall self.old self.new outbox.old.mail outbox.new.mail result (core.accept self.old peer signal) }
         ensures memory { result ≡ Err Faults.Memory → (self.new ≡ self.old) × (outbox.new.mail ≡ outbox.old.mail) × Allows (core.accept self.old peer signal) }
         ensures lawful { SendsOnly (core.may_send self.old) (core.accept self.old peer signal) };

@@ -34,9 +34,9 @@ impl Model for Outbox {
     ghost Value = { box.Outbox };
 
     ghost view = { λ b. record {
-        mail = record { ends = box.images b.ends.items; frames = b.frames.items };
-        reserved = box.reserves b.ends.items;
-        places = b.places;
+      mail = record { ends = box.images b.ends.items; frames = b.frames.items };
+      reserved = box.reserves b.ends.items;
+      places = b.places;
     } };
 
     ghost invariant = { λ b. vec_len b.frames + b.places ≤ vec_capacity b.frames };

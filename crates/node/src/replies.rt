@@ -60,9 +60,13 @@ pub(crate) fn turn_away(
     ensures { IfOk result (λ frames. frames.items ≡ turned_away hub peer end.now.image frame.now) }
 {
     match (end.ack(), *frame) {
-        (Frame::Ack { incarnation: own, .. }, Frame::Hello { incarnation, .. })
-            if hub && incarnation != own =>
-        {
+        (
+            Frame::Ack {
+                incarnation: own,
+                ..
+            },
+            Frame::Hello { incarnation, .. },
+        ) if hub && incarnation != own => {
             let refusal = LinkFault::Stranger.number();
             one(
                 alloc,

@@ -110,9 +110,14 @@ impl<N: Node> Station<N> {
         ensures as_before { OnErr result (self.new ≡ self.old) }
     {
         match (*frame, arrival) {
-            (Frame::Data { incarnation, number, signal }, Arrival::Signal) => {
-                self.take(peer, frame, incarnation, number, signal)
-            }
+            (
+                Frame::Data {
+                    incarnation,
+                    number,
+                    signal,
+                },
+                Arrival::Signal,
+            ) => { self.take(peer, frame, incarnation, number, signal) }
             _ => note(&mut self.outbox, peer, frame),
         }
     }
@@ -131,7 +136,13 @@ impl<N: Node> Station<N> {
         ensures ended { (e : Image) → slice_get self.old.ends peer ≡ Some e → IfOk result (λ reply. record { station = self.new; answer = said reply } ≡ lets_in N.core self.old peer e (Frames.Data incarnation number signal) Arrivals.Signal) }
         ensures as_before { OnErr result (self.new ≡ self.old) }
     {
-        self.outbox.begin(peer, Frame::Ack { incarnation, last_taken: number })?;
+        self.outbox.begin(
+            peer,
+            Frame::Ack {
+                incarnation,
+                last_taken: number,
+            },
+        )?;
         match self.node.accept(peer, signal, &mut self.outbox) {
             Ok(_) => {
                 self.outbox.receive(peer, frame);
@@ -140,7 +151,13 @@ impl<N: Node> Station<N> {
             Err(NodeFault::Refused(refusal)) if closes(refusal) => {
                 let refusal = refusal.number();
                 self.outbox.close(peer);
-                self.outbox.replace_first(peer, Frame::Refuse { incarnation, refusal });
+                self.outbox.replace_first(
+                    peer,
+                    Frame::Refuse {
+                        incarnation,
+                        refusal,
+                    },
+                );
                 Ok(Reply::Refused(refusal, self.outbox.take_frames()))
             }
             Err(fault) => decline(&mut self.outbox, fault),

@@ -16,6 +16,6 @@ returns-clause-reply c e found =
     let len : c.len-2.result ≡ length c.in-Ok.kept.items = grind (arith, c.len-2.ensures) in
     let slice : c.deref.result.now ≡ c.in-Ok.kept.items = grind (arith, c.deref.ensures.value) in
     let sent = resumed e c.at.result.now.image c.at-2.result.now.image c.args.frame.now c.in-Ok.kept.items c.deref.result.now c.len-2.result c.unacked.result
-        (take (length c.deref.result.now - (c.len-2.result - c.unacked.result)) (drop (c.len-2.result - c.unacked.result) c.deref.result.now))
-        c.requires.hello (c.requires.ok e found) first image c.in-Ok.ensures.frames slice len c.unacked.ensures refl in
+    (take (length c.deref.result.now - (c.len-2.result - c.unacked.result)) (drop (c.len-2.result - c.unacked.result) c.deref.result.now))
+    c.requires.hello (c.requires.ok e found) first image c.in-Ok.ensures.frames slice len c.unacked.ensures refl in
     rw (c.reply_with.ensures, c.address.ensures, sent, c.take_in-changed.ensures.changes e found) refl

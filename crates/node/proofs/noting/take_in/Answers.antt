@@ -11,5 +11,5 @@ pub returns-else-is_closed-clause-changes : goal.returns-else-is_closed-clause-c
 returns-else-is_closed-clause-changes c e found =
     let image = seen c.args.outbox.now.mail c.receive.new.self.mail c.args.peer c.args.frame.now e c.at-end.result.now.image found c.receive.ensures c.at-end.ensures in
     open_shown e c.at.result.now.image c.at-end.result.now.image c.args.frame.now c.unacked.result c.unacked-before.result (c.requires.ok e found) image
-        (same_end c.args.outbox.now.mail c.args.peer c.at.result.now.image e c.at.ensures found) (sym c.is_closed.ensures ∙ c.if-is_closed.false)
-        c.unacked.ensures c.unacked-before.ensures
+    (same_end c.args.outbox.now.mail c.args.peer c.at.result.now.image e c.at.ensures found) (sym c.is_closed.ensures ∙ c.if-is_closed.false)
+    c.unacked.ensures c.unacked-before.ensures

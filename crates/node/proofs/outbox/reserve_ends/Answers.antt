@@ -10,13 +10,20 @@ use Rattle.node.proofs.outbox.reserve_ends.Goals as goal
 
 pub returns-in_err-reserve_end-clause-answer : goal.returns-in_err-reserve_end-clause-answer
 returns-in_err-reserve_end-clause-answer c =
-    grind (arith, one_lacks (images c.args.ends.now.items) c.args.posts.now c.loop-peer.peer, c.loop-peer.invariant.same, c.reserve_end.ensures.answer,
-        c.count_for.ensures, c.in_err-reserve_end.was, c.from_residual.ensures)
+    grind (
+      arith,
+      one_lacks (images c.args.ends.now.items) c.args.posts.now c.loop-peer.peer,
+      c.loop-peer.invariant.same,
+      c.reserve_end.ensures.answer,
+      c.count_for.ensures,
+      c.in_err-reserve_end.was,
+      c.from_residual.ensures,
+    )
 
 pub loop-peer-preserved : goal.loop-peer-preserved
 loop-peer-preserved c =
     let here : lacks_at c.loop-peer.peer (count_for c.loop-peer.peer c.args.posts.now) (images c.args.ends.now.items) ≡ false =
-        grind (arith, c.loop-peer.invariant.same, c.reserve_end.ensures.answer, c.count_for.ensures, c.in_ok-reserve_end.was) in
+    grind (arith, c.loop-peer.invariant.same, c.reserve_end.ensures.answer, c.count_for.ensures, c.in_ok-reserve_end.was) in
     record {
       same = c.reserve_end.ensures.images ∙ c.loop-peer.invariant.same;
       room = room_more (images c.args.ends.now.items) c.args.posts.now c.loop-peer.peer c.loop-peer.invariant.room here;
@@ -28,7 +35,7 @@ loop-peer-preserved c =
 pub returns-clause-answer : goal.returns-clause-answer
 returns-clause-answer c _ =
     let each : (p : ℕ) → lacks_at p (count_for p c.args.posts.now) (images c.args.ends.now.items) ≡ false =
-        λ p. grind (arith, c.loop-peer.invariant.room p, slice_get_past (images c.args.ends.now.items) p, c.loop-peer-test.false, c.len-peer-end.ensures, length-map) in
+    λ p. grind (arith, c.loop-peer.invariant.room p, slice_get_past (images c.args.ends.now.items) p, c.loop-peer-test.false, c.len-peer-end.ensures, length-map) in
     let none = room_for_all (images c.args.ends.now.items) c.args.posts.now each in
     grind (arith, none)
 

@@ -16,9 +16,9 @@ take-requires-clause-in_turn g c e found =
 pub returns-in_default-clause-ended : goal.returns-in_default-clause-ended
 returns-in_default-clause-ended g c e found =
     let other : (i n : ℕ) (signal : Signal) → c.args.frame.now ≡ Frames.Data i n signal → c.args.arrival ≡ Arrivals.Signal → ⊥ =
-        elim c.in_default.branch [
-          in_default-via-in-Data+in_default w ↦ λ i n signal frame arrival. grind (arith, w.in_default)
-        | in_default-via-in_default w ↦ λ i n signal frame arrival. grind (arith, w.in_default)
-        ] in
+    elim c.in_default.branch [
+      | in_default-via-in-Data+in_default w ↦ λ i n signal frame arrival. grind (arith, w.in_default)
+      | in_default-via-in_default w ↦ λ i n signal frame arrival. grind (arith, w.in_default)
+    ] in
     noted_ended g.N.Node.core c.args.self.now c.self.inside.node c.self.inside.outbox.mail c.note.new.outbox.mail c.args.peer e c.args.frame.now c.args.arrival
-        c.note.result c.self.view_is found other c.note.ensures.reply c.note.ensures.received
+    c.note.result c.self.view_is found other c.note.ensures.reply c.note.ensures.received
