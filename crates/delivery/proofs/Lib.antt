@@ -4,5 +4,9 @@ pub mod Places
 pub mod Ways
 -- One direction as either side does something.
 pub mod Carried
--- And whatever both sides do.
+-- Each act keeps both directions.
 pub mod Taken
+-- A side that forgot all.
+pub mod Forgotten
+-- Both sides, whatever they do, and whether or not the second forgot all.
+pub mod Acts

@@ -16,7 +16,7 @@ use Rattle.delivery.specs.Link.{Side, notes, hears, gets, side_after, Gets, Offe
 use Rattle.delivery.proofs.Places.{length_of_rest}
 use Rattle.delivery.proofs.Carried.{IsLinked, linked_back, linked_says, linked_offers, linked_acknowledges, linked_closes, linked_takes, linked_repeats, linked_resends, linked_greets}
 
-at_place : (P : Frame → Type 0) (xs : List Frame) (k : ℕ) (x : Frame) → AllByRecursion P xs → slice_get xs k ≡ Some x → P x
+pub at_place : (P : Frame → Type 0) (xs : List Frame) (k : ℕ) (x : Frame) → AllByRecursion P xs → slice_get xs k ≡ Some x → P x
 at_place P [] k x a e = cc
 at_place P (y ∷ ys) zero x a e = let same : y ≡ x = cc in subst P same a.0
 at_place P (y ∷ ys) (suc k) x a e = at_place P ys k x a.1 e
@@ -60,7 +60,7 @@ refuse_heard i s r k n is_taken false closed l = l
 refuse_heard i s r k n is_taken true true l = l
 refuse_heard i s r k n is_taken true false l = linked_closes i s r l
 
-own_hello : (i k f g : ℕ) → (nat_eq k i && nat_eq f g) ≡ true → k ≡ i
+pub own_hello : (i k f g : ℕ) → (nat_eq k i && nat_eq f g) ≡ true → k ≡ i
 own_hello i k f g h = grind (arith, nat_tests)
 
 at_most_by_test : (a b : ℕ) → nat_le a b ≡ true → a ≤ b
@@ -78,21 +78,13 @@ gets_keeps i s r None place is_taken e l = l
 gets_keeps i s r (Some frame) place is_taken e l = heard i s r frame is_taken (at_place (IsSaid i (offered_in i r.sent) r.end.taken) r.sent place frame l.back.said e) l
 
 -- each act keeps both directions
-act_keeps : (i : ℕ) (s r : Side) (act : Act) → IsLinked i s r → IsLinked i (side_after s r.sent act) r
+pub act_keeps : (i : ℕ) (s r : Side) (act : Act) → IsLinked i s r → IsLinked i (side_after s r.sent act) r
 act_keeps i s r (Gets place is_taken) l = gets_keeps i s r (slice_get r.sent place) place is_taken refl l
 act_keeps i s r (Offers signals) l = linked_offers i s r signals l
 act_keeps i s r Resends l = linked_resends i s r l
 act_keeps i s r Greets l = linked_greets i s r l
 act_keeps i s r (Closes number) l = linked_says i (record s { end = after_close s.end }) r (Refuse s.end.incarnation number ∷ []) (refl, tt) (tt, tt) (linked_closes i s r l)
 act_keeps i s r (TurnsAway incarnation number) l = linked_says i s r (Refuse incarnation number ∷ []) (refl, tt) (tt, tt) l
-
-pub acts_keep : (i : ℕ) (l : Link) (acts : List At) → IsLinked i l.first l.second → IsLinked i (after_acts l acts).first (after_acts l acts).second
-acts_keep i l [] k = k
-acts_keep i l (First act ∷ earlier) k = act_keeps i (after_acts l earlier).first (after_acts l earlier).second act (acts_keep i l earlier k)
-acts_keep i l (Second act ∷ earlier) k =
-    let before = acts_keep i l earlier k in
-    let last = after_acts l earlier in
-    linked_back i (side_after last.second last.first.sent act) last.first (act_keeps i last.second last.first act (linked_back i last.first last.second before))
 
 -- a link of which nothing was asked yet
 pub fresh_is_linked : (i f g room other : ℕ) → IsLinked i (fresh (blank f i room)) (fresh (blank g i other))
@@ -104,37 +96,24 @@ fresh_is_linked i f g room other =
       back = record { kept_is = refl; acknowledged_taken = omega arith; taken_offered = omega arith; took_is = refl; said = tt };
     }
 
-pub link_is_linked : (federate incarnation room : ℕ) (acts : List At) → IsLinked incarnation (after_acts (opening_link federate incarnation room) acts).first (after_acts (opening_link federate incarnation room) acts).second
-link_is_linked federate incarnation room acts = acts_keep incarnation (opening_link federate incarnation room) acts (fresh_is_linked incarnation federate federate room room)
-
-in_order : (i : ℕ) (s r : Side) → IsLinked i s r → IsTakenInOrder i s r
+pub in_order : (i : ℕ) (s r : Side) → IsLinked i s r → IsTakenInOrder i s r
 in_order i s r l = record { offered = l.out.taken_offered; in_order = l.out.took_is }
 
-pub taken_by_second : (federate incarnation room : ℕ) (acts : List At) → IsTakenInOrder incarnation (after_acts (opening_link federate incarnation room) acts).first (after_acts (opening_link federate incarnation room) acts).second
-taken_by_second federate incarnation room acts =
-    let l = after_acts (opening_link federate incarnation room) acts in
-    in_order incarnation l.first l.second (link_is_linked federate incarnation room acts)
-
-pub taken_by_first : (federate incarnation room : ℕ) (acts : List At) → IsTakenInOrder incarnation (after_acts (opening_link federate incarnation room) acts).second (after_acts (opening_link federate incarnation room) acts).first
-taken_by_first federate incarnation room acts =
-    let l = after_acts (opening_link federate incarnation room) acts in
-    in_order incarnation l.second l.first (linked_back incarnation l.first l.second (link_is_linked federate incarnation room acts))
-
 -- nobody is told of what was never offered
-told_offered : (arrived : Arrival) (own closed unsent : Bool) → (own ≡ true → unsent ≡ false) → (if own then (if closed then Err LinkFault.Closed else if unsent then Err LinkFault.AckOfUnsent else Ok arrived) else Err LinkFault.Stranger) ≢ Err LinkFault.AckOfUnsent
+pub told_offered : (arrived : Arrival) (own closed unsent : Bool) → (own ≡ true → unsent ≡ false) → (if own then (if closed then Err LinkFault.Closed else if unsent then Err LinkFault.AckOfUnsent else Ok arrived) else Err LinkFault.Stranger) ≢ Err LinkFault.AckOfUnsent
 told_offered arrived false closed unsent h = λ e. cc
 told_offered arrived true true unsent h = λ e. cc
 told_offered arrived true false true h = let never = h refl in cc
 told_offered arrived true false false h = λ e. cc
 
-signal_offered : (own closed le eq : Bool) → (if own then (if closed then Err LinkFault.Closed else if le then Ok arrival.Repeated else if eq then Ok arrival.Signal else Err LinkFault.Gap) else Err LinkFault.Stranger) ≢ Err LinkFault.AckOfUnsent
+pub signal_offered : (own closed le eq : Bool) → (if own then (if closed then Err LinkFault.Closed else if le then Ok arrival.Repeated else if eq then Ok arrival.Signal else Err LinkFault.Gap) else Err LinkFault.Stranger) ≢ Err LinkFault.AckOfUnsent
 signal_offered false closed le eq = λ e. cc
 signal_offered true true le eq = λ e. cc
 signal_offered true false true eq = λ e. cc
 signal_offered true false false true = λ e. cc
 signal_offered true false false false = λ e. cc
 
-refuse_offered : (own closed : Bool) → (if own then (if closed then Err LinkFault.Closed else Ok arrival.Closed) else Err LinkFault.Stranger) ≢ Err LinkFault.AckOfUnsent
+pub refuse_offered : (own closed : Bool) → (if own then (if closed then Err LinkFault.Closed else Ok arrival.Closed) else Err LinkFault.Stranger) ≢ Err LinkFault.AckOfUnsent
 refuse_offered false closed = λ e. cc
 refuse_offered true true = λ e. cc
 refuse_offered true false = λ e. cc
@@ -166,15 +145,5 @@ frame_tells i s r (Ack k n) said l =
     told_offered arrival.Acked (nat_eq k s.end.incarnation) s.end.closed (nat_lt (last_number s.end) n) (λ own. told_within i s r n (said (eqb-true k s.end.incarnation own ∙ l.here)) l)
 frame_tells i s r (Refuse k n) said l = refuse_offered (nat_eq k s.end.incarnation) s.end.closed
 
-tells_nothing : (i : ℕ) (s r : Side) → IsLinked i s r → TellsNothingUnsent s r
+pub tells_nothing : (i : ℕ) (s r : Side) → IsLinked i s r → TellsNothingUnsent s r
 tells_nothing i s r l place frame e = frame_tells i s r frame (at_place (IsSaid i (offered_in i r.sent) r.end.taken) r.sent place frame l.back.said e) l
-
-pub first_is_told : (federate incarnation room : ℕ) (acts : List At) → TellsNothingUnsent (after_acts (opening_link federate incarnation room) acts).first (after_acts (opening_link federate incarnation room) acts).second
-first_is_told federate incarnation room acts =
-    let l = after_acts (opening_link federate incarnation room) acts in
-    tells_nothing incarnation l.first l.second (link_is_linked federate incarnation room acts)
-
-pub second_is_told : (federate incarnation room : ℕ) (acts : List At) → TellsNothingUnsent (after_acts (opening_link federate incarnation room) acts).second (after_acts (opening_link federate incarnation room) acts).first
-second_is_told federate incarnation room acts =
-    let l = after_acts (opening_link federate incarnation room) acts in
-    tells_nothing incarnation l.second l.first (linked_back incarnation l.first l.second (link_is_linked federate incarnation room acts))

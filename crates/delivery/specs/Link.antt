@@ -1,4 +1,4 @@
--- A link in its first incarnation, with any nodes at its two ends: what may be done at one end, and what both have taken then.
+-- A link with any nodes at its two ends, of which the second may forget all: what may be done at one end, and what both have taken then.
 use Rattle.std.specs.Prelude.{◌≡◌, ◌≢◌, ℕ, ◌+◌, ◌≤◌, length, take, Bool, true, false, if◌then◌else◌, List, [], ◌∷◌, ◌++◌, slice_get, Option, None, Some, Result, Ok, Err}
 use Rattle.signal.specs.declared.signal.Signal.{Signal}
 use Rattle.signal.specs.declared.frame.Frame.{Frame}
@@ -89,18 +89,20 @@ pub record Link : Type 0 where
   pub first : Side
   pub second : Side
 
--- the other way round
-abbrev pub turned : Link → Link
-turned l = record { first = l.second; second = l.first }
+-- a blank side in place of this one, with the next incarnation; what was sent stays
+abbrev pub replaced : Side → Side
+replaced s = record { end = blank s.end.federate (s.end.incarnation + 1) s.end.room; sent = s.sent; took = [] }
 
--- an act at the first side, or at the second
+-- an act at the first side, or at the second; or the second one forgets all
 pub data At : Type 0 where
   First : (act : Act) → At
   Second : (act : Act) → At
+  Forgets : At
 
 abbrev pub link_after : Link → At → Link
 link_after l (First act) = record { first = side_after l.first l.second.sent act; second = l.second }
 link_after l (Second act) = record { first = l.first; second = side_after l.second l.first.sent act }
+link_after l Forgets = record { first = l.first; second = replaced l.second }
 
 -- after acts, newest first
 abbrev pub after_acts : Link → List At → Link

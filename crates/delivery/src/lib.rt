@@ -34,10 +34,12 @@ pub fn a_direction_says_what_it_offered()
 {}
 
 /// Whatever is done at both sides of a link, in whatever order, what each took is what the other offered, in order, up to the number
-/// that it took: also where an end is closed. And no frame tells of signals taken that were never offered.
+/// that it took: also where an end is closed, and where the second side forgot all and began another incarnation, in which it takes
+/// nothing. And no frame tells of signals taken that were never offered.
 pub fn what_is_taken_was_offered()
     ensures by_second { (federate incarnation room : ℕ) (acts : List At) →
-        IsTakenInOrder incarnation (after_acts (opening_link federate incarnation room) acts).first (after_acts (opening_link federate incarnation room) acts).second }
+        IsTakenInOrder (after_acts (opening_link federate incarnation room) acts).second.end.incarnation
+        (after_acts (opening_link federate incarnation room) acts).first (after_acts (opening_link federate incarnation room) acts).second }
     ensures by_first { (federate incarnation room : ℕ) (acts : List At) →
         IsTakenInOrder incarnation (after_acts (opening_link federate incarnation room) acts).second (after_acts (opening_link federate incarnation room) acts).first }
     ensures first_is_told { (federate incarnation room : ℕ) (acts : List At) →

@@ -1,4 +1,4 @@
-use Rattle.delivery.proofs.Taken.{taken_by_second, taken_by_first, first_is_told, second_is_told}
+use Rattle.delivery.proofs.Acts.{taken_by_second, taken_by_first, first_is_told, second_is_told}
 use Rattle.delivery.proofs.what_is_taken_was_offered.Goals as goal
 
 pub returns-clause-by_second : goal.returns-clause-by_second
