@@ -1,5 +1,5 @@
 -- What holds of the bytes that were read holds of the file, where its bytes are known.
-use Rattle.std.proofs.Common.{◌≡◌, ◌⊎◌, ◌∙◌, ℕ, List, Option, None, Some, IfSome, inl, inr, ap, refl, subst}
+use Rattle.std.proofs.Common.{◌≡◌, ◌⊎◌, ℕ, List, Option, None, Some, IfSome, inl, inr, ap, refl, subst}
 use Rattle.std.specs.Borrow.{Bor}
 use Rattle.loadfed.specs.declared.fault.LoadFault.{LoadFault}
 use Rattle.loadfed.specs.declared.fault.LoadFault.TheVariants.{Memory}

@@ -47,7 +47,7 @@ fn joined(alloc: Global, parts: &[&str]) -> Option<String> {
 }
 
 /// What the words give over two files, each of parts.
-fn outcome<R: AllocGlobal>(
+fn outcome_of<R: AllocGlobal>(
     rt: &R,
     words: &[&str],
     federation: &[&str],
@@ -72,7 +72,7 @@ fn prints<R: AllocGlobal>(
     inputs: &[&str],
     text: &str,
 ) -> bool {
-    match outcome(rt, words, federation, inputs) {
+    match outcome_of(rt, words, federation, inputs) {
         Some(outcome) => outcome.is(0, text, ""),
         None => false,
     }
@@ -87,7 +87,7 @@ fn tells<R: AllocGlobal>(
     status: u8,
     line: &str,
 ) -> bool {
-    match outcome(rt, words, federation, inputs) {
+    match outcome_of(rt, words, federation, inputs) {
         Some(outcome) => outcome.is(status, "", line),
         None => false,
     }

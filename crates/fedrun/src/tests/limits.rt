@@ -2,7 +2,7 @@
 //! memory for a file.
 use super::federations::{CONNECTION, RECEIVER, SENDER};
 use super::files::NoMemory;
-use super::{given, joined, outcome};
+use super::{given, joined, outcome_of};
 use crate::command::command;
 use std::alloc::Global;
 
@@ -18,7 +18,7 @@ fn repeated(alloc: Global, text: &str, count: usize) -> Option<String> {
 /// What `whole` answers on a federation file and input file of parts, where no row is asked for.
 fn status<R: AllocGlobal>(rt: &R, federation: &[&str], inputs: &[&str]) -> Option<(u8, bool)> {
     let words = ["whole", "fed.toml", "in.toml", "0"];
-    let outcome = outcome(rt, &words, federation, inputs)?;
+    let outcome = outcome_of(rt, &words, federation, inputs)?;
     let is_over = outcome.err.as_slice() == b"fedrun: 36 OverLimit\n".as_slice();
     Some((outcome.status, is_over))
 }

@@ -3,7 +3,7 @@ use crate::files::{FileFault, Files};
 use crate::machine::{MachineFiles, read_to_end};
 use std::alloc::Global;
 use std::io::{ErrorKind, Read};
-use std::{fs, io};
+use std::{fs, io, rt};
 
 /// A reader that is interrupted before each piece, gives so many bytes, and then ends, or fails with an error of this kind.
 #[derive(Drop)]
@@ -81,18 +81,32 @@ fn reads_to_the_end(rt: HostRuntime) {
 }
 
 /// How many bytes of a file of the machine's are read, at most so many.
-fn read_file<F: Files>(files: &mut F, name: &str, most: usize) -> Result<usize, FileFault> {
+fn read_file<R: rt::Files + AllocGlobal>(
+    rt: &R,
+    name: &str,
+    most: usize,
+) -> Result<usize, FileFault> {
+    let mut files = MachineFiles::new(rt);
     let bytes = files.bytes(name, most)?;
     Ok(bytes.len())
 }
 
+/// Whether a file of five bytes is read, at most so many or one less, and one that isn't there is not.
+fn are_files_read<R: rt::Files + AllocGlobal>(rt: &R) -> bool {
+    let name = "five_bytes";
+    let is_written = fs::write(rt, name, "bytes").is_ok();
+    let five = read_file(rt, name, 5);
+    let four = read_file(rt, name, 4);
+    let is_removed = fs::remove_file(rt, name).is_ok();
+    let none = read_file(rt, name, 5);
+    is_written
+        && is_removed
+        && five == Ok(5)
+        && four == Err(FileFault::OverLimit)
+        && none == Err(FileFault::Unreadable)
+}
+
 #[test]
 fn reads_files_of_the_machine(rt: HostRuntime) {
-    let name = "five_thousand_bytes";
-    assert!(rt; fs::write(&rt, name, [b'x'; 5_000]).is_ok());
-    let mut files = MachineFiles::new(&rt);
-    assert!(rt; read_file(&mut files, name, 5_000) == Ok(5_000));
-    assert!(rt; read_file(&mut files, name, 4_999) == Err(FileFault::OverLimit));
-    assert!(rt; read_file(&mut files, "no_such_file", 5_000) == Err(FileFault::Unreadable));
-    assert!(rt; fs::remove_file(&rt, name).is_ok());
+    assert!(rt; are_files_read(&rt));
 }

@@ -1,4 +1,4 @@
-use Rattle.std.proofs.Common.{◌≡◌, ◌⊎◌, inl, inr}
+use Rattle.std.proofs.Common.{inr}
 use Rattle.std.proofs.lemmas.Result.{IfErr-weaker, on_ok_weaker}
 use Rattle.fedrun.specs.Refused.{IsFaultOf, IsPrintFault}
 use Rattle.fedrun.specs.declared.words.Request.TheVariants.{Check}

@@ -1,4 +1,4 @@
-use Rattle.std.proofs.Common.{rules, ◌≡◌}
+use Rattle.std.proofs.Common.{rules}
 use Rattle.loadfed.specs.InputShape.{HasInputFileFault}
 use Rattle.fedrun.specs.Loaded.{AreBytesOf, input_file}
 use Rattle.fedrun.proofs.KnownFiles.{refused_file}

@@ -1,4 +1,3 @@
-use Rattle.std.proofs.Common.{rules, ◌≡◌}
 use Rattle.loadfed.specs.Loaded.{HasLoadFault}
 use Rattle.fedrun.proofs.KnownFiles.{refused_file}
 use Rattle.fedrun.proofs.command.loaded.Goals as goal

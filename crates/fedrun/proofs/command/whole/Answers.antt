@@ -1,4 +1,4 @@
-use Rattle.std.proofs.Common.{◌≡◌, ◌⊎◌, inl, inr, subst}
+use Rattle.std.proofs.Common.{inr, subst}
 use Rattle.std.proofs.lemmas.Result.{IfErr-weaker, on_ok_weaker}
 use Rattle.fedrun.specs.Loaded.{input_file, RecordsInputs}
 use Rattle.fedrun.specs.Refused.{IsFaultOf, IsRunFault}
