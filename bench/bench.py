@@ -118,6 +118,17 @@ def wide(federates, fan=16):
     return text, ""
 
 
+def layers(federates):
+    """Each federate of the upper half gets something from each of the lower half, without delay."""
+    half = federates // 2
+    ports = [f"x{k}" for k in range(half)]
+    sums = [f"s0 = s0 + in.{x}" for x in ports]
+    text = until(0)
+    text += "".join(federate(f"a{j}", [(["startup"], ["out.y = 1"])], outputs=["y"]) for j in range(half))
+    text += "".join(federate(f"b{j}", [(ports, sums)], inputs=ports, states=1) for j in range(half))
+    return text + "".join(connection(f"a{k}.y", f"b{j}.x{k}") for j in range(half) for k in range(half)), ""
+
+
 def inputs(count):
     reactions = [(["p"], ["s0 = s0 + in.p", "out.y = s0"])]
     text = until(count) + federate("f0", reactions, outputs=["y"], physical=["p"], states=1)
@@ -134,13 +145,14 @@ CASES = {
     "ring": (ring, 1_000, 4_096_000, "steps of a value round 16 federates"),
     "heavy": (heavy, 16, 65_536, "ticks, 4096 lines each"),
     "wide": (wide, 4, 64, "federates, 16 connections each"),
+    "layers": (layers, 4, 64, "federates, each of one half connected to each of the other"),
     "inputs": (inputs, 1_024, 65_536, "recorded inputs"),
 }
 
 # name: from the files of federation and inputs to the words, and which cases are for it
 MODES = {
     "whole": (lambda fed, recorded: ["whole", fed, recorded, ALL_TURNS], list(CASES)),
-    "check": (lambda fed, recorded: ["check", fed], ["chain", "diamond", "ring", "wide"]),
+    "check": (lambda fed, recorded: ["check", fed], ["wide", "layers"]),
 }
 
 
