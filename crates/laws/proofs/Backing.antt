@@ -9,6 +9,7 @@ use Rattle.tag.proofs.SumLaws.{sum_monotone_left, sum_monotone_right, sum_twice_
 use Rattle.network.specs.Connection.{Connection}
 use Rattle.network.specs.Network.{Network}
 use Rattle.network.specs.Tables.{Table, IsWithin, IsTable}
+use Rattle.network.proofs.Tables.{within_found}
 use Rattle.protocol.specs.Federate.{is_past}
 use Rattle.protocol.specs.Standing.{Standing, after_message, after_grant}
 use Rattle.protocol.specs.Coordinator.{with_standing}
@@ -95,10 +96,6 @@ safe_is_backed n table standings j tag h =
       | inr p ↦ inr (connections_hold n standings j tag p)
     ]
 
-within_at : (o : Option LogicalTime) (bound : LogicalTime) → IsWithin o bound → (d : LogicalTime) × (o ≡ Some d) × (is_at_most d bound ≡ true)
-within_at None bound h = absurd h
-within_at (Some d) bound h = (d, refl, h)
-
 if_some_at : (o : Option LogicalTime) (d : LogicalTime) (P : LogicalTime → Type 0) → o ≡ Some d → IfSome o P → P d
 if_some_at None d P e h = cc
 if_some_at (Some x) d P e h = let same : x ≡ d = cc in subst P same h
@@ -111,7 +108,7 @@ lesser_cases P g h false p q = q
 pub message_is_past : (n : Network) (table : Table) (standings : ℕ → Standing) (k : ℕ) (c : Connection) (s : LogicalTime) (o : Option LogicalTime) → IsTable n table → slice_get n.connections k ≡ Some c → c.source < n.reactors → is_at_most (standings c.source).next s ≡ true → is_at_most (after_completed (standings c.source).completed) s ≡ true → IsBacked n table standings c.target o → is_past o (sum_of s c.delay) ≡ true
 message_is_past n table standings k c s None t e l m a b = refl
 message_is_past n table standings k c s (Some g) t e l m a (inl h) =
-    let w = within_at (table c.source c.target) c.delay (all_at (λ x. IsWithin (table x.source x.target) x.delay) n.connections k c t.direct e) in
+    let w = within_found (table c.source c.target) c.delay (all_at (λ x. IsWithin (table x.source x.target) x.delay) n.connections k c t.direct e) in
     let first = h c.source w.0 l w.1 in
     let second = sum_monotone_left (standings c.source).next s w.0 m in
     let third = sum_monotone_right s w.0 c.delay w.2 in
@@ -127,7 +124,7 @@ message_keeps_backing n table standings k c s j (Some g) t e l m (inl h) =
     let arrives : table c.target j ≡ Some d → is_before g (sum_of (sum_of s c.delay) d) ≡ true = λ q. (
     let on = if_some_at (table c.target j) d (λ rest. IsWithin (table c.source j) (sum_of c.delay rest)) q
     (all_at (λ x. IfSome (table x.target j) (λ rest. IsWithin (table x.source j) (sum_of x.delay rest))) n.connections k c (t.onward j) e) in
-    let w = within_at (table c.source j) (sum_of c.delay d) on in
+    let w = within_found (table c.source j) (sum_of c.delay d) on in
     let first = before_then g (sum_of (standings c.source).next w.0) (sum_of s w.0) (h c.source w.0 l w.1) (sum_monotone_left (standings c.source).next s w.0 m) in
     let second = before_then g (sum_of s w.0) (sum_of s (sum_of c.delay d)) first (sum_monotone_right s w.0 (sum_of c.delay d) w.2) in
     before_then g (sum_of s (sum_of c.delay d)) (sum_of (sum_of s c.delay) d) second (sum_twice_at_least s c.delay d)) in

@@ -1,5 +1,5 @@
 -- Chains of pending events: none leads to a tag that its last federate has completed.
-use Rattle.std.proofs.Common.{◌≡◌, ℕ, ◌+◌, ◌≤◌, inl, inr, true, List, [], ◌∷◌, refl, sym, subst, arith, Option, None, Some}
+use Rattle.std.proofs.Common.{◌≡◌, ℕ, ◌+◌, ◌≤◌, inl, inr, true, List, [], ◌∷◌, refl, sym, subst, arith, Option, Some}
 use Rattle.std.specs.Prelude.{Contains}
 use Rattle.tag.specs.LogicalTime.{LogicalTime, IsLogicalTime, is_before, is_at_most, sum_of, place}
 use Rattle.tag.proofs.Order.{before_places, before_then}
@@ -8,10 +8,11 @@ use Rattle.tag.proofs.Paths.{plain_is_logical}
 use Rattle.network.specs.Connection.{Connection, then_along, total_of, IsWalk}
 use Rattle.network.specs.Network.{Network}
 use Rattle.network.specs.Lawful.{IsLawful}
-use Rattle.network.specs.Tables.{Table, IsTable, IsWithin}
+use Rattle.network.specs.Tables.{Table, IsTable}
 use Rattle.network.proofs.Walks as walks
 use Rattle.network.proofs.Walks.{sum_before_along}
 use Rattle.network.proofs.Lawful.{contained_is, plain_of}
+use Rattle.network.proofs.Tables.{within_found}
 use Rattle.protocol.specs.Standing.{Standing}
 use Rattle.protocol.specs.Grant.{after_completed}
 use Rattle.laws.proofs.Tags.{IsOptional, above, after_completed_least}
@@ -29,10 +30,6 @@ IsAhead n j k s tag = (c : Connection) (rest : List Connection) → IsWalk n.con
 
 pub along_is_logical : (n : Network) (i j : ℕ) (g : LogicalTime) (path : List Connection) → IsLawful n → IsLogicalTime g → IsWalk n.connections i path j → IsLogicalTime (then_along g path)
 along_is_logical n i j g path lawful p w = walks.along_is_logical n.connections i path j g (plain_of n lawful) w p
-
-within_found : (o : Option LogicalTime) (bound : LogicalTime) → IsWithin o bound → (d : LogicalTime) × (o ≡ Some d) × (is_at_most d bound ≡ true)
-within_found None bound h = absurd h
-within_found (Some d) bound h = (d, refl, h)
 
 -- over paths: what comes from a tag at or after the next one
 ahead_by_paths : (n : Network) (table : Table) (standings : ℕ → Standing) (k j : ℕ) (s tag : LogicalTime) (c : Connection) (rest : List Connection) → IsLawful n → IsTable n table → is_at_most (standings k).next s ≡ true → HoldsByPaths n table standings j tag → IsWalk n.connections k (c ∷ rest) j → is_before tag (then_along s (c ∷ rest)) ≡ true

@@ -19,6 +19,7 @@ use Rattle.order.proofs.Maker.{maker}
 use Rattle.signal.specs.declared.signal.Signal.{Signal}
 use Rattle.signal.specs.declared.signal.Signal.TheVariants.{Net, Ltc, Tag, Msg}
 use Rattle.network.specs.Undone.{Held, look}
+use Rattle.network.proofs.Walks.{along-snoc}
 use Rattle.protocol.specs.Federate.{is_past}
 use Rattle.protocol.specs.Grant.{Rule, IsSafeRule}
 use Rattle.protocol.specs.Machine.{Member, after_moves}
@@ -114,16 +115,12 @@ walk_on : (all : List Connection) (k : ℕ) (path : List Connection) (c : Connec
 walk_on all k [] c within w = (within, sym w, refl)
 walk_on all k (d ∷ rest) c within w = (w.0, w.1, walk_on all d.target rest c within w.2)
 
-along_on : (s : LogicalTime) (path : List Connection) (c : Connection) → then_along s (path ++ c ∷ []) ≡ sum_of (then_along s path) c.delay
-along_on s [] c = refl
-along_on s (d ∷ rest) c = along_on (sum_of s d.delay) rest c
-
 -- what is settled behind a connection is settled in front of it
 settled_along : (n : Network) (members : ℕ → Member) (s : LogicalTime) (c : Connection) → Contains n.connections c → IsSettled n members c.target (sum_of s c.delay) → IsSettled n members c.source s
 settled_along n members s c within settled k u path p w =
     true_from_ne_false (is_before s (then_along u path)) (λ late. (
     let P : LogicalTime → Type 0 = λ x. is_before (sum_of s c.delay) x ≡ true in
-    let on : is_before (sum_of s c.delay) (sum_of (then_along u path) c.delay) ≡ true = subst P (along_on u path c) (settled k u (path ++ c ∷ []) p (walk_on n.connections k path c within w)) in
+    let on : is_before (sum_of s c.delay) (sum_of (then_along u path) c.delay) ≡ true = subst P (along-snoc u path c) (settled k u (path ++ c ∷ []) p (walk_on n.connections k path c within w)) in
     let low = sum_monotone_left (then_along u path) s c.delay ((at_most_by_before (then_along u path) s).1 late) in
     let not = not_before (sum_of s c.delay) (sum_of (then_along u path) c.delay) low in
     cc))

@@ -7,7 +7,7 @@ use Rattle.std.proofs.lemmas.List.Elements.{All-filter}
 use Rattle.std.proofs.lemmas.List.Kept.{AllPairs-cons, AllPairs-filter}
 use Rattle.std.proofs.lemmas.Bool.{eqb-true}
 use Rattle.tag.specs.LogicalTime.{LogicalTime, IsLogicalTime, IsFinite, is_before, is_at_most, is_same, forever}
-use Rattle.tag.proofs.Order.{finite_is_logical, origin_is_logical}
+use Rattle.tag.proofs.Order.{finite_is_logical, origin_is_logical, before_transitive}
 use Rattle.network.specs.Connection.{Connection}
 use Rattle.network.specs.Network.{Network}
 use Rattle.network.specs.Tables.{Table}
@@ -26,7 +26,7 @@ use Rattle.protocol.specs.Machine.{sent_to}
 use Rattle.protocol.specs.Alone.{IsStanding, is_of_step, is_sent_past, granted_by}
 use Rattle.laws.proofs.Transit.{lesser_is_tag}
 use Rattle.laws.proofs.Backing.{at_update}
-use Rattle.laws.proofs.Safety.{tag_if, sent-append, grants_sent}
+use Rattle.laws.proofs.Safety.{tag_if, sent-append, grants_sent, rule_grants}
 use Rattle.laws.proofs.Tests.{both_hold}
 
 -- tags that strictly rise
@@ -45,9 +45,6 @@ pairs_rising : (tags : List LogicalTime) → AllPairs IsBefore tags → IsRising
 pairs_rising [] a = tt
 pairs_rising (x ∷ rest) a = (each (IsBefore x) rest (first_pair IsBefore x rest a), pairs_rising rest (later_pairs IsBefore x rest a))
 
-before_twice : (g h k : LogicalTime) → is_before g h ≡ true → is_before h k ≡ true → is_before g k ≡ true
-before_twice g h k p q = grind (arith, nat_tests)
-
 before_else : (g h : LogicalTime) → is_before g h ≡ false → is_same g h ≡ false → is_before h g ≡ true
 before_else g h p q = grind (arith, nat_tests)
 
@@ -62,7 +59,7 @@ with_each P g [] p a = (p, tt)
 with_each P g (x ∷ rest) p a = with_if P g x rest (with_tag g rest) (is_before g x) (is_same g x) p a (with_each P g rest p a.1)
 
 rises_if : (g x : LogicalTime) (rest : List LogicalTime) (b c : Bool) → is_before g x ≡ b → is_same g x ≡ c → IsRising (x ∷ rest) → IsRising (with_tag g rest) → IsRising (if b then g ∷ x ∷ rest else (if c then x ∷ rest else x ∷ with_tag g rest))
-rises_if g x rest true c p q r m = ((p, each_more (IsBefore x) (IsBefore g) (λ y h. before_twice g x y p h) rest r.0), r)
+rises_if g x rest true c p q r m = ((p, each_more (IsBefore x) (IsBefore g) (λ y h. before_transitive g x y p h) rest r.0), r)
 rises_if g x rest false true p q r m = r
 rises_if g x rest false false p q r m = (with_each (IsBefore x) g rest (before_else g x p q) r.0, m)
 
@@ -172,11 +169,6 @@ signal_taken n standings i (Ltc g) all p =
 signal_taken n standings i (Tag g) all p = tt
 signal_taken n standings i (Msg k g v) all p = route_taken n standings i k g v (slice_get n.connections k) all p.1
 
--- then the TAGs go out
-ruled_by : (n : Network) (rule : Rule) (standings : ℕ → Standing) (j : ℕ) (g : LogicalTime) (b : Bool) → (if b then rule standings j else None) ≡ Some g → rule standings j ≡ Some g
-ruled_by n rule standings j g true e = e
-ruled_by n rule standings j g false e = cc
-
 -- what goes to one federate: a message at most, and a TAG at most
 abbrev IsSent : Option LogicalTime → Option LogicalTime → List Signal → Type 0
 IsSent before after sent = IsTrue (is_of_step sent) × IsTrue (is_sent_past before sent) × (after ≡ granted_by before sent)
@@ -205,7 +197,7 @@ AllInOrder standings o = IfDone o (λ made. (j : ℕ) → IsSent (standings j).g
 
 -- a TAG that goes out is safe
 tag_is_safe : (n : Network) (table : Table) (rule : Rule) (standings : ℕ → Standing) (made : Coordinated) (j : ℕ) (g : LogicalTime) → IsSafeRule n table rule → IsTaken standings made → grant_to n rule made.after j ≡ Some g → IsSafe n table made.after j g
-tag_is_safe n table rule standings made j g safe t e = safe made.after (λ i. (t.stands i).next) j g (ruled_by n rule made.after j g (nat_lt j n.reactors) e)
+tag_is_safe n table rule standings made j g safe t e = safe made.after (λ i. (t.stands i).next) j g (rule_grants n rule made.after j g (nat_lt j n.reactors) e)
 
 granted_stand : (n : Network) (table : Table) (rule : Rule) (standings : ℕ → Standing) (o : Outcome Coordinated) → IsSafeRule n table rule → IfDone o (IsTaken standings) → AllStand (with_made (with_grants n rule) o)
 granted_stand n table rule standings (Refused refusal) safe t = tt

@@ -3,11 +3,11 @@ use Rattle.std.proofs.Common.{◌≡◌, ℕ, ◌+◌, ◌<◌, Bool, true, fals
 use Rattle.std.specs.Prelude.{slice_get, filter, map, nat_eq, nat_lt, if◌then◌else◌, not, ◌&&◌, All, AllPairs}
 use Rattle.std.specs.List.{AllByRecursion, last_or}
 use Rattle.std.specs.Option.{option_map}
-use Rattle.std.proofs.lemmas.Bool.{false_from_ne_true, eqb-true}
+use Rattle.std.proofs.lemmas.Bool.{eqb-true}
 use Rattle.std.proofs.lemmas.Bool.Decides.{nat_tests}
 use Rattle.std.proofs.lemmas.List.Kept.{AllPairs-cons, AllPairs-filter}
-use Rattle.tag.specs.LogicalTime.{LogicalTime, IsLogicalTime, IsFinite, is_before, is_at_most, is_same, origin, sum_of}
-use Rattle.tag.proofs.Order.{before_then, finite_is_logical, same_is_equal, finite_is_not_forever}
+use Rattle.tag.specs.LogicalTime.{LogicalTime, IsLogicalTime, IsFinite, is_before, is_at_most, is_same, sum_of}
+use Rattle.tag.proofs.Order.{before_then, finite_is_logical, finite_is_not_forever, finite_up_to}
 use Rattle.tag.proofs.SumLaws.{sum_at_least_first, sum_is_logical, sum_later}
 use Rattle.tag.proofs.Paths.{plain_is_logical}
 use Rattle.network.specs.Connection.{Connection}
@@ -26,6 +26,7 @@ use Rattle.protocol.specs.declared.refusal.Refusal.TheVariants.{Late, OldGrant, 
 use Rattle.protocol.specs.Outcome.{Outcome, Refused, Nothing, Done, IfDone}
 use Rattle.protocol.specs.Federate.{Federate, Stepped, held_of, opening_federate, is_past, is_reached, is_told, next_event, accept_message, federate_accepts, federate_announces, advance_to, federate_advances, effect_of, scheduled_at, scheduled_by, messages_from, turn_at}
 use Rattle.protocol.specs.Alone.{IsStillToRun, IsFederate, is_of_turn, is_sent_after, completed_by}
+use Rattle.laws.proofs.Tags.{past_then}
 use Rattle.laws.proofs.Upward.{IsOver}
 use Rattle.laws.proofs.Turns.{AreMessages, messages_of_turn, all_first, all_rest}
 use Rattle.laws.proofs.Eligibility.{contains_at}
@@ -93,14 +94,6 @@ put_rises e (x ∷ rest) r = rises_if e x rest (is_held_before e x) (is_for_same
 put_all_rises : (es u : List Held) → IsRising u → IsRising (put_all es u)
 put_all_rises [] u r = r
 put_all_rises (e ∷ rest) u r = put_all_rises rest (put e u) (put_rises e u r)
-
--- tags
-past_later : (o : Option LogicalTime) (g h : LogicalTime) → is_past o g ≡ true → is_at_most g h ≡ true → is_past o h ≡ true
-past_later None g h p l = refl
-past_later (Some c) g h p l = before_then c g h p l
-
-finite_below : (g stop : LogicalTime) → IsLogicalTime g → IsFinite stop → is_at_most g stop ≡ true → IsFinite g
-finite_below g stop p f l = let a = f.time in record { time = grind (arith, nat_tests); microstep = p.microstep }
 
 -- the opening
 opens_if : (n : Network) (j : ℕ) (e : Event) (rest : List Event) (b : Bool) → (b ≡ true → IsStillToRun n j None (held_of e)) → AllByRecursion (IsStillToRun n j None) (map held_of (filter (λ x. nat_eq x.reactor j) rest)) → AllByRecursion (IsStillToRun n j None) (map held_of (cond b (e ∷ filter (λ x. nat_eq x.reactor j) rest) (filter (λ x. nat_eq x.reactor j) rest)))
@@ -232,7 +225,7 @@ turn_leaves n j f g lawful first reached k =
       undone = from_each (IsStillToRun n j (Some g)) (put_all more left)
           (put_all_each (IsStillToRun n j (Some g)) more left
           (each_filter (λ e. IsLogicalTime e.tag × IsTrue (is_before g e.tag) × (e.slot < n.slots j)) (IsStillToRun n j (Some g)) (λ e. is_at_most e.tag n.stop)
-          (λ e t h. record { finite = finite_below e.tag n.stop h.0 lawful.stop t; later = h.1; in_time = t; slot = h.2 })
+          (λ e t h. record { finite = finite_up_to e.tag n.stop h.0 lawful.stop t; later = h.1; in_time = t; slot = h.2 })
           (map (scheduled_at g) (effect_of n j f g).schedulings) own)
           (each_filter (IsStillToRun n j f.completed) (IsStillToRun n j (Some g)) (λ e. is_before g e.tag)
           (λ e t h. record { finite = h.finite; later = t; in_time = h.in_time; slot = h.slot }) f.undone undone));
@@ -294,7 +287,7 @@ over_later n j completed g t None tag past over = absurd over
 over_later n j completed g t (Some c) tag past over =
     let P : LogicalTime → Type 0 = λ x. is_past completed x ≡ true in
     let is_sum : t ≡ sum_of g c.delay = over.1 in
-    subst P (sym is_sum) (past_later completed g (sum_of g c.delay) past (sum_at_least_first g c.delay tag))
+    subst P (sym is_sum) (past_then completed g (sum_of g c.delay) past (sum_at_least_first g c.delay tag))
 
 turn_sends : (n : Network) (j : ℕ) (completed : Option LogicalTime) (g : LogicalTime) (xs : List Signal) → IsLogicalTime g → is_past completed g ≡ true → AreMessages n j g xs → IsTrue (is_of_turn (xs ++ Ltc g ∷ [])) × IsTrue (is_sent_after completed (xs ++ Ltc g ∷ [])) × (Some g ≡ completed_by completed (xs ++ Ltc g ∷ []))
 turn_sends n j completed g [] tag past h = (refl, both_hold (is_past completed g) true past refl, refl)

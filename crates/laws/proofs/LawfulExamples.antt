@@ -1,6 +1,8 @@
 -- The examples are lawful, and their tables are those of their least delays.
-use Rattle.std.proofs.Common.{◌≡◌, ◌≢◌, ℕ, zero, suc, ◌<◌, List, [], ◌∷◌, refl, ap, arith}
-use Rattle.std.specs.Prelude.{pos, All, AllPairs, Contains, IfSome}
+use Rattle.std.proofs.Common.{◌≡◌, ◌≢◌, ℕ, zero, suc, ◌<◌, [], ◌∷◌, refl, ap, arith}
+use Rattle.std.specs.Prelude.{pos, All, Contains, IfSome}
+use Rattle.std.proofs.lemmas.List.Elements.{All-nil, All-cons}
+use Rattle.std.proofs.lemmas.List.Kept.{AllPairs-cons}
 use Rattle.tag.specs.LogicalTime.{LogicalTime, origin, sum_of}
 use Rattle.network.specs.Connection.{Connection}
 use Rattle.network.specs.Event.{Event, outside}
@@ -8,25 +10,10 @@ use Rattle.network.specs.Examples.{at}
 use Rattle.network.specs.Lawful.{IsLawful, IsConnected, EndApart, IsExternal, FallApart, IsOwn}
 use Rattle.tag.specs.Total.{no_delay, some_delay}
 use Rattle.network.specs.Tables.{IsLeastTable, IsTable, IsWithin, IsAttained}
+use Rattle.order.proofs.Lists.{no_pairs}
 use Rattle.laws.specs.Ring.{ring, ring_table}
 use Rattle.laws.specs.WeakerRules.{two_microsteps, one_tag, both_ends, line_table}
 use Rattle.laws.proofs.FixedPoints.{fixed_point_is_least}
-
-all_nil : {X : Type 0} (P : X → Type 0) → All P []
-all_nil P k d l = absurd (omega arith)
-
-all_cons : {X : Type 0} (P : X → Type 0) (x : X) (xs : List X) → P x → All P xs → All P (x ∷ xs)
-all_cons P x xs p a zero d l = p
-all_cons P x xs p a (suc k) d l = a k d (omega arith)
-
-pairs_nil : {X : Type 0} (R : X → X → Type 0) → AllPairs R []
-pairs_nil R i j d l m = absurd (omega arith)
-
-pairs_cons : {X : Type 0} (R : X → X → Type 0) (x : X) (xs : List X) → All (R x) xs → AllPairs R xs → AllPairs R (x ∷ xs)
-pairs_cons R x xs a p zero zero d l m = absurd (omega arith)
-pairs_cons R x xs a p zero (suc j) d l m = a j d (omega arith)
-pairs_cons R x xs a p (suc i) zero d l m = absurd (omega arith)
-pairs_cons R x xs a p (suc i) (suc j) d l m = p i j d (omega arith) (omega arith)
 
 abbrev ring_0 : Connection
 ring_0 = record { source = 0; port = 0; target = 1; slot = 0; delay = at 0 0 }
@@ -48,15 +35,15 @@ ring_is_lawful = record {
   some_reactor = omega arith;
   few_reactors = omega arith;
   stop = record { time = omega arith; microstep = omega arith };
-  connected = all_cons (IsConnected ring) ring_0 (ring_1 ∷ ring_2 ∷ []) (record { source = omega arith; port = omega arith; target = omega arith; slot = omega arith; delay = no_delay }) (all_cons (IsConnected ring) ring_1 (ring_2 ∷ []) (record { source = omega arith; port = omega arith; target = omega arith; slot = omega arith; delay = no_delay }) (all_cons (IsConnected ring) ring_2 ([]) (record { source = omega arith; port = omega arith; target = omega arith; slot = omega arith; delay = (some_delay (5, omega arith, refl)) }) (all_nil (IsConnected ring))));
-  one_source = pairs_cons EndApart ring_0 (ring_1 ∷ ring_2 ∷ []) (all_cons (EndApart ring_0) ring_1 (ring_2 ∷ []) (λ e f. absurd (omega arith)) (all_cons (EndApart ring_0) ring_2 ([]) (λ e f. absurd (omega arith)) (all_nil (EndApart ring_0)))) (pairs_cons EndApart ring_1 (ring_2 ∷ []) (all_cons (EndApart ring_1) ring_2 ([]) (λ e f. absurd (omega arith)) (all_nil (EndApart ring_1))) (pairs_cons EndApart ring_2 ([]) (all_nil (EndApart ring_2)) (pairs_nil EndApart)));
-  ports_apart = all_cons (λ c. All (λ e. e.reactor ≡ c.target → e.slot ≢ c.slot) ring.external) ring_0 (ring_1 ∷ ring_2 ∷ []) (all_cons (λ e. e.reactor ≡ ring_0.target → e.slot ≢ ring_0.slot) ring_event_0 (ring_event_1 ∷ []) (λ a b. absurd (omega arith)) (all_cons (λ e. e.reactor ≡ ring_0.target → e.slot ≢ ring_0.slot) ring_event_1 ([]) (λ a b. absurd (omega arith)) (all_nil (λ e. e.reactor ≡ ring_0.target → e.slot ≢ ring_0.slot)))) (all_cons (λ c. All (λ e. e.reactor ≡ c.target → e.slot ≢ c.slot) ring.external) ring_1 (ring_2 ∷ []) (all_cons (λ e. e.reactor ≡ ring_1.target → e.slot ≢ ring_1.slot) ring_event_0 (ring_event_1 ∷ []) (λ a b. absurd (omega arith)) (all_cons (λ e. e.reactor ≡ ring_1.target → e.slot ≢ ring_1.slot) ring_event_1 ([]) (λ a b. absurd (omega arith)) (all_nil (λ e. e.reactor ≡ ring_1.target → e.slot ≢ ring_1.slot)))) (all_cons (λ c. All (λ e. e.reactor ≡ c.target → e.slot ≢ c.slot) ring.external) ring_2 ([]) (all_cons (λ e. e.reactor ≡ ring_2.target → e.slot ≢ ring_2.slot) ring_event_0 (ring_event_1 ∷ []) (λ a b. absurd (omega arith)) (all_cons (λ e. e.reactor ≡ ring_2.target → e.slot ≢ ring_2.slot) ring_event_1 ([]) (λ a b. absurd (omega arith)) (all_nil (λ e. e.reactor ≡ ring_2.target → e.slot ≢ ring_2.slot)))) (all_nil (λ c. All (λ e. e.reactor ≡ c.target → e.slot ≢ c.slot) ring.external))));
-  external = all_cons (IsExternal ring) ring_event_0 (ring_event_1 ∷ []) (record { reactor = omega arith; slot = omega arith; tag = record { time = omega arith; microstep = omega arith }; in_time = refl }) (all_cons (IsExternal ring) ring_event_1 ([]) (record { reactor = omega arith; slot = omega arith; tag = record { time = omega arith; microstep = omega arith }; in_time = refl }) (all_nil (IsExternal ring)));
-  external_apart = pairs_cons FallApart ring_event_0 (ring_event_1 ∷ []) (all_cons (FallApart ring_event_0) ring_event_1 ([]) (λ a b c. let t : 0 ≡ 5 = ap (λ (g : LogicalTime). g.time) a in absurd (omega arith)) (all_nil (FallApart ring_event_0))) (pairs_cons FallApart ring_event_1 ([]) (all_nil (FallApart ring_event_1)) (pairs_nil FallApart));
+  connected = All-cons (IsConnected ring) ring_0 (ring_1 ∷ ring_2 ∷ []) (record { source = omega arith; port = omega arith; target = omega arith; slot = omega arith; delay = no_delay }) (All-cons (IsConnected ring) ring_1 (ring_2 ∷ []) (record { source = omega arith; port = omega arith; target = omega arith; slot = omega arith; delay = no_delay }) (All-cons (IsConnected ring) ring_2 ([]) (record { source = omega arith; port = omega arith; target = omega arith; slot = omega arith; delay = (some_delay (5, omega arith, refl)) }) (All-nil (IsConnected ring))));
+  one_source = AllPairs-cons EndApart ring_0 (ring_1 ∷ ring_2 ∷ []) (All-cons (EndApart ring_0) ring_1 (ring_2 ∷ []) (λ e f. absurd (omega arith)) (All-cons (EndApart ring_0) ring_2 ([]) (λ e f. absurd (omega arith)) (All-nil (EndApart ring_0)))) (AllPairs-cons EndApart ring_1 (ring_2 ∷ []) (All-cons (EndApart ring_1) ring_2 ([]) (λ e f. absurd (omega arith)) (All-nil (EndApart ring_1))) (AllPairs-cons EndApart ring_2 ([]) (All-nil (EndApart ring_2)) (no_pairs EndApart)));
+  ports_apart = All-cons (λ c. All (λ e. e.reactor ≡ c.target → e.slot ≢ c.slot) ring.external) ring_0 (ring_1 ∷ ring_2 ∷ []) (All-cons (λ e. e.reactor ≡ ring_0.target → e.slot ≢ ring_0.slot) ring_event_0 (ring_event_1 ∷ []) (λ a b. absurd (omega arith)) (All-cons (λ e. e.reactor ≡ ring_0.target → e.slot ≢ ring_0.slot) ring_event_1 ([]) (λ a b. absurd (omega arith)) (All-nil (λ e. e.reactor ≡ ring_0.target → e.slot ≢ ring_0.slot)))) (All-cons (λ c. All (λ e. e.reactor ≡ c.target → e.slot ≢ c.slot) ring.external) ring_1 (ring_2 ∷ []) (All-cons (λ e. e.reactor ≡ ring_1.target → e.slot ≢ ring_1.slot) ring_event_0 (ring_event_1 ∷ []) (λ a b. absurd (omega arith)) (All-cons (λ e. e.reactor ≡ ring_1.target → e.slot ≢ ring_1.slot) ring_event_1 ([]) (λ a b. absurd (omega arith)) (All-nil (λ e. e.reactor ≡ ring_1.target → e.slot ≢ ring_1.slot)))) (All-cons (λ c. All (λ e. e.reactor ≡ c.target → e.slot ≢ c.slot) ring.external) ring_2 ([]) (All-cons (λ e. e.reactor ≡ ring_2.target → e.slot ≢ ring_2.slot) ring_event_0 (ring_event_1 ∷ []) (λ a b. absurd (omega arith)) (All-cons (λ e. e.reactor ≡ ring_2.target → e.slot ≢ ring_2.slot) ring_event_1 ([]) (λ a b. absurd (omega arith)) (All-nil (λ e. e.reactor ≡ ring_2.target → e.slot ≢ ring_2.slot)))) (All-nil (λ c. All (λ e. e.reactor ≡ c.target → e.slot ≢ c.slot) ring.external))));
+  external = All-cons (IsExternal ring) ring_event_0 (ring_event_1 ∷ []) (record { reactor = omega arith; slot = omega arith; tag = record { time = omega arith; microstep = omega arith }; in_time = refl }) (All-cons (IsExternal ring) ring_event_1 ([]) (record { reactor = omega arith; slot = omega arith; tag = record { time = omega arith; microstep = omega arith }; in_time = refl }) (All-nil (IsExternal ring)));
+  external_apart = AllPairs-cons FallApart ring_event_0 (ring_event_1 ∷ []) (All-cons (FallApart ring_event_0) ring_event_1 ([]) (λ a b c. let t : 0 ≡ 5 = ap (λ (g : LogicalTime). g.time) a in absurd (omega arith)) (All-nil (FallApart ring_event_0))) (AllPairs-cons FallApart ring_event_1 ([]) (All-nil (FallApart ring_event_1)) (no_pairs FallApart));
   ranks = λ i l. l;
   ranks_apart = λ i j a b e. e;
-  ranks_rise = all_cons (λ c. c.delay ≡ origin → ring.rank c.source < ring.rank c.target) ring_0 (ring_1 ∷ ring_2 ∷ []) (λ e. omega arith) (all_cons (λ c. c.delay ≡ origin → ring.rank c.source < ring.rank c.target) ring_1 (ring_2 ∷ []) (λ e. omega arith) (all_cons (λ c. c.delay ≡ origin → ring.rank c.source < ring.rank c.target) ring_2 ([]) (λ e. let t : 5 ≡ 0 = ap (λ (g : LogicalTime). g.time) e in absurd (omega arith)) (all_nil (λ c. c.delay ≡ origin → ring.rank c.source < ring.rank c.target))));
-  schedulings = λ reactor states present. all_nil (IsOwn ring reactor);
+  ranks_rise = All-cons (λ c. c.delay ≡ origin → ring.rank c.source < ring.rank c.target) ring_0 (ring_1 ∷ ring_2 ∷ []) (λ e. omega arith) (All-cons (λ c. c.delay ≡ origin → ring.rank c.source < ring.rank c.target) ring_1 (ring_2 ∷ []) (λ e. omega arith) (All-cons (λ c. c.delay ≡ origin → ring.rank c.source < ring.rank c.target) ring_2 ([]) (λ e. let t : 5 ≡ 0 = ap (λ (g : LogicalTime). g.time) e in absurd (omega arith)) (All-nil (λ c. c.delay ≡ origin → ring.rank c.source < ring.rank c.target))));
+  schedulings = λ reactor states present. All-nil (IsOwn ring reactor);
 }
 
 abbrev two_microsteps_0 : Connection
@@ -76,15 +63,15 @@ two_microsteps_is_lawful = record {
   some_reactor = omega arith;
   few_reactors = omega arith;
   stop = record { time = omega arith; microstep = omega arith };
-  connected = all_cons (IsConnected two_microsteps) two_microsteps_0 (two_microsteps_1 ∷ []) (record { source = omega arith; port = omega arith; target = omega arith; slot = omega arith; delay = (some_delay (10, omega arith, refl)) }) (all_cons (IsConnected two_microsteps) two_microsteps_1 ([]) (record { source = omega arith; port = omega arith; target = omega arith; slot = omega arith; delay = no_delay }) (all_nil (IsConnected two_microsteps)));
-  one_source = pairs_cons EndApart two_microsteps_0 (two_microsteps_1 ∷ []) (all_cons (EndApart two_microsteps_0) two_microsteps_1 ([]) (λ e f. absurd (omega arith)) (all_nil (EndApart two_microsteps_0))) (pairs_cons EndApart two_microsteps_1 ([]) (all_nil (EndApart two_microsteps_1)) (pairs_nil EndApart));
-  ports_apart = all_cons (λ c. All (λ e. e.reactor ≡ c.target → e.slot ≢ c.slot) two_microsteps.external) two_microsteps_0 (two_microsteps_1 ∷ []) (all_cons (λ e. e.reactor ≡ two_microsteps_0.target → e.slot ≢ two_microsteps_0.slot) two_microsteps_event_0 (two_microsteps_event_1 ∷ []) (λ a b. absurd (omega arith)) (all_cons (λ e. e.reactor ≡ two_microsteps_0.target → e.slot ≢ two_microsteps_0.slot) two_microsteps_event_1 ([]) (λ a b. absurd (omega arith)) (all_nil (λ e. e.reactor ≡ two_microsteps_0.target → e.slot ≢ two_microsteps_0.slot)))) (all_cons (λ c. All (λ e. e.reactor ≡ c.target → e.slot ≢ c.slot) two_microsteps.external) two_microsteps_1 ([]) (all_cons (λ e. e.reactor ≡ two_microsteps_1.target → e.slot ≢ two_microsteps_1.slot) two_microsteps_event_0 (two_microsteps_event_1 ∷ []) (λ a b. absurd (omega arith)) (all_cons (λ e. e.reactor ≡ two_microsteps_1.target → e.slot ≢ two_microsteps_1.slot) two_microsteps_event_1 ([]) (λ a b. absurd (omega arith)) (all_nil (λ e. e.reactor ≡ two_microsteps_1.target → e.slot ≢ two_microsteps_1.slot)))) (all_nil (λ c. All (λ e. e.reactor ≡ c.target → e.slot ≢ c.slot) two_microsteps.external)));
-  external = all_cons (IsExternal two_microsteps) two_microsteps_event_0 (two_microsteps_event_1 ∷ []) (record { reactor = omega arith; slot = omega arith; tag = record { time = omega arith; microstep = omega arith }; in_time = refl }) (all_cons (IsExternal two_microsteps) two_microsteps_event_1 ([]) (record { reactor = omega arith; slot = omega arith; tag = record { time = omega arith; microstep = omega arith }; in_time = refl }) (all_nil (IsExternal two_microsteps)));
-  external_apart = pairs_cons FallApart two_microsteps_event_0 (two_microsteps_event_1 ∷ []) (all_cons (FallApart two_microsteps_event_0) two_microsteps_event_1 ([]) (λ a b c. let t : 0 ≡ 1 = ap (λ (g : LogicalTime). g.microstep) a in absurd (omega arith)) (all_nil (FallApart two_microsteps_event_0))) (pairs_cons FallApart two_microsteps_event_1 ([]) (all_nil (FallApart two_microsteps_event_1)) (pairs_nil FallApart));
+  connected = All-cons (IsConnected two_microsteps) two_microsteps_0 (two_microsteps_1 ∷ []) (record { source = omega arith; port = omega arith; target = omega arith; slot = omega arith; delay = (some_delay (10, omega arith, refl)) }) (All-cons (IsConnected two_microsteps) two_microsteps_1 ([]) (record { source = omega arith; port = omega arith; target = omega arith; slot = omega arith; delay = no_delay }) (All-nil (IsConnected two_microsteps)));
+  one_source = AllPairs-cons EndApart two_microsteps_0 (two_microsteps_1 ∷ []) (All-cons (EndApart two_microsteps_0) two_microsteps_1 ([]) (λ e f. absurd (omega arith)) (All-nil (EndApart two_microsteps_0))) (AllPairs-cons EndApart two_microsteps_1 ([]) (All-nil (EndApart two_microsteps_1)) (no_pairs EndApart));
+  ports_apart = All-cons (λ c. All (λ e. e.reactor ≡ c.target → e.slot ≢ c.slot) two_microsteps.external) two_microsteps_0 (two_microsteps_1 ∷ []) (All-cons (λ e. e.reactor ≡ two_microsteps_0.target → e.slot ≢ two_microsteps_0.slot) two_microsteps_event_0 (two_microsteps_event_1 ∷ []) (λ a b. absurd (omega arith)) (All-cons (λ e. e.reactor ≡ two_microsteps_0.target → e.slot ≢ two_microsteps_0.slot) two_microsteps_event_1 ([]) (λ a b. absurd (omega arith)) (All-nil (λ e. e.reactor ≡ two_microsteps_0.target → e.slot ≢ two_microsteps_0.slot)))) (All-cons (λ c. All (λ e. e.reactor ≡ c.target → e.slot ≢ c.slot) two_microsteps.external) two_microsteps_1 ([]) (All-cons (λ e. e.reactor ≡ two_microsteps_1.target → e.slot ≢ two_microsteps_1.slot) two_microsteps_event_0 (two_microsteps_event_1 ∷ []) (λ a b. absurd (omega arith)) (All-cons (λ e. e.reactor ≡ two_microsteps_1.target → e.slot ≢ two_microsteps_1.slot) two_microsteps_event_1 ([]) (λ a b. absurd (omega arith)) (All-nil (λ e. e.reactor ≡ two_microsteps_1.target → e.slot ≢ two_microsteps_1.slot)))) (All-nil (λ c. All (λ e. e.reactor ≡ c.target → e.slot ≢ c.slot) two_microsteps.external)));
+  external = All-cons (IsExternal two_microsteps) two_microsteps_event_0 (two_microsteps_event_1 ∷ []) (record { reactor = omega arith; slot = omega arith; tag = record { time = omega arith; microstep = omega arith }; in_time = refl }) (All-cons (IsExternal two_microsteps) two_microsteps_event_1 ([]) (record { reactor = omega arith; slot = omega arith; tag = record { time = omega arith; microstep = omega arith }; in_time = refl }) (All-nil (IsExternal two_microsteps)));
+  external_apart = AllPairs-cons FallApart two_microsteps_event_0 (two_microsteps_event_1 ∷ []) (All-cons (FallApart two_microsteps_event_0) two_microsteps_event_1 ([]) (λ a b c. let t : 0 ≡ 1 = ap (λ (g : LogicalTime). g.microstep) a in absurd (omega arith)) (All-nil (FallApart two_microsteps_event_0))) (AllPairs-cons FallApart two_microsteps_event_1 ([]) (All-nil (FallApart two_microsteps_event_1)) (no_pairs FallApart));
   ranks = λ i l. l;
   ranks_apart = λ i j a b e. e;
-  ranks_rise = all_cons (λ c. c.delay ≡ origin → two_microsteps.rank c.source < two_microsteps.rank c.target) two_microsteps_0 (two_microsteps_1 ∷ []) (λ e. let t : 10 ≡ 0 = ap (λ (g : LogicalTime). g.time) e in absurd (omega arith)) (all_cons (λ c. c.delay ≡ origin → two_microsteps.rank c.source < two_microsteps.rank c.target) two_microsteps_1 ([]) (λ e. omega arith) (all_nil (λ c. c.delay ≡ origin → two_microsteps.rank c.source < two_microsteps.rank c.target)));
-  schedulings = λ reactor states present. all_nil (IsOwn two_microsteps reactor);
+  ranks_rise = All-cons (λ c. c.delay ≡ origin → two_microsteps.rank c.source < two_microsteps.rank c.target) two_microsteps_0 (two_microsteps_1 ∷ []) (λ e. let t : 10 ≡ 0 = ap (λ (g : LogicalTime). g.time) e in absurd (omega arith)) (All-cons (λ c. c.delay ≡ origin → two_microsteps.rank c.source < two_microsteps.rank c.target) two_microsteps_1 ([]) (λ e. omega arith) (All-nil (λ c. c.delay ≡ origin → two_microsteps.rank c.source < two_microsteps.rank c.target)));
+  schedulings = λ reactor states present. All-nil (IsOwn two_microsteps reactor);
 }
 
 abbrev one_tag_0 : Connection
@@ -104,15 +91,15 @@ one_tag_is_lawful = record {
   some_reactor = omega arith;
   few_reactors = omega arith;
   stop = record { time = omega arith; microstep = omega arith };
-  connected = all_cons (IsConnected one_tag) one_tag_0 (one_tag_1 ∷ []) (record { source = omega arith; port = omega arith; target = omega arith; slot = omega arith; delay = no_delay }) (all_cons (IsConnected one_tag) one_tag_1 ([]) (record { source = omega arith; port = omega arith; target = omega arith; slot = omega arith; delay = no_delay }) (all_nil (IsConnected one_tag)));
-  one_source = pairs_cons EndApart one_tag_0 (one_tag_1 ∷ []) (all_cons (EndApart one_tag_0) one_tag_1 ([]) (λ e f. absurd (omega arith)) (all_nil (EndApart one_tag_0))) (pairs_cons EndApart one_tag_1 ([]) (all_nil (EndApart one_tag_1)) (pairs_nil EndApart));
-  ports_apart = all_cons (λ c. All (λ e. e.reactor ≡ c.target → e.slot ≢ c.slot) one_tag.external) one_tag_0 (one_tag_1 ∷ []) (all_cons (λ e. e.reactor ≡ one_tag_0.target → e.slot ≢ one_tag_0.slot) one_tag_event_0 (one_tag_event_1 ∷ []) (λ a b. absurd (omega arith)) (all_cons (λ e. e.reactor ≡ one_tag_0.target → e.slot ≢ one_tag_0.slot) one_tag_event_1 ([]) (λ a b. absurd (omega arith)) (all_nil (λ e. e.reactor ≡ one_tag_0.target → e.slot ≢ one_tag_0.slot)))) (all_cons (λ c. All (λ e. e.reactor ≡ c.target → e.slot ≢ c.slot) one_tag.external) one_tag_1 ([]) (all_cons (λ e. e.reactor ≡ one_tag_1.target → e.slot ≢ one_tag_1.slot) one_tag_event_0 (one_tag_event_1 ∷ []) (λ a b. absurd (omega arith)) (all_cons (λ e. e.reactor ≡ one_tag_1.target → e.slot ≢ one_tag_1.slot) one_tag_event_1 ([]) (λ a b. absurd (omega arith)) (all_nil (λ e. e.reactor ≡ one_tag_1.target → e.slot ≢ one_tag_1.slot)))) (all_nil (λ c. All (λ e. e.reactor ≡ c.target → e.slot ≢ c.slot) one_tag.external)));
-  external = all_cons (IsExternal one_tag) one_tag_event_0 (one_tag_event_1 ∷ []) (record { reactor = omega arith; slot = omega arith; tag = record { time = omega arith; microstep = omega arith }; in_time = refl }) (all_cons (IsExternal one_tag) one_tag_event_1 ([]) (record { reactor = omega arith; slot = omega arith; tag = record { time = omega arith; microstep = omega arith }; in_time = refl }) (all_nil (IsExternal one_tag)));
-  external_apart = pairs_cons FallApart one_tag_event_0 (one_tag_event_1 ∷ []) (all_cons (FallApart one_tag_event_0) one_tag_event_1 ([]) (λ a b c. absurd (omega arith)) (all_nil (FallApart one_tag_event_0))) (pairs_cons FallApart one_tag_event_1 ([]) (all_nil (FallApart one_tag_event_1)) (pairs_nil FallApart));
+  connected = All-cons (IsConnected one_tag) one_tag_0 (one_tag_1 ∷ []) (record { source = omega arith; port = omega arith; target = omega arith; slot = omega arith; delay = no_delay }) (All-cons (IsConnected one_tag) one_tag_1 ([]) (record { source = omega arith; port = omega arith; target = omega arith; slot = omega arith; delay = no_delay }) (All-nil (IsConnected one_tag)));
+  one_source = AllPairs-cons EndApart one_tag_0 (one_tag_1 ∷ []) (All-cons (EndApart one_tag_0) one_tag_1 ([]) (λ e f. absurd (omega arith)) (All-nil (EndApart one_tag_0))) (AllPairs-cons EndApart one_tag_1 ([]) (All-nil (EndApart one_tag_1)) (no_pairs EndApart));
+  ports_apart = All-cons (λ c. All (λ e. e.reactor ≡ c.target → e.slot ≢ c.slot) one_tag.external) one_tag_0 (one_tag_1 ∷ []) (All-cons (λ e. e.reactor ≡ one_tag_0.target → e.slot ≢ one_tag_0.slot) one_tag_event_0 (one_tag_event_1 ∷ []) (λ a b. absurd (omega arith)) (All-cons (λ e. e.reactor ≡ one_tag_0.target → e.slot ≢ one_tag_0.slot) one_tag_event_1 ([]) (λ a b. absurd (omega arith)) (All-nil (λ e. e.reactor ≡ one_tag_0.target → e.slot ≢ one_tag_0.slot)))) (All-cons (λ c. All (λ e. e.reactor ≡ c.target → e.slot ≢ c.slot) one_tag.external) one_tag_1 ([]) (All-cons (λ e. e.reactor ≡ one_tag_1.target → e.slot ≢ one_tag_1.slot) one_tag_event_0 (one_tag_event_1 ∷ []) (λ a b. absurd (omega arith)) (All-cons (λ e. e.reactor ≡ one_tag_1.target → e.slot ≢ one_tag_1.slot) one_tag_event_1 ([]) (λ a b. absurd (omega arith)) (All-nil (λ e. e.reactor ≡ one_tag_1.target → e.slot ≢ one_tag_1.slot)))) (All-nil (λ c. All (λ e. e.reactor ≡ c.target → e.slot ≢ c.slot) one_tag.external)));
+  external = All-cons (IsExternal one_tag) one_tag_event_0 (one_tag_event_1 ∷ []) (record { reactor = omega arith; slot = omega arith; tag = record { time = omega arith; microstep = omega arith }; in_time = refl }) (All-cons (IsExternal one_tag) one_tag_event_1 ([]) (record { reactor = omega arith; slot = omega arith; tag = record { time = omega arith; microstep = omega arith }; in_time = refl }) (All-nil (IsExternal one_tag)));
+  external_apart = AllPairs-cons FallApart one_tag_event_0 (one_tag_event_1 ∷ []) (All-cons (FallApart one_tag_event_0) one_tag_event_1 ([]) (λ a b c. absurd (omega arith)) (All-nil (FallApart one_tag_event_0))) (AllPairs-cons FallApart one_tag_event_1 ([]) (All-nil (FallApart one_tag_event_1)) (no_pairs FallApart));
   ranks = λ i l. l;
   ranks_apart = λ i j a b e. e;
-  ranks_rise = all_cons (λ c. c.delay ≡ origin → one_tag.rank c.source < one_tag.rank c.target) one_tag_0 (one_tag_1 ∷ []) (λ e. omega arith) (all_cons (λ c. c.delay ≡ origin → one_tag.rank c.source < one_tag.rank c.target) one_tag_1 ([]) (λ e. omega arith) (all_nil (λ c. c.delay ≡ origin → one_tag.rank c.source < one_tag.rank c.target)));
-  schedulings = λ reactor states present. all_nil (IsOwn one_tag reactor);
+  ranks_rise = All-cons (λ c. c.delay ≡ origin → one_tag.rank c.source < one_tag.rank c.target) one_tag_0 (one_tag_1 ∷ []) (λ e. omega arith) (All-cons (λ c. c.delay ≡ origin → one_tag.rank c.source < one_tag.rank c.target) one_tag_1 ([]) (λ e. omega arith) (All-nil (λ c. c.delay ≡ origin → one_tag.rank c.source < one_tag.rank c.target)));
+  schedulings = λ reactor states present. All-nil (IsOwn one_tag reactor);
 }
 
 abbrev both_ends_0 : Connection
@@ -132,25 +119,25 @@ both_ends_is_lawful = record {
   some_reactor = omega arith;
   few_reactors = omega arith;
   stop = record { time = omega arith; microstep = omega arith };
-  connected = all_cons (IsConnected both_ends) both_ends_0 (both_ends_1 ∷ []) (record { source = omega arith; port = omega arith; target = omega arith; slot = omega arith; delay = no_delay }) (all_cons (IsConnected both_ends) both_ends_1 ([]) (record { source = omega arith; port = omega arith; target = omega arith; slot = omega arith; delay = no_delay }) (all_nil (IsConnected both_ends)));
-  one_source = pairs_cons EndApart both_ends_0 (both_ends_1 ∷ []) (all_cons (EndApart both_ends_0) both_ends_1 ([]) (λ e f. absurd (omega arith)) (all_nil (EndApart both_ends_0))) (pairs_cons EndApart both_ends_1 ([]) (all_nil (EndApart both_ends_1)) (pairs_nil EndApart));
-  ports_apart = all_cons (λ c. All (λ e. e.reactor ≡ c.target → e.slot ≢ c.slot) both_ends.external) both_ends_0 (both_ends_1 ∷ []) (all_cons (λ e. e.reactor ≡ both_ends_0.target → e.slot ≢ both_ends_0.slot) both_ends_event_0 (both_ends_event_1 ∷ []) (λ a b. absurd (omega arith)) (all_cons (λ e. e.reactor ≡ both_ends_0.target → e.slot ≢ both_ends_0.slot) both_ends_event_1 ([]) (λ a b. absurd (omega arith)) (all_nil (λ e. e.reactor ≡ both_ends_0.target → e.slot ≢ both_ends_0.slot)))) (all_cons (λ c. All (λ e. e.reactor ≡ c.target → e.slot ≢ c.slot) both_ends.external) both_ends_1 ([]) (all_cons (λ e. e.reactor ≡ both_ends_1.target → e.slot ≢ both_ends_1.slot) both_ends_event_0 (both_ends_event_1 ∷ []) (λ a b. absurd (omega arith)) (all_cons (λ e. e.reactor ≡ both_ends_1.target → e.slot ≢ both_ends_1.slot) both_ends_event_1 ([]) (λ a b. absurd (omega arith)) (all_nil (λ e. e.reactor ≡ both_ends_1.target → e.slot ≢ both_ends_1.slot)))) (all_nil (λ c. All (λ e. e.reactor ≡ c.target → e.slot ≢ c.slot) both_ends.external)));
-  external = all_cons (IsExternal both_ends) both_ends_event_0 (both_ends_event_1 ∷ []) (record { reactor = omega arith; slot = omega arith; tag = record { time = omega arith; microstep = omega arith }; in_time = refl }) (all_cons (IsExternal both_ends) both_ends_event_1 ([]) (record { reactor = omega arith; slot = omega arith; tag = record { time = omega arith; microstep = omega arith }; in_time = refl }) (all_nil (IsExternal both_ends)));
-  external_apart = pairs_cons FallApart both_ends_event_0 (both_ends_event_1 ∷ []) (all_cons (FallApart both_ends_event_0) both_ends_event_1 ([]) (λ a b c. absurd (omega arith)) (all_nil (FallApart both_ends_event_0))) (pairs_cons FallApart both_ends_event_1 ([]) (all_nil (FallApart both_ends_event_1)) (pairs_nil FallApart));
+  connected = All-cons (IsConnected both_ends) both_ends_0 (both_ends_1 ∷ []) (record { source = omega arith; port = omega arith; target = omega arith; slot = omega arith; delay = no_delay }) (All-cons (IsConnected both_ends) both_ends_1 ([]) (record { source = omega arith; port = omega arith; target = omega arith; slot = omega arith; delay = no_delay }) (All-nil (IsConnected both_ends)));
+  one_source = AllPairs-cons EndApart both_ends_0 (both_ends_1 ∷ []) (All-cons (EndApart both_ends_0) both_ends_1 ([]) (λ e f. absurd (omega arith)) (All-nil (EndApart both_ends_0))) (AllPairs-cons EndApart both_ends_1 ([]) (All-nil (EndApart both_ends_1)) (no_pairs EndApart));
+  ports_apart = All-cons (λ c. All (λ e. e.reactor ≡ c.target → e.slot ≢ c.slot) both_ends.external) both_ends_0 (both_ends_1 ∷ []) (All-cons (λ e. e.reactor ≡ both_ends_0.target → e.slot ≢ both_ends_0.slot) both_ends_event_0 (both_ends_event_1 ∷ []) (λ a b. absurd (omega arith)) (All-cons (λ e. e.reactor ≡ both_ends_0.target → e.slot ≢ both_ends_0.slot) both_ends_event_1 ([]) (λ a b. absurd (omega arith)) (All-nil (λ e. e.reactor ≡ both_ends_0.target → e.slot ≢ both_ends_0.slot)))) (All-cons (λ c. All (λ e. e.reactor ≡ c.target → e.slot ≢ c.slot) both_ends.external) both_ends_1 ([]) (All-cons (λ e. e.reactor ≡ both_ends_1.target → e.slot ≢ both_ends_1.slot) both_ends_event_0 (both_ends_event_1 ∷ []) (λ a b. absurd (omega arith)) (All-cons (λ e. e.reactor ≡ both_ends_1.target → e.slot ≢ both_ends_1.slot) both_ends_event_1 ([]) (λ a b. absurd (omega arith)) (All-nil (λ e. e.reactor ≡ both_ends_1.target → e.slot ≢ both_ends_1.slot)))) (All-nil (λ c. All (λ e. e.reactor ≡ c.target → e.slot ≢ c.slot) both_ends.external)));
+  external = All-cons (IsExternal both_ends) both_ends_event_0 (both_ends_event_1 ∷ []) (record { reactor = omega arith; slot = omega arith; tag = record { time = omega arith; microstep = omega arith }; in_time = refl }) (All-cons (IsExternal both_ends) both_ends_event_1 ([]) (record { reactor = omega arith; slot = omega arith; tag = record { time = omega arith; microstep = omega arith }; in_time = refl }) (All-nil (IsExternal both_ends)));
+  external_apart = AllPairs-cons FallApart both_ends_event_0 (both_ends_event_1 ∷ []) (All-cons (FallApart both_ends_event_0) both_ends_event_1 ([]) (λ a b c. absurd (omega arith)) (All-nil (FallApart both_ends_event_0))) (AllPairs-cons FallApart both_ends_event_1 ([]) (All-nil (FallApart both_ends_event_1)) (no_pairs FallApart));
   ranks = λ i l. l;
   ranks_apart = λ i j a b e. e;
-  ranks_rise = all_cons (λ c. c.delay ≡ origin → both_ends.rank c.source < both_ends.rank c.target) both_ends_0 (both_ends_1 ∷ []) (λ e. omega arith) (all_cons (λ c. c.delay ≡ origin → both_ends.rank c.source < both_ends.rank c.target) both_ends_1 ([]) (λ e. omega arith) (all_nil (λ c. c.delay ≡ origin → both_ends.rank c.source < both_ends.rank c.target)));
-  schedulings = λ reactor states present. all_nil (IsOwn both_ends reactor);
+  ranks_rise = All-cons (λ c. c.delay ≡ origin → both_ends.rank c.source < both_ends.rank c.target) both_ends_0 (both_ends_1 ∷ []) (λ e. omega arith) (All-cons (λ c. c.delay ≡ origin → both_ends.rank c.source < both_ends.rank c.target) both_ends_1 ([]) (λ e. omega arith) (All-nil (λ c. c.delay ≡ origin → both_ends.rank c.source < both_ends.rank c.target)));
+  schedulings = λ reactor states present. All-nil (IsOwn both_ends reactor);
 }
 
 ring_onward : (j : ℕ) → All (λ c. IfSome (ring_table c.target j) (λ rest. IsWithin (ring_table c.source j) (sum_of c.delay rest))) ring.connections
-ring_onward zero = all_cons (λ c. IfSome (ring_table c.target zero) (λ rest. IsWithin (ring_table c.source zero) (sum_of c.delay rest))) ring_0 (ring_1 ∷ ring_2 ∷ []) refl (all_cons (λ c. IfSome (ring_table c.target zero) (λ rest. IsWithin (ring_table c.source zero) (sum_of c.delay rest))) ring_1 (ring_2 ∷ []) refl (all_cons (λ c. IfSome (ring_table c.target zero) (λ rest. IsWithin (ring_table c.source zero) (sum_of c.delay rest))) ring_2 ([]) refl (all_nil (λ c. IfSome (ring_table c.target zero) (λ rest. IsWithin (ring_table c.source zero) (sum_of c.delay rest))))))
-ring_onward (suc zero) = all_cons (λ c. IfSome (ring_table c.target (suc zero)) (λ rest. IsWithin (ring_table c.source (suc zero)) (sum_of c.delay rest))) ring_0 (ring_1 ∷ ring_2 ∷ []) refl (all_cons (λ c. IfSome (ring_table c.target (suc zero)) (λ rest. IsWithin (ring_table c.source (suc zero)) (sum_of c.delay rest))) ring_1 (ring_2 ∷ []) refl (all_cons (λ c. IfSome (ring_table c.target (suc zero)) (λ rest. IsWithin (ring_table c.source (suc zero)) (sum_of c.delay rest))) ring_2 ([]) refl (all_nil (λ c. IfSome (ring_table c.target (suc zero)) (λ rest. IsWithin (ring_table c.source (suc zero)) (sum_of c.delay rest))))))
-ring_onward (suc (suc zero)) = all_cons (λ c. IfSome (ring_table c.target (suc (suc zero))) (λ rest. IsWithin (ring_table c.source (suc (suc zero))) (sum_of c.delay rest))) ring_0 (ring_1 ∷ ring_2 ∷ []) refl (all_cons (λ c. IfSome (ring_table c.target (suc (suc zero))) (λ rest. IsWithin (ring_table c.source (suc (suc zero))) (sum_of c.delay rest))) ring_1 (ring_2 ∷ []) refl (all_cons (λ c. IfSome (ring_table c.target (suc (suc zero))) (λ rest. IsWithin (ring_table c.source (suc (suc zero))) (sum_of c.delay rest))) ring_2 ([]) refl (all_nil (λ c. IfSome (ring_table c.target (suc (suc zero))) (λ rest. IsWithin (ring_table c.source (suc (suc zero))) (sum_of c.delay rest))))))
-ring_onward (suc (suc (suc j))) = all_cons (λ c. IfSome (ring_table c.target (suc (suc (suc j)))) (λ rest. IsWithin (ring_table c.source (suc (suc (suc j)))) (sum_of c.delay rest))) ring_0 (ring_1 ∷ ring_2 ∷ []) tt (all_cons (λ c. IfSome (ring_table c.target (suc (suc (suc j)))) (λ rest. IsWithin (ring_table c.source (suc (suc (suc j)))) (sum_of c.delay rest))) ring_1 (ring_2 ∷ []) tt (all_cons (λ c. IfSome (ring_table c.target (suc (suc (suc j)))) (λ rest. IsWithin (ring_table c.source (suc (suc (suc j)))) (sum_of c.delay rest))) ring_2 ([]) tt (all_nil (λ c. IfSome (ring_table c.target (suc (suc (suc j)))) (λ rest. IsWithin (ring_table c.source (suc (suc (suc j)))) (sum_of c.delay rest))))))
+ring_onward zero = All-cons (λ c. IfSome (ring_table c.target zero) (λ rest. IsWithin (ring_table c.source zero) (sum_of c.delay rest))) ring_0 (ring_1 ∷ ring_2 ∷ []) refl (All-cons (λ c. IfSome (ring_table c.target zero) (λ rest. IsWithin (ring_table c.source zero) (sum_of c.delay rest))) ring_1 (ring_2 ∷ []) refl (All-cons (λ c. IfSome (ring_table c.target zero) (λ rest. IsWithin (ring_table c.source zero) (sum_of c.delay rest))) ring_2 ([]) refl (All-nil (λ c. IfSome (ring_table c.target zero) (λ rest. IsWithin (ring_table c.source zero) (sum_of c.delay rest))))))
+ring_onward (suc zero) = All-cons (λ c. IfSome (ring_table c.target (suc zero)) (λ rest. IsWithin (ring_table c.source (suc zero)) (sum_of c.delay rest))) ring_0 (ring_1 ∷ ring_2 ∷ []) refl (All-cons (λ c. IfSome (ring_table c.target (suc zero)) (λ rest. IsWithin (ring_table c.source (suc zero)) (sum_of c.delay rest))) ring_1 (ring_2 ∷ []) refl (All-cons (λ c. IfSome (ring_table c.target (suc zero)) (λ rest. IsWithin (ring_table c.source (suc zero)) (sum_of c.delay rest))) ring_2 ([]) refl (All-nil (λ c. IfSome (ring_table c.target (suc zero)) (λ rest. IsWithin (ring_table c.source (suc zero)) (sum_of c.delay rest))))))
+ring_onward (suc (suc zero)) = All-cons (λ c. IfSome (ring_table c.target (suc (suc zero))) (λ rest. IsWithin (ring_table c.source (suc (suc zero))) (sum_of c.delay rest))) ring_0 (ring_1 ∷ ring_2 ∷ []) refl (All-cons (λ c. IfSome (ring_table c.target (suc (suc zero))) (λ rest. IsWithin (ring_table c.source (suc (suc zero))) (sum_of c.delay rest))) ring_1 (ring_2 ∷ []) refl (All-cons (λ c. IfSome (ring_table c.target (suc (suc zero))) (λ rest. IsWithin (ring_table c.source (suc (suc zero))) (sum_of c.delay rest))) ring_2 ([]) refl (All-nil (λ c. IfSome (ring_table c.target (suc (suc zero))) (λ rest. IsWithin (ring_table c.source (suc (suc zero))) (sum_of c.delay rest))))))
+ring_onward (suc (suc (suc j))) = All-cons (λ c. IfSome (ring_table c.target (suc (suc (suc j)))) (λ rest. IsWithin (ring_table c.source (suc (suc (suc j)))) (sum_of c.delay rest))) ring_0 (ring_1 ∷ ring_2 ∷ []) tt (All-cons (λ c. IfSome (ring_table c.target (suc (suc (suc j)))) (λ rest. IsWithin (ring_table c.source (suc (suc (suc j)))) (sum_of c.delay rest))) ring_1 (ring_2 ∷ []) tt (All-cons (λ c. IfSome (ring_table c.target (suc (suc (suc j)))) (λ rest. IsWithin (ring_table c.source (suc (suc (suc j)))) (sum_of c.delay rest))) ring_2 ([]) tt (All-nil (λ c. IfSome (ring_table c.target (suc (suc (suc j)))) (λ rest. IsWithin (ring_table c.source (suc (suc (suc j)))) (sum_of c.delay rest))))))
 
 ring_is_table : IsTable ring ring_table
-ring_is_table = record { direct = all_cons (λ c. IsWithin (ring_table c.source c.target) c.delay) ring_0 (ring_1 ∷ ring_2 ∷ []) refl (all_cons (λ c. IsWithin (ring_table c.source c.target) c.delay) ring_1 (ring_2 ∷ []) refl (all_cons (λ c. IsWithin (ring_table c.source c.target) c.delay) ring_2 ([]) refl (all_nil (λ c. IsWithin (ring_table c.source c.target) c.delay)))); onward = ring_onward }
+ring_is_table = record { direct = All-cons (λ c. IsWithin (ring_table c.source c.target) c.delay) ring_0 (ring_1 ∷ ring_2 ∷ []) refl (All-cons (λ c. IsWithin (ring_table c.source c.target) c.delay) ring_1 (ring_2 ∷ []) refl (All-cons (λ c. IsWithin (ring_table c.source c.target) c.delay) ring_2 ([]) refl (All-nil (λ c. IsWithin (ring_table c.source c.target) c.delay)))); onward = ring_onward }
 
 within_0 : Contains ring.connections ring_0
 within_0 = (0, omega arith, refl)
@@ -183,13 +170,13 @@ pub ring_is_least : IsLeastTable ring ring_table
 ring_is_least = fixed_point_is_least ring ring_table ring_is_table ring_attained
 
 two_microsteps_onward : (j : ℕ) → All (λ c. IfSome (line_table (at 10 0) c.target j) (λ rest. IsWithin (line_table (at 10 0) c.source j) (sum_of c.delay rest))) two_microsteps.connections
-two_microsteps_onward zero = all_cons (λ c. IfSome (line_table (at 10 0) c.target zero) (λ rest. IsWithin (line_table (at 10 0) c.source zero) (sum_of c.delay rest))) two_microsteps_0 (two_microsteps_1 ∷ []) tt (all_cons (λ c. IfSome (line_table (at 10 0) c.target zero) (λ rest. IsWithin (line_table (at 10 0) c.source zero) (sum_of c.delay rest))) two_microsteps_1 [] tt (all_nil (λ c. IfSome (line_table (at 10 0) c.target zero) (λ rest. IsWithin (line_table (at 10 0) c.source zero) (sum_of c.delay rest)))))
-two_microsteps_onward (suc zero) = all_cons (λ c. IfSome (line_table (at 10 0) c.target (suc zero)) (λ rest. IsWithin (line_table (at 10 0) c.source (suc zero)) (sum_of c.delay rest))) two_microsteps_0 (two_microsteps_1 ∷ []) tt (all_cons (λ c. IfSome (line_table (at 10 0) c.target (suc zero)) (λ rest. IsWithin (line_table (at 10 0) c.source (suc zero)) (sum_of c.delay rest))) two_microsteps_1 [] tt (all_nil (λ c. IfSome (line_table (at 10 0) c.target (suc zero)) (λ rest. IsWithin (line_table (at 10 0) c.source (suc zero)) (sum_of c.delay rest)))))
-two_microsteps_onward (suc (suc zero)) = all_cons (λ c. IfSome (line_table (at 10 0) c.target (suc (suc zero))) (λ rest. IsWithin (line_table (at 10 0) c.source (suc (suc zero))) (sum_of c.delay rest))) two_microsteps_0 (two_microsteps_1 ∷ []) refl (all_cons (λ c. IfSome (line_table (at 10 0) c.target (suc (suc zero))) (λ rest. IsWithin (line_table (at 10 0) c.source (suc (suc zero))) (sum_of c.delay rest))) two_microsteps_1 [] tt (all_nil (λ c. IfSome (line_table (at 10 0) c.target (suc (suc zero))) (λ rest. IsWithin (line_table (at 10 0) c.source (suc (suc zero))) (sum_of c.delay rest)))))
-two_microsteps_onward (suc (suc (suc j))) = all_cons (λ c. IfSome (line_table (at 10 0) c.target (suc (suc (suc j)))) (λ rest. IsWithin (line_table (at 10 0) c.source (suc (suc (suc j)))) (sum_of c.delay rest))) two_microsteps_0 (two_microsteps_1 ∷ []) tt (all_cons (λ c. IfSome (line_table (at 10 0) c.target (suc (suc (suc j)))) (λ rest. IsWithin (line_table (at 10 0) c.source (suc (suc (suc j)))) (sum_of c.delay rest))) two_microsteps_1 [] tt (all_nil (λ c. IfSome (line_table (at 10 0) c.target (suc (suc (suc j)))) (λ rest. IsWithin (line_table (at 10 0) c.source (suc (suc (suc j)))) (sum_of c.delay rest)))))
+two_microsteps_onward zero = All-cons (λ c. IfSome (line_table (at 10 0) c.target zero) (λ rest. IsWithin (line_table (at 10 0) c.source zero) (sum_of c.delay rest))) two_microsteps_0 (two_microsteps_1 ∷ []) tt (All-cons (λ c. IfSome (line_table (at 10 0) c.target zero) (λ rest. IsWithin (line_table (at 10 0) c.source zero) (sum_of c.delay rest))) two_microsteps_1 [] tt (All-nil (λ c. IfSome (line_table (at 10 0) c.target zero) (λ rest. IsWithin (line_table (at 10 0) c.source zero) (sum_of c.delay rest)))))
+two_microsteps_onward (suc zero) = All-cons (λ c. IfSome (line_table (at 10 0) c.target (suc zero)) (λ rest. IsWithin (line_table (at 10 0) c.source (suc zero)) (sum_of c.delay rest))) two_microsteps_0 (two_microsteps_1 ∷ []) tt (All-cons (λ c. IfSome (line_table (at 10 0) c.target (suc zero)) (λ rest. IsWithin (line_table (at 10 0) c.source (suc zero)) (sum_of c.delay rest))) two_microsteps_1 [] tt (All-nil (λ c. IfSome (line_table (at 10 0) c.target (suc zero)) (λ rest. IsWithin (line_table (at 10 0) c.source (suc zero)) (sum_of c.delay rest)))))
+two_microsteps_onward (suc (suc zero)) = All-cons (λ c. IfSome (line_table (at 10 0) c.target (suc (suc zero))) (λ rest. IsWithin (line_table (at 10 0) c.source (suc (suc zero))) (sum_of c.delay rest))) two_microsteps_0 (two_microsteps_1 ∷ []) refl (All-cons (λ c. IfSome (line_table (at 10 0) c.target (suc (suc zero))) (λ rest. IsWithin (line_table (at 10 0) c.source (suc (suc zero))) (sum_of c.delay rest))) two_microsteps_1 [] tt (All-nil (λ c. IfSome (line_table (at 10 0) c.target (suc (suc zero))) (λ rest. IsWithin (line_table (at 10 0) c.source (suc (suc zero))) (sum_of c.delay rest)))))
+two_microsteps_onward (suc (suc (suc j))) = All-cons (λ c. IfSome (line_table (at 10 0) c.target (suc (suc (suc j)))) (λ rest. IsWithin (line_table (at 10 0) c.source (suc (suc (suc j)))) (sum_of c.delay rest))) two_microsteps_0 (two_microsteps_1 ∷ []) tt (All-cons (λ c. IfSome (line_table (at 10 0) c.target (suc (suc (suc j)))) (λ rest. IsWithin (line_table (at 10 0) c.source (suc (suc (suc j)))) (sum_of c.delay rest))) two_microsteps_1 [] tt (All-nil (λ c. IfSome (line_table (at 10 0) c.target (suc (suc (suc j)))) (λ rest. IsWithin (line_table (at 10 0) c.source (suc (suc (suc j)))) (sum_of c.delay rest)))))
 
 two_microsteps_is_table : IsTable two_microsteps (line_table (at 10 0))
-two_microsteps_is_table = record { direct = all_cons (λ c. IsWithin (line_table (at 10 0) c.source c.target) c.delay) two_microsteps_0 (two_microsteps_1 ∷ []) refl (all_cons (λ c. IsWithin (line_table (at 10 0) c.source c.target) c.delay) two_microsteps_1 [] refl (all_nil (λ c. IsWithin (line_table (at 10 0) c.source c.target) c.delay))); onward = two_microsteps_onward }
+two_microsteps_is_table = record { direct = All-cons (λ c. IsWithin (line_table (at 10 0) c.source c.target) c.delay) two_microsteps_0 (two_microsteps_1 ∷ []) refl (All-cons (λ c. IsWithin (line_table (at 10 0) c.source c.target) c.delay) two_microsteps_1 [] refl (All-nil (λ c. IsWithin (line_table (at 10 0) c.source c.target) c.delay))); onward = two_microsteps_onward }
 
 two_microsteps_within_0 : Contains two_microsteps.connections two_microsteps_0
 two_microsteps_within_0 = (0, omega arith, refl)
@@ -212,13 +199,13 @@ pub two_microsteps_is_least : IsLeastTable two_microsteps (line_table (at 10 0))
 two_microsteps_is_least = fixed_point_is_least two_microsteps (line_table (at 10 0)) two_microsteps_is_table two_microsteps_attained
 
 one_tag_onward : (j : ℕ) → All (λ c. IfSome (line_table (at 0 0) c.target j) (λ rest. IsWithin (line_table (at 0 0) c.source j) (sum_of c.delay rest))) one_tag.connections
-one_tag_onward zero = all_cons (λ c. IfSome (line_table (at 0 0) c.target zero) (λ rest. IsWithin (line_table (at 0 0) c.source zero) (sum_of c.delay rest))) one_tag_0 (one_tag_1 ∷ []) tt (all_cons (λ c. IfSome (line_table (at 0 0) c.target zero) (λ rest. IsWithin (line_table (at 0 0) c.source zero) (sum_of c.delay rest))) one_tag_1 [] tt (all_nil (λ c. IfSome (line_table (at 0 0) c.target zero) (λ rest. IsWithin (line_table (at 0 0) c.source zero) (sum_of c.delay rest)))))
-one_tag_onward (suc zero) = all_cons (λ c. IfSome (line_table (at 0 0) c.target (suc zero)) (λ rest. IsWithin (line_table (at 0 0) c.source (suc zero)) (sum_of c.delay rest))) one_tag_0 (one_tag_1 ∷ []) tt (all_cons (λ c. IfSome (line_table (at 0 0) c.target (suc zero)) (λ rest. IsWithin (line_table (at 0 0) c.source (suc zero)) (sum_of c.delay rest))) one_tag_1 [] tt (all_nil (λ c. IfSome (line_table (at 0 0) c.target (suc zero)) (λ rest. IsWithin (line_table (at 0 0) c.source (suc zero)) (sum_of c.delay rest)))))
-one_tag_onward (suc (suc zero)) = all_cons (λ c. IfSome (line_table (at 0 0) c.target (suc (suc zero))) (λ rest. IsWithin (line_table (at 0 0) c.source (suc (suc zero))) (sum_of c.delay rest))) one_tag_0 (one_tag_1 ∷ []) refl (all_cons (λ c. IfSome (line_table (at 0 0) c.target (suc (suc zero))) (λ rest. IsWithin (line_table (at 0 0) c.source (suc (suc zero))) (sum_of c.delay rest))) one_tag_1 [] tt (all_nil (λ c. IfSome (line_table (at 0 0) c.target (suc (suc zero))) (λ rest. IsWithin (line_table (at 0 0) c.source (suc (suc zero))) (sum_of c.delay rest)))))
-one_tag_onward (suc (suc (suc j))) = all_cons (λ c. IfSome (line_table (at 0 0) c.target (suc (suc (suc j)))) (λ rest. IsWithin (line_table (at 0 0) c.source (suc (suc (suc j)))) (sum_of c.delay rest))) one_tag_0 (one_tag_1 ∷ []) tt (all_cons (λ c. IfSome (line_table (at 0 0) c.target (suc (suc (suc j)))) (λ rest. IsWithin (line_table (at 0 0) c.source (suc (suc (suc j)))) (sum_of c.delay rest))) one_tag_1 [] tt (all_nil (λ c. IfSome (line_table (at 0 0) c.target (suc (suc (suc j)))) (λ rest. IsWithin (line_table (at 0 0) c.source (suc (suc (suc j)))) (sum_of c.delay rest)))))
+one_tag_onward zero = All-cons (λ c. IfSome (line_table (at 0 0) c.target zero) (λ rest. IsWithin (line_table (at 0 0) c.source zero) (sum_of c.delay rest))) one_tag_0 (one_tag_1 ∷ []) tt (All-cons (λ c. IfSome (line_table (at 0 0) c.target zero) (λ rest. IsWithin (line_table (at 0 0) c.source zero) (sum_of c.delay rest))) one_tag_1 [] tt (All-nil (λ c. IfSome (line_table (at 0 0) c.target zero) (λ rest. IsWithin (line_table (at 0 0) c.source zero) (sum_of c.delay rest)))))
+one_tag_onward (suc zero) = All-cons (λ c. IfSome (line_table (at 0 0) c.target (suc zero)) (λ rest. IsWithin (line_table (at 0 0) c.source (suc zero)) (sum_of c.delay rest))) one_tag_0 (one_tag_1 ∷ []) tt (All-cons (λ c. IfSome (line_table (at 0 0) c.target (suc zero)) (λ rest. IsWithin (line_table (at 0 0) c.source (suc zero)) (sum_of c.delay rest))) one_tag_1 [] tt (All-nil (λ c. IfSome (line_table (at 0 0) c.target (suc zero)) (λ rest. IsWithin (line_table (at 0 0) c.source (suc zero)) (sum_of c.delay rest)))))
+one_tag_onward (suc (suc zero)) = All-cons (λ c. IfSome (line_table (at 0 0) c.target (suc (suc zero))) (λ rest. IsWithin (line_table (at 0 0) c.source (suc (suc zero))) (sum_of c.delay rest))) one_tag_0 (one_tag_1 ∷ []) refl (All-cons (λ c. IfSome (line_table (at 0 0) c.target (suc (suc zero))) (λ rest. IsWithin (line_table (at 0 0) c.source (suc (suc zero))) (sum_of c.delay rest))) one_tag_1 [] tt (All-nil (λ c. IfSome (line_table (at 0 0) c.target (suc (suc zero))) (λ rest. IsWithin (line_table (at 0 0) c.source (suc (suc zero))) (sum_of c.delay rest)))))
+one_tag_onward (suc (suc (suc j))) = All-cons (λ c. IfSome (line_table (at 0 0) c.target (suc (suc (suc j)))) (λ rest. IsWithin (line_table (at 0 0) c.source (suc (suc (suc j)))) (sum_of c.delay rest))) one_tag_0 (one_tag_1 ∷ []) tt (All-cons (λ c. IfSome (line_table (at 0 0) c.target (suc (suc (suc j)))) (λ rest. IsWithin (line_table (at 0 0) c.source (suc (suc (suc j)))) (sum_of c.delay rest))) one_tag_1 [] tt (All-nil (λ c. IfSome (line_table (at 0 0) c.target (suc (suc (suc j)))) (λ rest. IsWithin (line_table (at 0 0) c.source (suc (suc (suc j)))) (sum_of c.delay rest)))))
 
 one_tag_is_table : IsTable one_tag (line_table (at 0 0))
-one_tag_is_table = record { direct = all_cons (λ c. IsWithin (line_table (at 0 0) c.source c.target) c.delay) one_tag_0 (one_tag_1 ∷ []) refl (all_cons (λ c. IsWithin (line_table (at 0 0) c.source c.target) c.delay) one_tag_1 [] refl (all_nil (λ c. IsWithin (line_table (at 0 0) c.source c.target) c.delay))); onward = one_tag_onward }
+one_tag_is_table = record { direct = All-cons (λ c. IsWithin (line_table (at 0 0) c.source c.target) c.delay) one_tag_0 (one_tag_1 ∷ []) refl (All-cons (λ c. IsWithin (line_table (at 0 0) c.source c.target) c.delay) one_tag_1 [] refl (All-nil (λ c. IsWithin (line_table (at 0 0) c.source c.target) c.delay))); onward = one_tag_onward }
 
 one_tag_within_0 : Contains one_tag.connections one_tag_0
 one_tag_within_0 = (0, omega arith, refl)

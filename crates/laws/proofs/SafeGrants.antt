@@ -13,6 +13,7 @@ use Rattle.network.specs.Tables.{Table}
 use Rattle.protocol.specs.Federate.{is_past}
 use Rattle.protocol.specs.Standing.{Standing}
 use Rattle.protocol.specs.Grant.{after_completed, all_below, is_before_arrival, passes_paths, passes_connection, passes_connections, is_eligible, grant_next, IsSafe, IsSafeRule, lesser_arrival, bound_by_paths, bound_by_connections, bound_of, grant_widest, is_safe, if_safe, grant_chosen}
+use Rattle.laws.proofs.Tags.{past_then}
 use Rattle.laws.specs.Runs.{IsFullRule}
 use Rattle.laws.proofs.Tests.{both_left, both_right, both_hold, either_case, either_of}
 
@@ -149,10 +150,6 @@ connections_microstep standings j (c ∷ rest) =
 at_least_both : (g a b : LogicalTime) (t : Bool) → is_at_most g a ≡ true → is_at_most g b ≡ true → is_at_most g (if t then a else b) ≡ true
 at_least_both g a b true p q = p
 at_least_both g a b false p q = q
-
-past_then : (o : Option LogicalTime) (g h : LogicalTime) → is_past o g ≡ true → is_at_most g h ≡ true → is_past o h ≡ true
-past_then None g h p q = refl
-past_then (Some x) g h p q = before_then x g h p q
 
 pub lesser_before : (g h b : LogicalTime) → is_before g b ≡ true → is_before (lesser g h) b ≡ true
 lesser_before g h b p = grind (arith, nat_tests)

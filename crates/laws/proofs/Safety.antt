@@ -198,9 +198,9 @@ grants_sent n rule standings j =
       | inr l ↦ grants_elsewhere n rule standings j 0 n.reactors (inr (omega arith)) ∙ ap tag_if (sym (none_past_end n rule standings j l))
     ]
 
-granted_by : (n : Network) (rule : Rule) (standings : ℕ → Standing) (j : ℕ) (g : LogicalTime) (b : Bool) → (if b then rule standings j else None) ≡ Some g → rule standings j ≡ Some g
-granted_by n rule standings j g true e = e
-granted_by n rule standings j g false e = cc
+pub rule_grants : (n : Network) (rule : Rule) (standings : ℕ → Standing) (j : ℕ) (g : LogicalTime) (b : Bool) → (if b then rule standings j else None) ≡ Some g → rule standings j ≡ Some g
+rule_grants n rule standings j g true e = e
+rule_grants n rule standings j g false e = cc
 
 -- the TAGs that go out keep what is kept
 grants_keep : (n : Network) (table : Table) (standings : ℕ → Standing) (j : ℕ) (s : Standing) (f : Federate) (up down : List Signal) (o : Option LogicalTime) → ((g : LogicalTime) → o ≡ Some g → IsSafe n table standings j g) → standings j ≡ s → IsKept n j s f up down → IsKept n j (after_grant s o) f up (down ++ tag_if o)
@@ -219,7 +219,7 @@ grants_back n table standings after j s (Some g) safe l b = backed_later n table
 with_grants_sound : (n : Network) (table : Table) (rule : Rule) (made : Coordinated) (members : ℕ → Member) → IsSafeRule n table rule → ((j : ℕ) → IsKept n j (made.after j) (members j).federate (members j).up ((members j).down ++ sent_to j made.sent)) → ((j : ℕ) → IsBacked n table made.after j (made.after j).granted) → IsSound n table (λ j. coordinated (with_grants n rule made) j (members j))
 with_grants_sound n table rule made members safe kept backed =
     let safe_at : (j : ℕ) (g : LogicalTime) → grant_to n rule made.after j ≡ Some g → IsSafe n table made.after j g =
-    λ j g e. safe made.after (λ i. (kept i).next_tag) j g (granted_by n rule made.after j g (nat_lt j n.reactors) e) in
+    λ j g e. safe made.after (λ i. (kept i).next_tag) j g (rule_grants n rule made.after j g (nat_lt j n.reactors) e) in
     record {
       kept = λ j. (
           let sent : sent_to j (made.sent ++ grants_from n rule made.after 0 n.reactors) ≡ sent_to j made.sent ++ tag_if (grant_to n rule made.after j) =

@@ -2,7 +2,7 @@
 use Rattle.std.proofs.Common.{◌≡◌, ℕ, ◌+◌, ◌<◌, ◌≤◌, true, false, refl, arith, Option, None, Some}
 use Rattle.std.proofs.lemmas.Bool.Decides.{nat_tests}
 use Rattle.tag.specs.LogicalTime.{LogicalTime, IsLogicalTime, is_at_most, place}
-use Rattle.tag.proofs.Order.{before_places, not_before_places, before_from_places, at_most_places, at_most_from_places}
+use Rattle.tag.proofs.Order.{before_then, before_places, not_before_places, before_from_places, at_most_places, at_most_from_places}
 use Rattle.tag.proofs.SumLaws.{successor_least}
 use Rattle.protocol.specs.Federate.{is_past, is_reached}
 use Rattle.protocol.specs.Grant.{after_completed}
@@ -36,6 +36,10 @@ reached_true (Some h) g p q t = let b = at_most_places g h q p t in omega arith
 pub to_reached : (o : Option LogicalTime) (g : LogicalTime) → IsOptional o → IsLogicalTime g → place g < above o → is_reached o g ≡ true
 to_reached None g p q t = absurd (omega arith)
 to_reached (Some h) g p q t = at_most_from_places g h q p (omega arith)
+
+pub past_then : (o : Option LogicalTime) (g h : LogicalTime) → is_past o g ≡ true → is_at_most g h ≡ true → is_past o h ≡ true
+past_then None g h p q = refl
+past_then (Some x) g h p q = before_then x g h p q
 
 -- what a federate has still to do is later than its last LTC
 pub after_completed_least : (o : Option LogicalTime) (g : LogicalTime) → IsOptional o → IsLogicalTime g → above o ≤ place g → is_at_most (after_completed o) g ≡ true

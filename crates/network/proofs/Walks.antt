@@ -1,5 +1,5 @@
 -- What walks add to a tag or a delay, and walks without any delay.
-use Rattle.std.proofs.Common.{◌≡◌, ℕ, ◌^◌, ◌<◌, List, [], ◌∷◌, length, IsTrue, refl, ap, ◌∙◌, arith}
+use Rattle.std.proofs.Common.{◌≡◌, ℕ, ◌^◌, ◌<◌, List, [], ◌∷◌, ◌++◌, length, IsTrue, refl, ap, ◌∙◌, arith}
 use Rattle.std.specs.Prelude.{All, Contains}
 use Rattle.std.proofs.lemmas.Bool.Decides.{nat_tests}
 use Rattle.std.proofs.lemmas.List.{length-map}
@@ -24,6 +24,10 @@ pub joined_path : (cs : List Connection) (c : Connection) → Contains cs c → 
 joined_path cs c contained path j is_path = (contained, refl, walk_of_path cs c.target path j is_path)
 
 -- ---- what a walk adds
+
+pub along-snoc : (g : LogicalTime) (walk : List Connection) (c : Connection) → then_along g (walk ++ c ∷ []) ≡ sum_of (then_along g walk) c.delay
+along-snoc g [] c = refl
+along-snoc g (d ∷ rest) c = along-snoc (sum_of g d.delay) rest c
 
 -- an earlier tag is no later after the same connections
 pub along_monotone : (g h : LogicalTime) (walk : List Connection) → IsTrue (is_at_most g h) → IsTrue (is_at_most (then_along g walk) (then_along h walk))

@@ -1,6 +1,7 @@
 -- Lists, element by element: what holds of each, and what a filter keeps.
-use Rattle.std.proofs.Common.{◌≡◌, zero, suc, List, [], ◌∷◌, ◌++◌, Bool, true, false, cond, refl, ap, ◌∙◌, arith, All, ◌⊎◌, inl, inr}
+use Rattle.std.proofs.Common.{◌≡◌, suc, List, [], ◌∷◌, ◌++◌, Bool, true, false, cond, refl, ap, ◌∙◌, arith, All, ◌⊎◌, inl, inr}
 use Rattle.std.specs.List.{AllByRecursion, filter, AllPairs}
+use Rattle.std.proofs.lemmas.List.Elements.{All-cons}
 
 -- the element is one of these
 abbrev pub Among : {X : Type 0} → X → List X → Type 0
@@ -11,13 +12,9 @@ pub each : {X : Type 0} (P : X → Type 0) (xs : List X) → All P xs → AllByR
 each P [] a = tt
 each P (x ∷ xs) a = (a 0 x (omega arith), each P xs (λ k d h. a (suc k) d (omega arith)))
 
-at_first_or : {X : Type 0} (P : X → Type 0) (x : X) (xs : List X) → P x → All P xs → All P (x ∷ xs)
-at_first_or P x xs p a zero d h = p
-at_first_or P x xs p a (suc k) d h = a k d (omega arith)
-
 pub from_each : {X : Type 0} (P : X → Type 0) (xs : List X) → AllByRecursion P xs → All P xs
 from_each P [] a = λ k d h. absurd (omega arith)
-from_each P (x ∷ xs) a = at_first_or P x xs a.0 (from_each P xs a.1)
+from_each P (x ∷ xs) a = All-cons P x xs a.0 (from_each P xs a.1)
 
 pub each_more : {X : Type 0} (P Q : X → Type 0) → ((x : X) → P x → Q x) → (xs : List X) → AllByRecursion P xs → AllByRecursion Q xs
 each_more P Q f [] a = tt

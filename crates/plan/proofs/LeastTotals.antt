@@ -9,7 +9,7 @@ use Rattle.tag.specs.LogicalTime.{LogicalTime, is_before, sum_of}
 use Rattle.tag.specs.Total.{IsPlainDelay}
 use Rattle.tag.proofs.SumLaws.{sum_monotone_left}
 use Rattle.network.specs.Connection.{Connection, IsWalk, IsPath, then_along, total_of, IsLeastDelay, IsUnreachable}
-use Rattle.network.proofs.Walks.{ArePlain, total-cons, joined_path}
+use Rattle.network.proofs.Walks.{ArePlain, total-cons, joined_path, along-snoc}
 use Rattle.network.proofs.ShortPaths.{EndBelow, Shortened, shortened}
 use Rattle.network.specs.Tables.{IsWithin}
 use Rattle.network.proofs.Tables.{within_more}
@@ -40,10 +40,6 @@ lesser_second (Some d) None bound within = absurd within
 lesser_second (Some d) (Some e) bound within = grind (arith, nat_tests)
 
 -- ---- it is the total of a path
-
-along-snoc : (g : LogicalTime) (path : List Connection) (c : Connection) → then_along g (path ++ c ∷ []) ≡ sum_of (then_along g path) c.delay
-along-snoc g [] c = refl
-along-snoc g (b ∷ rest) c = along-snoc (sum_of g b.delay) rest c
 
 total-snoc : (cs : List Connection) (i : ℕ) (path : List Connection) (j : ℕ) (c : Connection) → IsPath cs i path j → total_of (path ++ c ∷ []) ≡ sum_of (total_of path) c.delay
 total-snoc cs i [] j c is_path = absurd is_path
