@@ -18,6 +18,14 @@ pub mod Present
 pub mod Listing
 -- a turn under way
 pub mod WorkingLemmas
+-- what is present, put into registers
+pub mod Registers
+-- steps do what their lines say
+pub mod Simulation
+-- steps stay within their room
+pub mod Within
+-- rows in flat room
+pub mod FlatRows
 -- what a turn depends on
 pub mod Presence
 -- what is spelled is spelled once, and is read

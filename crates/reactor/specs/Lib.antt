@@ -19,8 +19,14 @@ pub mod Fault
 pub mod Effect
 -- what is present, as a list
 pub mod Entries
+-- rows in flat room
+pub mod Rows
 -- turns and reactors
 pub mod Turn
+-- body lines as a turn runs them
+pub mod Steps
+-- which steps stand for which lines
+pub mod Resolved
 -- a turn that is under way
 pub mod Working
 -- programs for the federates of a federation

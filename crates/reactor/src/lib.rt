@@ -1,7 +1,9 @@
 //! What a reactor does at a tag: its program, read from body lines, and one turn of it.
 //!
 //! Promises to the layer above: a program is what its texts spell (`specs/Spelled`), and `Reactor::run` is the effect of
-//! `specs/Effect`. Begin with `program`, then `specs/Effect`; `parse` reads programs.
+//! `specs/Effect`. Begin with `program`, then `specs/Effect`; `parse` reads programs. A reactor runs a program's lines as
+//! steps on numbers that lie side by side: `step` and `specs/Steps` say what these do, `resolve` makes them of lines, and a
+//! `turn_room` keeps what a turn needs for the next one.
 #![tactic(auto)]
 
 pub mod entry;
@@ -18,9 +20,13 @@ pub mod programs;
 pub mod reaction_draft;
 pub mod reactor;
 mod reading;
+mod resolve;
 pub mod row;
+pub mod rows;
+pub mod step;
 pub mod token;
 pub mod turn;
+pub mod turn_room;
 mod working;
 
 pub use entry::{Entries, Entry};
@@ -33,5 +39,7 @@ pub use programs::Programs;
 pub use reaction_draft::ReactionDraft;
 pub use reactor::Reactor;
 pub use row::Row;
+pub use rows::{RowView, Rows};
 pub use token::is_name;
 pub use turn::{Scheduling, Schedulings, Turn};
+pub use turn_room::TurnRoom;

@@ -1,0 +1,160 @@
+//! Rows in flat room: the entries of all rows one after the other, and of each row where its own stand.
+ghost use Rattle.std.specs.Prelude.{◌≡◌, ◌<◌, ◌++◌, ◌∷◌, [], length, get_or, OnOk, OnErr};
+
+use crate::entry::Entry;
+use crate::memory::Memory;
+use std::alloc::Global;
+use std::marker::Model;
+use tag::Tag;
+
+/// Where a row's entries stand: its inputs from the first, then its outputs.
+#[derive(Clone, Copy, Debug)]
+pub struct Span {
+    pub federate: usize,
+    pub tag: Tag,
+    pub inputs: usize,
+    pub outputs: usize,
+    pub end: usize,
+}
+
+/// Rows, oldest first. One more asks for memory only where the room of all of them grows. Contracts see the list of them.
+#[derive(Debug, Drop)]
+pub struct Rows {
+    entries: Vec<Entry>,
+    spans: Vec<Span>,
+}
+
+impl Model for Rows {
+    ghost use Rattle.std.specs.Prelude.{List, map, All, length};
+    ghost use Rattle.network.specs.Undivided.{Row as RowOf};
+    ghost use Rattle.reactor.specs.Rows.{row_in, IsSpanIn};
+
+    ghost Value = { List RowOf };
+
+    ghost view = { λ r. map (row_in r.entries.items) r.spans.items };
+
+    ghost invariant = { λ r. All (IsSpanIn (length r.entries.items)) r.spans.items };
+}
+
+impl Rows {
+    /// None, with no room yet.
+    pub fn new(alloc: Global) -> Rows
+        ensures { result ≡ [] }
+    {
+        Rows {
+            entries: Vec::new(alloc),
+            spans: Vec::new(alloc),
+        }
+    }
+
+    pub fn len(&self) -> usize
+        ensures { result ≡ length self.now }
+    {
+        self.spans.len()
+    }
+
+    /// One more. After `Memory` the rows are as they were.
+    pub fn push(
+        &mut self,
+        federate: usize,
+        tag: Tag,
+        inputs: &[Entry],
+        outputs: &[Entry],
+    ) -> Result<(), Memory>
+        ensures ok { OnOk result (self.new ≡ self.old ++ record { reactor = federate; tag = tag; inputs = inputs.now; outputs = outputs.now } ∷ []) }
+        ensures err { OnErr result (self.new ≡ self.old) }
+    {
+        let first = self.entries.len();
+        self.entries.extend_from_slice(inputs)?;
+        let middle = self.entries.len();
+        match self.entries.extend_from_slice(outputs) {
+            Ok(()) => {}
+            Err(_) => {
+                self.entries.truncate(first);
+                return Err(Memory);
+            }
+        }
+        let span = Span {
+            federate,
+            tag,
+            inputs: first,
+            outputs: middle,
+            end: self.entries.len(),
+        };
+        match self.spans.push(span) {
+            Ok(()) => Ok(()),
+            Err(_) => {
+                self.entries.truncate(first);
+                Err(Memory)
+            }
+        }
+    }
+
+    /// The row at a place.
+    pub fn row(&self, place: usize) -> RowView<'_>
+        requires { place < length self.now }
+        ensures { result ≡ get_or self.now place result }
+    {
+        let span = self.spans[place];
+        RowView {
+            federate: span.federate,
+            tag: span.tag,
+            inputs: &self.entries[span.inputs..span.outputs],
+            outputs: &self.entries[span.outputs..span.end],
+        }
+    }
+
+    /// Lets go of all rows, and keeps their room. It takes no memory.
+    pub fn clear(&mut self)
+        ensures { self.new ≡ [] }
+    {
+        self.spans.clear();
+        self.entries.clear();
+    }
+}
+
+/// A row among others.
+#[derive(Debug, Drop)]
+pub struct RowView<'r> {
+    federate: usize,
+    tag: Tag,
+    inputs: &'r [Entry],
+    outputs: &'r [Entry],
+}
+
+impl<'r> Model for RowView<'r> {
+    ghost use Rattle.network.specs.Undivided.{Row as RowOf};
+
+    ghost Value = { RowOf };
+
+    ghost view = { λ r. record { reactor = r.federate; tag = r.tag; inputs = r.inputs.now; outputs = r.outputs.now } };
+}
+
+impl<'r> RowView<'r> {
+    /// The federate, by number.
+    pub fn federate(&self) -> usize
+        ensures { result ≡ self.now.reactor }
+    {
+        self.federate
+    }
+
+    pub fn tag(&self) -> Tag
+        ensures { result ≡ self.now.tag }
+    {
+        self.tag
+    }
+
+    /// By slot.
+    pub fn inputs(&self) -> &'r [Entry]
+        ensures { result.now ≡ self.now.inputs }
+    {
+        self.inputs
+    }
+
+    /// By output port.
+    pub fn outputs(&self) -> &'r [Entry]
+        ensures { result.now ≡ self.now.outputs }
+    {
+        self.outputs
+    }
+}

@@ -1,0 +1,123 @@
+ghost use Rattle.std.specs.Prelude.{◌≡◌, ◌+◌, ◌<◌, ◌^◌, All, IfOk, OnOk, length, []};
+ghost use Rattle.network.specs.Event.{listed};
+ghost use Rattle.reactor.specs.Entries.{value_at, value_in};
+
+use crate::entry::{Entries, Entry};
+use crate::memory::Memory;
+use crate::step::ReactionSteps;
+use crate::turn::{Scheduling, Schedulings, Turn};
+use crate::working::Working;
+use std::alloc::Global;
+use std::marker::Model;
+
+/// A turn in room that is kept for the next one, so that a turn asks for memory only where it needs more than those before
+/// it. Contracts see the turn.
+#[derive(Debug, Drop)]
+pub struct TurnRoom {
+    working: Working,
+    /// How many of the registers are states.
+    states: usize,
+    outputs: Vec<Entry>,
+}
+
+impl Model for TurnRoom {
+    ghost use Rattle.std.specs.Prelude.{◌≤◌, length, take};
+    ghost use Rattle.reactor.specs.Turn.{Turn as TurnOf};
+
+    ghost Value = { TurnOf };
+
+    ghost view = { λ r. record { states = take r.states r.working.registers.items; outputs = r.outputs.items; schedulings = r.working.schedulings.items } };
+
+    ghost invariant = { λ r. r.states ≤ length r.working.registers.items };
+}
+
+impl TurnRoom {
+    ghost use Rattle.reactor.specs.Working.{ReactionWithin, IsTurnBy};
+
+    /// With no room yet, and a turn that makes nothing.
+    pub fn new(alloc: Global) -> TurnRoom
+        ensures { result ≡ record { states = []; outputs = []; schedulings = [] } }
+    {
+        TurnRoom {
+            working: Working::new(alloc),
+            states: 0,
+            outputs: Vec::new(alloc),
+        }
+    }
+
+    pub fn states(&self) -> &[i64]
+        ensures { result.now ≡ self.now.states }
+    {
+        &self.working.registers[..self.states]
+    }
+
+    /// By output port.
+    pub fn outputs(&self) -> &[Entry]
+        ensures { result.now ≡ self.now.outputs }
+    {
+        self.outputs.as_slice()
+    }
+
+    pub fn schedulings(&self) -> &[Scheduling]
+        ensures { result.now ≡ self.now.schedulings }
+    {
+        self.working.schedulings.as_slice()
+    }
+
+    pub fn into_turn(self) -> Turn
+        ensures { result ≡ self }
+    {
+        let TurnRoom {
+            working,
+            states,
+            outputs,
+        } = self;
+        let Working {
+            mut registers,
+            schedulings,
+            ..
+        } = working;
+        registers.truncate(states);
+        Turn::new(
+            registers,
+            Entries::new(outputs),
+            Schedulings::new(schedulings),
+        )
+    }
+
+    /// The turn of these reactions on these states, with these inputs present at so many slots.
+    pub(crate) fn run(
+        &mut self,
+        states: &[i64],
+        slots: usize,
+        ports: usize,
+        inputs: &[Entry],
+        reactions: &[ReactionSteps],
+    ) -> Result<(), Memory>
+        requires small { length states.now + slots + slots < 2 ^ 63 }
+        requires within { All (ReactionWithin (length states.now + slots + slots) ports) reactions.now }
+        ensures turn { OnOk result (IsTurnBy states.now slots ports (value_at inputs.now) reactions.now self.new) }
+        ensures fits { OnOk result (length self.new.states ≡ length states.now) }
+    {
+        self.states = 0;
+        self.working.begin(states, slots, ports, inputs)?;
+        self.working.reactions(reactions)?;
+        list_into(&mut self.outputs, self.working.outputs.as_slice())?;
+        self.states = states.len();
+        Ok(())
+    }
+}
+
+/// The values that are there, each with its place, in place of what the list held.
+#[tactic(auto, using(crate::proofs::Listing::listed_some, crate::proofs::Listing::listed_none))]
+fn list_into(entries: &mut Vec<Entry>, values: &[Option<i64>]) -> Result<(), Memory>
+    ensures { OnOk result (entries.new.items ≡ listed (length values.now) (value_in values.now)) }
+{
+    entries.clear();
+    for (place, value) in values.iter().enumerate() {
+        if let Some(value) = *value {
+            entries.push(Entry::new(place, value))?;
+        }
+    }
+    Ok(())
+}
