@@ -80,3 +80,5 @@ pub mod FirstArrivals
 pub mod ListedStandings
 -- What is completed is the tag of the last row.
 pub mod LastRows
+-- Signals in order, and then more of them.
+pub mod InOrder

@@ -1,6 +1,7 @@
 //! What each side keeps by itself, whatever signals the other sends, lying ones too; and that what it sends is in order.
 
-ghost use Rattle.std.specs.Prelude.{◌≡◌, ℕ, IsTrue};
+ghost use Rattle.std.specs.Prelude.{◌≡◌, ℕ, ◌&&◌, ◌++◌, IsTrue, List, Option};
+ghost use Rattle.tag.specs.LogicalTime.{LogicalTime};
 ghost use Rattle.network.specs.Network.{Network};
 ghost use Rattle.network.specs.Lawful.{IsLawful};
 ghost use Rattle.network.specs.Tables.{Table};
@@ -51,4 +52,16 @@ pub fn the_coordinator_sends_in_order()
         IsSignal signal → ((j : ℕ) → IsStanding (standings j)) → IfDone (coordinator_accepts n rule standings i signal)
         (λ made. (j : ℕ) → IsTrue (is_of_step (sent_to j made.sent)) × IsTrue (is_sent_past (standings j).granted (sent_to j made.sent)) ×
         ((made.after j).granted ≡ granted_by (standings j).granted (sent_to j made.sent))) }
+{}
+
+/// What is sent in order by one step, and then by others, is in order as a whole.
+pub fn order_goes_on()
+    ensures after { (completed : Option LogicalTime) (sent more : List Signal) →
+        is_sent_after completed (sent ++ more) ≡ (is_sent_after completed sent && is_sent_after (completed_by completed sent) more) }
+    ensures completed { (completed : Option LogicalTime) (sent more : List Signal) →
+        completed_by completed (sent ++ more) ≡ completed_by (completed_by completed sent) more }
+    ensures past { (granted : Option LogicalTime) (sent more : List Signal) →
+        is_sent_past granted (sent ++ more) ≡ (is_sent_past granted sent && is_sent_past (granted_by granted sent) more) }
+    ensures granted { (granted : Option LogicalTime) (sent more : List Signal) →
+        granted_by granted (sent ++ more) ≡ granted_by (granted_by granted sent) more }
 {}
