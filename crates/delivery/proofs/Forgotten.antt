@@ -1,5 +1,5 @@
 -- A side that forgot all: the other goes on as if it were still there, and it takes nothing.
-use Rattle.std.proofs.Common.{◌≡◌, ◌≢◌, ℕ, ◌+◌, ◌<◌, ◌≤◌, ◌⊎◌, inl, inr, Bool, true, false, List, [], ◌∷◌, ◌++◌, refl, sym, ap, subst, ◌∙◌, arith, Option, None, Some}
+use Rattle.std.proofs.Common.{◌≡◌, ◌≢◌, ℕ, ◌+◌, ◌<◌, ◌≤◌, Bool, true, false, List, [], ◌∷◌, ◌++◌, refl, sym, subst, ◌∙◌, arith, Option, None, Some}
 use Rattle.std.specs.Prelude.{slice_get, nat_eq, nat_le, nat_lt, if◌then◌else◌, not, ◌&&◌, ◌||◌, Result, Ok, Err}
 use Rattle.std.specs.List.{AllByRecursion}
 use Rattle.std.proofs.lemmas.Bool.Decides.{nat_tests}
@@ -12,9 +12,9 @@ use Rattle.link.specs.declared.arrival.Arrival.{Arrival}
 use Rattle.link.specs.declared.arrival.Arrival.TheVariants as arrival
 use Rattle.link.specs.declared.fault.LinkFault.{LinkFault}
 use Rattle.link.specs.Answer.{numbered}
-use Rattle.link.specs.Image.{Image, last_number, answer_of, after_frame, after_close, ack_of, resent_by}
+use Rattle.link.specs.Image.{Image, last_number, answer_of, after_frame, ack_of, resent_by}
 use Rattle.delivery.specs.Way.{offered_in, is_old, IsSaid}
-use Rattle.delivery.specs.Link.{Side, says, offers, notes, lets_in, hears, gets, greeting, side_after, Gets, Offers, Resends, Greets, Closes, TurnsAway, Act, replaced}
+use Rattle.delivery.specs.Link.{Side, says, lets_in, hears, gets, greeting, side_after, Gets, Offers, Resends, Greets, Closes, TurnsAway, Act, replaced}
 use Rattle.delivery.proofs.Ways.{AreOld, AreSaid}
 use Rattle.delivery.proofs.Carried.{IsLinked, linked_back, linked_says}
 use Rattle.delivery.proofs.Taken.{at_place}

@@ -10,3 +10,5 @@ pub mod Taken
 pub mod Forgotten
 -- Both sides, whatever they do, and whether or not the second forgot all.
 pub mod Acts
+-- Offering signals together, or one after the other.
+pub mod Offers

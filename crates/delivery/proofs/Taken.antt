@@ -12,9 +12,9 @@ use Rattle.link.specs.declared.arrival.Arrival.TheVariants as arrival
 use Rattle.link.specs.declared.fault.LinkFault.{LinkFault}
 use Rattle.link.specs.Image.{last_number, answer_of, blank, after_close}
 use Rattle.delivery.specs.Way.{offered_in, IsSaid}
-use Rattle.delivery.specs.Link.{Side, notes, hears, gets, side_after, Gets, Offers, Resends, Greets, Closes, TurnsAway, Act, Link, At, First, Second, after_acts, fresh, opening_link, IsTakenInOrder, TellsNothingUnsent}
+use Rattle.delivery.specs.Link.{Side, notes, hears, gets, side_after, Gets, Offers, Resends, Greets, Closes, TurnsAway, Act, fresh, IsTakenInOrder, TellsNothingUnsent}
 use Rattle.delivery.proofs.Places.{length_of_rest}
-use Rattle.delivery.proofs.Carried.{IsLinked, linked_back, linked_says, linked_offers, linked_acknowledges, linked_closes, linked_takes, linked_repeats, linked_resends, linked_greets}
+use Rattle.delivery.proofs.Carried.{IsLinked, linked_says, linked_offers, linked_acknowledges, linked_closes, linked_takes, linked_repeats, linked_resends, linked_greets}
 
 pub at_place : (P : Frame → Type 0) (xs : List Frame) (k : ℕ) (x : Frame) → AllByRecursion P xs → slice_get xs k ≡ Some x → P x
 at_place P [] k x a e = cc

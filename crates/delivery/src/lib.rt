@@ -4,12 +4,14 @@
 //! takes a beginning of what the other offered. Begin with `specs/Link`, then `what_is_taken_was_offered`.
 #![tactic(auto)]
 
-ghost use Rattle.std.specs.Prelude.{◌≡◌, ℕ, ◌+◌, ◌≤◌, ◌++◌, List, length, drop, slice_get, All, IsTrue, Some, Ok};
+ghost use Rattle.std.specs.Prelude.{◌≡◌, ℕ, ◌+◌, ◌≤◌, false, ◌∷◌, [], ◌++◌, List, length, drop, slice_get, All, IsTrue, Some, Ok};
 ghost use Rattle.signal.specs.declared.signal.Signal.{Signal};
 ghost use Rattle.signal.specs.declared.frame.Frame.{Frame};
+ghost use Rattle.signal.specs.declared.frame.Frame.TheVariants.{Data};
 ghost use Rattle.link.specs.Answer.{numbered};
+ghost use Rattle.link.specs.Image.{after_offer, last_number};
 ghost use Rattle.delivery.specs.Way.{offered_in, is_old, IsSaid, IsWay};
-ghost use Rattle.delivery.specs.Link.{At, opening_link, after_acts, IsTakenInOrder, TellsNothingUnsent};
+ghost use Rattle.delivery.specs.Link.{Side, offers, At, opening_link, after_acts, IsTakenInOrder, TellsNothingUnsent};
 
 /// What a direction offered: signals that are sent under the next numbers are offered after all others; old frames, as those that are
 /// sent again, bring none.
@@ -46,4 +48,12 @@ pub fn what_is_taken_was_offered()
         TellsNothingUnsent (after_acts (opening_link federate incarnation room) acts).first (after_acts (opening_link federate incarnation room) acts).second }
     ensures second_is_told { (federate incarnation room : ℕ) (acts : List At) →
         TellsNothingUnsent (after_acts (opening_link federate incarnation room) acts).second (after_acts (opening_link federate incarnation room) acts).first }
+{}
+
+/// Signals that are offered together at an end that isn't closed might as well be offered one after the other; one signal is offered as
+/// its end offers it, in a frame with the next number.
+pub fn offers_come_one_by_one()
+    ensures one { (s : Side) (signal : Signal) → s.end.closed ≡ false → offers s (signal ∷ []) ≡
+        record { end = after_offer s.end signal; sent = s.sent ++ Data s.end.incarnation (last_number s.end + 1) signal ∷ []; took = s.took } }
+    ensures more { (s : Side) (signals others : List Signal) → s.end.closed ≡ false → offers (offers s signals) others ≡ offers s (signals ++ others) }
 {}
