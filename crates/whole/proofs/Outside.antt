@@ -8,7 +8,7 @@ use Rattle.plan.specs.declared.slots.Timer.{Timer}
 use Rattle.plan.specs.declared.slots.Slots.{Slots}
 use Rattle.plan.specs.declared.draft.Federate.{Federate}
 use Rattle.plan.specs.Numbering.{first_timer}
-use Rattle.plan.specs.External.{outside, times_from, firing_count, firing_times, firings_from, startup_of, own_events_from, input_event, input_events, found_action, physical_slot, external_of}
+use Rattle.plan.specs.External.{outside, times_from, firing_count, firing_times, firings_from, startup_of, own_events, own_events_from, input_event, input_events, found_action, physical_slot, external_of}
 use Rattle.std.specs.List.{filter_map, position_or_len}
 use Rattle.std.specs.Str.{bytes_eq}
 use Rattle.std.proofs.lemmas.Bool.{cases_Bool}
@@ -44,23 +44,6 @@ fired_more f offset period fired time base before after at so_far more =
     ap (λ ts. map f ts) next ∙ map-append f (times_from offset period fired) (time ∷ []) in
     more ∙ ap (λ es. es ++ f time ∷ []) so_far ∙ append_assoc base (map f (times_from offset period fired)) (f time ∷ []) ∙ ap (λ es. base ++ es) (sym mapped)
 
-within : (a b : Bool) (stop offset period k : ℕ) → (a ≡ true → offset ≤ stop) → (b ≡ true → period ≡ 0) →
-    k < (if a then (if b then 1 else (stop - offset) / period + 1) else 0) → offset + k * period ≤ stop
-within false b stop offset period k early once below = absurd (omega arith)
-within true true stop offset period k early once below =
-    let first : k ≡ 0 = omega arith in let low : offset ≤ stop = early refl in rw first (omega arith)
-within true false stop offset period k early once below =
-    let low : offset ≤ stop = early refl in
-    let few : k ≤ (stop - offset) / period = omega arith in
-    let product : k * period ≤ (stop - offset) / period * period = mul-le-mul_right period few in
-    let whole_part : (stop - offset) / period * period ≤ stop - offset = div-mul-le_self (stop - offset) period in
-    omega arith
-
--- no firing is after stop
-pub firing-within : (stop : ℕ) (t : Timer) (k : ℕ) → k < firing_count stop t → t.offset + k * t.period ≤ stop
-firing-within stop t k below =
-    within (nat_le t.offset stop) (nat_eq t.period 0) stop t.offset t.period k (leb-true t.offset stop) (eqb-true t.period 0) below
-
 -- the firings of one timer
 abbrev pub fired : ℕ → ℕ → ℕ → Timer → List Event
 fired stop federate slot t = map (λ time. outside (record { time = time; microstep = 0 }) federate slot (pos 0)) (firing_times stop t)
@@ -86,31 +69,27 @@ timers_step stop federate slot timers i t base before after below is so_far more
     more ∙ ap (λ es. es ++ fired stop federate (slot + i) t) so_far ∙
     append_assoc base (firings_from stop federate slot (take i timers)) (fired stop federate (slot + i) t) ∙ ap (λ es. base ++ es) (sym next)
 
--- the startup and the firings of one federate
-abbrev pub own : ℕ → ℕ → Slots → List Event
-own stop federate s = startup_of federate s ++ firings_from stop federate (first_timer s) s.timers
-
 own_events_from-more :
     (stop first : ℕ) (federates : List Federate) (i : ℕ) (d : Federate) → i < length federates →
-    own_events_from stop first (take (suc i) federates) ≡ own_events_from stop first (take i federates) ++ own stop (first + i) (get_or federates i d).slots
+    own_events_from stop first (take (suc i) federates) ≡ own_events_from stop first (take i federates) ++ own_events stop (first + i) (get_or federates i d).slots
 own_events_from-more stop first [] i d below = absurd (omega arith)
-own_events_from-more stop first (f ∷ rest) zero d below = rw (add-zero first) (append-nil (own stop first f.slots))
+own_events_from-more stop first (f ∷ rest) zero d below = rw (add-zero first) (append-nil (own_events stop first f.slots))
 own_events_from-more stop first (f ∷ rest) (suc i) d below =
     let moved : first + suc i ≡ first + 1 + i = omega arith in
-    rw moved (ap (λ es. own stop first f.slots ++ es) (own_events_from-more stop (first + 1) rest i d (omega arith)) ∙
-    sym (append_assoc (own stop first f.slots) (own_events_from stop (first + 1) (take i rest)) (own stop (first + 1 + i) (get_or rest i d).slots)))
+    rw moved (ap (λ es. own_events stop first f.slots ++ es) (own_events_from-more stop (first + 1) rest i d (omega arith)) ∙
+    sym (append_assoc (own_events stop first f.slots) (own_events_from stop (first + 1) (take i rest)) (own_events stop (first + 1 + i) (get_or rest i d).slots)))
 
 -- one federate more
 pub own_step :
     (stop : ℕ) (federates : List Federate) (i : ℕ) (f : Federate) (before after : List Event) → i < length federates → f ≡ get_or federates i f →
-    before ≡ own_events_from stop 0 (take i federates) → after ≡ before ++ own stop i f.slots →
+    before ≡ own_events_from stop 0 (take i federates) → after ≡ before ++ own_events stop i f.slots →
     after ≡ own_events_from stop 0 (take (i + 1) federates)
 own_step stop federates i f before after below is so_far more =
-    let next : own_events_from stop 0 (take (i + 1) federates) ≡ own_events_from stop 0 (take i federates) ++ own stop i f.slots =
+    let next : own_events_from stop 0 (take (i + 1) federates) ≡ own_events_from stop 0 (take i federates) ++ own_events stop i f.slots =
     ap (λ k. own_events_from stop 0 (take k federates)) (add-one i) ∙ own_events_from-more stop 0 federates i f below ∙
-    ap (λ k. own_events_from stop 0 (take i federates) ++ own stop k (get_or federates i f).slots) (zero-add i) ∙
-    ap (λ (x : Federate). own_events_from stop 0 (take i federates) ++ own stop i x.slots) (sym is) in
-    more ∙ ap (λ es. es ++ own stop i f.slots) so_far ∙ sym next
+    ap (λ k. own_events_from stop 0 (take i federates) ++ own_events stop k (get_or federates i f).slots) (zero-add i) ∙
+    ap (λ (x : Federate). own_events_from stop 0 (take i federates) ++ own_events stop i x.slots) (sym is) in
+    more ∙ ap (λ es. es ++ own_events stop i f.slots) so_far ∙ sym next
 
 firings_from-in_range : (d : Draft) (stop federate slot : ℕ) (timers : List Timer) → federate < federate_count d → All (IsInRange d) (firings_from stop federate slot timers)
 firings_from-in_range d stop federate slot [] there = none-All (IsInRange d)
@@ -133,7 +112,7 @@ own_events_from-in_range :
 own_events_from-in_range d stop first [] fits = none-All (IsInRange d)
 own_events_from-in_range d stop first (f ∷ rest) fits =
     let there : first < federate_count d = omega arith in
-    All-append (IsInRange d) (own stop first f.slots) (own_events_from stop (first + 1) rest)
+    All-append (IsInRange d) (own_events stop first f.slots) (own_events_from stop (first + 1) rest)
     (All-append (IsInRange d) (startup_of first f.slots) (firings_from stop first (first_timer f.slots) f.slots.timers)
     (startup_of-in_range d first f.slots there) (firings_from-in_range d stop first (first_timer f.slots) f.slots.timers there))
     (own_events_from-in_range d stop (first + 1) rest (omega arith))
@@ -169,35 +148,3 @@ recorded_step p h inputs i input base before after below is so_far more =
     recorded-more p h inputs i input below ∙ ap (λ x. filter p (filter_map h (take i inputs)) ++ filter p (filter_map h (x ∷ []))) (sym is) in
     more ∙ ap (λ es. es ++ filter p (filter_map h (input ∷ []))) so_far ∙
     append_assoc base (filter p (filter_map h (take i inputs))) (filter p (filter_map h (input ∷ []))) ∙ ap (λ es. base ++ es) (sym next)
-
--- the place of a name, as a search for it finds it
-place-next : (b : Bool) (k n : ℕ) → nat_lt k n ≡ b → (if nat_lt (1 + k) (suc n) then Some (1 + k) else None) ≡ option_map suc (if nat_lt k n then Some k else None)
-place-next true k n is =
-    let below : k < n = ltb-true k n is in
-    let more : 1 + k < suc n = omega arith in
-    let next : 1 + k ≡ suc k = omega arith in
-    rw (is, lt-ltb (1 + k) (suc n) more, next) refl
-place-next false k n is =
-    let above : n ≤ k = ltb-false k n is in
-    let more : suc n ≤ 1 + k = omega arith in
-    rw (is, le-ltb (1 + k) (suc n) more) refl
-
-pub position-is : (name : List ℕ) (names : List (List ℕ)) → position (λ other. bytes_eq other name) names ≡ place_of names name
-position-is name [] = refl
-position-is name (first ∷ rest) =
-    let places : ℕ = position_or_len (λ other. bytes_eq other name) rest in
-    let after : position (λ other. bytes_eq other name) rest ≡ place_of rest name = position-is name rest in
-    elim (cases_Bool (bytes_eq first name)) [
-      | inl same ↦ let some : 0 < suc (length rest) = omega arith in rw (same, lt-ltb 0 (suc (length rest)) some) refl
-      | inr other ↦ rw other (place-next (nat_lt places (length rest)) places (length rest) refl ∙ ap (λ o. option_map suc o) after)
-    ]
-
-pub federate_position-is : (name : List ℕ) (federates : List Federate) → position (λ f. bytes_eq f.name name) federates ≡ federate_number federates name
-federate_position-is name [] = refl
-federate_position-is name (first ∷ rest) =
-    let places : ℕ = position_or_len (λ f. bytes_eq f.name name) rest in
-    let after : position (λ f. bytes_eq f.name name) rest ≡ federate_number rest name = federate_position-is name rest in
-    elim (cases_Bool (bytes_eq first.name name)) [
-      | inl same ↦ let some : 0 < suc (length rest) = omega arith in rw (same, lt-ltb 0 (suc (length rest)) some) refl
-      | inr other ↦ rw other (place-next (nat_lt places (length rest)) places (length rest) refl ∙ ap (λ o. option_map suc o) after)
-    ]

@@ -1,15 +1,11 @@
-ghost use Rattle.std.specs.Prelude.{◌≡◌, ◌++◌, OnOk, IfSome, ◌<◌, length, position, All};
-ghost use Rattle.std.specs.Str.{bytes_eq};
+ghost use Rattle.std.specs.Prelude.{◌≡◌, ◌++◌, OnOk, All};
 ghost use Rattle.plan.specs.External.{input_events, input_event};
-ghost use Rattle.plan.specs.Federation.{federate_number};
 ghost use Rattle.plan.specs.Legal.{IsWithinLimits};
-ghost use Rattle.plan.specs.Naming.{place_of};
-ghost use Rattle.plan.specs.Numbering.{first_physical};
 
 use crate::event::Event;
 use crate::external::outside;
 use crate::made::add;
-use plan::{Federate, Input, Inputs, Plan, Slots, Text};
+use plan::{Federate, Input, Inputs, Plan, place_of};
 use reactor::Memory;
 
 /// Adds the recorded inputs up to stop.
@@ -30,53 +26,13 @@ fn event_of(federates: &[Federate], input: &Input) -> Option<Event>
     requires { All (λ f. IsWithinLimits f.slots) federates.now }
     ensures { result ≡ input_event federates.now input.now }
 {
-    let federate = federate_number(federates, &input.federate)?;
+    let federate = place_of(federates, input.federate.as_str().as_bytes())?;
     let slots = &federates.get(federate)?.slots;
-    let place = place_of(slots.physical.as_slice(), &input.action)?;
+    let place = slots.physical.place_of(input.action.as_str().as_bytes())?;
     Some(outside(
         input.tag.tag(),
         federate,
-        first_physical(slots) + place,
+        slots.first_physical() + place,
         input.value,
     ))
-}
-
-fn federate_number(federates: &[Federate], name: &Text) -> Option<usize>
-    ensures { result ≡ federate_number federates.now name.now }
-{
-    federate_position(federates, name)
-}
-
-fn federate_position(federates: &[Federate], name: &Text) -> Option<usize>
-    ensures { result ≡ position (λ f. bytes_eq f.name name.now) federates.now }
-{
-    federates
-        .iter()
-        .position(|federate| federate.name.as_str() == name.as_str())
-}
-
-fn place_of(names: &[Text], name: &Text) -> Option<usize>
-    ensures place { result ≡ place_of names.now name.now }
-    ensures there { IfSome result (λ place. place < length names.now) }
-{
-    position_of(names, name)
-}
-
-fn position_of(names: &[Text], name: &Text) -> Option<usize>
-    ensures place { result ≡ position (λ other. bytes_eq other name.now) names.now }
-    ensures there { IfSome result (λ place. place < length names.now) }
-{
-    names
-        .iter()
-        .position(|other| other.as_str() == name.as_str())
-}
-
-/// The slot of the first physical action.
-fn first_physical(slots: &Slots) -> usize
-    requires { IsWithinLimits slots.now }
-    ensures { result ≡ first_physical slots.now }
-{
-    1 + slots.inputs.as_slice().len()
-        + slots.timers.as_slice().len()
-        + slots.actions.as_slice().len()
 }

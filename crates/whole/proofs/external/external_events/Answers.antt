@@ -1,5 +1,6 @@
 use Rattle.std.proofs.Common.{◌∙◌, ◌++◌, ap}
-use Rattle.whole.proofs.Outside.{own_step, own}
+use Rattle.plan.specs.External.{own_events}
+use Rattle.whole.proofs.Outside.{own_step}
 use Rattle.whole.proofs.external.external_events.Goals as goal
 
 pub loop-federate-preserved : goal.loop-federate-preserved
@@ -8,4 +9,4 @@ loop-federate-preserved c =
     (rw (← c.federates-declared-items.ensures) c.loop-federate-test.true) (rw (← c.federates-declared-items.ensures) c.declared-item.is)
     c.loop-federate.invariant
     (c.in_ok-add_own.ensures ∙
-    ap (λ stop. c.loop-federate.events.items ++ own stop c.loop-federate.federate c.declared-item.result.slots) (c.nanoseconds-stop.ensures.value ∙ c.stop_time.ensures))
+    ap (λ stop. c.loop-federate.events.items ++ own_events stop c.loop-federate.federate c.declared-item.result.slots) (c.nanoseconds-stop.ensures.value ∙ c.stop_time.ensures))
