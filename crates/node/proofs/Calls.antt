@@ -2,7 +2,7 @@
 use Rattle.std.proofs.Common.{◌≡◌, ◌≢◌, ℕ, ◌+◌, ◌++◌, ◌∙◌, sym, ap, Bool, true, false, List, [], ◌∷◌, map, slice_get, set, Some, Result, Ok, Err, IsOk, IfOk, OnOk, refl, arith}
 use Rattle.signal.specs.declared.signal.Signal.{Signal}
 use Rattle.signal.specs.declared.frame.Frame.{Frame}
-use Rattle.signal.specs.declared.frame.Frame.TheVariants.{Hello, Data, Ack, Refuse}
+use Rattle.signal.specs.declared.frame.Frame.TheVariants.{Data, Ack, Refuse}
 use Rattle.link.specs.declared.arrival.Arrival.{Arrival}
 use Rattle.link.specs.Image.{Image, answer_of, after_frame, after_close, ack_of}
 use Rattle.protocol.specs.Refusals.{number_of}
@@ -15,9 +15,9 @@ use Rattle.node.specs.declared.reply.Reply.{Reply}
 use Rattle.node.specs.declared.post.Post.{Post}
 use Rattle.node.specs.declared.post.Outgoing.{Outgoing}
 use Rattle.node.specs.Numbers.{fault_number, closes}
-use Rattle.node.specs.Mail.{Mail, all_posted, lacks_room, bare}
-use Rattle.node.specs.Core.{Core, Made, Ending, Refuses, LacksRoom, Stays, Moves, ending_of, answer_of as answer_for, node_after, mail_after, IsCall, sends}
-use Rattle.node.specs.Step.{Station, Stepped, Answer, Silent, Says, Declines, said, acts, takes, received, with_end, addressed, acknowledging, unsent, lets_in, noted, answer_with, changes, returned}
+use Rattle.node.specs.Mail.{Mail, lacks_room, bare}
+use Rattle.node.specs.Core.{Core, Made, Ending, Refuses, LacksRoom, Stays, Moves, ending_of, answer_of as answer_for, node_after, mail_after, IsCall}
+use Rattle.node.specs.Step.{Station, Silent, Says, Declines, said, acts, takes, received, with_end, addressed, acknowledging, unsent, lets_in, noted, answer_with, changes, returned}
 use Rattle.node.proofs.Posts.{all_posted_bare, bare_at, still_answers}
 
 acts_as : {View : Type 0} (before after : View) (ends : List Image) (mail : Mail) (answer : Result Bool NodeFault) (reply : Reply) (ending : Ending View) →

@@ -1,5 +1,5 @@
 -- Link ends at their peers' places, and one of them changed.
-use Rattle.std.proofs.Common.{◌≡◌, ◌≢◌, ℕ, suc, zero, ◌+◌, ◌<◌, ◌≤◌, true, false, List, [], ◌∷◌, ◌++◌, length, map, set, get_or, slice_get, option_map, Some, None, Result, Ok, Err, is_ok, if◌then◌else◌, nat_eq, refl, ap, arith, rules}
+use Rattle.std.proofs.Common.{◌≡◌, ◌≢◌, ℕ, suc, zero, ◌+◌, ◌<◌, ◌≤◌, true, false, List, [], ◌∷◌, ◌++◌, length, set, get_or, slice_get, option_map, Some, Result, Ok, Err, is_ok, if◌then◌else◌, nat_eq, refl, ap, arith}
 use Rattle.std.proofs.lemmas.List.{map-set, length_push}
 use Rattle.std.proofs.lemmas.Option.{slice_get-map, slice_get-get_or}
 use Rattle.signal.specs.declared.signal.Signal.{Signal}
@@ -8,7 +8,7 @@ use Rattle.link.specs.declared.fault.LinkFault.{LinkFault}
 use Rattle.link.specs.Image.{Image, EndView, offer_of, after_offer}
 use Rattle.node.specs.declared.post.Post.{Post}
 use Rattle.node.specs.declared.post.Outgoing.{Outgoing}
-use Rattle.node.specs.Mail.{Mail, posted, count_for, lacks, lacks_at, some_lacks, lacks_room}
+use Rattle.node.specs.Mail.{posted, count_for, lacks, lacks_at, some_lacks, lacks_room}
 use Rattle.node.specs.Box.{images, reserves, reserved_at}
 
 pub images_set : (xs : List EndView) (i : ℕ) (y : EndView) → images (set xs i y) ≡ set (images xs) i y.image

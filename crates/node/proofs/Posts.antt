@@ -1,16 +1,14 @@
 -- What posts make of the link ends, and that what was reserved for several serves them one after the other.
-use Rattle.std.proofs.Common.{◌≡◌, ◌≢◌, ◌⊎◌, inl, inr, ℕ, suc, zero, ◌+◌, ◌<◌, ◌≤◌, Bool, true, false, List, [], ◌∷◌, ◌++◌, length, map, set, take, drop, get_or, slice_get, option_map, Option, Some, None, is_ok, if◌then◌else◌, nat_eq, refl, ap, arith, drop-cons}
-use Rattle.std.proofs.lemmas.List.{length_push, take_more}
+use Rattle.std.proofs.Common.{◌≡◌, ◌⊎◌, inl, inr, ℕ, suc, zero, ◌+◌, ◌<◌, ◌≤◌, Bool, true, false, List, [], ◌∷◌, ◌++◌, map, set, slice_get, option_map, Option, Some, None, is_ok, if◌then◌else◌, nat_eq, refl, ap, arith}
 use Rattle.std.proofs.lemmas.Option.{slice_get-map}
 use Rattle.signal.specs.declared.signal.Signal.{Signal}
-use Rattle.signal.specs.declared.frame.Frame.{Frame}
-use Rattle.signal.specs.declared.frame.Frame.TheVariants.{Hello, Data, Ack, Refuse}
-use Rattle.link.specs.Image.{Image, EndView, offer_of, after_offer, answer_of}
+use Rattle.signal.specs.declared.frame.Frame.TheVariants.{Data}
+use Rattle.link.specs.Image.{Image, offer_of, after_offer, answer_of}
 use Rattle.node.specs.declared.post.Post.{Post}
 use Rattle.node.specs.declared.post.Outgoing.{Outgoing}
-use Rattle.node.specs.Mail.{Mail, posted, offered_at, all_posted, framed, count_for, lacks, lacks_at, peer_lacks, some_lacks, lacks_room, bare}
+use Rattle.node.specs.Mail.{Mail, posted, offered_at, all_posted, framed, count_for, lacks, lacks_at, peer_lacks, lacks_room, bare}
 use Rattle.node.specs.Box.{Outbox, HasMemory, IsReady, IsReadyFor, reserved_at}
-use Rattle.node.proofs.Ends.{all_have, room_for_all, lacks_less, get_set_here, get_set_other}
+use Rattle.node.proofs.Ends.{all_have, room_for_all, lacks_less}
 
 -- posts in turn
 pub all_posted_push : (m : Mail) (posts : List Post) (post : Post) → all_posted m (posts ++ post ∷ []) ≡ posted (all_posted m posts) post

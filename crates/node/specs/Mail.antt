@@ -1,5 +1,5 @@
 -- What a node's posts make of the link ends, and whether there is room for them. Peer p is at place p.
-use Rattle.std.specs.Prelude.{ℕ, ◌+◌, Bool, true, false, ◌&&◌, ◌||◌, not, if◌then◌else◌, nat_eq, nat_lt, is_ok, List, [], ◌∷◌, ◌++◌, length, filter, set, slice_get, Option, None, Some, Result, Ok, Err}
+use Rattle.std.specs.Prelude.{ℕ, ◌+◌, Bool, false, ◌&&◌, ◌||◌, not, if◌then◌else◌, nat_eq, nat_lt, is_ok, List, [], ◌∷◌, ◌++◌, length, filter, set, slice_get, Option, None, Some, Result, Ok, Err}
 use Rattle.signal.specs.declared.signal.Signal.{Signal}
 use Rattle.signal.specs.declared.frame.Frame.{Frame}
 use Rattle.link.specs.declared.fault.LinkFault.{LinkFault}

@@ -1,6 +1,5 @@
 -- A station: a node with its link ends. What it answers to an event, and what stands after it.
-use Rattle.std.specs.Prelude.{◌≡◌, ℕ, Bool, true, false, ◌&&◌, not, if◌then◌else◌, nat_eq, nat_lt, List, [], ◌∷◌, map, set, slice_get, Option, None, Some, Result, Ok, Err}
-use Rattle.signal.specs.declared.signal.Signal.{Signal}
+use Rattle.std.specs.Prelude.{ℕ, Bool, true, false, ◌&&◌, not, if◌then◌else◌, nat_eq, nat_lt, List, [], ◌∷◌, map, set, slice_get, Option, None, Some, Result, Ok, Err}
 use Rattle.signal.specs.declared.frame.Frame.{Frame}
 use Rattle.signal.specs.declared.frame.Frame.TheVariants.{Hello, Data, Ack, Refuse}
 use Rattle.link.specs.declared.arrival.Arrival.{Arrival}
@@ -9,7 +8,6 @@ use Rattle.link.specs.declared.fault.LinkFault.{LinkFault}
 use Rattle.link.specs.Fault as link
 use Rattle.link.specs.Image.{Image, blank, answer_of, after_frame, after_close, ack_of, hello_of, resent_by}
 use Rattle.protocol.specs.Refusals.{number_of}
-use Rattle.protocol.specs.Outcome.{Outcome}
 use Rattle.node.specs.declared.post.Outgoing.{Outgoing}
 use Rattle.node.specs.declared.event.Event.{Event}
 use Rattle.node.specs.declared.event.Event.TheVariants as event
@@ -17,7 +15,7 @@ use Rattle.node.specs.declared.reply.Reply.{Reply}
 use Rattle.node.specs.declared.reply.Reply.TheVariants as reply
 use Rattle.node.specs.Numbers.{no_room, closes}
 use Rattle.node.specs.Mail.{Mail}
-use Rattle.node.specs.Core.{Core, Made, Ending, Refuses, LacksRoom, Stays, Moves, ending_of}
+use Rattle.node.specs.Core.{Core, Ending, Refuses, LacksRoom, Stays, Moves, ending_of}
 
 -- a node with its ends; peer p is at place p
 pub record Station (View : Type 0) : Type 0 where

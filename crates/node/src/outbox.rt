@@ -119,7 +119,7 @@ impl Outbox {
         }
     }
 
-    /// Whoever made it gives memory by this.
+    /// Where its memory comes from.
     pub(crate) fn alloc(&self) -> Global {
         self.alloc
     }

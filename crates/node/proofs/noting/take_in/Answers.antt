@@ -1,4 +1,4 @@
-use Rattle.std.proofs.Common.{◌≡◌, arith, sym, ◌∙◌}
+use Rattle.std.proofs.Common.{sym, ◌∙◌}
 use Rattle.node.proofs.Notes.{seen, closed_shown, open_shown, same_end}
 use Rattle.node.proofs.noting.take_in.Goals as goal
 

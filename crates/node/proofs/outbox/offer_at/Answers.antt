@@ -1,4 +1,4 @@
-use Rattle.std.proofs.Common.{refl, ◌≡◌, arith, Ok, Some, slice_get}
+use Rattle.std.proofs.Common.{◌≡◌, arith, Ok, Some, slice_get}
 use Rattle.link.specs.Image.{offer_of}
 use Rattle.node.proofs.Ends.{found_at, posted_frame, posted_nothing, no_offer, reserved_then}
 use Rattle.node.proofs.outbox.offer_at.Goals as goal

@@ -1,5 +1,4 @@
-use Rattle.std.proofs.Common.{◌≡◌, arith, refl, Some, slice_get, option_map}
-use Rattle.node.specs.Box.{images}
+use Rattle.std.proofs.Common.{◌≡◌, arith, refl, Some, slice_get}
 use Rattle.node.proofs.Ends.{found_at, images_get, images_set}
 use Rattle.node.proofs.outbox.receive_at.Goals as goal
 

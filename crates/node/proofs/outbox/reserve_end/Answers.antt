@@ -1,5 +1,4 @@
-use Rattle.std.proofs.Common.{◌≡◌, ◌≤◌, false, arith, refl, Some, slice_get, set}
-use Rattle.link.specs.Image.{Image, EndView}
+use Rattle.std.proofs.Common.{◌≡◌, arith, Some, slice_get, set}
 use Rattle.node.proofs.Ends.{found_at, images_same, images_get, reserved_then, reserved_here, get_set_here, lacks_here}
 use Rattle.node.proofs.outbox.reserve_end.Goals as goal
 

@@ -1,8 +1,7 @@
-use Rattle.std.proofs.Common.{◌≡◌, ◌<◌, ◌≤◌, ℕ, false, true, arith, refl, length, None, slice_get, ◌∙◌}
+use Rattle.std.proofs.Common.{◌≡◌, ℕ, false, arith, ◌∙◌}
 use Rattle.std.proofs.lemmas.Option.{slice_get_past, slice_get_within}
 use Rattle.std.proofs.lemmas.List.{length-map}
-use Rattle.link.specs.Image.{Image, EndView}
-use Rattle.node.specs.Mail.{count_for, lacks_at, lacks_room}
+use Rattle.node.specs.Mail.{count_for, lacks_at}
 use Rattle.node.specs.Box.{images, reserves}
 use Rattle.node.proofs.Ends.{room_for_all}
 use Rattle.node.proofs.Posts.{one_lacks, room_more, memory_more}

@@ -1,7 +1,5 @@
-use Rattle.std.proofs.Common.{◌≡◌, ◌+◌, ◌∷◌, ◌++◌, [], arith, refl, take, drop, get_or, drop-cons}
+use Rattle.std.proofs.Common.{◌≡◌, ◌+◌, ◌∷◌, ◌++◌, [], arith, take, drop, drop-cons}
 use Rattle.std.proofs.lemmas.List.{take_more}
-use Rattle.node.specs.Box.{IsReady}
-use Rattle.node.specs.Mail.{all_posted, posted}
 use Rattle.node.proofs.Posts.{all_posted_push, ready_first, ready_rest}
 use Rattle.node.proofs.outbox.Outbox.put_all.Goals as goal
 

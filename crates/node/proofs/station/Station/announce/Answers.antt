@@ -1,4 +1,3 @@
-use Rattle.std.proofs.Common.{◌≡◌}
 use Rattle.node.proofs.Calls.{acts_done}
 use Rattle.node.proofs.station.Station.announce.Goals as goal
 

@@ -1,4 +1,4 @@
-use Rattle.std.proofs.Common.{◌≡◌, ◌≢◌, arith, sym, ◌∙◌, Ok, Err}
+use Rattle.std.proofs.Common.{◌≡◌, ◌≢◌, arith, sym, ◌∙◌, Err}
 use Rattle.node.specs.declared.fault.NodeFault.TheVariants as fault
 use Rattle.node.proofs.Calls.{take_ok, take_refused, receivable}
 use Rattle.node.proofs.station.Station.take.Goals as goal
