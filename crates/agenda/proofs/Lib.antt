@@ -1,0 +1,24 @@
+-- The order of events, one number after the other.
+pub mod Order
+-- Putting events, in any order.
+pub mod Putting
+-- What is kept of the events, by their tags.
+pub mod Filtered
+-- The least tag.
+pub mod Least
+-- The entries of the ordered map as events.
+pub mod Entries
+-- What is not later than a tag.
+pub mod Due
+-- Lists of timers.
+pub mod TimerLists
+-- The firings of timers.
+pub mod Fired
+-- The same at the order of the map's keys.
+pub mod Keyed
+-- An agenda's value after each call.
+pub mod Views
+-- What is present, slot by slot.
+pub mod Slots
+-- What a new agenda holds.
+pub mod Fresh

@@ -1,0 +1,10 @@
+use Rattle.std.proofs.Common.{ap, sym, ◌∙◌, ◌≡◌, ◌<◌, true, false, arith, length}
+use Rattle.network.specs.Undone.{drop_up_to}
+use Rattle.agenda.specs.Kept.{held_in, has_due}
+use Rattle.agenda.proofs.Keyed.{due_some, due_step}
+use Rattle.agenda.proofs.Due.{none_due}
+use Rattle.agenda.proofs.puts.drop_puts.Goals as goal
+
+pub returns : goal.returns
+returns c =
+    sym (none_due (held_in c.loop-tag.puts.entries) c.args.tag c.in_order.ensures (sym c.has_due.ensures ∙ c.loop-tag-test.false)) ∙ c.loop-tag.invariant

@@ -1,0 +1,50 @@
+-- An agenda: the events that one federate has still to run, up to stop.
+use Rattle.std.specs.Prelude.{◌≡◌, ℕ, IsTrue, List, [], ◌∷◌, map, filter, Option, None, Some}
+use Rattle.std.specs.List.{AllByRecursion}
+use Rattle.tag.specs.LogicalTime.{LogicalTime, forever, is_at_most, is_same, IsFinite}
+use Rattle.network.specs.Event.{Event, Entry}
+use Rattle.network.specs.Undone.{Held, is_held_before, put_all, first_tag}
+use Rattle.plan.specs.declared.slots.Slots.{Slots}
+use Rattle.plan.specs.External.{own_events}
+
+-- what is undone, with nothing later than stop, and what stood before the last events were put
+pub record Agenda : Type 0 where
+  pub stop : LogicalTime
+  pub undone : List Held
+  pub before : List Held
+
+-- an event, once it is known whose it is and no later one can replace it
+abbrev pub held_of : Event → Held
+held_of e = record { tag = e.tag; slot = e.slot; value = e.value }
+
+-- what a federate holds by its slots alone: its startup, where it has one, and all firings of its timers up to stop
+abbrev pub own_undone : LogicalTime → Slots → List Held
+own_undone stop s = put_all (map held_of (own_events stop.time 0 s)) []
+
+-- those up to stop
+abbrev pub in_time : LogicalTime → List Held → List Held
+in_time stop events = filter (λ e. is_at_most e.tag stop) events
+
+-- what is present at a tag, by slot
+abbrev pub present_in : List Held → LogicalTime → List Entry
+present_in undone tag = map (λ e. record { place = e.slot; value = e.value }) (filter (λ e. is_same e.tag tag) undone)
+
+-- the tag of the first, and FOREVER where there is none
+abbrev pub least_in : List Held → LogicalTime
+least_in [] = forever
+least_in (e ∷ rest) = e.tag
+
+-- each is before all that follow: by tag, then by slot
+abbrev pub Rises : List Held → Type 0
+Rises [] = Unit {0}
+Rises (e ∷ rest) = AllByRecursion (λ x. IsTrue (is_held_before e x)) rest × Rises rest
+
+-- the tag is finite and not later than stop
+pub record IsInTime (stop : LogicalTime) (e : Held) : Type 0 where
+  pub finite : IsFinite e.tag
+  pub at_most : IsTrue (is_at_most e.tag stop)
+
+-- what is undone strictly rises, and is in time
+pub record IsAgenda (a : Agenda) : Type 0 where
+  pub rises : Rises a.undone
+  pub in_time : AllByRecursion (IsInTime a.stop) a.undone

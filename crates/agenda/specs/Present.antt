@@ -1,0 +1,19 @@
+-- What is present at a tag, found slot by slot.
+use Rattle.std.specs.Prelude.{◌≡◌, ℕ, ◌<◌, if◌then◌else◌, nat_lt, nat_eq, List, [], ◌∷◌, map}
+use Rattle.network.specs.Event.{Entry}
+use Rattle.network.specs.Undone.{Held}
+
+-- an event, where its tag is known
+abbrev pub entry_of : Held → Entry
+entry_of e = record { place = e.slot; value = e.value }
+
+-- with one more entry, which replaces an older one for its slot
+abbrev pub set_entry : Entry → List Entry → List Entry
+set_entry e [] = e ∷ []
+set_entry e (x ∷ rest) =
+    if nat_lt e.place x.place then e ∷ x ∷ rest else (if nat_eq e.place x.place then e ∷ rest else x ∷ set_entry e rest)
+
+-- with these entries, one after the other
+abbrev pub set_entries : List Entry → List Entry → List Entry
+set_entries [] entries = entries
+set_entries (e ∷ rest) entries = set_entries rest (set_entry e entries)

@@ -1,0 +1,129 @@
+ghost use Rattle.std.specs.Prelude.{◌≡◌, All, IfOk, OnOk, OnErr};
+ghost use Rattle.tag.specs.LogicalTime.{origin};
+ghost use Rattle.network.specs.Undone.{put_all};
+ghost use Rattle.agenda.specs.Kept.{held_in, startup_in};
+ghost use Rattle.plan.specs.Legal.{IsTimerInRange, IsWithinLimits};
+
+use crate::firings::Firings;
+use crate::held::Held;
+use crate::key::Key;
+use crate::memory::Memory;
+use crate::puts::{Puts, first_put, in_order, put_in_time, undo_each};
+use crate::timers::{first_firing, lesser, timers_of};
+use crate::undo::Undo;
+use plan::Slots;
+use std::alloc::Global;
+use std::collections::BTreeMap;
+use std::marker::Model;
+use std::mem;
+use tag::{FiniteTag, Tag, Time};
+
+/// What `put_all` gives, and `take_back` takes.
+#[derive(Debug, Drop)]
+pub struct Put(());
+
+/// One federate's events that are still undone, up to stop. Of each timer it keeps the next firing alone.
+#[derive(Drop)]
+pub struct Agenda {
+    stop: FiniteTag,
+    puts: Puts,
+    timers: Vec<Firings>,
+    /// Of the least firing that is left; FOREVER where there is none.
+    next_firing: Tag,
+    /// What takes back the last `put_all`.
+    undos: Vec<Undo>,
+    /// Room for those of the next.
+    spare: Vec<Undo>,
+}
+
+impl Model for Agenda {
+    ghost use Rattle.agenda.specs.Agenda.{Agenda as AgendaOf};
+    ghost use Rattle.agenda.specs.Kept.{held_in, undone_of, undo_all, IsKept};
+
+    ghost Value = { AgendaOf };
+
+    ghost view = { λ a. record { stop = a.stop; undone = undone_of (held_in a.puts.entries) a.timers.items; before = undone_of (undo_all a.undos.items (held_in a.puts.entries)) a.timers.items } };
+
+    ghost invariant = { λ a. IsKept a.stop (held_in a.puts.entries) (undo_all a.undos.items (held_in a.puts.entries)) a.timers.items a.next_firing };
+}
+
+impl Agenda {
+    ghost use Rattle.agenda.specs.Agenda.{own_undone, in_time, least_in, IsAgenda};
+
+    /// With what the slots bring by themselves, up to stop: startup, where it is asked for, and the firings of timers.
+    pub fn new(alloc: Global, slots: &Slots, stop: FiniteTag) -> Result<Agenda, Memory>
+        requires limits { IsWithinLimits slots.now }
+        requires timers { All IsTimerInRange slots.now.timers }
+        ensures { IfOk result (λ agenda. agenda ≡ record { stop = stop; undone = own_undone stop slots.now; before = own_undone stop slots.now }) }
+    {
+        let puts = startup_of(alloc, slots.startup)?;
+        stop.known();
+        let timers = timers_of(alloc, slots, stop.time())?;
+        let next_firing = first_firing(timers.as_slice());
+        Ok(Agenda {
+            stop,
+            puts,
+            timers,
+            next_firing,
+            undos: Vec::new(alloc),
+            spare: Vec::new(alloc),
+        })
+    }
+
+    /// What every agenda keeps.
+    pub fn known(&self)
+        ensures { IsAgenda self.now }
+    {
+        in_order(&self.puts);
+        self.stop.known();
+    }
+
+    /// Puts events one after the other, all or none; one for a slot that has a value at its tag replaces it, and one later than stop
+    /// is dropped.
+    pub fn put_all(&mut self, events: &[Held]) -> Result<Put, Memory>
+        ensures put { OnOk result (self.new ≡ record self.old { undone = put_all (in_time self.old.stop events.now) self.old.undone; before = self.old.undone }) }
+        ensures err { OnErr result (self.new ≡ self.old) }
+    {
+        in_order(&self.puts);
+        put_in_time(&mut self.puts, &mut self.spare, self.stop, events)?;
+        mem::swap(&mut self.undos, &mut self.spare);
+        Ok(Put(()))
+    }
+
+    /// Undoes the last `put_all`. It needs no memory.
+    pub fn take_back(&mut self, _put: Put)
+        ensures { self.new ≡ record self.old { undone = self.old.before } }
+    {
+        undo_each(&mut self.puts, &mut self.undos);
+    }
+
+    /// The tag of the next event; FOREVER where nothing is left.
+    pub fn least(&self) -> Tag
+        ensures { result ≡ least_in self.now.undone }
+    {
+        in_order(&self.puts);
+        lesser(first_put(&self.puts), self.next_firing)
+    }
+}
+
+/// Where startup stands.
+fn startup() -> Key
+    ensures { result ≡ record { tag = origin; slot = 0 } }
+{
+    Key {
+        tag: FiniteTag::new(Time::zero(), 0),
+        slot: 0,
+    }
+}
+
+/// Startup, where it is asked for.
+fn startup_of(alloc: Global, wanted: bool) -> Result<Puts, Memory>
+    ensures { IfOk result (λ puts. held_in puts.entries ≡ startup_in wanted) }
+{
+    let mut puts = BTreeMap::new(alloc);
+    if !wanted {
+        return Ok(puts);
+    }
+    puts.insert(startup(), 0)?;
+    Ok(puts)
+}

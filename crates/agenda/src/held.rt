@@ -1,0 +1,48 @@
+ghost use Rattle.std.specs.Prelude.{◌≡◌};
+
+use std::marker::Model;
+use tag::FiniteTag;
+
+/// Something that will be present at a slot.
+#[derive(Clone, Copy, Debug, PartialEq, Eq)]
+pub struct Held {
+    tag: FiniteTag,
+    slot: usize,
+    value: i64,
+}
+
+impl Model for Held {
+    ghost use Rattle.network.specs.Undone.{Held as HeldOf};
+
+    ghost Value = { HeldOf };
+
+    ghost view = { λ e. record { tag = e.tag; slot = e.slot; value = e.value } };
+
+    ghost inverse = { λ e. record { tag = e.tag; slot = e.slot; value = e.value } };
+}
+
+impl Held {
+    pub fn new(tag: FiniteTag, slot: usize, value: i64) -> Held
+        ensures { result ≡ record { tag = tag; slot = slot; value = value } }
+    {
+        Held { tag, slot, value }
+    }
+
+    pub fn tag(self) -> FiniteTag
+        ensures { result ≡ self.tag }
+    {
+        self.tag
+    }
+
+    pub fn slot(self) -> usize
+        ensures { result ≡ self.slot }
+    {
+        self.slot
+    }
+
+    pub fn value(self) -> i64
+        ensures { result ≡ self.value }
+    {
+        self.value
+    }
+}

@@ -1,0 +1,8 @@
+use tag::FiniteTag;
+
+/// A slot at a tag: by tag, then by slot.
+#[derive(Clone, Copy, Debug, PartialEq, Eq, PartialOrd, Ord)]
+pub struct Key {
+    pub tag: FiniteTag,
+    pub slot: usize,
+}

@@ -1,0 +1,65 @@
+ghost use Rattle.std.specs.Prelude.{◌≡◌, ◌+◌, ◌<◌, ◌^◌, All, IfOk, length, map};
+ghost use Rattle.std.specs.List.{AllByRecursion};
+ghost use Rattle.tag.specs.LogicalTime.{lesser};
+ghost use Rattle.plan.specs.External.{firing_count};
+ghost use Rattle.plan.specs.Legal.{IsTimerInRange, IsWithinLimits};
+ghost use Rattle.plan.specs.Numbering.{first_timer};
+ghost use Rattle.agenda.specs.Kept.{first_firing, timers_from, IsTimer};
+
+use crate::firings::{Firings, next_tag};
+use crate::memory::Memory;
+use plan::{Slots, Timer};
+use std::alloc::Global;
+use tag::{Tag, Time};
+
+/// The timers of a federate, before any firing.
+pub fn timers_of(alloc: Global, slots: &Slots, stop: Time) -> Result<Vec<Firings>, Memory>
+    requires limits { IsWithinLimits slots.now }
+    ensures { IfOk result (λ timers. timers.items ≡ timers_from stop (first_timer slots.now) slots.now.timers) }
+{
+    let stop = stop.nanoseconds();
+    let first = 1 + slots.inputs.as_slice().len();
+    let mut timers = Vec::new(alloc);
+    for (place, timer) in slots.timers.as_slice().iter().enumerate() {
+        timers.push(Firings {
+            slot: first + place,
+            next: timer.offset,
+            period: timer.period,
+            left: firing_count(stop, timer),
+        })?;
+    }
+    Ok(timers)
+}
+
+/// How often a timer fires up to stop.
+fn firing_count(stop: u64, timer: &Timer) -> u64
+    requires { stop < 2 ^ 62 }
+    ensures { result ≡ firing_count stop timer.now }
+{
+    if timer.offset > stop {
+        0
+    } else if timer.period == 0 {
+        1
+    } else {
+        (stop - timer.offset) / timer.period + 1
+    }
+}
+
+/// The tag of the least firing that is left; FOREVER where there is none.
+pub fn first_firing(timers: &[Firings]) -> Tag
+    requires { AllByRecursion IsTimer timers.now }
+    ensures { result ≡ first_firing timers.now }
+{
+    let mut first = Tag::FOREVER;
+    for place in (0..timers.len()).rev() {
+        first = lesser(next_tag(timers[place]), first);
+    }
+    first
+}
+
+/// The lesser of two tags.
+pub fn lesser(tag: Tag, other: Tag) -> Tag
+    ensures { result ≡ lesser tag other }
+{
+    if tag < other { tag } else { other }
+}
