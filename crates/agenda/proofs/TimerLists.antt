@@ -4,6 +4,7 @@ use Rattle.std.specs.Prelude.{filter, map}
 use Rattle.std.specs.List.{AllByRecursion}
 use Rattle.std.proofs.Math.Seq.{drop-cons}
 use Rattle.std.proofs.lemmas.List.{take_more, drop-set-lt}
+use Rattle.std.proofs.Math.Seq.{take-append_seam}
 use Rattle.std.proofs.lemmas.List.Elements.{filter-append}
 use Rattle.std.proofs.lemmas.Grind.{take-set_at, drop_more_same}
 use Rattle.tag.specs.LogicalTime.{LogicalTime, lesser, is_before}
@@ -55,20 +56,26 @@ all_firings-push (x ∷ timers) f = ap (λ rest. firings_of x ++ rest) (all_firi
 
 -- one timer more has let go of its firings
 pub dropped_more :
-    (tag : LogicalTime) (now before : List Firings) (i : ℕ) (f old : Firings) → i < length now → length now ≡ length before → old ≡ get_or now i old →
-    firings_of f ≡ drop_up_to tag (firings_of old) → drop i now ≡ drop i before →
+    (tag : LogicalTime) (now before : List Firings) (i : ℕ) (f d : Firings) → i < length now → length now ≡ length before →
+    firings_of f ≡ drop_up_to tag (firings_of (get_or now i d)) → drop i now ≡ drop i before →
     all_firings (take i now) ≡ drop_up_to tag (all_firings (take i before)) →
     all_firings (take (i + 1) (set now i f)) ≡ drop_up_to tag (all_firings (take (i + 1) before))
-dropped_more tag now before i f old h long is dropped rest done =
-    let here : get_or before i old ∷ drop (suc i) before ≡ old ∷ drop (suc i) now =
-    sym (drop-cons before i old (omega arith)) ∙ sym rest ∙ drop-cons now i old h ∙ ap (λ x. x ∷ drop (suc i) now) (sym is) in
-    let same : get_or before i old ≡ old = cc in
+dropped_more tag now before i f d h long dropped rest done =
+    let here : get_or before i d ∷ drop (suc i) before ≡ get_or now i d ∷ drop (suc i) now =
+    sym (drop-cons before i d (omega arith)) ∙ sym rest ∙ drop-cons now i d h in
+    let same : get_or before i d ≡ get_or now i d = cc in
     ap all_firings (take-set_at now i (i + 1) f refl h) ∙ all_firings-push (take i now) f
     ∙ ap (λ us. us ++ firings_of f) done ∙ ap (λ us. drop_up_to tag (all_firings (take i before)) ++ us) dropped
-    ∙ sym (ap (λ ts. drop_up_to tag (all_firings ts)) (take_more before i old (omega arith) ∙ ap (λ x. take i before ++ x ∷ []) same)
-    ∙ ap (drop_up_to tag) (all_firings-push (take i before) old)
-    ∙ filter-append (λ e. is_before tag e.tag) (all_firings (take i before)) (firings_of old))
+    ∙ sym (ap (λ ts. drop_up_to tag (all_firings ts)) (take_more before i d (omega arith) ∙ ap (λ x. take i before ++ x ∷ []) same)
+    ∙ ap (drop_up_to tag) (all_firings-push (take i before) (get_or now i d))
+    ∙ filter-append (λ e. is_before tag e.tag) (all_firings (take i before)) (firings_of (get_or now i d)))
 
 pub rest_stays : (now before : List Firings) (i : ℕ) (f : Firings) → i < length now → length now ≡ length before → drop i now ≡ drop i before →
     drop (i + 1) (set now i f) ≡ drop (i + 1) before
 rest_stays now before i f h long rest = drop-set-lt (i + 1) now i f (omega arith) ∙ drop_more_same now before i rest
+
+-- a list that is written back whole
+pub written : (new old : List Firings) (len : ℕ) → length new ≡ length old → len ≡ length old → take len (new ++ drop (length new) old) ≡ new
+written new old len same whole =
+    let at : len ≡ length new = omega arith in
+    ap (λ n. take n (new ++ drop (length new) old)) at ∙ take-append_seam new (drop (length new) old)

@@ -1,6 +1,6 @@
 ghost use Rattle.std.specs.Prelude.{◌≡◌, All, IfOk, OnOk, OnErr};
 ghost use Rattle.tag.specs.LogicalTime.{origin};
-ghost use Rattle.network.specs.Undone.{put_all};
+ghost use Rattle.network.specs.Undone.{put_all, drop_up_to};
 ghost use Rattle.agenda.specs.Kept.{held_in, startup_in};
 ghost use Rattle.plan.specs.Legal.{IsTimerInRange, IsWithinLimits};
 
@@ -8,8 +8,8 @@ use crate::firings::Firings;
 use crate::held::Held;
 use crate::key::Key;
 use crate::memory::Memory;
-use crate::puts::{Puts, first_put, in_order, put_in_time, undo_each};
-use crate::timers::{first_firing, lesser, timers_of};
+use crate::puts::{Puts, drop_puts, first_put, in_order, put_in_time, undo_each};
+use crate::timers::{drop_firings, first_firing, lesser, timers_of};
 use crate::undo::Undo;
 use plan::Slots;
 use std::alloc::Global;
@@ -90,7 +90,7 @@ impl Agenda {
         Ok(Put(()))
     }
 
-    /// Undoes the last `put_all`. It needs no memory.
+    /// Undoes the last `put_all`, where nothing was dropped since. It needs no memory.
     pub fn take_back(&mut self, _put: Put)
         ensures { self.new ≡ record self.old { undone = self.old.before } }
     {
@@ -103,6 +103,16 @@ impl Agenda {
     {
         in_order(&self.puts);
         lesser(first_put(&self.puts), self.next_firing)
+    }
+
+    /// Lets go of all up to a tag, which then can't be taken back. It needs no memory.
+    pub fn drop_at(&mut self, tag: Tag)
+        ensures { self.new ≡ record { stop = self.old.stop; undone = drop_up_to tag self.old.undone; before = drop_up_to tag self.old.undone } }
+    {
+        self.undos.clear();
+        drop_puts(&mut self.puts, tag);
+        drop_firings(self.timers.as_mut_slice(), tag);
+        self.next_firing = first_firing(self.timers.as_slice());
     }
 }
 

@@ -1,12 +1,13 @@
 ghost use Rattle.std.specs.Prelude.{◌≡◌, ◌+◌, ◌<◌, ◌^◌, All, IfOk, length, map};
 ghost use Rattle.std.specs.List.{AllByRecursion};
 ghost use Rattle.tag.specs.LogicalTime.{lesser};
+ghost use Rattle.network.specs.Undone.{drop_up_to};
 ghost use Rattle.plan.specs.External.{firing_count};
 ghost use Rattle.plan.specs.Legal.{IsTimerInRange, IsWithinLimits};
 ghost use Rattle.plan.specs.Numbering.{first_timer};
-ghost use Rattle.agenda.specs.Kept.{first_firing, timers_from, IsTimer};
+ghost use Rattle.agenda.specs.Kept.{all_firings, first_firing, timers_from, IsTimer};
 
-use crate::firings::{Firings, next_tag};
+use crate::firings::{Firings, later_than, next_tag};
 use crate::memory::Memory;
 use plan::{Slots, Timer};
 use std::alloc::Global;
@@ -62,4 +63,16 @@ pub fn lesser(tag: Tag, other: Tag) -> Tag
     ensures { result ≡ lesser tag other }
 {
     if tag < other { tag } else { other }
+}
+
+/// Lets go of the firings up to a tag.
+pub fn drop_firings(timers: &mut [Firings], tag: Tag)
+    requires { AllByRecursion IsTimer timers.old }
+    ensures timers { AllByRecursion IsTimer timers.new }
+    ensures firings { all_firings timers.new ≡ drop_up_to tag (all_firings timers.old) }
+    ensures len { length timers.new ≡ length timers.old }
+{
+    for place in 0..timers.len() {
+        timers[place] = later_than(timers[place], tag);
+    }
 }
