@@ -1,5 +1,5 @@
 -- What is not later than a tag goes first.
-use Rattle.std.proofs.Common.{◌≡◌, Bool, true, false, List, [], ◌∷◌, refl, arith, Less}
+use Rattle.std.proofs.Common.{◌≡◌, true, false, List, [], ◌∷◌, refl, arith, Less}
 use Rattle.std.specs.List.{AllByRecursion}
 use Rattle.std.proofs.lemmas.Bool.Decides.{nat_tests}
 use Rattle.tag.specs.LogicalTime.{LogicalTime, is_before, is_at_most}
@@ -13,13 +13,13 @@ use Rattle.agenda.proofs.Filtered.{filter_all}
 pub not_later : (g tag : LogicalTime) → is_at_most g tag ≡ true → is_before tag g ≡ false
 not_later g tag h = grind (arith, nat_tests)
 
-later : (g tag : LogicalTime) → is_at_most g tag ≡ false → is_before tag g ≡ true
+pub later : (g tag : LogicalTime) → is_at_most g tag ≡ false → is_before tag g ≡ true
 later g tag h = grind (arith, nat_tests)
 
 after : (a b : Held) (tag : LogicalTime) → is_before tag a.tag ≡ true → held_cmp a b ≡ Less → is_before tag b.tag ≡ true
 after a b tag h k = grind (arith, nat_tests)
 
-all_after : (a : Held) (u : List Held) (tag : LogicalTime) → is_before tag a.tag ≡ true → Above a u → AllByRecursion (λ e. is_before tag e.tag ≡ true) u
+pub all_after : (a : Held) (u : List Held) (tag : LogicalTime) → is_before tag a.tag ≡ true → Above a u → AllByRecursion (λ e. is_before tag e.tag ≡ true) u
 all_after a [] tag h r = tt
 all_after a (e ∷ u) tag h r = (after a e tag h r.0, all_after a u tag h r.1)
 

@@ -1,6 +1,6 @@
 -- The entries of the ordered map as events: an entry put in its place, taken out, and given another value.
-use Rattle.std.proofs.Common.{◌≡◌, ℕ, ℤ, pos, Bool, true, false, cond, not, List, [], ◌∷◌, Option, None, Some, refl, sym, ap, subst, ◌∙◌, arith, Ordering, Less, Equal, Greater}
-use Rattle.std.specs.Prelude.{map, filter, if◌then◌else◌, is_some}
+use Rattle.std.proofs.Common.{◌≡◌, ℤ, pos, Bool, true, false, cond, not, List, [], ◌∷◌, Option, None, Some, refl, sym, ap, subst, ◌∙◌, Ordering, Less, Equal, Greater}
+use Rattle.std.specs.Prelude.{map, filter, if◌then◌else◌}
 use Rattle.std.specs.List.{AllByRecursion}
 use Rattle.std.specs.List.Sorted.{IsStrictlySortedBy}
 use Rattle.std.specs.BTreeMap.{insert_entry, is_at}
@@ -11,7 +11,7 @@ use Rattle.network.specs.Undone.{Held, is_for_same, put}
 use Rattle.agenda.specs.declared.key.Key.{Key}
 use Rattle.agenda.specs.Kept.{held_at, held_in, undo_to}
 use Rattle.agenda.proofs.Order.{held_cmp, held_total, same_is}
-use Rattle.agenda.proofs.Putting.{put_less, put_equal, put_greater, Above, above_less, Ordered}
+use Rattle.agenda.proofs.Putting.{put_less, put_equal, put_greater, Above, Ordered}
 use Rattle.agenda.proofs.Filtered.{same_tag, same_slot, filter_all}
 
 -- an event for this slot at this tag

@@ -1,15 +1,14 @@
 -- The firings of timers that are left.
-use Rattle.std.proofs.Common.{◌≡◌, ℕ, zero, suc, ◌+◌, ◌-◌, ◌*◌, ◌/◌, ◌%◌, ◌<◌, ◌≤◌, ◌^◌, pos, Bool, true, false, cond, List, [], ◌∷◌, ◌++◌, refl, sym, ap, subst, ◌∙◌, arith, Ordering, Less}
-use Rattle.std.specs.Prelude.{if◌then◌else◌, map, filter, nat_eq, nat_lt, nat_le, ◌&&◌, ◌||◌}
+use Rattle.std.proofs.Common.{◌≡◌, ℕ, zero, suc, ◌+◌, ◌-◌, ◌<◌, ◌^◌, Bool, true, false, cond, List, [], ◌∷◌, refl, sym, ap, subst, ◌∙◌, arith, Less}
+use Rattle.std.specs.Prelude.{if◌then◌else◌, map, filter}
 use Rattle.std.specs.List.{AllByRecursion}
 use Rattle.std.proofs.lemmas.Bool.Decides.{nat_tests}
-use Rattle.std.proofs.lemmas.List.Elements.{filter-append}
-use Rattle.tag.specs.LogicalTime.{LogicalTime, forever, is_before, is_same, lesser}
+use Rattle.tag.specs.LogicalTime.{LogicalTime, is_before, is_same}
 use Rattle.network.specs.Undone.{Held, drop_up_to}
 use Rattle.plan.specs.External.{times_from}
 use Rattle.agenda.specs.declared.firings.Firings.{Firings}
 use Rattle.agenda.specs.Agenda.{least_in}
-use Rattle.agenda.specs.Kept.{has_due, has_before, firing, firings_of, all_firings, first_firing, Climbs, IsTimer}
+use Rattle.agenda.specs.Kept.{has_due, has_before, firing, firings_of, Climbs, IsTimer}
 use Rattle.agenda.proofs.Order.{held_cmp}
 use Rattle.agenda.proofs.Putting.{Above, Ordered}
 use Rattle.agenda.proofs.Filtered.{filter_none}

@@ -1,23 +1,22 @@
 -- What a new agenda holds.
-use Rattle.std.proofs.Common.{◌≡◌, ℕ, zero, suc, ◌+◌, ◌-◌, ◌*◌, ◌/◌, ◌<◌, ◌≤◌, ◌^◌, pos, Bool, true, false, nat_eq, nat_le, List, [], ◌∷◌, ◌++◌, length, refl, sym, ap, ◌∙◌, arith, IsTrue, All, Less, map}
+use Rattle.std.proofs.Common.{◌≡◌, ℕ, zero, suc, ◌+◌, ◌-◌, ◌*◌, ◌/◌, ◌<◌, ◌≤◌, ◌^◌, pos, Bool, true, false, nat_eq, nat_le, List, [], ◌∷◌, ◌++◌, refl, sym, ap, ◌∙◌, arith, All, Less, map}
 use Rattle.std.specs.Prelude.{if◌then◌else◌}
 use Rattle.std.specs.List.{AllByRecursion}
 use Rattle.std.proofs.lemmas.Bool.Decides.{nat_tests}
 use Rattle.std.proofs.lemmas.List.{map-append}
 use Rattle.std.proofs.Math.Nat.{suc-mul}
-use Rattle.tag.specs.LogicalTime.{LogicalTime, IsFinite, origin, is_at_most}
-use Rattle.network.specs.Undone.{Held, put, put_all}
+use Rattle.tag.specs.LogicalTime.{LogicalTime, origin}
+use Rattle.network.specs.Undone.{Held, put_all}
 use Rattle.plan.specs.declared.slots.Timer.{Timer}
 use Rattle.plan.specs.declared.slots.Slots.{Slots}
 use Rattle.plan.specs.Legal.{IsTimerInRange}
 use Rattle.plan.specs.Numbering.{first_timer}
-use Rattle.plan.specs.External.{outside, times_from, firing_count, firing_times, firings_from, startup_of, own_events}
+use Rattle.plan.specs.External.{outside, times_from, firing_count, firing_times, firings_from}
 use Rattle.plan.proofs.Outside.{firing_in_time}
-use Rattle.agenda.specs.declared.firings.Firings.{Firings}
 use Rattle.agenda.specs.Agenda.{held_of, own_undone}
-use Rattle.agenda.specs.Kept.{startup_in, firing, firings_of, all_firings, timers_from, undone_of, Climbs, IsTimer, IsFit}
+use Rattle.agenda.specs.Kept.{startup_in, firing, all_firings, timers_from, undone_of, Climbs, IsTimer, IsFit}
 use Rattle.agenda.proofs.Order.{held_cmp}
-use Rattle.agenda.proofs.Putting.{Above, put_first, put_all-append}
+use Rattle.agenda.proofs.Putting.{Above, put_first}
 use Rattle.agenda.proofs.Filtered.{all_append}
 use Rattle.agenda.proofs.TimerLists.{timer_of}
 

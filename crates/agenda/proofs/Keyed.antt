@@ -1,5 +1,5 @@
 -- The ordered map's entries, at the order of its keys.
-use Rattle.std.proofs.Common.{◌≡◌, ℕ, ◌<◌, ℤ, Bool, true, false, cond, List, [], ◌∷◌, ◌++◌, length, ap, sym, refl, ◌∙◌, arith, Option, None, Some, Ordering, Less}
+use Rattle.std.proofs.Common.{◌≡◌, ◌<◌, ℤ, true, false, cond, List, [], ◌∷◌, ◌++◌, length, ap, sym, refl, arith, Option, None, Some, Ordering}
 use Rattle.std.specs.Prelude.{is_some, slice_get}
 use Rattle.std.specs.List.Sorted.{IsStrictlySortedBy}
 use Rattle.std.specs.BTreeMap.{insert_entry, is_at}

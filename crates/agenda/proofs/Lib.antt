@@ -20,5 +20,7 @@ pub mod Keyed
 pub mod Views
 -- What is present, slot by slot.
 pub mod Slots
+-- The same, written entry by entry.
+pub mod Writing
 -- What a new agenda holds.
 pub mod Fresh

@@ -1,5 +1,5 @@
 -- The order of events as what a comparison answers: by time, by microstep, by slot.
-use Rattle.std.proofs.Common.{◌≡◌, ℕ, Bool, List, ◌∷◌, if◌then◌else◌, refl, ap, ◌∙◌, arith, IsTrue, Ordering, Less, Equal, Greater}
+use Rattle.std.proofs.Common.{◌≡◌, List, ◌∷◌, ap, ◌∙◌, arith, IsTrue, Ordering, Less}
 use Rattle.std.specs.Cmp.{IsTotalOrder}
 use Rattle.std.specs.Ordering.{on, then_cmp, nat_cmp, match_ordering, is_lt, is_eq}
 use Rattle.std.proofs.lemmas.Bool.Decides.{nat_tests}

@@ -1,11 +1,9 @@
 -- Putting events: in which order they are put doesn't matter where they are for different slots or tags.
-use Rattle.std.proofs.Common.{◌≡◌, ℕ, ◌+◌, ◌<◌, length, get_or, take, append-nil, Bool, true, false, cond, List, [], ◌∷◌, ◌++◌, refl, sym, ap, ◌∙◌, subst, arith, IsTrue, Ordering, Less, Equal, Greater}
-use Rattle.std.specs.Prelude.{if◌then◌else◌, filter}
+use Rattle.std.proofs.Common.{◌≡◌, ℕ, ◌+◌, ◌<◌, length, get_or, take, append-nil, true, false, cond, List, [], ◌∷◌, ◌++◌, refl, sym, ap, ◌∙◌, IsTrue, Ordering, Less, Equal, Greater}
 use Rattle.std.specs.List.{AllByRecursion}
 use Rattle.std.specs.Ordering.{match_ordering, ordering_reverse}
-use Rattle.std.proofs.lemmas.Bool.Decides.{nat_tests}
 use Rattle.std.proofs.lemmas.List.Elements.{filter_more}
-use Rattle.std.proofs.lemmas.Cmp.{tied_itself, tied_back, alike_right}
+use Rattle.std.proofs.lemmas.Cmp.{tied_back, alike_right}
 use Rattle.tag.specs.LogicalTime.{LogicalTime, is_at_most}
 use Rattle.network.specs.Undone.{Held, is_held_before, put, put_all}
 use Rattle.agenda.specs.Agenda.{Rises, in_time}

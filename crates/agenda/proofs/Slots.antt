@@ -1,10 +1,9 @@
 -- What is present at a tag, slot by slot.
-use Rattle.std.proofs.Common.{◌≡◌, ℕ, zero, suc, ◌+◌, ◌<◌, Bool, true, false, cond, List, [], ◌∷◌, ◌++◌, length, get_or, take, drop, set, refl, sym, ap, ◌∙◌, arith, map}
-use Rattle.std.specs.Prelude.{filter, if◌then◌else◌, nat_lt, nat_eq}
-use Rattle.std.specs.List.{AllByRecursion, insert, prefix_len}
+use Rattle.std.proofs.Common.{◌≡◌, Bool, true, false, cond, List, [], ◌∷◌, refl, sym, ap, ◌∙◌, arith, map}
+use Rattle.std.specs.Prelude.{if◌then◌else◌, nat_lt, nat_eq}
+use Rattle.std.specs.List.{AllByRecursion}
 use Rattle.std.proofs.lemmas.Bool.Decides.{nat_tests}
 use Rattle.tag.specs.LogicalTime.{LogicalTime, is_same}
-use Rattle.network.specs.Event.{Entry}
 use Rattle.network.specs.Undone.{Held, is_held_before, is_for_same, put, put_all}
 use Rattle.agenda.specs.declared.firings.Firings.{Firings}
 use Rattle.agenda.specs.Agenda.{present_in}
@@ -60,7 +59,3 @@ present_is tag events timers =
     (sym (ap (map entry_of) firings ∙ entries_put_all tag (those_at tag (all_firings timers)) [] (are_at tag (all_firings timers)) tt))
     ∙ sym (ap (map entry_of) (kept_put_all (λ g. is_same g tag) events (firings_in timers) (ordered_put_all (all_firings timers) [] tt))
     ∙ entries_put_all tag (those_at tag events) (those_at tag (firings_in timers)) (are_at tag events) (are_at tag (firings_in timers)))
-
-pub set_entries-append : (xs ys entries : List Entry) → set_entries (xs ++ ys) entries ≡ set_entries ys (set_entries xs entries)
-set_entries-append [] ys entries = refl
-set_entries-append (x ∷ xs) ys entries = set_entries-append xs ys (set_entry x entries)

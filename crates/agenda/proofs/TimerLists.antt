@@ -1,6 +1,5 @@
 -- Lists of timers, one timer after the other.
 use Rattle.std.proofs.Common.{◌≡◌, ℕ, zero, suc, ◌+◌, ◌-◌, ◌<◌, ◌≤◌, List, [], ◌∷◌, ◌++◌, length, get_or, take, drop, set, refl, sym, ap, ◌∙◌, append_assoc, append-nil, add-zero, arith, length-take}
-use Rattle.std.specs.Prelude.{filter, map}
 use Rattle.std.specs.List.{AllByRecursion}
 use Rattle.std.proofs.Math.Seq.{drop-cons}
 use Rattle.std.proofs.lemmas.List.{take_more, drop-set-lt}
@@ -8,7 +7,7 @@ use Rattle.std.proofs.Math.Seq.{take-append_seam}
 use Rattle.std.proofs.lemmas.List.Elements.{filter-append}
 use Rattle.std.proofs.lemmas.Grind.{take-set_at, drop_more_same}
 use Rattle.tag.specs.LogicalTime.{LogicalTime, lesser, is_before}
-use Rattle.network.specs.Undone.{Held, drop_up_to}
+use Rattle.network.specs.Undone.{drop_up_to}
 use Rattle.plan.specs.declared.slots.Timer.{Timer}
 use Rattle.plan.specs.External.{firing_count}
 use Rattle.agenda.specs.declared.firings.Firings.{Firings}
@@ -50,7 +49,7 @@ first_firing_step timers place f first some within is before =
     let front : drop (place - 1) timers ≡ f ∷ drop place timers = rw (drop-cons timers (place - 1) f (omega arith), next, ← is) refl in
     rw (front, before) refl
 
-all_firings-push : (timers : List Firings) (f : Firings) → all_firings (timers ++ f ∷ []) ≡ all_firings timers ++ firings_of f
+pub all_firings-push : (timers : List Firings) (f : Firings) → all_firings (timers ++ f ∷ []) ≡ all_firings timers ++ firings_of f
 all_firings-push [] f = append-nil (firings_of f)
 all_firings-push (x ∷ timers) f = ap (λ rest. firings_of x ++ rest) (all_firings-push timers f) ∙ sym (append_assoc (firings_of x) (all_firings timers) (firings_of f))
 

@@ -1,5 +1,5 @@
 -- An agenda's value after each call, by what it keeps.
-use Rattle.std.proofs.Common.{◌≡◌, Bool, true, false, List, [], ◌∷◌, ◌++◌, refl, sym, ap, ◌∙◌, arith, IsTrue}
+use Rattle.std.proofs.Common.{◌≡◌, false, List, [], ◌∷◌, refl, sym, ap, ◌∙◌, arith}
 use Rattle.std.specs.Prelude.{filter}
 use Rattle.std.specs.List.{AllByRecursion}
 use Rattle.std.proofs.lemmas.Bool.Decides.{nat_tests}
@@ -10,7 +10,7 @@ use Rattle.agenda.specs.declared.firings.Firings.{Firings}
 use Rattle.agenda.specs.Agenda.{Rises, IsInTime, least_in}
 use Rattle.agenda.specs.Kept.{all_firings, first_firing, firings_of, undone_of, IsTimer, IsFit}
 use Rattle.agenda.proofs.Putting.{Ordered, ordered, rises, ordered_put_all, put_all_among}
-use Rattle.agenda.proofs.Filtered.{all_put_all, all_filter, filter_none, kept_put_all}
+use Rattle.agenda.proofs.Filtered.{all_put_all, filter_none, kept_put_all}
 use Rattle.agenda.proofs.Fired.{firings_ordered}
 use Rattle.agenda.proofs.Least.{AreFinite, least_put_all, lesser_all, first_is_least, lesser_all-append, lesser_swaps, at_most_forever, either_forever, first_forever}
 

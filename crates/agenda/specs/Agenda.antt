@@ -1,9 +1,9 @@
 -- An agenda: the events that one federate has still to run, up to stop.
-use Rattle.std.specs.Prelude.{◌≡◌, ℕ, IsTrue, List, [], ◌∷◌, map, filter, Option, None, Some}
+use Rattle.std.specs.Prelude.{IsTrue, List, [], ◌∷◌, map, filter}
 use Rattle.std.specs.List.{AllByRecursion}
 use Rattle.tag.specs.LogicalTime.{LogicalTime, forever, is_at_most, is_same, IsFinite}
 use Rattle.network.specs.Event.{Event, Entry}
-use Rattle.network.specs.Undone.{Held, is_held_before, put_all, first_tag}
+use Rattle.network.specs.Undone.{Held, is_held_before, put_all}
 use Rattle.plan.specs.declared.slots.Slots.{Slots}
 use Rattle.plan.specs.External.{own_events}
 

@@ -1,5 +1,5 @@
 -- What an agenda keeps, as code: what was put, by tag and slot, and of each timer the firings that are left.
-use Rattle.std.specs.Prelude.{◌≡◌, ℕ, ◌<◌, ◌^◌, ◌+◌, ℤ, pos, Bool, false, IsTrue, if◌then◌else◌, nat_lt, not, List, [], ◌∷◌, ◌++◌, map, filter, Option, None, Some}
+use Rattle.std.specs.Prelude.{◌≡◌, ℕ, ◌<◌, ◌^◌, ◌+◌, ℤ, pos, Bool, false, IsTrue, if◌then◌else◌, not, List, [], ◌∷◌, ◌++◌, map, filter, Option, None, Some}
 use Rattle.std.specs.List.{AllByRecursion}
 use Rattle.tag.specs.LogicalTime.{LogicalTime, origin, forever, is_at_most, is_before, lesser, IsFinite}
 use Rattle.network.specs.Undone.{Held, is_for_same, put_all}

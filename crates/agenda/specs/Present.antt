@@ -1,5 +1,5 @@
 -- What is present at a tag, found slot by slot.
-use Rattle.std.specs.Prelude.{◌≡◌, ℕ, ◌<◌, if◌then◌else◌, nat_lt, nat_eq, List, [], ◌∷◌, map}
+use Rattle.std.specs.Prelude.{ℕ, Bool, false, if◌then◌else◌, nat_lt, nat_eq, List, [], ◌∷◌, Option, None, Some}
 use Rattle.network.specs.Event.{Entry}
 use Rattle.network.specs.Undone.{Held}
 
@@ -12,6 +12,11 @@ abbrev pub set_entry : Entry → List Entry → List Entry
 set_entry e [] = e ∷ []
 set_entry e (x ∷ rest) =
     if nat_lt e.place x.place then e ∷ x ∷ rest else (if nat_eq e.place x.place then e ∷ rest else x ∷ set_entry e rest)
+
+-- there is an entry, for this slot
+abbrev pub is_there : ℕ → Option Entry → Bool
+is_there slot None = false
+is_there slot (Some e) = nat_eq e.place slot
 
 -- with these entries, one after the other
 abbrev pub set_entries : List Entry → List Entry → List Entry

@@ -1,17 +1,20 @@
-ghost use Rattle.std.specs.Prelude.{◌≡◌, All, IfOk, OnOk, OnErr};
+ghost use Rattle.std.specs.Prelude.{◌≡◌, ℕ, All, IfOk, OnOk, OnErr};
 ghost use Rattle.tag.specs.LogicalTime.{origin};
-ghost use Rattle.network.specs.Undone.{put_all, drop_up_to};
+ghost use Rattle.network.specs.Undone.{put_all, look, drop_up_to};
 ghost use Rattle.agenda.specs.Kept.{held_in, startup_in};
 ghost use Rattle.plan.specs.Legal.{IsTimerInRange, IsWithinLimits};
+ghost use Rattle.reactor.specs.Entries.{value_at};
 
 use crate::firings::Firings;
 use crate::held::Held;
 use crate::key::Key;
 use crate::memory::Memory;
+use crate::present::{add_firings, add_puts};
 use crate::puts::{Puts, drop_puts, first_put, in_order, put_in_time, undo_each};
 use crate::timers::{drop_firings, first_firing, lesser, timers_of};
 use crate::undo::Undo;
 use plan::Slots;
+use reactor::Entry;
 use std::alloc::Global;
 use std::collections::BTreeMap;
 use std::marker::Model;
@@ -48,7 +51,7 @@ impl Model for Agenda {
 }
 
 impl Agenda {
-    ghost use Rattle.agenda.specs.Agenda.{own_undone, in_time, least_in, IsAgenda};
+    ghost use Rattle.agenda.specs.Agenda.{own_undone, in_time, present_in, least_in, IsAgenda};
 
     /// With what the slots bring by themselves, up to stop: startup, where it is asked for, and the firings of timers.
     pub fn new(alloc: Global, slots: &Slots, stop: FiniteTag) -> Result<Agenda, Memory>
@@ -103,6 +106,18 @@ impl Agenda {
     {
         in_order(&self.puts);
         lesser(first_put(&self.puts), self.next_firing)
+    }
+
+    /// Writes what is present at a tag over what was in `entries`, by slot, for `Reactor::run`. It takes memory only where `entries`
+    /// grows; after `Memory` nothing is said of them. It goes over all that is undone up to the tag, so ask for none after `least`.
+    pub fn at(&self, tag: Tag, entries: &mut Vec<Entry>) -> Result<(), Memory>
+        ensures entries { OnOk result (entries.new.items ≡ present_in self.now.undone tag) }
+        ensures inputs { OnOk result ((slot : ℕ) → value_at entries.new.items slot ≡ look self.now.undone tag slot) }
+    {
+        entries.clear();
+        add_firings(entries, self.timers.as_slice(), tag)?;
+        add_puts(entries, &self.puts, tag)?;
+        Ok(())
     }
 
     /// Lets go of all up to a tag, which then can't be taken back. It needs no memory.

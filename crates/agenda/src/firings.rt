@@ -89,7 +89,7 @@ fn is_next(timer: Firings, tag: Tag) -> bool
     are_same(next_tag(timer), tag)
 }
 
-fn are_same(tag: Tag, other: Tag) -> bool
+pub fn are_same(tag: Tag, other: Tag) -> bool
     ensures { result ≡ is_same tag other }
 {
     tag == other

@@ -154,7 +154,7 @@ fn has_due(puts: &Puts, tag: Tag) -> bool
     }
 }
 
-fn is_at_most(finite: FiniteTag, tag: Tag) -> bool
+pub fn is_at_most(finite: FiniteTag, tag: Tag) -> bool
     ensures { result ≡ is_at_most finite tag }
 {
     finite.tag() <= tag

@@ -1,4 +1,4 @@
-use Rattle.std.proofs.Common.{ap, sym, refl, ◌∙◌, ◌<◌, ◌^◌, arith, if◌then◌else◌, [], ◌∷◌}
+use Rattle.std.proofs.Common.{ap, sym, ◌∙◌, ◌<◌, ◌^◌, arith, if◌then◌else◌, [], ◌∷◌}
 use Rattle.agenda.specs.Kept.{firing}
 use Rattle.agenda.proofs.Fired.{stepped_timer, firing_before}
 use Rattle.agenda.proofs.firings.fires_at.Goals as goal

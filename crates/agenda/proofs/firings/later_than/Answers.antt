@@ -1,5 +1,4 @@
-use Rattle.std.proofs.Common.{ap, sym, refl, ◌∙◌, ◌<◌, ◌^◌, arith}
-use Rattle.agenda.specs.Kept.{IsTimer}
+use Rattle.std.proofs.Common.{sym, ◌∙◌, ◌<◌, ◌^◌, arith}
 use Rattle.agenda.proofs.Fired.{stepped_timer, due_firing, none_due_left}
 use Rattle.agenda.proofs.firings.later_than.Goals as goal
 

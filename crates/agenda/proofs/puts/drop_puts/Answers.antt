@@ -1,7 +1,5 @@
-use Rattle.std.proofs.Common.{ap, sym, ◌∙◌, ◌≡◌, ◌<◌, true, false, arith, length}
-use Rattle.network.specs.Undone.{drop_up_to}
-use Rattle.agenda.specs.Kept.{held_in, has_due}
-use Rattle.agenda.proofs.Keyed.{due_some, due_step}
+use Rattle.std.proofs.Common.{sym, ◌∙◌}
+use Rattle.agenda.specs.Kept.{held_in}
 use Rattle.agenda.proofs.Due.{none_due}
 use Rattle.agenda.proofs.puts.drop_puts.Goals as goal
 

@@ -1,4 +1,4 @@
-use Rattle.std.proofs.Common.{◌≡◌, ap, sym, subst, ◌∙◌, to_z, of_z, w64, FitsSigned, rules}
+use Rattle.std.proofs.Common.{ap, sym, subst, ◌∙◌, to_z, of_z, w64, FitsSigned, rules}
 use Rattle.std.proofs.lemmas.Int.{to_z-of_z}
 use Rattle.network.specs.Undone.{put}
 use Rattle.agenda.specs.Kept.{held_at, held_in, undo_to, undo_all, IsFit}

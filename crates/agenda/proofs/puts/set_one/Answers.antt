@@ -1,4 +1,4 @@
-use Rattle.std.proofs.Common.{◌≡◌, ◌∙◌, ap, sym, to_z, of_z, w64, Some}
+use Rattle.std.proofs.Common.{◌∙◌, ap, sym, to_z, of_z, w64, Some}
 use Rattle.std.proofs.lemmas.Int.{to_z-of_z}
 use Rattle.agenda.specs.Kept.{held_in, undo_to}
 use Rattle.agenda.proofs.Keyed.{set_absent, set_present}

@@ -1,4 +1,4 @@
-use Rattle.std.proofs.Common.{◌≡◌, ◌∙◌, ap, sym}
+use Rattle.std.proofs.Common.{◌∙◌, ap, sym}
 use Rattle.agenda.specs.Kept.{held_in, undo_to}
 use Rattle.agenda.proofs.Keyed.{remove_held}
 use Rattle.agenda.proofs.puts.undo_one.Goals as goal

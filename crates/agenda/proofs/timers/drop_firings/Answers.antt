@@ -1,4 +1,4 @@
-use Rattle.std.proofs.Common.{◌∙◌, ap, sym, refl, arith, length-set}
+use Rattle.std.proofs.Common.{arith, length-set}
 use Rattle.agenda.proofs.TimerLists.{dropped_more, rest_stays, timers_set}
 use Rattle.agenda.proofs.timers.drop_firings.Goals as goal
 

@@ -1,9 +1,8 @@
-use Rattle.std.proofs.Common.{◌≡◌, ◌<◌, ◌^◌, ◌∙◌, ap, sym, subst, arith, List}
+use Rattle.std.proofs.Common.{◌≡◌, ◌<◌, ◌^◌, ◌∙◌, ap, sym, subst, List}
 use Rattle.std.specs.List.{AllByRecursion}
 use Rattle.network.specs.Undone.{Held}
 use Rattle.plan.specs.Numbering.{first_timer}
-use Rattle.agenda.specs.declared.firings.Firings.{Firings}
-use Rattle.agenda.specs.Agenda.{Agenda, own_undone}
+use Rattle.agenda.specs.Agenda.{own_undone}
 use Rattle.agenda.specs.Kept.{held_in, undone_of, undo_all, timers_from, all_firings, first_firing, startup_in, IsTimer, IsFit}
 use Rattle.agenda.proofs.Fresh.{own_is, timers_hold, firings_fit, startup_fits}
 use Rattle.agenda.proofs.agenda.Agenda.new.Goals as goal

@@ -1,0 +1,21 @@
+use Rattle.std.proofs.Common.{ap, ◌∙◌}
+use Rattle.reactor.specs.Entries.{value_at}
+use Rattle.agenda.specs.Agenda.{Agenda, present_in}
+use Rattle.agenda.specs.Kept.{held_in, all_firings}
+use Rattle.agenda.specs.Present.{set_entries}
+use Rattle.agenda.proofs.Slots.{present_is}
+use Rattle.agenda.proofs.Writing.{entries_at, present_values}
+use Rattle.agenda.proofs.agenda.Agenda.at.Goals as goal
+
+pub returns-clause-entries : goal.returns-clause-entries
+returns-clause-entries c =
+    c.in_ok-add_puts.ensures
+    ∙ ap (set_entries (entries_at c.args.tag (held_in c.self.inside.puts.entries))) (
+    c.in_ok-add_firings.ensures ∙ ap (λ ts. set_entries (entries_at c.args.tag (all_firings ts)) c.clear.new.self.items) c.as_slice.ensures.value
+    ∙ ap (set_entries (entries_at c.args.tag (all_firings c.self.inside.timers.items))) c.clear.ensures.items
+    )
+    ∙ present_is c.args.tag (held_in c.self.inside.puts.entries) c.self.inside.timers.items
+    ∙ ap (λ (v : Agenda). present_in v.undone c.args.tag) c.self.view_is
+
+pub returns-clause-inputs : goal.returns-clause-inputs
+returns-clause-inputs c = λ slot. ap (λ es. value_at es slot) (returns-clause-entries c) ∙ present_values c.args.tag c.args.self.now.undone slot
