@@ -1,0 +1,2 @@
+-- What a node that counts does.
+pub mod Counting

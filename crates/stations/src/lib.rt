@@ -1,0 +1,11 @@
+//! A node for tests, and tests of stations: what a link's end refuses, what a node refuses, which refusals close a link, and
+//! what is sent. No program uses this crate: it is there so that a node meets the trait, and stations are run.
+//!
+//! Begin with `counter`, the node.
+#![tactic(auto)]
+
+#[cfg(test)]
+mod answers;
+pub mod counter;
+
+pub use counter::Counter;
