@@ -34,7 +34,11 @@ fn order_by_time_then_microstep(rt: HostRuntime) {
             let first = tag(time, microstep);
             let second = tag(other_time, other_microstep);
             assert_eq!(rt; first.cmp(&second), order, "{first} and {second}");
-            assert_eq!(rt; FiniteTag::of(first).cmp(&FiniteTag::of(second)), order, "{first} and {second}");
+            assert_eq!(rt;
+                FiniteTag::of(first).cmp(&FiniteTag::of(second)),
+                order,
+                "{first} and {second}"
+            );
             let first = delay(time, microstep);
             let second = delay(other_time, other_microstep);
             assert_eq!(rt; first.cmp(&second), order, "{first} and {second}");
