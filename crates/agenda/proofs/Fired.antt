@@ -98,9 +98,6 @@ firing_next f tag b h t none is =
     here f tag true is = let e : f.next ≡ tag.time = grind (arith, nat_tests) in ap (λ time. firing f.slot time ∷ []) e
     here f tag false is = refl
 
-pub no_firings : (f : Firings) → f.left ≡ 0 → firings_of f ≡ []
-no_firings f h = ap (λ left. map (firing f.slot) (times_from f.next f.period left)) h
-
 -- the tag of the next
 pub least_firing : (f : Firings) → 0 < f.left → least_in (firings_of f) ≡ record { time = f.next; microstep = 0 }
 least_firing f h = ap least_in (stepped_firings f h)

@@ -1,11 +1,11 @@
 -- The ordered map's entries, at the order of its keys.
-use Rattle.std.proofs.Common.{◌≡◌, ◌<◌, ℤ, true, false, cond, List, [], ◌∷◌, ◌++◌, length, ap, sym, refl, arith, Option, None, Some, Ordering}
+use Rattle.std.proofs.Common.{◌≡◌, ◌<◌, ℤ, true, false, List, [], ◌∷◌, ◌++◌, length, ap, sym, refl, arith, Option, None, Some, Ordering}
 use Rattle.std.specs.Prelude.{is_some, slice_get}
 use Rattle.std.specs.List.Sorted.{IsStrictlySortedBy}
 use Rattle.std.specs.BTreeMap.{insert_entry, is_at}
 use Rattle.std.specs.Map.{keys_of, remove_entry, lookup}
 use Rattle.tag.specs.LogicalTime.{LogicalTime, is_at_most}
-use Rattle.network.specs.Undone.{Held, put, drop_up_to}
+use Rattle.network.specs.Undone.{Held, put}
 use Rattle.agenda.specs.contracts.key.KeyOrd.TheImpl as key_ord
 use Rattle.agenda.specs.declared.key.Key.{Key}
 use Rattle.agenda.specs.declared.undo.Undo.{Undo}
@@ -13,7 +13,6 @@ use Rattle.agenda.specs.Agenda.{Rises, least_in}
 use Rattle.agenda.specs.Kept.{held_at, held_in, undo_to, undo_all, has_due}
 use Rattle.agenda.proofs.Order.{held_cmp}
 use Rattle.agenda.proofs.Putting.{rises, ordered}
-use Rattle.agenda.proofs.Due.{not_later}
 use Rattle.agenda.proofs.Entries as entries
 
 abbrev pub key_cmp : Key → Key → Ordering
@@ -62,11 +61,6 @@ undo_all_more (x ∷ undos) u events = ap (undo_to x.key x.was) (undo_all_more u
 pub due_some : (es : List (Key × ℤ)) (tag : LogicalTime) → has_due tag (held_in es) ≡ true → 0 < length es
 due_some [] tag h = cc
 due_some (e ∷ es) tag h = omega arith
-
-pub due_step : (e : Key × ℤ) (es : List (Key × ℤ)) (tag : LogicalTime) → has_due tag (held_in (e ∷ es)) ≡ true →
-    drop_up_to tag (held_in (e ∷ es)) ≡ drop_up_to tag (held_in es)
-due_step e es tag h =
-    ap (λ b. cond b (held_at e ∷ drop_up_to tag (held_in es)) (drop_up_to tag (held_in es))) (not_later (held_at e).tag tag h)
 
 -- the first entry is the first event
 pub first_is : (es : List (Key × ℤ)) (k : Key) (v : ℤ) → slice_get es 0 ≡ Some (k, v) →

@@ -22,5 +22,7 @@ pub mod Views
 pub mod Slots
 -- The same, written entry by entry.
 pub mod Writing
+-- What is present is the list of what look-ups find.
+pub mod Listing
 -- What a new agenda holds.
 pub mod Fresh

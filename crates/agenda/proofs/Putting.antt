@@ -1,5 +1,5 @@
 -- Putting events: in which order they are put doesn't matter where they are for different slots or tags.
-use Rattle.std.proofs.Common.{◌≡◌, ℕ, ◌+◌, ◌<◌, length, get_or, take, append-nil, true, false, cond, List, [], ◌∷◌, ◌++◌, refl, sym, ap, ◌∙◌, IsTrue, Ordering, Less, Equal, Greater}
+use Rattle.std.proofs.Common.{◌≡◌, ℕ, ◌+◌, ◌<◌, length, get_or, take, true, cond, List, [], ◌∷◌, ◌++◌, refl, sym, ap, ◌∙◌, IsTrue, Ordering, Less, Equal, Greater}
 use Rattle.std.specs.List.{AllByRecursion}
 use Rattle.std.specs.Ordering.{match_ordering, ordering_reverse}
 use Rattle.std.proofs.lemmas.List.Elements.{filter_more}
@@ -171,10 +171,3 @@ put_more stop events i e u h is early =
     ap (λ es. put_all es u) (filter_more (λ x. is_at_most x.tag stop) events i e h ∙ ap (λ x. in_time stop (take i events) ++ cond (is_at_most x.tag stop) (x ∷ []) []) (sym is)
     ∙ ap (λ b. in_time stop (take i events) ++ cond b (e ∷ []) []) early)
     ∙ put_all-append (in_time stop (take i events)) (e ∷ []) u
-
-pub put_no_more :
-    (stop : LogicalTime) (events : List Held) (i : ℕ) (e : Held) → i < length events → e ≡ get_or events i e → is_at_most e.tag stop ≡ false →
-    in_time stop (take (i + 1) events) ≡ in_time stop (take i events)
-put_no_more stop events i e h is late =
-    filter_more (λ x. is_at_most x.tag stop) events i e h ∙ ap (λ x. in_time stop (take i events) ++ cond (is_at_most x.tag stop) (x ∷ []) []) (sym is)
-    ∙ ap (λ b. in_time stop (take i events) ++ cond b (e ∷ []) []) late ∙ append-nil (in_time stop (take i events))

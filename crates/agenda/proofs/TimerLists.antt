@@ -1,18 +1,17 @@
 -- Lists of timers, one timer after the other.
-use Rattle.std.proofs.Common.{◌≡◌, ℕ, zero, suc, ◌+◌, ◌-◌, ◌<◌, ◌≤◌, List, [], ◌∷◌, ◌++◌, length, get_or, take, drop, set, refl, sym, ap, ◌∙◌, append_assoc, append-nil, add-zero, arith, length-take}
+use Rattle.std.proofs.Common.{◌≡◌, ℕ, zero, suc, ◌+◌, ◌<◌, List, [], ◌∷◌, ◌++◌, length, get_or, take, drop, set, refl, sym, ap, ◌∙◌, append_assoc, append-nil, add-zero, arith, length-take}
 use Rattle.std.specs.List.{AllByRecursion}
 use Rattle.std.proofs.Math.Seq.{drop-cons}
 use Rattle.std.proofs.lemmas.List.{take_more, drop-set-lt}
 use Rattle.std.proofs.Math.Seq.{take-append_seam}
 use Rattle.std.proofs.lemmas.List.Elements.{filter-append}
 use Rattle.std.proofs.lemmas.Grind.{take-set_at, drop_more_same}
-use Rattle.tag.specs.LogicalTime.{LogicalTime, lesser, is_before}
+use Rattle.tag.specs.LogicalTime.{LogicalTime, is_before}
 use Rattle.network.specs.Undone.{drop_up_to}
 use Rattle.plan.specs.declared.slots.Timer.{Timer}
 use Rattle.plan.specs.External.{firing_count}
 use Rattle.agenda.specs.declared.firings.Firings.{Firings}
-use Rattle.agenda.specs.Agenda.{least_in}
-use Rattle.agenda.specs.Kept.{firings_of, all_firings, first_firing, timers_from, IsTimer}
+use Rattle.agenda.specs.Kept.{firings_of, all_firings, timers_from, IsTimer}
 
 -- the timer of this slot, before any firing
 abbrev pub timer_of : ℕ → ℕ → Timer → Firings
@@ -40,14 +39,6 @@ pub timers_set : (timers : List Firings) (i : ℕ) (f : Firings) → AllByRecurs
 timers_set [] i f a h = tt
 timers_set (x ∷ timers) zero f a h = (h, a.1)
 timers_set (x ∷ timers) (suc i) f a h = (a.0, timers_set timers i f a.1 h)
-
-pub first_firing_step :
-    (timers : List Firings) (place : ℕ) (f : Firings) (first : LogicalTime) → 0 < place → place ≤ length timers → f ≡ get_or timers (place - 1) f →
-    first ≡ first_firing (drop place timers) → lesser (least_in (firings_of f)) first ≡ first_firing (drop (place - 1) timers)
-first_firing_step timers place f first some within is before =
-    let next : suc (place - 1) ≡ place = omega arith in
-    let front : drop (place - 1) timers ≡ f ∷ drop place timers = rw (drop-cons timers (place - 1) f (omega arith), next, ← is) refl in
-    rw (front, before) refl
 
 pub all_firings-push : (timers : List Firings) (f : Firings) → all_firings (timers ++ f ∷ []) ≡ all_firings timers ++ firings_of f
 all_firings-push [] f = append-nil (firings_of f)

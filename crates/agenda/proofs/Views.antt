@@ -1,16 +1,14 @@
 -- An agenda's value after each call, by what it keeps.
-use Rattle.std.proofs.Common.{◌≡◌, false, List, [], ◌∷◌, refl, sym, ap, ◌∙◌, arith}
-use Rattle.std.specs.Prelude.{filter}
+use Rattle.std.proofs.Common.{◌≡◌, false, List, [], ◌∷◌, refl, sym, ap, ◌∙◌}
 use Rattle.std.specs.List.{AllByRecursion}
-use Rattle.std.proofs.lemmas.Bool.Decides.{nat_tests}
-use Rattle.tag.specs.LogicalTime.{LogicalTime, IsFinite, forever, lesser, is_before, is_same}
+use Rattle.tag.specs.LogicalTime.{LogicalTime, forever, lesser, is_before}
 use Rattle.network.specs.Undone.{Held, put_all, drop_up_to}
 use Rattle.plan.specs.External.{times_from}
 use Rattle.agenda.specs.declared.firings.Firings.{Firings}
 use Rattle.agenda.specs.Agenda.{Rises, IsInTime, least_in}
 use Rattle.agenda.specs.Kept.{all_firings, first_firing, firings_of, undone_of, IsTimer, IsFit}
 use Rattle.agenda.proofs.Putting.{Ordered, ordered, rises, ordered_put_all, put_all_among}
-use Rattle.agenda.proofs.Filtered.{all_put_all, filter_none, kept_put_all}
+use Rattle.agenda.proofs.Filtered.{all_put_all, kept_put_all}
 use Rattle.agenda.proofs.Fired.{firings_ordered}
 use Rattle.agenda.proofs.Least.{AreFinite, least_put_all, lesser_all, first_is_least, lesser_all-append, lesser_swaps, at_most_forever, either_forever, first_forever}
 
@@ -48,17 +46,6 @@ in_time_from stop (e ∷ u) a = (record { finite = a.0.finite; at_most = a.0.at_
 finite_from : (stop : LogicalTime) (u : List Held) → AllByRecursion (IsFit stop) u → AreFinite u
 finite_from stop [] a = tt
 finite_from stop (e ∷ u) a = (a.0.finite, finite_from stop u a.1)
-
-finite_not_forever : (g : LogicalTime) → IsFinite g → is_same g forever ≡ false
-finite_not_forever g f = let t = f.time in grind (arith, nat_tests)
-
-none_at_forever : (u : List Held) → AreFinite u → AllByRecursion (λ e. is_same e.tag forever ≡ false) u
-none_at_forever [] a = tt
-none_at_forever (e ∷ u) a = (finite_not_forever e.tag a.0, none_at_forever u a.1)
-
--- nothing is at FOREVER
-pub nothing_at_forever : (stop : LogicalTime) (u : List Held) → AllByRecursion (IsFit stop) u → filter (λ e. is_same e.tag forever) u ≡ []
-nothing_at_forever stop u a = filter_none (λ e. is_same e.tag forever) u (none_at_forever u (finite_from stop u a))
 
 -- ---- the least tag
 

@@ -87,19 +87,7 @@ firings_more tag timers i d first before after h so_far here =
     ∙ ap (λ es. set_entries es first) (map-append entry_of (those_at tag (all_firings (take i timers))) (those_at tag (firings_of f)))
     ∙ set_entries-append (entries_at tag (all_firings (take i timers))) (entries_at tag (firings_of f)) first)
 
--- ---- one more of those that were put
-
-one_more : (b : Bool) (x : Held) (us : List Held) (entries : List Entry) →
-    set_entries (map entry_of (cond b (x ∷ us) us)) entries ≡ set_entries (map entry_of us) (set_entries (map entry_of (cond b (x ∷ []) [])) entries)
-one_more true x us entries = refl
-one_more false x us entries = refl
-
-pub puts_more : (tag : LogicalTime) (e : Key × ℤ) (es : List (Key × ℤ)) (before after : List Entry) →
-    after ≡ set_entries (entries_at tag (held_at e ∷ [])) before →
-    set_entries (entries_at tag (held_in es)) after ≡ set_entries (entries_at tag (held_in (e ∷ es))) before
-puts_more tag e es before after here =
-    ap (set_entries (entries_at tag (held_in es))) here
-    ∙ sym (one_more (is_same (held_at e).tag tag) (held_at e) (those_at tag (held_in es)) before)
+-- ---- past the tag
 
 after_not_same : (g tag : LogicalTime) → is_before tag g ≡ true → is_same g tag ≡ false
 after_not_same g tag h = grind (arith, nat_tests)
@@ -114,7 +102,7 @@ none_left tag e es r h =
     let first = later (held_at e).tag tag h in
     filter_none (λ x. is_same x.tag tag) (held_in (e ∷ es)) (none_same tag (held_in (e ∷ es)) (first, all_after (held_at e) (held_in es) tag first r.0))
 
--- past the tag, none is at it
+-- none is at it
 pub none_more : (tag : LogicalTime) (all es : List (Key × ℤ)) (e : Key × ℤ) (entries : List Entry) → all ≡ e ∷ es → Ordered (held_in all) →
     is_at_most e.0.tag tag ≡ false → entries ≡ set_entries (entries_at tag (held_in all)) entries
 none_more tag all es e entries is r h =

@@ -1,5 +1,7 @@
-ghost use Rattle.std.specs.Prelude.{◌≡◌, ℕ, All, IfOk, OnOk, OnErr};
+ghost use Rattle.std.specs.Prelude.{◌≡◌, ℕ, ◌<◌, All, IfOk, OnOk, OnErr};
+ghost use Rattle.std.specs.List.{AllByRecursion};
 ghost use Rattle.tag.specs.LogicalTime.{origin};
+ghost use Rattle.network.specs.Event.{listed};
 ghost use Rattle.network.specs.Undone.{put_all, look, drop_up_to};
 ghost use Rattle.agenda.specs.Kept.{held_in, startup_in};
 ghost use Rattle.plan.specs.Legal.{IsTimerInRange, IsWithinLimits};
@@ -113,6 +115,7 @@ impl Agenda {
     pub fn at(&self, tag: Tag, entries: &mut Vec<Entry>) -> Result<(), Memory>
         ensures entries { OnOk result (entries.new.items ≡ present_in self.now.undone tag) }
         ensures inputs { OnOk result ((slot : ℕ) → value_at entries.new.items slot ≡ look self.now.undone tag slot) }
+        ensures listed { OnOk result ((count : ℕ) → AllByRecursion (λ e. e.slot < count) self.now.undone → entries.new.items ≡ listed count (look self.now.undone tag)) }
     {
         entries.clear();
         add_firings(entries, self.timers.as_slice(), tag)?;

@@ -1,8 +1,10 @@
-use Rattle.std.proofs.Common.{ap, ◌∙◌}
+use Rattle.std.proofs.Common.{ap, subst, ◌∙◌}
 use Rattle.reactor.specs.Entries.{value_at}
-use Rattle.agenda.specs.Agenda.{Agenda, present_in}
+use Rattle.agenda.specs.Agenda.{Agenda, present_in, Rises}
 use Rattle.agenda.specs.Kept.{held_in, all_firings}
 use Rattle.agenda.specs.Present.{set_entries}
+use Rattle.agenda.proofs.Views.{rises_undone}
+use Rattle.agenda.proofs.Listing.{present_listed}
 use Rattle.agenda.proofs.Slots.{present_is}
 use Rattle.agenda.proofs.Writing.{entries_at, present_values}
 use Rattle.agenda.proofs.agenda.Agenda.at.Goals as goal
@@ -19,3 +21,8 @@ returns-clause-entries c =
 
 pub returns-clause-inputs : goal.returns-clause-inputs
 returns-clause-inputs c = λ slot. ap (λ es. value_at es slot) (returns-clause-entries c) ∙ present_values c.args.tag c.args.self.now.undone slot
+
+pub returns-clause-listed : goal.returns-clause-listed
+returns-clause-listed c = λ count below.
+    let rises = subst (λ (v : Agenda). Rises v.undone) c.self.view_is (rises_undone (held_in c.self.inside.puts.entries) c.self.inside.timers.items) in
+    returns-clause-entries c ∙ present_listed c.args.tag c.args.self.now.undone count rises below
