@@ -17,7 +17,8 @@ use Rattle.network.specs.Undone.{Held, put, first_tag, look, drop_up_to}
 use Rattle.protocol.specs.Federate.{is_past, is_reached, is_told, next_event, accept_message, federate_announces, advance_to, turn_at, effect_of, scheduled_by, messages_from}
 use Rattle.protocol.specs.Standing.{Standing, after_message, after_net, after_ltc}
 use Rattle.protocol.specs.Grant.{Rule, IsSafeRule}
-use Rattle.protocol.specs.Coordinator.{Post, Coordinated, with_standing, noted, route, coordinator_takes, grant_to, grants_from, with_grants}
+use Rattle.protocol.specs.declared.post.Post.{Post}
+use Rattle.protocol.specs.Coordinator.{Coordinated, with_standing, noted, route, coordinator_takes, grant_to, grants_from, with_grants}
 use Rattle.protocol.specs.Machine.{Member, Move, ToCoordinator, ToFederate, Announce, Advance, Lose, opening_member, with_member, standings_of, sent_to, coordinated, coordinator_takes_from, stepped, federate_takes_from, outcome_of, after_moves}
 use Rattle.laws.proofs.Tags.{IsOptional, above, reached_true}
 use Rattle.laws.proofs.Downward.{last_tag_is_later}
@@ -191,7 +192,7 @@ SendsClear n completed (Refused refusal) = Unit {0}
 SendsClear n completed Nothing = Unit {0}
 SendsClear n completed (Done made) = (j : ℕ) → AreDownClear n completed j (sent_to j made.sent)
 
-post_clear : (n : Network) (completed : ℕ → Option LogicalTime) (j target k : ℕ) (s : LogicalTime) (v : ℤ) (b : Bool) → (b ≡ true → IsClear n completed j s) → AreDownClear n completed j (map (λ (p : Post). p.signal) (cond b (record { federate = target; signal = Msg k s v } ∷ []) []))
+post_clear : (n : Network) (completed : ℕ → Option LogicalTime) (j target k : ℕ) (s : LogicalTime) (v : ℤ) (b : Bool) → (b ≡ true → IsClear n completed j s) → AreDownClear n completed j (map (λ (p : Post). p.signal) (cond b (record { peer = target; signal = Msg k s v } ∷ []) []))
 post_clear n completed j target k s v true c = (c refl, tt)
 post_clear n completed j target k s v false c = tt
 
@@ -199,7 +200,7 @@ route_sends : (n : Network) (completed : ℕ → Option LogicalTime) (standings 
 route_sends n completed standings i k s v None c = tt
 route_sends n completed standings i k s v (Some c) clear =
     three_ifs (SendsClear n completed) (nat_eq c.source i) (is_at_most s n.stop) (is_past (standings c.target).granted s)
-    (Done (record { after = with_standing standings c.target (after_message (standings c.target) s); sent = record { federate = c.target; signal = Msg k s v } ∷ [] }))
+    (Done (record { after = with_standing standings c.target (after_message (standings c.target) s); sent = record { peer = c.target; signal = Msg k s v } ∷ [] }))
     (Refused BelowGrant) (Refused AfterStop) (Refused NotYours)
     (λ j. post_clear n completed j c.target k s v (nat_eq j c.target) (λ e. (let P : ℕ → Type 0 = λ x. IsClear n completed x s in subst P (sym (eqb-true j c.target e)) clear)))
     tt tt tt

@@ -21,7 +21,8 @@ use Rattle.protocol.specs.Outcome.{Outcome, Refused, Nothing, Done, with_made, I
 use Rattle.protocol.specs.Federate.{is_past}
 use Rattle.protocol.specs.Standing.{Standing, opening_standing, least_with, with_tag, after_message, after_net, after_ltc, after_grant}
 use Rattle.protocol.specs.Grant.{Rule, IsSafe, IsSafeRule}
-use Rattle.protocol.specs.Coordinator.{Post, Coordinated, with_standing, noted, route, coordinator_takes, grant_to, grants_from, with_grants, coordinator_accepts}
+use Rattle.protocol.specs.declared.post.Post.{Post}
+use Rattle.protocol.specs.Coordinator.{Coordinated, with_standing, noted, route, coordinator_takes, grant_to, grants_from, with_grants, coordinator_accepts}
 use Rattle.protocol.specs.Machine.{sent_to}
 use Rattle.protocol.specs.Alone.{IsStanding, is_of_step, is_sent_past, granted_by}
 use Rattle.laws.proofs.Transit.{lesser_is_tag}
@@ -138,14 +139,14 @@ noted_taken standings i mine all k e =
       sent = λ j. tt;
     }
 
-post_if : (granted : Option LogicalTime) (target k : ℕ) (g : LogicalTime) (v : ℤ) (b : Bool) → (b ≡ true → IsTrue (is_past granted g)) → IsMessageAtMost granted (map (λ (p : Post). p.signal) (cond b (record { federate = target; signal = Msg k g v } ∷ []) []))
+post_if : (granted : Option LogicalTime) (target k : ℕ) (g : LogicalTime) (v : ℤ) (b : Bool) → (b ≡ true → IsTrue (is_past granted g)) → IsMessageAtMost granted (map (λ (p : Post). p.signal) (cond b (record { peer = target; signal = Msg k g v } ∷ []) []))
 post_if granted target k g v true h = h refl
 post_if granted target k g v false h = tt
 
 route_taken : (n : Network) (standings : ℕ → Standing) (i k : ℕ) (g : LogicalTime) (v : ℤ) (o : Option Connection) → ((j : ℕ) → IsStanding (standings j)) → IsFinite g → IfDone (route n standings i (Msg k g v) o g) (IsTaken standings)
 route_taken n standings i k g v None all p = tt
 route_taken n standings i k g v (Some c) all p =
-    let made : Coordinated = record { after = with_standing standings c.target (after_message (standings c.target) g); sent = record { federate = c.target; signal = Msg k g v } ∷ [] } in
+    let made : Coordinated = record { after = with_standing standings c.target (after_message (standings c.target) g); sent = record { peer = c.target; signal = Msg k g v } ∷ [] } in
     let mine : Standing = after_message (standings c.target) g in
     take_if standings (nat_eq c.source i) NotYours (if not (is_at_most g n.stop) then Refused AfterStop else if not (is_past (standings c.target).granted g) then Refused BelowGrant else Done made)
     (λ s. take_if standings (is_at_most g n.stop) AfterStop (if not (is_past (standings c.target).granted g) then Refused BelowGrant else Done made)

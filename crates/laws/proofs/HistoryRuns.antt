@@ -26,7 +26,8 @@ use Rattle.network.specs.Undone.{put, look, first_tag}
 use Rattle.protocol.specs.Federate.{held_of, is_past, is_reached, is_told, next_event, accept_message, federate_announces, advance_to, turn_at}
 use Rattle.protocol.specs.Standing.{Standing, after_message, after_net, after_ltc}
 use Rattle.protocol.specs.Grant.{Rule, IsSafeRule}
-use Rattle.protocol.specs.Coordinator.{Post, Coordinated, with_standing, noted, route, coordinator_takes, grant_to, grants_from, with_grants}
+use Rattle.protocol.specs.declared.post.Post.{Post}
+use Rattle.protocol.specs.Coordinator.{Coordinated, with_standing, noted, route, coordinator_takes, grant_to, grants_from, with_grants}
 use Rattle.protocol.specs.Machine.{Member, Move, ToCoordinator, ToFederate, Announce, Advance, Lose, opening_member, with_member, standings_of, sent_to, coordinated, coordinator_takes_from, stepped, federate_takes_from, outcome_of, after_moves}
 use Rattle.laws.specs.Histories.{histories_of}
 use Rattle.laws.proofs.Safety.{IsSound, tag_if, sent-append, grants_sent, moves_sound}
@@ -180,7 +181,7 @@ module _ (n : Network) (members : ℕ → Member) (i : ℕ) (rest : List Signal)
       λ y. or_else (up y) (or_else (last_message n a t slot (members a).down) (look (members a).federate.undone t slot))
 
   abbrev post_to : ℕ → ℕ → LogicalTime → ℤ → List Post
-  post_to target k s v = record { federate = target; signal = Msg k s v } ∷ []
+  post_to target k s v = record { peer = target; signal = Msg k s v } ∷ []
 
   abbrev if_sent : Bool → ℕ → ℕ → LogicalTime → ℤ → List Signal
   if_sent b target k s v = map (λ (p : Post). p.signal) (cond b (post_to target k s v) [])
@@ -225,7 +226,7 @@ module _ (n : Network) (members : ℕ → Member) (i : ℕ) (rest : List Signal)
   route_sends L standings k s v None e at = tt
   route_sends L standings k s v (Some c) e at = by_tests (nat_eq c.source i) (is_at_most s n.stop) (is_past (standings c.target).granted s) refl
     where
-      by_tests : (b d f : Bool) → nat_eq c.source i ≡ b → TakeSends (if not b then Refused NotYours else if not d then Refused AfterStop else if not f then Refused BelowGrant else Done (record { after = with_standing standings c.target (after_message (standings c.target) s); sent = record { federate = c.target; signal = Msg k s v } ∷ [] }))
+      by_tests : (b d f : Bool) → nat_eq c.source i ≡ b → TakeSends (if not b then Refused NotYours else if not d then Refused AfterStop else if not f then Refused BelowGrant else Done (record { after = with_standing standings c.target (after_message (standings c.target) s); sent = record { peer = c.target; signal = Msg k s v } ∷ [] }))
       by_tests true true true h = message_sends k s v c e at (at_index (PortFacts n) n.connections k c (port_facts n L) at) (eqb-true c.source i h)
       by_tests true true false h = tt
       by_tests true false f h = tt

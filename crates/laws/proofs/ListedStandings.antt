@@ -62,7 +62,7 @@ beyond_if reactors standings false refusal o h = tt
 route_beyond : (n : Network) (standings : ℕ → Standing) (i number : ℕ) (signal : Signal) (o : Option Connection) (tag : LogicalTime) → IsWired n → slice_get n.connections number ≡ o → StaysBeyond n.reactors standings (route n standings i signal o tag)
 route_beyond n standings i number signal None tag wired e = tt
 route_beyond n standings i number signal (Some c) tag wired e =
-    let made : Coordinated = record { after = with_standing standings c.target (after_message (standings c.target) tag); sent = record { federate = c.target; signal = signal } ∷ [] } in
+    let made : Coordinated = record { after = with_standing standings c.target (after_message (standings c.target) tag); sent = record { peer = c.target; signal = signal } ∷ [] } in
     let target = (between_is n c wired (contains_at n.connections number c e)).target in
     beyond_if n.reactors standings (nat_eq c.source i) NotYours (if not (is_at_most tag n.stop) then Refused AfterStop else if not (is_past (standings c.target).granted tag) then Refused BelowGrant else Done made)
     (beyond_if n.reactors standings (is_at_most tag n.stop) AfterStop (if not (is_past (standings c.target).granted tag) then Refused BelowGrant else Done made)

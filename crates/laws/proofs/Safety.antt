@@ -23,7 +23,8 @@ use Rattle.network.specs.Undone.{first_tag, put}
 use Rattle.protocol.specs.Federate.{Federate, Stepped, is_past, is_reached, is_told, next_event, accept_message, federate_announces, advance_to, federate_advances, turn_at}
 use Rattle.protocol.specs.Standing.{Standing, after_message, after_net, after_ltc, after_grant}
 use Rattle.protocol.specs.Grant.{Rule, IsSafe, IsSafeRule, after_completed}
-use Rattle.protocol.specs.Coordinator.{Post, Coordinated, with_standing, noted, route, grant_to, grant_post, grants_from, with_grants}
+use Rattle.protocol.specs.declared.post.Post.{Post}
+use Rattle.protocol.specs.Coordinator.{Coordinated, with_standing, noted, route, grant_to, grant_post, grants_from, with_grants}
 use Rattle.protocol.specs.Machine.{Member, Move, ToCoordinator, ToFederate, Announce, Advance, Lose, opening_member, with_member, standings_of, sent_to, coordinated, coordinator_takes_from, stepped, federate_takes_from, outcome_of, after_moves}
 use Rattle.laws.proofs.Tags.{above, after_completed_least, past_true, to_past}
 use Rattle.laws.proofs.Upward.{IsOver, source_at_least}
@@ -143,19 +144,19 @@ tag_if (Some g) = Tag g ∷ []
 
 pub sent-append : (j : ℕ) (xs ys : List Post) → sent_to j (xs ++ ys) ≡ sent_to j xs ++ sent_to j ys
 sent-append j xs ys =
-    ap (map (λ (p : Post). p.signal)) (filter-append (λ (p : Post). nat_eq j p.federate) xs ys) ∙
-    map-append (λ (p : Post). p.signal) (filter (λ (p : Post). nat_eq j p.federate) xs) (filter (λ (p : Post). nat_eq j p.federate) ys)
+    ap (map (λ (p : Post). p.signal)) (filter-append (λ (p : Post). nat_eq j p.peer) xs ys) ∙
+    map-append (λ (p : Post). p.signal) (filter (λ (p : Post). nat_eq j p.peer) xs) (filter (λ (p : Post). nat_eq j p.peer) ys)
 
 post_here : (j k : ℕ) (o : Option LogicalTime) → j ≡ k → sent_to j (grant_post k o) ≡ tag_if o
 post_here j k None e = refl
-post_here j k (Some g) e = let P : Bool → Type 0 = λ b. map (λ (p : Post). p.signal) (cond b (record { federate = k; signal = Tag g } ∷ []) []) ≡ Tag g ∷ [] in subst P (sym (eq-eqb j k e)) refl
+post_here j k (Some g) e = let P : Bool → Type 0 = λ b. map (λ (p : Post). p.signal) (cond b (record { peer = k; signal = Tag g } ∷ []) []) ≡ Tag g ∷ [] in subst P (sym (eq-eqb j k e)) refl
 
 not_equal : (j k : ℕ) → (j ≡ k → ⊥) → nat_eq j k ≡ false
 not_equal j k h = grind (arith, nat_tests)
 
 post_elsewhere : (j k : ℕ) (o : Option LogicalTime) → (j ≡ k → ⊥) → sent_to j (grant_post k o) ≡ []
 post_elsewhere j k None e = refl
-post_elsewhere j k (Some g) e = let P : Bool → Type 0 = λ b. map (λ (p : Post). p.signal) (cond b (record { federate = k; signal = Tag g } ∷ []) []) ≡ [] in subst P (sym (not_equal j k e)) refl
+post_elsewhere j k (Some g) e = let P : Bool → Type 0 = λ b. map (λ (p : Post). p.signal) (cond b (record { peer = k; signal = Tag g } ∷ []) []) ≡ [] in subst P (sym (not_equal j k e)) refl
 
 grants_elsewhere : (n : Network) (rule : Rule) (standings : ℕ → Standing) (j k count : ℕ) → (j < k) ⊎ (k + count ≤ j) → sent_to j (grants_from n rule standings k count) ≡ []
 grants_elsewhere n rule standings j k zero h = refl
@@ -265,7 +266,7 @@ popped_if n j taken before true k o e = let P : Standing → Type 0 = λ x. IsKe
 popped_if n j taken before false k o e = o
 
 -- the member to which it goes has it in its queue
-routed_if : (n : Network) (j target : ℕ) (mine other : Standing) (f : Federate) (up down : List Signal) (message : Signal) (b : Bool) → (b ≡ true → IsKept n j mine f up (down ++ message ∷ [])) → IsKept n j other f up down → IsKept n j (if b then mine else other) f up (down ++ map (λ (p : Post). p.signal) (cond b (record { federate = target; signal = message } ∷ []) []))
+routed_if : (n : Network) (j target : ℕ) (mine other : Standing) (f : Federate) (up down : List Signal) (message : Signal) (b : Bool) → (b ≡ true → IsKept n j mine f up (down ++ message ∷ [])) → IsKept n j other f up down → IsKept n j (if b then mine else other) f up (down ++ map (λ (p : Post). p.signal) (cond b (record { peer = target; signal = message } ∷ []) []))
 routed_if n j target mine other f up down message true k o = k refl
 routed_if n j target mine other f up down message false k o = let P : List Signal → Type 0 = λ x. IsKept n j other f up x in subst P (sym (append-nil down)) o
 
@@ -287,7 +288,7 @@ over_goes n table rule members i k g v rest source (Some c) lawful facts safe so
     let g_tag : IsLogicalTime g = subst D (sym is_sum) (sum_is_logical source c.delay tag (plain_is_logical c.delay connected.delay)) in
     let above_granted = past_true (members c.target).standing.granted g (sound.kept c.target).granted_tag g_tag past in
     let mine : Standing = after_message (members c.target).standing g in
-    let made : Coordinated = record { after = with_standing (standings_of members) c.target (after_message (members c.target).standing g); sent = record { federate = c.target; signal = Msg k g v } ∷ [] } in
+    let made : Coordinated = record { after = with_standing (standings_of members) c.target (after_message (members c.target).standing g); sent = record { peer = c.target; signal = Msg k g v } ∷ [] } in
     let W : ℕ → Member = with_member members i (record (members i) { up = rest }) in
     let E : ℕ → Type 0 = λ x. IsKept n x (members i).standing (members i).federate rest (members i).down in
     let waiting : (j : ℕ) → IsKept n j (members j).standing (W j).federate (W j).up (W j).down =

@@ -11,7 +11,8 @@ use Rattle.signal.specs.declared.signal.Signal.TheVariants.{Net, Ltc, Tag, Msg}
 use Rattle.protocol.specs.Outcome.{Outcome, with_made}
 use Rattle.protocol.specs.Standing.{Standing, after_grant}
 use Rattle.protocol.specs.Grant.{Rule, Eligible}
-use Rattle.protocol.specs.Coordinator.{Post, Coordinated, route, coordinator_takes, grant_to, grant_post, grants_from, with_grants, coordinator_accepts}
+use Rattle.protocol.specs.declared.post.Post.{Post}
+use Rattle.protocol.specs.Coordinator.{Coordinated, route, coordinator_takes, grant_to, grant_post, grants_from, with_grants, coordinator_accepts}
 
 pub wiring_is_wired : (n : Network) → IsWired n → IsWired (wiring_of n)
 wiring_is_wired n w = record { stop = w.stop; connections = w.connections }

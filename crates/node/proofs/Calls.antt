@@ -12,8 +12,8 @@ use Rattle.node.specs.declared.fault.NodeFault.{NodeFault}
 use Rattle.node.specs.declared.fault.NodeFault.TheVariants as fault
 use Rattle.node.specs.declared.memory.Memory.{Memory}
 use Rattle.node.specs.declared.reply.Reply.{Reply}
-use Rattle.node.specs.declared.post.Post.{Post}
-use Rattle.node.specs.declared.post.Outgoing.{Outgoing}
+use Rattle.protocol.specs.declared.post.Post.{Post}
+use Rattle.node.specs.declared.outgoing.Outgoing.{Outgoing}
 use Rattle.node.specs.Numbers.{fault_number, closes}
 use Rattle.node.specs.Mail.{Mail, lacks_room, bare}
 use Rattle.node.specs.Core.{Core, Made, Ending, Refuses, LacksRoom, Stays, Moves, ending_of, answer_of as answer_for, node_after, mail_after, IsCall}

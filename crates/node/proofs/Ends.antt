@@ -6,8 +6,8 @@ use Rattle.signal.specs.declared.signal.Signal.{Signal}
 use Rattle.signal.specs.declared.frame.Frame.{Frame}
 use Rattle.link.specs.declared.fault.LinkFault.{LinkFault}
 use Rattle.link.specs.Image.{Image, EndView, offer_of, after_offer}
-use Rattle.node.specs.declared.post.Post.{Post}
-use Rattle.node.specs.declared.post.Outgoing.{Outgoing}
+use Rattle.protocol.specs.declared.post.Post.{Post}
+use Rattle.node.specs.declared.outgoing.Outgoing.{Outgoing}
 use Rattle.node.specs.Mail.{posted, count_for, lacks, lacks_at, some_lacks, lacks_room}
 use Rattle.node.specs.Box.{images, reserves, reserved_at}
 

@@ -4,8 +4,8 @@ use Rattle.std.proofs.lemmas.Option.{slice_get-map}
 use Rattle.signal.specs.declared.signal.Signal.{Signal}
 use Rattle.signal.specs.declared.frame.Frame.TheVariants.{Data}
 use Rattle.link.specs.Image.{Image, offer_of, after_offer, answer_of}
-use Rattle.node.specs.declared.post.Post.{Post}
-use Rattle.node.specs.declared.post.Outgoing.{Outgoing}
+use Rattle.protocol.specs.declared.post.Post.{Post}
+use Rattle.node.specs.declared.outgoing.Outgoing.{Outgoing}
 use Rattle.node.specs.Mail.{Mail, posted, offered_at, all_posted, framed, count_for, lacks, lacks_at, peer_lacks, lacks_room, bare}
 use Rattle.node.specs.Box.{Outbox, HasMemory, IsReady, IsReadyFor, reserved_at}
 use Rattle.node.proofs.Ends.{all_have, room_for_all, lacks_less}

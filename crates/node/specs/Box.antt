@@ -1,7 +1,7 @@
 -- What a caller sees of an outbox.
 use Rattle.std.specs.Prelude.{◌≡◌, ℕ, ◌≤◌, false, List, length, map, get_or, slice_get, Some}
 use Rattle.link.specs.Image.{Image, EndView}
-use Rattle.node.specs.declared.post.Post.{Post}
+use Rattle.protocol.specs.declared.post.Post.{Post}
 use Rattle.node.specs.Mail.{Mail, count_for, lacks_at, lacks_room}
 
 -- the ends and the frames; how many offers take no memory at each end; and how many more frames take none

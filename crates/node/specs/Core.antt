@@ -3,7 +3,7 @@ use Rattle.std.specs.Prelude.{◌≡◌, ℕ, Bool, true, false, IsTrue, if◌th
 use Rattle.signal.specs.declared.signal.Signal.{Signal}
 use Rattle.protocol.specs.declared.refusal.Refusal.{Refusal}
 use Rattle.protocol.specs.Outcome.{Outcome, Refused, Nothing, Done}
-use Rattle.node.specs.declared.post.Post.{Post}
+use Rattle.protocol.specs.declared.post.Post.{Post}
 use Rattle.node.specs.declared.fault.NodeFault.{NodeFault}
 use Rattle.node.specs.declared.fault.NodeFault.TheVariants as fault
 use Rattle.node.specs.Mail.{Mail, all_posted, lacks_room}

@@ -4,8 +4,8 @@ use Rattle.signal.specs.declared.signal.Signal.{Signal}
 use Rattle.signal.specs.declared.frame.Frame.{Frame}
 use Rattle.link.specs.declared.fault.LinkFault.{LinkFault}
 use Rattle.link.specs.Image.{Image, room_left, offer_of, after_offer}
-use Rattle.node.specs.declared.post.Post.{Post}
-use Rattle.node.specs.declared.post.Outgoing.{Outgoing}
+use Rattle.protocol.specs.declared.post.Post.{Post}
+use Rattle.node.specs.declared.outgoing.Outgoing.{Outgoing}
 
 -- the ends, and the frames that are to be sent so far
 pub record Mail : Type 0 where

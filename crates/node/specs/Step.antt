@@ -8,7 +8,7 @@ use Rattle.link.specs.declared.fault.LinkFault.{LinkFault}
 use Rattle.link.specs.Fault as link
 use Rattle.link.specs.Image.{Image, blank, answer_of, after_frame, after_close, ack_of, hello_of, resent_by}
 use Rattle.protocol.specs.Refusals.{number_of}
-use Rattle.node.specs.declared.post.Outgoing.{Outgoing}
+use Rattle.node.specs.declared.outgoing.Outgoing.{Outgoing}
 use Rattle.node.specs.declared.event.Event.{Event}
 use Rattle.node.specs.declared.event.Event.TheVariants as event
 use Rattle.node.specs.declared.reply.Reply.{Reply}

@@ -1,4 +1,4 @@
-ghost use Rattle.std.specs.Prelude.{◌≡◌, ◌≢◌, ℕ, Bool};
+ghost use Rattle.std.specs.Prelude.{◌≡◌, ◌≢◌, ℕ, Bool, List};
 ghost use Rattle.node.specs.Core.{Core, IsCore, IsCall, Allows, SendsOnly};
 ghost use Rattle.node.specs.declared.fault.NodeFault.TheVariants as Faults;
 
@@ -12,6 +12,11 @@ use signal::Signal;
 pub trait Node: Drop {
     /// What a node's history consists of.
     type Row;
+
+    /// A history: rows, oldest first.
+    type Rows;
+
+    ghost listed: { Self.Rows → List Self.Row };
 
     ghost HUB: { Bool };
 
@@ -45,8 +50,8 @@ pub trait Node: Drop {
         ensures lawful { SendsOnly (core.may_send self.old) (core.advance self.old) };
 
     /// Its history so far.
-    fn rows(&self) -> &[Self::Row]
-        ensures { result.now ≡ core.rows self.now };
+    fn rows(&self) -> &Self::Rows
+        ensures { listed result.now ≡ core.rows self.now };
 
     /// Whether nothing is left to do in the whole federation, as far as this node knows.
     fn finished(&self) -> bool

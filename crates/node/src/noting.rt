@@ -6,7 +6,7 @@ ghost use Rattle.node.specs.Step.{said, answer_with, addressed, changes, returne
 
 use crate::memory::Memory;
 use crate::outbox::Outbox;
-use crate::post::Outgoing;
+use crate::outgoing::Outgoing;
 use crate::replies::{address, reply_with};
 use crate::reply::Reply;
 use signal::Frame;

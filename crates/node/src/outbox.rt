@@ -7,8 +7,9 @@ ghost use Rattle.node.specs.declared.fault.NodeFault.TheVariants as Faults;
 
 use crate::fault::NodeFault;
 use crate::memory::Memory;
-use crate::post::{Outgoing, Post};
+use crate::outgoing::Outgoing;
 use link::LinkEnd;
+use protocol::Post;
 use signal::{Frame, Signal};
 use std::alloc::Global;
 use std::marker::Model;

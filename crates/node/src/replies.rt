@@ -9,7 +9,7 @@ ghost use Rattle.node.specs.declared.fault.NodeFault.TheVariants as Faults;
 use crate::fault::NodeFault;
 use crate::memory::Memory;
 use crate::outbox::Outbox;
-use crate::post::Outgoing;
+use crate::outgoing::Outgoing;
 use crate::reply::Reply;
 use link::{LinkEnd, LinkFault};
 use signal::Frame;

@@ -1,4 +1,4 @@
-use crate::post::Outgoing;
+use crate::outgoing::Outgoing;
 
 /// What a step of a station comes to. The frames are to be sent in their order.
 #[derive(Debug, Drop)]

@@ -12,7 +12,7 @@ use crate::memory::Memory;
 use crate::node::Node;
 use crate::noting::note;
 use crate::outbox::Outbox;
-use crate::post::Outgoing;
+use crate::outgoing::Outgoing;
 use crate::replies::{address, decline, one, reply_with, tell, turn_away};
 use crate::reply::Reply;
 use link::{Arrival, LinkEnd, LinkFault};

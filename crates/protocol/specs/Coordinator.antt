@@ -5,16 +5,12 @@ use Rattle.network.specs.Connection.{Connection}
 use Rattle.network.specs.Network.{Network, with_one}
 use Rattle.signal.specs.declared.signal.Signal.{Signal}
 use Rattle.signal.specs.declared.signal.Signal.TheVariants.{Net, Ltc, Tag, Msg}
+use Rattle.protocol.specs.declared.post.Post.{Post}
 use Rattle.protocol.specs.declared.refusal.Refusal.TheVariants.{NotYours, BelowGrant, NotRising, AfterStop, NotForCoordinator}
 use Rattle.protocol.specs.Outcome.{Outcome, Refused, Done, with_made}
 use Rattle.protocol.specs.Federate.{is_past}
 use Rattle.protocol.specs.Standing.{Standing, after_message, after_net, after_ltc, after_grant}
 use Rattle.protocol.specs.Grant.{Rule}
-
--- a signal to a federate
-pub record Post : Type 0 where
-  pub federate : ℕ
-  pub signal : Signal
 
 -- what a step makes: all standings after it, and the signals to federates, in order
 pub record Coordinated : Type 0 where
@@ -34,7 +30,7 @@ route n standings i message (Some c) tag =
     else if not (is_past (standings c.target).granted tag) then Refused BelowGrant
     else Done (record {
       after = with_standing standings c.target (after_message (standings c.target) tag);
-      sent = record { federate = c.target; signal = message } ∷ [];
+      sent = record { peer = c.target; signal = message } ∷ [];
     })
 
 -- federate i's standing is replaced, and nothing goes out
@@ -62,7 +58,7 @@ grant_to n rule standings j = if nat_lt j n.reactors then rule standings j else 
 -- a TAG to a federate, if there is one
 abbrev pub grant_post : ℕ → Option LogicalTime → List Post
 grant_post j None = []
-grant_post j (Some tag) = record { federate = j; signal = Tag tag } ∷ []
+grant_post j (Some tag) = record { peer = j; signal = Tag tag } ∷ []
 
 -- the TAGs to the next `count` federates from j on, in number order
 abbrev pub grants_from : Network → Rule → (ℕ → Standing) → ℕ → ℕ → List Post

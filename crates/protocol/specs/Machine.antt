@@ -5,7 +5,8 @@ use Rattle.signal.specs.declared.signal.Signal.{Signal}
 use Rattle.protocol.specs.Outcome.{Outcome, Nothing, Done, made_or, with_made}
 use Rattle.protocol.specs.Federate.{Federate, Stepped, opening_federate, federate_accepts, federate_announces, federate_advances}
 use Rattle.protocol.specs.Standing.{Standing, opening_standing}
-use Rattle.protocol.specs.Coordinator.{Post, Coordinated, coordinator_accepts}
+use Rattle.protocol.specs.declared.post.Post.{Post}
+use Rattle.protocol.specs.Coordinator.{Coordinated, coordinator_accepts}
 use Rattle.protocol.specs.Grant.{Rule}
 
 -- one federate, its standing with the coordinator, and what was offered and not yet taken, oldest first: up, of what it sends,
@@ -40,7 +41,7 @@ standings_of members j = (members j).standing
 
 -- what is sent to one federate
 abbrev pub sent_to : ℕ → List Post → List Signal
-sent_to j posts = map (λ p. p.signal) (filter (λ p. nat_eq j p.federate) posts)
+sent_to j posts = map (λ p. p.signal) (filter (λ p. nat_eq j p.peer) posts)
 
 -- a member after a step of the coordinator
 abbrev pub coordinated : Coordinated → ℕ → Member → Member

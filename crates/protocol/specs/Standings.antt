@@ -6,7 +6,8 @@ use Rattle.signal.specs.declared.signal.Signal.{Signal}
 use Rattle.protocol.specs.Outcome.{Outcome, with_made}
 use Rattle.protocol.specs.Standing.{Standing, opening_standing}
 use Rattle.protocol.specs.Grant.{Rule, all_below}
-use Rattle.protocol.specs.Coordinator.{Post, Coordinated, coordinator_accepts}
+use Rattle.protocol.specs.declared.post.Post.{Post}
+use Rattle.protocol.specs.Coordinator.{Coordinated, coordinator_accepts}
 
 -- a federate's standing; beyond the list's end it is the opening one
 abbrev pub standing_at : List Standing → ℕ → Standing

@@ -3,6 +3,7 @@
 //! Promise to the layer above: words to cite. Begin with `specs/Federate` and `specs/Coordinator`, then `specs/Machine`.
 #![tactic(auto)]
 
+pub mod post;
 pub mod refusal;
 
 ghost use Rattle.std.specs.Prelude.{◌≡◌, false, pos, [], ◌∷◌};
@@ -12,6 +13,7 @@ ghost use Rattle.protocol.specs.Grant.{passes_paths};
 ghost use Rattle.protocol.specs.Machine.{standings_of};
 ghost use Rattle.protocol.specs.Examples.{counter, counter_table, announced, routed, counted, summed, first_sum};
 
+pub use post::Post;
 pub use refusal::Refusal;
 
 /// The first grant of a federate without upstream, its message and its LTC; the TAG to the next federate goes out once the LTC has

@@ -5,7 +5,7 @@ use Rattle.signal.specs.declared.signal.Signal.{Signal}
 use Rattle.signal.specs.declared.signal.Signal.TheVariants.{Net, Ltc, Tag, Msg}
 use Rattle.protocol.specs.declared.refusal.Refusal.{Refusal}
 use Rattle.protocol.specs.Outcome.{Outcome, Refused, Nothing, Done}
-use Rattle.node.specs.declared.post.Post.{Post}
+use Rattle.protocol.specs.declared.post.Post.{Post}
 use Rattle.node.specs.Core.{Core, Made, GoesOn, IsCore}
 use Rattle.stations.specs.declared.counter.Counter.{Counter}
 

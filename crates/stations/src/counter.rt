@@ -25,10 +25,14 @@ impl Counter {
 }
 
 impl Node for Counter {
-    ghost use Rattle.std.specs.Prelude.{true};
+    ghost use Rattle.std.specs.Prelude.{true, []};
     ghost use Rattle.stations.specs.Counting.{counting, goes_on as goes};
 
     type Row = u32;
+
+    type Rows = ();
+
+    ghost listed = { λ none. [] };
 
     ghost HUB = { true };
 
@@ -86,8 +90,8 @@ impl Node for Counter {
         Ok(true)
     }
 
-    fn rows(&self) -> &[u32] {
-        &[]
+    fn rows(&self) -> &() {
+        &()
     }
 
     fn finished(&self) -> bool {
