@@ -5,7 +5,7 @@ ghost use Rattle.reactor.specs.Programs.{AreProgramsOf};
 use crate::federations::{CONNECTION, FEDERATES, loaded};
 use loadfed::load_inputs;
 use plan::{Inputs, Plan};
-use reactor::{Entry, Programs, Row};
+use reactor::{Entry, Programs, RowView, Rows};
 use std::alloc::Global;
 use std::test::Fail;
 use whole::Whole;
@@ -22,7 +22,7 @@ const ROWS: &[(usize, u64, i64, i64)] = &[
     (1, 20 * MS, 3, 6),
 ];
 
-fn is_row(row: &Row, federate: usize, time: u64, input: i64, output: i64) -> bool {
+fn is_row(row: &RowView<'_>, federate: usize, time: u64, input: i64, output: i64) -> bool {
     row.federate() == federate
         && row.tag().time() == time
         && row.tag().microstep() == 0
@@ -31,13 +31,21 @@ fn is_row(row: &Row, federate: usize, time: u64, input: i64, output: i64) -> boo
 }
 
 /// Whether these are the first rows, so many of them.
-pub(crate) fn are_first(rows: &[Row], count: usize) -> bool {
-    for (row, (federate, time, input, output)) in rows.iter().zip(ROWS) {
-        if !is_row(row, *federate, *time, *input, *output) {
+pub(crate) fn are_first(rows: &Rows, count: usize) -> bool {
+    rows.len() == count && count <= ROWS.len() && are(rows, &ROWS[..count])
+}
+
+/// Whether these are the rows.
+fn are(rows: &Rows, expected: &[(usize, u64, i64, i64)]) -> bool {
+    for (place, (federate, time, input, output)) in expected.iter().enumerate() {
+        if place >= rows.len() {
+            return false;
+        }
+        if !is_row(&rows.row(place), *federate, *time, *input, *output) {
             return false;
         }
     }
-    rows.len() == count && count <= ROWS.len()
+    rows.len() == expected.len()
 }
 
 /// Whether so many turns at most are made, and then so many rows are there.
@@ -51,11 +59,25 @@ fn makes_six(alloc: Global, plan: &Plan, programs: &Programs, inputs: &Inputs) -
     requires inputs { AreInputsOf plan.now inputs.now }
 {
     let mut whole = Whole::new(alloc, plan, programs, inputs).ok()?;
-    let fresh = whole.rows().is_empty();
+    let fresh = whole.rows().len() == 0;
     let four = makes(&mut whole, 4, 4, 4);
     let rest = makes(&mut whole, 100, 2, 6);
     let no_more = makes(&mut whole, 1, 0, 6);
-    Some(fresh && four && rest && no_more)
+    whole.let_go();
+    let all_gone = makes(&mut whole, 1, 0, 0);
+    Some(fresh && four && rest && no_more && all_gone)
+}
+
+/// Whether the last two rows stand alone where the four before them were let go. None where there was no memory for it.
+fn makes_two(alloc: Global, plan: &Plan, programs: &Programs, inputs: &Inputs) -> Option<bool>
+    requires programs { AreProgramsOf plan.now programs.now }
+    requires inputs { AreInputsOf plan.now inputs.now }
+{
+    let mut whole = Whole::new(alloc, plan, programs, inputs).ok()?;
+    let four = whole.turns(4) == Ok(4);
+    whole.let_go();
+    let rest = whole.turns(100) == Ok(2);
+    Some(four && rest && are(whole.rows(), &ROWS[4..]))
 }
 
 #[test]
@@ -63,5 +85,6 @@ fn makes_turns(rt: HostRuntime) -> Result<(), Fail> {
     let (plan, programs) = loaded(rt.alloc(), FEDERATES, CONNECTION)?;
     let inputs = load_inputs(rt.alloc(), b"", &plan)?;
     assert!(rt; makes_six(rt.alloc(), &plan, &programs, &inputs) == Some(true));
+    assert!(rt; makes_two(rt.alloc(), &plan, &programs, &inputs) == Some(true));
     Ok(())
 }

@@ -4,7 +4,7 @@ use Rattle.std.specs.Io.KnownBytes.{Appends}
 use Rattle.plan.specs.declared.draft.Draft.{Draft}
 use Rattle.plan.specs.declared.input.Input.{Input}
 use Rattle.reactor.specs.Behaviour.{Behaviour}
-use Rattle.whole.specs.Progress.{Progress, pending_in, rows_in}
+use Rattle.whole.specs.Progress.{Progress, pending_in, all_rows_in}
 use Rattle.printed.specs.RowText.{printed_rows}
 use Rattle.printed.specs.PlanText.{printed_plan}
 use Rattle.fedrun.specs.declared.words.Request.{Request}
@@ -23,7 +23,7 @@ pub record IsTurned (d : Draft) (programs : List Behaviour) (inputs : List Input
 pub record PrintsRows (d : Draft) (programs : List Behaviour) (inputs : List Input) (turns : ℕ) (before after : Option (List ℕ)) : Type 0 where
   pub progress : Progress
   pub turned : IsTurned d programs inputs turns progress
-  pub printed : Appends before after (printed_rows d.federates (rows_in progress))
+  pub printed : Appends before after (printed_rows d.federates (all_rows_in progress))
 
 -- a writer's bytes grew by the rows of the federation in a file, with the inputs in another, after at most so many turns
 pub record PrintsRun (federation inputs : Option (List ℕ)) (turns : ℕ) (before after : Option (List ℕ)) : Type 0 where

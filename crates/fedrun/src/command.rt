@@ -236,7 +236,8 @@ fn turned<'a>(
 ) -> Result<Whole<'a>, reactor::Memory>
     requires programs { AreProgramsOf plan.now programs.now }
     requires inputs { AreInputsOf plan.now inputs.now }
-    ensures { IfOk result (λ whole. IsTurned plan.now programs.now inputs.now turns whole) }
+    ensures turned { IfOk result (λ whole. IsTurned plan.now programs.now inputs.now turns whole) }
+    ensures all { IfOk result (λ whole. whole.gone ≡ 0) }
 {
     let mut program = Whole::new(alloc, plan, programs, inputs)?;
     let _made = program.turns(turns)?;

@@ -5,22 +5,22 @@ ghost use Rattle.printed.specs.RowText.{name_at, printed_input, printed_output, 
 
 use crate::memory::Memory;
 use plan::{Federate, Plan, Slots, Text, Timer};
-use reactor::{Entry, Row};
+use reactor::{Entry, RowView, Rows};
 use std::alloc::{AllocError, Global};
 
 /// The rows of a plan's federates, one a line.
-pub fn rows_text(alloc: Global, plan: &Plan, rows: &[Row]) -> Result<String, Memory>
+pub fn rows_text(alloc: Global, plan: &Plan, rows: &Rows) -> Result<String, Memory>
     ensures { IfOk result (λ text. string_bytes text ≡ printed_rows plan.now.federates rows.now) }
 {
     let mut text = String::new(alloc);
-    for row in rows {
-        push_line(&mut text, plan.federates(), row)?;
+    for place in 0..rows.len() {
+        push_line(&mut text, plan.federates(), &rows.row(place))?;
     }
     Ok(text)
 }
 
 /// One row of a plan's federates, with the end of its line.
-pub fn row_text(alloc: Global, plan: &Plan, row: &Row) -> Result<String, Memory>
+pub fn row_text(alloc: Global, plan: &Plan, row: &RowView<'_>) -> Result<String, Memory>
     ensures { IfOk result (λ text. string_bytes text ≡ printed_line plan.now.federates row.now) }
 {
     let mut text = String::new(alloc);
@@ -29,7 +29,7 @@ pub fn row_text(alloc: Global, plan: &Plan, row: &Row) -> Result<String, Memory>
 }
 
 /// Adds a row and the end of its line.
-fn push_line(text: &mut String, federates: &[Federate], row: &Row) -> Result<(), AllocError>
+fn push_line(text: &mut String, federates: &[Federate], row: &RowView<'_>) -> Result<(), AllocError>
     ensures { OnOk result (string_bytes text.new ≡ string_bytes text.old ++ printed_line federates.now row.now) }
 {
     if let Some(federate) = federates.get(row.federate()) {
@@ -40,7 +40,7 @@ fn push_line(text: &mut String, federates: &[Federate], row: &Row) -> Result<(),
 
 /// Adds a row of this federate.
 #[tactic(auto, unfolding(crate::specs::RowText::printed_turn))]
-fn push_turn(text: &mut String, federate: &Federate, row: &Row) -> Result<(), AllocError>
+fn push_turn(text: &mut String, federate: &Federate, row: &RowView<'_>) -> Result<(), AllocError>
     ensures { OnOk result (string_bytes text.new ≡ string_bytes text.old ++ printed_turn federate.now row.now) }
 {
     let name = federate.name.as_str();

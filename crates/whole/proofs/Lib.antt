@@ -1,5 +1,7 @@
 -- lists that grow by a step
 pub mod Steps
+-- how many turns there can be
+pub mod Few
 -- the first turn
 pub mod FirstTurn
 -- lists of entries, and what is present

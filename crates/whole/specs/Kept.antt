@@ -1,8 +1,9 @@
 -- What an undivided program keeps, as code: reactors, events and rows are those after its turns.
-use Rattle.std.specs.Prelude.{◌≡◌, ℕ, ◌<◌, ℤ, List, [], length, map, All, slice_get, Option, None, Some}
+use Rattle.std.specs.Prelude.{◌≡◌, ℕ, ◌+◌, ◌^◌, ◌<◌, ◌≤◌, ℤ, List, [], ◌++◌, length, map, All, slice_get, Option, None, Some}
 use Rattle.std.specs.Option.{option_map}
 use Rattle.network.specs.Event.{Event}
 use Rattle.network.specs.Undivided.{Undivided, Row, undivided_after}
+use Rattle.network.specs.Lawful.{IsLawful}
 use Rattle.plan.specs.declared.draft.Draft.{Draft}
 use Rattle.plan.specs.declared.input.Input.{Input}
 use Rattle.plan.specs.Federation.{federate_count}
@@ -32,11 +33,16 @@ undivided_of reactors pending rows = record { states = states_in reactors; pendi
 abbrev pub IsInRange : Draft → Event → Type 0
 IsInRange d e = e.reactor < federate_count d
 
--- reactors, events and rows are those after as many turns as there are rows
-pub record IsAfterTurns (d : Draft) (inputs : List Input) (reactors : List Reactor) (pending : List Event) (rows : List Row) : Type 0 where
+-- reactors, events and rows are those after as many turns as there are rows and rows let go
+pub record IsAfterTurns (d : Draft) (inputs : List Input) (reactors : List Reactor) (pending : List Event) (gone : ℕ) (rows : List Row) : Type 0 where
   pub programs : HaveSlotsOf d.federates (programs_in reactors)
-  pub undivided : undivided_after (network_of d (programs_in reactors) inputs) (length rows) ≡ undivided_of reactors pending rows
+  pub lawful : IsLawful (network_of d (programs_in reactors) inputs)
+  pub let_go : List Row
+  pub as_many : length let_go ≡ gone
+  pub undivided : undivided_after (network_of d (programs_in reactors) inputs) (gone + length rows) ≡ undivided_of reactors pending (let_go ++ rows)
   pub in_range : All (IsInRange d) pending
+  -- there is one turn for each federate and tag at most
+  pub few : gone + length rows ≤ 2 ^ 100
 
 -- the reactor's slots are those of the federate of this number
 abbrev pub HasSlotsOf : Draft → ℕ → Reactor → Type 0

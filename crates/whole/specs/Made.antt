@@ -30,9 +30,10 @@ abbrev pub pending_after : Draft → Reactor → List Event → ℕ → LogicalT
 pending_after d r pending federate tag =
     filter (λ e. not (is_at federate tag e)) pending ++ made_by (network_of d [] []) federate tag (effect_at r pending federate tag)
 
--- what a turn of this federate at this tag makes: the reactor's states after it, the turn's row, and what is pending then
+-- what a turn of this federate at this tag makes: the reactor's states after it, what its row holds, and what is pending then
 pub record IsMadeAt (d : Draft) (r : Reactor) (events : List Event) (federate : ℕ) (tag : LogicalTime) (made : Made) : Type 0 where
   pub states : made.turn.states ≡ (effect_at r events federate tag).states
   pub fits : length made.turn.states ≡ length r.states
-  pub row : made.row ≡ row_at r events federate tag
+  pub inputs : made.inputs ≡ (row_at r events federate tag).inputs
+  pub outputs : made.turn.outputs ≡ (row_at r events federate tag).outputs
   pub pending : made.pending.items ≡ pending_after d r events federate tag

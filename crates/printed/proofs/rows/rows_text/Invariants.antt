@@ -3,5 +3,5 @@ use Rattle.std.specs.Prelude.{string_bytes}
 use Rattle.printed.specs.RowText.{printed_rows}
 use Rattle.printed.proofs.rows.rows_text.Given as goal
 
-abbrev pub invariant-loop-row : goal.invariant-loop-row
-invariant-loop-row l = string_bytes l.text ≡ printed_rows l.plan.federates (take l.row-index l.rows)
+abbrev pub invariant-loop-place : goal.invariant-loop-place
+invariant-loop-place l = string_bytes l.text ≡ printed_rows l.plan.federates (take l.place l.rows)

@@ -1,5 +1,5 @@
 -- The turn that was run is that of what is present, and what it makes is put together from there.
-use Rattle.std.proofs.Common.{◌≡◌, ℕ, ℤ, Option, refl, ap, sym, ◌∙◌, length}
+use Rattle.std.proofs.Common.{◌≡◌, ℕ, ℤ, Option, ap, sym, ◌∙◌}
 use Rattle.network.specs.Event.{listed, present_at}
 use Rattle.plan.specs.Numbering.{slot_count}
 use Rattle.plan.specs.declared.draft.Federate.{Federate}
@@ -28,9 +28,10 @@ returns c =
     rw (c.as_slice-2.ensures, inputs) (listed-agrees (slot_count c.args.reactor.now.behaviour.slots) present) in
     let turn : c.in_ok-turn.turn ≡ turn_of c.args.reactor.now present = c.in_ok-turn.ensures.slots_alone present agrees in
     record {
-      states = ap (λ t. t.states) c.take_outputs.ensures.rest ∙ ap (λ t. t.states) turn;
-      fits = ap (λ t. length t.states) c.take_outputs.ensures.rest ∙ c.in_ok-turn.ensures.fits;
-      row = rw (c.new-row.ensures, inputs, c.take_outputs.ensures.outputs, turn) refl;
+      states = ap (λ t. t.states) turn;
+      fits = c.in_ok-turn.ensures.fits;
+      inputs = inputs;
+      outputs = ap (λ t. t.outputs) turn;
       pending =
           pending-made c.args.plan.now c.args.federate c.args.tag c.args.reactor.now c.args.pending.now c.in_ok-left.left.items
           c.add_carried.new.events.items c.add_scheduled.new.events.items c.outputs.result.now c.schedulings.result.now c.requires.slots

@@ -1,8 +1,8 @@
 -- The first turn among what is pending is made, and what is kept is kept.
-use Rattle.std.proofs.Common.{◌≡◌, ℕ, ◌+◌, ◌<◌, List, [], ◌∷◌, length, Some, refl, ap, sym, ◌∙◌, arith, subst, slice_set}
+use Rattle.std.proofs.Common.{◌≡◌, ℕ, ◌+◌, ◌<◌, List, [], ◌∷◌, ◌++◌, length, Some, refl, ap, sym, ◌∙◌, arith, subst, slice_set}
 use Rattle.std.proofs.lemmas.List.{length-append}
 use Rattle.std.proofs.lemmas.Option.{slice_get-get_or}
-use Rattle.network.specs.Undivided.{first_of_turns}
+use Rattle.network.specs.Undivided.{Row, first_of_turns}
 use Rattle.reactor.specs.Behaviour.{Behaviour}
 use Rattle.reactor.specs.Federation.{network_of}
 use Rattle.whole.specs.Kept.{programs_in}
@@ -49,13 +49,20 @@ commit-requires c =
 
 pub invariant_of-self-2 : goal.invariant_of-self-2
 invariant_of-self-2 c =
+    let row : Row = record {
+      reactor = c.federate-federate.result;
+      tag = c.tag-tag.result;
+      inputs = c.in_ok-made.made.inputs;
+      outputs = c.in_ok-made.made.turn.outputs;
+    } in
+    let more : c.push.new.self ≡ c.self.inside.rows ++ row ∷ [] = rw (← c.as_slice-3.ensures, ← c.outputs.ensures) c.in_ok-push.ensures.ok in
     let first : first_of_turns (network_of c.self.inside.plan.now (programs_in c.self.inside.reactors.items) c.self.inside.inputs.now) c.self.inside.pending.items ≡ Some c.in-Some.first =
     rw (← c.as_slice.ensures.value) (sym (c.in-Some.ensures.first (programs_in c.self.inside.reactors.items) c.self.inside.inputs.now)) in
-    kept-made c.self.inside.plan.now c.self.inside.inputs.now c.self.inside.reactors.items c.self.inside.pending.items c.self.inside.rows.items
+    kept-made c.self.inside.plan.now c.self.inside.inputs.now c.self.inside.reactors.items c.self.inside.pending.items c.self.inside.gone c.self.inside.rows
     c.in-Some.first c.in_ok-made.made c.index.result.now c.index_mut-reactor.result.now c.commit.new.self c.as_slice-2.result.now
-    c.federate-federate.result c.tag.result c.push.new.self.items c.self.invariant first c.in-Some.ensures.in_range
-    c.federate-federate.ensures c.tag.ensures c.as_slice-2.ensures.value c.index.ensures c.index_mut-reactor.ensures.value c.in_ok-made.ensures
-    c.commit.ensures c.in_ok-push.ensures.items
+    c.federate-federate.result c.tag-tag.result row c.push.new.self c.self.invariant first c.in-Some.ensures.in_range
+    c.federate-federate.ensures c.tag-tag.ensures c.as_slice-2.ensures.value c.index.ensures c.index_mut-reactor.ensures.value c.in_ok-made.ensures
+    c.commit.ensures refl more
 
 pub returns-clause-made : goal.returns-clause-made
 returns-clause-made c =
@@ -64,12 +71,14 @@ returns-clause-made c =
       programs = programs;
       inputs = c.self.inside.inputs.now;
       turns = turns;
+      gone = c.self.inside.gone;
     } in
     let programs = programs_in-set c.self.inside.reactors.items c.federate-federate.result c.index_mut-reactor.result.now c.commit.new.self
     c.index_mut-reactor.ensures.value (ap (λ r. r.behaviour) c.commit.ensures) in
-    let turns : length c.push.new.self.items ≡ length c.self.inside.rows.items + 1 =
-    ap length c.in_ok-push.ensures.items ∙ length-append c.self.inside.rows.items (c.in_ok-made.made.row ∷ []) in
+    let one_more : length c.push.new.self ≡ length c.self.inside.rows + 1 =
+    ap length c.in_ok-push.ensures.ok ∙ length-append c.self.inside.rows _ in
+    let turns : c.self.inside.gone + length c.push.new.self ≡ c.self.inside.gone + length c.self.inside.rows + 1 = omega (arith, one_more) in
     let IsLater : Progress → Type 0 = λ p.
-    shown (programs_in (slice_set c.self.inside.reactors.items c.federate-federate.result c.commit.new.self)) (length c.push.new.self.items) ≡ later_by 1 p in
+    shown (programs_in (slice_set c.self.inside.reactors.items c.federate-federate.result c.commit.new.self)) (c.self.inside.gone + length c.push.new.self) ≡ later_by 1 p in
     subst IsLater c.self.view_is
-    (ap (λ ps. shown ps (length c.push.new.self.items)) programs ∙ ap (λ k. shown (programs_in c.self.inside.reactors.items) k) turns)
+    (ap (λ ps. shown ps (c.self.inside.gone + length c.push.new.self)) programs ∙ ap (λ k. shown (programs_in c.self.inside.reactors.items) k) turns)
