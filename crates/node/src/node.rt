@@ -20,9 +20,6 @@ pub trait Node: Drop {
 
     ghost HUB: { Bool };
 
-    /// Whether the others are linked to this one: it tells a stranger so.
-    const HUB: bool;
-
     /// Its step functions, of what a caller sees of it, which stands for the node itself in every clause.
     ghost core: { Core Self Self.Row };
 
@@ -48,6 +45,10 @@ pub trait Node: Drop {
         ensures call { result ≢ Err Faults.Memory → IsCall self.old self.new outbox.old.mail outbox.new.mail result (core.advance self.old) }
         ensures memory { result ≡ Err Faults.Memory → (self.new ≡ self.old) × (outbox.new.mail ≡ outbox.old.mail) × Allows (core.advance self.old) }
         ensures lawful { SendsOnly (core.may_send self.old) (core.advance self.old) };
+
+    /// Whether the others are linked to this one: it tells a stranger so.
+    fn is_hub(&self) -> bool
+        ensures { result ≡ HUB };
 
     /// Its history so far.
     fn rows(&self) -> &Self::Rows

@@ -96,7 +96,7 @@ impl<N: Node> Station<N> {
         match end.peek(frame) {
             Ok(arrival) => self.let_in(peer, frame, arrival),
             Err(fault) => {
-                let frames = turn_away(alloc, N::HUB, peer, end, frame)?;
+                let frames = turn_away(alloc, self.node.is_hub(), peer, end, frame)?;
                 Ok(Reply::Refused(fault.number(), frames))
             }
         }

@@ -36,8 +36,6 @@ impl Node for Counter {
 
     ghost HUB = { true };
 
-    const HUB: bool = true;
-
     ghost core = { counting };
 
     fn accept(
@@ -88,6 +86,10 @@ impl Node for Counter {
         outbox.put_all(&posts);
         self.sent += 1;
         Ok(true)
+    }
+
+    fn is_hub(&self) -> bool {
+        true
     }
 
     fn rows(&self) -> &() {
