@@ -54,7 +54,8 @@ bare_if : {View : Type 0} (b : Bool) (m : Mail) (after : View) (posts : List Pos
 bare_if true m after posts is = rw is refl
 bare_if false m after posts is = rw is (all_posted_bare m posts)
 
-bare_after : {View : Type 0} (m : Mail) (made : outcome.Outcome (Made View)) → map bare (mail_after m (ending_of m made)).ends ≡ map bare m.ends
+-- what a node's call changes at the ends: what they keep alone
+pub bare_after : {View : Type 0} (m : Mail) (made : outcome.Outcome (Made View)) → map bare (mail_after m (ending_of m made)).ends ≡ map bare m.ends
 bare_after m (outcome.Refused refusal) = refl
 bare_after m outcome.Nothing = refl
 bare_after m (outcome.Done made) = bare_if (lacks_room m.ends made.sent) m made.after made.sent refl

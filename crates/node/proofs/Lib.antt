@@ -8,3 +8,5 @@ pub mod Notes
 pub mod Calls
 -- Through every step a station's node goes on.
 pub mod Ahead
+-- Through every step what a station was made from stays.
+pub mod Openings
