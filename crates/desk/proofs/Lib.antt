@@ -1,0 +1,4 @@
+-- What a journal gives, with one event more.
+pub mod Replays
+-- Slips that are taken off the ends of shares, as their journal is walked backwards.
+pub mod Backwards

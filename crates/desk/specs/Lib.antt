@@ -1,0 +1,4 @@
+-- A station with the journal of its events, and the station that a journal gives.
+pub mod Replay
+-- When the slips of several workers are a journal.
+pub mod Shares

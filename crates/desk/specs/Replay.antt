@@ -1,0 +1,19 @@
+-- A station with the journal of its events, and the station that a journal gives.
+use Rattle.std.specs.Prelude.{Bool, List, [], ◌∷◌}
+use Rattle.node.specs.declared.event.Event.{Event}
+use Rattle.node.specs.Core.{Core}
+use Rattle.node.specs.Step.{Station, step_of, opening_of}
+
+-- a station, and all events that came to it, oldest first
+pub record Desk (View : Type 0) : Type 0 where
+  pub station : Station View
+  pub journal : List Event
+
+-- the station after these events, one after the other
+abbrev pub after_all : {View Row : Type 0} → Core View Row → (hub : Bool) → Station View → List Event → Station View
+after_all core hub s [] = s
+after_all core hub s (event ∷ events) = after_all core hub (step_of core hub s event).station events
+
+-- the station that a journal gives: all its events, from the opening of what the station was made from
+abbrev pub replay : {View Row : Type 0} → Core View Row → (hub : Bool) → Station View → List Event → Station View
+replay core hub s journal = after_all core hub (opening_of core s) journal

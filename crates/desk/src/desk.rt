@@ -1,0 +1,95 @@
+ghost use Rattle.std.specs.Prelude.{◌≡◌, ◌≢◌, [], ◌∷◌, ◌++◌, IfOk, OnOk, OnErr, MatchResult};
+ghost use Rattle.node.specs.Step.{said, step_of, opening_of};
+ghost use Rattle.desk.specs.Replay.{replay};
+ghost use Rattle.desk.specs.Shares.{Agree};
+
+use crate::matching::agree;
+use crate::memory::Memory;
+use crate::share::Share;
+use crate::shares_disagree::SharesDisagree;
+use node::{Event, Node, Reply, Station};
+use std::alloc::Global;
+use std::marker::Model;
+
+/// A station with the journal of all events that came to it, oldest first.
+#[derive(Drop)]
+pub struct Desk<N: Node> {
+    station: Station<N>,
+    journal: Vec<Event>,
+}
+
+impl<N: Node> Model for Desk<N> {
+    ghost use Rattle.std.specs.Prelude.{◌≡◌};
+    ghost use Rattle.desk.specs.Replay as replay;
+
+    ghost Value = { replay.Desk N };
+
+    ghost view = { λ d. record { station = d.station; journal = d.journal.items } };
+
+    ghost invariant = { λ d. d.station ≡ replay.replay N.core N.HUB d.station d.journal.items };
+}
+
+impl<N: Node> Desk<N> {
+    /// A desk with an empty journal. It is asked before the station's first step.
+    pub fn new(alloc: Global, station: Station<N>) -> Desk<N>
+        requires { station ≡ opening_of N.core station }
+        ensures { result ≡ record { station = station; journal = [] } }
+    {
+        Desk {
+            station,
+            journal: Vec::new(alloc),
+        }
+    }
+
+    /// The station.
+    pub fn station(&self) -> &Station<N>
+        ensures { result.now ≡ self.now.station }
+    {
+        &self.station
+    }
+
+    /// All events so far.
+    pub fn journal(&self) -> &[Event]
+        ensures events { result.now ≡ self.now.journal }
+        ensures replay { self.now.station ≡ replay N.core N.HUB self.now.station self.now.journal }
+    {
+        &self.journal
+    }
+
+    /// The station and the journal.
+    pub fn into_parts(self) -> (Station<N>, Vec<Event>)
+        ensures station { result.0 ≡ self.station }
+        ensures journal { result.1.items ≡ self.journal }
+        ensures replay { self.station ≡ replay N.core N.HUB self.station self.journal }
+    {
+        (self.station, self.journal)
+    }
+
+    /// Makes the station's step, and puts the event in the journal: also one that is refused, and one that changes nothing.
+    /// Without memory nothing has changed, and the same event may come again.
+    pub fn handle(&mut self, event: Event) -> Result<Reply, Memory>
+        ensures step { IfOk result (λ reply. record { station = self.new.station; answer = said reply } ≡ step_of N.core N.HUB (replay N.core N.HUB self.old.station self.old.journal) event) }
+        ensures station { self.old.station ≡ replay N.core N.HUB self.old.station self.old.journal }
+        ensures opening { opening_of N.core self.new.station ≡ opening_of N.core self.old.station }
+        ensures journal { OnOk result (self.new.journal ≡ self.old.journal ++ event ∷ []) }
+        ensures as_before { OnErr result (self.new ≡ self.old) }
+    {
+        self.journal.reserve(1)?;
+        let event = &event;
+        let reply = self.station.step(*event)?;
+        self.journal.push_reserved(*event);
+        Ok(reply)
+    }
+
+    /// The desk, if these shares are its journal: see `gather`.
+    pub fn gather(self, shares: Vec<Share>) -> Result<Desk<N>, SharesDisagree>
+        ensures { MatchResult result (λ desk. (desk ≡ self) × Agree self.journal shares.items) (λ _. ¬ Agree self.journal shares.items) }
+    {
+        let mut shares = shares;
+        if agree(&self.journal, &mut shares) {
+            Ok(self)
+        } else {
+            Err(SharesDisagree)
+        }
+    }
+}

@@ -1,0 +1,27 @@
+//! A station with its journal, which several workers share under one lock.
+//!
+//! Promise to the layer above: a desk's station is the replay of its journal (`specs/Replay`), and a gathered desk's journal is
+//! what its workers were told that they added (`specs/Shares`).
+//!
+//!     worker --> Shared::handle ---- lock ----> Desk::handle        one event: its station steps, its journal grows
+//!                     |                              |
+//!                     +--> Share: a slip             +--> Station::step
+//!     gather(Shared, shares) --> the desk, if the slips are its journal
+//!
+//! Begin with `desk`, then `shared`; what no contract can say of a lock is said in `shared`.
+#![tactic(auto)]
+
+pub mod desk;
+mod matching;
+pub mod memory;
+pub mod share;
+pub mod shared;
+pub mod shares_disagree;
+pub mod slip;
+
+pub use desk::Desk;
+pub use memory::Memory;
+pub use share::Share;
+pub use shared::{Shared, gather};
+pub use shares_disagree::SharesDisagree;
+pub use slip::Slip;

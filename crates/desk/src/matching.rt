@@ -1,0 +1,52 @@
+//! Whether shares are a journal: the journal is walked backwards, and each event's slip has to be the last of some share, where
+//! it is taken off.
+ghost use Rattle.std.specs.Prelude.{◌≡◌, ◌≢◌, ◌↔◌, ℕ, true, false, List, [], ◌∷◌, ◌++◌, length};
+ghost use Rattle.node.specs.declared.event.Event.{Event as IsEvent};
+ghost use Rattle.desk.specs.declared.slip.Slip.{Slip as IsSlip};
+ghost use Rattle.desk.specs.Shares.{Agree};
+
+use crate::share::Share;
+use crate::slip::Slip;
+use node::Event;
+
+// Whether the shares are the journal. They are used up.
+pub(crate) fn agree(journal: &[Event], shares: &mut [Share]) -> bool
+    ensures { (result ≡ true) ↔ Agree journal.now shares.old }
+{
+    for place in (0..journal.len()).rev() {
+        let event = journal[place];
+        if !take(shares, &Slip { place, event }) {
+            return false;
+        }
+    }
+    shares.iter().all(|share| share.slips().is_empty())
+}
+
+// Takes the slip off the share whose last one it is.
+fn take(shares: &mut [Share], slip: &Slip) -> bool
+    ensures taken { result ≡ true → (journal : List IsEvent) → length journal ≡ slip.now.place → Agree (journal ++ slip.now.event ∷ []) shares.old ↔ Agree journal shares.new }
+    ensures none { result ≡ false → (journal : List IsEvent) → length journal ≡ slip.now.place → ¬ Agree (journal ++ slip.now.event ∷ []) shares.old }
+{
+    for place in 0..shares.len() {
+        if take_last(&mut shares[place], slip) {
+            return true;
+        }
+    }
+    false
+}
+
+// Takes the slip off the share, if it is its last one.
+fn take_last(share: &mut Share, slip: &Slip) -> bool
+    ensures taken { result ≡ true → share.old ≡ share.new ++ slip.now ∷ [] }
+    ensures as_before { result ≡ false → share.new ≡ share.old }
+    ensures not_last { result ≡ false → (front : List IsSlip) → share.old ≢ front ++ slip.now ∷ [] }
+{
+    let is_last = match share.slips.last() {
+        Some(last) => last.is(slip),
+        None => false,
+    };
+    if is_last {
+        let _ = share.slips.pop();
+    }
+    is_last
+}

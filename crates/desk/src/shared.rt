@@ -1,0 +1,71 @@
+ghost use Rattle.std.specs.Prelude.{◌≡◌, ◌<◌, ℕ, [], ◌∷◌, ◌++◌, length, vec_len, IfOk, OnOk, OnErr};
+ghost use Rattle.std.specs.Vec.{vec_capacity};
+ghost use Rattle.node.specs.Step.{said, step_of, opening_of};
+ghost use Rattle.desk.specs.Replay.{replay};
+ghost use Rattle.desk.specs.Shares.{Agree};
+
+use crate::desk::Desk;
+use crate::memory::Memory;
+use crate::share::Share;
+use crate::shares_disagree::SharesDisagree;
+use crate::slip::Slip;
+use node::{Event, Node, Reply};
+use std::sync::{Mutex, Wait};
+
+/// A desk under a lock, for the workers of one node. Whenever the lock is free, the station behind it is the replay of the
+/// journal beside it. What the contracts of its calls can't say: that the reply is the desk's, and that the slip has the place at
+/// which the event was put in the journal. Under the lock it is one call of `enter`, which says both of the desk that it is lent.
+#[derive(Drop)]
+pub struct Shared<N: Node> {
+    desk: Mutex<Desk<N>>,
+}
+
+impl<N: Node> Shared<N> {
+    /// The desk under its lock.
+    pub fn new(desk: Desk<N>) -> Shared<N> {
+        Shared {
+            desk: Mutex::new(desk),
+        }
+    }
+
+    /// Waits for the lock, and handles the event. The share gains the event's slip. Without memory neither share nor desk has
+    /// changed, and the same event may come again.
+    pub fn handle<R: Wait>(&self, rt: &R, share: &mut Share, event: Event) -> Result<Reply, Memory>
+        ensures slip { OnOk result ((place : ℕ) × (share.new ≡ share.old ++ record { place = place; event = event } ∷ [])) }
+        ensures as_before { OnErr result (share.new ≡ share.old) }
+    {
+        share.slips.reserve(1)?;
+        enter(&mut self.desk.lock(rt), &mut share.slips, &event)
+    }
+
+    /// Waits for the lock, and asks the node whether nothing is left to do, as far as it knows.
+    pub fn finished<R: Wait>(&self, rt: &R) -> bool {
+        self.desk.lock(rt).station().node().finished()
+    }
+}
+
+/// The desk, when all its workers have ended, with the share of each: if in each share the places rise, and all slips together
+/// are the journal, one slip for each place, with the event there.
+pub fn gather<N: Node>(shared: Shared<N>, shares: Vec<Share>) -> Result<Desk<N>, SharesDisagree>
+    ensures { IfOk result (λ desk. Agree desk.journal shares.items) }
+{
+    shared.desk.into_inner().gather(shares)
+}
+
+// Handles the event at the locked desk, and adds its slip, for which there is room.
+fn enter<N: Node>(desk: &mut Desk<N>, slips: &mut Vec<Slip>, event: &Event) -> Result<Reply, Memory>
+    requires room { vec_len slips.old < vec_capacity slips.old }
+    ensures step { IfOk result (λ reply. record { station = desk.new.station; answer = said reply } ≡ step_of N.core N.HUB desk.old.station event.now) }
+    ensures journal { OnOk result (desk.new.journal ≡ desk.old.journal ++ event.now ∷ []) }
+    ensures slip { OnOk result (slips.new.items ≡ slips.old.items ++ record { place = length desk.old.journal; event = event.now } ∷ []) }
+    ensures desk_as_before { OnErr result (desk.new ≡ desk.old) }
+    ensures slips_as_before { OnErr result (slips.new.items ≡ slips.old.items) }
+{
+    let place = desk.journal().len();
+    let reply = desk.handle(*event)?;
+    slips.push_reserved(Slip {
+        place,
+        event: *event,
+    });
+    Ok(reply)
+}

@@ -1,0 +1,19 @@
+ghost use Rattle.std.specs.Prelude.{◌≡◌, ◌↔◌, true};
+
+use node::Event;
+
+/// An event that a worker handed in, with its place in the journal, counted from 0.
+#[derive(Clone, Copy, Debug, PartialEq, Eq)]
+pub struct Slip {
+    pub place: usize,
+    pub event: Event,
+}
+
+impl Slip {
+    // Whether both are the same.
+    pub(crate) fn is(&self, other: &Slip) -> bool
+        ensures { (result ≡ true) ↔ (self.now ≡ other.now) }
+    {
+        self == other
+    }
+}
