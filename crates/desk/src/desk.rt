@@ -7,6 +7,7 @@ use crate::matching::agree;
 use crate::memory::Memory;
 use crate::share::Share;
 use crate::shares_disagree::SharesDisagree;
+use node::laws::openings_stay;
 use node::{Event, Node, Reply, Station};
 use std::alloc::Global;
 use std::marker::Model;
@@ -78,6 +79,8 @@ impl<N: Node> Desk<N> {
         let event = &event;
         let reply = self.station.step(*event)?;
         self.journal.push_reserved(*event);
+        // For the prover: what the station was made from stays.
+        openings_stay::<N>();
         Ok(reply)
     }
 

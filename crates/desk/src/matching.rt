@@ -1,6 +1,7 @@
 //! Whether shares are a journal: the journal is walked backwards, and each event's slip has to be the last of some share, where
 //! it is taken off.
-ghost use Rattle.std.specs.Prelude.{◌≡◌, ◌≢◌, ◌↔◌, ℕ, true, false, List, [], ◌∷◌, ◌++◌, length};
+ghost use Rattle.std.specs.Prelude.{◌≡◌, ◌≢◌, ◌↔◌, ℕ, true, false, nat_eq, List, [], ◌∷◌, ◌++◌, length};
+ghost use Rattle.std.specs.List.{list_all};
 ghost use Rattle.node.specs.declared.event.Event.{Event as IsEvent};
 ghost use Rattle.desk.specs.declared.slip.Slip.{Slip as IsSlip};
 ghost use Rattle.desk.specs.Shares.{Agree};
@@ -19,7 +20,7 @@ pub(crate) fn agree(journal: &[Event], shares: &mut [Share]) -> bool
             return false;
         }
     }
-    shares.iter().all(|share| share.slips().is_empty())
+    are_used_up(shares)
 }
 
 // Takes the slip off the share whose last one it is.
@@ -33,6 +34,13 @@ fn take(shares: &mut [Share], slip: &Slip) -> bool
         }
     }
     false
+}
+
+// Whether no share has a slip.
+fn are_used_up(shares: &[Share]) -> bool
+    ensures { result ≡ list_all (λ slips. nat_eq (length slips) 0) shares.now }
+{
+    shares.iter().all(|share| share.slips().is_empty())
 }
 
 // Takes the slip off the share, if it is its last one.
