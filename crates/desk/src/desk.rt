@@ -12,7 +12,7 @@ use node::{Event, Node, Reply, Station};
 use std::alloc::Global;
 use std::marker::Model;
 
-/// A station with the journal of all events that came to it, oldest first.
+/// A station with the journal of all events that came to it, oldest first. An event in the journal takes 64 bytes.
 #[derive(Drop)]
 pub struct Desk<N: Node> {
     station: Station<N>,

@@ -2,7 +2,7 @@ ghost use Rattle.std.specs.Prelude.{◌≡◌, ◌↔◌, true};
 
 use node::Event;
 
-/// An event that a worker handed in, with its place in the journal, counted from 0.
+/// An event that a worker handed in, with its place in the journal, counted from 0. It takes 72 bytes.
 #[derive(Clone, Copy, Debug, PartialEq, Eq)]
 pub struct Slip {
     pub place: usize,

@@ -1,6 +1,6 @@
-//! A node for tests, and tests of stations: what a link's end refuses, what a node refuses, which refusals close a link, and
-//! two stations that talk over lines where frames are lost, repeated and overtaken. No program uses this crate: it is there so
-//! that a node meets the trait, and stations are run.
+//! A node for tests, and tests of stations and desks: what a link's end refuses, what a node refuses, which refusals close a
+//! link, two stations that talk over lines where frames are lost, repeated and overtaken, and two workers at one desk. No
+//! program uses this crate: it is there so that a node meets the trait, and stations and desks are run.
 //!
 //! Begin with `counter`, the node.
 #![tactic(auto)]
@@ -8,6 +8,8 @@
 #[cfg(test)]
 mod answers;
 pub mod counter;
+#[cfg(test)]
+mod desks;
 #[cfg(test)]
 mod joined;
 
