@@ -1,9 +1,11 @@
--- What the program prints where all went well.
-use Rattle.std.specs.Prelude.{◌≡◌, ℕ, ◌<◌, ◌≤◌, List, [], Option}
+-- What the program prints: all that was asked for where all went well, or the rows of the first turns where memory was wanting.
+use Rattle.std.specs.Prelude.{◌≡◌, ℕ, ◌+◌, ◌<◌, ◌≤◌, List, [], length, Option}
 use Rattle.std.specs.Io.KnownBytes.{Appends}
 use Rattle.plan.specs.declared.draft.Draft.{Draft}
 use Rattle.plan.specs.declared.input.Input.{Input}
+use Rattle.network.specs.Undivided.{whole}
 use Rattle.reactor.specs.Behaviour.{Behaviour}
+use Rattle.reactor.specs.Federation.{network_of}
 use Rattle.whole.specs.Progress.{Progress, pending_in, all_rows_in}
 use Rattle.printed.specs.RowText.{printed_rows}
 use Rattle.printed.specs.PlanText.{printed_plan}
@@ -24,6 +26,29 @@ pub record PrintsRows (d : Draft) (programs : List Behaviour) (inputs : List Inp
   pub progress : Progress
   pub turned : IsTurned d programs inputs turns progress
   pub printed : Appends before after (printed_rows d.federates (all_rows_in progress))
+
+-- a writer's bytes grew by the rows of the undivided program's first turns, at most so many
+pub record PrintsFirstRows (d : Draft) (programs : List Behaviour) (inputs : List Input) (turns : ℕ) (before after : Option (List ℕ)) : Type 0 where
+  pub made : ℕ
+  pub most : made ≤ turns
+  pub printed : Appends before after (printed_rows d.federates (whole (network_of d programs inputs) made))
+
+-- an undivided program so many turns later, with all rows let go
+abbrev pub let_go_after : ℕ → Progress → Progress
+let_go_after turns p =
+    record {
+      draft = p.draft;
+      programs = p.programs;
+      inputs = p.inputs;
+      turns = p.turns + turns;
+      gone = p.turns + turns;
+    }
+
+-- a writer's bytes grew by the rows of all turns of an undivided program, one for each, and these were let go
+pub record IsPrinted (p : Progress) (before after : Option (List ℕ)) : Type 0 where
+  pub let_go : p.gone ≡ p.turns
+  pub one_for_each_turn : length (all_rows_in p) ≡ p.turns
+  pub printed : Appends before after (printed_rows p.draft.federates (all_rows_in p))
 
 -- a writer's bytes grew by the rows of the federation in a file, with the inputs in another, after at most so many turns
 pub record PrintsRun (federation inputs : Option (List ℕ)) (turns : ℕ) (before after : Option (List ℕ)) : Type 0 where

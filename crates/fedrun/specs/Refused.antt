@@ -1,8 +1,10 @@
--- Which fault stands where nothing more is printed: in the words, in the files of the request, or after all was loaded.
+-- Which fault stands where nothing more is printed: in the words, in the files of the request, or after all was loaded. What a
+-- writer holds before and after is said of faults that come after that.
 use Rattle.std.specs.Prelude.{◌≡◌, ℕ, IsTrue, Bool, ◌⊎◌, List, Option, IfSome}
 use Rattle.std.specs.Borrow.{Bor}
 use Rattle.std.specs.Io.KnownBytes.{Appends}
 use Rattle.plan.specs.declared.draft.Draft.{Draft}
+use Rattle.plan.specs.declared.input.Input.{Input}
 use Rattle.reactor.specs.Behaviour.{Behaviour}
 use Rattle.reactor.specs.declared.memory.Memory as turns
 use Rattle.printed.specs.declared.memory.Memory as text
@@ -17,7 +19,8 @@ use Rattle.fedrun.specs.declared.files.FileFault.TheVariants as file_fault
 use Rattle.fedrun.specs.declared.words.Request.{Request}
 use Rattle.fedrun.specs.declared.words.Request.TheVariants.{Whole, Check}
 use Rattle.fedrun.specs.Faults.{status_of, line_of}
-use Rattle.fedrun.specs.Loaded.{Contents, input_file, IsFederation}
+use Rattle.fedrun.specs.Loaded.{Contents, input_file, IsFederation, RecordsInputs}
+use Rattle.fedrun.specs.Printed.{PrintsFirstRows}
 
 -- what is told of words
 abbrev pub IsWordsFault : Fault → Type 0
@@ -42,36 +45,46 @@ IsFederationFault name contents fault = IsFileFault HasLoadFault name (contents 
 abbrev pub IsInputFault : Draft → Bor (List ℕ) → Contents → Fault → Type 0
 IsInputFault d name contents fault = IsFileFault (HasInputFileFault d) name (input_file contents name.now) fault
 
--- why the rows aren't printed, once all was loaded: no memory for a turn, none for the text, or it can't be written
-abbrev pub IsRunFault : Fault → Type 0
-IsRunFault fault = ((memory : turns.Memory) × (fault ≡ Turns memory)) ⊎ (((memory : text.Memory) × (fault ≡ Print memory)) ⊎ (fault ≡ CannotWrite))
+-- why not all rows are printed, once all was loaded: it can't be written, or there was no memory for a turn; then the rows of those
+-- before it are written
+abbrev pub IsRunFault : Draft → List Behaviour → List Input → ℕ → Option (List ℕ) → Option (List ℕ) → Fault → Type 0
+IsRunFault d programs inputs most before after fault =
+    ((memory : turns.Memory) × (fault ≡ Turns memory) × PrintsFirstRows d programs inputs most before after) ⊎ (fault ≡ CannotWrite)
 
--- why the plan isn't printed, once it was loaded
-abbrev pub IsPrintFault : Fault → Type 0
-IsPrintFault fault = ((memory : text.Memory) × (fault ≡ Print memory)) ⊎ (fault ≡ CannotWrite)
+-- why the plan isn't printed, once it was loaded: it can't be written, or there was no memory for its text; then nothing is written
+abbrev pub IsPrintFault : Option (List ℕ) → Option (List ℕ) → Fault → Type 0
+IsPrintFault before after fault = ((memory : text.Memory) × (fault ≡ Print memory) × (after ≡ before)) ⊎ (fault ≡ CannotWrite)
 
 -- the federation file is taken, and this fault comes after it
-pub record IsLaterFault (known : Option (List ℕ)) (Later : Draft → Fault → Type 0) (fault : Fault) : Type 0 where
+pub record IsLaterFault (known : Option (List ℕ)) (Later : Draft → List Behaviour → Fault → Type 0) (fault : Fault) : Type 0 where
   pub draft : Draft
   pub programs : List Behaviour
   pub federation_is : IsFederation known draft programs
-  pub later : Later draft fault
+  pub later : Later draft programs fault
+
+-- the input file is taken too, and this fault comes after it
+pub record IsLastFault (known : Option (List ℕ)) (d : Draft) (Later : List Input → Fault → Type 0) (fault : Fault) : Type 0 where
+  pub recorded : List Input
+  pub inputs_are : RecordsInputs known d recorded
+  pub later : Later recorded fault
 
 -- why a request isn't done: the federation file's fault comes first, then the input file's
-abbrev pub IsFaultOf : Contents → Request → Fault → Type 0
-IsFaultOf contents (Whole federation inputs turns) fault =
+abbrev pub IsFaultOf : Contents → Option (List ℕ) → Option (List ℕ) → Request → Fault → Type 0
+IsFaultOf contents before after (Whole federation inputs turns) fault =
     IsFederationFault federation contents fault
-    ⊎ IsLaterFault (contents federation.now) (λ d f. IsInputFault d inputs contents f ⊎ IsRunFault f) fault
-IsFaultOf contents (Check federation) fault =
-    IsFederationFault federation contents fault ⊎ IsLaterFault (contents federation.now) (λ d f. IsPrintFault f) fault
+    ⊎ IsLaterFault (contents federation.now)
+    (λ d programs f. IsInputFault d inputs contents f
+    ⊎ IsLastFault (input_file contents inputs.now) d (λ recorded g. IsRunFault d programs recorded turns before after g) f) fault
+IsFaultOf contents before after (Check federation) fault =
+    IsFederationFault federation contents fault ⊎ IsLaterFault (contents federation.now) (λ d programs f. IsPrintFault before after f) fault
 
 -- the fault is one of words, or stands against some request
-abbrev pub Stands : Contents → Fault → Type 0
-Stands contents fault = IsWordsFault fault ⊎ ((request : Request) × IsFaultOf contents request fault)
+abbrev pub Stands : Contents → Option (List ℕ) → Option (List ℕ) → Fault → Type 0
+Stands contents before after fault = IsWordsFault fault ⊎ ((request : Request) × IsFaultOf contents before after request fault)
 
--- the exit status is that of a fault that stands; where its line could be written, a writer's bytes grew by it
-pub record TellsFault (contents : Contents) (status : ℕ) (is_told : Bool) (before after : Option (List ℕ)) : Type 0 where
+-- the exit status is that of a fault that stands, with what was written; where its line could be written, a writer's bytes grew by it
+pub record TellsFault (contents : Contents) (status : ℕ) (is_told : Bool) (out_before out_after before after : Option (List ℕ)) : Type 0 where
   pub fault : Fault
-  pub stands : Stands contents fault
+  pub stands : Stands contents out_before out_after fault
   pub status_is : status ≡ status_of fault
   pub line : IsTrue is_told → Appends before after (line_of fault)

@@ -1,12 +1,13 @@
-ghost use Rattle.std.specs.Prelude.{◌≡◌, ◌≢◌, ◌<◌, ◌≤◌, Bool, length, IsTrue, IfOk, IfErr, IfSome, OnOk, string_bytes, vec_len};
+ghost use Rattle.std.specs.Prelude.{◌≡◌, ◌≢◌, ◌<◌, ◌≤◌, ℕ, Bool, List, [], Option, length, IsTrue, IfOk, IfErr, IfSome, OnOk, OnErr, string_bytes, vec_len};
 ghost use Rattle.std.specs.Io.KnownBytes.{Appends};
 ghost use Rattle.printed.specs.PlanText.{printed_plan};
 ghost use Rattle.plan.specs.External.{AreInputsOf};
 ghost use Rattle.reactor.specs.Programs.{AreProgramsOf};
+ghost use Rattle.whole.specs.Progress.{pending_in};
 ghost use Rattle.fedrun.specs.declared.files.FileFault.{FileFault as FileFaultOf};
 ghost use Rattle.fedrun.specs.Faults.{status_of, line_of};
 ghost use Rattle.fedrun.specs.Loaded.{input_file, AreBytesOf, IsFederation, RecordsInputs};
-ghost use Rattle.fedrun.specs.Printed.{IsTurned, PrintsRows, PrintsRun, PrintsPlan, PrintsAnswer};
+ghost use Rattle.fedrun.specs.Printed.{PrintsRows, PrintsFirstRows, PrintsRun, PrintsPlan, PrintsAnswer, IsPrinted, let_go_after};
 ghost use Rattle.fedrun.specs.Refused.{IsFederationFault, IsInputFault, IsRunFault, IsPrintFault, IsFaultOf, TellsFault, Stands, told_of_file};
 
 use crate::fault::Fault;
@@ -14,11 +15,15 @@ use crate::files::{FileFault, Files};
 use crate::words::{Request, read_words};
 use loadfed::{LoadFault, MOST_BYTES, MOST_INPUT_BYTES, load, load_inputs};
 use plan::{Inputs, Plan};
-use printed::{plan_text, rows_text};
+use printed::{plan_text, write_rows};
 use reactor::Programs;
 use std::alloc::Global;
+use std::io;
 use std::io::Write;
 use whole::Whole;
+
+/// Of how many turns the rows are kept before they are written.
+const TURNS_AT_ONCE: u32 = 256;
 
 /// Does what the words ask for, over these files, and answers the exit status: 0 where it is done, 1 where what it was given
 /// is refused or can't be read, 2 where the words are no command, 3 where it couldn't finish. What it has to say of a
@@ -32,7 +37,7 @@ pub fn command<R: AllocGlobal, F: Files, O: Write, E: Write>(
 ) -> u8
     ensures done { result ≡ 0 → PrintsAnswer (F.contents files.old) (O.contents out.old) (O.contents out.new) }
     ensures quiet { result ≡ 0 → err.new ≡ err.old }
-    ensures told { result ≢ 0 → (is_told : Bool) × TellsFault (F.contents files.old) result is_told (E.contents err.old) (E.contents err.new) }
+    ensures told { result ≢ 0 → (is_told : Bool) × TellsFault (F.contents files.old) result is_told (O.contents out.old) (O.contents out.new) (E.contents err.old) (E.contents err.new) }
     ensures untouched { result ≡ 1 → out.new ≡ out.old }
     ensures unused { result ≡ 2 → out.new ≡ out.old }
     ensures statuses { result ≤ 3 }
@@ -59,7 +64,7 @@ pub fn answer<F: Files, O: Write, E: Write>(
 ) -> Answered
     ensures done { result.status ≡ 0 → PrintsAnswer (F.contents files.old) (O.contents out.old) (O.contents out.new) }
     ensures quiet { result.status ≡ 0 → err.new ≡ err.old }
-    ensures told { result.status ≢ 0 → TellsFault (F.contents files.old) result.status result.is_told (E.contents err.old) (E.contents err.new) }
+    ensures told { result.status ≢ 0 → TellsFault (F.contents files.old) result.status result.is_told (O.contents out.old) (O.contents out.new) (E.contents err.old) (E.contents err.new) }
     ensures untouched { result.status ≡ 1 → out.new ≡ out.old }
     ensures unused { result.status ≡ 2 → out.new ≡ out.old }
     ensures statuses { result.status ≤ 3 }
@@ -92,8 +97,8 @@ fn run<'a, F: Files, O: Write>(
     out: &mut O,
 ) -> Result<(), Fault<'a>>
     ensures ok { OnOk result (PrintsAnswer (F.contents files.old) (O.contents out.old) (O.contents out.new)) }
-    ensures stands { IfErr result (Stands (F.contents files.old)) }
-    ensures err { IfErr result (λ fault. fault ≢ Fault.CannotWrite → out.new ≡ out.old) }
+    ensures stands { IfErr result (Stands (F.contents files.old) (O.contents out.old) (O.contents out.new)) }
+    ensures untouched { IfErr result (λ fault. status_of fault ≢ 3 → out.new ≡ out.old) }
 {
     match read_words(alloc, words)? {
         Request::Whole {
@@ -115,8 +120,8 @@ fn whole<'a, F: Files, O: Write>(
     out: &mut O,
 ) -> Result<(), Fault<'a>>
     ensures ok { OnOk result (PrintsRun (F.contents files.old federation.entry.now) (input_file (F.contents files.old) inputs.entry.now) turns (O.contents out.old) (O.contents out.new)) }
-    ensures stands { IfErr result (IsFaultOf (F.contents files.old) (Request.Whole federation.entry inputs.entry turns)) }
-    ensures err { IfErr result (λ fault. fault ≢ Fault.CannotWrite → out.new ≡ out.old) }
+    ensures stands { IfErr result (IsFaultOf (F.contents files.old) (O.contents out.old) (O.contents out.new) (Request.Whole federation.entry inputs.entry turns)) }
+    ensures untouched { IfErr result (λ fault. status_of fault ≢ 3 → out.new ≡ out.old) }
 {
     let (plan, programs) = loaded(alloc, federation, files)?;
     let inputs = inputs_of(alloc, inputs, &plan, files)?;
@@ -131,8 +136,8 @@ fn check<'a, F: Files, O: Write>(
     out: &mut O,
 ) -> Result<(), Fault<'a>>
     ensures ok { OnOk result (PrintsPlan (F.contents files.old federation.entry.now) (O.contents out.old) (O.contents out.new)) }
-    ensures stands { IfErr result (IsFaultOf (F.contents files.old) (Request.Check federation.entry)) }
-    ensures err { IfErr result (λ fault. fault ≢ Fault.CannotWrite → out.new ≡ out.old) }
+    ensures stands { IfErr result (IsFaultOf (F.contents files.old) (O.contents out.old) (O.contents out.new) (Request.Check federation.entry)) }
+    ensures untouched { IfErr result (λ fault. status_of fault ≢ 3 → out.new ≡ out.old) }
 {
     let (plan, _programs) = loaded(alloc, federation, files)?;
     print_plan(alloc, &plan, out)
@@ -201,7 +206,8 @@ fn told<'a>(name: &'a str, why: FileFault) -> Fault<'a>
     }
 }
 
-/// Prints the rows of the undivided program after at most so many turns, one a line.
+/// Prints the rows of the undivided program after at most so many turns, one a line, as they are made. Where there is no
+/// memory for a turn, the rows before it are written.
 fn print_run<O: Write>(
     alloc: Global,
     plan: &Plan,
@@ -213,42 +219,69 @@ fn print_run<O: Write>(
     requires programs { AreProgramsOf plan.now programs.now }
     requires inputs { AreInputsOf plan.now inputs.now }
     ensures ok { OnOk result (PrintsRows plan.now programs.now inputs.now turns (O.contents out.old) (O.contents out.new)) }
-    ensures stands { IfErr result IsRunFault }
-    ensures err { IfErr result (λ fault. fault ≢ Fault.CannotWrite → out.new ≡ out.old) }
+    ensures stands { IfErr result (IsRunFault plan.now programs.now inputs.now turns (O.contents out.old) (O.contents out.new)) }
+    ensures late { IfErr result (λ fault. status_of fault ≡ 3) }
 {
-    let program = match turned(alloc, plan, programs, inputs, turns) {
+    let mut program = match Whole::new(alloc, plan, programs, inputs) {
         Ok(program) => program,
         Err(memory) => return Err(Fault::Turns(memory)),
     };
-    match rows_text(alloc, plan, program.rows()) {
-        Ok(text) => print(out, &text),
-        Err(memory) => Err(Fault::Print(memory)),
+    let turned = print_turns(&mut program, plan, turns, out).map_err(|_| Fault::CannotWrite)?;
+    out.flush().map_err(|_| Fault::CannotWrite)?;
+    match turned {
+        Ok(()) => Ok(()),
+        Err(memory) => Err(Fault::Turns(memory)),
     }
 }
 
-/// The undivided program after at most so many turns.
-fn turned<'a>(
-    alloc: Global,
-    plan: &'a Plan,
-    programs: &'a Programs,
-    inputs: &'a Inputs,
+/// Makes at most so many turns, or as many as there is memory for, and prints their rows.
+fn print_turns<O: Write>(
+    program: &mut Whole<'_>,
+    plan: &Plan,
     turns: u32,
-) -> Result<Whole<'a>, reactor::Memory>
-    requires programs { AreProgramsOf plan.now programs.now }
-    requires inputs { AreInputsOf plan.now inputs.now }
-    ensures turned { IfOk result (λ whole. IsTurned plan.now programs.now inputs.now turns whole) }
-    ensures all { IfOk result (λ whole. whole.gone ≡ 0) }
+    out: &mut O,
+) -> io::Result<Result<(), reactor::Memory>>
+    requires draft { program.old.draft ≡ plan.now }
+    requires none_made { program.old.turns ≡ 0 }
+    requires none_gone { program.old.gone ≡ 0 }
+    ensures ok { IfOk result (λ turned. OnOk turned (PrintsRows plan.now program.old.programs program.old.inputs turns (O.contents out.old) (O.contents out.new))) }
+    ensures err { IfOk result (λ turned. OnErr turned (PrintsFirstRows plan.now program.old.programs program.old.inputs turns (O.contents out.old) (O.contents out.new))) }
 {
-    let mut program = Whole::new(alloc, plan, programs, inputs)?;
-    let _made = program.turns(turns)?;
-    Ok(program)
+    let mut left = turns;
+    while left > 0 {
+        let most = left.min(TURNS_AT_ONCE);
+        match print_some(program, plan, most, out)? {
+            Ok(made) if made == most => left -= made,
+            Ok(_) => return Ok(Ok(())),
+            Err(memory) => return Ok(Err(memory)),
+        }
+    }
+    Ok(Ok(()))
+}
+
+/// Makes at most so many turns, prints their rows, and lets go of them.
+fn print_some<O: Write>(
+    program: &mut Whole<'_>,
+    plan: &Plan,
+    most: u32,
+    out: &mut O,
+) -> io::Result<Result<u32, reactor::Memory>>
+    requires { program.old.draft ≡ plan.now }
+    ensures printed { OnOk result ((before : Option (List ℕ)) → IsPrinted program.old before (O.contents out.old) → IsPrinted program.new before (O.contents out.new)) }
+    ensures made { IfOk result (λ turned. IfOk turned (λ made. (program.new ≡ let_go_after made program.old) × (made ≤ most) × (made < most → pending_in program.new ≡ []))) }
+    ensures err { IfOk result (λ turned. OnErr turned ((made : ℕ) × (program.new ≡ let_go_after made program.old) × (made < most))) }
+{
+    let turned = program.turns(most);
+    write_rows(out, plan, program.rows())?;
+    program.let_go();
+    Ok(turned)
 }
 
 /// Prints the plan.
 fn print_plan<O: Write>(alloc: Global, plan: &Plan, out: &mut O) -> Result<(), Fault<'static>>
     ensures ok { OnOk result (Appends (O.contents out.old) (O.contents out.new) (printed_plan plan.now)) }
-    ensures stands { IfErr result IsPrintFault }
-    ensures err { IfErr result (λ fault. fault ≢ Fault.CannotWrite → out.new ≡ out.old) }
+    ensures stands { IfErr result (IsPrintFault (O.contents out.old) (O.contents out.new)) }
+    ensures late { IfErr result (λ fault. status_of fault ≡ 3) }
 {
     match plan_text(alloc, plan) {
         Ok(text) => print(out, &text),

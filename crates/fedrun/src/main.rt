@@ -15,9 +15,12 @@ mod words;
 use fault::Fault;
 use loadfed::LoadFault;
 use machine::MachineFiles;
-use std::io::ErrorKind;
+use std::io::{BufWriter, ErrorKind, Stdout};
 use std::process::ExitCode;
 use std::{env, io};
+
+/// So many bytes go to standard output at once.
+const OUT_BYTES: usize = 1 << 16;
 
 fn main(rt: HostRuntime) -> ExitCode {
     ExitCode::from(status(&rt))
@@ -26,13 +29,21 @@ fn main(rt: HostRuntime) -> ExitCode {
 /// The exit status of the machine's words, over its files and streams.
 fn status(rt: &HostRuntime) -> u8 {
     let mut err = rt.stderr();
-    match words_of(rt) {
-        Ok(words) => {
+    match given(rt) {
+        Ok((words, mut out)) => {
             let mut files = MachineFiles::new(rt);
-            let mut out = rt.stdout();
             command::command(rt, words.as_slice(), &mut files, &mut out, &mut err)
         }
         Err(fault) => command::refuse(&fault, &mut err).status,
+    }
+}
+
+/// The machine's words, and its output through a buffer.
+fn given(rt: &HostRuntime) -> Result<(Vec<String>, BufWriter<Stdout>), Fault<'static>> {
+    let words = words_of(rt)?;
+    match BufWriter::with_capacity(rt.alloc(), OUT_BYTES, rt.stdout()) {
+        Ok(out) => Ok((words, out)),
+        Err(_) => Err(Fault::Load(LoadFault::Memory)),
     }
 }
 

@@ -23,7 +23,7 @@ unfoldable pub printed_input : Slots → Entry → List ℕ
 printed_input s e = if is_bare s e.place then name_at (slot_names s) e.place else valued (slot_names s) e
 
 -- an output that was set
-abbrev pub printed_output : Slots → Entry → List ℕ
+unfoldable pub printed_output : Slots → Entry → List ℕ
 printed_output s e = valued s.outputs e
 
 -- entries in brackets, parted by one space

@@ -1,7 +1,7 @@
 //! Rows and plans as text.
 //!
-//! Promise to the layer above: the text is the definition's (`specs/RowText`, `specs/PlanText`), and only memory can be wanting.
-//! Begin with `rows_text`; `row_text` gives one row, for rows that are written as they are made.
+//! Promise to the layer above: the text is the definition's (`specs/RowText`, `specs/PlanText`). Rows go straight to a writer,
+//! and need no memory; a plan's text needs some. Begin with `write_rows`.
 #![tactic(auto)]
 
 pub mod memory;
@@ -10,4 +10,4 @@ pub mod rows;
 
 pub use memory::Memory;
 pub use plans::plan_text;
-pub use rows::{row_text, rows_text};
+pub use rows::write_rows;

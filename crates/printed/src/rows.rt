@@ -1,123 +1,116 @@
-ghost use Rattle.std.specs.Prelude.{◌≡◌, ◌++◌, OnOk, IfOk, string_bytes, codes};
+//! Rows as text, written as they are asked for: no memory is needed.
+ghost use Rattle.std.specs.Prelude.{◌≡◌, ◌++◌, OnOk, codes};
+ghost use Rattle.std.specs.Io.KnownBytes.{Appends};
 ghost use Rattle.plan.specs.Numbering.{timer_names};
 ghost use Rattle.reactor.specs.Resolution.{slot_names};
 ghost use Rattle.printed.specs.RowText.{name_at, printed_input, printed_output, bracketed, printed_turn, printed_line, printed_rows};
 
-use crate::memory::Memory;
 use plan::{Federate, Plan, Slots, Text, Timer};
 use reactor::{Entry, RowView, Rows};
-use std::alloc::{AllocError, Global};
+use std::io;
+use std::io::Write;
 
-/// The rows of a plan's federates, one a line.
-pub fn rows_text(alloc: Global, plan: &Plan, rows: &Rows) -> Result<String, Memory>
-    ensures { IfOk result (λ text. string_bytes text ≡ printed_rows plan.now.federates rows.now) }
+/// Writes the rows of a plan's federates, one a line. Where the writer refuses, some of them may have been written.
+pub fn write_rows<W: Write>(out: &mut W, plan: &Plan, rows: &Rows) -> io::Result<()>
+    ensures { OnOk result (Appends (W.contents out.old) (W.contents out.new) (printed_rows plan.now.federates rows.now)) }
 {
-    let mut text = String::new(alloc);
     for place in 0..rows.len() {
-        push_line(&mut text, plan.federates(), &rows.row(place))?;
+        write_line(out, plan.federates(), &rows.row(place))?;
     }
-    Ok(text)
+    Ok(())
 }
 
-/// One row of a plan's federates, with the end of its line.
-pub fn row_text(alloc: Global, plan: &Plan, row: &RowView<'_>) -> Result<String, Memory>
-    ensures { IfOk result (λ text. string_bytes text ≡ printed_line plan.now.federates row.now) }
-{
-    let mut text = String::new(alloc);
-    push_line(&mut text, plan.federates(), row)?;
-    Ok(text)
-}
-
-/// Adds a row and the end of its line.
-fn push_line(text: &mut String, federates: &[Federate], row: &RowView<'_>) -> Result<(), AllocError>
-    ensures { OnOk result (string_bytes text.new ≡ string_bytes text.old ++ printed_line federates.now row.now) }
+/// Writes a row and the end of its line.
+fn write_line<W: Write>(out: &mut W, federates: &[Federate], row: &RowView<'_>) -> io::Result<()>
+    ensures { OnOk result (Appends (W.contents out.old) (W.contents out.new) (printed_line federates.now row.now)) }
 {
     if let Some(federate) = federates.get(row.federate()) {
-        push_turn(text, federate, row)?;
+        write_turn(out, federate, row)?;
     }
-    text.push_str("\n")
+    out.write_all(b"\n")
 }
 
-/// Adds a row of this federate.
+/// Writes a row of this federate.
 #[tactic(auto, unfolding(crate::specs::RowText::printed_turn))]
-fn push_turn(text: &mut String, federate: &Federate, row: &RowView<'_>) -> Result<(), AllocError>
-    ensures { OnOk result (string_bytes text.new ≡ string_bytes text.old ++ printed_turn federate.now row.now) }
+fn write_turn<W: Write>(out: &mut W, federate: &Federate, row: &RowView<'_>) -> io::Result<()>
+    ensures { OnOk result (Appends (W.contents out.old) (W.contents out.new) (printed_turn federate.now row.now)) }
 {
     let name = federate.name.as_str();
     let tag = row.tag();
-    write!(text, "{name} {tag} ")?;
-    push_inputs(text, &federate.slots, row.inputs())?;
-    text.push_str(" -> ")?;
-    push_outputs(text, &federate.slots, row.outputs())
+    write!(out, "{name} {tag} ")?;
+    write_inputs(out, &federate.slots, row.inputs())?;
+    out.write_all(b" -> ")?;
+    write_outputs(out, &federate.slots, row.outputs())
 }
 
-/// Adds the slots that were present, in brackets.
-fn push_inputs(text: &mut String, slots: &Slots, entries: &[Entry]) -> Result<(), AllocError>
-    ensures { OnOk result (string_bytes text.new ≡ string_bytes text.old ++ bracketed (printed_input slots.now) entries.now) }
+/// Writes the slots that were present, in brackets.
+fn write_inputs<W: Write>(out: &mut W, slots: &Slots, entries: &[Entry]) -> io::Result<()>
+    ensures { OnOk result (Appends (W.contents out.old) (W.contents out.new) (bracketed (printed_input slots.now) entries.now)) }
 {
     let Some((first, rest)) = entries.split_first() else {
-        return text.push_str("[]");
+        return out.write_all(b"[]");
     };
-    text.push_str("[")?;
-    push_input(text, slots, *first)?;
+    out.write_all(b"[")?;
+    write_input(out, slots, *first)?;
     for entry in rest {
-        push_next_input(text, slots, *entry)?;
+        write_next_input(out, slots, *entry)?;
     }
-    text.push_str("]")
+    out.write_all(b"]")
 }
 
-/// Adds the outputs that were set, in brackets.
-fn push_outputs(text: &mut String, slots: &Slots, entries: &[Entry]) -> Result<(), AllocError>
-    ensures { OnOk result (string_bytes text.new ≡ string_bytes text.old ++ bracketed (printed_output slots.now) entries.now) }
+/// Writes the outputs that were set, in brackets.
+fn write_outputs<W: Write>(out: &mut W, slots: &Slots, entries: &[Entry]) -> io::Result<()>
+    ensures { OnOk result (Appends (W.contents out.old) (W.contents out.new) (bracketed (printed_output slots.now) entries.now)) }
 {
     let Some((first, rest)) = entries.split_first() else {
-        return text.push_str("[]");
+        return out.write_all(b"[]");
     };
-    text.push_str("[")?;
-    push_output(text, slots, *first)?;
+    out.write_all(b"[")?;
+    write_output(out, slots, *first)?;
     for entry in rest {
-        push_next_output(text, slots, *entry)?;
+        write_next_output(out, slots, *entry)?;
     }
-    text.push_str("]")
+    out.write_all(b"]")
 }
 
-/// Adds a slot that was present.
+/// Writes a slot that was present.
 #[tactic(auto, unfolding(crate::specs::RowText::printed_input))]
-fn push_input(text: &mut String, slots: &Slots, entry: Entry) -> Result<(), AllocError>
-    ensures { OnOk result (string_bytes text.new ≡ string_bytes text.old ++ printed_input slots.now entry) }
+fn write_input<W: Write>(out: &mut W, slots: &Slots, entry: Entry) -> io::Result<()>
+    ensures { OnOk result (Appends (W.contents out.old) (W.contents out.new) (printed_input slots.now entry)) }
 {
     let slot = entry.place();
     let name = slot_name(slots, slot);
     if slots.is_bare(slot) {
-        return text.push_str(name);
+        return out.write_all(name.as_bytes());
     }
     let value = entry.value();
-    write!(text, "{name}={value}")
+    write!(out, "{name}={value}")
 }
 
-/// Adds a further slot that was present.
-fn push_next_input(text: &mut String, slots: &Slots, entry: Entry) -> Result<(), AllocError>
-    ensures { OnOk result (string_bytes text.new ≡ string_bytes text.old ++ (codes " " ++ printed_input slots.now entry)) }
+/// Writes a further slot that was present.
+fn write_next_input<W: Write>(out: &mut W, slots: &Slots, entry: Entry) -> io::Result<()>
+    ensures { OnOk result (Appends (W.contents out.old) (W.contents out.new) (codes " " ++ printed_input slots.now entry)) }
 {
-    text.push_str(" ")?;
-    push_input(text, slots, entry)
+    out.write_all(b" ")?;
+    write_input(out, slots, entry)
 }
 
-/// Adds an output that was set.
-fn push_output(text: &mut String, slots: &Slots, entry: Entry) -> Result<(), AllocError>
-    ensures { OnOk result (string_bytes text.new ≡ string_bytes text.old ++ printed_output slots.now entry) }
+/// Writes an output that was set.
+#[tactic(auto, unfolding(crate::specs::RowText::printed_output))]
+fn write_output<W: Write>(out: &mut W, slots: &Slots, entry: Entry) -> io::Result<()>
+    ensures { OnOk result (Appends (W.contents out.old) (W.contents out.new) (printed_output slots.now entry)) }
 {
     let name = name_of(slots.outputs.as_slice(), entry.place());
     let value = entry.value();
-    write!(text, "{name}={value}")
+    write!(out, "{name}={value}")
 }
 
-/// Adds a further output that was set.
-fn push_next_output(text: &mut String, slots: &Slots, entry: Entry) -> Result<(), AllocError>
-    ensures { OnOk result (string_bytes text.new ≡ string_bytes text.old ++ (codes " " ++ printed_output slots.now entry)) }
+/// Writes a further output that was set.
+fn write_next_output<W: Write>(out: &mut W, slots: &Slots, entry: Entry) -> io::Result<()>
+    ensures { OnOk result (Appends (W.contents out.old) (W.contents out.new) (codes " " ++ printed_output slots.now entry)) }
 {
-    text.push_str(" ")?;
-    push_output(text, slots, entry)
+    out.write_all(b" ")?;
+    write_output(out, slots, entry)
 }
 
 /// The name of a slot; empty where there is none.

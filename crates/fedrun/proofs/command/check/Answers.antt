@@ -15,7 +15,10 @@ returns-clause-ok g c =
 
 pub returns-clause-stands : goal.returns-clause-stands
 returns-clause-stands g c =
-    IfErr-weaker c.print_plan.result IsPrintFault (IsFaultOf (g.F.Files.contents c.args.files.now) (Check c.args.federation))
+    let before = g.O.Write.contents c.args.out.now in
+    let after = g.O.Write.contents c.print_plan.new.out in
+    IfErr-weaker c.print_plan.result (IsPrintFault before after)
+    (IsFaultOf (g.F.Files.contents c.args.files.now) before after (Check c.args.federation))
     (λ fault late. inr (record {
       draft = c.in_ok-plan.plan;
       programs = c.in_ok-plan._programs;

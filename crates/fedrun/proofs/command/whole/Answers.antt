@@ -18,12 +18,14 @@ returns-clause-ok g c =
 
 pub returns-clause-stands : goal.returns-clause-stands
 returns-clause-stands g c =
-    IfErr-weaker c.print_run.result IsRunFault
-    (IsFaultOf (g.F.Files.contents c.args.files.now) (Whole c.args.federation c.args.inputs c.args.turns))
+    let before = g.O.Write.contents c.args.out.now in
+    let after = g.O.Write.contents c.print_run.new.out in
+    IfErr-weaker c.print_run.result (IsRunFault c.in_ok-plan.plan c.in_ok-plan.programs c.in_ok-inputs.inputs c.args.turns before after)
+    (IsFaultOf (g.F.Files.contents c.args.files.now) before after (Whole c.args.federation c.args.inputs c.args.turns))
     (λ fault run. inr (record {
       draft = c.in_ok-plan.plan;
       programs = c.in_ok-plan.programs;
       federation_is = c.in_ok-plan.ensures.ok;
-      later = inr run;
+      later = inr (record { recorded = c.in_ok-inputs.inputs; inputs_are = subst (λ contents. RecordsInputs (input_file contents c.args.inputs.now) c.in_ok-plan.plan c.in_ok-inputs.inputs) c.in_ok-plan.ensures.same c.in_ok-inputs.ensures.ok; later = run });
     }))
     c.print_run.ensures.stands
