@@ -75,13 +75,9 @@ impl<N: Node> Desk<N> {
         ensures journal { OnOk result (self.new.journal ≡ self.old.journal ++ event ∷ []) }
         ensures as_before { OnErr result (self.new ≡ self.old) }
     {
-        self.journal.reserve(1)?;
-        let event = &event;
-        let reply = self.station.step(*event)?;
-        self.journal.push_reserved(*event);
         // For the prover: what the station was made from stays.
         openings_stay::<N>();
-        Ok(reply)
+        step(&mut self.station, &mut self.journal, &event)
     }
 
     /// The desk, if these shares are its journal: see `gather`.
@@ -95,4 +91,21 @@ impl<N: Node> Desk<N> {
             Err(SharesDisagree)
         }
     }
+}
+
+// Makes the station's step, and puts the event in the journal, where memory is taken for it before the step.
+fn step<N: Node>(
+    station: &mut Station<N>,
+    journal: &mut Vec<Event>,
+    event: &Event,
+) -> Result<Reply, Memory>
+    ensures step { IfOk result (λ reply. record { station = station.new; answer = said reply } ≡ step_of N.core N.HUB station.old event.now) }
+    ensures journal { OnOk result (journal.new.items ≡ journal.old.items ++ event.now ∷ []) }
+    ensures station_as_before { OnErr result (station.new ≡ station.old) }
+    ensures journal_as_before { OnErr result (journal.new.items ≡ journal.old.items) }
+{
+    journal.reserve(1)?;
+    let reply = station.step(*event)?;
+    journal.push_reserved(*event);
+    Ok(reply)
 }

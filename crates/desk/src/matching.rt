@@ -50,7 +50,7 @@ fn take_last(share: &mut Share, slip: &Slip) -> bool
     ensures not_last { result ≡ false → (front : List IsSlip) → share.old ≢ front ++ slip.now ∷ [] }
 {
     let is_last = match share.slips.last() {
-        Some(last) => last.is(slip),
+        Some(last) => last.equals(slip),
         None => false,
     };
     if is_last {

@@ -1,7 +1,6 @@
 ghost use Rattle.std.specs.Prelude.{◌≡◌, ◌<◌, ℕ, [], ◌∷◌, ◌++◌, length, vec_len, IfOk, OnOk, OnErr};
 ghost use Rattle.std.specs.Vec.{vec_capacity};
-ghost use Rattle.node.specs.Step.{said, step_of, opening_of};
-ghost use Rattle.desk.specs.Replay.{replay};
+ghost use Rattle.node.specs.Step.{said, step_of};
 ghost use Rattle.desk.specs.Shares.{Agree};
 
 use crate::desk::Desk;

@@ -10,8 +10,8 @@ pub struct Slip {
 }
 
 impl Slip {
-    // Whether both are the same.
-    pub(crate) fn is(&self, other: &Slip) -> bool
+    // For the prover: `==`, with what it says.
+    pub(crate) fn equals(&self, other: &Slip) -> bool
         ensures { (result ≡ true) ↔ (self.now ≡ other.now) }
     {
         self == other
