@@ -80,11 +80,11 @@ impl<N: Node> Desk<N> {
         step(&mut self.station, &mut self.journal, &event)
     }
 
-    /// The desk, if these shares are its journal: see `gather`.
-    pub fn gather(self, shares: Vec<Share>) -> Result<Desk<N>, SharesDisagree>
+    /// The desk, if these shares are its journal: in each the places rise, and all slips together are the journal, one slip for
+    /// each place, with the event there. Else it is given up.
+    pub fn gather(self, mut shares: Vec<Share>) -> Result<Desk<N>, SharesDisagree>
         ensures { MatchResult result (λ desk. (desk ≡ self) × Agree self.journal shares.items) (λ _. ¬ Agree self.journal shares.items) }
     {
-        let mut shares = shares;
         if agree(&self.journal, &mut shares) {
             Ok(self)
         } else {

@@ -12,8 +12,10 @@ use node::{Event, Node, Reply};
 use std::sync::{Mutex, Wait};
 
 /// A desk under a lock, for the workers of one node. Whenever the lock is free, the station behind it is the replay of the
-/// journal beside it. What the contracts of its calls can't say: that the reply is the desk's, and that the slip has the place at
-/// which the event was put in the journal. Under the lock it is one call of `enter`, which says both of the desk that it is lent.
+/// journal beside it.
+///
+/// A contract can't name what lies under a lock. That `handle` answers as the desk does, and that its slip has the event's place
+/// in the journal, is said by `enter`, which is lent the locked desk. That `finished` answers as the node does isn't said.
 #[derive(Drop)]
 pub struct Shared<N: Node> {
     desk: Mutex<Desk<N>>,
@@ -43,8 +45,8 @@ impl<N: Node> Shared<N> {
     }
 }
 
-/// The desk, when all its workers have ended, with the share of each: if in each share the places rise, and all slips together
-/// are the journal, one slip for each place, with the event there.
+/// The desk, when all its workers have ended, if their shares are its journal: see `Desk::gather`. So in a gathered desk every
+/// event for which one of these shares had an Ok stands once, at its place.
 pub fn gather<N: Node>(shared: Shared<N>, shares: Vec<Share>) -> Result<Desk<N>, SharesDisagree>
     ensures { IfOk result (λ desk. Agree desk.journal shares.items) }
 {
