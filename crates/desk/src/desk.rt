@@ -1,4 +1,4 @@
-ghost use Rattle.std.specs.Prelude.{◌≡◌, ◌≢◌, [], ◌∷◌, ◌++◌, IfOk, OnOk, OnErr, MatchResult};
+ghost use Rattle.std.specs.Prelude.{◌≡◌, [], ◌∷◌, ◌++◌, IfOk, OnOk, OnErr, MatchResult};
 ghost use Rattle.node.specs.Step.{said, step_of, opening_of};
 ghost use Rattle.desk.specs.Replay.{replay};
 ghost use Rattle.desk.specs.Shares.{Agree};

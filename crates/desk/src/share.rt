@@ -1,5 +1,4 @@
-ghost use Rattle.std.specs.Prelude.{◌≡◌, ◌≢◌, List, [], ◌∷◌, ◌++◌, OnOk, OnErr, MatchBool};
-ghost use Rattle.desk.specs.declared.slip.Slip.{Slip as IsSlip};
+ghost use Rattle.std.specs.Prelude.{◌≡◌, []};
 
 use crate::slip::Slip;
 use std::alloc::Global;
