@@ -1,0 +1,17 @@
+-- What a coordinator's table holds, who is eligible by it, and how often it looks at a federate.
+-- the numbers of the table's own refusals
+pub mod Numbers
+-- the tags of messages on their way
+pub mod Transit
+-- the wiring of a federation, as data
+pub mod Wires
+-- what a table holds
+pub mod Records
+-- how often federates are looked at
+pub mod Looks
+-- whom a federate hears from, and whom it reaches
+pub mod Routes
+-- arrivals along routes
+pub mod Bounds
+-- what a table keeps
+pub mod Kept

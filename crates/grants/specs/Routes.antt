@@ -1,0 +1,50 @@
+-- Whom a federate hears from, and whom it reaches.
+use Rattle.std.specs.Prelude.{ℕ, zero, suc, Bool, ◌||◌, nat_eq, if◌then◌else◌, List, [], ◌∷◌, ◌++◌, filter, Option, None, Some}
+use Rattle.tag.specs.LogicalTime.{LogicalTime, forever, lesser, sum_of}
+use Rattle.network.specs.Connection.{Connection}
+use Rattle.network.specs.Tables.{Table}
+use Rattle.protocol.specs.Standing.{Standing}
+use Rattle.grants.specs.declared.routes.Upstream.{Upstream}
+use Rattle.grants.specs.Wires.{Wires, least_by}
+use Rattle.grants.specs.Looks.{has_path}
+
+-- a federate from which a path leads here, if one does
+abbrev pub upstream_at : ℕ → Option LogicalTime → List Upstream
+upstream_at i None = []
+upstream_at i (Some delay) = record { federate = i; delay = delay } ∷ []
+
+-- of the first `count` federates those from which a path leads to j, with the least delays
+abbrev pub upstream_of : Table → ℕ → ℕ → List Upstream
+upstream_of table j zero = []
+upstream_of table j (suc count) = upstream_of table j count ++ upstream_at count (table count j)
+
+-- the connections that end at j
+abbrev pub incoming_of : List Connection → ℕ → List Connection
+incoming_of connections j = filter (λ c. nat_eq c.target j) connections
+
+-- of the first `count` numbers those that pass a test
+abbrev pub listed_below : ℕ → (ℕ → Bool) → List ℕ
+listed_below zero test = []
+listed_below (suc count) test = listed_below count test ++ (if test count then count ∷ [] else [])
+
+-- a change of federate i's next tag, or of what it completed, may make it eligible, or a federate to which a path leads from it
+abbrev pub may_change : Wires → ℕ → ℕ → Bool
+may_change w i j = nat_eq j i || has_path w i j
+
+-- those federates
+abbrev pub looked_at : Wires → ℕ → List ℕ
+looked_at w i = listed_below w.federates (may_change w i)
+
+-- one federate's routes
+pub record Routed : Type 0 where
+  pub upstream : List Upstream
+  pub incoming : List Connection
+  pub downstream : List ℕ
+
+abbrev pub routed : Wires → ℕ → Routed
+routed w j = record { upstream = upstream_of (least_by w) j w.federates; incoming = incoming_of w.connections j; downstream = looked_at w j }
+
+-- those of the first `count` federates
+abbrev pub routed_below : Wires → ℕ → List Routed
+routed_below w zero = []
+routed_below w (suc count) = routed_below w count ++ routed w count ∷ []

@@ -1,0 +1,24 @@
+//! What the coordinator knows of the federates, who is eligible for a grant, and how far it may go.
+//!
+//! Promise to the layer above: after any list of changes `eligible` answers by the records what the grant rule says over all
+//! paths, and `grant` is the widest grant. A change looks only at the federates that it may make eligible.
+//!
+//!     set_next(i) --> standings[i] --> Lookout::look at i, and at each federate that a path leads to from i
+//!                                          +--> Wiring::is_eligible --> Wiring::bound     counts one
+//!     eligible(j) --> the flag that the last look set
+//!
+//! Begin with `specs/Records`, then `table`; who is looked at is in `specs/Routes`.
+#![tactic(auto)]
+
+mod bounds;
+pub mod laws;
+mod lookout;
+pub mod memory;
+pub mod routes;
+pub mod standing;
+pub mod table;
+mod wiring;
+
+pub use memory::Memory;
+pub use standing::Standing;
+pub use table::Table;

@@ -1,0 +1,30 @@
+ghost use Rattle.std.specs.Prelude.{◌≡◌};
+
+use std::alloc::{AllocError, AllocFailed};
+
+/// No memory was to be had for a table: it is as before.
+#[derive(Clone, Copy, Debug, PartialEq, Eq)]
+pub struct Memory;
+
+impl Memory {
+    ghost use Rattle.grants.specs.Numbers.{out_of_memory};
+
+    /// The number by which it is told.
+    pub fn number(self) -> u16
+        ensures { result ≡ out_of_memory }
+    {
+        65
+    }
+}
+
+impl From<AllocError> for Memory {
+    fn from(_: AllocError) -> Memory {
+        Memory
+    }
+}
+
+impl<T: Drop> From<AllocFailed<T>> for Memory {
+    fn from(_: AllocFailed<T>) -> Memory {
+        Memory
+    }
+}

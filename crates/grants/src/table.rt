@@ -1,0 +1,241 @@
+ghost use Rattle.std.specs.Prelude.{◌≡◌, ◌↔◌, ◌+◌, ◌<◌, ◌≤◌, IfOk, OnOk, OnErr, IsTrue, Some, filter, slice_get};
+ghost use Rattle.tag.specs.LogicalTime.{LogicalTime, is_before, lesser, origin, predecessor_of};
+ghost use Rattle.protocol.specs.Standing.{least_with, opening_standing, with_tag};
+ghost use Rattle.protocol.specs.Standings.{standing_at, standings_listed};
+ghost use Rattle.protocol.specs.Grant.{Eligible, grant_widest};
+ghost use Rattle.protocol.specs.Bound.{IsWidest};
+ghost use Rattle.grants.specs.Transit.{lesser_with};
+ghost use Rattle.grants.specs.Wires.{least_by, network_by};
+ghost use Rattle.grants.specs.Records.{AreRecords, is_eligible_in, opening_records, with_looks, with_standing};
+ghost use Rattle.grants.specs.Looks.{changed_between, counted, reached_from};
+
+use crate::lookout::Lookout;
+use crate::memory::Memory;
+use crate::standing::Standing;
+use crate::wiring::Wiring;
+use plan::Plan;
+use std::alloc::Global;
+use std::marker::Model;
+use tag::{FiniteTag, Tag, pred};
+
+/// What the coordinator knows of each federate, and who is eligible for a grant. Federates go by number. Each setter takes any
+/// value, so that a change can be taken back.
+#[derive(Drop)]
+pub struct Table {
+    wiring: Wiring,
+    standings: Vec<Standing>,
+    lookout: Lookout,
+}
+
+impl Model for Table {
+    ghost use Rattle.std.specs.Prelude.{◌≡◌, length};
+    ghost use Rattle.grants.specs.Records.{Records};
+    ghost use Rattle.grants.specs.Kept.{AreFlags};
+
+    ghost Value = { Records };
+
+    ghost view = { λ t. record { wires = t.wiring; standings = t.standings.items; looks = t.lookout.looks } };
+
+    ghost invariant = { λ t. (length t.standings.items ≡ t.wiring.federates)
+        × AreFlags (record { wires = t.wiring; standings = t.standings.items; looks = t.lookout.looks }) t.lookout.eligible.items };
+}
+
+impl Table {
+    /// Of a plan's federates, before any signal came.
+    pub fn new(alloc: Global, plan: &Plan) -> Result<Table, Memory>
+        ensures { IfOk result (λ table. table ≡ opening_records plan.now) }
+    {
+        let wiring = Wiring::new(alloc, plan)?;
+        let standings = opening_standings(alloc, plan.federate_count())?;
+        let lookout = Lookout::new(alloc, plan.federate_count())?;
+        Ok(Table {
+            wiring,
+            standings,
+            lookout,
+        })
+    }
+
+    /// What every table keeps.
+    pub fn known(&self)
+        ensures { AreRecords self.now }
+    {
+        self.wiring.known();
+    }
+
+    pub fn federates(&self) -> usize
+        ensures { result ≡ self.now.wires.federates }
+    {
+        self.wiring.federates()
+    }
+
+    /// The last tag at which anything runs.
+    pub fn stop(&self) -> FiniteTag
+        ensures { result ≡ self.now.wires.stop }
+    {
+        self.wiring.stop()
+    }
+
+    /// The tag of a federate's last LTC.
+    pub fn completed(&self, federate: usize) -> Option<FiniteTag>
+        requires { federate < self.now.wires.federates }
+        ensures { result ≡ (standing_at self.now.standings federate).completed }
+    {
+        self.standings[federate].completed()
+    }
+
+    /// The last TAG to a federate.
+    pub fn granted(&self, federate: usize) -> Option<FiniteTag>
+        requires { federate < self.now.wires.federates }
+        ensures { result ≡ (standing_at self.now.standings federate).granted }
+    {
+        self.standings[federate].granted()
+    }
+
+    /// Whether a NET of a federate came.
+    pub fn announced(&self, federate: usize) -> bool
+        requires { federate < self.now.wires.federates }
+        ensures { result ≡ (standing_at self.now.standings federate).announced }
+    {
+        self.standings[federate].announced()
+    }
+
+    /// Before this tag a federate does nothing, unless a message is routed to it first.
+    pub fn next(&self, federate: usize) -> Tag
+        requires { federate < self.now.wires.federates }
+        ensures { result ≡ (standing_at self.now.standings federate).next }
+    {
+        self.standings[federate].next()
+    }
+
+    /// The least tag of a message on its way to a federate.
+    pub fn least_transit(&self, federate: usize) -> Option<FiniteTag>
+        requires { federate < self.now.wires.federates }
+        ensures first { result ≡ slice_get (standing_at self.now.standings federate).transit 0 }
+        ensures least { (tag : LogicalTime) → least_with tag (standing_at self.now.standings federate).transit ≡ lesser_with tag result }
+    {
+        self.standings[federate].least_transit()
+    }
+
+    /// How often a federate was looked at since `new`: at most 2^64 - 1.
+    pub fn looks(&self) -> u64
+        ensures { result ≡ self.now.looks }
+    {
+        self.lookout.looks
+    }
+
+    /// Whether a federate gets a grant.
+    pub fn eligible(&self, federate: usize) -> bool
+        requires { federate < self.now.wires.federates }
+        ensures paths { IsTrue result ↔ Eligible (network_by self.now.wires) (standing_at self.now.standings) federate }
+        ensures table { result ≡ is_eligible_in self.now federate }
+    {
+        self.wiring.known();
+        self.lookout.eligible[federate]
+    }
+
+    /// How far an eligible federate may be granted: the last tag before anything can still arrive at it, or stop if that is earlier.
+    pub fn grant(&self, federate: usize) -> FiniteTag
+        requires federate { federate < self.now.wires.federates }
+        requires eligible { IsTrue (is_eligible_in self.now federate) }
+        ensures widest { IsWidest (network_by self.now.wires) (standing_at self.now.standings) federate result }
+        ensures rule { grant_widest (network_by self.now.wires) (least_by self.now.wires) (standing_at self.now.standings) federate ≡ Some result }
+    {
+        let bound = self.wiring.bound(self.standings.as_slice(), federate);
+        last_before(bound, self.wiring.stop())
+    }
+
+    /// Sets a federate's next tag. It looks at that federate, and at each that a path leads to from it.
+    pub fn set_next(&mut self, federate: usize, next: Tag)
+        requires { federate < self.old.wires.federates }
+        ensures value { self.new ≡ with_looks (with_standing self.old federate (record (standing_at self.old.standings federate) { next = next })) self.new.looks }
+        ensures few_looks { self.new.looks ≤ self.old.looks + 1 + reached_from self.old.wires federate }
+        ensures looks { counted self.old.looks (changed_between self.old self.new) ≤ self.new.looks }
+    {
+        let standing = &mut self.standings[federate];
+        standing.set_next(next);
+        let federates = self.wiring.looked_at(federate);
+        self.lookout
+            .look_at_each(&self.wiring, self.standings.as_slice(), federates);
+    }
+
+    /// Sets the tag of a federate's last LTC. It looks at that federate, and at each that a path leads to from it.
+    pub fn set_completed(&mut self, federate: usize, completed: Option<FiniteTag>)
+        requires { federate < self.old.wires.federates }
+        ensures value { self.new ≡ with_looks (with_standing self.old federate (record (standing_at self.old.standings federate) { completed = completed })) self.new.looks }
+        ensures few_looks { self.new.looks ≤ self.old.looks + 1 + reached_from self.old.wires federate }
+        ensures looks { counted self.old.looks (changed_between self.old self.new) ≤ self.new.looks }
+    {
+        let standing = &mut self.standings[federate];
+        standing.set_completed(completed);
+        let federates = self.wiring.looked_at(federate);
+        self.lookout
+            .look_at_each(&self.wiring, self.standings.as_slice(), federates);
+    }
+
+    /// Sets whether a NET of a federate came. It looks at that federate alone.
+    pub fn set_announced(&mut self, federate: usize, announced: bool)
+        requires { federate < self.old.wires.federates }
+        ensures value { self.new ≡ with_looks (with_standing self.old federate (record (standing_at self.old.standings federate) { announced = announced })) self.new.looks }
+        ensures few_looks { self.new.looks ≤ self.old.looks + 1 }
+        ensures looks { counted self.old.looks (changed_between self.old self.new) ≤ self.new.looks }
+    {
+        let standing = &mut self.standings[federate];
+        standing.set_announced(announced);
+        self.lookout
+            .look(&self.wiring, self.standings.as_slice(), federate);
+    }
+
+    /// Sets the last TAG to a federate. It looks at that federate alone.
+    pub fn set_granted(&mut self, federate: usize, granted: Option<FiniteTag>)
+        requires { federate < self.old.wires.federates }
+        ensures value { self.new ≡ with_looks (with_standing self.old federate (record (standing_at self.old.standings federate) { granted = granted })) self.new.looks }
+        ensures few_looks { self.new.looks ≤ self.old.looks + 1 }
+        ensures looks { counted self.old.looks (changed_between self.old self.new) ≤ self.new.looks }
+    {
+        let standing = &mut self.standings[federate];
+        standing.set_granted(granted);
+        self.lookout
+            .look(&self.wiring, self.standings.as_slice(), federate);
+    }
+
+    /// A message with this tag is on its way to a federate. It looks at nobody.
+    pub fn add_transit(&mut self, federate: usize, tag: FiniteTag) -> Result<(), Memory>
+        requires { federate < self.old.wires.federates }
+        ensures ok { OnOk result (self.new ≡ with_standing self.old federate (record (standing_at self.old.standings federate) { transit = with_tag tag (standing_at self.old.standings federate).transit })) }
+        ensures err { OnErr result (self.new ≡ self.old) }
+    {
+        let standing = &mut self.standings[federate];
+        standing.add_transit(tag)
+    }
+
+    /// No message up to this tag is on its way to a federate. It looks at nobody.
+    pub fn drop_transit(&mut self, federate: usize, completed: FiniteTag)
+        requires { federate < self.old.wires.federates }
+        ensures { self.new ≡ with_standing self.old federate (record (standing_at self.old.standings federate) { transit = filter (λ t. is_before completed t) (standing_at self.old.standings federate).transit }) }
+    {
+        let standing = &mut self.standings[federate];
+        standing.drop_transit(completed);
+    }
+}
+
+/// So many standings, before any signal came.
+fn opening_standings(alloc: Global, count: usize) -> Result<Vec<Standing>, Memory>
+    ensures { IfOk result (λ standings. standings.items ≡ standings_listed count (λ j. opening_standing)) }
+{
+    let mut standings = Vec::new(alloc);
+    for _federate in 0..count {
+        standings.push(Standing::new(alloc))?;
+    }
+    Ok(standings)
+}
+
+/// The last tag before this one, which isn't the first, or stop if that is earlier.
+fn last_before(bound: Tag, stop: FiniteTag) -> FiniteTag
+    requires { IsTrue (is_before origin bound) }
+    ensures { result ≡ lesser (predecessor_of bound) stop }
+{
+    match pred(bound).and_then(FiniteTag::of) {
+        Some(last) => last.min(stop),
+        None => stop,
+    }
+}

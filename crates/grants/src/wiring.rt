@@ -1,0 +1,131 @@
+ghost use Rattle.std.specs.Prelude.{◌≡◌, ◌<◌, IfOk, length};
+ghost use Rattle.plan.specs.Federation.{federate_count, connections_of};
+ghost use Rattle.protocol.specs.Grant.{bound_of, is_eligible};
+ghost use Rattle.protocol.specs.Standings.{standing_at};
+ghost use Rattle.grants.specs.Wires.{AreWires, least_by, network_by, wires_of};
+ghost use Rattle.grants.specs.Routes.{looked_at, routed_below};
+
+use crate::bounds::{first_incoming, first_upstream, greater, is_past};
+use crate::memory::Memory;
+use crate::routes::Routes;
+use crate::standing::Standing;
+use plan::{Connection, Plan};
+use std::alloc::Global;
+use std::marker::Model;
+use tag::{FiniteTag, Tag};
+
+/// How the federates of a plan are connected.
+#[derive(Drop)]
+pub struct Wiring {
+    connections: Vec<Connection>,
+    stop: FiniteTag,
+    /// Of each federate.
+    routes: Vec<Routes>,
+}
+
+impl Model for Wiring {
+    ghost use Rattle.std.specs.Prelude.{◌≡◌, length};
+    ghost use Rattle.grants.specs.Wires.{Wires, AreWires};
+    ghost use Rattle.grants.specs.Routes.{routed_below};
+
+    ghost Value = { Wires };
+
+    ghost view = { λ w. record { federates = length w.routes.items; connections = w.connections.items; stop = w.stop } };
+
+    ghost invariant = { λ w. AreWires (record { federates = length w.routes.items; connections = w.connections.items; stop = w.stop })
+        × (w.routes.items ≡ routed_below (record { federates = length w.routes.items; connections = w.connections.items; stop = w.stop }) (length w.routes.items)) };
+}
+
+impl Wiring {
+    pub fn new(alloc: Global, plan: &Plan) -> Result<Wiring, Memory>
+        ensures { IfOk result (λ wiring. wiring ≡ wires_of plan.now) }
+    {
+        plan.known();
+        let connections = copied(alloc, plan.connections())?;
+        let routes = routes_of(alloc, plan)?;
+        let stop = FiniteTag::new(plan.stop_time(), 0);
+        Ok(Wiring {
+            connections,
+            stop,
+            routes,
+        })
+    }
+
+    /// What every wiring keeps.
+    pub fn known(&self)
+        ensures { AreWires self.now }
+    {
+        let _ = &self.stop;
+    }
+
+    pub fn federates(&self) -> usize
+        ensures { result ≡ self.now.federates }
+    {
+        self.routes.len()
+    }
+
+    /// The last tag at which anything runs.
+    pub fn stop(&self) -> FiniteTag
+        ensures { result ≡ self.now.stop }
+    {
+        self.stop
+    }
+
+    /// The federates that a change of this one's next tag, or of what it completed, may make eligible.
+    pub fn looked_at(&self, federate: usize) -> &[usize]
+        requires { federate < self.now.federates }
+        ensures { result.now ≡ looked_at self.now federate }
+    {
+        self.routes[federate].downstream()
+    }
+
+    /// Before this tag nothing can still arrive at a federate. It goes over those from which a path leads to it, and over the
+    /// connections that end at it.
+    pub fn bound(&self, standings: &[Standing], federate: usize) -> Tag
+        requires count { length standings.now ≡ self.now.federates }
+        requires federate { federate < self.now.federates }
+        ensures { result ≡ bound_of (network_by self.now) (least_by self.now) (standing_at standings.now) federate }
+    {
+        let routes = &self.routes[federate];
+        let by_paths = first_upstream(routes.upstream(), standings);
+        let by_connections = first_incoming(routes.incoming(), standings);
+        greater(by_paths, by_connections)
+    }
+
+    /// Whether a federate gets a grant: it has announced, and its next tag isn't granted yet, not later than stop, and before the
+    /// bound.
+    pub fn is_eligible(&self, standings: &[Standing], federate: usize) -> bool
+        requires count { length standings.now ≡ self.now.federates }
+        requires federate { federate < self.now.federates }
+        ensures { result ≡ is_eligible (network_by self.now) (least_by self.now) (standing_at standings.now) federate }
+    {
+        let standing = &standings[federate];
+        let next = standing.next();
+        standing.announced()
+            && is_past(standing.granted(), next)
+            && next <= self.stop.tag()
+            && next < self.bound(standings, federate)
+    }
+}
+
+/// The same connections.
+fn copied(alloc: Global, connections: &[Connection]) -> Result<Vec<Connection>, Memory>
+    ensures { IfOk result (λ copy. copy.items ≡ connections.now) }
+{
+    let mut copy = Vec::new(alloc);
+    for connection in connections {
+        copy.push(*connection)?;
+    }
+    Ok(copy)
+}
+
+/// The routes of each federate.
+fn routes_of(alloc: Global, plan: &Plan) -> Result<Vec<Routes>, Memory>
+    ensures { IfOk result (λ routes. routes.items ≡ routed_below (wires_of plan.now) (federate_count plan.now)) }
+{
+    let mut routes = Vec::new(alloc);
+    for federate in 0..plan.federate_count() {
+        routes.push(Routes::new(alloc, plan, federate)?)?;
+    }
+    Ok(routes)
+}
