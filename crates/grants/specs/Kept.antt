@@ -1,13 +1,15 @@
--- What a table keeps: of each federate whether it is eligible.
+-- What a table keeps: of each federate its standing, and whether it is eligible.
 use Rattle.std.specs.Prelude.{◌≡◌, ℕ, ◌<◌, Bool, false, List, length, slice_index_or, slice_set}
 use Rattle.std.specs.List.{fold}
+use Rattle.protocol.specs.Standing.{Standing}
 use Rattle.grants.specs.Wires.{Wires}
-use Rattle.grants.specs.Records.{Records, is_eligible_in}
+use Rattle.grants.specs.Records.{is_eligible_by}
 
--- a flag for each federate, which says whether it is eligible
-pub record AreFlags (r : Records) (flags : List Bool) : Type 0 where
-  pub count : length flags ≡ r.wires.federates
-  pub each : (j : ℕ) → j < r.wires.federates → slice_index_or flags j false ≡ is_eligible_in r j
+-- a standing for each federate, and a flag that says whether it is eligible
+pub record IsKept (w : Wires) (standings : List Standing) (flags : List Bool) : Type 0 where
+  pub standing_count : length standings ≡ w.federates
+  pub flag_count : length flags ≡ w.federates
+  pub each : (j : ℕ) → j < w.federates → slice_index_or flags j false ≡ is_eligible_by w standings j
 
 -- the flags after a look at each of these federates
 abbrev pub flags_after : (ℕ → Bool) → List ℕ → List Bool → List Bool

@@ -25,9 +25,12 @@ with_standing r i mine = record r { standings = slice_set r.standings i mine }
 abbrev pub with_looks : Records → ℕ → Records
 with_looks r looks = record r { looks = looks }
 
--- whether federate j is eligible, by the table of least delays
+-- whether federate j is eligible where all stand so, by the table of least delays
+abbrev pub is_eligible_by : Wires → List Standing → ℕ → Bool
+is_eligible_by w standings j = is_eligible (network_by w) (least_by w) (standing_at standings) j
+
 abbrev pub is_eligible_in : Records → ℕ → Bool
-is_eligible_in r j = is_eligible (network_by r.wires) (least_by r.wires) (standing_at r.standings) j
+is_eligible_in r j = is_eligible_by r.wires r.standings j
 
 -- a standing for each federate, and wiring that is sound
 pub record AreRecords (r : Records) : Type 0 where

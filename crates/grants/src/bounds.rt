@@ -1,9 +1,9 @@
-ghost use Rattle.std.specs.Prelude.{◌≡◌, ◌<◌, All, length, [], filter, nat_eq, IsTrue};
-ghost use Rattle.tag.specs.LogicalTime.{greater, is_before, lesser};
+ghost use Rattle.std.specs.Prelude.{◌≡◌, ◌<◌, All, length};
+ghost use Rattle.tag.specs.LogicalTime.{greater, lesser};
 ghost use Rattle.protocol.specs.Federate.{is_past};
 ghost use Rattle.protocol.specs.Grant.{after_completed};
 ghost use Rattle.protocol.specs.Standings.{standing_at};
-ghost use Rattle.grants.specs.Bounds.{first_upstream, first_incoming, has_source, has_sender};
+ghost use Rattle.grants.specs.Bounds.{first_incoming, first_upstream};
 
 use crate::routes::Upstream;
 use crate::standing::Standing;

@@ -11,8 +11,8 @@
 #![tactic(auto)]
 
 mod bounds;
-pub mod laws;
 mod lookout;
+pub mod meaning;
 pub mod memory;
 pub mod routes;
 pub mod standing;

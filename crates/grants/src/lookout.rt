@@ -1,5 +1,4 @@
-ghost use Rattle.std.specs.Prelude.{◌≡◌, ℕ, ◌<◌, All, IfOk, false, length, slice_index_or, slice_set};
-ghost use Rattle.std.specs.List.{repeat};
+ghost use Rattle.std.specs.Prelude.{◌≡◌, ℕ, ◌<◌, All, IfOk, false, length, replicate, slice_set};
 ghost use Rattle.protocol.specs.Grant.{is_eligible};
 ghost use Rattle.protocol.specs.Standings.{standing_at};
 ghost use Rattle.grants.specs.Wires.{least_by, network_by};
@@ -22,7 +21,7 @@ pub struct Lookout {
 impl Lookout {
     /// With nobody eligible, before any look.
     pub fn new(alloc: Global, federates: usize) -> Result<Lookout, Memory>
-        ensures { IfOk result (λ lookout. (lookout.eligible.items ≡ repeat federates false) × (lookout.looks ≡ 0)) }
+        ensures { IfOk result (λ lookout. (lookout.eligible.items ≡ replicate federates false) × (lookout.looks ≡ 0)) }
     {
         let eligible = vec![in alloc; false; federates]?;
         Ok(Lookout { eligible, looks: 0 })

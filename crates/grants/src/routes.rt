@@ -1,4 +1,4 @@
-ghost use Rattle.std.specs.Prelude.{◌≡◌, IfOk};
+ghost use Rattle.std.specs.Prelude.{◌≡◌, ◌<◌, IfOk};
 ghost use Rattle.plan.specs.Federation.{federate_count};
 ghost use Rattle.grants.specs.Wires.{least_by, wires_of};
 ghost use Rattle.grants.specs.Routes.{incoming_of, looked_at, routed, upstream_of};

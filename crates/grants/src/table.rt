@@ -8,6 +8,7 @@ ghost use Rattle.grants.specs.Transit.{lesser_with};
 ghost use Rattle.grants.specs.Wires.{least_by, network_by};
 ghost use Rattle.grants.specs.Records.{AreRecords, is_eligible_in, opening_records, with_looks, with_standing};
 ghost use Rattle.grants.specs.Looks.{changed_between, counted, reached_from};
+ghost use Rattle.grants.specs.Routes.{looked_at};
 
 use crate::lookout::Lookout;
 use crate::memory::Memory;
@@ -28,16 +29,14 @@ pub struct Table {
 }
 
 impl Model for Table {
-    ghost use Rattle.std.specs.Prelude.{◌≡◌, length};
     ghost use Rattle.grants.specs.Records.{Records};
-    ghost use Rattle.grants.specs.Kept.{AreFlags};
+    ghost use Rattle.grants.specs.Kept.{IsKept};
 
     ghost Value = { Records };
 
     ghost view = { λ t. record { wires = t.wiring; standings = t.standings.items; looks = t.lookout.looks } };
 
-    ghost invariant = { λ t. (length t.standings.items ≡ t.wiring.federates)
-        × AreFlags (record { wires = t.wiring; standings = t.standings.items; looks = t.lookout.looks }) t.lookout.eligible.items };
+    ghost invariant = { λ t. IsKept t.wiring t.standings.items t.lookout.eligible.items };
 }
 
 impl Table {
@@ -144,6 +143,15 @@ impl Table {
         last_before(bound, self.wiring.stop())
     }
 
+    /// The federates that a change of this one's next tag, or of what it completed, may make eligible, in order: itself, and each
+    /// that a path leads to from it.
+    pub fn affected_by(&self, federate: usize) -> &[usize]
+        requires { federate < self.now.wires.federates }
+        ensures { result.now ≡ looked_at self.now.wires federate }
+    {
+        self.wiring.looked_at(federate)
+    }
+
     /// Sets a federate's next tag. It looks at that federate, and at each that a path leads to from it.
     pub fn set_next(&mut self, federate: usize, next: Tag)
         requires { federate < self.old.wires.federates }
@@ -151,6 +159,8 @@ impl Table {
         ensures few_looks { self.new.looks ≤ self.old.looks + 1 + reached_from self.old.wires federate }
         ensures looks { counted self.old.looks (changed_between self.old self.new) ≤ self.new.looks }
     {
+        // For the prover: the least delays are least over all paths.
+        self.wiring.known();
         let standing = &mut self.standings[federate];
         standing.set_next(next);
         let federates = self.wiring.looked_at(federate);
@@ -165,6 +175,8 @@ impl Table {
         ensures few_looks { self.new.looks ≤ self.old.looks + 1 + reached_from self.old.wires federate }
         ensures looks { counted self.old.looks (changed_between self.old self.new) ≤ self.new.looks }
     {
+        // For the prover: the least delays are least over all paths.
+        self.wiring.known();
         let standing = &mut self.standings[federate];
         standing.set_completed(completed);
         let federates = self.wiring.looked_at(federate);
@@ -179,6 +191,8 @@ impl Table {
         ensures few_looks { self.new.looks ≤ self.old.looks + 1 }
         ensures looks { counted self.old.looks (changed_between self.old self.new) ≤ self.new.looks }
     {
+        // For the prover: the least delays are least over all paths.
+        self.wiring.known();
         let standing = &mut self.standings[federate];
         standing.set_announced(announced);
         self.lookout
@@ -192,6 +206,8 @@ impl Table {
         ensures few_looks { self.new.looks ≤ self.old.looks + 1 }
         ensures looks { counted self.old.looks (changed_between self.old self.new) ≤ self.new.looks }
     {
+        // For the prover: the least delays are least over all paths.
+        self.wiring.known();
         let standing = &mut self.standings[federate];
         standing.set_granted(granted);
         self.lookout
@@ -204,6 +220,8 @@ impl Table {
         ensures ok { OnOk result (self.new ≡ with_standing self.old federate (record (standing_at self.old.standings federate) { transit = with_tag tag (standing_at self.old.standings federate).transit })) }
         ensures err { OnErr result (self.new ≡ self.old) }
     {
+        // For the prover: the least delays are least over all paths.
+        self.wiring.known();
         let standing = &mut self.standings[federate];
         standing.add_transit(tag)
     }
@@ -213,6 +231,8 @@ impl Table {
         requires { federate < self.old.wires.federates }
         ensures { self.new ≡ with_standing self.old federate (record (standing_at self.old.standings federate) { transit = filter (λ t. is_before completed t) (standing_at self.old.standings federate).transit }) }
     {
+        // For the prover: the least delays are least over all paths.
+        self.wiring.known();
         let standing = &mut self.standings[federate];
         standing.drop_transit(completed);
     }

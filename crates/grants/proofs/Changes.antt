@@ -1,0 +1,233 @@
+-- What a change of one standing leaves: who is eligible, and how many that are not so any more.
+use Rattle.std.proofs.Common.{◌≡◌, ℕ, ◌+◌, ◌<◌, ◌≤◌, Bool, true, false, List, [], ◌∷◌, length, refl, sym, ap, subst, ◌∙◌, arith, length-set, inl, inr, Option, None, Some}
+use Rattle.std.specs.Prelude.{nat_eq, is_some, if◌then◌else◌, not, ◌||◌, min, slice_get, slice_index_or, slice_set, MatchOption}
+use Rattle.std.proofs.Math.Path.{fun_ext}
+use Rattle.std.proofs.lemmas.Bool.{cases_eq, eq-eqb}
+use Rattle.std.proofs.lemmas.Bool.Decides.{nat_tests}
+use Rattle.std.proofs.lemmas.List.{get_or-set_same, get_or-set_other}
+use Rattle.tag.specs.LogicalTime.{LogicalTime}
+use Rattle.network.specs.Connection.{Connection, IsPath, IsLeastDelay, IsUnreachable}
+use Rattle.network.specs.Network.{with_one}
+use Rattle.laws.proofs.Eligibility.{contains_at}
+use Rattle.protocol.specs.Standing.{Standing, opening_standing}
+use Rattle.protocol.specs.Standings.{standing_at, standings_listed}
+use Rattle.grants.specs.Wires.{Wires, AreWires, least_by, network_by}
+use Rattle.grants.specs.Records.{Records, AreRecords, is_eligible_by, is_eligible_in, with_standing}
+use Rattle.grants.specs.Looks.{most_looks, counted, count_below, has_path, reached_from, differ, changed_between}
+use Rattle.grants.specs.Routes.{listed_below, may_change, looked_at}
+use Rattle.grants.specs.Kept.{IsKept, flags_after}
+use Rattle.grants.proofs.Numbered.{length_listed, count_weaker, count_one, count_either}
+use Rattle.grants.proofs.Eligible.{AreAlikeFor, eligible_same}
+use Rattle.grants.proofs.Flags.{flags_stay_as_many, set_flag_is, other_flag_stays}
+
+-- ---- one standing is replaced
+
+pub other_standing : (standings : List Standing) (i j : ℕ) (mine : Standing) → (j ≡ i → ⊥) → standing_at (slice_set standings i mine) j ≡ standing_at standings j
+other_standing standings i j mine n = get_or-set_other standings i j mine opening_standing n
+
+own_standing : (standings : List Standing) (i : ℕ) (mine : Standing) → i < length standings → standing_at (slice_set standings i mine) i ≡ mine
+own_standing standings i mine l = get_or-set_same standings i mine opening_standing l
+
+-- what the new one has as the old one had
+field_stays : {A : Type 0} (f : Standing → A) (standings : List Standing) (i : ℕ) (mine : Standing) → i < length standings → f mine ≡ f (standing_at standings i) →
+    (k : ℕ) → f (standing_at (slice_set standings i mine) k) ≡ f (standing_at standings k)
+field_stays f standings i mine l e k =
+    elim (cases_eq k i) [
+      | inl same ↦
+          ap (λ x. f (standing_at (slice_set standings i mine) x)) same ∙ ap f (own_standing standings i mine l) ∙ e ∙ ap (λ x. f (standing_at standings x)) (sym same)
+      | inr n ↦ ap f (other_standing standings i k mine n)
+    ]
+
+replaced_at : (standings : List Standing) (i : ℕ) (mine : Standing) → i < length standings → (j : ℕ) → standing_at (slice_set standings i mine) j ≡ with_one (standing_at standings) i mine j
+replaced_at standings i mine l j =
+    elim (cases_eq j i) [
+      | inl same ↦
+          ap (standing_at (slice_set standings i mine)) same ∙ own_standing standings i mine l
+          ∙ ap (λ b. if b then mine else standing_at standings j) (sym (eq-eqb j i same))
+      | inr n ↦ other_standing standings i j mine n ∙ ap (λ b. if b then mine else standing_at standings j) (sym (different j i n))
+    ]
+  where
+    different : (j i : ℕ) → (j ≡ i → ⊥) → nat_eq j i ≡ false
+    different j i n = grind (arith, nat_tests)
+
+pub is_replaced : (standings : List Standing) (i : ℕ) (mine : Standing) → i < length standings → standing_at (slice_set standings i mine) ≡ with_one (standing_at standings) i mine
+is_replaced standings i mine l = fun_ext (replaced_at standings i mine l)
+
+-- ---- who is not i and hears nothing from i
+
+neither_itself : (b c : Bool) → (b || c) ≡ false → b ≡ false
+neither_itself true c h = cc
+neither_itself false c h = refl
+
+neither_path : (b c : Bool) → (b || c) ≡ false → c ≡ false
+neither_path true c h = cc
+neither_path false c h = h
+
+-- where a path leads, there is an entry
+some_entry : (connections : List Connection) (i j : ℕ) (path : List Connection) (o : Option LogicalTime) →
+    MatchOption o (IsUnreachable connections i j) (λ d. IsLeastDelay connections i j d) → IsPath connections i path j → is_some o ≡ true
+some_entry connections i j path None m p = absurd (m path p)
+some_entry connections i j path (Some d) m p = refl
+
+connected : (w : Wires) (j k : ℕ) (c : Connection) → AreWires w → slice_get w.connections k ≡ Some c → c.target ≡ j → has_path w c.source j ≡ true
+connected w j k c are e t = some_entry w.connections c.source j (c ∷ []) (least_by w c.source j) (are.least c.source j) (contains_at w.connections k c e, refl, t)
+
+pub hears_not : (w : Wires) (i j : ℕ) → may_change w i j ≡ false → (k : ℕ) → has_path w k j ≡ true → k ≡ i → ⊥
+hears_not w i j away k path same =
+    let none : has_path w i j ≡ false = neither_path (nat_eq j i) (has_path w i j) away in
+    let some : has_path w i j ≡ true = ap (λ x. has_path w x j) (sym same) ∙ path in
+    cc
+
+is_not : (w : Wires) (i j : ℕ) → may_change w i j ≡ false → j ≡ i → ⊥
+is_not w i j away same =
+    let none : nat_eq j i ≡ false = neither_itself (nat_eq j i) (has_path w i j) away in
+    let some : nat_eq j i ≡ true = eq-eqb j i same in
+    cc
+
+pub others_stay : (w : Wires) (standings : List Standing) (i j : ℕ) (mine : Standing) → AreWires w → may_change w i j ≡ false →
+    is_eligible_by w (slice_set standings i mine) j ≡ is_eligible_by w standings j
+others_stay w standings i j mine are away =
+    let own = other_standing standings i j mine (is_not w i j away) in
+    eligible_same (network_by w) (least_by w) j (standing_at standings) (standing_at (slice_set standings i mine)) are.wired are.least
+    (record {
+      announced = ap (λ (s : Standing). s.announced) own;
+      granted = ap (λ (s : Standing). s.granted) own;
+      next = ap (λ (s : Standing). s.next) own;
+      paths = λ k path. ap (λ (s : Standing). s.next) (other_standing standings i k mine (hears_not w i j away k path));
+      completed =
+          λ k c e t. ap (λ (s : Standing). s.completed) (other_standing standings i c.source mine (hears_not w i j away c.source (connected w j k c are e t)));
+    })
+
+-- ---- where next and completed stay
+
+pub alone_changes : (w : Wires) (standings : List Standing) (i j : ℕ) (mine : Standing) → AreWires w → i < length standings →
+    mine.next ≡ (standing_at standings i).next → mine.completed ≡ (standing_at standings i).completed → (j ≡ i → ⊥) →
+    is_eligible_by w (slice_set standings i mine) j ≡ is_eligible_by w standings j
+alone_changes w standings i j mine are l next completed n =
+    let own = other_standing standings i j mine n in
+    eligible_same (network_by w) (least_by w) j (standing_at standings) (standing_at (slice_set standings i mine)) are.wired are.least
+    (record {
+      announced = ap (λ (s : Standing). s.announced) own;
+      granted = ap (λ (s : Standing). s.granted) own;
+      next = ap (λ (s : Standing). s.next) own;
+      paths = λ k path. field_stays (λ (s : Standing). s.next) standings i mine l next k;
+      completed = λ k c e t. field_stays (λ (s : Standing). s.completed) standings i mine l completed c.source;
+    })
+
+-- where the tags in transit alone change, all stay
+pub none_changes : (w : Wires) (standings : List Standing) (i j : ℕ) (transit : List LogicalTime) → AreWires w → i < length standings →
+    is_eligible_by w (slice_set standings i (record (standing_at standings i) { transit = transit })) j ≡ is_eligible_by w standings j
+none_changes w standings i j transit are l =
+    let mine : Standing = record (standing_at standings i) { transit = transit } in
+    eligible_same (network_by w) (least_by w) j (standing_at standings) (standing_at (slice_set standings i mine)) are.wired are.least
+    (record {
+      announced = field_stays (λ (s : Standing). s.announced) standings i mine l refl j;
+      granted = field_stays (λ (s : Standing). s.granted) standings i mine l refl j;
+      next = field_stays (λ (s : Standing). s.next) standings i mine l refl j;
+      paths = λ k path. field_stays (λ (s : Standing). s.next) standings i mine l refl k;
+      completed = λ k c e t. field_stays (λ (s : Standing). s.completed) standings i mine l refl c.source;
+    })
+
+-- ---- the flags
+
+flag_by : (w : Wires) (standings : List Standing) (flags : List Bool) (i j : ℕ) (mine : Standing) → AreWires w → IsKept w standings flags → j < w.federates →
+    (b : Bool) → may_change w i j ≡ b →
+    slice_index_or (flags_after (is_eligible_by w (slice_set standings i mine)) (looked_at w i) flags) j false ≡ is_eligible_by w (slice_set standings i mine) j
+flag_by w standings flags i j mine are kept l true e =
+    let many = kept.flag_count in
+    set_flag_is w.federates (may_change w i) (is_eligible_by w (slice_set standings i mine)) flags j l (omega arith) e
+flag_by w standings flags i j mine are kept l false e =
+    other_flag_stays w.federates (may_change w i) (is_eligible_by w (slice_set standings i mine)) flags j e
+    ∙ kept.each j l ∙ sym (others_stay w standings i j mine are e)
+
+pub kept_by_looks : (w : Wires) (standings : List Standing) (flags : List Bool) (i : ℕ) (mine : Standing) → AreWires w → IsKept w standings flags →
+    IsKept w (slice_set standings i mine) (flags_after (is_eligible_by w (slice_set standings i mine)) (looked_at w i) flags)
+kept_by_looks w standings flags i mine are kept = record {
+  standing_count = length-set standings i mine ∙ kept.standing_count;
+  flag_count = flags_stay_as_many (is_eligible_by w (slice_set standings i mine)) (looked_at w i) flags ∙ kept.flag_count;
+  each = λ j l. flag_by w standings flags i j mine are kept l (may_change w i j) refl;
+}
+
+pub kept_by_one_look : (w : Wires) (standings : List Standing) (flags : List Bool) (i : ℕ) (mine : Standing) → AreWires w → IsKept w standings flags → i < w.federates →
+    mine.next ≡ (standing_at standings i).next → mine.completed ≡ (standing_at standings i).completed →
+    IsKept w (slice_set standings i mine) (slice_set flags i (is_eligible_by w (slice_set standings i mine) i))
+kept_by_one_look w standings flags i mine are kept l next completed =
+    let value = is_eligible_by w (slice_set standings i mine) in
+    let flag_count = kept.flag_count in
+    let standing_count = kept.standing_count in
+    record {
+      standing_count = length-set standings i mine ∙ kept.standing_count;
+      flag_count = length-set flags i (value i) ∙ kept.flag_count;
+      each = λ j m. elim (cases_eq j i) [
+        | inl same ↦
+            ap (λ x. slice_index_or (slice_set flags i (value i)) x false) same ∙ get_or-set_same flags i (value i) false (omega arith) ∙ ap value (sym same)
+        | inr n ↦
+            get_or-set_other flags i j (value i) false n ∙ kept.each j m ∙ sym (alone_changes w standings i j mine are (omega arith) next completed n)
+      ];
+    }
+
+pub kept_with_transit : (w : Wires) (standings : List Standing) (flags : List Bool) (i : ℕ) (transit : List LogicalTime) → AreWires w → IsKept w standings flags → i < w.federates →
+    IsKept w (slice_set standings i (record (standing_at standings i) { transit = transit })) flags
+kept_with_transit w standings flags i transit are kept l =
+    let standing_count = kept.standing_count in
+    record {
+      standing_count = length-set standings i (record (standing_at standings i) { transit = transit }) ∙ kept.standing_count;
+      flag_count = kept.flag_count;
+      each = λ j m. kept.each j m ∙ sym (none_changes w standings i j transit are (omega arith));
+    }
+
+-- ---- how many change
+
+differ_not : (a b : Bool) → b ≡ a → differ a b ≡ false
+differ_not true true e = refl
+differ_not true false e = cc
+differ_not false true e = cc
+differ_not false false e = refl
+
+passes : (a b t : Bool) → (t ≡ false → b ≡ a) → differ a b ≡ true → t ≡ true
+passes a b true h d = refl
+passes a b false h d = let none = differ_not a b (h refl) in cc
+
+-- no more change than pass a test, where those that don't pass it stay
+changed_few : (count : ℕ) (before after test : ℕ → Bool) → ((j : ℕ) → test j ≡ false → after j ≡ before j) →
+    count_below count (λ j. differ (before j) (after j)) ≤ count_below count test
+changed_few count before after test stay = count_weaker count (λ j. differ (before j) (after j)) test (λ j d. passes (before j) (after j) (test j) (stay j) d)
+
+pub changed_by_looks : (w : Wires) (standings : List Standing) (i : ℕ) (mine : Standing) → AreWires w →
+    count_below w.federates (λ j. differ (is_eligible_by w standings j) (is_eligible_by w (slice_set standings i mine) j)) ≤ length (looked_at w i)
+changed_by_looks w standings i mine are =
+    let listed = length_listed w.federates (may_change w i) in
+    let few = changed_few w.federates (is_eligible_by w standings) (is_eligible_by w (slice_set standings i mine)) (may_change w i)
+    (λ j away. others_stay w standings i j mine are away) in
+    omega arith
+
+not_same : (j i : ℕ) → nat_eq j i ≡ false → j ≡ i → ⊥
+not_same j i h e = let some : nat_eq j i ≡ true = eq-eqb j i e in cc
+
+pub changed_by_one_look : (w : Wires) (standings : List Standing) (i : ℕ) (mine : Standing) → AreWires w → i < length standings →
+    mine.next ≡ (standing_at standings i).next → mine.completed ≡ (standing_at standings i).completed →
+    count_below w.federates (λ j. differ (is_eligible_by w standings j) (is_eligible_by w (slice_set standings i mine) j)) ≤ 1
+changed_by_one_look w standings i mine are l next completed =
+    let one = count_one w.federates i in
+    let few = changed_few w.federates (is_eligible_by w standings) (is_eligible_by w (slice_set standings i mine)) (λ j. nat_eq j i)
+    (λ j away. alone_changes w standings i j mine are l next completed (not_same j i away)) in
+    omega arith
+
+pub looked_at_few : (w : Wires) (i : ℕ) → length (looked_at w i) ≤ 1 + reached_from w i
+looked_at_few w i =
+    let listed = length_listed w.federates (may_change w i) in
+    let either = count_either w.federates (λ j. nat_eq j i) (has_path w i) in
+    let one = count_one w.federates i in
+    omega arith
+
+-- ---- paths
+
+path_of_entry : (connections : List Connection) (i j : ℕ) (o : Option LogicalTime) → MatchOption o (IsUnreachable connections i j) (λ d. IsLeastDelay connections i j d) →
+    is_some o ≡ true → (path : List Connection) × IsPath connections i path j
+path_of_entry connections i j None m e = cc
+path_of_entry connections i j (Some d) m e = (m.attained.0, m.attained.1)
+
+pub counted_paths : (w : Wires) (i j : ℕ) → AreWires w → (has_path w i j ≡ true → (path : List Connection) × IsPath w.connections i path j) ×
+    ((path : List Connection) × IsPath w.connections i path j → has_path w i j ≡ true)
+counted_paths w i j are =
+    (path_of_entry w.connections i j (least_by w i j) (are.least i j), (λ p. some_entry w.connections i j p.0 (least_by w i j) (are.least i j) p.1))

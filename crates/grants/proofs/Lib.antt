@@ -1,0 +1,14 @@
+-- Tags in transit, and the ordered set that holds them.
+pub mod Transit
+-- Arrivals along lists of routes are the bounds.
+pub mod Arrivals
+-- Numbers that pass a test: listed, and counted.
+pub mod Numbered
+-- Who is eligible: by the bound, and whom a change leaves alone.
+pub mod Eligible
+-- The wiring of a plan is sound.
+pub mod Plans
+-- Flags that are set one after the other.
+pub mod Flags
+-- What a change of one standing leaves.
+pub mod Changes
