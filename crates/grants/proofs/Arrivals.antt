@@ -4,13 +4,14 @@ use Rattle.std.specs.Prelude.{nat_eq, if◌then◌else◌, filter}
 use Rattle.std.specs.List.{fold}
 use Rattle.std.proofs.lemmas.Bool.Decides.{nat_tests}
 use Rattle.std.proofs.lemmas.List.Sums.{fold-append}
-use Rattle.tag.specs.LogicalTime.{LogicalTime, forever, is_before, lesser, sum_of}
+use Rattle.tag.specs.LogicalTime.{LogicalTime, forever, is_before, greater, lesser, sum_of}
 use Rattle.tag.proofs.Order.{lesser_associates}
 use Rattle.network.specs.Connection.{Connection}
 use Rattle.network.specs.Tables.{Table}
 use Rattle.protocol.specs.Standing.{Standing}
-use Rattle.protocol.specs.Grant.{after_completed, lesser_arrival, bound_by_paths, bound_by_connections}
+use Rattle.protocol.specs.Grant.{after_completed, lesser_arrival, bound_by_paths, bound_by_connections, bound_of}
 use Rattle.grants.specs.declared.routes.Upstream.{Upstream}
+use Rattle.grants.specs.Wires.{Wires, least_by, network_by}
 use Rattle.grants.specs.Routes.{upstream_at, upstream_of, incoming_of}
 use Rattle.grants.specs.Bounds.{first_upstream, first_incoming}
 
@@ -56,3 +57,12 @@ pub by_connections : (standings : ℕ → Standing) (j : ℕ) (connections : Lis
 by_connections standings j [] = refl
 by_connections standings j (c ∷ rest) =
     with_incoming standings c (nat_eq c.target j) (bound_by_connections standings j rest) (incoming_of rest j) (by_connections standings j rest)
+
+-- the greater of both is the bound
+pub bound_is : (w : Wires) (standings : ℕ → Standing) (j : ℕ) (upstream : List Upstream) (incoming : List Connection) (paths connections bound : LogicalTime) →
+    upstream ≡ upstream_of (least_by w) j w.federates → incoming ≡ incoming_of w.connections j → paths ≡ first_upstream standings upstream →
+    connections ≡ first_incoming standings incoming → bound ≡ greater paths connections → bound ≡ bound_of (network_by w) (least_by w) standings j
+bound_is w standings j upstream incoming paths connections bound up down p c b =
+    let by_p : paths ≡ bound_by_paths (least_by w) standings j w.federates = p ∙ ap (first_upstream standings) up ∙ sym (by_paths (least_by w) standings j w.federates) in
+    let by_c : connections ≡ bound_by_connections standings j w.connections = c ∙ ap (first_incoming standings) down ∙ sym (by_connections standings j w.connections) in
+    b ∙ ap (λ x. greater x connections) by_p ∙ ap (greater (bound_by_paths (least_by w) standings j w.federates)) by_c

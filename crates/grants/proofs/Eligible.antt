@@ -1,15 +1,16 @@
 -- Who is eligible: by the bound, and whom a change leaves alone.
-use Rattle.std.proofs.Common.{◌≡◌, ℕ, zero, suc, Bool, true, false, List, [], ◌∷◌, refl, sym, ap, ◌∙◌, Option, None, Some}
-use Rattle.std.specs.Prelude.{nat_eq, is_some, if◌then◌else◌, ◌&&◌, slice_get}
+use Rattle.std.proofs.Common.{◌≡◌, ℕ, zero, suc, Bool, true, false, List, [], ◌∷◌, refl, sym, ap, ◌∙◌, arith, Option, None, Some}
+use Rattle.std.specs.Prelude.{nat_eq, is_some, if◌then◌else◌, ◌&&◌, ◌||◌, slice_get}
 use Rattle.std.proofs.lemmas.Bool.{eqb-true}
-use Rattle.tag.specs.LogicalTime.{LogicalTime, is_before, is_at_most, lesser, greater, sum_of}
+use Rattle.std.proofs.lemmas.Bool.Decides.{nat_tests}
+use Rattle.tag.specs.LogicalTime.{LogicalTime, is_before, is_at_most, lesser, greater, origin, sum_of}
 use Rattle.network.specs.Connection.{Connection}
 use Rattle.network.specs.Network.{Network}
 use Rattle.network.specs.Wiring.{IsWired}
 use Rattle.network.specs.Tables.{Table, IsLeastTable}
 use Rattle.protocol.specs.Federate.{is_past}
 use Rattle.protocol.specs.Standing.{Standing}
-use Rattle.protocol.specs.Grant.{after_completed, is_eligible, lesser_arrival, bound_by_paths, bound_by_connections, bound_of}
+use Rattle.protocol.specs.Grant.{after_completed, passes_paths, passes_connections, is_eligible, lesser_arrival, bound_by_paths, bound_by_connections, bound_of}
 use Rattle.protocol.specs.Bound.{IsWithin}
 use Rattle.laws.proofs.Tests.{both_left, both_right, both_hold}
 use Rattle.laws.proofs.Eligibility.{eligible_by_table}
@@ -51,6 +52,28 @@ by_bound n table standings j wired least =
         in_time = both_right (a && b) c abc;
         before = both_right (a && b && c) d h;
       }))))
+
+-- nobody is before the first announcement
+not_announced : (a b c d : Bool) → a ≡ false → (a && b && c && d) ≡ false
+not_announced true b c d e = cc
+not_announced false b c d e = refl
+
+pub silent_is_not_eligible : (n : Network) (table : Table) (standings : ℕ → Standing) (j : ℕ) → (standings j).announced ≡ false → is_eligible n table standings j ≡ false
+silent_is_not_eligible n table standings j e =
+    not_announced (standings j).announced (is_past (standings j).granted (standings j).next) (is_at_most (standings j).next n.stop)
+    (passes_paths n table standings j (standings j).next || passes_connections n standings j (standings j).next) e
+
+-- an eligible federate's bound isn't the first tag
+after_origin : (g h : LogicalTime) → is_before g h ≡ true → is_before origin h ≡ true
+after_origin g h e = grind (arith, nat_tests)
+
+pub bound_after_origin : (n : Network) (table : Table) (standings : ℕ → Standing) (j : ℕ) → IsWired n → IsLeastTable n table → is_eligible n table standings j ≡ true →
+    is_before origin (bound_of n table standings j) ≡ true
+bound_after_origin n table standings j wired least e =
+    let next = (standings j).next in
+    let within : is_within n table standings j ≡ true = sym (by_bound n table standings j wired least) ∙ e in
+    after_origin next (bound_of n table standings j)
+    (both_right ((standings j).announced && is_past (standings j).granted next && is_at_most next n.stop) (is_before next (bound_of n table standings j)) within)
 
 -- ---- whom a change leaves alone
 

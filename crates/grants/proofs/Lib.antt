@@ -8,7 +8,11 @@ pub mod Numbered
 pub mod Eligible
 -- The wiring of a plan is sound.
 pub mod Plans
+-- The routes of each federate.
+pub mod Routed
 -- Flags that are set one after the other.
 pub mod Flags
+-- A table after each call.
+pub mod Tables
 -- What a change of one standing leaves.
 pub mod Changes

@@ -9,7 +9,7 @@ use Rattle.std.proofs.lemmas.Bool.Decides.{nat_tests}
 use Rattle.tag.specs.LogicalTime.{LogicalTime, is_before, is_at_most, is_same, lesser}
 use Rattle.tag.specs.contracts.finite_tag.FiniteTagOrd.TheImpl as finite_tag_ord
 use Rattle.protocol.specs.Standing.{with_tag, least_with}
-use Rattle.grants.specs.Transit.{lesser_with, has_up_to}
+use Rattle.grants.specs.Transit.{lesser_with, has_up_to, Rises}
 
 -- the order of the set's tags
 abbrev pub tag_cmp : LogicalTime → LogicalTime → Ordering
@@ -28,11 +28,6 @@ inserted_at g x rest more e Greater h = grind (arith, nat_tests)
 pub inserted : (tags : List LogicalTime) (g : LogicalTime) → insert_key tag_cmp tags g ≡ with_tag g tags
 inserted [] g = refl
 inserted (x ∷ rest) g = inserted_at g x rest (insert_key tag_cmp rest g) (inserted rest g) (tag_cmp g x) refl
-
--- each tag is before all that follow
-abbrev pub Rises : List LogicalTime → Type 0
-Rises [] = Unit {0}
-Rises (g ∷ rest) = AllByRecursion (λ h. is_before g h ≡ true) rest × Rises rest
 
 all_before : (g : LogicalTime) (tags : List LogicalTime) → AllByRecursion (λ h. tag_cmp g h ≡ Less) tags → AllByRecursion (λ h. is_before g h ≡ true) tags
 all_before g [] a = tt

@@ -1,6 +1,7 @@
 -- The tags of messages on their way.
-use Rattle.std.specs.Prelude.{Bool, false, List, [], ◌∷◌, Option, None, Some}
-use Rattle.tag.specs.LogicalTime.{LogicalTime, is_at_most, lesser}
+use Rattle.std.specs.Prelude.{◌≡◌, Bool, true, false, List, [], ◌∷◌, Option, None, Some}
+use Rattle.std.specs.List.{AllByRecursion}
+use Rattle.tag.specs.LogicalTime.{LogicalTime, is_at_most, is_before, lesser}
 
 -- the lesser of a tag and of another, if there is one
 abbrev pub lesser_with : LogicalTime → Option LogicalTime → LogicalTime
@@ -11,3 +12,8 @@ lesser_with tag (Some other) = lesser other tag
 abbrev pub has_up_to : LogicalTime → List LogicalTime → Bool
 has_up_to tag [] = false
 has_up_to tag (x ∷ rest) = is_at_most x tag
+
+-- each tag is before all that follow
+abbrev pub Rises : List LogicalTime → Type 0
+Rises [] = Unit {0}
+Rises (g ∷ rest) = AllByRecursion (λ h. is_before g h ≡ true) rest × Rises rest

@@ -1,6 +1,5 @@
 ghost use Rattle.std.specs.Prelude.{◌≡◌, ◌<◌, All, length};
-ghost use Rattle.tag.specs.LogicalTime.{greater, lesser};
-ghost use Rattle.protocol.specs.Federate.{is_past};
+ghost use Rattle.tag.specs.LogicalTime.{greater, is_before, lesser};
 ghost use Rattle.protocol.specs.Grant.{after_completed};
 ghost use Rattle.protocol.specs.Standings.{standing_at};
 ghost use Rattle.grants.specs.Bounds.{first_incoming, first_upstream};
@@ -47,22 +46,20 @@ fn after_completed(completed: Option<FiniteTag>) -> Tag
     }
 }
 
-/// Whether a tag is later than the one granted; none is before all.
-pub fn is_past(granted: Option<FiniteTag>, tag: Tag) -> bool
-    ensures { result ≡ is_past granted tag }
+pub fn is_before(tag: Tag, other: Tag) -> bool
+    ensures { result ≡ is_before tag other }
 {
-    match granted {
-        Some(granted) => granted.tag() < tag,
-        None => true,
-    }
+    tag < other
 }
 
-pub fn lesser(tag: Tag, other: Tag) -> Tag
+/// The lesser of two tags.
+fn lesser(tag: Tag, other: Tag) -> Tag
     ensures { result ≡ lesser tag other }
 {
     if tag < other { tag } else { other }
 }
 
+/// The greater of two tags.
 pub fn greater(tag: Tag, other: Tag) -> Tag
     ensures { result ≡ greater tag other }
 {

@@ -1,7 +1,8 @@
-ghost use Rattle.std.specs.Prelude.{◌≡◌, false, IsTrue, filter, OnOk, OnErr, slice_get};
-ghost use Rattle.tag.specs.LogicalTime.{LogicalTime, is_before};
+ghost use Rattle.std.specs.Prelude.{◌≡◌, ◌&&◌, OnErr, OnOk, filter, slice_get};
+ghost use Rattle.tag.specs.LogicalTime.{LogicalTime, is_at_most, is_before};
+ghost use Rattle.protocol.specs.Federate.{is_past};
 ghost use Rattle.protocol.specs.Standing.{opening_standing, least_with, with_tag};
-ghost use Rattle.grants.specs.Transit.{lesser_with, has_up_to};
+ghost use Rattle.grants.specs.Transit.{Rises, has_up_to, lesser_with};
 
 use crate::memory::Memory;
 use std::alloc::Global;
@@ -75,7 +76,14 @@ impl Standing {
         ensures first { result ≡ slice_get self.now.transit 0 }
         ensures least { (tag : LogicalTime) → least_with tag self.now.transit ≡ lesser_with tag result }
     {
-        self.transit.first().copied()
+        first_of(&self.transit)
+    }
+
+    /// Whether it waits for a grant: it has announced, and its next tag isn't granted yet and not later than stop.
+    pub fn is_waiting(&self, stop: FiniteTag) -> bool
+        ensures { result ≡ (self.now.announced && is_past self.now.granted self.now.next && is_at_most self.now.next stop) }
+    {
+        self.announced && is_past(self.granted, self.next) && self.next <= stop.tag()
     }
 
     pub fn set_completed(&mut self, completed: Option<FiniteTag>)
@@ -106,6 +114,7 @@ impl Standing {
     pub fn add_transit(&mut self, tag: FiniteTag) -> Result<(), Memory>
         ensures ok { OnOk result (self.new ≡ record self.old { transit = with_tag tag self.old.transit }) }
         ensures err { OnErr result (self.new ≡ self.old) }
+        ensures others { self.new ≡ record self.old { transit = self.new.transit } }
     {
         self.transit.insert(tag)?;
         Ok(())
@@ -119,6 +128,26 @@ impl Standing {
     }
 }
 
+/// The first tag.
+fn first_of(tags: &BTreeSet<FiniteTag, Global>) -> Option<FiniteTag>
+    ensures first { result ≡ slice_get tags.now.keys 0 }
+    ensures rises { Rises tags.now.keys }
+{
+    // For the prover: the tags are in order.
+    let _count = tags.len();
+    tags.first().copied()
+}
+
+/// Whether a tag is later than the one granted; none is before all.
+fn is_past(granted: Option<FiniteTag>, tag: Tag) -> bool
+    ensures { result ≡ is_past granted tag }
+{
+    match granted {
+        Some(granted) => granted.tag() < tag,
+        None => true,
+    }
+}
+
 /// Lets go of the tags up to this one.
 fn drop_up_to(tags: &mut BTreeSet<FiniteTag, Global>, last: FiniteTag)
     ensures { tags.new.keys ≡ filter (λ t. is_before last t) tags.old.keys }
@@ -129,6 +158,7 @@ fn drop_up_to(tags: &mut BTreeSet<FiniteTag, Global>, last: FiniteTag)
             None => {}
         }
     }
+    // For the prover: the tags are in order.
     let _count = tags.len();
 }
 

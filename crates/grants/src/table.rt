@@ -128,6 +128,7 @@ impl Table {
         ensures paths { IsTrue result ↔ Eligible (network_by self.now.wires) (standing_at self.now.standings) federate }
         ensures table { result ≡ is_eligible_in self.now federate }
     {
+        // For the prover: the least delays are least over all paths.
         self.wiring.known();
         self.lookout.eligible[federate]
     }
@@ -139,6 +140,8 @@ impl Table {
         ensures widest { IsWidest (network_by self.now.wires) (standing_at self.now.standings) federate result }
         ensures rule { grant_widest (network_by self.now.wires) (least_by self.now.wires) (standing_at self.now.standings) federate ≡ Some result }
     {
+        // For the prover: the least delays are least over all paths.
+        self.wiring.known();
         let bound = self.wiring.bound(self.standings.as_slice(), federate);
         last_before(bound, self.wiring.stop())
     }

@@ -5,7 +5,7 @@ ghost use Rattle.protocol.specs.Standings.{standing_at};
 ghost use Rattle.grants.specs.Wires.{AreWires, least_by, network_by, wires_of};
 ghost use Rattle.grants.specs.Routes.{looked_at, routed_below};
 
-use crate::bounds::{first_incoming, first_upstream, greater, is_past};
+use crate::bounds::{first_incoming, first_upstream, greater, is_before};
 use crate::memory::Memory;
 use crate::routes::Routes;
 use crate::standing::Standing;
@@ -100,11 +100,7 @@ impl Wiring {
         ensures { result ≡ is_eligible (network_by self.now) (least_by self.now) (standing_at standings.now) federate }
     {
         let standing = &standings[federate];
-        let next = standing.next();
-        standing.announced()
-            && is_past(standing.granted(), next)
-            && next <= self.stop.tag()
-            && next < self.bound(standings, federate)
+        standing.is_waiting(self.stop) && is_before(standing.next(), self.bound(standings, federate))
     }
 }
 

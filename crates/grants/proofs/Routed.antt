@@ -1,0 +1,84 @@
+-- The routes of each federate, and which federates they name.
+use Rattle.std.proofs.Common.{◌≡◌, ℕ, zero, suc, ◌+◌, ◌<◌, ◌≤◌, Bool, true, false, List, [], ◌∷◌, ◌++◌, length, get_or, refl, sym, ap, subst, ◌∙◌, arith, length-append, inl, inr, Option, None, Some}
+use Rattle.std.specs.Prelude.{nat_eq, if◌then◌else◌, All}
+use Rattle.std.proofs.lemmas.Bool.{cases_lt}
+use Rattle.std.proofs.lemmas.List.Elements.{All-nil, All-cons, All-append, All-weaker, All-filter}
+use Rattle.tag.specs.LogicalTime.{LogicalTime}
+use Rattle.network.specs.Connection.{Connection}
+use Rattle.network.specs.Wiring.{IsBetween}
+use Rattle.network.specs.Tables.{Table}
+use Rattle.plan.specs.declared.draft.Draft.{Draft}
+use Rattle.plan.specs.Federation.{federate_count, connections_of, stop_of}
+use Rattle.plan.specs.Legal.{IsLegal}
+use Rattle.protocol.specs.Standing.{Standing, opening_standing}
+use Rattle.protocol.specs.Standings.{standings_listed}
+use Rattle.grants.specs.declared.routes.Upstream.{Upstream}
+use Rattle.grants.specs.Wires.{Wires, AreWires, wires_of}
+use Rattle.grants.specs.Routes.{Routed, routed, routed_below, upstream_at, upstream_of, incoming_of}
+use Rattle.grants.proofs.Plans.{wires_are}
+
+pub length_routed : (w : Wires) (count : ℕ) → length (routed_below w count) ≡ count
+length_routed w zero = refl
+length_routed w (suc count) =
+    length-append (routed_below w count) (routed w count ∷ []) ∙ ap (λ n. n + 1) (length_routed w count) ∙ omega arith
+
+at_end : (rs : List Routed) (r d : Routed) (j : ℕ) → j ≡ length rs → get_or (rs ++ r ∷ []) j d ≡ r
+at_end [] r d zero e = refl
+at_end [] r d (suc j) e = absurd (omega arith)
+at_end (x ∷ rs) r d zero e = absurd (omega arith)
+at_end (x ∷ rs) r d (suc j) e = at_end rs r d j (omega arith)
+
+within : (rs : List Routed) (r d : Routed) (j : ℕ) → j < length rs → get_or (rs ++ r ∷ []) j d ≡ get_or rs j d
+within [] r d j l = absurd (omega arith)
+within (x ∷ rs) r d zero l = refl
+within (x ∷ rs) r d (suc j) l = within rs r d j (omega arith)
+
+pub routed_at : (w : Wires) (count j : ℕ) (d : Routed) → j < count → get_or (routed_below w count) j d ≡ routed w j
+routed_at w zero j d l = absurd (omega arith)
+routed_at w (suc count) j d l =
+    let long = length_routed w count in
+    elim (cases_lt j count) [
+      | inl m ↦ within (routed_below w count) (routed w count) d j (omega arith) ∙ routed_at w count j d m
+      | inr m ↦
+          let last : j ≡ count = omega arith in
+          at_end (routed_below w count) (routed w count) d j (omega arith) ∙ ap (routed w) (sym last)
+    ]
+
+one_upstream : (count : ℕ) (o : Option LogicalTime) → All (λ (u : Upstream). u.federate < suc count) (upstream_at count o)
+one_upstream count None = All-nil (λ (u : Upstream). u.federate < suc count)
+one_upstream count (Some d) =
+    All-cons (λ (u : Upstream). u.federate < suc count) (record { federate = count; delay = d }) [] (omega arith) (All-nil (λ (u : Upstream). u.federate < suc count))
+
+pub upstream_below : (table : Table) (j count : ℕ) → All (λ (u : Upstream). u.federate < count) (upstream_of table j count)
+upstream_below table j zero = All-nil (λ (u : Upstream). u.federate < 0)
+upstream_below table j (suc count) =
+    All-append (λ (u : Upstream). u.federate < suc count) (upstream_of table j count) (upstream_at count (table count j))
+    (All-weaker (λ (u : Upstream). u.federate < count) (λ (u : Upstream). u.federate < suc count) (λ u l. omega arith) (upstream_of table j count) (upstream_below table j count))
+    (one_upstream count (table count j))
+
+pub incoming_below : (w : Wires) (j : ℕ) → AreWires w → All (λ (c : Connection). c.source < w.federates) (incoming_of w.connections j)
+incoming_below w j are =
+    All-filter (λ c. nat_eq c.target j) (λ (c : Connection). c.source < w.federates) w.connections
+    (All-weaker (IsBetween w.federates) (λ (c : Connection). c.source < w.federates) (λ c b. b.source) w.connections are.wired.connections)
+
+-- what stands for a federate is its routes
+pub routes_are : (w : Wires) (routes : List Routed) (count j : ℕ) (r : Routed) → routes ≡ routed_below w count → j < count → r ≡ get_or routes j r → r ≡ routed w j
+routes_are w routes count j r all l here = here ∙ ap (λ rs. get_or rs j r) all ∙ routed_at w count j r l
+
+-- the wiring that is made of a plan is the plan's
+pub wires_made : (d : Draft) (routes : List Routed) (connections : List Connection) (stop : LogicalTime) → routes ≡ routed_below (wires_of d) (federate_count d) →
+    connections ≡ connections_of d → stop ≡ stop_of d → record { federates = length routes; connections = connections; stop = stop } ≡ wires_of d
+wires_made d routes connections stop rs cs e =
+    let many : length routes ≡ federate_count d = ap length rs ∙ length_routed (wires_of d) (federate_count d) in
+    let made : ℕ → List Connection → LogicalTime → Wires = λ n c s. record { federates = n; connections = c; stop = s } in
+    ap (λ n. made n connections stop) many ∙ ap (λ c. made (federate_count d) c stop) cs ∙ ap (made (federate_count d) (connections_of d)) e
+
+pub wires_made_are : (d : Draft) (routes : List Routed) (w : Wires) → IsLegal d → routes ≡ routed_below (wires_of d) (federate_count d) → w ≡ wires_of d →
+    AreWires w × (routes ≡ routed_below w w.federates)
+wires_made_are d routes w legal rs e =
+    (subst AreWires (sym e) (wires_are d legal), rs ∙ ap (λ x. routed_below x x.federates) (sym e))
+
+-- so many opening standings, then one more
+pub one_more_opening : (count : ℕ) → standings_listed count (λ j. opening_standing) ++ opening_standing ∷ [] ≡ standings_listed (suc count) (λ j. opening_standing)
+one_more_opening zero = refl
+one_more_opening (suc count) = ap (λ (ss : List Standing). opening_standing ∷ ss) (one_more_opening count)

@@ -1,0 +1,145 @@
+-- A table after each call, by what it keeps.
+use Rattle.std.proofs.Common.{◌≡◌, ℕ, ◌+◌, ◌<◌, ◌≤◌, Bool, true, false, IsTrue, List, length, get_or, replicate, refl, sym, ap, subst, ◌∙◌, arith}
+use Rattle.std.specs.Prelude.{◌&&◌, All, min, slice_index_or, slice_set}
+use Rattle.std.proofs.lemmas.List.{get_or_read, get_or-replicate, length-replicate}
+use Rattle.tag.specs.LogicalTime.{LogicalTime, is_at_most, is_before, lesser, origin, predecessor_of}
+use Rattle.plan.specs.declared.draft.Draft.{Draft}
+use Rattle.plan.specs.Federation.{federate_count}
+use Rattle.protocol.specs.Federate.{is_past}
+use Rattle.protocol.specs.Standing.{Standing, opening_standing}
+use Rattle.protocol.specs.Standings.{standing_at, standings_listed}
+use Rattle.protocol.specs.Grant.{Eligible, bound_of}
+use Rattle.protocol.specs.Bound.{IsWidest}
+use Rattle.laws.proofs.Eligibility.{eligible_by_table}
+use Rattle.laws.proofs.FirstArrivals.{table_bound}
+use Rattle.laws.proofs.ListedStandings.{read_listed, listed_length}
+use Rattle.grants.specs.Wires.{Wires, AreWires, wires_of, least_by, network_by}
+use Rattle.grants.specs.Records.{Records, is_eligible_by, is_eligible_in}
+use Rattle.grants.specs.Looks.{counted, changed_between, reached_from}
+use Rattle.grants.specs.Routes.{looked_at, may_change}
+use Rattle.grants.specs.Kept.{IsKept, flags_after}
+use Rattle.grants.proofs.Numbered.{listed_are_below}
+use Rattle.grants.proofs.Eligible.{by_bound, silent_is_not_eligible, bound_after_origin}
+use Rattle.grants.proofs.Changes.{kept_by_looks, kept_by_one_look, kept_with_transit, changed_by_looks, changed_by_one_look, looked_at_few}
+
+-- these are what the table is seen as
+abbrev pub records : Wires → List Standing → ℕ → Records
+records w standings looks = record { wires = w; standings = standings; looks = looks }
+
+pub standing_is : (standings : List Standing) (i : ℕ) (s : Standing) → i < length standings → s ≡ get_or standings i s → s ≡ standing_at standings i
+standing_is standings i s l e = get_or_read standings i s l e opening_standing
+
+-- ---- before any signal came
+
+pub kept_at_first : (w : Wires) (standings : List Standing) (flags : List Bool) → standings ≡ standings_listed w.federates (λ j. opening_standing) →
+    flags ≡ replicate w.federates false → IsKept w standings flags
+kept_at_first w standings flags s f = record {
+  standing_count = ap length s ∙ listed_length w.federates (λ j. opening_standing);
+  flag_count = ap length f ∙ length-replicate w.federates false;
+  each = λ j l. (
+      let silent : (standing_at standings j).announced ≡ false =
+      ap (λ ss. (standing_at ss j).announced) s ∙ ap (λ (x : Standing). x.announced) (read_listed w.federates (λ i. opening_standing) j l) in
+      ap (λ fs. slice_index_or fs j false) f ∙ get_or-replicate w.federates j false false l
+      ∙ sym (silent_is_not_eligible (network_by w) (least_by w) (standing_at standings) j silent));
+}
+
+-- ---- what is asked
+
+pub eligible_by_flag : (w : Wires) (standings : List Standing) (looks j : ℕ) (flag : Bool) (r : Records) → records w standings looks ≡ r → AreWires w →
+    flag ≡ is_eligible_by w standings j → (IsTrue flag → Eligible (network_by r.wires) (standing_at r.standings) j) × (Eligible (network_by r.wires) (standing_at r.standings) j → IsTrue flag)
+eligible_by_flag w standings looks j flag r is are e =
+    let table = eligible_by_table (network_by w) (least_by w) (standing_at standings) j are.wired are.least in
+    subst (λ x. (IsTrue flag → Eligible (network_by x.wires) (standing_at x.standings) j) × (Eligible (network_by x.wires) (standing_at x.standings) j → IsTrue flag)) is
+    ((λ h. table.1 (sym e ∙ h)), (λ h. e ∙ table.0 h))
+
+pub bound_is_late : (w : Wires) (standings : List Standing) (looks j : ℕ) (r : Records) → records w standings looks ≡ r → AreWires w → is_eligible_in r j ≡ true →
+    is_before origin (bound_of (network_by w) (least_by w) (standing_at standings) j) ≡ true
+bound_is_late w standings looks j r is are e =
+    bound_after_origin (network_by w) (least_by w) (standing_at standings) j are.wired are.least (ap (λ x. is_eligible_in x j) is ∙ e)
+
+pub widest : (w : Wires) (standings : List Standing) (looks j : ℕ) (r : Records) (bound tag : LogicalTime) → records w standings looks ≡ r → AreWires w →
+    bound ≡ bound_of (network_by w) (least_by w) (standing_at standings) j → tag ≡ lesser (predecessor_of bound) w.stop →
+    IsWidest (network_by r.wires) (standing_at r.standings) j tag
+widest w standings looks j r bound tag is are b t =
+    subst (λ x. IsWidest (network_by x.wires) (standing_at x.standings) j tag) is
+    (record {
+      bound = bound_of (network_by w) (least_by w) (standing_at standings) j;
+      is_bound = table_bound (network_by w) (least_by w) (standing_at standings) j are.wired are.least;
+      last = t ∙ ap (λ x. lesser (predecessor_of x) w.stop) b;
+    })
+
+-- whether the federate waits, then whether its next tag is before the bound
+within_is : (w : Wires) (standings : List Standing) (j : ℕ) (s : Standing) (stop : LogicalTime) → AreWires w → s ≡ standing_at standings j → stop ≡ w.stop →
+    is_eligible_by w standings j ≡
+    (s.announced && is_past s.granted s.next && is_at_most s.next stop && is_before s.next (bound_of (network_by w) (least_by w) (standing_at standings) j))
+within_is w standings j s stop are e t =
+    let bound = bound_of (network_by w) (least_by w) (standing_at standings) j in
+    by_bound (network_by w) (least_by w) (standing_at standings) j are.wired are.least
+    ∙ ap (λ (x : Standing). x.announced && is_past x.granted x.next && is_at_most x.next w.stop && is_before x.next bound) (sym e)
+    ∙ ap (λ x. s.announced && is_past s.granted s.next && is_at_most s.next x && is_before s.next bound) (sym t)
+
+pub waits : (w : Wires) (standings : List Standing) (j : ℕ) (s : Standing) (stop bound : LogicalTime) (waiting before : Bool) → AreWires w → s ≡ standing_at standings j →
+    stop ≡ w.stop → waiting ≡ (s.announced && is_past s.granted s.next && is_at_most s.next stop) → waiting ≡ true →
+    bound ≡ bound_of (network_by w) (least_by w) (standing_at standings) j → before ≡ is_before s.next bound → before ≡ is_eligible_by w standings j
+waits w standings j s stop bound waiting before are e t wait waits_on b f =
+    f ∙ ap (is_before s.next) b
+    ∙ ap (λ x. x && is_before s.next (bound_of (network_by w) (least_by w) (standing_at standings) j)) (sym waits_on ∙ wait)
+    ∙ sym (within_is w standings j s stop are e t)
+
+pub waits_not : (w : Wires) (standings : List Standing) (j : ℕ) (s : Standing) (stop : LogicalTime) (waiting : Bool) → AreWires w → s ≡ standing_at standings j →
+    stop ≡ w.stop → waiting ≡ (s.announced && is_past s.granted s.next && is_at_most s.next stop) → waiting ≡ false → waiting ≡ is_eligible_by w standings j
+waits_not w standings j s stop waiting are e t wait never =
+    never
+    ∙ ap (λ x. x && is_before s.next (bound_of (network_by w) (least_by w) (standing_at standings) j)) (sym never ∙ wait)
+    ∙ sym (within_is w standings j s stop are e t)
+
+-- ---- changes after which each federate is looked at that may have changed
+
+pub all_there : (w : Wires) (i : ℕ) (federates : List ℕ) → federates ≡ looked_at w i → All (λ j. j < w.federates) federates
+all_there w i federates e = subst (λ fs. All (λ j. j < w.federates) fs) (sym e) (listed_are_below w.federates (may_change w i))
+
+pub kept_after_looks : (w : Wires) (standings after : List Standing) (flags flags_now : List Bool) (i : ℕ) (federates : List ℕ) (mine : Standing) → AreWires w →
+    IsKept w standings flags → after ≡ slice_set standings i mine → federates ≡ looked_at w i → flags_now ≡ flags_after (is_eligible_by w after) federates flags →
+    IsKept w (slice_set standings i mine) flags_now
+kept_after_looks w standings after flags flags_now i federates mine are kept s f e =
+    subst (IsKept w (slice_set standings i mine))
+    (sym (e ∙ ap (λ ss. flags_after (is_eligible_by w ss) federates flags) s ∙ ap (λ fs. flags_after (is_eligible_by w (slice_set standings i mine)) fs flags) f))
+    (kept_by_looks w standings flags i mine are kept)
+
+pub few_looks : (w : Wires) (standings : List Standing) (looks now i : ℕ) (federates : List ℕ) (r : Records) → records w standings looks ≡ r → federates ≡ looked_at w i →
+    now ≡ counted looks (length federates) → now ≤ r.looks + 1 + reached_from r.wires i
+few_looks w standings looks now i federates r is f e =
+    let few = looked_at_few w i in
+    let many = ap length f in
+    subst (λ (x : Records). now ≤ x.looks + 1 + reached_from x.wires i) is (omega arith)
+
+pub counts_looks : (w : Wires) (standings : List Standing) (looks now i : ℕ) (federates : List ℕ) (mine : Standing) (r : Records) → records w standings looks ≡ r →
+    AreWires w → federates ≡ looked_at w i → now ≡ counted looks (length federates) →
+    counted r.looks (changed_between r (records w (slice_set standings i mine) now)) ≤ now
+counts_looks w standings looks now i federates mine r is are f e =
+    let few = changed_by_looks w standings i mine are in
+    let many = ap length f in
+    subst (λ (x : Records). counted x.looks (changed_between x (records w (slice_set standings i mine) now)) ≤ now) is (omega arith)
+
+-- ---- changes after which the federate alone is looked at
+
+pub kept_after_one_look : (w : Wires) (standings after : List Standing) (flags flags_now : List Bool) (i : ℕ) (mine : Standing) → AreWires w → IsKept w standings flags →
+    i < w.federates → after ≡ slice_set standings i mine → mine.next ≡ (standing_at standings i).next → mine.completed ≡ (standing_at standings i).completed →
+    flags_now ≡ slice_set flags i (is_eligible_by w after i) → IsKept w (slice_set standings i mine) flags_now
+kept_after_one_look w standings after flags flags_now i mine are kept l s next completed e =
+    subst (IsKept w (slice_set standings i mine)) (sym (e ∙ ap (λ ss. slice_set flags i (is_eligible_by w ss i)) s))
+    (kept_by_one_look w standings flags i mine are kept l next completed)
+
+pub counts_one_look : (w : Wires) (standings : List Standing) (looks now i : ℕ) (mine : Standing) (r : Records) → records w standings looks ≡ r → AreWires w →
+    i < length standings → mine.next ≡ (standing_at standings i).next → mine.completed ≡ (standing_at standings i).completed → now ≡ counted looks 1 →
+    counted r.looks (changed_between r (records w (slice_set standings i mine) now)) ≤ now
+counts_one_look w standings looks now i mine r is are l next completed e =
+    let few = changed_by_one_look w standings i mine are l next completed in
+    subst (λ (x : Records). counted x.looks (changed_between x (records w (slice_set standings i mine) now)) ≤ now) is (omega arith)
+
+-- ---- changes that nobody's eligibility rests on
+
+pub kept_after_transit : (w : Wires) (standings : List Standing) (flags : List Bool) (i : ℕ) (mine : Standing) → AreWires w → IsKept w standings flags → i < w.federates →
+    mine ≡ record (standing_at standings i) { transit = mine.transit } → IsKept w (slice_set standings i mine) flags
+kept_after_transit w standings flags i mine are kept l e =
+    subst (λ s. IsKept w (slice_set standings i s) flags) (sym e) (kept_with_transit w standings flags i mine.transit are kept l)
