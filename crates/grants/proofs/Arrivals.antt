@@ -1,10 +1,10 @@
 -- Arrivals along lists of routes are the bounds.
 use Rattle.std.proofs.Common.{◌≡◌, ℕ, zero, suc, Bool, true, false, cond, List, [], ◌∷◌, ◌++◌, refl, sym, ap, ◌∙◌, append-nil, arith, Option, None, Some}
-use Rattle.std.specs.Prelude.{nat_eq, if◌then◌else◌, filter}
+use Rattle.std.specs.Prelude.{nat_eq, if◌then◌else◌}
 use Rattle.std.specs.List.{fold}
 use Rattle.std.proofs.lemmas.Bool.Decides.{nat_tests}
 use Rattle.std.proofs.lemmas.List.Sums.{fold-append}
-use Rattle.tag.specs.LogicalTime.{LogicalTime, forever, is_before, greater, lesser, sum_of}
+use Rattle.tag.specs.LogicalTime.{LogicalTime, forever, greater, lesser, sum_of}
 use Rattle.tag.proofs.Order.{lesser_associates}
 use Rattle.network.specs.Connection.{Connection}
 use Rattle.network.specs.Tables.{Table}

@@ -1,6 +1,6 @@
 -- What a change of one standing leaves: who is eligible, and how many that are not so any more.
-use Rattle.std.proofs.Common.{◌≡◌, ℕ, ◌+◌, ◌<◌, ◌≤◌, Bool, true, false, List, [], ◌∷◌, length, refl, sym, ap, subst, ◌∙◌, arith, length-set, inl, inr, Option, None, Some}
-use Rattle.std.specs.Prelude.{nat_eq, is_some, if◌then◌else◌, not, ◌||◌, min, slice_get, slice_index_or, slice_set, MatchOption}
+use Rattle.std.proofs.Common.{◌≡◌, ℕ, ◌+◌, ◌<◌, ◌≤◌, Bool, true, false, List, [], ◌∷◌, length, refl, sym, ap, ◌∙◌, arith, length-set, inl, inr, Option, None, Some}
+use Rattle.std.specs.Prelude.{nat_eq, is_some, if◌then◌else◌, ◌||◌, slice_get, slice_index_or, slice_set, MatchOption}
 use Rattle.std.proofs.Math.Path.{fun_ext}
 use Rattle.std.proofs.lemmas.Bool.{cases_eq, eq-eqb}
 use Rattle.std.proofs.lemmas.Bool.Decides.{nat_tests}
@@ -9,15 +9,16 @@ use Rattle.tag.specs.LogicalTime.{LogicalTime}
 use Rattle.network.specs.Connection.{Connection, IsPath, IsLeastDelay, IsUnreachable}
 use Rattle.network.specs.Network.{with_one}
 use Rattle.laws.proofs.Eligibility.{contains_at}
+use Rattle.laws.proofs.ListedStandings.{list_read}
 use Rattle.protocol.specs.Standing.{Standing, opening_standing}
 use Rattle.protocol.specs.Standings.{standing_at, standings_listed}
 use Rattle.grants.specs.Wires.{Wires, AreWires, least_by, network_by}
-use Rattle.grants.specs.Records.{Records, AreRecords, is_eligible_by, is_eligible_in, with_standing}
-use Rattle.grants.specs.Looks.{most_looks, counted, count_below, has_path, reached_from, differ, changed_between}
-use Rattle.grants.specs.Routes.{listed_below, may_change, looked_at}
+use Rattle.grants.specs.Records.{is_eligible_by}
+use Rattle.grants.specs.Looks.{count_below, has_path, reached_from, differ}
+use Rattle.grants.specs.Routes.{may_change, looked_at}
 use Rattle.grants.specs.Kept.{IsKept, flags_after}
 use Rattle.grants.proofs.Numbered.{length_listed, count_weaker, count_one, count_either}
-use Rattle.grants.proofs.Eligible.{AreAlikeFor, eligible_same}
+use Rattle.grants.proofs.Eligible.{eligible_same}
 use Rattle.grants.proofs.Flags.{flags_stay_as_many, set_flag_is, other_flag_stays}
 
 -- ---- one standing is replaced
@@ -52,6 +53,13 @@ replaced_at standings i mine l j =
 
 pub is_replaced : (standings : List Standing) (i : ℕ) (mine : Standing) → i < length standings → standing_at (slice_set standings i mine) ≡ with_one (standing_at standings) i mine
 is_replaced standings i mine l = fun_ext (replaced_at standings i mine l)
+
+pub replaced_is_listed : (standings : List Standing) (i : ℕ) (mine : Standing) → i < length standings →
+    standings_listed (length standings) (with_one (standing_at standings) i mine) ≡ slice_set standings i mine
+replaced_is_listed standings i mine l =
+    ap (standings_listed (length standings)) (sym (is_replaced standings i mine l))
+    ∙ ap (λ n. standings_listed n (standing_at (slice_set standings i mine))) (sym (length-set standings i mine))
+    ∙ list_read (slice_set standings i mine)
 
 -- ---- who is not i and hears nothing from i
 

@@ -41,17 +41,17 @@ by_bound n table standings j wired least =
     let bound_says = eligible_within n standings j bound wired (table_bound n table standings j wired least) in
     same_tests (is_eligible n table standings j) (is_within n table standings j)
     (λ h. (
-      let w : IsWithin n standings j bound = bound_says.0 (table_says.1 h) in
-      both_hold (a && b && c) d (both_hold (a && b) c (both_hold a b w.announced w.not_granted) w.in_time) w.before))
+    let w : IsWithin n standings j bound = bound_says.0 (table_says.1 h) in
+    both_hold (a && b && c) d (both_hold (a && b) c (both_hold a b w.announced w.not_granted) w.in_time) w.before))
     (λ h. (
-      let abc = both_left (a && b && c) d h in
-      let ab = both_left (a && b) c abc in
-      table_says.0 (bound_says.1 (record {
-        announced = both_left a b ab;
-        not_granted = both_right a b ab;
-        in_time = both_right (a && b) c abc;
-        before = both_right (a && b && c) d h;
-      }))))
+    let abc = both_left (a && b && c) d h in
+    let ab = both_left (a && b) c abc in
+    table_says.0 (bound_says.1 (record {
+      announced = both_left a b ab;
+      not_granted = both_right a b ab;
+      in_time = both_right (a && b) c abc;
+      before = both_right (a && b && c) d h;
+    }))))
 
 -- nobody is before the first announcement
 not_announced : (a b c d : Bool) → a ≡ false → (a && b && c && d) ≡ false

@@ -1,5 +1,5 @@
 -- The wiring of a plan is sound.
-use Rattle.std.proofs.Common.{◌≡◌, ◌<◌, ◌^◌, arith}
+use Rattle.std.proofs.Common.{◌<◌, arith}
 use Rattle.std.proofs.lemmas.List.Elements.{All-weaker}
 use Rattle.network.specs.Connection.{Connection}
 use Rattle.network.specs.Wiring.{IsBetween}

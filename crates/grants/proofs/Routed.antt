@@ -1,6 +1,6 @@
 -- The routes of each federate, and which federates they name.
-use Rattle.std.proofs.Common.{◌≡◌, ℕ, zero, suc, ◌+◌, ◌<◌, ◌≤◌, Bool, true, false, List, [], ◌∷◌, ◌++◌, length, get_or, refl, sym, ap, subst, ◌∙◌, arith, length-append, inl, inr, Option, None, Some}
-use Rattle.std.specs.Prelude.{nat_eq, if◌then◌else◌, All}
+use Rattle.std.proofs.Common.{◌≡◌, ℕ, zero, suc, ◌+◌, ◌<◌, List, [], ◌∷◌, ◌++◌, length, get_or, refl, sym, ap, subst, ◌∙◌, arith, length-append, inl, inr, Option, None, Some}
+use Rattle.std.specs.Prelude.{nat_eq, All}
 use Rattle.std.proofs.lemmas.Bool.{cases_lt}
 use Rattle.std.proofs.lemmas.List.Elements.{All-nil, All-cons, All-append, All-weaker, All-filter}
 use Rattle.tag.specs.LogicalTime.{LogicalTime}
@@ -79,6 +79,13 @@ wires_made_are d routes w legal rs e =
     (subst AreWires (sym e) (wires_are d legal), rs ∙ ap (λ x. routed_below x x.federates) (sym e))
 
 -- so many opening standings, then one more
-pub one_more_opening : (count : ℕ) → standings_listed count (λ j. opening_standing) ++ opening_standing ∷ [] ≡ standings_listed (suc count) (λ j. opening_standing)
+one_more_opening : (count : ℕ) → standings_listed count (λ j. opening_standing) ++ opening_standing ∷ [] ≡ standings_listed (suc count) (λ j. opening_standing)
 one_more_opening zero = refl
 one_more_opening (suc count) = ap (λ (ss : List Standing). opening_standing ∷ ss) (one_more_opening count)
+
+pub opening_more : (count : ℕ) (before after : List Standing) (s : Standing) → before ≡ standings_listed count (λ j. opening_standing) → s ≡ opening_standing →
+    after ≡ before ++ s ∷ [] → after ≡ standings_listed (count + 1) (λ j. opening_standing)
+opening_more count before after s all one e =
+    let next : suc count ≡ count + 1 = omega arith in
+    e ∙ ap (λ ss. ss ++ s ∷ []) all ∙ ap (λ x. standings_listed count (λ j. opening_standing) ++ x ∷ []) one ∙ one_more_opening count
+    ∙ ap (λ n. standings_listed n (λ j. opening_standing)) next

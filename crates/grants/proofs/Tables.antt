@@ -1,10 +1,8 @@
 -- A table after each call, by what it keeps.
-use Rattle.std.proofs.Common.{◌≡◌, ℕ, ◌+◌, ◌<◌, ◌≤◌, Bool, true, false, IsTrue, List, length, get_or, replicate, refl, sym, ap, subst, ◌∙◌, arith}
-use Rattle.std.specs.Prelude.{◌&&◌, All, min, slice_index_or, slice_set}
+use Rattle.std.proofs.Common.{◌≡◌, ℕ, ◌+◌, ◌<◌, ◌≤◌, Bool, true, false, IsTrue, List, length, get_or, replicate, sym, ap, subst, ◌∙◌, arith}
+use Rattle.std.specs.Prelude.{◌&&◌, All, slice_index_or, slice_set}
 use Rattle.std.proofs.lemmas.List.{get_or_read, get_or-replicate, length-replicate}
 use Rattle.tag.specs.LogicalTime.{LogicalTime, is_at_most, is_before, lesser, origin, predecessor_of}
-use Rattle.plan.specs.declared.draft.Draft.{Draft}
-use Rattle.plan.specs.Federation.{federate_count}
 use Rattle.protocol.specs.Federate.{is_past}
 use Rattle.protocol.specs.Standing.{Standing, opening_standing}
 use Rattle.protocol.specs.Standings.{standing_at, standings_listed}
@@ -13,7 +11,7 @@ use Rattle.protocol.specs.Bound.{IsWidest}
 use Rattle.laws.proofs.Eligibility.{eligible_by_table}
 use Rattle.laws.proofs.FirstArrivals.{table_bound}
 use Rattle.laws.proofs.ListedStandings.{read_listed, listed_length}
-use Rattle.grants.specs.Wires.{Wires, AreWires, wires_of, least_by, network_by}
+use Rattle.grants.specs.Wires.{Wires, AreWires, least_by, network_by}
 use Rattle.grants.specs.Records.{Records, is_eligible_by, is_eligible_in}
 use Rattle.grants.specs.Looks.{counted, changed_between, reached_from}
 use Rattle.grants.specs.Routes.{looked_at, may_change}

@@ -1,12 +1,12 @@
 -- Tags in transit, and the ordered set that holds them.
-use Rattle.std.proofs.Common.{◌≡◌, ℕ, ◌<◌, Bool, true, false, List, [], ◌∷◌, length, refl, sym, ap, ◌∙◌, arith, Option, None, Some, Ordering, Less, Equal, Greater}
+use Rattle.std.proofs.Common.{◌≡◌, true, false, List, [], ◌∷◌, refl, ap, ◌∙◌, arith, Ordering, Less, Equal, Greater}
 use Rattle.std.specs.Prelude.{filter, slice_get, if◌then◌else◌}
 use Rattle.std.specs.List.{AllByRecursion}
 use Rattle.std.specs.List.Sorted.{IsStrictlySortedBy}
 use Rattle.std.specs.Ordering.{match_ordering}
 use Rattle.std.specs.BTreeSet.{insert_key}
 use Rattle.std.proofs.lemmas.Bool.Decides.{nat_tests}
-use Rattle.tag.specs.LogicalTime.{LogicalTime, is_before, is_at_most, is_same, lesser}
+use Rattle.tag.specs.LogicalTime.{LogicalTime, is_before, is_at_most, lesser}
 use Rattle.tag.specs.contracts.finite_tag.FiniteTagOrd.TheImpl as finite_tag_ord
 use Rattle.protocol.specs.Standing.{with_tag, least_with}
 use Rattle.grants.specs.Transit.{lesser_with, has_up_to, Rises}

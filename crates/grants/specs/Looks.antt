@@ -1,5 +1,5 @@
 -- How often federates are looked at: each test whether one is eligible counts.
-use Rattle.std.specs.Prelude.{ℕ, zero, suc, ◌+◌, ◌-◌, ◌^◌, ◌≤◌, min, Bool, not, ◌||◌, nat_eq, is_some, if◌then◌else◌}
+use Rattle.std.specs.Prelude.{ℕ, zero, suc, ◌+◌, ◌-◌, ◌^◌, min, Bool, not, is_some, if◌then◌else◌}
 use Rattle.grants.specs.Wires.{Wires, least_by}
 use Rattle.grants.specs.Records.{Records, is_eligible_in}
 

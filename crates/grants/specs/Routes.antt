@@ -1,9 +1,8 @@
 -- Whom a federate hears from, and whom it reaches.
 use Rattle.std.specs.Prelude.{ℕ, zero, suc, Bool, ◌||◌, nat_eq, if◌then◌else◌, List, [], ◌∷◌, ◌++◌, filter, Option, None, Some}
-use Rattle.tag.specs.LogicalTime.{LogicalTime, forever, lesser, sum_of}
+use Rattle.tag.specs.LogicalTime.{LogicalTime}
 use Rattle.network.specs.Connection.{Connection}
 use Rattle.network.specs.Tables.{Table}
-use Rattle.protocol.specs.Standing.{Standing}
 use Rattle.grants.specs.declared.routes.Upstream.{Upstream}
 use Rattle.grants.specs.Wires.{Wires, least_by}
 use Rattle.grants.specs.Looks.{has_path}

@@ -14,11 +14,10 @@ mod bounds;
 mod lookout;
 pub mod meaning;
 pub mod memory;
-pub mod routes;
-pub mod standing;
+mod routes;
+mod standing;
 pub mod table;
 mod wiring;
 
 pub use memory::Memory;
-pub use standing::Standing;
 pub use table::Table;

@@ -100,7 +100,8 @@ impl Wiring {
         ensures { result ≡ is_eligible (network_by self.now) (least_by self.now) (standing_at standings.now) federate }
     {
         let standing = &standings[federate];
-        standing.is_waiting(self.stop) && is_before(standing.next(), self.bound(standings, federate))
+        standing.is_waiting(self.stop)
+            && is_before(standing.next(), self.bound(standings, federate))
     }
 }
 

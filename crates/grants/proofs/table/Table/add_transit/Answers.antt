@@ -1,4 +1,4 @@
-use Rattle.std.proofs.Common.{◌≡◌, ◌<◌, ◌∙◌, ap, length, sym, arith}
+use Rattle.std.proofs.Common.{◌≡◌, ◌<◌, ◌∙◌, ap, length, arith}
 use Rattle.protocol.specs.Standing.{Standing}
 use Rattle.protocol.specs.Standings.{standing_at}
 use Rattle.grants.specs.Records.{Records}

@@ -1,4 +1,4 @@
-use Rattle.std.proofs.Common.{◌≡◌, ◌<◌, ◌∙◌, ap, false, length, sym, arith}
+use Rattle.std.proofs.Common.{◌≡◌, ◌<◌, ◌∙◌, ap, false, length, arith}
 use Rattle.std.proofs.lemmas.List.{get_or_read}
 use Rattle.grants.specs.Records.{Records, is_eligible_by}
 use Rattle.grants.proofs.Tables.{eligible_by_flag}

@@ -1,4 +1,4 @@
-use Rattle.std.proofs.Common.{◌≡◌, ◌∙◌, ap, sym}
+use Rattle.std.proofs.Common.{◌∙◌, ap}
 use Rattle.tag.specs.LogicalTime.{is_before, lesser, origin, predecessor_of}
 use Rattle.protocol.specs.Standings.{standing_at}
 use Rattle.protocol.specs.Grant.{bound_of}

@@ -1,4 +1,4 @@
-use Rattle.std.proofs.Common.{◌≡◌, ◌∙◌, ap, sym, false, replicate}
+use Rattle.std.proofs.Common.{◌∙◌, ap, sym, false, replicate}
 use Rattle.protocol.specs.Standing.{opening_standing}
 use Rattle.protocol.specs.Standings.{standings_listed}
 use Rattle.grants.specs.Wires.{Wires}

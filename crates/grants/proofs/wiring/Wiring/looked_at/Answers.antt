@@ -1,6 +1,6 @@
-use Rattle.std.proofs.Common.{◌≡◌, ◌<◌, ◌∙◌, ap, length, arith}
+use Rattle.std.proofs.Common.{◌<◌, ◌∙◌, ap, length, arith}
 use Rattle.grants.specs.Wires.{Wires}
-use Rattle.grants.specs.Routes.{Routed, routed, looked_at}
+use Rattle.grants.specs.Routes.{Routed, looked_at}
 use Rattle.grants.proofs.Routed.{routes_are}
 use Rattle.grants.proofs.wiring.Wiring.looked_at.Goals as goal
 

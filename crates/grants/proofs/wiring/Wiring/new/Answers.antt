@@ -1,6 +1,6 @@
-use Rattle.std.proofs.Common.{◌≡◌, ◌∙◌, ap, sym, length}
+use Rattle.std.proofs.Common.{◌≡◌, ◌∙◌, ap, length}
 use Rattle.plan.specs.Federation.{stop_of}
-use Rattle.grants.specs.Wires.{Wires, wires_of}
+use Rattle.grants.specs.Wires.{wires_of}
 use Rattle.grants.proofs.Routed.{wires_made, wires_made_are}
 use Rattle.grants.proofs.wiring.Wiring.new.Goals as goal
 
