@@ -21,6 +21,10 @@ opening_records d = record { wires = wires_of d; standings = standings_listed (f
 abbrev pub with_standing : Records → ℕ → Standing → Records
 with_standing r i mine = record r { standings = slice_set r.standings i mine }
 
+-- with federate i's standing changed so
+abbrev pub changed_at : Records → ℕ → (Standing → Standing) → Records
+changed_at r i change = with_standing r i (change (standing_at r.standings i))
+
 -- with another count of looks
 abbrev pub with_looks : Records → ℕ → Records
 with_looks r looks = record r { looks = looks }

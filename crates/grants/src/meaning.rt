@@ -7,7 +7,7 @@ ghost use Rattle.network.specs.Network.{with_one};
 ghost use Rattle.protocol.specs.Standing.{Standing};
 ghost use Rattle.protocol.specs.Standings.{standing_at, standings_listed};
 ghost use Rattle.grants.specs.Wires.{Wires, AreWires};
-ghost use Rattle.grants.specs.Records.{Records, AreRecords, is_eligible_in, with_standing};
+ghost use Rattle.grants.specs.Records.{Records, AreRecords, changed_at, is_eligible_in, with_standing};
 ghost use Rattle.grants.specs.Looks.{has_path};
 ghost use Rattle.grants.specs.Routes.{may_change};
 
@@ -33,5 +33,5 @@ pub fn others_stay()
         mine.next ≡ (standing_at r.standings i).next → mine.completed ≡ (standing_at r.standings i).completed → j ≢ i →
         is_eligible_in (with_standing r i mine) j ≡ is_eligible_in r j }
     ensures transit { (r : Records) (i j : ℕ) (tags : List LogicalTime) → AreRecords r → i < r.wires.federates →
-        is_eligible_in (with_standing r i (record (standing_at r.standings i) { transit = tags })) j ≡ is_eligible_in r j }
+        is_eligible_in (changed_at r i (λ s. record s { transit = tags })) j ≡ is_eligible_in r j }
 {}

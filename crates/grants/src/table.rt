@@ -6,7 +6,7 @@ ghost use Rattle.protocol.specs.Grant.{Eligible, grant_widest};
 ghost use Rattle.protocol.specs.Bound.{IsWidest};
 ghost use Rattle.grants.specs.Transit.{lesser_with};
 ghost use Rattle.grants.specs.Wires.{least_by, network_by};
-ghost use Rattle.grants.specs.Records.{AreRecords, is_eligible_in, opening_records, with_looks, with_standing};
+ghost use Rattle.grants.specs.Records.{AreRecords, changed_at, is_eligible_in, opening_records, with_looks};
 ghost use Rattle.grants.specs.Looks.{changed_between, counted, reached_from};
 ghost use Rattle.grants.specs.Routes.{looked_at};
 
@@ -158,7 +158,7 @@ impl Table {
     /// Sets a federate's next tag. It looks at that federate, and at each that a path leads to from it.
     pub fn set_next(&mut self, federate: usize, next: Tag)
         requires { federate < self.old.wires.federates }
-        ensures value { self.new ≡ with_looks (with_standing self.old federate (record (standing_at self.old.standings federate) { next = next })) self.new.looks }
+        ensures value { self.new ≡ with_looks (changed_at self.old federate (λ s. record s { next = next })) self.new.looks }
         ensures few_looks { self.new.looks ≤ self.old.looks + 1 + reached_from self.old.wires federate }
         ensures looks { counted self.old.looks (changed_between self.old self.new) ≤ self.new.looks }
     {
@@ -174,7 +174,7 @@ impl Table {
     /// Sets the tag of a federate's last LTC. It looks at that federate, and at each that a path leads to from it.
     pub fn set_completed(&mut self, federate: usize, completed: Option<FiniteTag>)
         requires { federate < self.old.wires.federates }
-        ensures value { self.new ≡ with_looks (with_standing self.old federate (record (standing_at self.old.standings federate) { completed = completed })) self.new.looks }
+        ensures value { self.new ≡ with_looks (changed_at self.old federate (λ s. record s { completed = completed })) self.new.looks }
         ensures few_looks { self.new.looks ≤ self.old.looks + 1 + reached_from self.old.wires federate }
         ensures looks { counted self.old.looks (changed_between self.old self.new) ≤ self.new.looks }
     {
@@ -190,7 +190,7 @@ impl Table {
     /// Sets whether a NET of a federate came. It looks at that federate alone.
     pub fn set_announced(&mut self, federate: usize, announced: bool)
         requires { federate < self.old.wires.federates }
-        ensures value { self.new ≡ with_looks (with_standing self.old federate (record (standing_at self.old.standings federate) { announced = announced })) self.new.looks }
+        ensures value { self.new ≡ with_looks (changed_at self.old federate (λ s. record s { announced = announced })) self.new.looks }
         ensures few_looks { self.new.looks ≤ self.old.looks + 1 }
         ensures looks { counted self.old.looks (changed_between self.old self.new) ≤ self.new.looks }
     {
@@ -205,7 +205,7 @@ impl Table {
     /// Sets the last TAG to a federate. It looks at that federate alone.
     pub fn set_granted(&mut self, federate: usize, granted: Option<FiniteTag>)
         requires { federate < self.old.wires.federates }
-        ensures value { self.new ≡ with_looks (with_standing self.old federate (record (standing_at self.old.standings federate) { granted = granted })) self.new.looks }
+        ensures value { self.new ≡ with_looks (changed_at self.old federate (λ s. record s { granted = granted })) self.new.looks }
         ensures few_looks { self.new.looks ≤ self.old.looks + 1 }
         ensures looks { counted self.old.looks (changed_between self.old self.new) ≤ self.new.looks }
     {
@@ -220,7 +220,7 @@ impl Table {
     /// A message with this tag is on its way to a federate. It looks at nobody.
     pub fn add_transit(&mut self, federate: usize, tag: FiniteTag) -> Result<(), Memory>
         requires { federate < self.old.wires.federates }
-        ensures ok { OnOk result (self.new ≡ with_standing self.old federate (record (standing_at self.old.standings federate) { transit = with_tag tag (standing_at self.old.standings federate).transit })) }
+        ensures ok { OnOk result (self.new ≡ changed_at self.old federate (λ s. record s { transit = with_tag tag s.transit })) }
         ensures err { OnErr result (self.new ≡ self.old) }
     {
         // For the prover: the least delays are least over all paths.
@@ -232,7 +232,7 @@ impl Table {
     /// No message up to this tag is on its way to a federate. It looks at nobody.
     pub fn drop_transit(&mut self, federate: usize, completed: FiniteTag)
         requires { federate < self.old.wires.federates }
-        ensures { self.new ≡ with_standing self.old federate (record (standing_at self.old.standings federate) { transit = filter (λ t. is_before completed t) (standing_at self.old.standings federate).transit }) }
+        ensures { self.new ≡ changed_at self.old federate (λ s. record s { transit = filter (λ t. is_before completed t) s.transit }) }
     {
         // For the prover: the least delays are least over all paths.
         self.wiring.known();
