@@ -13,7 +13,7 @@ use Rattle.plan.specs.Legal.{IsLegal}
 use Rattle.protocol.specs.Standing.{Standing, opening_standing}
 use Rattle.protocol.specs.Standings.{standings_listed}
 use Rattle.grants.specs.declared.routes.Upstream.{Upstream}
-use Rattle.grants.specs.Wires.{Wires, AreWires, wires_of}
+use Rattle.grants.specs.Wires.{Wires, AreWires, least_by, wires_of}
 use Rattle.grants.specs.Routes.{Routed, routed, routed_below, upstream_at, upstream_of, incoming_of}
 use Rattle.grants.proofs.Plans.{wires_are}
 
@@ -49,21 +49,40 @@ one_upstream count None = All-nil (λ (u : Upstream). u.federate < suc count)
 one_upstream count (Some d) =
     All-cons (λ (u : Upstream). u.federate < suc count) (record { federate = count; delay = d }) [] (omega arith) (All-nil (λ (u : Upstream). u.federate < suc count))
 
-pub upstream_below : (table : Table) (j count : ℕ) → All (λ (u : Upstream). u.federate < count) (upstream_of table j count)
+upstream_below : (table : Table) (j count : ℕ) → All (λ (u : Upstream). u.federate < count) (upstream_of table j count)
 upstream_below table j zero = All-nil (λ (u : Upstream). u.federate < 0)
 upstream_below table j (suc count) =
     All-append (λ (u : Upstream). u.federate < suc count) (upstream_of table j count) (upstream_at count (table count j))
     (All-weaker (λ (u : Upstream). u.federate < count) (λ (u : Upstream). u.federate < suc count) (λ u l. omega arith) (upstream_of table j count) (upstream_below table j count))
     (one_upstream count (table count j))
 
-pub incoming_below : (w : Wires) (j : ℕ) → AreWires w → All (λ (c : Connection). c.source < w.federates) (incoming_of w.connections j)
+incoming_below : (w : Wires) (j : ℕ) → AreWires w → All (λ (c : Connection). c.source < w.federates) (incoming_of w.connections j)
 incoming_below w j are =
     All-filter (λ c. nat_eq c.target j) (λ (c : Connection). c.source < w.federates) w.connections
     (All-weaker (IsBetween w.federates) (λ (c : Connection). c.source < w.federates) (λ c b. b.source) w.connections are.wired.connections)
 
 -- what stands for a federate is its routes
-pub routes_are : (w : Wires) (routes : List Routed) (count j : ℕ) (r : Routed) → routes ≡ routed_below w count → j < count → r ≡ get_or routes j r → r ≡ routed w j
-routes_are w routes count j r all l here = here ∙ ap (λ rs. get_or rs j r) all ∙ routed_at w count j r l
+pub routes_are : (routes : List Routed) (connections : List Connection) (stop : LogicalTime) (w : Wires) (j : ℕ) (r : Routed) →
+    record { federates = length routes; connections = connections; stop = stop } ≡ w →
+    routes ≡ routed_below (record { federates = length routes; connections = connections; stop = stop }) (length routes) → j < w.federates → r ≡ get_or routes j r →
+    r ≡ routed w j
+routes_are routes connections stop w j r is all l here =
+    let count = ap (λ (x : Wires). x.federates) is in
+    let seen : Wires = record { federates = length routes; connections = connections; stop = stop } in
+    here ∙ ap (λ rs. get_or rs j r) all ∙ routed_at seen (length routes) j r (omega (arith, count, l)) ∙ ap (λ x. routed x j) is
+
+-- their federates are there
+pub upstream_there : (w : Wires) (j count : ℕ) (r : Routed) (upstream : List Upstream) → r ≡ routed w j → upstream ≡ r.upstream → count ≡ w.federates →
+    All (λ (u : Upstream). u.federate < count) upstream
+upstream_there w j count r upstream is e n =
+    subst (λ us. All (λ (u : Upstream). u.federate < count) us) (sym (e ∙ ap (λ (x : Routed). x.upstream) is))
+    (subst (λ k. All (λ (u : Upstream). u.federate < k) (upstream_of (least_by w) j w.federates)) (sym n) (upstream_below (least_by w) j w.federates))
+
+pub incoming_there : (w : Wires) (j count : ℕ) (r : Routed) (incoming : List Connection) → AreWires w → r ≡ routed w j → incoming ≡ r.incoming → count ≡ w.federates →
+    All (λ (c : Connection). c.source < count) incoming
+incoming_there w j count r incoming are is e n =
+    subst (λ cs. All (λ (c : Connection). c.source < count) cs) (sym (e ∙ ap (λ (x : Routed). x.incoming) is))
+    (subst (λ k. All (λ (c : Connection). c.source < k) (incoming_of w.connections j)) (sym n) (incoming_below w j are))
 
 -- the wiring that is made of a plan is the plan's
 pub wires_made : (d : Draft) (routes : List Routed) (connections : List Connection) (stop : LogicalTime) → routes ≡ routed_below (wires_of d) (federate_count d) →

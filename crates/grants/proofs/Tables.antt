@@ -121,23 +121,43 @@ counts_looks w standings looks now i federates mine r is are f e =
 
 -- ---- changes after which the federate alone is looked at
 
-pub kept_after_one_look : (w : Wires) (standings after : List Standing) (flags flags_now : List Bool) (i : ℕ) (mine : Standing) → AreWires w → IsKept w standings flags →
+kept_after_one_look : (w : Wires) (standings after : List Standing) (flags flags_now : List Bool) (i : ℕ) (mine : Standing) → AreWires w → IsKept w standings flags →
     i < w.federates → after ≡ slice_set standings i mine → mine.next ≡ (standing_at standings i).next → mine.completed ≡ (standing_at standings i).completed →
     flags_now ≡ slice_set flags i (is_eligible_by w after i) → IsKept w (slice_set standings i mine) flags_now
 kept_after_one_look w standings after flags flags_now i mine are kept l s next completed e =
     subst (IsKept w (slice_set standings i mine)) (sym (e ∙ ap (λ ss. slice_set flags i (is_eligible_by w ss i)) s))
     (kept_by_one_look w standings flags i mine are kept l next completed)
 
-pub counts_one_look : (w : Wires) (standings : List Standing) (looks now i : ℕ) (mine : Standing) (r : Records) → records w standings looks ≡ r → AreWires w →
+counts_one_look : (w : Wires) (standings : List Standing) (looks now i : ℕ) (mine : Standing) (r : Records) → records w standings looks ≡ r → AreWires w →
     i < length standings → mine.next ≡ (standing_at standings i).next → mine.completed ≡ (standing_at standings i).completed → now ≡ counted looks 1 →
     counted r.looks (changed_between r (records w (slice_set standings i mine) now)) ≤ now
 counts_one_look w standings looks now i mine r is are l next completed e =
     let few = changed_by_one_look w standings i mine are l next completed in
     subst (λ (x : Records). counted x.looks (changed_between x (records w (slice_set standings i mine) now)) ≤ now) is (omega arith)
 
+pub after_one_look : (w : Wires) (standings after : List Standing) (flags flags_now : List Bool) (looks now i : ℕ) (old mine : Standing) (r : Records) →
+    records w standings looks ≡ r → AreWires w → IsKept w standings flags → i < r.wires.federates → old ≡ get_or standings i old → mine.next ≡ old.next →
+    mine.completed ≡ old.completed → after ≡ slice_set standings i mine → flags_now ≡ slice_set flags i (is_eligible_by w after i) → now ≡ counted looks 1 →
+    IsKept w (slice_set standings i mine) flags_now × (counted r.looks (changed_between r (records w (slice_set standings i mine) now)) ≤ now)
+after_one_look w standings after flags flags_now looks now i old mine r is are kept l here next completed s e n =
+    let count = ap (λ (x : Records). x.wires.federates) is in
+    let there : i < w.federates = omega (arith, count, l) in
+    let within : i < length standings = omega (arith, there, kept.standing_count) in
+    let own = standing_is standings i old within here in
+    let own_next = next ∙ ap (λ (x : Standing). x.next) own in
+    let own_completed = completed ∙ ap (λ (x : Standing). x.completed) own in (
+      kept_after_one_look w standings after flags flags_now i mine are kept there s own_next own_completed e,
+      counts_one_look w standings looks now i mine r is are within own_next own_completed n,
+    )
+
 -- ---- changes that nobody's eligibility rests on
 
-pub kept_after_transit : (w : Wires) (standings : List Standing) (flags : List Bool) (i : ℕ) (mine : Standing) → AreWires w → IsKept w standings flags → i < w.federates →
-    mine ≡ record (standing_at standings i) { transit = mine.transit } → IsKept w (slice_set standings i mine) flags
-kept_after_transit w standings flags i mine are kept l e =
-    subst (λ s. IsKept w (slice_set standings i s) flags) (sym e) (kept_with_transit w standings flags i mine.transit are kept l)
+pub after_transit : (w : Wires) (standings : List Standing) (flags : List Bool) (looks i : ℕ) (old mine : Standing) (tags : List LogicalTime) (r : Records) →
+    records w standings looks ≡ r → AreWires w → IsKept w standings flags → i < r.wires.federates → old ≡ get_or standings i old →
+    mine ≡ record old { transit = tags } → IsKept w (slice_set standings i mine) flags
+after_transit w standings flags looks i old mine tags r is are kept l here e =
+    let count = ap (λ (x : Records). x.wires.federates) is in
+    let there : i < w.federates = omega (arith, count, l) in
+    let own = standing_is standings i old (omega (arith, there, kept.standing_count)) here in
+    let alike : mine ≡ record (standing_at standings i) { transit = tags } = e ∙ ap (λ (x : Standing). record x { transit = tags }) own in
+    subst (λ x. IsKept w (slice_set standings i x) flags) (sym alike) (kept_with_transit w standings flags i tags are kept there)
