@@ -88,7 +88,7 @@ settled_if n table standings o j here e later full =
 within_number : (j count : ℕ) → j < count → nat_lt j count ≡ true
 within_number j count h = grind (arith, nat_tests)
 
-settled_by_grants : (n : Network) (table : Table) (rule : Rule) (standings : ℕ → Standing) → IsSafeRule n table rule → IsFullRule n table rule → ((i : ℕ) → IsLogicalTime (standings i).next) → NobodyIsEligible n table (λ i. after_grant (standings i) (grant_to n rule standings i))
+pub settled_by_grants : (n : Network) (table : Table) (rule : Rule) (standings : ℕ → Standing) → IsSafeRule n table rule → IsFullRule n table rule → ((i : ℕ) → IsLogicalTime (standings i).next) → NobodyIsEligible n table (λ i. after_grant (standings i) (grant_to n rule standings i))
 settled_by_grants n table rule standings safe full tags j l =
     settled_if n table standings (grant_to n rule standings) j (rule standings j)
     (ap (λ b. if b then rule standings j else None) (within_number j n.reactors l)) (λ tag e. (safe standings tags j tag e).later) (full standings tags j)

@@ -10,11 +10,11 @@ use std::test::Fail;
 
 /// Numbers made up from a seed.
 #[derive(Clone, Copy)]
-struct Chance(u64);
+pub(crate) struct Chance(pub(crate) u64);
 
 impl Chance {
     /// A number below this one.
-    fn below(&mut self, limit: usize) -> usize
+    pub(crate) fn below(&mut self, limit: usize) -> usize
         requires { 0 < limit }
         ensures { result < limit }
     {

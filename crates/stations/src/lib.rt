@@ -9,6 +9,8 @@
 mod answers;
 pub mod counter;
 #[cfg(test)]
+mod coordinators;
+#[cfg(test)]
 mod desks;
 #[cfg(test)]
 mod joined;

@@ -1,0 +1,10 @@
+use Rattle.std.proofs.Common.{◌≡◌, take}
+use Rattle.coordinator.specs.Sending.{all_granted}
+use Rattle.coordinator.proofs.sending.note_grants.Given as goal
+
+-- the posts so far are noted
+abbrev pub invariant-loop-post : goal.invariant-loop-post
+invariant-loop-post l = record {
+  wires : l.table.wires ≡ l.fn.table.wires;
+  standings : l.table.standings ≡ all_granted l.fn.table.standings (take l.post-index l.posts);
+}

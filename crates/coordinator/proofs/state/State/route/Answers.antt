@@ -1,0 +1,161 @@
+use Rattle.std.proofs.Common.{◌≡◌, ◌<◌, ◌++◌, ◌∷◌, [], true, ◌∙◌, sym, ap, refl, arith}
+use Rattle.std.specs.Prelude.{nat_eq}
+use Rattle.std.proofs.lemmas.Bool.Decides.{nat_tests}
+use Rattle.tag.specs.LogicalTime.{is_at_most, lesser}
+use Rattle.protocol.specs.Federate.{is_past}
+use Rattle.protocol.specs.Outcome.{Done}
+use Rattle.protocol.specs.Standing.{after_message}
+use Rattle.protocol.specs.Standings.{standing_at}
+use Rattle.protocol.specs.Coordinator.{route, coordinator_takes}
+use Rattle.signal.specs.declared.signal.Signal.TheVariants.{Msg}
+use Rattle.node.specs.Mail.{lacks_room}
+use Rattle.grants.specs.Wires.{network_by}
+use Rattle.grants.specs.Routes.{looked_at}
+use Rattle.coordinator.specs.Sending.{grants_in}
+use Rattle.std.proofs.Common.{w64, to_z, of_z}
+use Rattle.std.proofs.lemmas.Int.{to_z-of_z}
+use Rattle.node.specs.declared.fault.NodeFault.TheVariants as fault
+use Rattle.coordinator.proofs.Signals.{ok_of, err_of, routed, route_takes, target_is_there, message_taken, message_added, message_back, finished_step, failed_step, message_first, peers_are_there}
+use Rattle.coordinator.proofs.state.State.route.Goals as goal
+
+pub prepare-requires : goal.prepare-requires
+prepare-requires c =
+    let r = c.args.self.now.table in
+    let j = c.target-target.result in
+    let s = standing_at r.standings j in
+    let message = Msg c.args.number c.args.tag c.args.value in
+    let there = target_is_there r c.args.number j c.args.over c.in-Some.connection c.known.ensures c.requires.over c.in-Some.is c.target-target.ensures in
+    rw (ap (λ x. x.wires.federates) c.set_next.ensures.value) there
+
+pub set_next-requires-in-Err : goal.set_next-requires-in-Err
+set_next-requires-in-Err c =
+    let r = c.args.self.now.table in
+    let j = c.target-target.result in
+    let s = standing_at r.standings j in
+    let message = Msg c.args.number c.args.tag c.args.value in
+    let there = target_is_there r c.args.number j c.args.over c.in-Some.connection c.known.ensures c.requires.over c.in-Some.is c.target-target.ensures in
+    rw (ap (λ x. x.wires.federates) c.set_next.ensures.value) there
+
+pub add_transit-requires : goal.add_transit-requires
+add_transit-requires c =
+    let r = c.args.self.now.table in
+    let j = c.target-target.result in
+    let s = standing_at r.standings j in
+    let message = Msg c.args.number c.args.tag c.args.value in
+    let there = target_is_there r c.args.number j c.args.over c.in-Some.connection c.known.ensures c.requires.over c.in-Some.is c.target-target.ensures in
+    rw (ap (λ x. x.wires.federates) c.set_next.ensures.value) there
+
+pub set_next-requires-then-is_err : goal.set_next-requires-then-is_err
+set_next-requires-then-is_err c =
+    let r = c.args.self.now.table in
+    let j = c.target-target.result in
+    let s = standing_at r.standings j in
+    let message = Msg c.args.number c.args.tag c.args.value in
+    let there = target_is_there r c.args.number j c.args.over c.in-Some.connection c.known.ensures c.requires.over c.in-Some.is c.target-target.ensures in
+    let same = err_of c.add_transit.result (sym c.is_err.ensures.value ∙ c.if-is_err.true) c.add_transit.ensures.err in
+    rw (ap (λ x. x.wires.federates) same, ap (λ x. x.wires.federates) c.set_next.ensures.value) there
+
+pub returns-in-Err : goal.returns-in-Err
+returns-in-Err c =
+    let r = c.args.self.now.table in
+    let j = c.target-target.result in
+    let s = standing_at r.standings j in
+    let message = Msg c.args.number c.args.tag c.args.value in
+    let there = target_is_there r c.args.number j c.args.over c.in-Some.connection c.known.ensures c.requires.over c.in-Some.is c.target-target.ensures in
+    let source : c.in-Some.connection.source ≡ c.args.peer = sym c.source.ensures ∙ c.if-source-peer.false in
+    let own : nat_eq c.in-Some.connection.source c.args.peer ≡ true = grind (arith, nat_tests) in
+    let in_time : is_at_most c.args.tag c.args.self.now.table.wires.stop ≡ true =
+    ap (λ g. is_at_most g c.args.self.now.table.wires.stop) (sym c.tag.ensures) ∙ (ap (is_at_most c.tag.result) (sym c.stop.ensures) ∙ (sym c.is_in_time.ensures ∙ c.if-not-is_in_time.false)) in
+    let later : is_past (standing_at c.args.self.now.table.standings c.target-target.result).granted c.args.tag ≡ true =
+    ap (λ o. is_past o c.args.tag) (sym c.granted.ensures) ∙ (ap (is_past c.granted.result) (sym c.tag-2.ensures) ∙ (sym c.is_past.ensures ∙ c.if-not-is_past.false)) in
+    let takes = route_takes (network_by r.wires) (standing_at r.standings) c.args.peer j message c.args.over c.in-Some.connection c.args.tag c.in-Some.is c.target-target.ensures own in_time later in
+    let whole : coordinator_takes (network_by c.args.self.now.table.wires) (standing_at c.args.self.now.table.standings) c.args.peer (Msg c.args.number c.args.tag c.args.value) ≡
+    Done (routed (standing_at c.args.self.now.table.standings) (Msg c.args.number c.args.tag c.args.value) c.target-target.result c.args.tag) =
+    ap (λ o. route (network_by r.wires) (standing_at r.standings) c.args.peer message o c.args.tag) (sym c.requires.over) ∙ takes in
+    let next : c.lesser.result ≡ lesser (standing_at c.args.self.now.table.standings c.target-target.result).next c.args.tag =
+    c.lesser.ensures ∙ (ap (λ g. lesser g c.tag-3.result) c.next-next.ensures ∙ ap (lesser s.next) c.tag-3.ensures) in
+    let taken = message_taken r c.set_next.new.self c.args.peer j c.set_next.new.self.looks message c.args.tag c.lesser.result c.known.ensures c.requires.settled there whole next c.set_next.ensures.value in
+    let first = c.in_ok-push.ensures.items ∙
+    (ap (λ xs. xs ++ record { peer = j; signal = Msg c.args.number c.args.tag (to_z w64 (of_z w64 c.args.value)) } ∷ []) c.clear.ensures.items ∙
+    ap (λ v. record { peer = c.target-target.result; signal = Msg c.args.number c.args.tag v } ∷ []) (to_z-of_z w64 c.args.value c.ranges.value)) in
+    let back = message_back r c.set_next.new.self c.set_next-in-Err.new.self j c.set_next-in-Err.new.self.looks c.args.tag c.next-next.result c.known.ensures there taken.wires taken.standings
+    c.next-next.ensures c.set_next-in-Err.ensures.value in
+    failed_step r c.set_next.new.self c.set_next-in-Err.new.self c.args.outbox.now.mail c.prepare.new.outbox.mail c.args.peer j message
+    (routed (standing_at r.standings) message j c.args.tag) (record s { next = lesser s.next c.args.tag }) (after_message s c.args.tag) c.push.new.self.items c.in-Err.fault taken first
+    back.0 back.1 c.prepare.ensures.mail c.in-Err.ensures.answer
+
+pub returns-then-is_err : goal.returns-then-is_err
+returns-then-is_err c =
+    let r = c.args.self.now.table in
+    let j = c.target-target.result in
+    let s = standing_at r.standings j in
+    let message = Msg c.args.number c.args.tag c.args.value in
+    let there = target_is_there r c.args.number j c.args.over c.in-Some.connection c.known.ensures c.requires.over c.in-Some.is c.target-target.ensures in
+    let source : c.in-Some.connection.source ≡ c.args.peer = sym c.source.ensures ∙ c.if-source-peer.false in
+    let own : nat_eq c.in-Some.connection.source c.args.peer ≡ true = grind (arith, nat_tests) in
+    let in_time : is_at_most c.args.tag c.args.self.now.table.wires.stop ≡ true =
+    ap (λ g. is_at_most g c.args.self.now.table.wires.stop) (sym c.tag.ensures) ∙ (ap (is_at_most c.tag.result) (sym c.stop.ensures) ∙ (sym c.is_in_time.ensures ∙ c.if-not-is_in_time.false)) in
+    let later : is_past (standing_at c.args.self.now.table.standings c.target-target.result).granted c.args.tag ≡ true =
+    ap (λ o. is_past o c.args.tag) (sym c.granted.ensures) ∙ (ap (is_past c.granted.result) (sym c.tag-2.ensures) ∙ (sym c.is_past.ensures ∙ c.if-not-is_past.false)) in
+    let takes = route_takes (network_by r.wires) (standing_at r.standings) c.args.peer j message c.args.over c.in-Some.connection c.args.tag c.in-Some.is c.target-target.ensures own in_time later in
+    let whole : coordinator_takes (network_by c.args.self.now.table.wires) (standing_at c.args.self.now.table.standings) c.args.peer (Msg c.args.number c.args.tag c.args.value) ≡
+    Done (routed (standing_at c.args.self.now.table.standings) (Msg c.args.number c.args.tag c.args.value) c.target-target.result c.args.tag) =
+    ap (λ o. route (network_by r.wires) (standing_at r.standings) c.args.peer message o c.args.tag) (sym c.requires.over) ∙ takes in
+    let next : c.lesser.result ≡ lesser (standing_at c.args.self.now.table.standings c.target-target.result).next c.args.tag =
+    c.lesser.ensures ∙ (ap (λ g. lesser g c.tag-3.result) c.next-next.ensures ∙ ap (lesser s.next) c.tag-3.ensures) in
+    let taken = message_taken r c.set_next.new.self c.args.peer j c.set_next.new.self.looks message c.args.tag c.lesser.result c.known.ensures c.requires.settled there whole next c.set_next.ensures.value in
+    let first = c.in_ok-push.ensures.items ∙
+    (ap (λ xs. xs ++ record { peer = j; signal = Msg c.args.number c.args.tag (to_z w64 (of_z w64 c.args.value)) } ∷ []) c.clear.ensures.items ∙
+    ap (λ v. record { peer = c.target-target.result; signal = Msg c.args.number c.args.tag v } ∷ []) (to_z-of_z w64 c.args.value c.ranges.value)) in
+    let same = err_of c.add_transit.result (sym c.is_err.ensures.value ∙ c.if-is_err.true) c.add_transit.ensures.err in
+    let back = message_back r c.add_transit.new.self c.set_next-then-is_err.new.self j c.set_next-then-is_err.new.self.looks c.args.tag c.next-next.result c.known.ensures there
+    (ap (λ x. x.wires) same ∙ taken.wires) (ap (λ x. x.standings) same ∙ taken.standings) c.next-next.ensures c.set_next-then-is_err.ensures.value in
+    failed_step r c.set_next.new.self c.set_next-then-is_err.new.self c.args.outbox.now.mail c.prepare.new.outbox.mail c.args.peer j message
+    (routed (standing_at r.standings) message j c.args.tag) (record s { next = lesser s.next c.args.tag }) (after_message s c.args.tag) c.push.new.self.items fault.Memory taken first
+    back.0 back.1 c.prepare.ensures.mail (λ unless. absurd (unless refl))
+
+pub send-requires-clause-peers : goal.send-requires-clause-peers
+send-requires-clause-peers c =
+    let r = c.args.self.now.table in
+    let j = c.target-target.result in
+    let s = standing_at r.standings j in
+    let message = Msg c.args.number c.args.tag c.args.value in
+    let there = target_is_there r c.args.number j c.args.over c.in-Some.connection c.known.ensures c.requires.over c.in-Some.is c.target-target.ensures in
+    let add = ok_of c.add_transit.result (sym c.is_err.ensures.value ∙ c.if-is_err.false) c.add_transit.ensures.ok in
+    let many : c.add_transit.new.self.wires.federates ≡ c.args.self.now.table.wires.federates = ap (λ x. x.wires.federates) add ∙ ap (λ x. x.wires.federates) c.set_next.ensures.value in
+    let put = c.in_ok-push.ensures.items ∙ ap (λ xs. xs ++ record { peer = j; signal = Msg c.args.number c.args.tag (to_z w64 (of_z w64 c.args.value)) } ∷ []) c.clear.ensures.items in
+    let within : c.target-target.result < c.add_transit.new.self.wires.federates = rw many there in
+    peers_are_there c.set_next.new.self j c.add_transit.new.self.wires.federates (record { peer = j; signal = Msg c.args.number c.args.tag (to_z w64 (of_z w64 c.args.value)) } ∷ []) c.as_slice.result.now (within, tt)
+    (c.as_slice.ensures.value ∙ (c.in_default-prepare.ensures.posts ∙ ap (λ xs. xs ++ grants_in c.set_next.new.self (looked_at c.set_next.new.self.wires j)) put))
+    (ap (λ x. x.wires.federates) (sym add))
+
+pub returns : goal.returns
+returns c =
+    let r = c.args.self.now.table in
+    let j = c.target-target.result in
+    let s = standing_at r.standings j in
+    let message = Msg c.args.number c.args.tag c.args.value in
+    let there = target_is_there r c.args.number j c.args.over c.in-Some.connection c.known.ensures c.requires.over c.in-Some.is c.target-target.ensures in
+    let source : c.in-Some.connection.source ≡ c.args.peer = sym c.source.ensures ∙ c.if-source-peer.false in
+    let own : nat_eq c.in-Some.connection.source c.args.peer ≡ true = grind (arith, nat_tests) in
+    let in_time : is_at_most c.args.tag c.args.self.now.table.wires.stop ≡ true =
+    ap (λ g. is_at_most g c.args.self.now.table.wires.stop) (sym c.tag.ensures) ∙ (ap (is_at_most c.tag.result) (sym c.stop.ensures) ∙ (sym c.is_in_time.ensures ∙ c.if-not-is_in_time.false)) in
+    let later : is_past (standing_at c.args.self.now.table.standings c.target-target.result).granted c.args.tag ≡ true =
+    ap (λ o. is_past o c.args.tag) (sym c.granted.ensures) ∙ (ap (is_past c.granted.result) (sym c.tag-2.ensures) ∙ (sym c.is_past.ensures ∙ c.if-not-is_past.false)) in
+    let takes = route_takes (network_by r.wires) (standing_at r.standings) c.args.peer j message c.args.over c.in-Some.connection c.args.tag c.in-Some.is c.target-target.ensures own in_time later in
+    let whole : coordinator_takes (network_by c.args.self.now.table.wires) (standing_at c.args.self.now.table.standings) c.args.peer (Msg c.args.number c.args.tag c.args.value) ≡
+    Done (routed (standing_at c.args.self.now.table.standings) (Msg c.args.number c.args.tag c.args.value) c.target-target.result c.args.tag) =
+    ap (λ o. route (network_by r.wires) (standing_at r.standings) c.args.peer message o c.args.tag) (sym c.requires.over) ∙ takes in
+    let next : c.lesser.result ≡ lesser (standing_at c.args.self.now.table.standings c.target-target.result).next c.args.tag =
+    c.lesser.ensures ∙ (ap (λ g. lesser g c.tag-3.result) c.next-next.ensures ∙ ap (lesser s.next) c.tag-3.ensures) in
+    let taken = message_taken r c.set_next.new.self c.args.peer j c.set_next.new.self.looks message c.args.tag c.lesser.result c.known.ensures c.requires.settled there whole next c.set_next.ensures.value in
+    let first = c.in_ok-push.ensures.items ∙
+    (ap (λ xs. xs ++ record { peer = j; signal = Msg c.args.number c.args.tag (to_z w64 (of_z w64 c.args.value)) } ∷ []) c.clear.ensures.items ∙
+    ap (λ v. record { peer = c.target-target.result; signal = Msg c.args.number c.args.tag v } ∷ []) (to_z-of_z w64 c.args.value c.ranges.value)) in
+    let add = ok_of c.add_transit.result (sym c.is_err.ensures.value ∙ c.if-is_err.false) c.add_transit.ensures.ok in
+    let added = message_added r c.set_next.new.self c.add_transit.new.self j c.args.tag c.known.ensures there taken.wires taken.standings add in
+    finished_step r c.set_next.new.self c.add_transit.new.self c.send.new.table c.args.outbox.now.mail c.prepare.new.outbox.mail c.send.new.outbox.mail c.args.peer j message
+    (routed (standing_at r.standings) message j c.args.tag) (record s { next = lesser s.next c.args.tag }) (after_message s c.args.tag) c.push.new.self.items c.as_slice.result.now taken first (message_first j c.args.number c.args.tag c.args.value)
+    added.0 added.1 (c.as_slice.ensures.value ∙ c.in_default-prepare.ensures.posts) c.prepare.ensures.mail
+    (ap (λ xs. lacks_room c.prepare.new.outbox.mail.ends xs) c.as_slice.ensures.value ∙ c.in_default-prepare.ensures.ready.room)
+    c.send.ensures.wires c.send.ensures.standings c.send.ensures.mail

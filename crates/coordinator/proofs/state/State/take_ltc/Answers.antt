@@ -1,0 +1,58 @@
+use Rattle.std.proofs.Common.{◌≡◌, ◌<◌, ◌≤◌, ◌++◌, [], true, Some, ◌∙◌, sym, ap, arith}
+use Rattle.tag.specs.LogicalTime.{is_at_most}
+use Rattle.protocol.specs.Federate.{is_past}
+use Rattle.protocol.specs.Standing.{after_ltc}
+use Rattle.protocol.specs.Standings.{standing_at}
+use Rattle.protocol.specs.Coordinator.{noted}
+use Rattle.signal.specs.declared.signal.Signal.TheVariants.{Ltc}
+use Rattle.node.specs.Mail.{lacks_room}
+use Rattle.grants.specs.Routes.{looked_at}
+use Rattle.coordinator.specs.Sending.{grants_in}
+use Rattle.coordinator.proofs.Signals.{stranger_ltc, ltc_taken, ltc_dropped, ltc_back, finished_step, failed_step, nothing_first, peers_are_there}
+use Rattle.coordinator.proofs.state.State.take_ltc.Goals as goal
+
+pub returns-then-peer-federates : goal.returns-then-peer-federates
+returns-then-peer-federates c =
+    let l : c.args.self.now.table.wires.federates ≤ c.args.peer = omega arith in
+    let in_time : is_at_most c.args.tag c.args.self.now.table.wires.stop ≡ true =
+    ap (λ g. is_at_most g c.args.self.now.table.wires.stop) (sym c.tag.ensures) ∙ (ap (is_at_most c.tag.result) (sym c.stop.ensures) ∙ (sym c.is_in_time.ensures ∙ c.if-not-is_in_time.false)) in
+    stranger_ltc c.args.self.now.table c.args.outbox.now.mail c.args.peer c.args.tag c.known.ensures c.requires.settled l in_time
+
+pub returns-in-Err : goal.returns-in-Err
+returns-in-Err c =
+    let r = c.args.self.now.table in
+    let s = standing_at r.standings c.args.peer in
+    let there : c.args.peer < c.args.self.now.table.wires.federates = omega arith in
+    let in_time : is_at_most c.args.tag c.args.self.now.table.wires.stop ≡ true =
+    ap (λ g. is_at_most g c.args.self.now.table.wires.stop) (sym c.tag.ensures) ∙ (ap (is_at_most c.tag.result) (sym c.stop.ensures) ∙ (sym c.is_in_time.ensures ∙ c.if-not-is_in_time.false)) in
+    let rising : is_past (standing_at c.args.self.now.table.standings c.args.peer).completed c.args.tag ≡ true =
+    ap (λ o. is_past o c.args.tag) (sym c.completed.ensures) ∙ (ap (is_past c.completed.result) (sym c.tag-2.ensures) ∙ (sym c.is_past.ensures ∙ c.if-not-is_past.false)) in
+    let taken = ltc_taken r c.set_completed.new.self c.args.peer c.set_completed.new.self.looks c.args.tag c.known.ensures c.requires.settled there in_time rising c.set_completed.ensures.value in
+    let back = ltc_back r c.set_completed.new.self c.set_completed-in-Err.new.self c.args.peer c.set_completed-in-Err.new.self.looks c.args.tag c.completed-completed.result c.known.ensures there taken.wires taken.standings
+    c.completed-completed.ensures c.set_completed-in-Err.ensures.value in
+    failed_step r c.set_completed.new.self c.set_completed-in-Err.new.self c.args.outbox.now.mail c.prepare.new.outbox.mail c.args.peer c.args.peer (Ltc c.args.tag)
+    (noted (standing_at r.standings) c.args.peer (after_ltc s c.args.tag)) (record s { completed = Some c.args.tag }) (after_ltc s c.args.tag) c.clear.new.self.items c.in-Err.fault taken c.clear.ensures.items
+    back.0 back.1 c.prepare.ensures.mail c.in-Err.ensures.answer
+
+pub send-requires-clause-peers : goal.send-requires-clause-peers
+send-requires-clause-peers c =
+    peers_are_there c.set_completed.new.self c.args.peer c.drop_transit.new.self.wires.federates [] c.as_slice.result.now tt
+    (c.as_slice.ensures.value ∙ (c.in_default.ensures.posts ∙ ap (λ xs. xs ++ grants_in c.set_completed.new.self (looked_at c.set_completed.new.self.wires c.args.peer)) c.clear.ensures.items))
+    (ap (λ x. x.wires.federates) (sym c.drop_transit.ensures))
+
+pub returns : goal.returns
+returns c =
+    let r = c.args.self.now.table in
+    let s = standing_at r.standings c.args.peer in
+    let there : c.args.peer < c.args.self.now.table.wires.federates = omega arith in
+    let in_time : is_at_most c.args.tag c.args.self.now.table.wires.stop ≡ true =
+    ap (λ g. is_at_most g c.args.self.now.table.wires.stop) (sym c.tag.ensures) ∙ (ap (is_at_most c.tag.result) (sym c.stop.ensures) ∙ (sym c.is_in_time.ensures ∙ c.if-not-is_in_time.false)) in
+    let rising : is_past (standing_at c.args.self.now.table.standings c.args.peer).completed c.args.tag ≡ true =
+    ap (λ o. is_past o c.args.tag) (sym c.completed.ensures) ∙ (ap (is_past c.completed.result) (sym c.tag-2.ensures) ∙ (sym c.is_past.ensures ∙ c.if-not-is_past.false)) in
+    let taken = ltc_taken r c.set_completed.new.self c.args.peer c.set_completed.new.self.looks c.args.tag c.known.ensures c.requires.settled there in_time rising c.set_completed.ensures.value in
+    let dropped = ltc_dropped r c.set_completed.new.self c.drop_transit.new.self c.args.peer c.args.tag c.known.ensures there taken.wires taken.standings c.drop_transit.ensures in
+    finished_step r c.set_completed.new.self c.drop_transit.new.self c.send.new.table c.args.outbox.now.mail c.prepare.new.outbox.mail c.send.new.outbox.mail c.args.peer c.args.peer (Ltc c.args.tag)
+    (noted (standing_at r.standings) c.args.peer (after_ltc s c.args.tag)) (record s { completed = Some c.args.tag }) (after_ltc s c.args.tag) c.clear.new.self.items c.as_slice.result.now taken c.clear.ensures.items nothing_first
+    dropped.0 dropped.1 (c.as_slice.ensures.value ∙ c.in_default.ensures.posts) c.prepare.ensures.mail
+    (ap (λ xs. lacks_room c.prepare.new.outbox.mail.ends xs) c.as_slice.ensures.value ∙ c.in_default.ensures.ready.room)
+    c.send.ensures.wires c.send.ensures.standings c.send.ensures.mail

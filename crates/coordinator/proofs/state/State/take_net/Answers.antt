@@ -1,0 +1,61 @@
+use Rattle.std.proofs.Common.{◌≡◌, ◌<◌, true, ◌∙◌, sym, ap, refl, arith, []}
+use Rattle.std.specs.Prelude.{◌||◌}
+use Rattle.tag.specs.LogicalTime.{forever, is_at_most, is_same}
+use Rattle.protocol.specs.Federate.{is_past}
+use Rattle.protocol.specs.Standing.{after_net}
+use Rattle.protocol.specs.Standings.{standing_at}
+use Rattle.protocol.specs.Coordinator.{noted}
+use Rattle.signal.specs.declared.signal.Signal.TheVariants.{Net}
+use Rattle.std.proofs.Common.{◌≤◌, ◌++◌}
+use Rattle.node.specs.Mail.{lacks_room}
+use Rattle.grants.specs.Routes.{looked_at}
+use Rattle.coordinator.specs.Sending.{grants_in}
+use Rattle.coordinator.proofs.Signals.{stranger_net, net_taken, net_back, finished_step, failed_step, nothing_first, peers_are_there}
+use Rattle.coordinator.proofs.state.State.take_net.Goals as goal
+
+pub returns-then-peer-federates : goal.returns-then-peer-federates
+returns-then-peer-federates c =
+    let l : c.args.self.now.table.wires.federates ≤ c.args.peer = omega arith in
+    let in_time : (is_at_most c.args.tag c.args.self.now.table.wires.stop || is_same c.args.tag forever) ≡ true =
+    ap (λ g. is_at_most c.args.tag g || is_same c.args.tag forever) (sym c.stop.ensures) ∙ (sym c.is_next_in_time.ensures ∙ c.if-not-is_next_in_time.false) in
+    stranger_net c.args.self.now.table c.args.outbox.now.mail c.args.peer c.args.tag c.known.ensures c.requires.settled l in_time
+
+pub returns-in-Err : goal.returns-in-Err
+returns-in-Err c =
+    let r = c.args.self.now.table in
+    let s = standing_at r.standings c.args.peer in
+    let there : c.args.peer < c.args.self.now.table.wires.federates = omega arith in
+    let in_time : (is_at_most c.args.tag c.args.self.now.table.wires.stop || is_same c.args.tag forever) ≡ true =
+    ap (λ g. is_at_most c.args.tag g || is_same c.args.tag forever) (sym c.stop.ensures) ∙ (sym c.is_next_in_time.ensures ∙ c.if-not-is_next_in_time.false) in
+    let rising : is_past (standing_at c.args.self.now.table.standings c.args.peer).completed c.args.tag ≡ true =
+    ap (λ o. is_past o c.args.tag) (sym c.completed.ensures) ∙ (sym c.is_past.ensures ∙ c.if-not-is_past.false) in
+    let taken = net_taken r c.set_next.new.self c.set_announced.new.self c.args.peer c.set_next.new.self.looks c.set_announced.new.self.looks c.args.tag c.lesser_with-least.result
+    c.known.ensures c.requires.settled there in_time rising (c.lesser_with-least.ensures ∙ sym (c.least_transit.ensures.least c.args.tag)) c.set_next.ensures.value c.set_announced.ensures.value in
+    let back = net_back r c.set_announced.new.self c.set_announced-in-Err.new.self c.set_next-in-Err.new.self c.args.peer c.set_announced-in-Err.new.self.looks c.set_next-in-Err.new.self.looks
+    c.announced-announced.result c.next-next.result (after_net s c.args.tag) c.known.ensures there taken.wires taken.standings refl c.announced-announced.ensures c.next-next.ensures
+    c.set_announced-in-Err.ensures.value c.set_next-in-Err.ensures.value in
+    failed_step r c.set_announced.new.self c.set_next-in-Err.new.self c.args.outbox.now.mail c.prepare.new.outbox.mail c.args.peer c.args.peer (Net c.args.tag)
+    (noted (standing_at r.standings) c.args.peer (after_net s c.args.tag)) (after_net s c.args.tag) (after_net s c.args.tag) c.clear.new.self.items c.in-Err.fault taken c.clear.ensures.items
+    back.0 back.1 c.prepare.ensures.mail c.in-Err.ensures.answer
+
+pub send-requires-clause-peers : goal.send-requires-clause-peers
+send-requires-clause-peers c =
+    peers_are_there c.set_announced.new.self c.args.peer c.set_announced.new.self.wires.federates [] c.as_slice.result.now tt
+    (c.as_slice.ensures.value ∙ (c.in_default.ensures.posts ∙ ap (λ xs. xs ++ grants_in c.set_announced.new.self (looked_at c.set_announced.new.self.wires c.args.peer)) c.clear.ensures.items)) refl
+
+pub returns : goal.returns
+returns c =
+    let r = c.args.self.now.table in
+    let s = standing_at r.standings c.args.peer in
+    let there : c.args.peer < c.args.self.now.table.wires.federates = omega arith in
+    let in_time : (is_at_most c.args.tag c.args.self.now.table.wires.stop || is_same c.args.tag forever) ≡ true =
+    ap (λ g. is_at_most c.args.tag g || is_same c.args.tag forever) (sym c.stop.ensures) ∙ (sym c.is_next_in_time.ensures ∙ c.if-not-is_next_in_time.false) in
+    let rising : is_past (standing_at c.args.self.now.table.standings c.args.peer).completed c.args.tag ≡ true =
+    ap (λ o. is_past o c.args.tag) (sym c.completed.ensures) ∙ (sym c.is_past.ensures ∙ c.if-not-is_past.false) in
+    let taken = net_taken r c.set_next.new.self c.set_announced.new.self c.args.peer c.set_next.new.self.looks c.set_announced.new.self.looks c.args.tag c.lesser_with-least.result
+    c.known.ensures c.requires.settled there in_time rising (c.lesser_with-least.ensures ∙ sym (c.least_transit.ensures.least c.args.tag)) c.set_next.ensures.value c.set_announced.ensures.value in
+    finished_step r c.set_announced.new.self c.set_announced.new.self c.send.new.table c.args.outbox.now.mail c.prepare.new.outbox.mail c.send.new.outbox.mail c.args.peer c.args.peer (Net c.args.tag)
+    (noted (standing_at r.standings) c.args.peer (after_net s c.args.tag)) (after_net s c.args.tag) (after_net s c.args.tag) c.clear.new.self.items c.as_slice.result.now taken c.clear.ensures.items nothing_first
+    taken.wires taken.standings (c.as_slice.ensures.value ∙ c.in_default.ensures.posts) c.prepare.ensures.mail
+    (ap (λ xs. lacks_room c.prepare.new.outbox.mail.ends xs) c.as_slice.ensures.value ∙ c.in_default.ensures.ready.room)
+    c.send.ensures.wires c.send.ensures.standings c.send.ensures.mail

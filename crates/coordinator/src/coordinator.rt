@@ -1,0 +1,106 @@
+ghost use Rattle.std.specs.Prelude.{◌≡◌, ℕ, IfOk};
+ghost use Rattle.protocol.specs.Standing.{opening_standing};
+ghost use Rattle.protocol.specs.Standings.{standings_listed};
+ghost use Rattle.signal.specs.Signal.{IsSignal};
+ghost use Rattle.plan.specs.Federation.{federate_count};
+
+use crate::memory::Memory;
+use crate::state::State;
+use grants::Table;
+use node::{Node, NodeFault, Outbox};
+use plan::Plan;
+use signal::Signal;
+use std::alloc::Global;
+use std::marker::Model;
+
+/// The coordinator of a federation. Its peers are the federates, by number; contracts see the plan's draft and, by number, what it
+/// knows of each federate.
+///
+/// It answers signals alone: `announce` and `advance` do nothing. Where no memory is to be had for a step, nothing has changed.
+#[derive(Drop)]
+pub struct Coordinator<'a> {
+    plan: &'a Plan,
+    state: State,
+}
+
+impl<'a> Model for Coordinator<'a> {
+    ghost use Rattle.cores.specs.CoordinatorCore.{CoordinatorNode};
+
+    ghost Value = { CoordinatorNode };
+
+    ghost use Rattle.coordinator.specs.Steps.{IsKept};
+
+    ghost view = { λ c. record { draft = c.plan.now; standings = c.state.table.standings } };
+
+    ghost invariant = { λ c. IsKept c.plan.now c.state.table };
+}
+
+impl<'a> Coordinator<'a> {
+    /// Of a plan's federates, before any signal came.
+    pub fn new(alloc: Global, plan: &'a Plan) -> Result<Coordinator<'a>, Memory>
+        ensures { IfOk result (λ coordinator. coordinator ≡ record { draft = plan.now; standings = standings_listed (federate_count plan.now) (λ j. opening_standing) }) }
+    {
+        let table = Table::new(alloc, plan)?;
+        let posts = Vec::new(alloc);
+        Ok(Coordinator {
+            plan,
+            state: State { table, posts },
+        })
+    }
+}
+
+impl<'a> Node for Coordinator<'a> {
+    ghost use Rattle.std.specs.Prelude.{true, []};
+    ghost use Rattle.cores.specs.CoordinatorCore.{coordinator_core};
+    ghost use Rattle.cores.proofs.GoingOn.{coordinators_go_on};
+
+    type Row = ();
+
+    type Rows = ();
+
+    ghost listed = { λ none. [] };
+
+    ghost HUB = { true };
+
+    ghost core = { coordinator_core };
+
+    fn accept(
+        &mut self,
+        peer: usize,
+        signal: Signal,
+        outbox: &mut Outbox,
+    ) -> Result<bool, NodeFault> {
+        known(&signal);
+        self.state.table.known();
+        self.state.take(self.plan, peer, &signal, outbox)
+    }
+
+    fn announce(&mut self, _outbox: &mut Outbox) -> Result<bool, NodeFault> {
+        Ok(false)
+    }
+
+    fn advance(&mut self, _outbox: &mut Outbox) -> Result<bool, NodeFault> {
+        Ok(false)
+    }
+
+    fn is_hub(&self) -> bool {
+        true
+    }
+
+    fn rows(&self) -> &() {
+        &()
+    }
+
+    fn finished(&self) -> bool {
+        self.state.is_finished()
+    }
+
+    ghost goes_on = { coordinators_go_on };
+}
+
+/// What every signal keeps.
+fn known(signal: &Signal)
+    ensures { IsSignal signal.now }
+{
+    signal.known();
+}
