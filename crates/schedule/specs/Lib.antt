@@ -1,0 +1,2 @@
+-- A world, and its steps.
+pub mod World
