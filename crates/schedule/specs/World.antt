@@ -1,9 +1,10 @@
 -- A world: the coordinator's station, each federate's, all frames ever sent, and the steps made. What each step makes of it.
 -- Federate j is peer j of the coordinator; a federate's one peer is 0.
 use Rattle.std.specs.Prelude.{ℕ, zero, suc, ◌+◌, ◌^◌, Bool, true, false, ◌&&◌, if◌then◌else◌, nat_lt, List, [], ◌∷◌, ◌++◌, length, map, set, get_or, slice_get, Option, None, Some}
+use Rattle.std.specs.List.{range_with_len}
 use Rattle.signal.specs.declared.frame.Frame.{Frame}
 use Rattle.link.specs.Image.{Image, blank}
-use Rattle.node.specs.declared.post.Outgoing.{Outgoing}
+use Rattle.node.specs.declared.outgoing.Outgoing.{Outgoing}
 use Rattle.node.specs.declared.event.Event.{Event}
 use Rattle.node.specs.declared.event.Event.TheVariants as event
 use Rattle.node.specs.declared.node_id.NodeId.{NodeId}
@@ -177,3 +178,14 @@ applied hub member w step = listed step (does hub member w step)
 abbrev pub after_steps : {Hub Member HubRow Row : Type 0} → Core Hub HubRow → Core Member Row → World Hub Member → List Step → World Hub Member
 after_steps hub member w [] = w
 after_steps hub member w (step ∷ steps) = after_steps hub member (applied hub member w step).world steps
+
+-- a world of which nothing was asked yet: so many federates, each with this node, and the room of each link end
+abbrev pub opened : {Hub Member : Type 0} → Hub → ℕ → (ℕ → Member) → ℕ → World Hub Member
+opened hub count member_at room =
+    record {
+      coordinator = record { node = hub; ends = map (λ j. blank j 1 room) (range_with_len 0 count) };
+      federates = map (λ j. record { node = member_at j; ends = blank j 1 room ∷ [] }) (range_with_len 0 count);
+      up = map (λ j. []) (range_with_len 0 count);
+      down = map (λ j. []) (range_with_len 0 count);
+      steps = [];
+    }

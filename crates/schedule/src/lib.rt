@@ -2,9 +2,11 @@
 #![tactic(auto)]
 
 pub mod dir;
+pub mod limits;
 pub mod outcome;
 pub mod step;
 
 pub use dir::Dir;
+pub use limits::LINK_ROOM;
 pub use outcome::Outcome;
 pub use step::Step;
