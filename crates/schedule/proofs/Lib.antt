@@ -1,0 +1,6 @@
+-- What posts make of one side of a link.
+pub mod Posting
+-- What a step of a station does at each side of its links.
+pub mod Course
+-- Each step of a station is such a course.
+pub mod Courses
