@@ -14,18 +14,18 @@ use Rattle.delivery.proofs.Taken.{at_place, act_keeps, fresh_is_linked, in_order
 use Rattle.delivery.proofs.Forgotten.{IsOf, AreOf, act_of, IsBlank, blank_acts, foreign_says, replaced_is_blank}
 
 -- the second side is as its last incarnation but this left it, or that is gone and it is blank
-abbrev IsThere : ℕ → Side → Side → Type 0
+abbrev pub IsThere : ℕ → Side → Side → Type 0
 IsThere i gone s = (gone ≡ s) ⊎ IsBlank i s
 
 -- the first side is linked to the side that had its incarnation, be it there or gone
-record IsHeld (i : ℕ) (l : Link) : Type 0 where
-  gone : Side
-  sent : gone.sent ≡ l.second.sent
-  linked : IsLinked i l.first gone
-  own : AreOf i l.first.sent
-  there : IsThere i gone l.second
+pub record IsHeld (i : ℕ) (l : Link) : Type 0 where
+  pub gone : Side
+  pub sent : gone.sent ≡ l.second.sent
+  pub linked : IsLinked i l.first gone
+  pub own : AreOf i l.first.sent
+  pub there : IsThere i gone l.second
 
-first_acts : (i : ℕ) (l : Link) (act : Act) → IsHeld i l → IsHeld i (record { first = side_after l.first l.second.sent act; second = l.second })
+pub first_acts : (i : ℕ) (l : Link) (act : Act) → IsHeld i l → IsHeld i (record { first = side_after l.first l.second.sent act; second = l.second })
 first_acts i l act h =
     let P : List Frame → Type 0 = λ x. IsLinked i (side_after l.first x act) h.gone in
     record {
@@ -36,7 +36,7 @@ first_acts i l act h =
       there = h.there;
     }
 
-second_acts : (i : ℕ) (l : Link) (act : Act) → IsHeld i l → IsHeld i (record { first = l.first; second = side_after l.second l.first.sent act })
+pub second_acts : (i : ℕ) (l : Link) (act : Act) → IsHeld i l → IsHeld i (record { first = l.first; second = side_after l.second l.first.sent act })
 second_acts i l act h =
     elim h.there [
       | inl e ↦
@@ -59,7 +59,7 @@ second_acts i l act h =
           }
     ]
 
-forgets : (i : ℕ) (l : Link) → IsHeld i l → IsHeld i (record { first = l.first; second = replaced l.second })
+pub forgets : (i : ℕ) (l : Link) → IsHeld i l → IsHeld i (record { first = l.first; second = replaced l.second })
 forgets i l h =
     let late : i ≤ l.second.end.incarnation =
     elim h.there [
@@ -86,7 +86,7 @@ blank_in_order i incarnation s r b =
     let none = b.taken in
     record { offered = omega arith; in_order = subst P (sym b.taken) b.took }
 
-second_in_order : (i : ℕ) (l : Link) → IsHeld i l → IsTakenInOrder l.second.end.incarnation l.first l.second
+pub second_in_order : (i : ℕ) (l : Link) → IsHeld i l → IsTakenInOrder l.second.end.incarnation l.first l.second
 second_in_order i l h =
     elim h.there [
       | inl e ↦
@@ -97,7 +97,7 @@ second_in_order i l h =
       | inr b ↦ blank_in_order i l.second.end.incarnation l.first l.second b
     ]
 
-first_in_order : (i : ℕ) (l : Link) → IsHeld i l → IsTakenInOrder i l.second l.first
+pub first_in_order : (i : ℕ) (l : Link) → IsHeld i l → IsTakenInOrder i l.second l.first
 first_in_order i l h =
     let order = in_order i h.gone l.first (linked_back i l.first h.gone h.linked) in
     let P : List Frame → Type 0 = λ x. l.first.end.taken ≤ length (offered_in i x) in
@@ -105,7 +105,7 @@ first_in_order i l h =
     record { offered = subst P h.sent order.offered; in_order = subst Q h.sent order.in_order }
 
 -- what is told
-first_told : (i : ℕ) (l : Link) → IsHeld i l → TellsNothingUnsent l.first l.second
+pub first_told : (i : ℕ) (l : Link) → IsHeld i l → TellsNothingUnsent l.first l.second
 first_told i l h place frame e =
     let P : List Frame → Type 0 = λ x. slice_get x place ≡ Some frame in
     tells_nothing i l.first h.gone h.linked place frame (subst P (sym h.sent) e)
@@ -122,7 +122,7 @@ stranger_tells i s (Ack k n) of b =
     (λ own. (let same = eqb-true k s.end.incarnation own in absurd (omega arith)))
 stranger_tells i s (Refuse k n) of b = refuse_offered (nat_eq k s.end.incarnation) s.end.closed
 
-second_told : (i : ℕ) (l : Link) → IsHeld i l → TellsNothingUnsent l.second l.first
+pub second_told : (i : ℕ) (l : Link) → IsHeld i l → TellsNothingUnsent l.second l.first
 second_told i l h place frame e =
     elim h.there [
       | inl same ↦

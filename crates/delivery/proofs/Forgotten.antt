@@ -188,7 +188,7 @@ foreign_said i most offered (Data k n signal) h = λ e. absurd (h e)
 foreign_said i most offered (Ack k n) h = λ e. absurd (h e)
 foreign_said i most offered (Refuse k n) h = tt
 
-all_old : (i count : ℕ) (frames : List Frame) → AreForeign i frames → AreOld i count frames
+pub all_old : (i count : ℕ) (frames : List Frame) → AreForeign i frames → AreOld i count frames
 all_old i count [] h = tt
 all_old i count (x ∷ xs) h = (foreign_old i count x h.0, all_old i count xs h.1)
 

@@ -4,3 +4,5 @@ pub mod Posting
 pub mod Course
 -- Each step of a station is such a course.
 pub mod Courses
+-- A world as links, and what a step makes of them.
+pub mod Shown
