@@ -122,7 +122,7 @@ not_below : (a b : ℕ) → b ≤ a → nat_lt a b ≡ false
 not_below a b h = grind (arith, nat_tests)
 
 -- a side's last number is that of the signals that it offered
-last_is_offered : (i : ℕ) (s r : Side) → IsLinked i s r → last_number s.end ≡ length (offered_in i s.sent)
+pub last_is_offered : (i : ℕ) (s r : Side) → IsLinked i s r → last_number s.end ≡ length (offered_in i s.sent)
 last_is_offered i s r l =
     let a = l.out.acknowledged_taken in
     let b = l.out.taken_offered in

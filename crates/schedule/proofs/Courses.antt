@@ -404,7 +404,7 @@ turned_course core hub s came place q e (Data k n signal) fault found plain = st
 turned_course core hub s came place q e (Ack k n) fault found plain = still core hub s (event.Frame q (Ack k n)) came place (Declines (number_of fault) []) refl plain
 turned_course core hub s came place q e (Refuse k n) fault found plain = still core hub s (event.Frame q (Refuse k n)) came place (Declines (number_of fault) []) refl plain
 
-data_is : (e : Image) (k n : ℕ) (signal : Signal) (a : Arrival) → answer_of e (Data k n signal) ≡ Ok a → ((a ≡ arrival.Repeated) × (n ≤ e.taken)) ⊎ (a ≡ arrival.Signal)
+pub data_is : (e : Image) (k n : ℕ) (signal : Signal) (a : Arrival) → answer_of e (Data k n signal) ≡ Ok a → ((a ≡ arrival.Repeated) × (n ≤ e.taken)) ⊎ (a ≡ arrival.Signal)
 data_is e k n signal a is =
     elim (data_answer (nat_eq k e.incarnation) e.closed (nat_le n e.taken) (nat_eq n (e.taken + 1)) a is) [
       | inl old ↦ inl (old.0, not_above n e.taken old.1)

@@ -6,3 +6,5 @@ pub mod Course
 pub mod Courses
 -- A world as links, and what a step makes of them.
 pub mod Shown
+-- What acts leave as it was at a side.
+pub mod Quiet

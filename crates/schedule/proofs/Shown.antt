@@ -41,6 +41,7 @@ pub record IsAt {Hub Member : Type 0} (w : World Hub Member) (j : ℕ) (l : Link
 
 -- so many links, as they stand in a world
 pub record IsShown {Hub Member : Type 0} (w : World Hub Member) (count : ℕ) (links : ℕ → Link) : Type 0 where
+  pub ends : length w.coordinator.ends ≡ count
   pub federates : length w.federates ≡ count
   pub ups : length w.up ≡ count
   pub downs : length w.down ≡ count
@@ -132,6 +133,7 @@ one_end (x ∷ y ∷ rest) e size found = absurd (omega arith)
 pub shown_at_hub : {Hub Member HubRow : Type 0} (hub : Core Hub HubRow) (w : World Hub Member) (count : ℕ) (links : ℕ → Link) (e : Event) (place : ℕ) (made : Stepped Hub) (c : IsCourse hub true w.coordinator e (ups_of links) place made) → IsShown w count links → IsShown (after_coordinator w made).world count (with_firsts links (λ p. acted (links p).first (ups_of links p) (c.acts p)))
 shown_at_hub hub w count links e place made c shown =
     record {
+      ends = c.size ∙ shown.ends;
       federates = shown.federates;
       ups = shown.ups;
       downs = sent_out_length w.down (frames_of made.answer) ∙ shown.downs;
@@ -178,6 +180,7 @@ shown_at_member {Member = Member} member w count links j s e place made c is bel
     let all = to_the_one (length s.ends) (frames_of made.answer) (omega arith) c.within in
     let mine : Link = record { first = (links j).first; second = acted (links j).second (links j).first.sent (c.acts 0) } in
     record {
+      ends = shown.ends;
       federates = length-set w.federates j made.station ∙ shown.federates;
       ups = length-set w.up j (get_or w.up j [] ++ map (λ o. o.frame) (frames_of made.answer)) ∙ shown.ups;
       downs = shown.downs;
@@ -222,6 +225,7 @@ shown_lost member w count links j s is below shown =
     let ends : s.ends ≡ (links j).second.end ∷ [] = subst E same at.second in
     let mine : Link = record { first = (links j).first; second = replaced (links j).second } in
     record {
+      ends = shown.ends;
       federates = length-set w.federates j (forgotten member s) ∙ shown.federates;
       ups = shown.ups;
       downs = shown.downs;
