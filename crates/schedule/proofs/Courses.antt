@@ -168,7 +168,7 @@ data_answer true false false true a is = inr cc
 data_answer true false false false a is = cc
 
 -- what is done at a side at which such a frame comes and its signal isn't taken
-gets_frame : (s : Side) (coming : List Frame) (place : ℕ) (is_taken : Bool) (frame : Frame) (r : Result Arrival LinkFault) → slice_get coming place ≡ Some frame → answer_of s.end frame ≡ r → side_after s coming (Gets place is_taken) ≡ hears is_taken s frame r
+pub gets_frame : (s : Side) (coming : List Frame) (place : ℕ) (is_taken : Bool) (frame : Frame) (r : Result Arrival LinkFault) → slice_get coming place ≡ Some frame → answer_of s.end frame ≡ r → side_after s coming (Gets place is_taken) ≡ hears is_taken s frame r
 gets_frame s coming place is_taken frame r found is =
     ap (λ (o : Option Frame). gets is_taken s o) found ∙ ap (λ (x : Result Arrival LinkFault). hears is_taken s frame x) is
 
@@ -287,7 +287,7 @@ received_size : (ends : List Image) (q : ℕ) (frame : Frame) (o : Option Image)
 received_size ends q frame None = refl
 received_size ends q frame (Some e) = length-set ends q (after_frame e frame)
 
-is_open : (e : Image) (frame : Frame) (a : Arrival) → answer_of e frame ≡ Ok a → e.closed ≡ false
+pub is_open : (e : Image) (frame : Frame) (a : Arrival) → answer_of e frame ≡ Ok a → e.closed ≡ false
 is_open e frame a is = open_for e frame (grind (arith, is))
 
 -- what is seen at each side where the node takes the signal

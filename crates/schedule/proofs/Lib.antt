@@ -8,3 +8,5 @@ pub mod Courses
 pub mod Shown
 -- What acts leave as it was at a side.
 pub mod Quiet
+-- One federate's link beside the machine of queues.
+pub mod Site
