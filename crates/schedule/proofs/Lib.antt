@@ -10,3 +10,5 @@ pub mod Shown
 pub mod Quiet
 -- One federate's link beside the machine of queues.
 pub mod Site
+-- What both kinds of nodes do, as moves of the machine.
+pub mod Moves
