@@ -68,7 +68,7 @@ to_one : (q count : ℕ) (frames : List Frame) → q < count → AllByRecursion 
 to_one q count [] l = tt
 to_one q count (x ∷ xs) l = (l, to_one q count xs l)
 
-place_there : (ends : List Image) (q : ℕ) (e : Image) → slice_get ends q ≡ Some e → q < length ends
+pub place_there : (ends : List Image) (q : ℕ) (e : Image) → slice_get ends q ≡ Some e → q < length ends
 place_there [] q e found = cc
 place_there (x ∷ xs) zero e found = omega arith
 place_there (x ∷ xs) (suc q) e found = let h = place_there xs q e found in omega arith

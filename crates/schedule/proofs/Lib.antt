@@ -12,3 +12,5 @@ pub mod Quiet
 pub mod Site
 -- What both kinds of nodes do, as moves of the machine.
 pub mod Moves
+-- A world beside a run of the machine, step by step.
+pub mod Runs

@@ -70,8 +70,8 @@ Brings w step event.Advance = Unit {0}
 -- what a step comes to
 pub data Happened {Hub Member HubRow Row : Type 0} (hub : Core Hub HubRow) (member : Core Member Row) (w : World Hub Member) (count : ℕ) (links : ℕ → Link) (step : Step) (made : Applied Hub Member) : Type 0 where
   nowhere : made ≡ unchanged w → Happened hub member w count links step made
-  at_hub : (e : Event) (place : ℕ) → IsCourse hub true w.coordinator e (ups_of links) place (step_of hub true w.coordinator e) → Brings w step e → made ≡ after_coordinator w (step_of hub true w.coordinator e) → Happened hub member w count links step made
-  at_member : (j : ℕ) (s : Station Member) (e : Event) (place : ℕ) → j < count → slice_get w.federates j ≡ Some s → IsCourse member false s e (λ p. (links j).first.sent) place (step_of member false s e) → Brings w step e → made ≡ after_federate w j (step_of member false s e) → Happened hub member w count links step made
+  at_hub : (e : Event) (place : ℕ) → Comes w.coordinator (ups_of links) place e → IsCourse hub true w.coordinator e (ups_of links) place (step_of hub true w.coordinator e) → Brings w step e → made ≡ after_coordinator w (step_of hub true w.coordinator e) → Happened hub member w count links step made
+  at_member : (j : ℕ) (s : Station Member) (e : Event) (place : ℕ) → j < count → slice_get w.federates j ≡ Some s → Comes s (λ p. (links j).first.sent) place e → IsCourse member false s e (λ p. (links j).first.sent) place (step_of member false s e) → Brings w step e → made ≡ after_federate w j (step_of member false s e) → Happened hub member w count links step made
   lost : (j : ℕ) (s : Station Member) → j < count → slice_get w.federates j ≡ Some s → step ≡ Forget j → made ≡ record { world = record w { federates = set w.federates j (forgotten member s) }; outcome = outcome.Done } → Happened hub member w count links step made
 
 -- lists
@@ -151,10 +151,10 @@ shown_at_hub hub w count links e place made c shown =
     }
 
 -- the link of a federate, and the others
-pub at_own : (links : ℕ → Link) (j : ℕ) (l : Link) → with_one links j l j ≡ l
+pub at_own : {X : Type 0} (links : ℕ → X) (j : ℕ) (l : X) → with_one links j l j ≡ l
 at_own links j l = ap (λ (b : Bool). if b then l else links j) (itself j)
 
-pub at_other : (links : ℕ → Link) (j k : ℕ) (l : Link) → k ≢ j → with_one links j l k ≡ links k
+pub at_other : {X : Type 0} (links : ℕ → X) (j k : ℕ) (l : X) → k ≢ j → with_one links j l k ≡ links k
 at_other links j k l o = ap (λ (b : Bool). if b then l else links k) (not_same k j o)
   where
     not_same : (a b : ℕ) → (a ≡ b → ⊥) → nat_eq a b ≡ false
@@ -278,13 +278,13 @@ no_event {Hub = Hub} {Member = Member} hub member w count links step o e =
 
 -- an event at the coordinator
 hub_event : {Hub Member HubRow Row : Type 0} (hub : Core Hub HubRow) (member : Core Member Row) (w : World Hub Member) (count : ℕ) (links : ℕ → Link) (step : Step) (e : Event) (place : ℕ) → Comes w.coordinator (ups_of links) place e → Brings w step e → Happened hub member w count links step (after_coordinator w (step_of hub true w.coordinator e))
-hub_event hub member w count links step e place comes brings = at_hub e place (step_course hub true w.coordinator e (ups_of links) place comes) brings refl
+hub_event hub member w count links step e place comes brings = at_hub e place comes (step_course hub true w.coordinator e (ups_of links) place comes) brings refl
 
 -- an event at a federate that is there
 member_event : {Hub Member HubRow Row : Type 0} (hub : Core Hub HubRow) (member : Core Member Row) (w : World Hub Member) (count : ℕ) (links : ℕ → Link) (step : Step) (j : ℕ) (s : Station Member) (e : Event) (place : ℕ) (o : Option (Station Member)) → slice_get w.federates j ≡ o → o ≡ Some s → j < count → Comes s (λ p. (links j).first.sent) place e → Brings w step e → Happened hub member w count links step (at_federate member w j e o)
 member_event {Member = Member} hub member w count links step j s e place o is found below comes brings =
     let P : Option (Station Member) → Type 0 = λ x. Happened hub member w count links step (at_federate member w j e x) in
-    subst P (sym found) (at_member j s e place below (is ∙ found) (step_course member false s e (λ p. (links j).first.sent) place comes) brings refl)
+    subst P (sym found) (at_member j s e place below (is ∙ found) comes (step_course member false s e (λ p. (links j).first.sent) place comes) brings refl)
 
 -- a frame comes to the coordinator
 up_comes : {Hub Member HubRow Row : Type 0} (hub : Core Hub HubRow) (member : Core Member Row) (w : World Hub Member) (count : ℕ) (links : ℕ → Link) (j k : ℕ) (o : Option Frame) → IsShown w count links → Holds links count → j < count → slice_get (links j).second.sent k ≡ o → slice_get (frames_in w (Up j)) k ≡ o → Happened hub member w count links (Deliver (Up j) (suc k)) (happens hub member w (delivered (Up j) o))

@@ -174,15 +174,15 @@ in_turn_is true false true eq is = cc
 in_turn_is true true le eq is = cc
 in_turn_is false closed le eq is = cc
 
-pub record TakesNext (i : ℕ) (s r after : Side) (signal : Signal) (signals : List Signal) : Type 0 where
-  pub next : drop s.end.taken (offered_in i r.sent) ≡ signal ∷ drop after.end.taken (offered_in i r.sent)
+pub record TakesNext (i : ℕ) (s : Side) (coming : List Frame) (after : Side) (signal : Signal) (signals : List Signal) : Type 0 where
+  pub next : drop s.end.taken (offered_in i coming) ≡ signal ∷ drop after.end.taken (offered_in i coming)
   pub rises : after.end.taken ≡ suc s.end.taken
   pub took : after.took ≡ s.took ++ signal ∷ []
   pub unclosed : after.end.closed ≡ false
   pub offered : offered_in i after.sent ≡ offered_in i s.sent ++ signals
   pub incarnation : after.end.incarnation ≡ s.end.incarnation
 
-pub takes_next : (i : ℕ) (s r : Side) (place k n : ℕ) (signal : Signal) (signals : List Signal) → IsLinked i s r → slice_get r.sent place ≡ Some (Data k n signal) → answer_of s.end (Data k n signal) ≡ Ok arrival.Signal → TakesNext i s r (acted s r.sent (Gets place true ∷ Offers signals ∷ [])) signal signals
+pub takes_next : (i : ℕ) (s r : Side) (place k n : ℕ) (signal : Signal) (signals : List Signal) → IsLinked i s r → slice_get r.sent place ≡ Some (Data k n signal) → answer_of s.end (Data k n signal) ≡ Ok arrival.Signal → TakesNext i s r.sent (acted s r.sent (Gets place true ∷ Offers signals ∷ [])) signal signals
 takes_next i s r place k n signal signals l at is =
     let own = in_turn_is (nat_eq k s.end.incarnation) s.end.closed (nat_le n s.end.taken) (nat_eq n (s.end.taken + 1)) is in
     let mine : k ≡ i = eqb-true k s.end.incarnation own.0 ∙ l.here in
@@ -198,7 +198,7 @@ takes_next i s r place k n signal signals l at is =
     let linked : IsLinked i (takes s (Data k n signal) signal) r = subst L heard (act_keeps i s r (Gets place true) l) in
     let o = offers_at i (takes s (Data k n signal) signal) r signals opened linked in
     let up : max s.end.taken n ≡ suc s.end.taken = omega arith in
-    let G : Side → Type 0 = λ x. TakesNext i s r (offers x signals) signal signals in
+    let G : Side → Type 0 = λ x. TakesNext i s r.sent (offers x signals) signal signals in
     let taken : (offers (takes s (Data k n signal) signal) signals).end.taken ≡ suc s.end.taken = o.1 ∙ up in
     subst G (sym heard)
     (record {
