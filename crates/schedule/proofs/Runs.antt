@@ -1,5 +1,5 @@
 -- A world beside a run of the machine of queues: each step of the world is one move, or none.
-use Rattle.std.proofs.Common.{◌≡◌, ◌≢◌, ℕ, zero, suc, ◌+◌, ◌<◌, ◌≤◌, ◌⊎◌, inl, inr, Bool, true, false, IsTrue, List, [], ◌∷◌, ◌++◌, length, drop, slice_get, refl, sym, ap, subst, ◌∙◌, arith, Option, None, Some, Ok, if◌then◌else◌}
+use Rattle.std.proofs.Common.{◌≡◌, ◌≢◌, ℕ, zero, suc, ◌+◌, ◌<◌, ◌≤◌, ◌⊎◌, inl, inr, Bool, true, false, IsTrue, List, [], ◌∷◌, ◌++◌, length, drop, set, slice_get, refl, sym, ap, subst, ◌∙◌, arith, Option, None, Some, Ok, if◌then◌else◌}
 use Rattle.std.specs.Prelude.{nat_eq}
 use Rattle.std.specs.List.{AllByRecursion}
 use Rattle.std.proofs.lemmas.List.{append-nil}
@@ -41,7 +41,11 @@ use Rattle.schedule.proofs.Posting.{same_number, apart_numbers}
 use Rattle.schedule.proofs.Course.{acted, IsQuiet, only, taking, Comes, IsPlainAnswer, IsHandedOn, Kind, IsCourse}
 use Rattle.schedule.proofs.Courses.{place_there}
 use Rattle.schedule.proofs.Shown.{IsAt, IsShown, ups_of, with_firsts, shown_at_hub, shown_at_member, shown_lost, at_own, at_other, same_or_not, some_of}
-use Rattle.schedule.proofs.Quiet.{AreCalm, act_calm, offers_at}
+use Rattle.schedule.proofs.Quiet.{AreCalm, IsCalmAct, act_calm, offers_at}
+use Rattle.delivery.proofs.Offers.{offers_open}
+use Rattle.laws.proofs.Safety.{standing_stays}
+use Rattle.node.proofs.Ends.{get_set_here, get_set_other}
+use Rattle.std.proofs.Math.Path.{fun_ext}
 use Rattle.schedule.proofs.Site.{node_with, IsSite, Own, keeps, loses, kept_linked, with_first, with_second, quiet_first, quiet_second, lost_second, firsts_held, seconds_held, calm_acted, TakesNext, takes_next}
 use Rattle.schedule.proofs.Moves.{done_of, refused_of, nothing_of, coordinator_answers, federate_answers, rule_of, hub_makes, hub_accepts, moved_to, hub_move}
 
@@ -154,11 +158,17 @@ site_after d programs inputs members q rest made j l v place signals acts are se
         offered_site d programs inputs j l (members j) (made_of members q rest made j) v signals site
         (up_other members q rest j apart) (ap (λ (x : List Signal). x ++ sent_to j made.sent) m_left.0 ∙ ap (λ (x : List Signal). (members j).down ++ x) (sym sent)) m_left.1 m_left.2
 
+-- a world after one move of the machine, which loses nobody
+pub record IsMoved (d : Draft) (programs : List Behaviour) (inputs : List Input) (w : Federation) (links : ℕ → Link) (members : ℕ → Member) (move : Move) : Type 0 where
+  pub after : ℕ → Member
+  pub is_made : outcome_of (network_of d programs inputs) (rule_of d programs inputs) members move ≡ Done after
+  pub run : IsRun d programs inputs w links after
+  pub lost : (j : ℕ) → (after j).lost ≡ (members j).lost
+
 -- the coordinator takes a signal
 takes_hub : (d : Draft) (programs : List Behaviour) (inputs : List Input) (w : Federation) (links : ℕ → Link) (members : ℕ → Member) (e : Event) (place q : ℕ) (m : Made CoordinatorNode) (c : IsCourse coordinator_core true w.coordinator e (ups_of links) place (step_of coordinator_core true w.coordinator e))
     → IsWired (network_of d programs inputs) → Comes w.coordinator (ups_of links) place e → (handed : IsHandedOn coordinator_core w.coordinator e q (Done m)) → (step_of coordinator_core true w.coordinator e).station.node ≡ m.after → ((p : ℕ) → c.acts p ≡ taking q place p (sent_to p m.sent)) → IsRun d programs inputs w links members
-    → (after : ℕ → Member) × (outcome_of (network_of d programs inputs) (rule_of d programs inputs) members (ToCoordinator q) ≡ Done after)
-    × IsRun d programs inputs (after_coordinator w (step_of coordinator_core true w.coordinator e)).world (with_firsts links (λ p. acted (links p).first (ups_of links p) (c.acts p))) after
+    → IsMoved d programs inputs (after_coordinator w (step_of coordinator_core true w.coordinator e)).world (with_firsts links (λ p. acted (links p).first (ups_of links p) (c.acts p))) members (ToCoordinator q)
 takes_hub d programs inputs w links members e place q m c wired comes handed node acts run =
     let n = network_of d programs inputs in
     let rule = rule_of d programs inputs in
@@ -187,10 +197,11 @@ takes_hub d programs inputs w links members e place q m c wired comes handed nod
     let D : Outcome Coordinated → Type 0 = λ x. IfDone x (λ made. standing_at (standings_listed n.reactors made.after) ≡ made.after) in
     let listed = accepts_listed n rule w.coordinator.node.standings q handed.signal wired below run.size in
     let stands : standing_at (standings_listed n.reactors made.after) ≡ made.after = subst D done.1 (subst S run.standings listed) in
-    (
-      after,
-      hub_move n rule members q handed.signal rest queue ∙ ap (with_made (made_of members q rest)) done.1,
-      record {
+    record {
+      after = made_of members q rest made;
+      is_made = hub_move n rule members q handed.signal rest queue ∙ ap (with_made (made_of members q rest)) done.1;
+      lost = λ j. (up_left members q rest j).1;
+      run = record {
         shown = shown_at_hub coordinator_core w (federate_count d) links e place (step_of coordinator_core true w.coordinator e) c run.shown;
         draft = ap (λ (x : CoordinatorNode). x.draft) node_is ∙ run.draft;
         size = ap (λ (x : CoordinatorNode). length x.standings) node_is ∙ listed_length n.reactors made.after;
@@ -200,5 +211,72 @@ takes_hub d programs inputs w links members e place q m c wired comes handed nod
             let N : ℕ → Type 0 = λ x. IsNextAt (links x) place (sent_to x m.sent) rest in
             subst N (sym here) (record { incarnation = handed.incarnation; number = handed.number; signal = handed.signal; at = comes_so; in_turn = in_turn; left = refl })))
             (run.site j l s there);
-      },
-    )
+      };
+    }
+
+-- a world in which one federate's station and link changed
+member_run : (d : Draft) (programs : List Behaviour) (inputs : List Input) (w changed : Federation) (links others : ℕ → Link) (members after : ℕ → Member) (j : ℕ) (s made : Station FederateNode) → slice_get w.federates j ≡ Some s → changed.coordinator.node ≡ w.coordinator.node → changed.federates ≡ set w.federates j made
+    → IsShown changed (federate_count d) others → ((k : ℕ) → k ≢ j → others k ≡ links k) → ((k : ℕ) → k ≢ j → after k ≡ members k) → standings_of after ≡ standings_of members → IsSite d programs inputs j (others j) (after j) made.node → IsRun d programs inputs w links members
+    → IsRun d programs inputs changed others after
+member_run d programs inputs w changed links others members after j s made there node federates shown links_same members_same standings site run =
+    record {
+      shown = shown;
+      draft = ap (λ (v : CoordinatorNode). v.draft) node ∙ run.draft;
+      size = ap (λ (v : CoordinatorNode). length v.standings) node ∙ run.size;
+      standings = ap (λ (v : CoordinatorNode). standing_at v.standings) node ∙ run.standings ∙ sym standings;
+      site = λ k l t found. (
+          elim (same_or_not j k) [
+            | inl here ↦
+                let P : ℕ → Type 0 = λ x. slice_get (set w.federates j made) x ≡ Some t in
+                let mine : made ≡ t = some_of made t (sym (get_set_here w.federates j s made there) ∙ subst P here (ap (λ (x : List (Station FederateNode)). slice_get x k) (sym federates) ∙ found)) in
+                let Q : ℕ → Type 0 = λ x. IsSite d programs inputs x (others x) (after x) t.node in
+                let R : Station FederateNode → Type 0 = λ x. IsSite d programs inputs j (others j) (after j) x.node in
+                subst Q (sym here) (subst R mine site)
+            | inr apart ↦
+                let before : slice_get w.federates k ≡ Some t = sym (get_set_other w.federates j k made apart) ∙ ap (λ (x : List (Station FederateNode)). slice_get x k) (sym federates) ∙ found in
+                let L : Link → Type 0 = λ x. IsSite d programs inputs k x (after k) t.node in
+                let M : Member → Type 0 = λ x. IsSite d programs inputs k (links k) x t.node in
+                subst L (sym (links_same k apart)) (subst M (sym (members_same k apart)) (run.site k l t before))
+          ]);
+    }
+
+-- one member changed, but for its standing
+same_standings : (members : ℕ → Member) (j : ℕ) (m : Member) → m.standing ≡ (members j).standing → standings_of (with_member members j m) ≡ standings_of members
+same_standings members j m e = fun_ext (λ k. standing_stays members j m k e)
+
+same_lost : (members : ℕ → Member) (j : ℕ) (m : Member) → m.lost ≡ (members j).lost → (k : ℕ) → (with_member members j m k).lost ≡ (members k).lost
+same_lost members j m e k =
+    elim (same_or_not j k) [
+      | inl here ↦
+          let P : ℕ → Type 0 = λ x. (with_member members j m x).lost ≡ (members x).lost in
+          subst P (sym here) (ap (λ (x : Member). x.lost) (at_own members j m) ∙ e)
+      | inr apart ↦ ap (λ (x : Member). x.lost) (at_other members j k m apart)
+    ]
+
+-- a federate's side after it said something
+said_incarnation : (s : Side) (signals : List Signal) → s.end.closed ≡ false → (offers s signals).end.incarnation ≡ s.end.incarnation
+said_incarnation s signals o = ap (λ (x : Side). x.end.incarnation) (offers_open s signals o)
+
+-- a kept federate does something, by which its queues go from these to those
+kept_does : (d : Draft) (programs : List Behaviour) (inputs : List Input) (w : Federation) (links : ℕ → Link) (members : ℕ → Member) (j : ℕ) (s : Station FederateNode) (e : Event) (place : ℕ) (c : IsCourse federate_core false s e (λ p. (links j).first.sent) place (step_of federate_core false s e)) (m : Member) (signals : List Signal) (acts : List Act)
+    → j < federate_count d → slice_get w.federates j ≡ Some s → c.acts 0 ≡ acts → m.standing ≡ (members j).standing → m.lost ≡ false → (step_of federate_core false s e).station.node ≡ node_with d programs inputs j m.federate
+    → (acted (links j).second (links j).first.sent acts).end.incarnation ≡ 1 → (acted (links j).second (links j).first.sent acts).end.closed ≡ false → AllByRecursion (IsCalmAct 1) acts → offered_in 1 (acted (links j).second (links j).first.sent acts).sent ≡ offered_in 1 (links j).second.sent ++ signals
+    → m.up ≡ (members j).up ++ signals → m.down ≡ drop (acted (links j).second (links j).first.sent acts).end.taken (offered_in 1 (links j).first.sent)
+    → IsRun d programs inputs w links members
+    → IsRun d programs inputs (after_federate w j (step_of federate_core false s e)).world (with_one links j (record { first = (links j).first; second = acted (links j).second (links j).first.sent (c.acts 0) })) (with_member members j m)
+kept_does d programs inputs w links members j s e place c m signals acts below there are standing lost node is opened calm offered up down run =
+    let made = step_of federate_core false s e in
+    let mine : Link = record { first = (links j).first; second = acted (links j).second (links j).first.sent (c.acts 0) } in
+    let site = run.site j below s there in
+    let A : List Act → Type 0 = λ x. IsSite d programs inputs j (record { first = (links j).first; second = acted (links j).second (links j).first.sent x }) m made.station.node in
+    let L : Link → Type 0 = λ x. IsSite d programs inputs j x (with_member members j m j) made.station.node in
+    let M : Member → Type 0 = λ x. IsSite d programs inputs j mine x made.station.node in
+    member_run d programs inputs w (after_federate w j made).world links (with_one links j mine) members (with_member members j m) j s made.station there refl refl
+    (shown_at_member federate_core w (federate_count d) links j s e place made c there below run.shown)
+    (λ k apart. at_other links j k mine apart) (λ k apart. at_other members j k m apart) (same_standings members j m standing)
+    (subst L (sym (at_own links j mine))
+    (subst M (sym (at_own members j m))
+    (subst A (sym are)
+    (with_second d programs inputs j (links j) (members j) s.node (acted (links j).second (links j).first.sent acts) m made.station.node signals site
+    (seconds_held (links j) acts site.held) (calm_acted (links j).second (links j).first.sent acts calm site.ups_calm) offered up
+    (keeps is opened lost node down))))) run
