@@ -14,3 +14,5 @@ pub mod Site
 pub mod Moves
 -- A world beside a run of the machine, step by step.
 pub mod Runs
+-- What a federate does in a world, beside the machine.
+pub mod Members

@@ -61,7 +61,7 @@ pub comes_with : {View : Type 0} (s : Station View) (came : ℕ → List Frame) 
 comes_with s came place e q frame is comes = let P : Event → Type 0 = λ x. Comes s came place x in (subst P is comes).0
 
 -- quiet acts of the coordinator
-quiet_hub : (d : Draft) (programs : List Behaviour) (inputs : List Input) (w : Federation) (links : ℕ → Link) (members : ℕ → Member) (e : Event) (place : ℕ) (c : IsCourse coordinator_core true w.coordinator e (ups_of links) place (step_of coordinator_core true w.coordinator e))
+pub quiet_hub : (d : Draft) (programs : List Behaviour) (inputs : List Input) (w : Federation) (links : ℕ → Link) (members : ℕ → Member) (e : Event) (place : ℕ) (c : IsCourse coordinator_core true w.coordinator e (ups_of links) place (step_of coordinator_core true w.coordinator e))
     → (step_of coordinator_core true w.coordinator e).station.node ≡ w.coordinator.node → ((p : ℕ) (i : Image) → slice_get w.coordinator.ends p ≡ Some i → AllByRecursion (IsQuiet true i.incarnation) (c.acts p)) → IsRun d programs inputs w links members
     → IsRun d programs inputs (after_coordinator w (step_of coordinator_core true w.coordinator e)).world (with_firsts links (λ p. acted (links p).first (ups_of links p) (c.acts p))) members
 quiet_hub d programs inputs w links members e place c node quiet run =
@@ -166,7 +166,7 @@ pub record IsMoved (d : Draft) (programs : List Behaviour) (inputs : List Input)
   pub lost : (j : ℕ) → (after j).lost ≡ (members j).lost
 
 -- the coordinator takes a signal
-takes_hub : (d : Draft) (programs : List Behaviour) (inputs : List Input) (w : Federation) (links : ℕ → Link) (members : ℕ → Member) (e : Event) (place q : ℕ) (m : Made CoordinatorNode) (c : IsCourse coordinator_core true w.coordinator e (ups_of links) place (step_of coordinator_core true w.coordinator e))
+pub takes_hub : (d : Draft) (programs : List Behaviour) (inputs : List Input) (w : Federation) (links : ℕ → Link) (members : ℕ → Member) (e : Event) (place q : ℕ) (m : Made CoordinatorNode) (c : IsCourse coordinator_core true w.coordinator e (ups_of links) place (step_of coordinator_core true w.coordinator e))
     → IsWired (network_of d programs inputs) → Comes w.coordinator (ups_of links) place e → (handed : IsHandedOn coordinator_core w.coordinator e q (Done m)) → (step_of coordinator_core true w.coordinator e).station.node ≡ m.after → ((p : ℕ) → c.acts p ≡ taking q place p (sent_to p m.sent)) → IsRun d programs inputs w links members
     → IsMoved d programs inputs (after_coordinator w (step_of coordinator_core true w.coordinator e)).world (with_firsts links (λ p. acted (links p).first (ups_of links p) (c.acts p))) members (ToCoordinator q)
 takes_hub d programs inputs w links members e place q m c wired comes handed node acts run =
@@ -215,7 +215,7 @@ takes_hub d programs inputs w links members e place q m c wired comes handed nod
     }
 
 -- a world in which one federate's station and link changed
-member_run : (d : Draft) (programs : List Behaviour) (inputs : List Input) (w changed : Federation) (links others : ℕ → Link) (members after : ℕ → Member) (j : ℕ) (s made : Station FederateNode) → slice_get w.federates j ≡ Some s → changed.coordinator.node ≡ w.coordinator.node → changed.federates ≡ set w.federates j made
+pub member_run : (d : Draft) (programs : List Behaviour) (inputs : List Input) (w changed : Federation) (links others : ℕ → Link) (members after : ℕ → Member) (j : ℕ) (s made : Station FederateNode) → slice_get w.federates j ≡ Some s → changed.coordinator.node ≡ w.coordinator.node → changed.federates ≡ set w.federates j made
     → IsShown changed (federate_count d) others → ((k : ℕ) → k ≢ j → others k ≡ links k) → ((k : ℕ) → k ≢ j → after k ≡ members k) → standings_of after ≡ standings_of members → IsSite d programs inputs j (others j) (after j) made.node → IsRun d programs inputs w links members
     → IsRun d programs inputs changed others after
 member_run d programs inputs w changed links others members after j s made there node federates shown links_same members_same standings site run =
@@ -241,10 +241,10 @@ member_run d programs inputs w changed links others members after j s made there
     }
 
 -- one member changed, but for its standing
-same_standings : (members : ℕ → Member) (j : ℕ) (m : Member) → m.standing ≡ (members j).standing → standings_of (with_member members j m) ≡ standings_of members
+pub same_standings : (members : ℕ → Member) (j : ℕ) (m : Member) → m.standing ≡ (members j).standing → standings_of (with_member members j m) ≡ standings_of members
 same_standings members j m e = fun_ext (λ k. standing_stays members j m k e)
 
-same_lost : (members : ℕ → Member) (j : ℕ) (m : Member) → m.lost ≡ (members j).lost → (k : ℕ) → (with_member members j m k).lost ≡ (members k).lost
+pub same_lost : (members : ℕ → Member) (j : ℕ) (m : Member) → m.lost ≡ (members j).lost → (k : ℕ) → (with_member members j m k).lost ≡ (members k).lost
 same_lost members j m e k =
     elim (same_or_not j k) [
       | inl here ↦
@@ -254,11 +254,11 @@ same_lost members j m e k =
     ]
 
 -- a federate's side after it said something
-said_incarnation : (s : Side) (signals : List Signal) → s.end.closed ≡ false → (offers s signals).end.incarnation ≡ s.end.incarnation
+pub said_incarnation : (s : Side) (signals : List Signal) → s.end.closed ≡ false → (offers s signals).end.incarnation ≡ s.end.incarnation
 said_incarnation s signals o = ap (λ (x : Side). x.end.incarnation) (offers_open s signals o)
 
 -- a kept federate does something, by which its queues go from these to those
-kept_does : (d : Draft) (programs : List Behaviour) (inputs : List Input) (w : Federation) (links : ℕ → Link) (members : ℕ → Member) (j : ℕ) (s : Station FederateNode) (e : Event) (place : ℕ) (c : IsCourse federate_core false s e (λ p. (links j).first.sent) place (step_of federate_core false s e)) (m : Member) (signals : List Signal) (acts : List Act)
+pub kept_does : (d : Draft) (programs : List Behaviour) (inputs : List Input) (w : Federation) (links : ℕ → Link) (members : ℕ → Member) (j : ℕ) (s : Station FederateNode) (e : Event) (place : ℕ) (c : IsCourse federate_core false s e (λ p. (links j).first.sent) place (step_of federate_core false s e)) (m : Member) (signals : List Signal) (acts : List Act)
     → j < federate_count d → slice_get w.federates j ≡ Some s → c.acts 0 ≡ acts → m.standing ≡ (members j).standing → m.lost ≡ false → (step_of federate_core false s e).station.node ≡ node_with d programs inputs j m.federate
     → (acted (links j).second (links j).first.sent acts).end.incarnation ≡ 1 → (acted (links j).second (links j).first.sent acts).end.closed ≡ false → AllByRecursion (IsCalmAct 1) acts → offered_in 1 (acted (links j).second (links j).first.sent acts).sent ≡ offered_in 1 (links j).second.sent ++ signals
     → m.up ≡ (members j).up ++ signals → m.down ≡ drop (acted (links j).second (links j).first.sent acts).end.taken (offered_in 1 (links j).first.sent)

@@ -167,7 +167,7 @@ quiet_second d programs inputs j l m v acts q site =
     ]
 
 -- a signal in its turn is the next one that the other side offered
-in_turn_is : (own closed le eq : Bool) → (if own then (if closed then Err LinkFault.Closed else if le then Ok arrival.Repeated else if eq then Ok arrival.Signal else Err LinkFault.Gap) else Err LinkFault.Stranger) ≡ Ok arrival.Signal → (own ≡ true) × (eq ≡ true)
+pub in_turn_is : (own closed le eq : Bool) → (if own then (if closed then Err LinkFault.Closed else if le then Ok arrival.Repeated else if eq then Ok arrival.Signal else Err LinkFault.Gap) else Err LinkFault.Stranger) ≡ Ok arrival.Signal → (own ≡ true) × (eq ≡ true)
 in_turn_is true false false true is = (refl, refl)
 in_turn_is true false false false is = cc
 in_turn_is true false true eq is = cc
