@@ -74,7 +74,7 @@ acts_hold i l (First act ∷ earlier) h = first_acts i (after_acts l earlier) ac
 acts_hold i l (Second act ∷ earlier) h = second_acts i (after_acts l earlier) act (acts_hold i l earlier h)
 acts_hold i l (Forgets ∷ earlier) h = forgets i (after_acts l earlier) (acts_hold i l earlier h)
 
-held : (federate i room : ℕ) (acts : List At) → IsHeld i (after_acts (opening_link federate i room) acts)
+pub held : (federate i room : ℕ) (acts : List At) → IsHeld i (after_acts (opening_link federate i room) acts)
 held federate i room acts =
     let l = opening_link federate i room in
     acts_hold i l acts (record { gone = l.second; sent = refl; linked = fresh_is_linked i federate federate room room; own = tt; there = inl refl })

@@ -16,3 +16,5 @@ pub mod Moves
 pub mod Runs
 -- What a federate does in a world, beside the machine.
 pub mod Members
+-- Each step of a federation's world goes on beside the machine.
+pub mod Steps

@@ -44,12 +44,12 @@ use Rattle.schedule.proofs.Moves.{done_of, refused_of, nothing_of, federate_answ
 use Rattle.schedule.proofs.Runs.{IsRun, IsMoved, comes_with, member_run, same_standings, same_lost, said_incarnation, kept_does}
 
 -- what is handed on to a federate comes from its one peer, in its turn
-record IsHanded (l : Link) (place incarnation number : ℕ) (signal : Signal) (q : ℕ) : Type 0 where
-  peer : q ≡ 0
-  at : slice_get l.first.sent place ≡ Some (Data incarnation number signal)
-  in_turn : answer_of l.second.end (Data incarnation number signal) ≡ Ok arrival.Signal
+pub record IsHanded (l : Link) (place incarnation number : ℕ) (signal : Signal) (q : ℕ) : Type 0 where
+  pub peer : q ≡ 0
+  pub at : slice_get l.first.sent place ≡ Some (Data incarnation number signal)
+  pub in_turn : answer_of l.second.end (Data incarnation number signal) ≡ Ok arrival.Signal
 
-handed_at : (w : Federation) (l : Link) (s : Station FederateNode) (e : Event) (place q : ℕ) (o : Outcome (Made FederateNode)) → s.ends ≡ l.second.end ∷ [] → Comes s (λ p. l.first.sent) place e → (h : IsHandedOn federate_core s e q o) → IsHanded l place h.incarnation h.number h.signal q
+pub handed_at : (w : Federation) (l : Link) (s : Station FederateNode) (e : Event) (place q : ℕ) (o : Outcome (Made FederateNode)) → s.ends ≡ l.second.end ∷ [] → Comes s (λ p. l.first.sent) place e → (h : IsHandedOn federate_core s e q o) → IsHanded l place h.incarnation h.number h.signal q
 handed_at w l s e place q o ends comes h =
     let placed = place_there s.ends q h.image h.found in
     let size : length s.ends ≡ 1 = ap length ends in
@@ -61,7 +61,7 @@ handed_at w l s e place q o ends comes h =
     record { peer = first; at = comes_with s (λ p. l.first.sent) place e q (Data h.incarnation h.number h.signal) h.is_event comes; in_turn = subst A (sym same) h.in_turn }
 
 -- no signal is handed on to a federate that forgot all
-never_handed : (d : Draft) (programs : List Behaviour) (inputs : List Input) (j : ℕ) (l : Link) (m : Member) (v : FederateNode) (place k n : ℕ) (signal : Signal) (q : ℕ) → IsSite d programs inputs j l m v → 1 < l.second.end.incarnation → IsHanded l place k n signal q → ⊥
+pub never_handed : (d : Draft) (programs : List Behaviour) (inputs : List Input) (j : ℕ) (l : Link) (m : Member) (v : FederateNode) (place k n : ℕ) (signal : Signal) (q : ℕ) → IsSite d programs inputs j l m v → 1 < l.second.end.incarnation → IsHanded l place k n signal q → ⊥
 never_handed d programs inputs j l m v place k n signal q site later h =
     let of = at_place (IsOf 1) l.first.sent place (Data k n signal) site.held.own h.at in
     let own = in_turn_is (nat_eq k l.second.end.incarnation) l.second.end.closed (nat_le n l.second.end.taken) (nat_eq n (l.second.end.taken + 1)) h.in_turn in
@@ -69,24 +69,24 @@ never_handed d programs inputs j l m v place k n signal q site later h =
     omega arith
 
 -- its ends, as they stand in the world
-own_ends : (d : Draft) (programs : List Behaviour) (inputs : List Input) (w : Federation) (links : ℕ → Link) (members : ℕ → Member) (j : ℕ) (s : Station FederateNode) → j < federate_count d → slice_get w.federates j ≡ Some s → IsRun d programs inputs w links members → s.ends ≡ (links j).second.end ∷ []
+pub own_ends : (d : Draft) (programs : List Behaviour) (inputs : List Input) (w : Federation) (links : ℕ → Link) (members : ℕ → Member) (j : ℕ) (s : Station FederateNode) → j < federate_count d → slice_get w.federates j ≡ Some s → IsRun d programs inputs w links members → s.ends ≡ (links j).second.end ∷ []
 own_ends d programs inputs w links members j s below there run =
     let at = run.shown.each j below in
     let E : Station FederateNode → Type 0 = λ x. x.ends ≡ (links j).second.end ∷ [] in
     subst E (some_of at.station s (sym at.there ∙ there)) at.second
 
 -- what a kept federate's node does with a signal
-accepts_as : (d : Draft) (programs : List Behaviour) (inputs : List Input) (j : ℕ) (m : Member) (v : FederateNode) (q : ℕ) (signal : Signal) (o : Outcome (Made FederateNode)) → v ≡ node_with d programs inputs j m.federate → member.accepts v q signal ≡ o → with_made (member.made_by (node_with d programs inputs j m.federate)) (federate_accepts (network_of d programs inputs) j m.federate signal) ≡ o
+pub accepts_as : (d : Draft) (programs : List Behaviour) (inputs : List Input) (j : ℕ) (m : Member) (v : FederateNode) (q : ℕ) (signal : Signal) (o : Outcome (Made FederateNode)) → v ≡ node_with d programs inputs j m.federate → member.accepts v q signal ≡ o → with_made (member.made_by (node_with d programs inputs j m.federate)) (federate_accepts (network_of d programs inputs) j m.federate signal) ≡ o
 accepts_as d programs inputs j m v q signal o is e = let P : FederateNode → Type 0 = λ x. member.accepts x q signal ≡ o in subst P is e
 
-announces_as : (d : Draft) (programs : List Behaviour) (inputs : List Input) (j : ℕ) (m : Member) (v : FederateNode) (o : Outcome (Made FederateNode)) → v ≡ node_with d programs inputs j m.federate → member.announces v ≡ o → with_made (member.made_by (node_with d programs inputs j m.federate)) (federate_announces m.federate) ≡ o
+pub announces_as : (d : Draft) (programs : List Behaviour) (inputs : List Input) (j : ℕ) (m : Member) (v : FederateNode) (o : Outcome (Made FederateNode)) → v ≡ node_with d programs inputs j m.federate → member.announces v ≡ o → with_made (member.made_by (node_with d programs inputs j m.federate)) (federate_announces m.federate) ≡ o
 announces_as d programs inputs j m v o is e = let P : FederateNode → Type 0 = λ x. member.announces x ≡ o in subst P is e
 
-advances_as : (d : Draft) (programs : List Behaviour) (inputs : List Input) (j : ℕ) (m : Member) (v : FederateNode) (o : Outcome (Made FederateNode)) → v ≡ node_with d programs inputs j m.federate → member.advances v ≡ o → with_made (member.made_by (node_with d programs inputs j m.federate)) (federate_advances (network_of d programs inputs) j m.federate) ≡ o
+pub advances_as : (d : Draft) (programs : List Behaviour) (inputs : List Input) (j : ℕ) (m : Member) (v : FederateNode) (o : Outcome (Made FederateNode)) → v ≡ node_with d programs inputs j m.federate → member.advances v ≡ o → with_made (member.made_by (node_with d programs inputs j m.federate)) (federate_advances (network_of d programs inputs) j m.federate) ≡ o
 advances_as d programs inputs j m v o is e = let P : FederateNode → Type 0 = λ x. member.advances x ≡ o in subst P is e
 
 -- a kept federate takes a signal
-kept_takes : (d : Draft) (programs : List Behaviour) (inputs : List Input) (w : Federation) (links : ℕ → Link) (members : ℕ → Member) (j : ℕ) (s : Station FederateNode) (e : Event) (place q : ℕ) (m : Made FederateNode) (c : IsCourse federate_core false s e (λ p. (links j).first.sent) place (step_of federate_core false s e))
+pub kept_takes : (d : Draft) (programs : List Behaviour) (inputs : List Input) (w : Federation) (links : ℕ → Link) (members : ℕ → Member) (j : ℕ) (s : Station FederateNode) (e : Event) (place q : ℕ) (m : Made FederateNode) (c : IsCourse federate_core false s e (λ p. (links j).first.sent) place (step_of federate_core false s e))
     → j < federate_count d → slice_get w.federates j ≡ Some s → Comes s (λ p. (links j).first.sent) place e → IsHandedOn federate_core s e q (Done m) → (step_of federate_core false s e).station.node ≡ m.after → c.acts 0 ≡ taking q place 0 (sent_to 0 m.sent)
     → (links j).second.end.incarnation ≡ 1 → (members j).lost ≡ false → s.node ≡ node_with d programs inputs j (members j).federate → (members j).down ≡ drop (links j).second.end.taken (offered_in 1 (links j).first.sent) → IsRun d programs inputs w links members
     → IsMoved d programs inputs (after_federate w j (step_of federate_core false s e)).world (with_one links j (record { first = (links j).first; second = acted (links j).second (links j).first.sent (c.acts 0) })) members (ToFederate j)
@@ -113,7 +113,7 @@ kept_takes d programs inputs w links members j s e place q m c below there comes
     }
 
 -- a kept federate says something by itself
-kept_says : (d : Draft) (programs : List Behaviour) (inputs : List Input) (w : Federation) (links : ℕ → Link) (members : ℕ → Member) (j : ℕ) (s : Station FederateNode) (e : Event) (place : ℕ) (m : Made FederateNode) (made : Stepped) (move : Move) (c : IsCourse federate_core false s e (λ p. (links j).first.sent) place (step_of federate_core false s e))
+pub kept_says : (d : Draft) (programs : List Behaviour) (inputs : List Input) (w : Federation) (links : ℕ → Link) (members : ℕ → Member) (j : ℕ) (s : Station FederateNode) (e : Event) (place : ℕ) (m : Made FederateNode) (made : Stepped) (move : Move) (c : IsCourse federate_core false s e (λ p. (links j).first.sent) place (step_of federate_core false s e))
     → j < federate_count d → slice_get w.federates j ≡ Some s → (step_of federate_core false s e).station.node ≡ m.after → c.acts 0 ≡ Offers (sent_to 0 m.sent) ∷ [] → m ≡ member.made_by (node_with d programs inputs j (members j).federate) made
     → outcome_of (network_of d programs inputs) (rule_of d programs inputs) members move ≡ Done (with_member members j (stepped (members j) (members j).down made))
     → (links j).second.end.incarnation ≡ 1 → (links j).second.end.closed ≡ false → (members j).lost ≡ false → (members j).down ≡ drop (links j).second.end.taken (offered_in 1 (links j).first.sent) → IsRun d programs inputs w links members
@@ -168,3 +168,19 @@ forgets_all d programs inputs w links members j s below there run =
       up = site.up;
       own = loses (omega arith) refl;
     }))) run
+
+-- what a kept federate refuses, the machine refuses
+pub kept_refuses : (d : Draft) (programs : List Behaviour) (inputs : List Input) (w : Federation) (links : ℕ → Link) (members : ℕ → Member) (j : ℕ) (s : Station FederateNode) (e : Event) (place q : ℕ) (refusal : Refusal)
+    → j < federate_count d → slice_get w.federates j ≡ Some s → Comes s (λ p. (links j).first.sent) place e → IsHandedOn federate_core s e q (Refused refusal)
+    → (links j).second.end.incarnation ≡ 1 → (members j).lost ≡ false → s.node ≡ node_with d programs inputs j (members j).federate → (members j).down ≡ drop (links j).second.end.taken (offered_in 1 (links j).first.sent) → IsRun d programs inputs w links members
+    → outcome_of (network_of d programs inputs) (rule_of d programs inputs) members (ToFederate j) ≡ Refused refusal
+kept_refuses d programs inputs w links members j s e place q refusal below there comes h is not_lost node_is queue run =
+    let n = network_of d programs inputs in
+    let site = run.site j below s there in
+    let handed = handed_at w (links j) s e place q (Refused refusal) (own_ends d programs inputs w links members j s below there run) comes h in
+    let o = federate_accepts n j (members j).federate h.signal in
+    let refused = refused_of (member.made_by (node_with d programs inputs j (members j).federate)) o refusal (accepts_as d programs inputs j (members j) s.node q h.signal (Refused refusal) node_is h.node) in
+    let linked = linked_back 1 (links j).first (links j).second (kept_linked (links j) site.held is) in
+    let next = takes_next 1 (links j).second (links j).first place h.incarnation h.number h.signal [] linked handed.at handed.in_turn in
+    let rest : List Signal = drop (acted (links j).second (links j).first.sent (Gets place true ∷ Offers [] ∷ [])).end.taken (offered_in 1 (links j).first.sent) in
+    member_move n (rule_of d programs inputs) members j h.signal rest not_lost (queue ∙ next.next) ∙ ap (with_made (λ made. with_member members j (stepped (members j) rest made))) refused

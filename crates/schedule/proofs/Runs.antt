@@ -280,3 +280,24 @@ kept_does d programs inputs w links members j s e place c m signals acts below t
     (with_second d programs inputs j (links j) (members j) s.node (acted (links j).second (links j).first.sent acts) m made.station.node signals site
     (seconds_held (links j) acts site.held) (calm_acted (links j).second (links j).first.sent acts calm site.ups_calm) offered up
     (keeps is opened lost node down))))) run
+
+-- what the coordinator refuses, the machine refuses
+pub hub_refuses : (d : Draft) (programs : List Behaviour) (inputs : List Input) (w : Federation) (links : ℕ → Link) (members : ℕ → Member) (e : Event) (place q : ℕ) (refusal : Refusal) → Comes w.coordinator (ups_of links) place e → IsHandedOn coordinator_core w.coordinator e q (Refused refusal) → IsRun d programs inputs w links members
+    → outcome_of (network_of d programs inputs) (rule_of d programs inputs) members (ToCoordinator q) ≡ Refused refusal
+hub_refuses d programs inputs w links members e place q refusal comes handed run =
+    let n = network_of d programs inputs in
+    let rule = rule_of d programs inputs in
+    let o = coordinator_accepts n rule (standings_of members) q handed.signal in
+    let accepts = hub_accepts d programs inputs w.coordinator.node (standings_of members) q handed.signal run.draft run.standings in
+    let refused = refused_of (hub_makes n w.coordinator.node) o refusal (sym accepts ∙ handed.node) in
+    let size = run.shown.ends in
+    let placed = place_there w.coordinator.ends q handed.image handed.found in
+    let below : q < federate_count d = omega arith in
+    let at = run.shown.each q below in
+    let site = run.site q below at.station at.there in
+    let comes_so = comes_with w.coordinator (ups_of links) place e q (Data handed.incarnation handed.number handed.signal) handed.is_event comes in
+    let same : handed.image ≡ (links q).first.end = some_of handed.image (links q).first.end (sym handed.found ∙ at.first) in
+    let A : Image → Type 0 = λ x. answer_of x (Data handed.incarnation handed.number handed.signal) ≡ Ok arrival.Signal in
+    let next = next_of d programs inputs q (links q) (members q) at.station.node place handed.incarnation handed.number handed.signal [] site comes_so (subst A same handed.in_turn) in
+    let rest : List Signal = drop (acted (links q).first (links q).second.sent (Gets place true ∷ Offers [] ∷ [])).end.taken (offered_in 1 (links q).second.sent) in
+    hub_move n rule members q handed.signal rest (site.up ∙ next.next) ∙ ap (with_made (made_of members q rest)) refused

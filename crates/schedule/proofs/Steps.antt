@@ -1,0 +1,99 @@
+-- Each step of a federation's world goes on beside a run of the machine, by one move or none, and no node refuses anything.
+use Rattle.std.proofs.Common.{◌≡◌, ◌≢◌, ℕ, ◌<◌, ◌⊎◌, inl, inr, Bool, true, false, List, [], ◌∷◌, ◌++◌, length, slice_get, refl, sym, ap, subst, ◌∙◌, Option, None, Some}
+use Rattle.std.specs.Prelude.{nat_eq, not, ◌||◌}
+use Rattle.std.specs.List.{list_any, AllByRecursion}
+use Rattle.std.proofs.lemmas.List.{append-nil, append_assoc}
+use Rattle.network.specs.Network.{Network}
+use Rattle.network.specs.Tables.{IsLawfulWith}
+use Rattle.network.specs.Undone.{first_tag}
+use Rattle.link.specs.Image.{Image}
+use Rattle.plan.specs.declared.draft.Draft.{Draft}
+use Rattle.plan.specs.declared.input.Input.{Input}
+use Rattle.plan.specs.Federation.{federate_count}
+use Rattle.plan.specs.Least.{least_of}
+use Rattle.reactor.specs.Behaviour.{Behaviour}
+use Rattle.reactor.specs.Federation.{network_of}
+use Rattle.protocol.specs.declared.refusal.Refusal.{Refusal}
+use Rattle.protocol.specs.Outcome.{Outcome, Refused, Nothing, Done, with_made}
+use Rattle.protocol.specs.Grant.{IsSafeRule}
+use Rattle.protocol.specs.Federate.{Stepped, federate_accepts, federate_announces, federate_advances}
+use Rattle.protocol.specs.Coordinator.{coordinator_accepts}
+use Rattle.protocol.specs.Machine.{Member, Move, ToCoordinator, ToFederate, Announce, Advance, Lose, with_member, standings_of, sent_to, stepped, outcome_of, after_moves}
+use Rattle.laws.proofs.Eligibility.{lawful_is_wired}
+use Rattle.laws.proofs.SafeGrants.{widest_rule_is_safe}
+use Rattle.laws.proofs.Safety.{none_refused}
+use Rattle.node.specs.declared.event.Event.{Event}
+use Rattle.node.specs.Core.{Made}
+use Rattle.node.specs.Step.{Station, Answer, Silent, Says, Declines, step_of}
+use Rattle.cores.specs.FederateCore as member
+use Rattle.cores.specs.FederateCore.{FederateNode, federate_core}
+use Rattle.cores.specs.CoordinatorCore as hub
+use Rattle.cores.specs.CoordinatorCore.{CoordinatorNode, coordinator_core}
+use Rattle.delivery.specs.Link.{Side, Link, Act, Offers}
+use Rattle.schedule.specs.declared.step.Step.{Step}
+use Rattle.schedule.specs.declared.step.Step.TheVariants.{Deliver, Resend, Reconnect, Announce as AnnounceOf, Advance as AdvanceOf, Forget}
+use Rattle.schedule.specs.World.{World, outcome_of as told_by, Applied, unchanged, after_coordinator, after_federate, does}
+use Rattle.schedule.specs.Kept.{is_forget_of}
+use Rattle.schedule.specs.Federation.{Federation, IsPlain}
+use Rattle.schedule.proofs.Course.{acted, IsQuiet, taking, Comes, IsPlainAnswer, Speaks, announces, advances, IsHandedOn, Kind, quiet, takes, notes, says, declines, cannot, IsCourse}
+use Rattle.schedule.proofs.Courses.{place_there}
+use Rattle.schedule.proofs.Shown.{IsShown, ups_of, with_firsts, Happened, nowhere, at_hub, at_member, lost as loses_all, happened, at_other, some_of}
+use Rattle.schedule.proofs.Site.{node_with, IsSite, Own, keeps, loses, quiet_second, lost_second}
+use Rattle.schedule.proofs.Moves.{done_of, refused_of, nothing_of, coordinator_answers, federate_answers, announces_freely, advances_freely, rule_of, hub_makes, hub_accepts, moved_to, member_move, announce_move, advance_move}
+use Rattle.schedule.proofs.Runs.{IsRun, IsMoved, quiet_hub, takes_hub, hub_refuses}
+use Rattle.schedule.proofs.Members.{handed_at, never_handed, own_ends, accepts_as, announces_as, advances_as, kept_takes, kept_says, unmoved, forgets_all, kept_refuses}
+
+-- the members after moves of a federation's machine
+abbrev pub members_after : Draft → List Behaviour → List Input → List Move → ℕ → Member
+members_after d programs inputs moves = after_moves (network_of d programs inputs) (λ k. rule_of d programs inputs) moves
+
+-- a step goes on beside the machine
+pub record Goes (d : Draft) (programs : List Behaviour) (inputs : List Input) (made : Applied CoordinatorNode FederateNode) (step : Step) (moves : List Move) : Type 0 where
+  pub links : ℕ → Link
+  pub moved : List Move
+  pub run : IsRun d programs inputs made.world links (members_after d programs inputs moved)
+  pub plain : IsPlain made.outcome
+  pub lost : (j : ℕ) → is_forget_of j step ≡ false → (members_after d programs inputs moved j).lost ≡ (members_after d programs inputs moves j).lost
+
+plain_told : (answer : Answer) → IsPlainAnswer answer → IsPlain (told_by answer)
+plain_told Silent h = tt
+plain_told (Says frames) h = tt
+plain_told (Declines number frames) h = h
+
+-- after one move
+by_move : (d : Draft) (programs : List Behaviour) (inputs : List Input) (made : Applied CoordinatorNode FederateNode) (links : ℕ → Link) (step : Step) (moves : List Move) (move : Move) → IsPlain made.outcome → IsMoved d programs inputs made.world links (members_after d programs inputs moves) move → Goes d programs inputs made step moves
+by_move d programs inputs made links step moves move plain m =
+    let is = moved_to (network_of d programs inputs) (rule_of d programs inputs) moves move m.after m.is_made in
+    let P : (ℕ → Member) → Type 0 = λ x. IsRun d programs inputs made.world links x in
+    let Q : (ℕ → Member) → Type 0 = λ x. (j : ℕ) → is_forget_of j step ≡ false → (x j).lost ≡ (members_after d programs inputs moves j).lost in
+    record { links = links; moved = move ∷ moves; run = subst P (sym is) m.run; plain = plain; lost = subst Q (sym is) (λ j other. m.lost j) }
+
+-- without a move
+by_none : (d : Draft) (programs : List Behaviour) (inputs : List Input) (made : Applied CoordinatorNode FederateNode) (links : ℕ → Link) (step : Step) (moves : List Move) → IsPlain made.outcome → IsRun d programs inputs made.world links (members_after d programs inputs moves) → Goes d programs inputs made step moves
+by_none d programs inputs made links step moves plain run = record { links = links; moved = moves; run = run; plain = plain; lost = λ j other. refl }
+
+-- no move is refused
+refuses_no : (d : Draft) (programs : List Behaviour) (inputs : List Input) (moves : List Move) (move : Move) (refusal : Refusal) → IsLawfulWith (network_of d programs inputs) (least_of d) → outcome_of (network_of d programs inputs) (rule_of d programs inputs) (members_after d programs inputs moves) move ≡ Refused refusal → ⊥
+refuses_no d programs inputs moves move refusal lawful e =
+    let n = network_of d programs inputs in
+    let safe = widest_rule_is_safe n (least_of d) (lawful_is_wired n lawful.lawful) in
+    none_refused n (least_of d) (λ k. rule_of d programs inputs) moves move refusal lawful.lawful lawful.facts (λ k. safe) e
+
+-- the coordinator's station does something
+goes_at_hub : (d : Draft) (programs : List Behaviour) (inputs : List Input) (w : Federation) (links : ℕ → Link) (moves : List Move) (step : Step) (e : Event) (place : ℕ) (c : IsCourse coordinator_core true w.coordinator e (ups_of links) place (step_of coordinator_core true w.coordinator e))
+    → IsLawfulWith (network_of d programs inputs) (least_of d) → Comes w.coordinator (ups_of links) place e → IsRun d programs inputs w links (members_after d programs inputs moves) → Goes d programs inputs (after_coordinator w (step_of coordinator_core true w.coordinator e)) step moves
+goes_at_hub d programs inputs w links moves step e place c lawful comes run =
+    let made = step_of coordinator_core true w.coordinator e in
+    let members = members_after d programs inputs moves in
+    let after : ℕ → Link = with_firsts links (λ p. acted (links p).first (ups_of links p) (c.acts p)) in
+    let wired = lawful_is_wired (network_of d programs inputs) lawful.lawful in
+    elim c.kind [
+      | quiet node plain acts ↦ by_none d programs inputs (after_coordinator w made) after step moves (plain_told made.answer plain) (quiet_hub d programs inputs w links members e place c node acts run)
+      | takes q m handed node plain acts ↦ by_move d programs inputs (after_coordinator w made) after step moves (ToCoordinator q) (plain_told made.answer plain) (takes_hub d programs inputs w links members e place q m c wired comes handed node acts run)
+      | notes q handed ↦
+          absurd (coordinator_answers (network_of d programs inputs) (rule_of d programs inputs) (standings_of members) q handed.signal
+          (nothing_of (hub_makes (network_of d programs inputs) w.coordinator.node) _ (sym (hub_accepts d programs inputs w.coordinator.node (standings_of members) q handed.signal run.draft run.standings) ∙ handed.node)))
+      | says m speaks node plain acts ↦ absurd (elim speaks [ | announces is does ↦ cc | advances is does ↦ cc ])
+      | declines q refusal handed ↦ absurd (refuses_no d programs inputs moves (ToCoordinator q) refusal lawful (hub_refuses d programs inputs w links members e place q refusal comes handed run))
+      | cannot refusal speaks ↦ absurd (elim speaks [ | announces is does ↦ cc | advances is does ↦ cc ])
+    ]
