@@ -18,3 +18,5 @@ pub mod Runs
 pub mod Members
 -- Each step of a federation's world goes on beside the machine.
 pub mod Steps
+-- The world of a federation after any steps, beside a run of the machine.
+pub mod Worlds

@@ -1,0 +1,159 @@
+-- The world of a federation after any steps stands beside a run of the machine of queues.
+use Rattle.std.proofs.Common.{◌≡◌, ◌≢◌, ℕ, zero, suc, ◌+◌, ◌<◌, ◌≤◌, ◌⊎◌, inl, inr, Bool, true, false, IsTrue, List, [], ◌∷◌, ◌++◌, length, map, get_or, slice_get, refl, sym, ap, subst, ◌∙◌, arith, Option, None, Some}
+use Rattle.std.specs.Prelude.{nat_eq, not, ◌||◌}
+use Rattle.std.specs.List.{list_any, range_with_len}
+use Rattle.std.proofs.Math.Path.{fun_ext}
+use Rattle.std.proofs.lemmas.List.{append-nil, append_assoc}
+use Rattle.std.proofs.lemmas.List.FromFn.{length-map-range_with_len, get_or-map-range_with_len}
+use Rattle.std.proofs.lemmas.Option.{slice_get-get_or}
+use Rattle.network.specs.Tables.{IsLawfulWith}
+use Rattle.network.specs.Undivided.{Row, whole, part}
+use Rattle.signal.specs.declared.frame.Frame.{Frame}
+use Rattle.link.specs.Image.{Image, blank}
+use Rattle.plan.specs.declared.draft.Draft.{Draft}
+use Rattle.plan.specs.declared.input.Input.{Input}
+use Rattle.plan.specs.Federation.{federate_count}
+use Rattle.plan.specs.Least.{least_of}
+use Rattle.reactor.specs.Behaviour.{Behaviour}
+use Rattle.reactor.specs.Federation.{network_of}
+use Rattle.protocol.specs.Standing.{Standing, opening_standing}
+use Rattle.protocol.specs.Standings.{standing_at, standings_listed}
+use Rattle.protocol.specs.Machine.{Member, Move, opening_member as first_member, standings_of}
+use Rattle.laws.proofs.ListedStandings.{listed_length}
+use Rattle.node.specs.Step.{Station}
+use Rattle.cores.specs.FederateCore.{FederateNode, federate_core}
+use Rattle.cores.specs.CoordinatorCore.{CoordinatorNode, coordinator_core}
+use Rattle.delivery.specs.Link.{Link, opening_link}
+use Rattle.delivery.proofs.Acts.{IsHeld, held}
+use Rattle.schedule.specs.declared.limits.TheConstants.{LINK_ROOM}
+use Rattle.schedule.specs.declared.step.Step.{Step}
+use Rattle.schedule.specs.World.{World, Applied, opened, listed, does, applied, after_steps}
+use Rattle.schedule.specs.Kept.{is_forget, is_forget_of, is_kept}
+use Rattle.schedule.specs.Federation.{Federation, IsPlain, opening_world, opening_coordinator, opening_member, world_after, step_in}
+use Rattle.schedule.proofs.Shown.{IsAt, IsShown, some_of}
+use Rattle.schedule.proofs.Site.{IsSite, keeps}
+use Rattle.schedule.proofs.Runs.{IsRun}
+use Rattle.schedule.proofs.Steps.{members_after, Goes, goes}
+
+-- the steps that are listed change nothing of this
+shown_listed : {Hub Node : Type 0} (w : World Hub Node) (count : ℕ) (links : ℕ → Link) (steps : List Step) → IsShown w count links → IsShown (record w { steps = steps }) count links
+shown_listed w count links steps s =
+    record {
+      ends = s.ends;
+      federates = s.federates;
+      ups = s.ups;
+      downs = s.downs;
+      each = λ j l. (let at = s.each j l in record { first = at.first; station = at.station; there = at.there; second = at.second; up = at.up; down = at.down });
+    }
+
+run_listed : (d : Draft) (programs : List Behaviour) (inputs : List Input) (w : Federation) (links : ℕ → Link) (members : ℕ → Member) (steps : List Step) → IsRun d programs inputs w links members → IsRun d programs inputs (record w { steps = steps }) links members
+run_listed d programs inputs w links members steps r =
+    record { shown = shown_listed w (federate_count d) links steps r.shown; draft = r.draft; size = r.size; standings = r.standings; site = λ j l s there. r.site j l s there }
+
+-- a step of the world
+pub step_goes : (d : Draft) (programs : List Behaviour) (inputs : List Input) (w : Federation) (links : ℕ → Link) (moves : List Move) (step : Step) → IsLawfulWith (network_of d programs inputs) (least_of d) → IsRun d programs inputs w links (members_after d programs inputs moves) → Goes d programs inputs (step_in w step) step moves
+step_goes d programs inputs w links moves step lawful run =
+    let g = goes d programs inputs w links moves step lawful run in
+    let made = does coordinator_core federate_core w step in
+    record {
+      links = g.links;
+      moved = g.moved;
+      run = run_listed d programs inputs made.world g.links (members_after d programs inputs g.moved) (made.world.steps ++ step ∷ []) g.run;
+      plain = g.plain;
+      lost = g.lost;
+    }
+
+-- a world beside a run, since steps before it
+pub record Stands (d : Draft) (programs : List Behaviour) (inputs : List Input) (w : Federation) : Type 0 where
+  pub links : ℕ → Link
+  pub moves : List Move
+  pub run : IsRun d programs inputs w links (members_after d programs inputs moves)
+
+pub record GoesOn (d : Draft) (programs : List Behaviour) (inputs : List Input) (w : Federation) (moves : List Move) (steps : List Step) : Type 0 where
+  pub stands : Stands d programs inputs w
+  pub lost : (j : ℕ) → is_kept steps j ≡ true → (members_after d programs inputs stands.moves j).lost ≡ (members_after d programs inputs moves j).lost
+
+not_first : (a b : Bool) → not (a || b) ≡ true → (a ≡ false) × (not b ≡ true)
+not_first true b e = cc
+not_first false true e = cc
+not_first false false e = (refl, refl)
+
+all_go : (d : Draft) (programs : List Behaviour) (inputs : List Input) (w : Federation) (links : ℕ → Link) (moves : List Move) (steps : List Step) → IsLawfulWith (network_of d programs inputs) (least_of d) → IsRun d programs inputs w links (members_after d programs inputs moves) → GoesOn d programs inputs (after_steps coordinator_core federate_core w steps) moves steps
+all_go d programs inputs w links moves [] lawful run = record { stands = record { links = links; moves = moves; run = run }; lost = λ j kept. refl }
+all_go d programs inputs w links moves (step ∷ steps) lawful run =
+    let first = step_goes d programs inputs w links moves step lawful run in
+    let rest = all_go d programs inputs (step_in w step).world first.links first.moved steps lawful first.run in
+    record {
+      stands = rest.stands;
+      lost = λ j kept. (
+          let both = not_first (is_forget_of j step) (list_any (is_forget_of j) steps) kept in
+          rest.lost j both.1 ∙ first.lost j both.0);
+    }
+
+-- the opening world
+made_at : {X : Type 0} (f : ℕ → X) (count j : ℕ) → j < count → slice_get (map f (range_with_len 0 count)) j ≡ Some (f j)
+made_at f count j l =
+    let size = length-map-range_with_len f 0 count in
+    let got = get_or-map-range_with_len f 0 count j j (f j) l (omega arith) in
+    slice_get-get_or (map f (range_with_len 0 count)) j (f j) (omega arith) ∙ ap (λ x. Some x) got
+
+open_standings : (count j : ℕ) → standing_at (standings_listed count (λ k. opening_standing)) j ≡ opening_standing
+open_standings zero j = refl
+open_standings (suc count) zero = refl
+open_standings (suc count) (suc j) = open_standings count j
+
+abbrev pub open_link : ℕ → Link
+open_link j = opening_link j 1 LINK_ROOM
+
+pub opening_run : (d : Draft) (programs : List Behaviour) (inputs : List Input) → IsRun d programs inputs (opening_world d programs inputs) open_link (members_after d programs inputs [])
+opening_run d programs inputs =
+    let count = federate_count d in
+    let w = opening_world d programs inputs in
+    let station : ℕ → Station FederateNode = λ j. record { node = opening_member d programs inputs j; ends = blank j 1 LINK_ROOM ∷ [] } in
+    let none : ℕ → List Frame = λ j. [] in
+    record {
+      shown = record {
+        ends = length-map-range_with_len (λ j. blank j 1 LINK_ROOM) 0 count;
+        federates = length-map-range_with_len station 0 count;
+        ups = length-map-range_with_len none 0 count;
+        downs = length-map-range_with_len none 0 count;
+        each = λ j l. record {
+          first = made_at (λ j. blank j 1 LINK_ROOM) count j l;
+          station = station j;
+          there = made_at station count j l;
+          second = refl;
+          up = made_at none count j l;
+          down = made_at none count j l;
+        };
+      };
+      draft = refl;
+      size = listed_length count (λ j. opening_standing);
+      standings = fun_ext (λ j. open_standings count j);
+      site = λ j l s there. (
+          let same : station j ≡ s = some_of (station j) s (sym (made_at station count j l) ∙ there) in
+          let P : Station FederateNode → Type 0 = λ x. IsSite d programs inputs j (open_link j) (first_member (network_of d programs inputs) j) x.node in
+          subst P same
+          (record {
+            held = held j 1 LINK_ROOM [];
+            unclosed = refl;
+            ups_calm = tt;
+            downs_calm = tt;
+            up = refl;
+            own = keeps refl refl refl refl refl;
+          }));
+    }
+
+-- the world after any steps
+pub stands : (d : Draft) (programs : List Behaviour) (inputs : List Input) (steps : List Step) → IsLawfulWith (network_of d programs inputs) (least_of d) → GoesOn d programs inputs (world_after d programs inputs steps) [] steps
+stands d programs inputs steps lawful = all_go d programs inputs (opening_world d programs inputs) open_link [] steps lawful (opening_run d programs inputs)
+
+-- no step is refused but by a link
+pub refusals_are_plain : (d : Draft) (programs : List Behaviour) (inputs : List Input) (steps : List Step) (step : Step) → IsLawfulWith (network_of d programs inputs) (least_of d) → IsPlain (step_in (world_after d programs inputs steps) step).outcome
+refusals_are_plain d programs inputs steps step lawful =
+    let s = (stands d programs inputs steps lawful).stands in
+    (step_goes d programs inputs (world_after d programs inputs steps) s.links s.moves step lawful s.run).plain
+
+-- the steps are listed
+pub steps_after : (w : Federation) (steps : List Step) → (after_steps coordinator_core federate_core w steps).steps ≡ w.steps ++ steps
+steps_after w [] = sym (append-nil w.steps)
+steps_after w (step ∷ rest) = steps_after (step_in w step).world rest ∙ ap (λ (x : List Step). x ++ rest) (same_steps w step) ∙ append_assoc w.steps (step ∷ []) rest
