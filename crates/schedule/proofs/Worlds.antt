@@ -1,5 +1,5 @@
 -- The world of a federation after any steps stands beside a run of the machine of queues.
-use Rattle.std.proofs.Common.{◌≡◌, ◌≢◌, ℕ, zero, suc, ◌+◌, ◌<◌, ◌≤◌, ◌⊎◌, inl, inr, Bool, true, false, IsTrue, List, [], ◌∷◌, ◌++◌, length, map, get_or, slice_get, refl, sym, ap, subst, ◌∙◌, arith, Option, None, Some}
+use Rattle.std.proofs.Common.{◌≡◌, ◌≢◌, ℕ, zero, suc, ◌+◌, ◌<◌, ◌≤◌, ◌⊎◌, inl, inr, Bool, true, false, IsTrue, List, [], ◌∷◌, ◌++◌, length, map, set, get_or, slice_get, refl, sym, ap, subst, ◌∙◌, arith, Option, None, Some, if◌then◌else◌}
 use Rattle.std.specs.Prelude.{nat_eq, not, ◌||◌}
 use Rattle.std.specs.List.{list_any, range_with_len}
 use Rattle.std.proofs.Math.Path.{fun_ext}
@@ -26,8 +26,12 @@ use Rattle.cores.specs.CoordinatorCore.{CoordinatorNode, coordinator_core}
 use Rattle.delivery.specs.Link.{Link, opening_link}
 use Rattle.delivery.proofs.Acts.{IsHeld, held}
 use Rattle.schedule.specs.declared.limits.TheConstants.{LINK_ROOM}
+use Rattle.node.specs.declared.node_id.NodeId.{NodeId}
+use Rattle.node.specs.declared.node_id.NodeId.TheVariants.{Coordinator, Federate}
+use Rattle.schedule.specs.declared.outcome.Outcome.TheVariants as outcome
 use Rattle.schedule.specs.declared.step.Step.{Step}
-use Rattle.schedule.specs.World.{World, Applied, opened, listed, does, applied, after_steps}
+use Rattle.schedule.specs.declared.step.Step.TheVariants.{Deliver, Resend, Reconnect, Announce, Advance, Forget}
+use Rattle.schedule.specs.World.{World, Occurrence, occurrence_of, Applied, unchanged, at_federate, at_node, happens, has_next, forgotten, forgets, opened, listed, does, applied, after_steps}
 use Rattle.schedule.specs.Kept.{is_forget, is_forget_of, is_kept}
 use Rattle.schedule.specs.Federation.{Federation, IsPlain, opening_world, opening_coordinator, opening_member, world_after, step_in}
 use Rattle.schedule.proofs.Shown.{IsAt, IsShown, some_of}
@@ -153,7 +157,36 @@ refusals_are_plain d programs inputs steps step lawful =
     let s = (stands d programs inputs steps lawful).stands in
     (step_goes d programs inputs (world_after d programs inputs steps) s.links s.moves step lawful s.run).plain
 
+-- an event lists no step
+happens_steps : (w : Federation) (o : Option Occurrence) → (happens coordinator_core federate_core w o).world.steps ≡ w.steps
+happens_steps w None = refl
+happens_steps w (Some o) = at_node_steps o.node
+  where
+    at_one : (j : ℕ) (found : Option (Station FederateNode)) → (at_federate federate_core w j o.event found).world.steps ≡ w.steps
+    at_one j None = refl
+    at_one j (Some s) = refl
+
+    at_node_steps : (node : NodeId) → (at_node coordinator_core federate_core w node o.event).world.steps ≡ w.steps
+    at_node_steps Coordinator = refl
+    at_node_steps (Federate j) = at_one j (slice_get w.federates j)
+
+forgets_steps : (w : Federation) (j : ℕ) (o : Option (Station FederateNode)) → (forgets federate_core w j o).world.steps ≡ w.steps
+forgets_steps w j None = refl
+forgets_steps w j (Some s) = by_next (has_next s.ends) (record w { federates = set w.federates j (forgotten federate_core s) }) refl
+  where
+    by_next : (b : Bool) (changed : Federation) → changed.steps ≡ w.steps → (if b then record { world = changed; outcome = outcome.Done } else unchanged w).world.steps ≡ w.steps
+    by_next true changed e = e
+    by_next false changed e = refl
+
+does_steps : (w : Federation) (step : Step) → (does coordinator_core federate_core w step).world.steps ≡ w.steps
+does_steps w (Deliver dir k) = happens_steps w (occurrence_of w (Deliver dir k))
+does_steps w (Resend dir) = happens_steps w (occurrence_of w (Resend dir))
+does_steps w (Reconnect dir) = happens_steps w (occurrence_of w (Reconnect dir))
+does_steps w (Announce j) = happens_steps w (occurrence_of w (Announce j))
+does_steps w (Advance j) = happens_steps w (occurrence_of w (Advance j))
+does_steps w (Forget j) = forgets_steps w j (slice_get w.federates j)
+
 -- the steps are listed
 pub steps_after : (w : Federation) (steps : List Step) → (after_steps coordinator_core federate_core w steps).steps ≡ w.steps ++ steps
 steps_after w [] = sym (append-nil w.steps)
-steps_after w (step ∷ rest) = steps_after (step_in w step).world rest ∙ ap (λ (x : List Step). x ++ rest) (same_steps w step) ∙ append_assoc w.steps (step ∷ []) rest
+steps_after w (step ∷ rest) = steps_after (step_in w step).world rest ∙ ap (λ (x : List Step). x ++ rest) (ap (λ (x : List Step). x ++ step ∷ []) (does_steps w step)) ∙ append_assoc w.steps (step ∷ []) rest
