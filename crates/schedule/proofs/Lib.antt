@@ -20,3 +20,5 @@ pub mod Members
 pub mod Steps
 -- The world of a federation after any steps, beside a run of the machine.
 pub mod Worlds
+-- The rows of a federation's world: as they go on, and where it is finished or stuck.
+pub mod Rows
