@@ -40,6 +40,7 @@ use Rattle.laws.proofs.Computes.{rows_begin_some, quiet_has_every_row}
 use Rattle.node.specs.Core.{Made, Ending, ending_of, LacksRoom, Moves}
 use Rattle.node.specs.Mail.{all_posted, lacks_room}
 use Rattle.node.specs.Step.{Station, acts, unsent, step_of}
+use Rattle.node.specs.declared.event.Event.{Event}
 use Rattle.node.specs.declared.event.Event.TheVariants as event
 use Rattle.node.specs.declared.node_id.NodeId.TheVariants.{Federate}
 use Rattle.cores.specs.FederateCore as member
@@ -47,6 +48,7 @@ use Rattle.cores.specs.FederateCore.{FederateNode, federate_core}
 use Rattle.cores.specs.CoordinatorCore.{CoordinatorNode, wiring_in, coordinator_core}
 use Rattle.delivery.specs.Way.{with_offered, offered_with, offered_in}
 use Rattle.delivery.specs.Link.{Link}
+use Rattle.schedule.specs.declared.dir.Dir.{Dir}
 use Rattle.schedule.specs.declared.dir.Dir.TheVariants.{Up, Down}
 use Rattle.schedule.specs.declared.step.Step.{Step}
 use Rattle.schedule.specs.declared.step.Step.TheVariants.{Deliver, Resend, Reconnect, Announce, Advance, Forget}
@@ -210,3 +212,79 @@ silent_is s (Done made) e = absurd (by_room (lacks_room s.ends made.sent) e)
     by_room : (b : Bool) → outcome_of (acts s (if b then LacksRoom else Moves made.after (all_posted (unsent s) made.sent))).answer ≡ outcome.Nothing → ⊥
     by_room true e = cc
     by_room false e = cc
+
+-- where every signal sent was taken, nothing is left of the queue
+settled_below : (w : Federation) (dir : Dir) (most : ℕ) → number_taken 1 (receiver w dir) ≡ most → (frame : Frame) → IsSettled w dir frame → Below 1 most frame
+settled_below w dir most is (Hello f k n) h = tt
+settled_below w dir most is (Data k n signal) h =
+    λ e. (
+        let P : ℕ → Type 0 = λ x. n ≤ number_taken x (receiver w dir) in
+        let taken : n ≤ number_taken 1 (receiver w dir) = subst P e h.0 in
+        let Q : ℕ → Type 0 = λ x. n ≤ x in
+        subst Q is taken)
+settled_below w dir most is (Ack k n) h = tt
+settled_below w dir most is (Refuse k n) h = tt
+
+all_below : (w : Federation) (dir : Dir) (most : ℕ) (frames : List Frame) → number_taken 1 (receiver w dir) ≡ most → AllByRecursion (IsSettled w dir) frames → AllByRecursion (Below 1 most) frames
+all_below w dir most [] is h = tt
+all_below w dir most (frame ∷ rest) is h = (settled_below w dir most is frame h.0, all_below w dir most rest is h.1)
+
+queue_empty : (w : Federation) (dir : Dir) (most : ℕ) (frames : List Frame) → frames_in w dir ≡ frames → number_taken 1 (receiver w dir) ≡ most → All (IsSettled w dir) (frames_in w dir) → drop most (offered_in 1 frames) ≡ []
+queue_empty w dir most frames are is settled =
+    let P : List Frame → Type 0 = λ x. AllByRecursion (IsSettled w dir) x in
+    none_left most (offered_in 1 frames) (few_offered 1 most [] frames (omega arith) (all_below w dir most frames is (subst P are (each (IsSettled w dir) (frames_in w dir) settled))))
+
+-- a federate that has nothing to announce or to run
+event_of_member : (w : Federation) (j : ℕ) (s : Station FederateNode) (e : Event) → slice_get w.federates j ≡ Some s → j < length w.federates → (happens coordinator_core federate_core w (if_there w j (record { node = Federate j; event = e }))).outcome ≡ outcome_of (step_of federate_core false s e).answer
+event_of_member w j s e there below =
+    ap (λ (b : Bool). (happens coordinator_core federate_core w (if b then Some (record { node = Federate j; event = e }) else None)).outcome) (is_below j (length w.federates) below) ∙
+    ap (λ (o : Option (Station FederateNode)). (at_federate federate_core w j e o).outcome) there
+  where
+    is_below : (a b : ℕ) → a < b → nat_lt a b ≡ true
+    is_below a b l = grind (arith, nat_tests)
+
+stuck_at : (d : Draft) (programs : List Behaviour) (inputs : List Input) (steps : List Step) (lawful : IsLawfulWith (network_of d programs inputs) (least_of d)) → IsStuck (world_after d programs inputs steps) → (j : ℕ) → j < federate_count d
+    → runs.IsStuck (network_of d programs inputs) j (members_after d programs inputs (stands d programs inputs steps lawful).stands.moves j)
+stuck_at d programs inputs steps lawful stuck j below =
+    let n = network_of d programs inputs in
+    let w = world_after d programs inputs steps in
+    let g = stands d programs inputs steps lawful in
+    let run = g.stands.run in
+    let l = g.stands.links j in
+    let m = members_after d programs inputs g.stands.moves j in
+    let k = kept_at d programs inputs steps lawful j below (all_kept d programs inputs steps stuck.kept j) in
+    let at = run.shown.each j below in
+    let linked = (run.site j below at.station at.there).held.linked in
+    let ups = queue_empty (world_after d programs inputs steps) (Up j) (g.stands.links j).first.end.taken (g.stands.links j).second.sent (got (world_after d programs inputs steps).up j (g.stands.links j).second.sent [] at.up)
+    (ap (number_taken 1) at.first ∙ own_number (g.stands.links j).first.end linked.here) (stuck.settled (Up j)) in
+    let own : receiver (world_after d programs inputs steps) (Down j) ≡ Some (g.stands.links j).second.end = ap own_end at.there ∙ ap (λ (x : List Image). slice_get x 0) at.second in
+    let downs = queue_empty (world_after d programs inputs steps) (Down j) (g.stands.links j).second.end.taken (g.stands.links j).first.sent (got (world_after d programs inputs steps).down j (g.stands.links j).first.sent [] at.down)
+    (ap (number_taken 1) own ∙ own_number (g.stands.links j).second.end k.incarnation) (stuck.settled (Down j)) in
+    let size = run.shown.federates in
+    let here : j < length (world_after d programs inputs steps).federates = omega arith in
+    let announced = silent_is k.station (federate_core.announce k.station.node) (sym (event_of_member (world_after d programs inputs steps) j k.station event.Announce k.there here) ∙ stuck.announced j) in
+    let advanced = silent_is k.station (federate_core.advance k.station.node) (sym (event_of_member (world_after d programs inputs steps) j k.station event.Advance k.there here) ∙ stuck.advanced j) in
+    let A : FederateNode → Type 0 = λ v. member.announces v ≡ Nothing in
+    let B : FederateNode → Type 0 = λ v. member.advances v ≡ Nothing in
+    record {
+      up = k.up ∙ ups;
+      down = k.down ∙ downs;
+      announce = nothing_of (member.made_by (node_with d programs inputs j (members_after d programs inputs g.stands.moves j).federate)) (federate_announces (members_after d programs inputs g.stands.moves j).federate) (subst A k.node announced);
+      advance = nothing_of (member.made_by (node_with d programs inputs j (members_after d programs inputs g.stands.moves j).federate)) (federate_advances (network_of d programs inputs) j (members_after d programs inputs g.stands.moves j).federate) (subst B k.node advanced);
+    }
+
+pub stuck_rows : (d : Draft) (programs : List Behaviour) (inputs : List Input) (steps : List Step) (j : ℕ) → IsLawfulWith (network_of d programs inputs) (least_of d) → IsStuck (world_after d programs inputs steps) → j < federate_count d → IsWhole d programs inputs (world_after d programs inputs steps) j
+stuck_rows d programs inputs steps j lawful stuck below =
+    let n = network_of d programs inputs in
+    let w = world_after d programs inputs steps in
+    let g = stands d programs inputs steps lawful in
+    let k = kept_at d programs inputs steps lawful j below (all_kept d programs inputs steps stuck.kept j) in
+    let same = rows_are d programs inputs (world_after d programs inputs steps) j (g.stands.links j) (members_after d programs inputs g.stands.moves j) k in
+    let wired = lawful_is_wired n lawful.lawful in
+    let safe = widest_rule_is_safe n (least_of d) wired in
+    let full = widest_rule_is_full n (least_of d) wired in
+    let rules = (λ (k : ℕ). rule_of d programs inputs) in
+    let every = quiet_has_every_row n (least_of d) rules lawful.lawful lawful.facts (λ k. safe) g.stands.moves
+    (stuck_quiet n (least_of d) rules lawful.lawful lawful.least (λ k. safe) (λ k. full) g.stands.moves (stuck_at d programs inputs steps lawful stuck)) j below in
+    let P : List Row → Type 0 = λ x. HasEveryRow n j x in
+    subst P (sym same) every
