@@ -190,3 +190,13 @@ does_steps w (Forget j) = forgets_steps w j (slice_get w.federates j)
 pub steps_after : (w : Federation) (steps : List Step) → (after_steps coordinator_core federate_core w steps).steps ≡ w.steps ++ steps
 steps_after w [] = sym (append-nil w.steps)
 steps_after w (step ∷ rest) = steps_after (step_in w step).world rest ∙ ap (λ (x : List Step). x ++ rest) (ap (λ (x : List Step). x ++ step ∷ []) (does_steps w step)) ∙ append_assoc w.steps (step ∷ []) rest
+
+pub listed_so : (d : Draft) (programs : List Behaviour) (inputs : List Input) (steps : List Step) → (world_after d programs inputs steps).steps ≡ steps
+listed_so d programs inputs steps = steps_after (opening_world d programs inputs) steps
+
+more_from : (w : Federation) (steps : List Step) (step : Step) → after_steps coordinator_core federate_core w (steps ++ step ∷ []) ≡ (step_in (after_steps coordinator_core federate_core w steps) step).world
+more_from w [] step = refl
+more_from w (first ∷ rest) step = more_from (step_in w first).world rest step
+
+pub one_more : (d : Draft) (programs : List Behaviour) (inputs : List Input) (steps : List Step) (step : Step) → world_after d programs inputs (steps ++ step ∷ []) ≡ (step_in (world_after d programs inputs steps) step).world
+one_more d programs inputs steps step = more_from (opening_world d programs inputs) steps step

@@ -1,0 +1,45 @@
+//! What holds of the world of every federation, after any list of steps. Each function is a law: it does nothing.
+ghost use Rattle.std.specs.Prelude.{◌≡◌, ℕ, ◌<◌, true, List, ◌++◌, [], ◌∷◌};
+ghost use Rattle.plan.specs.declared.draft.Draft.{Draft};
+ghost use Rattle.plan.specs.declared.input.Input.{Input};
+ghost use Rattle.plan.specs.External.{AreInputsOf};
+ghost use Rattle.plan.specs.Federation.{federate_count};
+ghost use Rattle.plan.specs.Legal.{IsLegal};
+ghost use Rattle.reactor.specs.Behaviour.{Behaviour};
+ghost use Rattle.reactor.specs.Programs.{AreProgramsOf};
+ghost use Rattle.schedule.specs.declared.step.Step.{Step};
+ghost use Rattle.schedule.specs.Kept.{is_kept};
+ghost use Rattle.schedule.specs.Federation.{world_after, step_in, IsPlain, IsBeginning, IsWhole, IsStuck, IsFinished};
+
+/// The steps of a world are those that were made, and one more step is made in the world after those before it.
+#[tactic(none)]
+pub fn steps_are_made_in_order()
+    ensures listed { (d : Draft) (programs : List Behaviour) (inputs : List Input) (steps : List Step) → (world_after d programs inputs steps).steps ≡ steps }
+    ensures more { (d : Draft) (programs : List Behaviour) (inputs : List Input) (steps : List Step) (step : Step) →
+        world_after d programs inputs (steps ++ step ∷ []) ≡ (step_in (world_after d programs inputs steps) step).world }
+{}
+
+/// Whatever steps were made, no node refuses a signal at the next step, and none acknowledges what was never sent: a refusal is of a
+/// frame of another incarnation, of one ahead of its turn, at a closed end, or for want of room in a link.
+#[tactic(none)]
+pub fn no_node_refuses_a_signal()
+    ensures { (d : Draft) (programs : List Behaviour) (inputs : List Input) (steps : List Step) (step : Step) → IsLegal d → AreProgramsOf d programs →
+        AreInputsOf d inputs → IsPlain (step_in (world_after d programs inputs steps) step).outcome }
+{}
+
+/// Whatever steps were made, the rows of each federate that kept its state are a beginning of its part of the undivided program's rows.
+#[tactic(none)]
+pub fn rows_are_a_beginning()
+    ensures { (d : Draft) (programs : List Behaviour) (inputs : List Input) (steps : List Step) (j : ℕ) → IsLegal d → AreProgramsOf d programs →
+        AreInputsOf d inputs → j < federate_count d → is_kept steps j ≡ true → IsBeginning d programs inputs (world_after d programs inputs steps) j }
+{}
+
+/// In a stuck world, and in a finished one, each federate's rows begin with its part of the undivided program's rows after any number of
+/// turns: none is missing.
+#[tactic(none)]
+pub fn no_row_is_missing()
+    ensures stuck { (d : Draft) (programs : List Behaviour) (inputs : List Input) (steps : List Step) (j : ℕ) → IsLegal d → AreProgramsOf d programs →
+        AreInputsOf d inputs → j < federate_count d → IsStuck (world_after d programs inputs steps) → IsWhole d programs inputs (world_after d programs inputs steps) j }
+    ensures finished { (d : Draft) (programs : List Behaviour) (inputs : List Input) (steps : List Step) (j : ℕ) → IsLegal d → AreProgramsOf d programs →
+        AreInputsOf d inputs → j < federate_count d → IsFinished (world_after d programs inputs steps) → IsWhole d programs inputs (world_after d programs inputs steps) j }
+{}
