@@ -2,14 +2,14 @@
 //!
 //! Promise to the layer above: words to cite for a step of the world, and laws: whatever frames are lost, repeated or come out of order,
 //! and whoever forgets, each federate that keeps its state computes a beginning of what the undivided program computes. Begin with
-//! `specs/World` and `specs/Federation`, then `laws`.
+//! `specs/World` and `specs/Federation`, then `world_laws`.
 #![tactic(auto)]
 
 pub mod dir;
-pub mod laws;
 pub mod limits;
 pub mod outcome;
 pub mod step;
+pub mod world_laws;
 
 pub use dir::Dir;
 pub use limits::LINK_ROOM;

@@ -1,6 +1,6 @@
 use Rattle.reactor.proofs.LawfulNetwork.{gives_lawful_with}
 use Rattle.schedule.proofs.Rows.{stuck_rows, finished_rows}
-use Rattle.schedule.proofs.laws.no_row_is_missing.Goals as goal
+use Rattle.schedule.proofs.world_laws.no_row_is_missing.Goals as goal
 
 pub returns-clause-stuck : goal.returns-clause-stuck
 returns-clause-stuck c = λ d programs inputs steps j legal are given below stuck. stuck_rows d programs inputs steps j (gives_lawful_with d programs inputs legal are given) stuck below

@@ -1,5 +1,5 @@
 use Rattle.schedule.proofs.Worlds.{listed_so, one_more}
-use Rattle.schedule.proofs.laws.steps_are_made_in_order.Goals as goal
+use Rattle.schedule.proofs.world_laws.steps_are_made_in_order.Goals as goal
 
 pub returns-clause-listed : goal.returns-clause-listed
 returns-clause-listed c = listed_so
