@@ -40,6 +40,15 @@ IsPlainAnswer Silent = Unit {0}
 IsPlainAnswer (Says frames) = Unit {0}
 IsPlainAnswer (Declines number frames) = IsTrue (is_plain number)
 
+-- an act by which no signal is taken
+abbrev pub TakesNone : Act → Type 0
+TakesNone (Gets place is_taken) = is_taken ≡ false
+TakesNone (Offers signals) = Unit {0}
+TakesNone Resends = Unit {0}
+TakesNone Greets = Unit {0}
+TakesNone (Closes number) = Unit {0}
+TakesNone (TurnsAway k number) = Unit {0}
+
 -- acts at one peer alone
 abbrev pub only : ℕ → List Act → ℕ → List Act
 only q acts p = if nat_eq p q then acts else []
@@ -77,10 +86,10 @@ pub record IsHandedOn {View Row : Type 0} (core : Core View Row) (s : Station Vi
 pub data Kind {View Row : Type 0} (core : Core View Row) (hub : Bool) (s : Station View) (e : Event) (place : ℕ) (made : Stepped View) (acts : ℕ → List Act) : Type 0 where
   quiet : made.station.node ≡ s.node → IsPlainAnswer made.answer → ((p : ℕ) (i : Image) → slice_get s.ends p ≡ Some i → AllByRecursion (IsQuiet hub i.incarnation) (acts p)) → Kind core hub s e place made acts
   takes : (q : ℕ) (m : Made View) → IsHandedOn core s e q (outcome.Done m) → made.station.node ≡ m.after → IsPlainAnswer made.answer → ((p : ℕ) → acts p ≡ taking q place p (sent_to p m.sent)) → Kind core hub s e place made acts
-  notes : (q : ℕ) → IsHandedOn core s e q outcome.Nothing → Kind core hub s e place made acts
+  notes : (q : ℕ) → IsHandedOn core s e q outcome.Nothing → ((p : ℕ) → acts p ≡ taking q place p []) → Kind core hub s e place made acts
   says : (m : Made View) → Speaks core s.node e (outcome.Done m) → made.station.node ≡ m.after → IsPlainAnswer made.answer → ((p : ℕ) → acts p ≡ Offers (sent_to p m.sent) ∷ []) → Kind core hub s e place made acts
-  declines : (q : ℕ) (refusal : Refusal) → IsHandedOn core s e q (outcome.Refused refusal) → Kind core hub s e place made acts
-  cannot : (refusal : Refusal) → Speaks core s.node e (outcome.Refused refusal) → Kind core hub s e place made acts
+  declines : (q : ℕ) (refusal : Refusal) → IsHandedOn core s e q (outcome.Refused refusal) → ((p : ℕ) → AllByRecursion TakesNone (acts p)) → Kind core hub s e place made acts
+  cannot : (refusal : Refusal) → Speaks core s.node e (outcome.Refused refusal) → ((p : ℕ) → AllByRecursion TakesNone (acts p)) → Kind core hub s e place made acts
 
 -- a step of a station, as acts at each side
 pub record IsCourse {View Row : Type 0} (core : Core View Row) (hub : Bool) (s : Station View) (e : Event) (came : ℕ → List Frame) (place : ℕ) (made : Stepped View) : Type 0 where

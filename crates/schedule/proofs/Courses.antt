@@ -34,7 +34,7 @@ use Rattle.delivery.proofs.Offers.{offers_open}
 use Rattle.schedule.specs.World.{frames_of}
 use Rattle.schedule.specs.Federation.{is_plain}
 use Rattle.schedule.proofs.Posting.{frames_to, IsSeen, SeenIn, all_seen, to_itself, to_others, same_number, apart_numbers, itself}
-use Rattle.schedule.proofs.Course.{acted, IsQuiet, IsPlainAnswer, only, taking, Comes, Speaks, announces, advances, IsHandedOn, Kind, quiet, takes as takes_kind, notes, says as says_kind, declines, cannot, IsCourse}
+use Rattle.schedule.proofs.Course.{acted, IsQuiet, TakesNone, IsPlainAnswer, only, taking, Comes, Speaks, announces, advances, IsHandedOn, Kind, quiet, takes as takes_kind, notes, says as says_kind, declines, cannot, IsCourse}
 
 some_is : {X : Type 0} (x y : X) → Some x ≡ Some y → x ≡ y
 some_is x y same = cc
@@ -251,7 +251,7 @@ spoken core hub s e came place (outcome.Refused refusal) speaks =
       seen = λ p side found. record { end = found; frames = sym (append-nil side.sent) };
       within = tt;
       size = refl;
-      kind = cannot refusal speaks;
+      kind = cannot refusal speaks (λ p. tt);
     }
 spoken core hub s e came place outcome.Nothing speaks = still core hub s e came place Silent refl tt
 spoken core hub s e came place (outcome.Done made) speaks = by_room (lacks_room s.ends made.sent) refl
@@ -332,6 +332,10 @@ signal_course core hub s came place q e k n signal (outcome.Refused refusal) fou
     handed : IsHandedOn core s (event.Frame q (Data k n signal)) q (outcome.Refused refusal)
     handed = record { image = e; incarnation = k; number = n; signal = signal; is_event = refl; found = found; in_turn = is; node = does }
 
+    closes_only : (p : ℕ) (b : Bool) (number : ℕ) → AllByRecursion TakesNone (if b then Closes number ∷ [] else [])
+    closes_only p true number = (tt, tt)
+    closes_only p false number = tt
+
     by_closing : (b : Bool) → IsCourse core hub s (event.Frame q (Data k n signal)) came place (refused s q e (refusals.number_of refusal) b)
     by_closing true =
         let number = refusals.number_of refusal in
@@ -345,7 +349,7 @@ signal_course core hub s came place q e k n signal (outcome.Refused refusal) fou
               )));
           within = (place_there s.ends q e found, tt);
           size = length-set s.ends q (after_close e);
-          kind = declines q refusal handed;
+          kind = declines q refusal handed (λ p. closes_only p (nat_eq p q) number);
         }
     by_closing false =
         record {
@@ -353,7 +357,7 @@ signal_course core hub s came place q e k n signal (outcome.Refused refusal) fou
           seen = λ p side there. record { end = there; frames = sym (append-nil side.sent) };
           within = tt;
           size = refl;
-          kind = declines q refusal handed;
+          kind = declines q refusal handed (λ p. tt);
         }
 signal_course core hub s came place q e k n signal outcome.Nothing found at is does =
     let P : Outgoing → Type 0 = λ o. o.peer < length s.ends in
@@ -364,7 +368,7 @@ signal_course core hub s came place q e k n signal outcome.Nothing found at is d
       seen = none;
       within = (place_there s.ends q e found, tt);
       size = received_size s.ends q (Data k n signal) (slice_get s.ends q);
-      kind = notes q (record { image = e; incarnation = k; number = n; signal = signal; is_event = refl; found = found; in_turn = is; node = does });
+      kind = notes q (record { image = e; incarnation = k; number = n; signal = signal; is_event = refl; found = found; in_turn = is; node = does }) (λ p. refl);
     }
   where
     no_room : (ends : List Image) → lacks_room ends [] ≡ false

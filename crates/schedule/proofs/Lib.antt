@@ -22,3 +22,5 @@ pub mod Steps
 pub mod Worlds
 -- The rows of a federation's world: as they go on, and where it is finished or stuck.
 pub mod Rows
+-- What is taken at each side by a step.
+pub mod Taking

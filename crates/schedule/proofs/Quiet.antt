@@ -101,7 +101,7 @@ pub record TookNothing (s after : Side) : Type 0 where
   pub took : after.took ≡ s.took
   pub incarnation : after.end.incarnation ≡ s.end.incarnation
 
-as_it_was : (s : Side) → TookNothing s s
+pub as_it_was : (s : Side) → TookNothing s s
 as_it_was s = record { taken = refl; took = refl; incarnation = refl }
 
 lets_nothing : (s : Side) (frame : Frame) (arrived : Arrival) → answer_of s.end frame ≡ Ok arrived → TookNothing s (lets_in false s frame arrived)
@@ -123,7 +123,7 @@ gets_nothing : (s : Side) (o : Option Frame) → TookNothing s (gets false s o)
 gets_nothing s None = as_it_was s
 gets_nothing s (Some frame) = hears_nothing s frame (answer_of s.end frame) refl
 
-quiet_takes_nothing : (hub : Bool) (i : ℕ) (s : Side) (coming : List Frame) (act : Act) → IsQuiet hub i act → TookNothing s (side_after s coming act)
+pub quiet_takes_nothing : (hub : Bool) (i : ℕ) (s : Side) (coming : List Frame) (act : Act) → IsQuiet hub i act → TookNothing s (side_after s coming act)
 quiet_takes_nothing hub i s coming (Gets place is_taken) q =
     let P : Bool → Type 0 = λ b. TookNothing s (side_after s coming (Gets place b)) in
     subst P (sym q) (gets_nothing s (slice_get coming place))

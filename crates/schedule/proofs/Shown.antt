@@ -1,13 +1,15 @@
 -- A world as links: each federate's link, with all frames ever sent over it. What a step of the world makes of them.
 use Rattle.std.proofs.Common.{◌≡◌, ◌≢◌, ℕ, zero, suc, ◌+◌, ◌<◌, ◌≤◌, ◌⊎◌, inl, inr, Bool, true, false, IsTrue, List, [], ◌∷◌, ◌++◌, length, map, set, get_or, slice_get, refl, sym, ap, subst, ◌∙◌, arith, Option, None, Some, Err, if◌then◌else◌}
 use Rattle.std.specs.Prelude.{nat_eq, nat_lt}
-use Rattle.std.specs.List.{AllByRecursion}
+use Rattle.std.specs.List.{AllByRecursion, range_with_len}
+use Rattle.std.proofs.lemmas.List.FromFn.{length-map-range_with_len, get_or-map-range_with_len}
+use Rattle.std.proofs.lemmas.Option.{slice_get-get_or}
 use Rattle.std.proofs.lemmas.Bool.{cases_lt}
 use Rattle.std.proofs.lemmas.Bool.Decides.{nat_tests}
 use Rattle.std.proofs.lemmas.List.{append-nil, append_assoc, length-set}
 use Rattle.signal.specs.declared.frame.Frame.{Frame}
 use Rattle.link.specs.declared.fault.LinkFault.{LinkFault}
-use Rattle.link.specs.Image.{Image, answer_of}
+use Rattle.link.specs.Image.{Image, answer_of, blank}
 use Rattle.link.specs.Taken.{carried_by}
 use Rattle.network.specs.Network.{with_one}
 use Rattle.node.specs.declared.outgoing.Outgoing.{Outgoing}
@@ -16,7 +18,7 @@ use Rattle.node.specs.declared.event.Event.TheVariants as event
 use Rattle.node.specs.Core.{Core}
 use Rattle.node.specs.Step.{Station, Stepped, step_of}
 use Rattle.node.proofs.Ends.{get_set_here, get_set_other}
-use Rattle.delivery.specs.Link.{Side, Link, replaced}
+use Rattle.delivery.specs.Link.{Side, Link, replaced, opening_link}
 use Rattle.delivery.proofs.Acts.{IsHeld, first_told, second_told}
 use Rattle.schedule.specs.declared.dir.Dir.{Dir}
 use Rattle.schedule.specs.declared.dir.Dir.TheVariants.{Up, Down}
@@ -24,7 +26,7 @@ use Rattle.schedule.specs.declared.step.Step.{Step}
 use Rattle.schedule.specs.declared.step.Step.TheVariants.{Deliver, Resend, Reconnect, Announce, Advance, Forget}
 use Rattle.schedule.specs.declared.outcome.Outcome.TheVariants as outcome
 use Rattle.node.specs.declared.node_id.NodeId.TheVariants.{Federate}
-use Rattle.schedule.specs.World.{World, frames_in, frame_at, sends_again, greets, Occurrence, delivered, if_there, sent_out, frames_of, Applied, unchanged, after_coordinator, after_federate, at_federate, happens, blank_next, forgotten, has_next, forgets, does}
+use Rattle.schedule.specs.World.{World, frames_in, frame_at, sends_again, greets, Occurrence, delivered, if_there, sent_out, frames_of, Applied, unchanged, after_coordinator, after_federate, at_federate, happens, blank_next, forgotten, has_next, forgets, does, opened}
 use Rattle.schedule.specs.Taken.{signal_in, brought_by}
 use Rattle.schedule.proofs.Posting.{frame_if, frames_to, IsSeen, same_number, apart_numbers, itself}
 use Rattle.schedule.proofs.Course.{acted, Comes, IsCourse}
@@ -83,12 +85,12 @@ got [] k x d e = cc
 got (y ∷ xs) zero x d e = some_of y x e
 got (y ∷ xs) (suc k) x d e = got xs k x d e
 
-none_beyond : {X : Type 0} (xs : List X) (k : ℕ) (d : X) → length xs ≤ k → get_or xs k d ≡ d
+pub none_beyond : {X : Type 0} (xs : List X) (k : ℕ) (d : X) → length xs ≤ k → get_or xs k d ≡ d
 none_beyond [] k d l = refl
 none_beyond (x ∷ xs) zero d l = absurd (omega arith)
 none_beyond (x ∷ xs) (suc k) d l = none_beyond xs k d (omega arith)
 
-nothing_beyond : {X : Type 0} (xs : List X) (k : ℕ) → length xs ≤ k → slice_get xs k ≡ None
+pub nothing_beyond : {X : Type 0} (xs : List X) (k : ℕ) → length xs ≤ k → slice_get xs k ≡ None
 nothing_beyond [] k l = refl
 nothing_beyond (x ∷ xs) zero l = absurd (omega arith)
 nothing_beyond (x ∷ xs) (suc k) l = nothing_beyond xs k (omega arith)
@@ -375,3 +377,42 @@ happened hub member w count links (Announce j) shown held =
 happened hub member w count links (Advance j) shown held =
     if_below hub member w count links (Advance j) j (record { node = Federate j; event = event.Advance }) shown (λ below. asked hub member w count links (Advance j) j event.Advance shown (λ s. tt) tt below)
 happened hub member w count links (Forget j) shown held = loses hub member w count links j (slice_get w.federates j) refl shown
+
+-- the steps that are listed change nothing of this
+pub shown_listed : {Hub Node : Type 0} (w : World Hub Node) (count : ℕ) (links : ℕ → Link) (steps : List Step) → IsShown w count links → IsShown (record w { steps = steps }) count links
+shown_listed w count links steps s =
+    record {
+      ends = s.ends;
+      federates = s.federates;
+      ups = s.ups;
+      downs = s.downs;
+      each = λ j l. (let at = s.each j l in record { first = at.first; station = at.station; there = at.there; second = at.second; up = at.up; down = at.down });
+    }
+
+-- what stands at a place of a list that is made by number
+pub made_at : {X : Type 0} (f : ℕ → X) (count j : ℕ) → j < count → slice_get (map f (range_with_len 0 count)) j ≡ Some (f j)
+made_at f count j l =
+    let size = length-map-range_with_len f 0 count in
+    let got = get_or-map-range_with_len f 0 count j j (f j) l (omega arith) in
+    slice_get-get_or (map f (range_with_len 0 count)) j (f j) (omega arith) ∙ ap (λ x. Some x) got
+
+-- a world of which nothing was asked yet
+pub opened_shown : {Hub Member : Type 0} (hub : Hub) (count : ℕ) (member_at : ℕ → Member) (room : ℕ) → IsShown (opened hub count member_at room) count (λ j. opening_link j 1 room)
+opened_shown {Member = Member} hub count member_at room =
+    let end : ℕ → Image = λ j. blank j 1 room in
+    let station : ℕ → Station Member = λ j. record { node = member_at j; ends = blank j 1 room ∷ [] } in
+    let none : ℕ → List Frame = λ j. [] in
+    record {
+      ends = length-map-range_with_len end 0 count;
+      federates = length-map-range_with_len station 0 count;
+      ups = length-map-range_with_len none 0 count;
+      downs = length-map-range_with_len none 0 count;
+      each = λ j l. record {
+        first = made_at end count j l;
+        station = station j;
+        there = made_at station count j l;
+        second = refl;
+        up = made_at none count j l;
+        down = made_at none count j l;
+      };
+    }

@@ -92,12 +92,12 @@ goes_at_hub d programs inputs w links moves step e place c lawful comes run =
     elim c.kind [
       | quiet node plain acts ↦ by_none d programs inputs (after_coordinator w made) after step moves (plain_told made.answer plain) (quiet_hub d programs inputs w links members e place c node acts run)
       | takes q m handed node plain acts ↦ by_move d programs inputs (after_coordinator w made) after step moves (ToCoordinator q) (plain_told made.answer plain) (takes_hub d programs inputs w links members e place q m c wired comes handed node acts run)
-      | notes q handed ↦
+      | notes q handed acts ↦
           absurd (coordinator_answers (network_of d programs inputs) (rule_of d programs inputs) (standings_of members) q handed.signal
           (nothing_of (hub_makes (network_of d programs inputs) w.coordinator.node) _ (sym (hub_accepts d programs inputs w.coordinator.node (standings_of members) q handed.signal run.draft run.standings) ∙ handed.node)))
       | says m speaks node plain acts ↦ absurd (elim speaks [ | announces is does ↦ cc | advances is does ↦ cc ])
-      | declines q refusal handed ↦ absurd (refuses_no d programs inputs moves (ToCoordinator q) refusal lawful (hub_refuses d programs inputs w links members e place q refusal comes handed run))
-      | cannot refusal speaks ↦ absurd (elim speaks [ | announces is does ↦ cc | advances is does ↦ cc ])
+      | declines q refusal handed acts ↦ absurd (refuses_no d programs inputs moves (ToCoordinator q) refusal lawful (hub_refuses d programs inputs w links members e place q refusal comes handed run))
+      | cannot refusal speaks acts ↦ absurd (elim speaks [ | announces is does ↦ cc | advances is does ↦ cc ])
     ]
 
 -- a lost federate does something
@@ -137,7 +137,7 @@ goes_at_member d programs inputs w links moves step j s e place c lawful below t
                 (kept_takes d programs inputs w links members j s e place q m c below there comes handed node (acts 0) is not_lost node_is queue run)
             | loses later lost ↦ absurd (never_handed d programs inputs j (links j) (members j) s.node place handed.incarnation handed.number handed.signal q site later (handed_at w (links j) s e place q (Done m) ends comes handed))
           ]
-      | notes q handed ↦
+      | notes q handed acts ↦
           elim site.own [
             | keeps is opened not_lost node_is queue ↦
                 absurd (federate_answers n j (members j).federate handed.signal (nothing_of (member.made_by (node_with d programs inputs j (members j).federate)) _ (accepts_as d programs inputs j (members j) s.node q handed.signal Nothing node_is handed.node)))
@@ -160,12 +160,12 @@ goes_at_member d programs inputs w links moves step j s e place c lawful below t
                 ]
             | loses later lost ↦ lost_goes d programs inputs w links moves step j s e place m c below there plain (acts 0) later lost run
           ]
-      | declines q refusal handed ↦
+      | declines q refusal handed acts ↦
           elim site.own [
             | keeps is opened not_lost node_is queue ↦ absurd (refuses_no d programs inputs moves (ToFederate j) refusal lawful (kept_refuses d programs inputs w links members j s e place q refusal below there comes handed is not_lost node_is queue run))
             | loses later lost ↦ absurd (never_handed d programs inputs j (links j) (members j) s.node place handed.incarnation handed.number handed.signal q site later (handed_at w (links j) s e place q (Refused refusal) ends comes handed))
           ]
-      | cannot refusal speaks ↦
+      | cannot refusal speaks acts ↦
           absurd (elim speaks [
             | announces is_event does ↦ announces_freely s.node.federate refusal (refused_of (member.made_by s.node) (federate_announces s.node.federate) refusal does)
             | advances is_event does ↦ advances_freely (member.network_at s.node) s.node.number s.node.federate (first_tag s.node.federate.undone) refusal (refused_of (member.made_by s.node) (federate_advances (member.network_at s.node) s.node.number s.node.federate) refusal does)

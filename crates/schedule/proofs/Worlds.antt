@@ -34,21 +34,10 @@ use Rattle.schedule.specs.declared.step.Step.TheVariants.{Deliver, Resend, Recon
 use Rattle.schedule.specs.World.{World, Occurrence, occurrence_of, Applied, unchanged, at_federate, at_node, happens, has_next, forgotten, forgets, opened, listed, does, applied, after_steps}
 use Rattle.schedule.specs.Kept.{is_forget, is_forget_of, is_kept}
 use Rattle.schedule.specs.Federation.{Federation, IsPlain, opening_world, opening_coordinator, opening_member, world_after, step_in}
-use Rattle.schedule.proofs.Shown.{IsAt, IsShown, some_of}
+use Rattle.schedule.proofs.Shown.{IsAt, IsShown, shown_listed, opened_shown, made_at, some_of}
 use Rattle.schedule.proofs.Site.{IsSite, keeps}
 use Rattle.schedule.proofs.Runs.{IsRun}
 use Rattle.schedule.proofs.Steps.{members_after, Goes, goes}
-
--- the steps that are listed change nothing of this
-shown_listed : {Hub Node : Type 0} (w : World Hub Node) (count : ℕ) (links : ℕ → Link) (steps : List Step) → IsShown w count links → IsShown (record w { steps = steps }) count links
-shown_listed w count links steps s =
-    record {
-      ends = s.ends;
-      federates = s.federates;
-      ups = s.ups;
-      downs = s.downs;
-      each = λ j l. (let at = s.each j l in record { first = at.first; station = at.station; there = at.there; second = at.second; up = at.up; down = at.down });
-    }
 
 run_listed : (d : Draft) (programs : List Behaviour) (inputs : List Input) (w : Federation) (links : ℕ → Link) (members : ℕ → Member) (steps : List Step) → IsRun d programs inputs w links members → IsRun d programs inputs (record w { steps = steps }) links members
 run_listed d programs inputs w links members steps r =
@@ -94,13 +83,6 @@ all_go d programs inputs w links moves (step ∷ steps) lawful run =
           rest.lost j both.1 ∙ first.lost j both.0);
     }
 
--- the opening world
-made_at : {X : Type 0} (f : ℕ → X) (count j : ℕ) → j < count → slice_get (map f (range_with_len 0 count)) j ≡ Some (f j)
-made_at f count j l =
-    let size = length-map-range_with_len f 0 count in
-    let got = get_or-map-range_with_len f 0 count j j (f j) l (omega arith) in
-    slice_get-get_or (map f (range_with_len 0 count)) j (f j) (omega arith) ∙ ap (λ x. Some x) got
-
 open_standings : (count j : ℕ) → standing_at (standings_listed count (λ k. opening_standing)) j ≡ opening_standing
 open_standings zero j = refl
 open_standings (suc count) zero = refl
@@ -116,20 +98,7 @@ opening_run d programs inputs =
     let station : ℕ → Station FederateNode = λ j. record { node = opening_member d programs inputs j; ends = blank j 1 LINK_ROOM ∷ [] } in
     let none : ℕ → List Frame = λ j. [] in
     record {
-      shown = record {
-        ends = length-map-range_with_len (λ j. blank j 1 LINK_ROOM) 0 count;
-        federates = length-map-range_with_len station 0 count;
-        ups = length-map-range_with_len none 0 count;
-        downs = length-map-range_with_len none 0 count;
-        each = λ j l. record {
-          first = made_at (λ j. blank j 1 LINK_ROOM) count j l;
-          station = station j;
-          there = made_at station count j l;
-          second = refl;
-          up = made_at none count j l;
-          down = made_at none count j l;
-        };
-      };
+      shown = opened_shown (opening_coordinator d) count (opening_member d programs inputs) LINK_ROOM;
       draft = refl;
       size = listed_length count (λ j. opening_standing);
       standings = fun_ext (λ j. open_standings count j);
