@@ -24,3 +24,5 @@ pub mod Worlds
 pub mod Rows
 -- What is taken at each side by a step.
 pub mod Taking
+-- What is taken of each direction is a beginning of what was offered in it.
+pub mod InOrder

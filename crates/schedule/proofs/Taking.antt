@@ -41,13 +41,13 @@ pub record Took (s after : Side) (brought : List Signal) : Type 0 where
   pub incarnation : after.end.incarnation ≡ s.end.incarnation
   pub took : after.took ≡ s.took ++ (if nat_lt s.end.taken after.end.taken then brought else [])
 
-not_below : (a b : ℕ) → b ≡ a → nat_lt a b ≡ false
+pub not_below : (a b : ℕ) → b ≡ a → nat_lt a b ≡ false
 not_below a b e = grind (arith, nat_tests)
 
 is_below : (a b : ℕ) → a < b → nat_lt a b ≡ true
 is_below a b l = grind (arith, nat_tests)
 
-nothing_took : (s after : Side) (brought : List Signal) → TookNothing s after → Took s after brought
+pub nothing_took : (s after : Side) (brought : List Signal) → TookNothing s after → Took s after brought
 nothing_took s after brought n =
     record {
       incarnation = n.incarnation;
