@@ -1,0 +1,11 @@
+use Rattle.std.proofs.Common.{◌≡◌, ◌++◌, [], map, take}
+use Rattle.reactor.specs.Entries.{value_at}
+use Rattle.reactor.specs.Federation.{network_of}
+use Rattle.cores.specs.FederateCore.{to_coordinator}
+use Rattle.federate.specs.Outlets.{messages_by}
+use Rattle.federate.proofs.messages.add_messages.Given as goal
+
+abbrev pub invariant-loop-outlet : goal.invariant-loop-outlet
+invariant-loop-outlet l =
+    l.posts.items ≡
+    l.initial.posts.items ++ map to_coordinator (messages_by (network_of l.plan [] []) l.tag (value_at l.outputs) (take l.outlet-index l.outlets))

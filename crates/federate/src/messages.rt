@@ -1,0 +1,82 @@
+ghost use Rattle.std.specs.Prelude.{◌≡◌, ◌++◌, map, OnOk, if◌then◌else◌, [], Some, None};
+ghost use Rattle.tag.specs.LogicalTime.{is_at_most, sum_of};
+ghost use Rattle.plan.specs.Federation.{stop_of};
+ghost use Rattle.protocol.specs.Federate.{message_over};
+ghost use Rattle.reactor.specs.Entries.{value_at};
+ghost use Rattle.reactor.specs.Federation.{network_of};
+ghost use Rattle.cores.specs.FederateCore.{to_coordinator};
+ghost use Rattle.federate.specs.Outlets.{messages_by};
+
+use crate::memory::Memory;
+use crate::outlet::Outlet;
+use plan::Plan;
+use protocol::Post;
+use reactor::Entry;
+use reactor::entry::value_at;
+use signal::Signal;
+use tag::{Delay, FiniteTag, plus};
+
+/// A signal for the coordinator, a federate's one peer.
+pub fn to_coordinator(signal: Signal) -> Post
+    ensures { result ≡ to_coordinator signal }
+{
+    Post { peer: 0, signal }
+}
+
+/// The last tag at which anything runs.
+pub fn stop_of(plan: &Plan) -> FiniteTag
+    ensures { result ≡ stop_of plan.now }
+{
+    FiniteTag::new(plan.stop_time(), 0)
+}
+
+/// The tag that is the delay later than this one, unless it is later than stop.
+pub fn in_time(tag: FiniteTag, delay: Delay, stop: FiniteTag) -> Option<FiniteTag>
+    ensures { result ≡ (if is_at_most (sum_of tag delay) stop then Some (sum_of tag delay) else None) }
+{
+    stop.known();
+    let later = FiniteTag::of(plus(tag.tag(), delay))?;
+    if later <= stop { Some(later) } else { None }
+}
+
+/// Adds the messages of a turn that sets these outputs, as far as they aren't later than stop.
+pub fn add_messages(
+    posts: &mut Vec<Post>,
+    plan: &Plan,
+    outlets: &[Outlet],
+    tag: FiniteTag,
+    outputs: &[Entry],
+) -> Result<(), Memory>
+    ensures { OnOk result (posts.new.items ≡ posts.old.items ++ map to_coordinator (messages_by (network_of plan.now [] []) tag (value_at outputs.now) outlets.now)) }
+{
+    for outlet in outlets {
+        let value = value_at(outputs, outlet.connection.port());
+        add_message(posts, plan, *outlet, tag, value)?;
+    }
+    Ok(())
+}
+
+/// Adds the message of a value, if there is one.
+fn add_message(
+    posts: &mut Vec<Post>,
+    plan: &Plan,
+    outlet: Outlet,
+    tag: FiniteTag,
+    value: Option<i64>,
+) -> Result<(), Memory>
+    ensures { OnOk result (posts.new.items ≡ posts.old.items ++ map to_coordinator (message_over (network_of plan.now [] []) tag outlet.number outlet.connection value)) }
+{
+    let Some(value) = value else {
+        return Ok(());
+    };
+    let Some(tag) = in_time(tag, outlet.connection.delay(), stop_of(plan)) else {
+        return Ok(());
+    };
+    let signal = Signal::Msg {
+        connection: outlet.number,
+        tag,
+        value,
+    };
+    posts.push(to_coordinator(signal))?;
+    Ok(())
+}
