@@ -13,6 +13,8 @@ mod coordinators;
 #[cfg(test)]
 mod desks;
 #[cfg(test)]
+mod federates;
+#[cfg(test)]
 mod joined;
 #[cfg(test)]
 mod plans;
