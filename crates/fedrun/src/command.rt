@@ -46,7 +46,7 @@ pub fn command<R: AllocGlobal, F: Files, O: Write, E: Write>(
 }
 
 /// What a command answers.
-#[derive(Clone, Copy, Debug)]
+#[derive(Clone, Copy)]
 pub struct Answered {
     /// The exit status.
     pub status: u8,

@@ -6,7 +6,7 @@ use thiserror::Error;
 
 /// What the program tells on standard error when it gives up. What a library told is kept as it is, and printed as the library
 /// has it.
-#[derive(Debug, Drop, Error)]
+#[derive(Drop, Error)]
 pub enum Fault<'a> {
     /// The words are no command: whoever gave them corrects them.
     Usage,
@@ -34,6 +34,13 @@ impl Fault<'_> {
             Fault::CannotRead(_) | Fault::Load(_) => 1,
             Fault::CannotWrite | Fault::Turns(_) | Fault::Print(_) => 3,
         }
+    }
+}
+
+/// As it is displayed.
+impl fmt::Debug for Fault<'_> {
+    fn fmt<W: fmt::Write>(&self, f: &mut fmt::Formatter<W>) -> fmt::Result {
+        fmt::Display::fmt(self, f)
     }
 }
 

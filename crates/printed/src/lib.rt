@@ -7,6 +7,7 @@
 pub mod memory;
 pub mod plans;
 pub mod rows;
+mod tags;
 
 pub use memory::Memory;
 pub use plans::plan_text;

@@ -1,10 +1,12 @@
 //! Rows as text, written as they are asked for: no memory is needed.
 ghost use Rattle.std.specs.Prelude.{◌≡◌, ◌++◌, OnOk, codes};
+ghost use Rattle.std.specs.Fmt.{signed_decimal};
 ghost use Rattle.std.specs.Io.KnownBytes.{Appends};
 ghost use Rattle.plan.specs.Numbering.{timer_names};
 ghost use Rattle.reactor.specs.Resolution.{slot_names};
 ghost use Rattle.printed.specs.RowText.{name_at, printed_input, printed_output, bracketed, printed_turn, printed_line, printed_rows};
 
+use crate::tags::{write_tag, write_value};
 use plan::{Federate, Plan, Slots, Text, Timer};
 use reactor::{Entry, RowView, Rows};
 use std::io;
@@ -35,9 +37,10 @@ fn write_line<W: Write>(out: &mut W, federates: &[Federate], row: &RowView<'_>) 
 fn write_turn<W: Write>(out: &mut W, federate: &Federate, row: &RowView<'_>) -> io::Result<()>
     ensures { OnOk result (Appends (W.contents out.old) (W.contents out.new) (printed_turn federate.now row.now)) }
 {
-    let name = federate.name.as_str();
-    let tag = row.tag();
-    write!(out, "{name} {tag} ")?;
+    out.write_all(federate.name.as_str().as_bytes())?;
+    out.write_all(b" ")?;
+    write_tag(out, row.tag())?;
+    out.write_all(b" ")?;
     write_inputs(out, &federate.slots, row.inputs())?;
     out.write_all(b" -> ")?;
     write_outputs(out, &federate.slots, row.outputs())
@@ -83,8 +86,7 @@ fn write_input<W: Write>(out: &mut W, slots: &Slots, entry: Entry) -> io::Result
     if slots.is_bare(slot) {
         return out.write_all(name.as_bytes());
     }
-    let value = entry.value();
-    write!(out, "{name}={value}")
+    write_valued(out, name, entry.value())
 }
 
 /// Writes a further slot that was present.
@@ -95,14 +97,22 @@ fn write_next_input<W: Write>(out: &mut W, slots: &Slots, entry: Entry) -> io::R
     write_input(out, slots, entry)
 }
 
+/// Writes a name with a value.
+fn write_valued<W: Write>(out: &mut W, name: &str, value: i64) -> io::Result<()>
+    ensures { OnOk result (Appends (W.contents out.old) (W.contents out.new) (name.now ++ (codes "=" ++ signed_decimal value))) }
+{
+    out.write_all(name.as_bytes())?;
+    out.write_all(b"=")?;
+    write_value(out, value)
+}
+
 /// Writes an output that was set.
 #[tactic(auto, unfolding(crate::specs::RowText::printed_output))]
 fn write_output<W: Write>(out: &mut W, slots: &Slots, entry: Entry) -> io::Result<()>
     ensures { OnOk result (Appends (W.contents out.old) (W.contents out.new) (printed_output slots.now entry)) }
 {
     let name = name_of(slots.outputs.as_slice(), entry.place());
-    let value = entry.value();
-    write!(out, "{name}={value}")
+    write_valued(out, name, entry.value())
 }
 
 /// Writes a further output that was set.

@@ -12,6 +12,18 @@ triggers = ["t"]
 body = ["n = n + 1", "out.y = n"]
 "#;
 
+/// A counter that ticks each millisecond.
+pub const TICKS: &str = r#"stop = "699 ms"
+[[federate]]
+name = "src"
+outputs = ["y"]
+timers = [{ name = "t", offset = "0", period = "1 ms" }]
+state = [{ name = "n", value = 0 }]
+[[federate.reaction]]
+triggers = ["t"]
+body = ["n = n + 1", "out.y = n"]
+"#;
+
 /// Its receiver.
 pub const RECEIVER: &str = r#"[[federate]]
 name = "snk"

@@ -1,7 +1,7 @@
 //! Rows and plans, by the words that ask for them.
 use super::federations::{
     BOTH_WAYS, CARRIED, CARRIED_INPUTS, CHAIN, CHAIN_INPUT, CONNECTION, LOOP, RECEIVER, REPLACED,
-    SENDER, STARTED_RECEIVER, THREE,
+    SENDER, STARTED_RECEIVER, THREE, TICKS,
 };
 use super::prints;
 
@@ -40,6 +40,34 @@ fn prints_turns<R: AllocGlobal>(rt: &R, turns: &str, lines: usize) -> Option<boo
 fn prints_so_many_turns(rt: HostRuntime) {
     for (turns, lines) in TURNS {
         assert!(rt; prints_turns(&rt, turns, *lines) == Some(true), "{turns}");
+    }
+}
+
+/// So many turns of a counter that ticks each millisecond print so many rows, also of more turns than those whose rows are
+/// kept at once.
+const MANY_TURNS: &[(&str, u32)] = &[
+    ("255", 255),
+    ("256", 256),
+    ("257", 257),
+    ("512", 512),
+    ("600", 600),
+    ("4294967295", 700),
+];
+
+fn prints_ticks<R: AllocGlobal>(rt: &R, turns: &str, ticks: u32) -> Option<bool> {
+    let mut rows = String::from_str(rt.alloc(), "src (0, 0) [t] -> [y=1]\n").ok()?;
+    for tick in 1..ticks {
+        let count = tick + 1;
+        write!(rows, "src ({tick} ms, 0) [t] -> [y={count}]\n").ok()?;
+    }
+    let words = ["whole", "fed.toml", "-", turns];
+    Some(prints(rt, &words, &[TICKS], &[], rows.as_str()))
+}
+
+#[test]
+fn prints_the_rows_of_many_turns(rt: HostRuntime) {
+    for (turns, ticks) in MANY_TURNS {
+        assert!(rt; prints_ticks(&rt, turns, *ticks) == Some(true), "{turns}");
     }
 }
 

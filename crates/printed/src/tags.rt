@@ -1,0 +1,63 @@
+//! Numbers and tags, written as they are displayed.
+ghost use Rattle.std.specs.Prelude.{OnOk};
+ghost use Rattle.std.specs.Fmt.{decimal, signed_decimal};
+ghost use Rattle.std.specs.Io.KnownBytes.{Appends};
+ghost use Rattle.tag.specs.Printed.{printed_time, printed_tag};
+
+use itoa::Buffer;
+use std::io;
+use std::io::Write;
+use tag::{Tag, Time};
+
+/// Writes a tag.
+pub fn write_tag<W: Write>(out: &mut W, tag: Tag) -> io::Result<()>
+    ensures { OnOk result (Appends (W.contents out.old) (W.contents out.new) (printed_tag tag)) }
+{
+    let time = tag.time();
+    match Time::new(time) {
+        Some(_) => {
+            out.write_all(b"(")?;
+            write_time(out, time)?;
+            out.write_all(b", ")?;
+            write_count(out, u64::from(tag.microstep()))?;
+            out.write_all(b")")
+        }
+        None => out.write_all(b"FOREVER"),
+    }
+}
+
+/// Writes a time in the greatest unit that divides it.
+fn write_time<W: Write>(out: &mut W, time: u64) -> io::Result<()>
+    ensures { OnOk result (Appends (W.contents out.old) (W.contents out.new) (printed_time time)) }
+{
+    if time == 0 {
+        out.write_all(b"0")
+    } else if time % 1_000_000_000 == 0 {
+        write_count(out, time / 1_000_000_000)?;
+        out.write_all(b" s")
+    } else if time % 1_000_000 == 0 {
+        write_count(out, time / 1_000_000)?;
+        out.write_all(b" ms")
+    } else if time % 1_000 == 0 {
+        write_count(out, time / 1_000)?;
+        out.write_all(b" us")
+    } else {
+        write_count(out, time)?;
+        out.write_all(b" ns")
+    }
+}
+
+fn write_count<W: Write>(out: &mut W, count: u64) -> io::Result<()>
+    ensures { OnOk result (Appends (W.contents out.old) (W.contents out.new) (decimal count)) }
+{
+    let mut buffer = Buffer::new();
+    out.write_all(buffer.format(count).as_bytes())
+}
+
+/// Writes a value.
+pub fn write_value<W: Write>(out: &mut W, value: i64) -> io::Result<()>
+    ensures { OnOk result (Appends (W.contents out.old) (W.contents out.new) (signed_decimal value)) }
+{
+    let mut buffer = Buffer::new();
+    out.write_all(buffer.format(value).as_bytes())
+}
