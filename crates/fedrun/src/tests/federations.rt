@@ -12,18 +12,6 @@ triggers = ["t"]
 body = ["n = n + 1", "out.y = n"]
 "#;
 
-/// A counter that ticks each millisecond.
-pub const TICKS: &str = r#"stop = "699 ms"
-[[federate]]
-name = "src"
-outputs = ["y"]
-timers = [{ name = "t", offset = "0", period = "1 ms" }]
-state = [{ name = "n", value = 0 }]
-[[federate.reaction]]
-triggers = ["t"]
-body = ["n = n + 1", "out.y = n"]
-"#;
-
 /// Its receiver.
 pub const RECEIVER: &str = r#"[[federate]]
 name = "snk"
@@ -44,6 +32,16 @@ state = [{ name = "s", value = 0 }]
 [[federate.reaction]]
 triggers = ["startup", "x"]
 body = ["s = s + in.x", "out.total = s"]
+"#;
+
+/// An action that is scheduled again each microsecond.
+pub const TICKS: &str = r#"stop = "699 us"
+[[federate]]
+name = "a"
+actions = ["tick"]
+[[federate.reaction]]
+triggers = ["startup", "tick"]
+body = ["schedule tick 1 us 7"]
 "#;
 
 pub const CONNECTION: &str = r#"[[connection]]

@@ -43,8 +43,8 @@ fn prints_so_many_turns(rt: HostRuntime) {
     }
 }
 
-/// So many turns of a counter that ticks each millisecond print so many rows, also of more turns than those whose rows are
-/// kept at once.
+/// So many turns of an action that is scheduled again and again print so many rows, also of more turns than those whose rows
+/// are kept at once.
 const MANY_TURNS: &[(&str, u32)] = &[
     ("255", 255),
     ("256", 256),
@@ -55,10 +55,9 @@ const MANY_TURNS: &[(&str, u32)] = &[
 ];
 
 fn prints_ticks<R: AllocGlobal>(rt: &R, turns: &str, ticks: u32) -> Option<bool> {
-    let mut rows = String::from_str(rt.alloc(), "src (0, 0) [t] -> [y=1]\n").ok()?;
+    let mut rows = String::from_str(rt.alloc(), "a (0, 0) [startup] -> []\n").ok()?;
     for tick in 1..ticks {
-        let count = tick + 1;
-        write!(rows, "src ({tick} ms, 0) [t] -> [y={count}]\n").ok()?;
+        write!(rows, "a ({tick} us, 0) [tick=7] -> []\n").ok()?;
     }
     let words = ["whole", "fed.toml", "-", turns];
     Some(prints(rt, &words, &[TICKS], &[], rows.as_str()))
