@@ -64,7 +64,7 @@ record IsChanged {Hub Member : Type 0} (w : World Hub Member) (count : ℕ) (lin
   shown : IsShown w count after
   each : (j : ℕ) → j < count → IsTurned (links j) (after j) brought
 
-brings_as : {Hub Member : Type 0} (w : World Hub Member) (step : Step) (e : Event) → Brings w step e → (q : ℕ) (frame : Frame) → e ≡ event.Frame q frame → brought_by w step ≡ carried_by frame
+pub brings_as : {Hub Member : Type 0} (w : World Hub Member) (step : Step) (e : Event) → Brings w step e → (q : ℕ) (frame : Frame) → e ≡ event.Frame q frame → brought_by w step ≡ carried_by frame
 brings_as w step e brings q frame is = let P : Event → Type 0 = λ x. Brings w step x in subst P is brings
 
 changed_at_hub : {Hub Member HubRow : Type 0} (hub : Core Hub HubRow) (w : World Hub Member) (count : ℕ) (links : ℕ → Link) (step : Step) (e : Event) (place : ℕ) (made : Stepped Hub) (c : IsCourse hub true w.coordinator e (ups_of links) place made) → Comes w.coordinator (ups_of links) place e → Brings w step e → IsShown w count links → ((j : ℕ) → j < count → IsHeld 1 (links j)) → IsChanged (after_coordinator w made).world count links (brought_by w step)
@@ -144,7 +144,7 @@ changed {Hub = Hub} {Member = Member} hub member w count links step shown held =
     ]
 
 -- what is new at an end, in an incarnation
-abbrev New : (incarnation : ℕ) → Option Image → Option Image → List Signal → List Signal
+abbrev pub New : (incarnation : ℕ) → Option Image → Option Image → List Signal → List Signal
 New i before after brought = if nat_lt (number_taken i before) (number_taken i after) then brought else []
 
 same_is : (a b : ℕ) → a ≡ b → nat_eq a b ≡ true
@@ -172,7 +172,7 @@ new_other i s after brought is t =
     let then_so = number_other i after.end (λ e. is (sym t.incarnation ∙ e)) in
     ap (λ (b : Bool). if b then brought else []) (not_below (number_taken i (Some s.end)) (number_taken i (Some after.end)) (then_so ∙ sym before))
 
-new_replaced : (i : ℕ) (s : Side) (brought : List Signal) → New i (Some s.end) (Some (replaced s).end) brought ≡ []
+pub new_replaced : (i : ℕ) (s : Side) (brought : List Signal) → New i (Some s.end) (Some (replaced s).end) brought ≡ []
 new_replaced i s brought =
     ap (λ (b : Bool). if b then brought else []) (never (number_taken i (Some s.end)) (number_taken i (Some (replaced s).end)) (none (nat_eq (s.end.incarnation + 1) i) 0 refl))
   where
@@ -226,7 +226,7 @@ frames_up w count links j shown l = got w.up j (links j).second.sent [] (shown.e
 frames_down : {Hub Member : Type 0} (w : World Hub Member) (count : ℕ) (links : ℕ → Link) (j : ℕ) → IsShown w count links → j < count → frames_in w (Down j) ≡ (links j).first.sent
 frames_down w count links j shown l = got w.down j (links j).first.sent [] (shown.each j l).down
 
-own_is : {Hub Member : Type 0} (w : World Hub Member) (count : ℕ) (links : ℕ → Link) (j : ℕ) → IsShown w count links → j < count → receiver w (Down j) ≡ Some (links j).second.end
+pub own_is : {Hub Member : Type 0} (w : World Hub Member) (count : ℕ) (links : ℕ → Link) (j : ℕ) → IsShown w count links → j < count → receiver w (Down j) ≡ Some (links j).second.end
 own_is w count links j shown l = let at = shown.each j l in ap own_end at.there ∙ ap (λ (x : List Image). slice_get x 0) at.second
 
 -- what is new, at the ends that stand there
@@ -291,7 +291,7 @@ none_beyond_up w after count links others j i step shown then_shown l =
     let then_so : slice_get after.coordinator.ends j ≡ None = nothing_beyond after.coordinator.ends j (let size = then_shown.ends in omega arith) in
     ap (λ (o : Option Image). New i o (receiver after (Up j)) (brought_by w step)) before ∙ ap (λ (o : Option Image). New i None o (brought_by w step)) then_so
 
-none_beyond_down : {Hub Member : Type 0} (w after : World Hub Member) (count : ℕ) (links others : ℕ → Link) (j i : ℕ) (step : Step) → IsShown w count links → IsShown after count others → count ≤ j → newly_taken w after (Down j) i step ≡ []
+pub none_beyond_down : {Hub Member : Type 0} (w after : World Hub Member) (count : ℕ) (links others : ℕ → Link) (j i : ℕ) (step : Step) → IsShown w count links → IsShown after count others → count ≤ j → newly_taken w after (Down j) i step ≡ []
 none_beyond_down w after count links others j i step shown then_shown l =
     let before : slice_get w.federates j ≡ None = nothing_beyond w.federates j (let size = shown.federates in omega arith) in
     let then_so : slice_get after.federates j ≡ None = nothing_beyond after.federates j (let size = then_shown.federates in omega arith) in

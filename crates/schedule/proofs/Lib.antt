@@ -26,3 +26,5 @@ pub mod Rows
 pub mod Taking
 -- What is taken of each direction is a beginning of what was offered in it.
 pub mod InOrder
+-- No federate takes a message at a tag that it ran, or at an earlier one.
+pub mod Late

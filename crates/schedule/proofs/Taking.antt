@@ -66,14 +66,14 @@ act_takes_nothing s coming Greets q = record { taken = refl; took = refl; incarn
 act_takes_nothing s coming (Closes number) q = record { taken = refl; took = refl; incarnation = refl }
 act_takes_nothing s coming (TurnsAway k number) q = record { taken = refl; took = refl; incarnation = refl }
 
-acts_take_nothing : (s : Side) (coming : List Frame) (acts : List Act) → AllByRecursion TakesNone acts → TookNothing s (acted s coming acts)
+pub acts_take_nothing : (s : Side) (coming : List Frame) (acts : List Act) → AllByRecursion TakesNone acts → TookNothing s (acted s coming acts)
 acts_take_nothing s coming [] q = as_it_was s
 acts_take_nothing s coming (act ∷ rest) q =
     let first = act_takes_nothing s coming act q.0 in
     let more = acts_take_nothing (side_after s coming act) coming rest q.1 in
     record { taken = more.taken ∙ first.taken; took = more.took ∙ first.took; incarnation = more.incarnation ∙ first.incarnation }
 
-quiet_none : (hub : Bool) (i : ℕ) (acts : List Act) → AllByRecursion (IsQuiet hub i) acts → AllByRecursion TakesNone acts
+pub quiet_none : (hub : Bool) (i : ℕ) (acts : List Act) → AllByRecursion (IsQuiet hub i) acts → AllByRecursion TakesNone acts
 quiet_none hub i [] q = tt
 quiet_none hub i (Gets place is_taken ∷ rest) q = (q.0, quiet_none hub i rest q.1)
 quiet_none hub i (Offers signals ∷ rest) q = absurd q.0

@@ -7,9 +7,15 @@ ghost use Rattle.plan.specs.Federation.{federate_count};
 ghost use Rattle.plan.specs.Legal.{IsLegal};
 ghost use Rattle.reactor.specs.Behaviour.{Behaviour};
 ghost use Rattle.reactor.specs.Programs.{AreProgramsOf};
+ghost use Rattle.cores.specs.FederateCore.{federate_core};
+ghost use Rattle.cores.specs.CoordinatorCore.{coordinator_core};
 ghost use Rattle.schedule.specs.declared.step.Step.{Step};
 ghost use Rattle.schedule.specs.Kept.{is_kept};
-ghost use Rattle.schedule.specs.Federation.{world_after, step_in, IsPlain, IsBeginning, IsWhole, IsStuck, IsFinished};
+ghost use Rattle.schedule.specs.Taken.{TakesInOrder};
+ghost use Rattle.schedule.specs.World.{opened};
+ghost use Rattle.schedule.specs.Federation.{opening_world, world_after, step_in, IsPlain, TakesNothingLate, IsBeginning, IsWhole, IsStuck, IsFinished};
+
+use node::Node;
 
 /// The steps of a world are those that were made, and one more step is made in the world after those before it.
 #[tactic(none)]
@@ -42,4 +48,21 @@ pub fn no_row_is_missing()
         AreInputsOf d inputs → j < federate_count d → IsStuck (world_after d programs inputs steps) → IsWhole d programs inputs (world_after d programs inputs steps) j }
     ensures finished { (d : Draft) (programs : List Behaviour) (inputs : List Input) (steps : List Step) (j : ℕ) → IsLegal d → AreProgramsOf d programs →
         AreInputsOf d inputs → j < federate_count d → IsFinished (world_after d programs inputs steps) → IsWhole d programs inputs (world_after d programs inputs steps) j }
+{}
+
+
+/// Whatever nodes there are, and whatever steps were made: of each direction of each link, what was taken in an incarnation is a
+/// beginning of what was offered in it.
+#[tactic(none)]
+pub fn what_is_taken_was_offered<H: Node, M: Node>()
+    ensures nodes { (hub : H) (count : ℕ) (member_at : ℕ → M) (room : ℕ) (steps : List Step) → TakesInOrder H.core M.core (opened hub count member_at room) steps }
+    ensures federation { (d : Draft) (programs : List Behaviour) (inputs : List Input) (steps : List Step) →
+        TakesInOrder coordinator_core federate_core (opening_world d programs inputs) steps }
+{}
+
+/// Whatever steps were made, at none of them did a federate take a message at a tag that it had run before, or at an earlier one.
+#[tactic(none)]
+pub fn nothing_is_taken_late()
+    ensures { (d : Draft) (programs : List Behaviour) (inputs : List Input) (steps : List Step) (j : ℕ) → IsLegal d → AreProgramsOf d programs →
+        AreInputsOf d inputs → TakesNothingLate d programs inputs steps j }
 {}
