@@ -12,10 +12,9 @@ use Rattle.link.specs.declared.arrival.Arrival.{Arrival}
 use Rattle.link.specs.declared.arrival.Arrival.TheVariants as arrival
 use Rattle.link.specs.declared.fault.LinkFault.{LinkFault}
 use Rattle.link.specs.Fault.{number_of}
-use Rattle.link.specs.Answer.{answer_when_open, is_own, numbered}
+use Rattle.link.specs.Answer.{answer_when_open, is_own}
 use Rattle.link.specs.Image.{Image, last_number, answer_of, after_frame, after_close, ack_of, hello_of, resent_by, offer_of, after_offer}
 use Rattle.protocol.specs.declared.post.Post.{Post}
-use Rattle.protocol.specs.declared.refusal.Refusal.{Refusal}
 use Rattle.protocol.specs.Refusals as refusals
 use Rattle.protocol.specs.Outcome as outcome
 use Rattle.protocol.specs.Machine.{sent_to}
@@ -24,8 +23,8 @@ use Rattle.node.specs.declared.event.Event.{Event}
 use Rattle.node.specs.declared.event.Event.TheVariants as event
 use Rattle.node.specs.Numbers.{closes}
 use Rattle.node.specs.Mail.{Mail, posted, offered_at, all_posted, framed, lacks_room}
-use Rattle.node.specs.Core.{Core, Made, ending_of, sends, Moves, LacksRoom}
-use Rattle.node.specs.Step.{Station, Answer, Silent, Says, Declines, Stepped, addressed, answer_with, same, nobody, with_end, moved, acts, received_at, received, refused, takes, acknowledging, changes, returned, noted, lets_in, turned_away, comes, frame_comes, resends, greets, greeting, unsent, step_of}
+use Rattle.node.specs.Core.{Core, Made, ending_of, Moves, LacksRoom}
+use Rattle.node.specs.Step.{Station, Answer, Silent, Declines, Stepped, addressed, answer_with, same, acts, received_at, received, refused, takes, acknowledging, changes, returned, noted, lets_in, turned_away, comes, frame_comes, resends, greets, greeting, unsent, step_of}
 use Rattle.node.proofs.Ends.{get_set_here, get_set_other, no_posts}
 use Rattle.node.proofs.Notes.{open_for}
 use Rattle.delivery.specs.Link as link
@@ -33,8 +32,8 @@ use Rattle.delivery.specs.Link.{Side, says, hears, gets, side_after, Act, Gets, 
 use Rattle.delivery.proofs.Offers.{offers_open}
 use Rattle.schedule.specs.World.{frames_of}
 use Rattle.schedule.specs.Federation.{is_plain}
-use Rattle.schedule.proofs.Posting.{frames_to, IsSeen, SeenIn, all_seen, to_itself, to_others, same_number, apart_numbers, itself}
-use Rattle.schedule.proofs.Course.{acted, IsQuiet, TakesNone, IsPlainAnswer, only, taking, Comes, Speaks, announces, advances, IsHandedOn, Kind, quiet, takes as takes_kind, notes, says as says_kind, declines, cannot, IsCourse}
+use Rattle.schedule.proofs.Posting.{IsSeen, SeenIn, all_seen, to_itself, to_others, same_number, apart_numbers}
+use Rattle.schedule.proofs.Course.{acted, IsQuiet, TakesNone, IsPlainAnswer, only, taking, Comes, Speaks, announces, advances, IsHandedOn, quiet, takes as takes_kind, notes, says as says_kind, declines, cannot, IsCourse}
 
 some_is : {X : Type 0} (x y : X) → Some x ≡ Some y → x ≡ y
 some_is x y same = cc
@@ -112,8 +111,8 @@ same_course : {View Row : Type 0} (core : Core View Row) (hub : Bool) (s : Stati
 same_course core hub s event came place answer q e frames own found mine said plain are =
     quiet_course core hub s event came place (same s answer) q e frames own found refl refl (λ p o. refl)
     (λ t there. (
-        let is = mine t (some_end s.ends q t.end e there found) in
-        (there ∙ ap (λ (x : Image). Some x) (sym is.0), is.1))) said plain are
+    let is = mine t (some_end s.ends q t.end e there found) in
+    (there ∙ ap (λ (x : Image). Some x) (sym is.0), is.1))) said plain are
 
 -- a step by which nothing at all happens
 still : {View Row : Type 0} (core : Core View Row) (hub : Bool) (s : Station View) (event : Event) (came : ℕ → List Frame) (place : ℕ) (answer : Answer) → frames_of answer ≡ [] → IsPlainAnswer answer → IsCourse core hub s event came place (same s answer)
@@ -197,16 +196,16 @@ noted_course core hub s came place q e frame arrived found at is notes_so =
     quiet_course core hub s (event.Frame q frame) came place (noted s q e frame) q e (returned (after_frame e frame) frame) (Gets place false ∷ []) found refl (length-set s.ends q (after_frame e frame))
     (λ p o. get_set_other s.ends q p (after_frame e frame) o)
     (λ t there. (
-        let same = some_end s.ends q e t.end found there in
-        let P : Image → Type 0 = λ x. answer_of x frame ≡ Ok arrived in
-        let heard = gets_frame t (came q) place false frame (Ok arrived) at (subst P same is) in
-        let so = notes_so t (sym same) in
-        let Q : Image → Type 0 = λ x. (link.lets_in false t frame arrived).sent ≡ t.sent ++ returned (after_frame x frame) frame in
-        let R : Image → Type 0 = λ x. Some (after_frame x frame) ≡ Some (side_after t (came q) (Gets place false)).end in (
-          get_set_here s.ends q e (after_frame e frame) found ∙
+    let same = some_end s.ends q e t.end found there in
+    let P : Image → Type 0 = λ x. answer_of x frame ≡ Ok arrived in
+    let heard = gets_frame t (came q) place false frame (Ok arrived) at (subst P same is) in
+    let so = notes_so t (sym same) in
+    let Q : Image → Type 0 = λ x. (link.lets_in false t frame arrived).sent ≡ t.sent ++ returned (after_frame x frame) frame in
+    let R : Image → Type 0 = λ x. Some (after_frame x frame) ≡ Some (side_after t (came q) (Gets place false)).end in (
+      get_set_here s.ends q e (after_frame e frame) found ∙
           subst R (sym same) (ap (λ (x : Image). Some x) (sym so.0) ∙ ap (λ (x : Side). Some x.end) (sym heard)),
-          ap (λ (x : Side). x.sent) heard ∙ subst Q (sym same) so.1,
-        )))
+      ap (λ (x : Side). x.sent) heard ∙ subst Q (sym same) so.1,
+    )))
     (frames_with (changes e frame) (addressed q (returned (after_frame e frame) frame))) (plain_with (changes e frame) (addressed q (returned (after_frame e frame) frame))) (refl, tt)
 
 -- posts keep the number of ends, and go to peers that are there
@@ -362,7 +361,7 @@ signal_course core hub s came place q e k n signal (outcome.Refused refusal) fou
 signal_course core hub s came place q e k n signal outcome.Nothing found at is does =
     let P : Outgoing → Type 0 = λ o. o.peer < length s.ends in
     let none = (λ (p : ℕ) (t : Side) (there : slice_get s.ends p ≡ Some t.end).
-        taken_seen s came place q e k n signal [] found at is (no_room s.ends) p t there) in
+    taken_seen s came place q e k n signal [] found at is (no_room s.ends) p t there) in
     record {
       acts = λ p. taking q place p (sent_to p []);
       seen = none;

@@ -1,5 +1,5 @@
 -- What is taken of each direction of a world, in each incarnation, is a beginning of what was offered in it: whatever nodes there are.
-use Rattle.std.proofs.Common.{◌≡◌, ◌≢◌, ℕ, zero, suc, ◌+◌, ◌<◌, ◌≤◌, ◌⊎◌, inl, inr, Bool, true, false, List, [], ◌∷◌, ◌++◌, length, take, drop, set, get_or, slice_get, refl, sym, ap, subst, ◌∙◌, arith, Option, None, Some, if◌then◌else◌}
+use Rattle.std.proofs.Common.{◌≡◌, ◌≢◌, ℕ, ◌+◌, ◌<◌, ◌≤◌, ◌⊎◌, inl, inr, Bool, true, false, List, [], ◌∷◌, ◌++◌, length, take, drop, set, slice_get, refl, sym, ap, subst, ◌∙◌, arith, Option, None, Some, if◌then◌else◌}
 use Rattle.std.specs.Prelude.{nat_eq, nat_lt, ◌&&◌}
 use Rattle.std.proofs.lemmas.Bool.{cases_lt}
 use Rattle.std.proofs.lemmas.Bool.Decides.{nat_tests}
@@ -21,12 +21,11 @@ use Rattle.delivery.proofs.Acts.{IsHeld, forgets, held, first_in_order, second_i
 use Rattle.schedule.specs.declared.dir.Dir.{Dir}
 use Rattle.schedule.specs.declared.dir.Dir.TheVariants.{Up, Down}
 use Rattle.schedule.specs.declared.step.Step.{Step}
-use Rattle.schedule.specs.declared.outcome.Outcome.TheVariants as outcome
-use Rattle.schedule.specs.World.{World, frames_in, frames_of, Applied, unchanged, after_coordinator, after_federate, forgotten, does, applied, after_steps, opened}
+use Rattle.schedule.specs.World.{World, frames_in, frames_of, Applied, after_coordinator, after_federate, forgotten, does, applied, after_steps, opened}
 use Rattle.schedule.specs.Taken.{own_end, receiver, number_taken, brought_by, newly_taken, taken_in, BeginsWith}
 use Rattle.schedule.proofs.Posting.{same_number, apart_numbers, frames_to}
 use Rattle.schedule.proofs.Course.{acted, Comes, IsCourse}
-use Rattle.schedule.proofs.Shown.{IsAt, IsShown, ups_of, with_firsts, with_second, Brings, Happened, nowhere, at_hub, at_member, lost, happened, shown_at_hub, shown_at_member, shown_lost, shown_listed, opened_shown, at_own, at_other, same_or_not, some_of, got, none_beyond, nothing_beyond}
+use Rattle.schedule.proofs.Shown.{IsShown, ups_of, with_firsts, Brings, nowhere, at_hub, at_member, lost, happened, shown_at_hub, shown_at_member, shown_lost, shown_listed, opened_shown, at_own, at_other, same_or_not, some_of, got, none_beyond, nothing_beyond}
 use Rattle.schedule.proofs.Site.{firsts_held, seconds_held}
 use Rattle.schedule.proofs.Taking.{Took, nothing_took, course_took, not_below}
 use Rattle.schedule.proofs.Quiet.{as_it_was}
@@ -108,12 +107,12 @@ changed_at_member {Member = Member} member w count links step j s e place made c
       shown = shown_at_member member w count links j s e place made c is below shown;
       each = one_turned count links j mine (brought_by w step) held
           (record {
-          held = seconds_held (links j) (c.acts 0) (held j below);
-          first = nothing_took (links j).first (links j).first (brought_by w step) (as_it_was (links j).first);
-          second = takes (course_took member false s e (λ p. (links j).first.sent) place made c (brought_by w step) comes (brings_as w step e brings) 0 (links j).second found);
-          up = (frames_to 0 (frames_of made.answer), seen.frames);
-          down = ([], sym (append-nil (links j).first.sent));
-        });
+            held = seconds_held (links j) (c.acts 0) (held j below);
+            first = nothing_took (links j).first (links j).first (brought_by w step) (as_it_was (links j).first);
+            second = takes (course_took member false s e (λ p. (links j).first.sent) place made c (brought_by w step) comes (brings_as w step e brings) 0 (links j).second found);
+            up = (frames_to 0 (frames_of made.answer), seen.frames);
+            down = ([], sym (append-nil (links j).first.sent));
+          });
     }
 
 changed_lost : {Hub Member Row : Type 0} (member : Core Member Row) (w : World Hub Member) (count : ℕ) (links : ℕ → Link) (brought : List Signal) (j : ℕ) (s : Station Member) → slice_get w.federates j ≡ Some s → j < count → IsShown w count links → ((k : ℕ) → k < count → IsHeld 1 (links k)) → IsChanged (record w { federates = set w.federates j (forgotten member s) }) count links brought
@@ -124,12 +123,12 @@ changed_lost member w count links brought j s is below shown held =
       shown = shown_lost member w count links j s is below shown;
       each = one_turned count links j mine brought held
           (record {
-          held = forgets 1 (links j) (held j below);
-          first = nothing_took (links j).first (links j).first brought (as_it_was (links j).first);
-          second = replaces refl;
-          up = ([], sym (append-nil (links j).second.sent));
-          down = ([], sym (append-nil (links j).first.sent));
-        });
+            held = forgets 1 (links j) (held j below);
+            first = nothing_took (links j).first (links j).first brought (as_it_was (links j).first);
+            second = replaces refl;
+            up = ([], sym (append-nil (links j).second.sent));
+            down = ([], sym (append-nil (links j).first.sent));
+          });
     }
 
 -- each step turns each link

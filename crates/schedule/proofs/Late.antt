@@ -1,9 +1,8 @@
 -- At no step does a federate take a message at a tag that it ran before, or at an earlier one.
-use Rattle.std.proofs.Common.{◌≡◌, ◌≢◌, ℕ, zero, suc, ◌+◌, ◌<◌, ◌≤◌, ◌⊎◌, inl, inr, Bool, true, false, not, ◌&&◌, IsTrue, List, [], ◌∷◌, ◌++◌, length, map, set, slice_get, refl, sym, ap, subst, ◌∙◌, arith, Option, None, Some, if◌then◌else◌}
-use Rattle.std.specs.Prelude.{nat_eq, nat_lt, reverse, All}
+use Rattle.std.proofs.Common.{◌≡◌, ℕ, ◌<◌, inl, inr, Bool, true, false, not, ◌&&◌, IsTrue, List, [], ◌∷◌, ◌++◌, map, set, slice_get, refl, sym, ap, subst, ◌∙◌, Option, None, Some, if◌then◌else◌}
+use Rattle.std.specs.Prelude.{nat_eq, nat_lt}
 use Rattle.std.specs.List.{AllByRecursion}
 use Rattle.std.proofs.lemmas.Bool.{cases_lt}
-use Rattle.std.proofs.lemmas.Bool.Decides.{nat_tests}
 use Rattle.std.proofs.lemmas.List.{reverse-append}
 use Rattle.tag.specs.LogicalTime.{LogicalTime, is_before, is_at_most}
 use Rattle.tag.proofs.Order.{before_transitive}
@@ -26,29 +25,28 @@ use Rattle.reactor.specs.Behaviour.{Behaviour}
 use Rattle.reactor.specs.Federation.{network_of}
 use Rattle.protocol.specs.declared.refusal.Refusal.{Refusal}
 use Rattle.protocol.specs.declared.refusal.Refusal.TheVariants.{Late, WrongSignal}
-use Rattle.protocol.specs.Outcome.{Outcome, Refused, Nothing, Done, with_made}
+use Rattle.protocol.specs.Outcome.{Refused, Nothing, Done}
 use Rattle.protocol.specs.Federate.{Federate, Stepped, is_past, accept_message, federate_accepts}
 use Rattle.protocol.specs.Machine.{Member, Move}
 use Rattle.laws.proofs.Eligibility.{lawful_is_wired}
 use Rattle.laws.proofs.SafeGrants.{widest_rule_is_safe}
 use Rattle.laws.proofs.Replay.{newest_tag, IsReplayed, moves_replay}
 use Rattle.node.specs.declared.event.Event.{Event}
-use Rattle.node.specs.Core.{Made}
 use Rattle.node.specs.Step.{Station, step_of}
 use Rattle.node.proofs.Ends.{get_set_here, get_set_other}
 use Rattle.cores.specs.FederateCore as member
 use Rattle.cores.specs.FederateCore.{FederateNode, federate_core}
 use Rattle.cores.specs.CoordinatorCore.{CoordinatorNode, coordinator_core}
-use Rattle.delivery.specs.Link.{Side, Link, Act, Offers, replaced}
-use Rattle.schedule.specs.declared.dir.Dir.TheVariants.{Up, Down}
+use Rattle.delivery.specs.Link.{Side, Link, Act, replaced}
+use Rattle.schedule.specs.declared.dir.Dir.TheVariants.{Down}
 use Rattle.schedule.specs.declared.step.Step.{Step}
-use Rattle.schedule.specs.World.{World, Applied, after_federate, forgotten, blank_next, does}
+use Rattle.schedule.specs.World.{Applied, after_federate, forgotten, blank_next, does}
 use Rattle.schedule.specs.Taken.{own_end, receiver, number_taken, brought_by, newly_taken}
 use Rattle.schedule.specs.Federation.{Federation, world_after, step_in, rows_at, rows_in, IsLaterThan, TakesNothingLate}
-use Rattle.schedule.proofs.Course.{acted, TakesNone, Comes, IsHandedOn, Kind, quiet, takes, notes, says, declines, cannot, IsCourse}
-use Rattle.schedule.proofs.Shown.{IsShown, Brings, Happened, nowhere, at_hub, at_member, lost as loses_all, happened, same_or_not, some_of, nothing_beyond}
+use Rattle.schedule.proofs.Course.{acted, TakesNone, Comes, quiet, takes, notes, says, declines, cannot, IsCourse}
+use Rattle.schedule.proofs.Shown.{Brings, nowhere, at_hub, at_member, lost as loses_all, happened, same_or_not}
 use Rattle.schedule.proofs.Quiet.{TookNothing}
-use Rattle.schedule.proofs.Site.{node_with, IsSite, Own, keeps, loses}
+use Rattle.schedule.proofs.Site.{node_with, keeps, loses}
 use Rattle.schedule.proofs.Moves.{done_of, nothing_of, federate_answers, rule_of}
 use Rattle.schedule.proofs.Runs.{IsRun}
 use Rattle.schedule.proofs.Members.{handed_at, never_handed, own_ends, accepts_as}
@@ -127,7 +125,7 @@ late_at_own d programs inputs w links moves step j i s e place c lawful below th
     let side = (links j).second in
     let after = acted (links j).second (links j).first.sent (c.acts 0) in
     let none = (λ (q : AllByRecursion TakesNone (c.acts 0)). subst P (sym (nothing_new (number_taken i (Some (links j).second.end)) (number_taken i (Some (acted (links j).second (links j).first.sent (c.acts 0)).end)) (brought_by w step)
-        (same_number i (links j).second (acted (links j).second (links j).first.sent (c.acts 0)) (acts_take_nothing (links j).second (links j).first.sent (c.acts 0) q)))) tt) in
+    (same_number i (links j).second (acted (links j).second (links j).first.sent (c.acts 0)) (acts_take_nothing (links j).second (links j).first.sent (c.acts 0) q)))) tt) in
     let A : List Act → Type 0 = λ x. AllByRecursion TakesNone x in
     let found : slice_get s.ends 0 ≡ Some (links j).second.end = ap (λ (x : List Image). slice_get x 0) ends in
     elim c.kind [
@@ -219,13 +217,13 @@ late_step d programs inputs w links moves step j i lawful below run =
 pub nothing_late : (d : Draft) (programs : List Behaviour) (inputs : List Input) (steps : List Step) (j : ℕ) → IsLawfulWith (network_of d programs inputs) (least_of d) → TakesNothingLate d programs inputs steps j
 nothing_late d programs inputs steps j lawful =
     λ before after step i e. (
-        let w = world_after d programs inputs before in
-        let g = (stands d programs inputs before lawful).stands in
-        let next = step_goes d programs inputs (world_after d programs inputs before) g.links g.moves step lawful g.run in
-        from_each (IsLaterThan (rows_in (world_after d programs inputs before) j)) (newly_taken (world_after d programs inputs before) (step_in (world_after d programs inputs before) step).world (Down j) i step)
-        (elim (cases_lt j (federate_count d)) [
-          | inl below ↦ late_step d programs inputs (world_after d programs inputs before) g.links g.moves step j i lawful below g.run
-          | inr beyond ↦
-              (let P : List Signal → Type 0 = λ x. AllByRecursion (IsLaterThan (rows_in (world_after d programs inputs before) j)) x in
-              subst P (sym (none_beyond_down (world_after d programs inputs before) (step_in (world_after d programs inputs before) step).world (federate_count d) g.links next.links j i step g.run.shown next.run.shown beyond)) tt)
-        ]))
+    let w = world_after d programs inputs before in
+    let g = (stands d programs inputs before lawful).stands in
+    let next = step_goes d programs inputs (world_after d programs inputs before) g.links g.moves step lawful g.run in
+    from_each (IsLaterThan (rows_in (world_after d programs inputs before) j)) (newly_taken (world_after d programs inputs before) (step_in (world_after d programs inputs before) step).world (Down j) i step)
+    (elim (cases_lt j (federate_count d)) [
+      | inl below ↦ late_step d programs inputs (world_after d programs inputs before) g.links g.moves step j i lawful below g.run
+      | inr beyond ↦
+          (let P : List Signal → Type 0 = λ x. AllByRecursion (IsLaterThan (rows_in (world_after d programs inputs before) j)) x in
+          subst P (sym (none_beyond_down (world_after d programs inputs before) (step_in (world_after d programs inputs before) step).world (federate_count d) g.links next.links j i step g.run.shown next.run.shown beyond)) tt)
+    ]))

@@ -1,13 +1,9 @@
 -- What a federate does in a world, as a move of the machine of queues; and what one does that forgot all.
-use Rattle.std.proofs.Common.{◌≡◌, ◌≢◌, ℕ, zero, suc, ◌+◌, ◌<◌, ◌≤◌, ◌⊎◌, inl, inr, Bool, true, false, List, [], ◌∷◌, ◌++◌, length, drop, map, set, slice_get, refl, sym, ap, subst, ◌∙◌, arith, Option, None, Some, Ok, if◌then◌else◌}
+use Rattle.std.proofs.Common.{◌≡◌, ℕ, ◌+◌, ◌<◌, true, false, List, [], ◌∷◌, ◌++◌, length, drop, set, slice_get, refl, sym, ap, subst, ◌∙◌, arith, Some, Ok}
 use Rattle.std.specs.Prelude.{nat_eq, nat_le}
-use Rattle.std.specs.List.{AllByRecursion}
 use Rattle.std.proofs.lemmas.Bool.{eqb-true}
-use Rattle.std.proofs.lemmas.List.{append-nil}
-use Rattle.network.specs.Network.{Network, with_one}
-use Rattle.network.specs.Undone.{first_tag}
+use Rattle.network.specs.Network.{with_one}
 use Rattle.signal.specs.declared.signal.Signal.{Signal}
-use Rattle.signal.specs.declared.frame.Frame.{Frame}
 use Rattle.signal.specs.declared.frame.Frame.TheVariants.{Data}
 use Rattle.link.specs.declared.arrival.Arrival.TheVariants as arrival
 use Rattle.link.specs.Image.{Image, answer_of}
@@ -17,30 +13,28 @@ use Rattle.plan.specs.Federation.{federate_count}
 use Rattle.reactor.specs.Behaviour.{Behaviour}
 use Rattle.reactor.specs.Federation.{network_of}
 use Rattle.protocol.specs.declared.refusal.Refusal.{Refusal}
-use Rattle.protocol.specs.Outcome.{Outcome, Refused, Nothing, Done, with_made}
+use Rattle.protocol.specs.Outcome.{Outcome, Refused, Done, with_made}
 use Rattle.protocol.specs.Federate.{Stepped, federate_accepts, federate_announces, federate_advances}
-use Rattle.protocol.specs.Machine.{Member, Move, ToFederate, Announce, Advance, Lose, with_member, standings_of, sent_to, stepped, outcome_of}
+use Rattle.protocol.specs.Machine.{Member, Move, ToFederate, with_member, sent_to, stepped, outcome_of}
 use Rattle.node.specs.declared.event.Event.{Event}
-use Rattle.node.specs.declared.event.Event.TheVariants as event
 use Rattle.node.specs.Core.{Made}
 use Rattle.node.specs.Step.{Station, step_of}
 use Rattle.cores.specs.FederateCore as member
 use Rattle.cores.specs.FederateCore.{FederateNode, federate_core, to_coordinator}
 use Rattle.delivery.specs.Way.{offered_in}
-use Rattle.delivery.specs.Link.{Side, Link, Act, Gets, Offers, offers, replaced}
-use Rattle.delivery.proofs.Carried.{IsLinked, linked_back}
+use Rattle.delivery.specs.Link.{Link, Act, Gets, Offers, replaced}
+use Rattle.delivery.proofs.Carried.{linked_back}
 use Rattle.delivery.proofs.Taken.{at_place}
 use Rattle.delivery.proofs.Forgotten.{IsOf}
-use Rattle.delivery.proofs.Acts.{IsHeld, forgets}
-use Rattle.schedule.specs.declared.outcome.Outcome.TheVariants as outcome
+use Rattle.delivery.proofs.Acts.{forgets}
 use Rattle.schedule.specs.World.{after_federate, forgotten}
 use Rattle.schedule.specs.Federation.{Federation}
-use Rattle.schedule.proofs.Course.{acted, IsQuiet, taking, Comes, Speaks, announces, advances, IsHandedOn, IsCourse}
+use Rattle.schedule.proofs.Course.{acted, taking, Comes, IsHandedOn, IsCourse}
 use Rattle.schedule.proofs.Courses.{place_there}
 use Rattle.schedule.proofs.Shown.{shown_at_member, shown_lost, at_own, at_other, some_of}
-use Rattle.schedule.proofs.Quiet.{IsCalmAct, offers_at}
-use Rattle.schedule.proofs.Site.{node_with, IsSite, Own, keeps, loses, kept_linked, quiet_second, lost_second, in_turn_is, TakesNext, takes_next}
-use Rattle.schedule.proofs.Moves.{done_of, refused_of, nothing_of, federate_answers, announces_freely, advances_freely, rule_of, sent_up, member_move, announce_move, advance_move}
+use Rattle.schedule.proofs.Quiet.{offers_at}
+use Rattle.schedule.proofs.Site.{node_with, IsSite, keeps, loses, kept_linked, in_turn_is, takes_next}
+use Rattle.schedule.proofs.Moves.{done_of, refused_of, rule_of, sent_up, member_move}
 use Rattle.schedule.proofs.Runs.{IsRun, IsMoved, comes_with, member_run, same_standings, same_lost, said_incarnation, kept_does}
 
 -- what is handed on to a federate comes from its one peer, in its turn
@@ -152,7 +146,7 @@ forgets_all d programs inputs w links members j s below there run =
     let mine : Link = record { first = (links j).first; second = replaced (links j).second } in
     let m : Member = record (members j) { lost = true } in
     let changed : Federation = record w { federates = set w.federates j (forgotten federate_core s) } in
-    let late : 0 < (links j).second.end.incarnation = elim site.own [ | keeps is opened not_lost node queue ↦ omega arith | loses later lost ↦ omega arith ] in
+    let late : 0 < (links j).second.end.incarnation = elim site.own [ keeps is opened not_lost node queue ↦ omega arith | loses later lost ↦ omega arith ] in
     let L : Link → Type 0 = λ x. IsSite d programs inputs j x (with_member members j m j) (forgotten federate_core s).node in
     let M : Member → Type 0 = λ x. IsSite d programs inputs j mine x (forgotten federate_core s).node in
     member_run d programs inputs w changed links (with_one links j mine) members (with_member members j m) j s (forgotten federate_core s) there refl refl

@@ -1,11 +1,9 @@
 -- What both kinds of nodes do, as moves of the machine of queues.
-use Rattle.std.proofs.Common.{◌≡◌, ◌≢◌, ℕ, Bool, true, false, not, ◌&&◌, ◌||◌, List, [], ◌∷◌, ◌++◌, length, map, filter, slice_get, refl, sym, ap, subst, ◌∙◌, Option, None, Some, if◌then◌else◌}
+use Rattle.std.proofs.Common.{◌≡◌, ℕ, Bool, true, false, not, ◌&&◌, ◌||◌, List, [], ◌∷◌, map, slice_get, refl, sym, ap, subst, ◌∙◌, Option, None, Some, if◌then◌else◌}
 use Rattle.std.specs.Prelude.{nat_eq}
-use Rattle.std.proofs.lemmas.List.{append-nil}
 use Rattle.tag.specs.LogicalTime.{LogicalTime, forever, is_at_most, is_same}
 use Rattle.network.specs.Connection.{Connection}
 use Rattle.network.specs.Network.{Network}
-use Rattle.network.specs.Undone.{first_tag}
 use Rattle.signal.specs.declared.signal.Signal.{Signal}
 use Rattle.signal.specs.declared.signal.Signal.TheVariants.{Net, Ltc, Tag, Msg}
 use Rattle.plan.specs.declared.draft.Draft.{Draft}
@@ -13,23 +11,20 @@ use Rattle.plan.specs.declared.input.Input.{Input}
 use Rattle.plan.specs.Least.{least_of}
 use Rattle.reactor.specs.Behaviour.{Behaviour}
 use Rattle.reactor.specs.Federation.{network_of}
-use Rattle.protocol.specs.declared.post.Post.{Post}
 use Rattle.protocol.specs.declared.refusal.Refusal.{Refusal}
 use Rattle.protocol.specs.declared.refusal.Refusal.TheVariants.{Late, OldGrant, WrongSignal, NotYours, BelowGrant, NotRising, AfterStop}
 use Rattle.protocol.specs.Outcome.{Outcome, Refused, Nothing, Done, made_or, with_made}
 use Rattle.protocol.specs.Federate.{Federate, Stepped, is_past, is_reached, is_told, next_event, turn_at, accept_message, advance_to, federate_accepts, federate_announces, federate_advances}
-use Rattle.protocol.specs.Standing.{Standing, after_net, after_ltc}
+use Rattle.protocol.specs.Standing.{Standing}
 use Rattle.protocol.specs.Grant.{Rule, grant_widest}
-use Rattle.protocol.specs.Coordinator.{Coordinated, noted, route, coordinator_takes, with_grants, coordinator_accepts}
-use Rattle.protocol.specs.Standings.{Listed, standing_at, listed_after}
-use Rattle.protocol.specs.Machine.{Member, Move, ToCoordinator, ToFederate, Announce, Advance, Lose, with_member, standings_of, sent_to, coordinated, coordinator_takes_from, federate_takes_from, stepped, unless_lost, outcome_of, after_moves}
+use Rattle.protocol.specs.Coordinator.{Coordinated, route, coordinator_takes, with_grants, coordinator_accepts}
+use Rattle.protocol.specs.Standings.{standing_at, listed_after}
+use Rattle.protocol.specs.Machine.{Member, Move, ToCoordinator, ToFederate, Announce, Advance, with_member, standings_of, sent_to, coordinated, coordinator_takes_from, federate_takes_from, stepped, unless_lost, outcome_of, after_moves}
 use Rattle.node.specs.Core.{Made}
-use Rattle.cores.specs.FederateCore as member
-use Rattle.cores.specs.FederateCore.{FederateNode, to_coordinator}
+use Rattle.cores.specs.FederateCore.{to_coordinator}
 use Rattle.cores.specs.CoordinatorCore as hub
 use Rattle.cores.specs.CoordinatorCore.{CoordinatorNode, wiring_in, rule_in}
 use Rattle.laws.proofs.Wired.{accepts_same}
-use Rattle.schedule.proofs.Site.{node_with}
 
 -- outcomes with more done to them
 composed : {A B C : Type 0} (f : B → C) (g : A → B) (o : Outcome A) → with_made f (with_made g o) ≡ with_made (λ x. f (g x)) o

@@ -1,10 +1,8 @@
 -- What posts make of each side of a station's links: the signals for its peer are offered there.
-use Rattle.std.proofs.Common.{◌≡◌, ◌≢◌, ℕ, zero, suc, ◌+◌, ◌<◌, ◌≤◌, Bool, true, false, List, [], ◌∷◌, ◌++◌, length, set, slice_get, refl, sym, ap, subst, ◌∙◌, arith, Option, None, Some, Result, Ok, Err, is_ok, if◌then◌else◌}
+use Rattle.std.proofs.Common.{◌≡◌, ◌≢◌, ℕ, ◌+◌, ◌≤◌, Bool, true, false, List, [], ◌∷◌, ◌++◌, set, slice_get, refl, sym, ap, subst, ◌∙◌, arith, Option, None, Some, Result, Ok, Err, is_ok, if◌then◌else◌}
 use Rattle.std.specs.Prelude.{nat_eq}
-use Rattle.std.specs.List.{AllByRecursion}
 use Rattle.std.proofs.lemmas.Bool.Decides.{nat_tests}
 use Rattle.std.proofs.lemmas.List.{append-nil, append_assoc}
-use Rattle.order.proofs.Lists.{each_append}
 use Rattle.signal.specs.declared.signal.Signal.{Signal}
 use Rattle.signal.specs.declared.frame.Frame.{Frame}
 use Rattle.signal.specs.declared.frame.Frame.TheVariants.{Data}
@@ -122,6 +120,7 @@ offered_elsewhere sent m p q s signal (Some other) e seen = by_offer (offer_of o
     framed_elsewhere : (r : Result Frame _) → frames_to p (framed q r) ≡ []
     framed_elsewhere (Ok frame) = to_others p q (frame ∷ []) e
     framed_elsewhere (Err fault) = refl
+
     by_offer : (r : Result Frame _) → SeenIn sent (if is_ok r then record { ends = set m.ends q (after_offer other signal); frames = m.frames ++ framed q r } else m) p s
     by_offer (Ok frame) = record {
       end = get_set_other m.ends q p (after_offer other signal) (apart_numbers p q e) ∙ seen.end;

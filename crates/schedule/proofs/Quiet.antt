@@ -1,11 +1,9 @@
 -- What acts leave as it was at a side: by quiet acts nothing is taken, offered or closed; and no side is told by its own incarnation's
 -- refusal to close.
-use Rattle.std.proofs.Common.{◌≡◌, ◌≢◌, ℕ, ◌+◌, ◌-◌, ◌<◌, ◌≤◌, ◌⊎◌, inl, inr, max, Bool, true, false, List, [], ◌∷◌, ◌++◌, length, drop, slice_get, refl, sym, ap, subst, ◌∙◌, arith, Option, None, Some, Result, Ok, Err, if◌then◌else◌}
-use Rattle.std.specs.Prelude.{nat_eq, nat_lt, nat_le, ◌&&◌}
+use Rattle.std.proofs.Common.{◌≡◌, ◌≢◌, ℕ, ◌+◌, ◌≤◌, inl, inr, max, Bool, true, false, List, [], ◌∷◌, ◌++◌, length, slice_get, refl, sym, ap, subst, ◌∙◌, arith, Option, None, Some, Result, Ok, Err, if◌then◌else◌}
+use Rattle.std.specs.Prelude.{nat_eq, nat_lt, ◌&&◌}
 use Rattle.std.specs.List.{AllByRecursion}
 use Rattle.std.proofs.lemmas.Bool.{eqb-true}
-use Rattle.std.proofs.lemmas.Bool.Decides.{nat_tests}
-use Rattle.std.proofs.lemmas.List.{append-nil}
 use Rattle.order.proofs.Lists.{each_append}
 use Rattle.signal.specs.declared.signal.Signal.{Signal}
 use Rattle.signal.specs.declared.frame.Frame.{Frame}
@@ -14,9 +12,9 @@ use Rattle.link.specs.declared.arrival.Arrival.{Arrival}
 use Rattle.link.specs.declared.arrival.Arrival.TheVariants as arrival
 use Rattle.link.specs.declared.fault.LinkFault.{LinkFault}
 use Rattle.link.specs.Answer.{numbered}
-use Rattle.link.specs.Image.{Image, last_number, answer_of, after_frame, acknowledge, ack_of, hello_of, resent_by}
+use Rattle.link.specs.Image.{Image, last_number, answer_of, after_frame, acknowledge, ack_of, resent_by}
 use Rattle.delivery.specs.Way.{offered_in}
-use Rattle.delivery.specs.Link.{Side, says, notes, lets_in, hears, gets, greeting, side_after, Act, Gets, Offers, Resends, Greets, Closes, TurnsAway, offers, takes}
+use Rattle.delivery.specs.Link.{Side, says, lets_in, hears, gets, greeting, side_after, Act, Gets, Offers, Resends, Greets, Closes, TurnsAway, offers}
 use Rattle.delivery.proofs.Offers.{offers_open}
 use Rattle.delivery.proofs.Ways.{AreOld, offers_more, offers_same, resent_old}
 use Rattle.delivery.proofs.Carried.{IsLinked, linked_acknowledges}

@@ -1,16 +1,14 @@
 -- The rows of a federation's world are those of a run of the machine: a beginning of the undivided program's, and all of them where the world
 -- is finished or stuck.
-use Rattle.std.proofs.Common.{◌≡◌, ◌≢◌, ℕ, zero, suc, ◌+◌, ◌-◌, ◌<◌, ◌≤◌, ◌⊎◌, inl, inr, Bool, true, false, IsTrue, List, [], ◌∷◌, ◌++◌, length, drop, slice_get, refl, sym, ap, subst, ◌∙◌, arith, Option, None, Some, if◌then◌else◌}
+use Rattle.std.proofs.Common.{◌≡◌, ℕ, zero, suc, ◌+◌, ◌<◌, ◌≤◌, Bool, true, false, List, [], ◌∷◌, ◌++◌, length, drop, slice_get, refl, sym, ap, subst, ◌∙◌, arith, Option, None, Some, if◌then◌else◌}
 use Rattle.std.specs.Prelude.{nat_eq, nat_lt, not, ◌&&◌, ◌||◌, All}
 use Rattle.std.specs.List.{list_any, AllByRecursion}
-use Rattle.std.proofs.lemmas.Bool.{cases_lt, eqb-true}
+use Rattle.std.proofs.lemmas.Bool.{eqb-true}
 use Rattle.std.proofs.lemmas.Bool.Decides.{nat_tests}
 use Rattle.std.proofs.lemmas.List.{length-append}
 use Rattle.order.proofs.Lists.{each}
 use Rattle.order.specs.Settled as order
-use Rattle.network.specs.Network.{Network}
 use Rattle.network.specs.Tables.{IsLawfulWith}
-use Rattle.network.specs.Undone.{first_tag}
 use Rattle.network.specs.Undivided.{Row, whole, part}
 use Rattle.signal.specs.declared.signal.Signal.{Signal}
 use Rattle.signal.specs.declared.frame.Frame.{Frame}
@@ -23,13 +21,11 @@ use Rattle.plan.specs.Least.{least_of}
 use Rattle.reactor.specs.Behaviour.{Behaviour}
 use Rattle.reactor.specs.Federation.{network_of}
 use Rattle.protocol.specs.Outcome.{Outcome, Refused, Nothing, Done}
-use Rattle.protocol.specs.Grant.{IsSafeRule}
 use Rattle.protocol.specs.Standing.{Standing}
 use Rattle.protocol.specs.Standings.{standing_at, is_finished}
 use Rattle.protocol.specs.Federate.{federate_announces, federate_advances}
-use Rattle.protocol.specs.Machine.{Member, Move, standings_of}
-use Rattle.tag.specs.LogicalTime.{forever}
-use Rattle.laws.specs.Rows.{rows_of_run, HasEveryRow}
+use Rattle.protocol.specs.Machine.{Member, standings_of}
+use Rattle.laws.specs.Rows.{HasEveryRow}
 use Rattle.laws.specs.Runs as runs
 use Rattle.laws.proofs.Eligibility.{lawful_is_wired}
 use Rattle.laws.proofs.SafeGrants.{widest_rule_is_safe, widest_rule_is_full}
@@ -37,7 +33,7 @@ use Rattle.laws.proofs.ListedStandings.{finished_is}
 use Rattle.laws.proofs.Ending.{ends_quiet}
 use Rattle.laws.proofs.Stuck.{stuck_quiet}
 use Rattle.laws.proofs.Computes.{rows_begin_some, quiet_has_every_row}
-use Rattle.node.specs.Core.{Made, Ending, ending_of, LacksRoom, Moves}
+use Rattle.node.specs.Core.{Made, ending_of, LacksRoom, Moves}
 use Rattle.node.specs.Mail.{all_posted, lacks_room}
 use Rattle.node.specs.Step.{Station, acts, unsent, step_of}
 use Rattle.node.specs.declared.event.Event.{Event}
@@ -45,7 +41,7 @@ use Rattle.node.specs.declared.event.Event.TheVariants as event
 use Rattle.node.specs.declared.node_id.NodeId.TheVariants.{Federate}
 use Rattle.cores.specs.FederateCore as member
 use Rattle.cores.specs.FederateCore.{FederateNode, federate_core}
-use Rattle.cores.specs.CoordinatorCore.{CoordinatorNode, wiring_in, coordinator_core}
+use Rattle.cores.specs.CoordinatorCore.{wiring_in, coordinator_core}
 use Rattle.delivery.specs.Way.{with_offered, offered_with, offered_in}
 use Rattle.delivery.specs.Link.{Link}
 use Rattle.schedule.specs.declared.dir.Dir.{Dir}
@@ -53,18 +49,15 @@ use Rattle.schedule.specs.declared.dir.Dir.TheVariants.{Up, Down}
 use Rattle.schedule.specs.declared.step.Step.{Step}
 use Rattle.schedule.specs.declared.step.Step.TheVariants.{Deliver, Resend, Reconnect, Announce, Advance, Forget}
 use Rattle.schedule.specs.declared.outcome.Outcome.TheVariants as outcome
-use Rattle.schedule.specs.World.{World, frames_in, outcome_of, Occurrence, at_federate, happens, if_there}
+use Rattle.schedule.specs.World.{frames_in, outcome_of, at_federate, happens, if_there}
 use Rattle.schedule.specs.Taken.{receiver, own_end, number_taken}
 use Rattle.schedule.specs.Kept.{is_forget, is_forget_of, is_kept, IsSettled}
-use Rattle.schedule.specs.Kept as kept
-use Rattle.schedule.specs.Federation.{Federation, world_after, step_in, rows_at, rows_in, IsBeginning, IsWhole, IsStuck, IsFinished}
-use Rattle.schedule.proofs.Posting.{itself}
-use Rattle.schedule.proofs.Shown.{IsAt, IsShown, got}
-use Rattle.schedule.proofs.Site.{node_with, IsSite, Own, keeps, loses}
+use Rattle.schedule.specs.Federation.{Federation, world_after, rows_at, rows_in, IsBeginning, IsWhole, IsStuck, IsFinished}
+use Rattle.schedule.proofs.Shown.{got}
+use Rattle.schedule.proofs.Site.{node_with, IsSite, keeps, loses}
 use Rattle.schedule.proofs.Moves.{rule_of, nothing_of}
-use Rattle.schedule.proofs.Runs.{IsRun}
 use Rattle.schedule.proofs.Steps.{members_after}
-use Rattle.schedule.proofs.Worlds.{GoesOn, stands, steps_after}
+use Rattle.schedule.proofs.Worlds.{stands, steps_after}
 
 -- a federate that kept its state, as it stands in the world and in the machine
 pub record IsKeptAt (d : Draft) (programs : List Behaviour) (inputs : List Input) (w : Federation) (j : ℕ) (l : Link) (m : Member) : Type 0 where
@@ -218,10 +211,10 @@ settled_below : (w : Federation) (dir : Dir) (most : ℕ) → number_taken 1 (re
 settled_below w dir most is (Hello f k n) h = tt
 settled_below w dir most is (Data k n signal) h =
     λ e. (
-        let P : ℕ → Type 0 = λ x. n ≤ number_taken x (receiver w dir) in
-        let taken : n ≤ number_taken 1 (receiver w dir) = subst P e h.0 in
-        let Q : ℕ → Type 0 = λ x. n ≤ x in
-        subst Q is taken)
+    let P : ℕ → Type 0 = λ x. n ≤ number_taken x (receiver w dir) in
+    let taken : n ≤ number_taken 1 (receiver w dir) = subst P e h.0 in
+    let Q : ℕ → Type 0 = λ x. n ≤ x in
+    subst Q is taken)
 settled_below w dir most is (Ack k n) h = tt
 settled_below w dir most is (Refuse k n) h = tt
 

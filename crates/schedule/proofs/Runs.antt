@@ -1,9 +1,8 @@
 -- A world beside a run of the machine of queues: each step of the world is one move, or none.
-use Rattle.std.proofs.Common.{◌≡◌, ◌≢◌, ℕ, zero, suc, ◌+◌, ◌<◌, ◌≤◌, ◌⊎◌, inl, inr, Bool, true, false, IsTrue, List, [], ◌∷◌, ◌++◌, length, drop, set, slice_get, refl, sym, ap, subst, ◌∙◌, arith, Option, None, Some, Ok, if◌then◌else◌}
+use Rattle.std.proofs.Common.{◌≡◌, ◌≢◌, ℕ, ◌<◌, inl, inr, Bool, true, false, List, [], ◌∷◌, ◌++◌, length, drop, set, slice_get, refl, sym, ap, subst, ◌∙◌, arith, Some, Ok, if◌then◌else◌}
 use Rattle.std.specs.Prelude.{nat_eq}
 use Rattle.std.specs.List.{AllByRecursion}
-use Rattle.std.proofs.lemmas.List.{append-nil}
-use Rattle.network.specs.Network.{Network, with_one}
+use Rattle.network.specs.Network.{with_one}
 use Rattle.network.specs.Wiring.{IsWired}
 use Rattle.signal.specs.declared.signal.Signal.{Signal}
 use Rattle.signal.specs.declared.frame.Frame.{Frame}
@@ -16,38 +15,33 @@ use Rattle.plan.specs.Federation.{federate_count}
 use Rattle.reactor.specs.Behaviour.{Behaviour}
 use Rattle.reactor.specs.Federation.{network_of}
 use Rattle.protocol.specs.declared.refusal.Refusal.{Refusal}
-use Rattle.protocol.specs.Outcome.{Outcome, Refused, Nothing, Done, made_or, with_made, IfDone}
+use Rattle.protocol.specs.Outcome.{Outcome, Refused, Done, with_made, IfDone}
 use Rattle.protocol.specs.Standing.{Standing}
 use Rattle.protocol.specs.Standings.{standing_at, standings_listed}
 use Rattle.protocol.specs.Coordinator.{Coordinated, coordinator_accepts}
-use Rattle.protocol.specs.Machine.{Member, Move, ToCoordinator, ToFederate, Announce, Advance, Lose, with_member, standings_of, sent_to, coordinated, outcome_of, after_moves}
+use Rattle.protocol.specs.Machine.{Member, Move, ToCoordinator, with_member, standings_of, sent_to, coordinated, outcome_of}
 use Rattle.laws.proofs.ListedStandings.{accepts_listed, listed_length}
 use Rattle.node.specs.declared.event.Event.{Event}
 use Rattle.node.specs.declared.event.Event.TheVariants as event
 use Rattle.node.specs.Core.{Made}
-use Rattle.node.specs.Step.{Station, Answer, Silent, Says, Declines, step_of}
-use Rattle.cores.specs.FederateCore as member
+use Rattle.node.specs.Step.{Station, step_of}
 use Rattle.cores.specs.FederateCore.{FederateNode, federate_core}
-use Rattle.cores.specs.CoordinatorCore as hub
 use Rattle.cores.specs.CoordinatorCore.{CoordinatorNode, coordinator_core}
 use Rattle.delivery.specs.Way.{offered_in}
-use Rattle.delivery.specs.Link.{Side, Link, side_after, Act, Gets, Offers, offers, replaced}
-use Rattle.delivery.proofs.Carried.{IsLinked, linked_back}
-use Rattle.delivery.proofs.Acts.{IsHeld, forgets}
-use Rattle.schedule.specs.declared.step.Step.{Step}
-use Rattle.schedule.specs.World.{World, outcome_of as told_by, Applied, unchanged, after_coordinator, after_federate}
-use Rattle.schedule.specs.Federation.{Federation, IsPlain}
+use Rattle.delivery.specs.Link.{Side, Link, Act, Gets, Offers, offers}
+use Rattle.schedule.specs.World.{after_coordinator, after_federate}
+use Rattle.schedule.specs.Federation.{Federation}
 use Rattle.schedule.proofs.Posting.{same_number, apart_numbers}
-use Rattle.schedule.proofs.Course.{acted, IsQuiet, only, taking, Comes, IsPlainAnswer, IsHandedOn, Kind, IsCourse}
+use Rattle.schedule.proofs.Course.{acted, IsQuiet, taking, Comes, IsHandedOn, IsCourse}
 use Rattle.schedule.proofs.Courses.{place_there}
-use Rattle.schedule.proofs.Shown.{IsAt, IsShown, ups_of, with_firsts, shown_at_hub, shown_at_member, shown_lost, at_own, at_other, same_or_not, some_of}
-use Rattle.schedule.proofs.Quiet.{AreCalm, IsCalmAct, act_calm, offers_at}
+use Rattle.schedule.proofs.Shown.{IsShown, ups_of, with_firsts, shown_at_hub, shown_at_member, at_own, at_other, same_or_not, some_of}
+use Rattle.schedule.proofs.Quiet.{IsCalmAct, offers_at}
 use Rattle.delivery.proofs.Offers.{offers_open}
 use Rattle.laws.proofs.Safety.{standing_stays}
 use Rattle.node.proofs.Ends.{get_set_here, get_set_other}
 use Rattle.std.proofs.Math.Path.{fun_ext}
-use Rattle.schedule.proofs.Site.{node_with, IsSite, Own, keeps, loses, kept_linked, with_first, with_second, quiet_first, quiet_second, lost_second, firsts_held, seconds_held, calm_acted, TakesNext, takes_next}
-use Rattle.schedule.proofs.Moves.{done_of, refused_of, nothing_of, coordinator_answers, federate_answers, rule_of, hub_makes, hub_accepts, moved_to, hub_move}
+use Rattle.schedule.proofs.Site.{node_with, IsSite, keeps, with_first, with_second, quiet_first, firsts_held, seconds_held, calm_acted, TakesNext, takes_next}
+use Rattle.schedule.proofs.Moves.{done_of, refused_of, rule_of, hub_makes, hub_accepts, hub_move}
 
 pub record IsRun (d : Draft) (programs : List Behaviour) (inputs : List Input) (w : Federation) (links : ℕ → Link) (members : ℕ → Member) : Type 0 where
   pub shown : IsShown w (federate_count d) links

@@ -1,5 +1,5 @@
 -- A world as links: each federate's link, with all frames ever sent over it. What a step of the world makes of them.
-use Rattle.std.proofs.Common.{◌≡◌, ◌≢◌, ℕ, zero, suc, ◌+◌, ◌<◌, ◌≤◌, ◌⊎◌, inl, inr, Bool, true, false, IsTrue, List, [], ◌∷◌, ◌++◌, length, map, set, get_or, slice_get, refl, sym, ap, subst, ◌∙◌, arith, Option, None, Some, Err, if◌then◌else◌}
+use Rattle.std.proofs.Common.{◌≡◌, ◌≢◌, ℕ, zero, suc, ◌<◌, ◌≤◌, ◌⊎◌, inl, inr, Bool, true, false, List, [], ◌∷◌, ◌++◌, length, map, set, get_or, slice_get, refl, sym, ap, subst, ◌∙◌, arith, Option, None, Some, Err, if◌then◌else◌}
 use Rattle.std.specs.Prelude.{nat_eq, nat_lt}
 use Rattle.std.specs.List.{AllByRecursion, range_with_len}
 use Rattle.std.proofs.lemmas.List.FromFn.{length-map-range_with_len, get_or-map-range_with_len}
@@ -28,7 +28,7 @@ use Rattle.schedule.specs.declared.outcome.Outcome.TheVariants as outcome
 use Rattle.node.specs.declared.node_id.NodeId.TheVariants.{Federate}
 use Rattle.schedule.specs.World.{World, frames_in, frame_at, sends_again, greets, Occurrence, delivered, if_there, sent_out, frames_of, Applied, unchanged, after_coordinator, after_federate, at_federate, happens, blank_next, forgotten, has_next, forgets, does, opened}
 use Rattle.schedule.specs.Taken.{signal_in, brought_by}
-use Rattle.schedule.proofs.Posting.{frame_if, frames_to, IsSeen, same_number, apart_numbers, itself}
+use Rattle.schedule.proofs.Posting.{frame_if, frames_to, same_number, apart_numbers, itself}
 use Rattle.schedule.proofs.Course.{acted, Comes, IsCourse}
 use Rattle.schedule.proofs.Courses.{step_course}
 
@@ -293,10 +293,12 @@ up_comes : {Hub Member HubRow Row : Type 0} (hub : Core Hub HubRow) (member : Co
 up_comes hub member w count links j k None shown held below is same = nowhere refl
 up_comes hub member w count links j k (Some frame) shown held below is same =
     let at = shown.each j below in
-    hub_event hub member w count links (Deliver (Up j) (suc k)) (event.Frame j frame) k
-    (is, λ e found. (
-        let P : Image → Type 0 = λ x. answer_of x frame ≢ Err LinkFault.AckOfUnsent in
-        subst P (some_of (links j).first.end e (sym at.first ∙ found)) (first_told 1 (links j) (held j below) k frame is)))
+    hub_event hub member w count links (Deliver (Up j) (suc k)) (event.Frame j frame) k (
+      is,
+      λ e found. (
+          let P : Image → Type 0 = λ x. answer_of x frame ≢ Err LinkFault.AckOfUnsent in
+          subst P (some_of (links j).first.end e (sym at.first ∙ found)) (first_told 1 (links j) (held j below) k frame is)),
+    )
     (ap signal_in same)
 
 -- a frame comes to a federate
@@ -304,10 +306,12 @@ down_comes : {Hub Member HubRow Row : Type 0} (hub : Core Hub HubRow) (member : 
 down_comes hub member w count links j k None shown held below is same = nowhere refl
 down_comes hub member w count links j k (Some frame) shown held below is same =
     let at = shown.each j below in
-    member_event hub member w count links (Deliver (Down j) (suc k)) j at.station (event.Frame 0 frame) k (slice_get w.federates j) refl at.there below
-    (is, λ e found. (
-        let P : Image → Type 0 = λ x. answer_of x frame ≢ Err LinkFault.AckOfUnsent in
-        subst P (some_of (links j).second.end e (sym (ap (λ (x : List Image). slice_get x 0) at.second) ∙ found)) (second_told 1 (links j) (held j below) k frame is)))
+    member_event hub member w count links (Deliver (Down j) (suc k)) j at.station (event.Frame 0 frame) k (slice_get w.federates j) refl at.there below (
+      is,
+      λ e found. (
+          let P : Image → Type 0 = λ x. answer_of x frame ≢ Err LinkFault.AckOfUnsent in
+          subst P (some_of (links j).second.end e (sym (ap (λ (x : List Image). slice_get x 0) at.second) ∙ found)) (second_told 1 (links j) (held j below) k frame is)),
+    )
     (ap signal_in same)
 
 -- a frame of a direction that isn't there doesn't come

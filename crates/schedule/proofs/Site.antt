@@ -1,16 +1,15 @@
 -- One federate's link beside the machine of queues: what was offered and not yet taken of each direction is what the machine's queue holds.
-use Rattle.std.proofs.Common.{◌≡◌, ◌≢◌, ℕ, suc, ◌+◌, ◌-◌, ◌<◌, ◌≤◌, ◌⊎◌, inl, inr, max, Bool, true, false, List, [], ◌∷◌, ◌++◌, length, drop, slice_get, refl, sym, ap, subst, ◌∙◌, arith, Option, None, Some, Result, Ok, Err, if◌then◌else◌}
-use Rattle.std.specs.Prelude.{nat_eq, nat_lt, nat_le, ◌&&◌}
+use Rattle.std.proofs.Common.{◌≡◌, ℕ, suc, ◌+◌, ◌-◌, ◌<◌, ◌≤◌, inl, inr, max, Bool, true, false, List, [], ◌∷◌, ◌++◌, length, drop, slice_get, refl, sym, ap, subst, ◌∙◌, arith, Some, Ok, Err, if◌then◌else◌}
+use Rattle.std.specs.Prelude.{nat_eq, nat_le}
 use Rattle.std.specs.List.{AllByRecursion}
 use Rattle.std.proofs.lemmas.Bool.{eqb-true}
 use Rattle.std.proofs.lemmas.List.{append-nil, drop-append-le}
 use Rattle.signal.specs.declared.signal.Signal.{Signal}
 use Rattle.signal.specs.declared.frame.Frame.{Frame}
 use Rattle.signal.specs.declared.frame.Frame.TheVariants.{Data}
-use Rattle.link.specs.declared.arrival.Arrival.{Arrival}
 use Rattle.link.specs.declared.arrival.Arrival.TheVariants as arrival
 use Rattle.link.specs.declared.fault.LinkFault.{LinkFault}
-use Rattle.link.specs.Image.{Image, answer_of, after_frame, ack_of}
+use Rattle.link.specs.Image.{answer_of, after_frame, ack_of}
 use Rattle.plan.specs.declared.draft.Draft.{Draft}
 use Rattle.plan.specs.declared.input.Input.{Input}
 use Rattle.reactor.specs.Behaviour.{Behaviour}
@@ -18,7 +17,7 @@ use Rattle.protocol.specs.Federate.{Federate}
 use Rattle.protocol.specs.Machine.{Member}
 use Rattle.cores.specs.FederateCore.{FederateNode}
 use Rattle.delivery.specs.Way.{offered_in, IsSaid}
-use Rattle.delivery.specs.Link.{Side, Link, side_after, hears, Act, Gets, Offers, Resends, Greets, Closes, TurnsAway, offers, takes}
+use Rattle.delivery.specs.Link.{Side, Link, side_after, Act, Gets, Offers, Resends, Greets, Closes, TurnsAway, offers, takes}
 use Rattle.delivery.proofs.Offers.{offers_open}
 use Rattle.delivery.proofs.Places.{drop_at}
 use Rattle.delivery.proofs.Ways.{offers_same}

@@ -1,9 +1,6 @@
 -- Each step of a federation's world goes on beside a run of the machine, by one move or none, and no node refuses anything.
-use Rattle.std.proofs.Common.{◌≡◌, ◌≢◌, ℕ, ◌<◌, ◌⊎◌, inl, inr, Bool, true, false, List, [], ◌∷◌, ◌++◌, length, set, slice_get, refl, sym, ap, subst, ◌∙◌, Option, None, Some}
-use Rattle.std.specs.Prelude.{nat_eq, not, ◌||◌}
-use Rattle.std.specs.List.{list_any, AllByRecursion}
-use Rattle.std.proofs.lemmas.List.{append-nil, append_assoc}
-use Rattle.network.specs.Network.{Network, with_one}
+use Rattle.std.proofs.Common.{◌≡◌, ℕ, ◌<◌, true, false, List, [], ◌∷◌, set, slice_get, refl, sym, ap, subst, ◌∙◌, Some}
+use Rattle.network.specs.Network.{with_one}
 use Rattle.network.specs.Tables.{IsLawfulWith}
 use Rattle.network.specs.Undone.{first_tag}
 use Rattle.link.specs.Image.{Image}
@@ -14,10 +11,8 @@ use Rattle.plan.specs.Least.{least_of}
 use Rattle.reactor.specs.Behaviour.{Behaviour}
 use Rattle.reactor.specs.Federation.{network_of}
 use Rattle.protocol.specs.declared.refusal.Refusal.{Refusal}
-use Rattle.protocol.specs.Outcome.{Outcome, Refused, Nothing, Done, with_made}
-use Rattle.protocol.specs.Grant.{IsSafeRule}
-use Rattle.protocol.specs.Federate.{Stepped, federate_accepts, federate_announces, federate_advances}
-use Rattle.protocol.specs.Coordinator.{coordinator_accepts}
+use Rattle.protocol.specs.Outcome.{Refused, Nothing, Done, with_made}
+use Rattle.protocol.specs.Federate.{federate_announces, federate_advances}
 use Rattle.protocol.specs.Machine.{Member, Move, ToCoordinator, ToFederate, Announce, Advance, Lose, with_member, standings_of, sent_to, stepped, outcome_of, after_moves}
 use Rattle.laws.proofs.Eligibility.{lawful_is_wired}
 use Rattle.laws.proofs.SafeGrants.{widest_rule_is_safe}
@@ -27,21 +22,19 @@ use Rattle.node.specs.Core.{Made}
 use Rattle.node.specs.Step.{Station, Answer, Silent, Says, Declines, step_of}
 use Rattle.cores.specs.FederateCore as member
 use Rattle.cores.specs.FederateCore.{FederateNode, federate_core}
-use Rattle.cores.specs.CoordinatorCore as hub
 use Rattle.cores.specs.CoordinatorCore.{CoordinatorNode, coordinator_core}
-use Rattle.delivery.specs.Link.{Side, Link, Act, Offers, replaced}
+use Rattle.delivery.specs.Link.{Link, Act, Offers, replaced}
 use Rattle.schedule.specs.declared.step.Step.{Step}
-use Rattle.schedule.specs.declared.step.Step.TheVariants.{Deliver, Resend, Reconnect, Announce as AnnounceOf, Advance as AdvanceOf, Forget}
+use Rattle.schedule.specs.declared.step.Step.TheVariants.{Forget}
 use Rattle.schedule.specs.declared.outcome.Outcome.TheVariants as outcome
-use Rattle.schedule.specs.World.{World, outcome_of as told_by, Applied, unchanged, after_coordinator, after_federate, forgotten, does}
+use Rattle.schedule.specs.World.{outcome_of as told_by, Applied, unchanged, after_coordinator, after_federate, forgotten, does}
 use Rattle.schedule.proofs.Posting.{apart_numbers}
 use Rattle.schedule.specs.Kept.{is_forget_of}
 use Rattle.schedule.specs.Federation.{Federation, IsPlain}
-use Rattle.schedule.proofs.Course.{acted, IsQuiet, taking, Comes, IsPlainAnswer, Speaks, announces, advances, IsHandedOn, Kind, quiet, takes, notes, says, declines, cannot, IsCourse}
-use Rattle.schedule.proofs.Courses.{place_there}
-use Rattle.schedule.proofs.Shown.{IsShown, ups_of, with_firsts, Happened, nowhere, at_hub, at_member, lost as loses_all, happened, at_other, some_of}
-use Rattle.schedule.proofs.Site.{node_with, IsSite, Own, keeps, loses, quiet_second, lost_second}
-use Rattle.schedule.proofs.Moves.{done_of, refused_of, nothing_of, coordinator_answers, federate_answers, announces_freely, advances_freely, rule_of, hub_makes, hub_accepts, moved_to, member_move, announce_move, advance_move}
+use Rattle.schedule.proofs.Course.{acted, Comes, IsPlainAnswer, announces, advances, quiet, takes, notes, says, declines, cannot, IsCourse}
+use Rattle.schedule.proofs.Shown.{ups_of, with_firsts, nowhere, at_hub, at_member, lost as loses_all, happened, at_other}
+use Rattle.schedule.proofs.Site.{node_with, IsSite, keeps, loses, quiet_second, lost_second}
+use Rattle.schedule.proofs.Moves.{done_of, refused_of, nothing_of, coordinator_answers, federate_answers, announces_freely, advances_freely, rule_of, hub_makes, hub_accepts, moved_to, announce_move, advance_move}
 use Rattle.schedule.proofs.Runs.{IsRun, IsMoved, quiet_hub, takes_hub, hub_refuses}
 use Rattle.schedule.proofs.Members.{handed_at, never_handed, own_ends, accepts_as, announces_as, advances_as, kept_takes, kept_says, unmoved, forgets_all, kept_refuses}
 
@@ -95,9 +88,9 @@ goes_at_hub d programs inputs w links moves step e place c lawful comes run =
       | notes q handed acts ↦
           absurd (coordinator_answers (network_of d programs inputs) (rule_of d programs inputs) (standings_of members) q handed.signal
           (nothing_of (hub_makes (network_of d programs inputs) w.coordinator.node) _ (sym (hub_accepts d programs inputs w.coordinator.node (standings_of members) q handed.signal run.draft run.standings) ∙ handed.node)))
-      | says m speaks node plain acts ↦ absurd (elim speaks [ | announces is does ↦ cc | advances is does ↦ cc ])
+      | says m speaks node plain acts ↦ absurd (elim speaks [ announces is does ↦ cc | advances is does ↦ cc ])
       | declines q refusal handed acts ↦ absurd (refuses_no d programs inputs moves (ToCoordinator q) refusal lawful (hub_refuses d programs inputs w links members e place q refusal comes handed run))
-      | cannot refusal speaks acts ↦ absurd (elim speaks [ | announces is does ↦ cc | advances is does ↦ cc ])
+      | cannot refusal speaks acts ↦ absurd (elim speaks [ announces is does ↦ cc | advances is does ↦ cc ])
     ]
 
 -- a lost federate does something

@@ -1,14 +1,13 @@
 -- What is taken at each side by a step of the world: at most the signal that the step delivers, where the number taken rises.
-use Rattle.std.proofs.Common.{◌≡◌, ◌≢◌, ℕ, zero, suc, ◌+◌, ◌<◌, ◌≤◌, ◌⊎◌, inl, inr, max, Bool, true, false, List, [], ◌∷◌, ◌++◌, length, take, drop, set, slice_get, refl, sym, ap, subst, ◌∙◌, arith, Option, None, Some, Ok, if◌then◌else◌}
+use Rattle.std.proofs.Common.{◌≡◌, ℕ, suc, ◌+◌, ◌<◌, max, Bool, true, false, List, [], ◌∷◌, ◌++◌, slice_get, refl, sym, ap, subst, ◌∙◌, arith, Some, Ok, if◌then◌else◌}
 use Rattle.std.specs.Prelude.{nat_eq, nat_lt, nat_le}
 use Rattle.std.specs.List.{AllByRecursion}
-use Rattle.std.proofs.lemmas.Bool.{eqb-true, cases_lt}
+use Rattle.std.proofs.lemmas.Bool.{eqb-true}
 use Rattle.std.proofs.lemmas.Bool.Decides.{nat_tests}
-use Rattle.std.proofs.lemmas.List.{append-nil, append_assoc, take-append-drop}
-use Rattle.network.specs.Network.{with_one}
+use Rattle.std.proofs.lemmas.List.{append-nil}
 use Rattle.signal.specs.declared.signal.Signal.{Signal}
 use Rattle.signal.specs.declared.frame.Frame.{Frame}
-use Rattle.signal.specs.declared.frame.Frame.TheVariants.{Hello, Data, Ack, Refuse}
+use Rattle.signal.specs.declared.frame.Frame.TheVariants.{Data}
 use Rattle.link.specs.declared.arrival.Arrival.TheVariants as arrival
 use Rattle.link.specs.Image.{Image, answer_of, last_number}
 use Rattle.link.specs.Answer.{numbered}
@@ -18,22 +17,14 @@ use Rattle.node.specs.declared.event.Event.TheVariants as event
 use Rattle.node.specs.Core.{Core, Made}
 use Rattle.protocol.specs.Outcome as outcome
 use Rattle.protocol.specs.Machine.{sent_to}
-use Rattle.node.specs.Step.{Station, Stepped, step_of}
-use Rattle.delivery.specs.Way.{with_offered, offered_with, offered_in}
-use Rattle.delivery.specs.Link.{Side, Link, side_after, Act, Gets, Offers, Resends, Greets, Closes, TurnsAway, offers, takes, replaced}
-use Rattle.delivery.proofs.Ways.{offered-append}
-use Rattle.delivery.proofs.Acts.{IsHeld, forgets, first_in_order, second_in_order}
-use Rattle.schedule.specs.declared.dir.Dir.{Dir}
-use Rattle.schedule.specs.declared.dir.Dir.TheVariants.{Up, Down}
-use Rattle.schedule.specs.declared.step.Step.{Step}
-use Rattle.schedule.specs.World.{World, frames_in, frames_of, Applied, does, applied, after_steps}
-use Rattle.schedule.specs.Taken.{own_end, receiver, number_taken, brought_by, newly_taken, taken_in, BeginsWith}
-use Rattle.schedule.proofs.Posting.{same_number, apart_numbers, itself, IsSeen}
-use Rattle.schedule.proofs.Course.{acted, IsQuiet, TakesNone, taking, Comes, IsHandedOn, Kind, quiet, takes as takes_kind, notes, says as says_kind, declines, cannot, IsCourse}
+use Rattle.node.specs.Step.{Station, Stepped}
+use Rattle.delivery.specs.Link.{Side, side_after, Act, Gets, Offers, Resends, Greets, Closes, TurnsAway, offers, takes}
+use Rattle.schedule.proofs.Posting.{same_number}
+use Rattle.schedule.proofs.Course.{acted, IsQuiet, TakesNone, taking, Comes, IsHandedOn, quiet, takes as takes_kind, notes, says as says_kind, declines, cannot, IsCourse}
 use Rattle.schedule.proofs.Courses.{gets_frame}
-use Rattle.schedule.proofs.Shown.{IsAt, IsShown, ups_of, with_firsts, with_second, Brings, Happened, nowhere, at_hub, at_member, lost, happened, shown_at_hub, shown_at_member, shown_lost, shown_listed, at_own, at_other, same_or_not, some_of, got, none_beyond, nothing_beyond}
+use Rattle.schedule.proofs.Shown.{some_of}
 use Rattle.schedule.proofs.Quiet.{TookNothing, quiet_takes_nothing, as_it_was}
-use Rattle.schedule.proofs.Site.{in_turn_is, firsts_held, seconds_held}
+use Rattle.schedule.proofs.Site.{in_turn_is}
 use Rattle.schedule.proofs.Runs.{comes_with}
 
 -- a side after acts: of what the step brings it took that whose number is new

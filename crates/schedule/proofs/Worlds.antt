@@ -1,40 +1,37 @@
 -- The world of a federation after any steps stands beside a run of the machine of queues.
-use Rattle.std.proofs.Common.{◌≡◌, ◌≢◌, ℕ, zero, suc, ◌+◌, ◌<◌, ◌≤◌, ◌⊎◌, inl, inr, Bool, true, false, IsTrue, List, [], ◌∷◌, ◌++◌, length, map, set, get_or, slice_get, refl, sym, ap, subst, ◌∙◌, arith, Option, None, Some, if◌then◌else◌}
-use Rattle.std.specs.Prelude.{nat_eq, not, ◌||◌}
-use Rattle.std.specs.List.{list_any, range_with_len}
+use Rattle.std.proofs.Common.{◌≡◌, ℕ, zero, suc, Bool, true, false, List, [], ◌∷◌, ◌++◌, set, slice_get, refl, sym, ap, subst, ◌∙◌, Option, None, Some, if◌then◌else◌}
+use Rattle.std.specs.Prelude.{not, ◌||◌}
+use Rattle.std.specs.List.{list_any}
 use Rattle.std.proofs.Math.Path.{fun_ext}
 use Rattle.std.proofs.lemmas.List.{append-nil, append_assoc}
-use Rattle.std.proofs.lemmas.List.FromFn.{length-map-range_with_len, get_or-map-range_with_len}
-use Rattle.std.proofs.lemmas.Option.{slice_get-get_or}
 use Rattle.network.specs.Tables.{IsLawfulWith}
-use Rattle.network.specs.Undivided.{Row, whole, part}
 use Rattle.signal.specs.declared.frame.Frame.{Frame}
-use Rattle.link.specs.Image.{Image, blank}
+use Rattle.link.specs.Image.{blank}
 use Rattle.plan.specs.declared.draft.Draft.{Draft}
 use Rattle.plan.specs.declared.input.Input.{Input}
 use Rattle.plan.specs.Federation.{federate_count}
 use Rattle.plan.specs.Least.{least_of}
 use Rattle.reactor.specs.Behaviour.{Behaviour}
 use Rattle.reactor.specs.Federation.{network_of}
-use Rattle.protocol.specs.Standing.{Standing, opening_standing}
+use Rattle.protocol.specs.Standing.{opening_standing}
 use Rattle.protocol.specs.Standings.{standing_at, standings_listed}
-use Rattle.protocol.specs.Machine.{Member, Move, opening_member as first_member, standings_of}
+use Rattle.protocol.specs.Machine.{Member, Move, opening_member as first_member}
 use Rattle.laws.proofs.ListedStandings.{listed_length}
 use Rattle.node.specs.Step.{Station}
 use Rattle.cores.specs.FederateCore.{FederateNode, federate_core}
-use Rattle.cores.specs.CoordinatorCore.{CoordinatorNode, coordinator_core}
+use Rattle.cores.specs.CoordinatorCore.{coordinator_core}
 use Rattle.delivery.specs.Link.{Link, opening_link}
-use Rattle.delivery.proofs.Acts.{IsHeld, held}
+use Rattle.delivery.proofs.Acts.{held}
 use Rattle.schedule.specs.declared.limits.TheConstants.{LINK_ROOM}
 use Rattle.node.specs.declared.node_id.NodeId.{NodeId}
 use Rattle.node.specs.declared.node_id.NodeId.TheVariants.{Coordinator, Federate}
 use Rattle.schedule.specs.declared.outcome.Outcome.TheVariants as outcome
 use Rattle.schedule.specs.declared.step.Step.{Step}
 use Rattle.schedule.specs.declared.step.Step.TheVariants.{Deliver, Resend, Reconnect, Announce, Advance, Forget}
-use Rattle.schedule.specs.World.{World, Occurrence, occurrence_of, Applied, unchanged, at_federate, at_node, happens, has_next, forgotten, forgets, opened, listed, does, applied, after_steps}
-use Rattle.schedule.specs.Kept.{is_forget, is_forget_of, is_kept}
+use Rattle.schedule.specs.World.{Occurrence, occurrence_of, unchanged, at_federate, at_node, happens, has_next, forgotten, forgets, does, after_steps}
+use Rattle.schedule.specs.Kept.{is_forget_of, is_kept}
 use Rattle.schedule.specs.Federation.{Federation, IsPlain, opening_world, opening_coordinator, opening_member, world_after, step_in}
-use Rattle.schedule.proofs.Shown.{IsAt, IsShown, shown_listed, opened_shown, made_at, some_of}
+use Rattle.schedule.proofs.Shown.{shown_listed, opened_shown, made_at, some_of}
 use Rattle.schedule.proofs.Site.{IsSite, keeps}
 use Rattle.schedule.proofs.Runs.{IsRun}
 use Rattle.schedule.proofs.Steps.{members_after, Goes, goes}

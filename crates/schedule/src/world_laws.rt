@@ -50,7 +50,6 @@ pub fn no_row_is_missing()
         AreInputsOf d inputs → j < federate_count d → IsFinished (world_after d programs inputs steps) → IsWhole d programs inputs (world_after d programs inputs steps) j }
 {}
 
-
 /// Whatever nodes there are, and whatever steps were made: of each direction of each link, what was taken in an incarnation is a
 /// beginning of what was offered in it.
 #[tactic(none)]
