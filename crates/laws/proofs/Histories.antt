@@ -35,7 +35,8 @@ use Rattle.laws.proofs.Safety.{IsMember}
 use Rattle.laws.proofs.Clear.{completed_of}
 use Rattle.laws.proofs.ClearRuns.{AllClear}
 use Rattle.laws.proofs.Replay.{turn_taken, history_grows, IsTaken, AllReplayed}
-use Rattle.laws.proofs.Waiting.{last_message, last_held, waiting, or_apart, or_first, or_second, last_message-append, look_put_all, look_drop, up_none, down_none, waiting_none}
+use Rattle.order.proofs.LookUps.{last_held, or_apart, look_put_all}
+use Rattle.laws.proofs.Waiting.{last_message, waiting, or_first, or_second, last_message-append, look_drop, up_none, down_none, waiting_none}
 use Rattle.laws.proofs.Makes.{NoPort, turn_sends, turn_holds, no_messages, port_unscheduled, port_or_not}
 
 -- the histories of the members; where one has no turn, what waits is what it should see; and each turn was called for

@@ -34,7 +34,8 @@ use Rattle.laws.proofs.Safety.{IsSound, tag_if, sent-append, grants_sent, moves_
 use Rattle.laws.proofs.ClearRuns.{AllClear, moves_clear}
 use Rattle.laws.proofs.Replay.{AllReplayed, moves_replay}
 use Rattle.laws.proofs.Tests.{both_left, both_right}
-use Rattle.laws.proofs.Waiting.{leads_to, brought_over, found_in, last_message, last_held, waiting, or_nothing, or_apart, last_message-append, look_put, look_put_all}
+use Rattle.order.proofs.LookUps.{found_in, last_held, or_nothing, or_apart, look_put, look_put_all}
+use Rattle.laws.proofs.Waiting.{leads_to, brought_over, last_message, waiting, last_message-append}
 use Rattle.laws.proofs.Histories.{IsTraced, at_member, taking_traces}
 
 -- some trace is that of the members

@@ -17,7 +17,8 @@ use Rattle.signal.specs.declared.signal.Signal.TheVariants.{Net, Ltc, Tag, Msg}
 use Rattle.network.specs.Undone.{Held}
 use Rattle.protocol.specs.Federate.{scheduled_at, scheduled_by, message_over, sent_over, messages_from}
 use Rattle.laws.proofs.Tests.{both_left, both_right}
-use Rattle.laws.proofs.Waiting.{leads_to, brought_over, last_message, found_in, last_held, last_message-append, or_nothing, brought_none}
+use Rattle.order.proofs.LookUps.{found_in, last_held, or_nothing}
+use Rattle.laws.proofs.Waiting.{leads_to, brought_over, last_message, last_message-append, brought_none}
 
 -- a tag up to stop isn't one after stop
 not_after : (n : Network) (g t : LogicalTime) → is_at_most t n.stop ≡ true → is_at_most g n.stop ≡ false → is_same g t ≡ false

@@ -10,6 +10,7 @@ use Rattle.network.specs.Network.{Network}
 use Rattle.signal.specs.declared.signal.Signal.{Signal}
 use Rattle.signal.specs.declared.signal.Signal.TheVariants.{Net, Ltc, Tag, Msg}
 use Rattle.order.specs.Newest.{or_else}
+use Rattle.order.proofs.LookUps.{or_nothing, or_apart}
 use Rattle.order.proofs.Maker.{maker}
 use Rattle.network.specs.Undone.{Held, put, put_all, look, drop_up_to, is_held_before, is_for_same}
 use Rattle.protocol.specs.Machine.{Member}
@@ -36,28 +37,11 @@ last_message n a t slot (Ltc g ∷ rest) = last_message n a t slot rest
 last_message n a t slot (Tag g ∷ rest) = last_message n a t slot rest
 last_message n a t slot (Msg k s v ∷ rest) = or_else (last_message n a t slot rest) (brought_over (slice_get n.connections k) s v a t slot)
 
--- what an event brings to a slot at a tag
-abbrev pub found_in : Held → LogicalTime → ℕ → Option ℤ
-found_in e t slot = if is_same e.tag t && nat_eq e.slot slot then Some e.value else None
-
--- what the last of several events brings there
-abbrev pub last_held : List Held → LogicalTime → ℕ → Option ℤ
-last_held [] t slot = None
-last_held (e ∷ rest) t slot = or_else (last_held rest t slot) (found_in e t slot)
-
 -- what waits: on its way up from the one that makes it, else on its way down, else undone
 abbrev pub waiting : Network → (ℕ → Member) → ℕ → LogicalTime → ℕ → Option ℤ
 waiting n members a t slot =
     or_else (last_message n a t slot (members (maker n a slot)).up)
     (or_else (last_message n a t slot (members a).down) (look (members a).federate.undone t slot))
-
-pub or_nothing : (a : Option ℤ) → or_else a None ≡ a
-or_nothing None = refl
-or_nothing (Some x) = refl
-
-pub or_apart : (a b c : Option ℤ) → or_else (or_else a b) c ≡ or_else a (or_else b c)
-or_apart None b c = refl
-or_apart (Some x) b c = refl
 
 pub or_first : (a b : Option ℤ) → or_else a b ≡ None → a ≡ None
 or_first None b h = refl
@@ -75,44 +59,6 @@ last_message-append n a t slot (Tag g ∷ rest) ys = last_message-append n a t s
 last_message-append n a t slot (Msg k s v ∷ rest) ys =
     let this : Option ℤ = brought_over (slice_get n.connections k) s v a t slot in
     ap (λ (x : Option ℤ). or_else x this) (last_message-append n a t slot rest ys) ∙ or_apart (last_message n a t slot ys) (last_message n a t slot rest) this
-
-found_or : (b : Bool) (v : ℤ) (r : Option ℤ) → (if b then Some v else r) ≡ or_else (if b then Some v else None) r
-found_or true v r = refl
-found_or false v r = refl
-
-replaced : (b c : Bool) (v w : ℤ) (r : Option ℤ) → b ≡ c → (if b then Some v else r) ≡ or_else (if b then Some v else None) (if c then Some w else r)
-replaced true c v w r e = refl
-replaced false true v w r e = cc
-replaced false false v w r e = refl
-
-passed_over : (b c : Bool) (v w : ℤ) (r : Option ℤ) → (b ≡ true → c ≡ true → ⊥) → (if c then Some w else or_else (if b then Some v else None) r) ≡ or_else (if b then Some v else None) (if c then Some w else r)
-passed_over true true v w r h = absurd (h refl refl)
-passed_over true false v w r h = refl
-passed_over false c v w r h = refl
-
-not_both : (e x : Held) (t : LogicalTime) (slot : ℕ) → is_for_same e x ≡ false → (is_same e.tag t && nat_eq e.slot slot) ≡ true → (is_same x.tag t && nat_eq x.slot slot) ≡ true → ⊥
-not_both e x t slot h k l = grind (arith, nat_tests)
-
-put_found : (e x : Held) (rest more : List Held) (t : LogicalTime) (slot : ℕ) (b c : Bool) → is_for_same e x ≡ c → look more t slot ≡ or_else (found_in e t slot) (look rest t slot) → look (if b then e ∷ x ∷ rest else (if c then e ∷ rest else x ∷ more)) t slot ≡ or_else (found_in e t slot) (look (x ∷ rest) t slot)
-put_found e x rest more t slot true c h r = found_or (is_same e.tag t && nat_eq e.slot slot) e.value (look (x ∷ rest) t slot)
-put_found e x rest more t slot false true h r =
-    let p : e.tag ≡ x.tag = same_is_equal e.tag x.tag (both_left (is_same e.tag x.tag) (nat_eq e.slot x.slot) h) in
-    let q : e.slot ≡ x.slot = eqb-true e.slot x.slot (both_right (is_same e.tag x.tag) (nat_eq e.slot x.slot) h) in
-    replaced (is_same e.tag t && nat_eq e.slot slot) (is_same x.tag t && nat_eq x.slot slot) e.value x.value (look rest t slot) (λ y. is_same (p y) t && nat_eq (q y) slot)
-put_found e x rest more t slot false false h r =
-    ap (λ (o : Option ℤ). if is_same x.tag t && nat_eq x.slot slot then Some x.value else o) r
-    ∙ passed_over (is_same e.tag t && nat_eq e.slot slot) (is_same x.tag t && nat_eq x.slot slot) e.value x.value (look rest t slot) (not_both e x t slot h)
-
--- what was put counts first
-pub look_put : (e : Held) (u : List Held) (t : LogicalTime) (slot : ℕ) → look (put e u) t slot ≡ or_else (found_in e t slot) (look u t slot)
-look_put e [] t slot = found_or (is_same e.tag t && nat_eq e.slot slot) e.value None
-look_put e (x ∷ rest) t slot = put_found e x rest (put e rest) t slot (is_held_before e x) (is_for_same e x) refl (look_put e rest t slot)
-
-pub look_put_all : (es u : List Held) (t : LogicalTime) (slot : ℕ) → look (put_all es u) t slot ≡ or_else (last_held es t slot) (look u t slot)
-look_put_all [] u t slot = refl
-look_put_all (e ∷ rest) u t slot =
-    look_put_all rest (put e u) t slot
-    ∙ (ap (or_else (last_held rest t slot)) (look_put e u t slot) ∙ sym (or_apart (last_held rest t slot) (found_in e t slot) (look u t slot)))
 
 pub equal_places : (g h : LogicalTime) → IsLogicalTime g → IsLogicalTime h → place g ≡ place h → g ≡ h
 equal_places g h p q e = elim (one_of_three g h) [

@@ -1,5 +1,7 @@
 -- Lists, element by element.
 pub mod Lists
+-- What is found among events that are put one after the other.
+pub mod LookUps
 -- Turns as numbers: by tag, then by rank.
 pub mod Keys
 -- Each turn of the undivided program is later than the one before.
@@ -26,5 +28,9 @@ pub mod OneMore
 pub mod Traced
 -- The undivided program's trace is consistent.
 pub mod WholeTrace
+-- What is pending, slot by slot, and which turn is next.
+pub mod PendingSlots
+-- Of the events that a turn makes for a slot at a tag the last counts.
+pub mod InOrder
 -- The laws on a small network.
 pub mod SmallNetwork

@@ -61,11 +61,11 @@ value_or : (a b : Option Event) → option_map (λ (e : Event). e.value) (or_els
 value_or None b = refl
 value_or (Some e) b = refl
 
-latest_value_after : (xs ys : List Event) → AllByRecursion (λ x. AllByRecursion (λ y. IsTrue (is_later y.source x.source)) ys) xs → latest_value (xs ++ ys) ≡ or_else (latest_value ys) (latest_value xs)
+pub latest_value_after : (xs ys : List Event) → AllByRecursion (λ x. AllByRecursion (λ y. IsTrue (is_later y.source x.source)) ys) xs → latest_value (xs ++ ys) ≡ or_else (latest_value ys) (latest_value xs)
 latest_value_after xs ys a = ap (option_map (λ (e : Event). e.value)) (latest_after xs ys a) ∙ value_or (latest ys) (latest xs)
 
 -- where events of a turn come from
-abbrev IsFrom : LogicalTime → Event → Type 0
+abbrev pub IsFrom : LogicalTime → Event → Type 0
 IsFrom s e = e.source.tag ≡ s
 
 message_from : (s : LogicalTime) (c : Connection) (o : Option ℤ) → AllByRecursion (IsFrom s) (message_of s c o)
@@ -81,12 +81,12 @@ all_carried_from i s outputs [] = tt
 all_carried_from i s outputs (c ∷ cs) =
     each_append (IsFrom s) (carried_by i s outputs c) (flat_map (carried_by i s outputs) cs) (carried_from s c (outputs c.port) (nat_eq c.source i)) (all_carried_from i s outputs cs)
 
-all_scheduled_from : (i : ℕ) (s : LogicalTime) (place : ℕ) (ss : List Scheduling) → AllByRecursion (λ e. IsFrom s e × (place ≤ e.source.place)) (scheduled_from i s place ss)
+pub all_scheduled_from : (i : ℕ) (s : LogicalTime) (place : ℕ) (ss : List Scheduling) → AllByRecursion (λ e. IsFrom s e × (place ≤ e.source.place)) (scheduled_from i s place ss)
 all_scheduled_from i s place [] = tt
 all_scheduled_from i s place (x ∷ xs) =
     ((refl, omega arith), each_more (λ e. IsFrom s e × (place + 1 ≤ e.source.place)) (λ e. IsFrom s e × (place ≤ e.source.place)) (λ e w. (w.0, (let k = w.1 in omega arith))) (scheduled_from i s (place + 1) xs) (all_scheduled_from i s (place + 1) xs))
 
-all_from : (n : Network) (i : ℕ) (s : LogicalTime) (effect : Effect) → AllByRecursion (IsFrom s) (made_by n i s effect)
+pub all_from : (n : Network) (i : ℕ) (s : LogicalTime) (effect : Effect) → AllByRecursion (IsFrom s) (made_by n i s effect)
 all_from n i s effect =
     let carried : List Event = flat_map (carried_by i s effect.outputs) n.connections in
     let scheduled : List Event = scheduled_from i s 0 effect.schedulings in

@@ -16,15 +16,18 @@ use Rattle.network.specs.Lawful.{IsLawful}
 use Rattle.order.specs.History.{Turn, with_turn, rows_of, row_after, states_after, effect_after, has_turn_at}
 use Rattle.order.specs.Sees.{events_of, sees}
 use Rattle.order.specs.Consistent.{IsCalledFor}
-use Rattle.order.proofs.Lists.{Among, each_more, each_both, among_filter, filter_twice}
+use Rattle.order.proofs.Lists.{Among, each_more, each_both, among_filter, filter_twice, none_kept}
 use Rattle.order.proofs.Keys.{key}
 use Rattle.order.proofs.Rising.{event_key}
-use Rattle.order.proofs.Standing.{Least, Standing, standing_turn, due_least}
+use Rattle.order.proofs.Standing.{Least, IsDue, Standing, standing_turn, due_least}
 use Rattle.order.proofs.Meet.{IsRising}
 use Rattle.order.proofs.Agree.{is_for, some_at}
 use Rattle.order.proofs.Maker.{is_for_parts}
 use Rattle.order.proofs.ReadBack.{in_trace}
-use Rattle.order.proofs.OneMore.{events_grow, sees_kept}
+use Rattle.order.specs.Newest.{or_else}
+use Rattle.order.proofs.Newest.{latest_value}
+use Rattle.order.proofs.LookUps.{or_nothing}
+use Rattle.order.proofs.OneMore.{events_grow, sees_kept, sees_newest}
 
 pub record Traced (n : Network) (u : Undivided) (trace : ℕ → List Turn) (bound : ℕ) : Type 0 where
   pub standing : Standing n u bound
@@ -46,7 +49,7 @@ latest_some : (e : Event) (xs : List Event) → Among e xs → (v : Event) × (l
 latest_some e [] m = absurd m
 latest_some e (x ∷ xs) m = (later_of x (latest xs), refl)
 
-something_present : (e : Event) (es : List Event) → Among e es → (v : ℤ) × (present_at es e.reactor e.tag e.slot ≡ Some v)
+pub something_present : (e : Event) (es : List Event) → Among e es → (v : ℤ) × (present_at es e.reactor e.tag e.slot ≡ Some v)
 something_present e es m =
     let found = latest_some e (filter (is_for e.reactor e.tag e.slot) es) (among_filter (is_for e.reactor e.tag e.slot) e es (for_itself e) m) in
     (value_of found.0, ap (option_map value_of) found.1)
@@ -166,6 +169,40 @@ module _ (n : Network) (L : IsLawful n) (u : Undivided) (T : ℕ → List Turn) 
       filter-append (is_for a s slot) (filter (λ x. not (is_at e.reactor e.tag x)) u.pending) made_now
       ∙ (ap (λ (l : List Event). l ++ filter (is_for a s slot) made_now) (left_same a s slot none.1 ∙ w.fresh a h s slot none.0)
       ∙ sym (events_grow_now a h s slot))
+
+  -- where a turn was taken nothing is pending
+  none_left : (a : ℕ) → a < n.reactors → (s : LogicalTime) (slot : ℕ) → has_turn_at s (T a) ≡ true → filter (is_for a s slot) u.pending ≡ []
+  none_left a h s slot taken =
+      none_kept (is_for a s slot) u.pending (each_more (IsDue n bound) (λ x. is_for a s slot x ≡ false)
+      (λ x due. false_from_ne_true (is_for a s slot x) (λ k. (
+      let parts = is_for_parts a s slot x k in
+      let at : event_key n x ≡ key n a s = (λ y. key n (parts.0 y) (same_is_equal x.tag s parts.1.0 y)) in
+      let high = due.due in
+      let none : has_turn_at s (T a) ≡ false = absent n a s (T a) (each_more (λ y. key n a y.tag < bound) (λ y. key n a y.tag < key n a s) (λ y l. omega arith) (T a) (w.past a h)) in
+      cc)))
+      u.pending w.standing.pending)
+
+  latest_newest : (a : ℕ) → a < n.reactors → (s : LogicalTime) (slot : ℕ) → (b : Bool) → has_turn_at s (T a) ≡ b →
+      latest_value (filter (is_for a s slot) u.pending ++ filter (is_for a s slot) made_now) ≡ or_else (latest_value (filter (is_for a s slot) made_now)) (latest_value (filter (is_for a s slot) u.pending))
+  latest_newest a h s slot true taken =
+      let none = none_left a h s slot taken in
+      ap (λ (l : List Event). latest_value (l ++ filter (is_for a s slot) made_now)) none
+      ∙ (sym (or_nothing (latest_value (filter (is_for a s slot) made_now)))
+      ∙ ap (λ (l : List Event). or_else (latest_value (filter (is_for a s slot) made_now)) (latest_value l)) (sym none))
+  latest_newest a h s slot false free =
+      let fresh = w.fresh a h s slot free in
+      ap (λ (l : List Event). latest_value (l ++ filter (is_for a s slot) made_now)) fresh
+      ∙ (ap latest_value (sym (events_grow_now a h s slot))
+      ∙ (sees_newest n L T e.reactor turn_taken rising_now.0 a h s slot
+      ∙ (λ y. or_else (latest_value (filter (is_for a s slot) (made_same y))) (latest_value (sym fresh y)))))
+
+  -- elsewhere than at the turn, what it makes for a slot is pending, or else what was
+  pub pending_newest : (a : ℕ) → a < n.reactors → (s : LogicalTime) (slot : ℕ) → (e.reactor ≡ a → e.tag ≡ s → ⊥) →
+      present_at (after_turn_at n u e.reactor e.tag).pending a s slot ≡ or_else (present_at made_now a s slot) (present_at u.pending a s slot)
+  pending_newest a h s slot other =
+      ap latest_value (filter-append (is_for a s slot) (filter (λ x. not (is_at e.reactor e.tag x)) u.pending) made_now
+      ∙ ap (λ (l : List Event). l ++ filter (is_for a s slot) made_now) (left_same a s slot other))
+      ∙ latest_newest a h s slot (has_turn_at s (T a)) refl
 
   states_next : (i : ℕ) → (after_turn_at n u e.reactor e.tag).states i ≡ states_after n i (next_trace i)
   states_next = in_trace (λ i h. (after_turn_at n u e.reactor e.tag).states i ≡ states_after n i h) T e.reactor turn_taken

@@ -73,14 +73,14 @@ known n L (suc turns) =
     known_turn n L u before (first_of_turns n u.pending) (first_standing n L u before.0 before.1.standing)
 
 -- what is present comes from something that is pending there
-abbrev ComesFrom : ℕ → LogicalTime → List Event → Type 0
+abbrev pub ComesFrom : ℕ → LogicalTime → List Event → Type 0
 ComesFrom j t es = (e : Event) × Among e es × (e.reactor ≡ j) × (e.tag ≡ t)
 
 source_by_test : (j : ℕ) (t : LogicalTime) (slot : ℕ) (v : ℤ) (x : Event) (xs : List Event) → (present_at xs j t slot ≡ Some v → ComesFrom j t xs) → (b : Bool) → is_for j t slot x ≡ b → option_map value_of (latest (cond b (x ∷ filter (is_for j t slot) xs) (filter (is_for j t slot) xs))) ≡ Some v → ComesFrom j t (x ∷ xs)
 source_by_test j t slot v x xs further true k h = let parts = is_for_parts j t slot x k in (x, inl refl, parts.0, same_is_equal x.tag t parts.1.0)
 source_by_test j t slot v x xs further false k h = let rest = further h in (rest.0, inr rest.1, rest.2, rest.3)
 
-source_pending : (j : ℕ) (t : LogicalTime) (slot : ℕ) (v : ℤ) (es : List Event) → present_at es j t slot ≡ Some v → ComesFrom j t es
+pub source_pending : (j : ℕ) (t : LogicalTime) (slot : ℕ) (v : ℤ) (es : List Event) → present_at es j t slot ≡ Some v → ComesFrom j t es
 source_pending j t slot v [] h = absurd (none_some h)
   where
     none_some : None ≡ Some v → ⊥

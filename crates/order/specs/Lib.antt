@@ -9,3 +9,5 @@ pub mod Sees
 pub mod Consistent
 -- what a history last gave to a slot
 pub mod Newest
+-- what is pending, slot by slot
+pub mod Pending

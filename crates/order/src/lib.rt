@@ -2,10 +2,11 @@
 //! no code.
 //!
 //! Promise to the layer above: words and laws to cite. Begin with `undivided`, then `agreement`; `seen` says slot by slot what
-//! a reactor should see, and `gateway` shows a network that the laws hold of.
+//! a reactor should see, `pending` what is pending for each slot, and `gateway` shows a network that the laws hold of.
 #![tactic(auto)]
 
 pub mod agreement;
 pub mod gateway;
+pub mod pending;
 pub mod seen;
 pub mod undivided;
