@@ -1,25 +1,22 @@
 -- Connections join federates and ports that are there, and what they carry depends on those ports alone.
-use Rattle.std.proofs.Common.{◌≡◌, ℕ, suc, ◌<◌, ℤ, Bool, true, false, List, [], ◌∷◌, ◌++◌, length, All, nat_eq, slice_get, Option, None, Some, refl, ap, sym, ◌∙◌, arith, inl, inr, subst, if◌then◌else◌, ◌+◌}
+use Rattle.std.proofs.Common.{◌≡◌, ℕ, suc, ◌<◌, ℤ, Bool, true, false, List, [], ◌∷◌, length, All, nat_eq, slice_get, Option, None, Some, refl, ap, sym, ◌∙◌, arith, inl, inr, subst, if◌then◌else◌, ◌+◌}
 use Rattle.std.specs.Option.{option_map}
 use Rattle.std.specs.List.{filter_map, cons_option, flat_map}
 use Rattle.std.specs.Str.{bytes_eq}
 use Rattle.std.proofs.lemmas.Bool.Decides.{eqb_tells}
-use Rattle.std.proofs.lemmas.List.Elements.{All-cons, All-append, All-filter}
+use Rattle.std.proofs.lemmas.List.Elements.{All-cons}
 use Rattle.std.proofs.lemmas.Option.{option_and_then_some, slice_get_within}
-use Rattle.tag.specs.LogicalTime.{LogicalTime, is_at_most}
+use Rattle.tag.specs.LogicalTime.{LogicalTime}
 use Rattle.network.specs.Connection.{Connection}
-use Rattle.network.specs.Undivided.{message_of, carried_by, scheduled_from, made_by}
-use Rattle.network.specs.Network.{Effect, Scheduling}
+use Rattle.network.specs.Undivided.{message_of, carried_by}
 use Rattle.plan.specs.declared.slots.Slots.{Slots}
 use Rattle.plan.specs.declared.draft.Federate.{Federate}
 use Rattle.plan.specs.declared.draft.ConnectionDraft.{ConnectionDraft}
 use Rattle.plan.specs.declared.draft.Draft.{Draft}
 use Rattle.plan.specs.Naming.{place_of}
-use Rattle.plan.specs.Federation.{Found, place_in, found_in, federate_number, found_output, found_input, connection_of, connections_of, federate_count, delay_after, stop_of}
+use Rattle.plan.specs.Federation.{Found, place_in, found_in, federate_number, found_output, found_input, connection_of, connections_of, federate_count, delay_after}
 use Rattle.plan.specs.Numbering.{first_input}
 use Rattle.reactor.specs.Entries.{AgreesBelow}
-use Rattle.reactor.specs.Federation.{network_of}
-use Rattle.whole.specs.Kept.{IsInRange}
 
 pub All-filter_map : {X Y : Type 0} (P : Y → Type 0) (h : X → Option Y) (each : (x : X) (y : Y) → h x ≡ Some y → P y) (xs : List X) → All P (filter_map h xs)
 All-filter_map P h each [] = λ k d below. absurd (omega arith)
@@ -128,42 +125,3 @@ carried-agrees d reactor s tag f g slots agrees =
     let same : joined.source.0.slots ≡ s = cc in
     agrees c.port (subst (λ (t : Slots). c.port < length t.outputs) same joined.source.2)))
     (connections_of d) (connections_of-joined d)
-
-All-flat_map : {X Y : Type 0} (P : X → Type 0) (Q : Y → Type 0) (f : X → List Y) (each : (x : X) → P x → All Q (f x)) (xs : List X) → All P xs → All Q (flat_map f xs)
-All-flat_map P Q f each [] all = λ k d below. absurd (omega arith)
-All-flat_map P Q f each (x ∷ xs) all =
-    All-append Q (f x) (flat_map f xs) (each x (all 0 x (omega arith))) (All-flat_map P Q f each xs (λ k d below. all (suc k) d (omega arith)))
-
-pub none-All : {X : Type 0} (P : X → Type 0) → All P []
-none-All P = λ k d below. absurd (omega arith)
-
-pub one-All : {X : Type 0} (P : X → Type 0) (x : X) → P x → All P (x ∷ [])
-one-All P x holds = All-cons P x [] holds (none-All P)
-
-message_of-in_range : (d : Draft) (tag : LogicalTime) (c : Connection) (value : Option ℤ) → IsJoined d c → All (IsInRange d) (message_of tag c value)
-message_of-in_range d tag c None joined = none-All (IsInRange d)
-message_of-in_range d tag c (Some value) joined = one-All (IsInRange d) _ joined.target
-
-carried_by-in_range : (d : Draft) (reactor : ℕ) (tag : LogicalTime) (f : ℕ → Option ℤ) (c : Connection) → IsJoined d c → All (IsInRange d) (carried_by reactor tag f c)
-carried_by-in_range d reactor tag f c joined =
-    let go : (b : Bool) → All (IsInRange d) (if b then message_of tag c (f c.port) else []) =
-    λ b. elim b as (λ b. All (IsInRange d) (if b then message_of tag c (f c.port) else [])) [
-      | true ↦ message_of-in_range d tag c (f c.port) joined
-      | false ↦ none-All (IsInRange d)
-    ] in
-    go (nat_eq c.source reactor)
-
-scheduled_from-in_range : (d : Draft) (reactor : ℕ) (tag : LogicalTime) (place : ℕ) (schedulings : List Scheduling) → reactor < federate_count d → All (IsInRange d) (scheduled_from reactor tag place schedulings)
-scheduled_from-in_range d reactor tag place [] there = none-All (IsInRange d)
-scheduled_from-in_range d reactor tag place (s ∷ rest) there =
-    All-cons (IsInRange d) _ (scheduled_from reactor tag (place + 1) rest) there (scheduled_from-in_range d reactor tag (place + 1) rest there)
-
--- what a turn makes is for federates that are there
-pub made_by-in_range :
-    (d : Draft) (reactor : ℕ) (tag : LogicalTime) (e : Effect) → reactor < federate_count d → All (IsInRange d) (made_by (network_of d [] []) reactor tag e)
-made_by-in_range d reactor tag e there =
-    All-filter (λ e. is_at_most e.tag (stop_of d)) (IsInRange d)
-    (flat_map (carried_by reactor tag e.outputs) (connections_of d) ++ scheduled_from reactor tag 0 e.schedulings)
-    (All-append (IsInRange d) (flat_map (carried_by reactor tag e.outputs) (connections_of d)) (scheduled_from reactor tag 0 e.schedulings)
-    (All-flat_map (IsJoined d) (IsInRange d) (carried_by reactor tag e.outputs) (carried_by-in_range d reactor tag e.outputs) (connections_of d) (connections_of-joined d))
-    (scheduled_from-in_range d reactor tag 0 e.schedulings there))

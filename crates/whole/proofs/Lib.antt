@@ -1,16 +1,24 @@
--- lists that grow by a step
+-- lists
 pub mod Steps
--- how many turns there can be
-pub mod Few
--- the first turn
-pub mod FirstTurn
--- lists of entries, and what is present
-pub mod Listed
+-- what was put is taken back
+pub mod Putting
+-- the first of turns that are next
+pub mod NextTurns
+-- what is found, and its least tag
+pub mod Looks
+-- lists with a value for each number
+pub mod Filled
 -- connections
 pub mod Joined
--- what a turn makes
-pub mod MadeLemmas
+-- lists of entries
+pub mod Listed
+-- how many turns there can be
+pub mod Few
+-- a schedule after a turn
+pub mod Schedules
+-- agendas before the first turn
+pub mod Openings
+-- what a turn puts is what it makes
+pub mod PutMade
 -- the beginning, and a turn
 pub mod Turns
--- what comes from outside
-pub mod Outside

@@ -1,13 +1,9 @@
 -- What a list of entries says at a place, and what is present among events.
-use Rattle.std.proofs.Common.{◌≡◌, ◌≢◌, ℕ, zero, suc, ◌+◌, ◌<◌, ◌≤◌, ℤ, Bool, ◌&&◌, List, [], ◌∷◌, ◌++◌, filter, nat_eq, Option, None, Some, refl, ap, sym, ◌∙◌, arith, eq-eqb, inl, inr}
-use Rattle.std.specs.Option.{option_map}
-use Rattle.std.proofs.lemmas.Bool.{ne_eqb, cases_Bool}
+use Rattle.std.proofs.Common.{◌≡◌, ◌≢◌, ℕ, zero, suc, ◌+◌, ◌<◌, ◌≤◌, ℤ, List, ◌++◌, Option, None, Some, refl, ◌∙◌, arith, eq-eqb, inl, inr}
+use Rattle.std.proofs.lemmas.Bool.{ne_eqb}
 use Rattle.std.proofs.Math.Nat.{eq-or-lt_of_le}
-use Rattle.std.proofs.Math.Path.{fun_ext}
-use Rattle.tag.specs.LogicalTime.{LogicalTime}
-use Rattle.network.specs.Event.{Event, Entry, entry_at, listed_from, listed, latest, is_at, present_at}
+use Rattle.network.specs.Event.{Entry, entry_at, listed_from, listed}
 use Rattle.reactor.specs.Entries.{value_at, AgreesBelow}
-use Rattle.whole.specs.Present.{value_among}
 
 value_at-skips : (first place : ℕ) (v : Option ℤ) (rest : List Entry) → first ≢ place → value_at (entry_at first v ++ rest) place ≡ value_at rest place
 value_at-skips first place None rest apart = refl
@@ -38,16 +34,3 @@ value_at-from first (suc count) f place low high =
 -- what is listed of a function is what it has there
 pub listed-agrees : (count : ℕ) (f : ℕ → Option ℤ) → AgreesBelow count (value_at (listed count f)) f
 listed-agrees count f place below = value_at-from 0 count f place (omega arith) (omega arith)
-
-filter-filter : {X : Type 0} (p q : X → Bool) (xs : List X) → filter (λ x. p x && q x) xs ≡ filter q (filter p xs)
-filter-filter p q [] = refl
-filter-filter p q (x ∷ xs) =
-    elim (cases_Bool (p x)) [
-      | inl passes ↦ rw (passes, filter-filter p q xs) refl
-      | inr fails ↦ rw (fails, filter-filter p q xs) refl
-    ]
-
--- what is present among a reactor's events at a tag is what is present there
-pub value_among-is : (pending : List Event) (reactor : ℕ) (tag : LogicalTime) → value_among (filter (is_at reactor tag) pending) ≡ present_at pending reactor tag
-value_among-is pending reactor tag =
-    fun_ext λ slot. ap (λ events. option_map (λ e. e.value) (latest events)) (sym (filter-filter (is_at reactor tag) (λ e. nat_eq e.slot slot) pending))

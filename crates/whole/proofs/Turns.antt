@@ -1,48 +1,57 @@
 -- What an undivided program keeps, at the beginning and over a turn.
-use Rattle.std.proofs.Common.{◌≡◌, ◌≢◌, ℕ, zero, suc, ◌+◌, ◌<◌, ℤ, List, [], ◌∷◌, ◌++◌, length, map, set, filter, not, All, get_or, slice_get, Option, None, Some, refl, ap, sym, ◌∙◌, append_assoc, append-nil, arith, inl, inr, add-zero}
+use Rattle.std.proofs.Common.{◌≡◌, ℕ, ◌+◌, ◌<◌, ◌^◌, ℤ, Bool, true, false, not, ◌&&◌, List, [], ◌∷◌, ◌++◌, length, map, set, get_or, slice_get, nat_eq, Option, None, Some, refl, ap, sym, subst, ◌∙◌, append_assoc, append-nil, arith, inl, inr, add-zero}
+use Rattle.std.specs.Prelude.{if◌then◌else◌}
+use Rattle.std.specs.List.{AllByRecursion, flat_map}
 use Rattle.std.specs.Option.{option_map}
-use Rattle.std.proofs.lemmas.Bool.Decides.{eqb_tells}
+use Rattle.std.proofs.lemmas.Bool.{eq-eqb}
+use Rattle.std.proofs.lemmas.Bool.Decides.{eqb_tells, nat_tests}
 use Rattle.std.proofs.lemmas.List.{length-map, length-append}
-use Rattle.std.proofs.lemmas.List.Elements.{All-append, All-filter}
-use Rattle.std.proofs.lemmas.Option.{slice_get-get_or, slice_get-map}
+use Rattle.std.proofs.lemmas.Option.{slice_get-get_or, slice_get-map, get_or_from_slice_get}
 use Rattle.std.proofs.Math.Path.{fun_ext}
 use Rattle.std.proofs.Math.Seq.{map-set_same}
-use Rattle.tag.specs.LogicalTime.{LogicalTime}
-use Rattle.network.specs.Event.{Event, is_at, present_at}
+use Rattle.tag.specs.LogicalTime.{LogicalTime, is_before}
+use Rattle.tag.proofs.Order.{before_irreflexive}
+use Rattle.network.specs.Event.{Event, listed, present_at}
 use Rattle.network.specs.Lawful.{IsLawful}
-use Rattle.network.specs.Network.{Network}
+use Rattle.network.specs.Network.{Network, Effect}
 use Rattle.network.specs.Undivided as undivided
-use Rattle.network.specs.Undivided.{Undivided, Row, first_of_turns, with_states, after_turn_of, turn_of, undivided_after, made_by}
+use Rattle.network.specs.Undivided.{Undivided, Row, first_of_turns, with_states, after_turn_at, after_turn_of, turn_of, undivided_after, made_by, carried_by, scheduled_from}
+use Rattle.network.specs.Undone.{Held, look, put_all}
+use Rattle.order.specs.Newest.{or_else}
+use Rattle.order.specs.Pending.{IsNext}
+use Rattle.order.proofs.LookUps.{last_held, look_put_all, or_nothing}
+use Rattle.order.proofs.PendingSlots.{next_turn, own_is_gone, made_is_newer, quiet_is_done, present_is_sound}
+use Rattle.order.proofs.InOrder.{held_for, found_as_present, made_in_order, external_in_order}
+use Rattle.order.proofs.Lists.{each_more}
 use Rattle.plan.specs.declared.slots.Slots.{Slots}
 use Rattle.plan.specs.declared.draft.Federate.{Federate}
 use Rattle.plan.specs.declared.draft.Draft.{Draft}
 use Rattle.plan.specs.declared.input.Input.{Input}
-use Rattle.plan.specs.Federation.{federate_count}
+use Rattle.plan.specs.Federation.{federate_count, connections_of, stop_of}
 use Rattle.plan.specs.Numbering.{slot_count}
+use Rattle.plan.specs.External.{external_of}
 use Rattle.reactor.specs.Behaviour.{Behaviour}
+use Rattle.reactor.specs.Entries.{value_at}
 use Rattle.reactor.specs.Federation.{network_of, slots_of, ports_of, effect_by, opening_by}
 use Rattle.reactor.specs.Programs.{HaveProgramsOf, HaveSlotsOf}
-use Rattle.reactor.specs.Effect.{opening_states}
-use Rattle.plan.specs.External.{external_of}
-use Rattle.whole.specs.declared.step.Made.{Made}
-use Rattle.whole.specs.Progress.{Progress, later_by}
+use Rattle.reactor.specs.Effect.{opening_states, effect_of}
 use Rattle.reactor.specs.Turn.{Reactor}
-use Rattle.whole.specs.Kept.{states_of, states_in, programs_in, undivided_of, IsInRange, IsAfterTurns, HasSlotsOf}
-use Rattle.whole.specs.Made.{effect_at, row_at, pending_after, IsMadeAt}
+use Rattle.agenda.specs.Agenda.{in_time}
+use Rattle.whole.specs.Progress.{Progress, later_by}
+use Rattle.whole.specs.Kept.{states_of, states_in, programs_in, HoldsPending, IsAfterTurns, HasSlotsOf}
+use Rattle.whole.specs.Made.{TurnMade, put_to}
+use Rattle.whole.specs.Targets.{between}
+use Rattle.whole.specs.Schedule.{Schedule, undone_of, opening_undone, comes_first, IsDueFirst, IsDone, found_after, IsAfterTurn}
 use Rattle.whole.proofs.Few.{turns_are_few}
-use Rattle.whole.proofs.Joined.{made_by-in_range}
+use Rattle.whole.proofs.Joined.{carried-agrees}
+use Rattle.whole.proofs.Listed.{listed-agrees}
+use Rattle.whole.proofs.Looks.{all_found, none_some}
+use Rattle.whole.proofs.PutMade.{held_up_to, put_in_time}
+use Rattle.whole.proofs.Putting.{slice_get-set_same, slice_get-set_other}
 
-slice_get-set_same : {X : Type 0} (xs : List X) (k : ℕ) (y : X) → k < length xs → slice_get (set xs k y) k ≡ Some y
-slice_get-set_same [] k y below = absurd (omega arith)
-slice_get-set_same (x ∷ xs) zero y below = refl
-slice_get-set_same (x ∷ xs) (suc k) y below = slice_get-set_same xs k y (omega arith)
-
-slice_get-set_other : {X : Type 0} (xs : List X) (k j : ℕ) (y : X) → j ≢ k → slice_get (set xs k y) j ≡ slice_get xs j
-slice_get-set_other [] k j y apart = refl
-slice_get-set_other (x ∷ xs) zero zero y apart = absurd (apart refl)
-slice_get-set_other (x ∷ xs) zero (suc j) y apart = refl
-slice_get-set_other (x ∷ xs) (suc k) zero y apart = refl
-slice_get-set_other (x ∷ xs) (suc k) (suc j) y apart = slice_get-set_other xs k j y (λ same. apart (ap (λ n. suc n) same))
+first_of_none : (n : Network) (events : List Event) → first_of_turns n events ≡ None → events ≡ []
+first_of_none n [] is = refl
+first_of_none n (e ∷ rest) is = absurd cc
 
 -- one reactor's states are replaced
 states_in-set : (reactors : List Reactor) (k : ℕ) (r : Reactor) → k < length reactors → states_in (set reactors k r) ≡ with_states (states_in reactors) k r.states
@@ -81,7 +90,7 @@ has_slots d reactors federate r programs is =
     slice_get-map (λ b. b.slots) (programs_in reactors) federate ∙
     ap (λ o. option_map (λ b. b.slots) o) (slice_get-map (λ r. r.behaviour) reactors federate ∙ ap (λ o. option_map (λ r. r.behaviour) o) is)
 
-slots-given : (o : Option Federate) (s : Slots) → option_map (λ f. f.slots) o ≡ Some s → slots_of o ≡ slot_count s
+pub slots-given : (o : Option Federate) (s : Slots) → option_map (λ f. f.slots) o ≡ Some s → slots_of o ≡ slot_count s
 slots-given None s is = absurd cc
 slots-given (Some f) s is = let same : f.slots ≡ s = cc in ap (λ s. slot_count s) same
 
@@ -89,57 +98,166 @@ ports-given : (o : Option Federate) (s : Slots) → option_map (λ f. f.slots) o
 ports-given None s is = absurd cc
 ports-given (Some f) s is = let same : f.slots ≡ s = cc in ap (λ (s : Slots). length s.outputs) same
 
--- after the turn that begins with an event
-pub kept-turn :
-    (d : Draft) (inputs : List Input) (reactors : List Reactor) (pending : List Event) (gone : ℕ) (rows : List Row) (e : Event) (r : Reactor) (states : List ℤ) (row : Row) (after : List Event) →
-    IsAfterTurns d inputs reactors pending gone rows → first_of_turns (network_of d (programs_in reactors) inputs) pending ≡ Some e → IsInRange d e →
-    r ≡ get_or reactors e.reactor r → states ≡ (effect_at r pending e.reactor e.tag).states → row ≡ row_at r pending e.reactor e.tag →
-    after ≡ pending_after d r pending e.reactor e.tag →
-    IsAfterTurns d inputs (set reactors e.reactor (record { behaviour = r.behaviour; states = states })) after gone (rows ++ row ∷ [])
-kept-turn d inputs reactors pending gone rows e r states row after kept first in_range is is_states is_row is_after =
-    let programs : List Behaviour = programs_in reactors in
-    let n : Network = network_of d programs inputs in
-    let all : List Row = kept.let_go ++ rows in
-    let before : Undivided = undivided_of reactors pending all in
-    let next : Reactor = record { behaviour = r.behaviour; states = states } in
-    let there : e.reactor < length reactors = rw (reactor_count d reactors kept.programs) in_range in
-    let mine : slice_get reactors e.reactor ≡ Some r = slice_get-get_or reactors e.reactor r there ∙ ap (λ x. Some x) (sym is) in
-    let program : slice_get programs e.reactor ≡ Some r.behaviour =
-    slice_get-map (λ x. x.behaviour) reactors e.reactor ∙ ap (λ o. option_map (λ x. x.behaviour) o) mine in
-    let slots : HasSlotsOf d e.reactor r = has_slots d reactors e.reactor r kept.programs mine in
-    let same_programs : programs_in (set reactors e.reactor next) ≡ programs =
-    map-set_same (λ x. x.behaviour) reactors e.reactor next r (ap (λ x. x.behaviour) is) in
-    let effect : undivided.effect_at n before e.reactor e.tag ≡ effect_at r pending e.reactor e.tag =
-    ap (λ o. effect_by o (states_of (slice_get reactors e.reactor)) (present_at pending e.reactor e.tag)) program ∙
-    ap (λ o. effect_by (Some r.behaviour) (states_of o) (present_at pending e.reactor e.tag)) mine in
-    let row_is : undivided.row_at n before e.reactor e.tag ≡ row =
-    rw (effect, slots-given (slice_get d.federates e.reactor) r.behaviour.slots slots, ports-given (slice_get d.federates e.reactor) r.behaviour.slots slots, is_row) refl in
-    let after_is : filter (λ x. not (is_at e.reactor e.tag x)) pending ++ made_by n e.reactor e.tag (undivided.effect_at n before e.reactor e.tag) ≡ after =
-    ap (λ x. filter (λ x. not (is_at e.reactor e.tag x)) pending ++ made_by n e.reactor e.tag x) effect ∙ sym is_after in
-    let states_is : with_states (states_in reactors) e.reactor (undivided.effect_at n before e.reactor e.tag).states ≡ states_in (set reactors e.reactor next) =
-    ap (λ x. with_states (states_in reactors) e.reactor x.states) effect ∙ ap (λ x. with_states (states_in reactors) e.reactor x) (sym is_states) ∙
-    sym (states_in-set reactors e.reactor next there) in
-    let turn : undivided.after_turn_at n before e.reactor e.tag ≡ undivided_of (set reactors e.reactor next) after (all ++ row ∷ []) =
-    rw (states_is, after_is, row_is) refl in
-    let count : gone + length (rows ++ row ∷ []) ≡ suc (gone + length rows) = rw (length-append rows (row ∷ [])) (omega arith) in
-    let undivided_is : undivided_after n (gone + length (rows ++ row ∷ [])) ≡ undivided_of (set reactors e.reactor next) after (kept.let_go ++ (rows ++ row ∷ [])) =
-    ap (λ k. undivided_after n k) count ∙ ap (λ u. turn_of n u) kept.undivided ∙ ap (λ o. after_turn_of n before o) first ∙ turn ∙
-    ap (λ rs. undivided_of (set reactors e.reactor next) after rs) (append_assoc kept.let_go rows (row ∷ [])) in
-    let few = turns_are_few n kept.lawful (gone + length rows) e (ap (λ u. first_of_turns n u.pending) kept.undivided ∙ first) in
-    let made_in_range : All (IsInRange d) (pending_after d r pending e.reactor e.tag) =
-    All-append (IsInRange d) (filter (λ x. not (is_at e.reactor e.tag x)) pending)
-    (made_by (network_of d [] []) e.reactor e.tag (effect_at r pending e.reactor e.tag))
-    (All-filter (λ x. not (is_at e.reactor e.tag x)) (IsInRange d) pending kept.in_range)
-    (made_by-in_range d e.reactor e.tag (effect_at r pending e.reactor e.tag) in_range) in
-    record {
-      programs = rw same_programs kept.programs;
-      lawful = rw same_programs kept.lawful;
-      let_go = kept.let_go;
-      as_many = kept.as_many;
-      undivided = rw same_programs undivided_is;
-      in_range = rw is_after made_in_range;
-      few = omega (arith, few, count);
-    }
+-- the turn of this reactor, of what is undone for its federate
+abbrev pub effect_on : Reactor → Schedule → ℕ → LogicalTime → Effect
+effect_on r s federate tag = effect_of r.behaviour r.states (look (undone_of s federate) tag)
+
+-- how a turn of a reactor reads: what was present, and what it made
+pub record IsTurnMade (d : Draft) (r : Reactor) (s : Schedule) (t : TurnMade) (states : List ℤ) : Type 0 where
+  pub stop : t.stop ≡ stop_of d
+  pub inputs : t.inputs ≡ listed (slot_count r.behaviour.slots) (look (undone_of s t.federate) t.tag)
+  pub outputs : t.outputs ≡ listed (length r.behaviour.slots.outputs) (effect_on r s t.federate t.tag).outputs
+  pub schedulings : t.schedulings ≡ (effect_on r s t.federate t.tag).schedulings
+  pub new_states : states ≡ (effect_on r s t.federate t.tag).states
+
+module _ (d : Draft) (inputs : List Input) (reactors : List Reactor) (s : Schedule) (gone : ℕ) (rows : List Row) (kept : IsAfterTurns d inputs reactors s gone rows) where
+  abbrev programs : List Behaviour
+  programs = programs_in reactors
+
+  abbrev n : Network
+  n = network_of d programs inputs
+
+  abbrev turns : ℕ
+  turns = gone + length rows
+
+  abbrev u : Undivided
+  u = undivided_after n turns
+
+  -- where nothing is undone nothing is pending
+  pub done_is_done : IsDone s → u.pending ≡ []
+  done_is_done q = quiet_is_done n kept.lawful turns (λ j g slot h. sym (kept.pending j g slot h) ∙ q j g slot)
+
+  is_next : (f : ℕ) (g : LogicalTime) → IsDueFirst s f g → IsNext n u.pending f g
+  is_next f g due =
+      let there : f < federate_count d = subst (λ x. f < federate_count x) kept.draft due.there in
+      record {
+        something = (due.something.0, due.something.1, sym (kept.pending f g due.something.0 there) ∙ due.something.2);
+        first = λ other earlier slot value inside e.
+            subst (λ x. comes_first x other earlier f g ≡ false) kept.draft
+            (due.first other earlier slot value (subst (λ x. other < federate_count x) (sym kept.draft) inside) (kept.pending other earlier slot inside ∙ e));
+      }
+
+  -- what is undone is at slots that are there
+  found_within : (f : ℕ) → f < federate_count d → (e : Held) → ((v : ℤ) × (look (undone_of s f) e.tag e.slot ≡ Some v)) → e.slot < n.slots f
+  found_within f h e found = present_is_sound n kept.lawful turns f e.tag e.slot found.0 (sym (kept.pending f e.tag e.slot h) ∙ found.1)
+
+  pub undone_within : (f : ℕ) → f < federate_count d → AllByRecursion (λ e. e.slot < n.slots f) (undone_of s f)
+  undone_within f h = each_more (λ e. (v : ℤ) × (look (undone_of s f) e.tag e.slot ≡ Some v)) (λ e. e.slot < n.slots f) (found_within f h) (undone_of s f) (all_found (undone_of s f))
+
+  module _ (t : TurnMade) (after : Schedule) (r : Reactor) (states : List ℤ) (due : IsDueFirst s t.federate t.tag) (changed : IsAfterTurn t s after)
+      (mine : slice_get reactors t.federate ≡ Some r) (made : IsTurnMade d r s t states) where
+    abbrev next : Reactor
+    next = record { behaviour = r.behaviour; states = states }
+
+    there : t.federate < federate_count d
+    there = subst (λ x. t.federate < federate_count x) kept.draft due.there
+
+    program : slice_get programs t.federate ≡ Some r.behaviour
+    program = slice_get-map (λ x. x.behaviour) reactors t.federate ∙ ap (λ o. option_map (λ x. x.behaviour) o) mine
+
+    present : look (undone_of s t.federate) t.tag ≡ present_at u.pending t.federate t.tag
+    present = fun_ext λ slot. kept.pending t.federate t.tag slot there
+
+    effect : undivided.effect_at n u t.federate t.tag ≡ effect_on r s t.federate t.tag
+    effect =
+        (λ i. effect_by (program i) (kept.states i t.federate) (sym present i))
+        ∙ ap (λ o. effect_by (Some r.behaviour) (states_of o) (look (undone_of s t.federate) t.tag)) mine
+
+    slots : HasSlotsOf d t.federate r
+    slots = has_slots d reactors t.federate r kept.programs mine
+
+    abbrev pub row : Row
+    row = record { reactor = t.federate; tag = t.tag; inputs = t.inputs; outputs = t.outputs }
+
+    row_is : undivided.row_at n u t.federate t.tag ≡ row
+    row_is = (λ i. record {
+      reactor = t.federate;
+      tag = t.tag;
+      inputs = listed (slots-given (slice_get d.federates t.federate) r.behaviour.slots slots i) (sym present i);
+      outputs = listed (ports-given (slice_get d.federates t.federate) r.behaviour.slots slots i) (effect i).outputs;
+    }) ∙ (λ i. record { reactor = t.federate; tag = t.tag; inputs = sym made.inputs i; outputs = sym made.outputs i })
+
+    turn : undivided_after n (turns + 1) ≡ after_turn_at n u t.federate t.tag
+    turn = next_turn n kept.lawful turns t.federate t.tag (is_next t.federate t.tag due)
+
+    states_after : (undivided_after n (turns + 1)).states ≡ states_in (set reactors t.federate next)
+    states_after =
+        ap (λ (x : Undivided). x.states) turn
+        ∙ ((λ i. with_states (kept.states i) t.federate (effect i).states)
+        ∙ (ap (with_states (states_in reactors) t.federate) (sym made.new_states)
+        ∙ sym (states_in-set reactors t.federate next (rw (reactor_count d reactors kept.programs) there))))
+
+    rows_after : (undivided_after n (turns + 1)).rows ≡ kept.let_go ++ (rows ++ row ∷ [])
+    rows_after = ap (λ (x : Undivided). x.rows) turn ∙ ((λ i. kept.all_rows i ++ row_is i ∷ []) ∙ append_assoc kept.let_go rows (row ∷ []))
+
+    carried : flat_map (carried_by t.federate t.tag (value_at t.outputs)) (connections_of d) ≡ flat_map (carried_by t.federate t.tag (effect_on r s t.federate t.tag).outputs) (connections_of d)
+    carried =
+        ap (λ es. flat_map (carried_by t.federate t.tag (value_at es)) (connections_of d)) made.outputs
+        ∙ carried-agrees d t.federate r.behaviour.slots t.tag (value_at (listed (length r.behaviour.slots.outputs) (effect_on r s t.federate t.tag).outputs)) (effect_on r s t.federate t.tag).outputs slots
+        (listed-agrees (length r.behaviour.slots.outputs) (effect_on r s t.federate t.tag).outputs)
+
+    -- what is put to a federate is present there
+    put_present : (a : ℕ) (tag : LogicalTime) (slot : ℕ) →
+        last_held (in_time (stop_of d) (put_to t (a, between t.federate a (connections_of d)))) tag slot ≡ present_at (made_by n t.federate t.tag (undivided.effect_at n u t.federate t.tag)) a tag slot
+    put_present a tag slot =
+        ap (λ g. last_held (in_time g (put_to t (a, between t.federate a (connections_of d)))) tag slot) (sym made.stop)
+        ∙ (ap (λ es. last_held es tag slot) (put_in_time t a (connections_of d))
+        ∙ ((λ i. last_held (held_up_to (made.stop i) a (carried i ++ scheduled_from t.federate t.tag 0 (made.schedulings i))) tag slot)
+        ∙ (ap (λ (e : Effect). last_held (held_up_to (stop_of d) a (flat_map (carried_by t.federate t.tag e.outputs) (connections_of d) ++ scheduled_from t.federate t.tag 0 e.schedulings)) tag slot) (sym effect)
+        ∙ found_as_present (made_by n t.federate t.tag (undivided.effect_at n u t.federate t.tag)) (made_in_order n kept.lawful t.federate t.tag (u.states t.federate) (present_at u.pending t.federate t.tag)) a tag slot)))
+
+    newer : (a : ℕ) → a < federate_count d → (tag : LogicalTime) (slot : ℕ) → (t.federate ≡ a → t.tag ≡ tag → ⊥) →
+        look (put_all (in_time (stop_of d) (put_to t (a, between t.federate a (connections_of d)))) (undone_of s a)) tag slot ≡ present_at (undivided_after n (turns + 1)).pending a tag slot
+    newer a h tag slot other =
+        look_put_all (in_time (stop_of d) (put_to t (a, between t.federate a (connections_of d)))) (undone_of s a) tag slot
+        ∙ ((λ i. or_else (put_present a tag slot i) (kept.pending a tag slot h i))
+        ∙ (sym (made_is_newer n kept.lawful turns t.federate t.tag (is_next t.federate t.tag due) a h tag slot other)
+        ∙ ap (λ (x : Undivided). present_at x.pending a tag slot) (sym turn)))
+
+    own_gone : (tag : LogicalTime) (slot : ℕ) → is_before t.tag tag ≡ false → None ≡ present_at (undivided_after n (turns + 1)).pending t.federate tag slot
+    own_gone tag slot early =
+        sym (own_is_gone n kept.lawful turns t.federate t.tag (is_next t.federate t.tag due) tag slot early)
+        ∙ ap (λ (x : Undivided). present_at x.pending t.federate tag slot) (sym turn)
+
+    found_by : (a : ℕ) → a < federate_count d → (tag : LogicalTime) (slot : ℕ) → (own later : Bool) → nat_eq a t.federate ≡ own → is_before t.tag tag ≡ later →
+        (if own && not later then None else look (put_all (in_time (stop_of d) (put_to t (a, between t.federate a (connections_of d)))) (undone_of s a)) tag slot)
+        ≡ present_at (undivided_after n (turns + 1)).pending a tag slot
+    found_by a h tag slot false later p q = newer a h tag slot (λ e k. (let same : nat_eq a t.federate ≡ true = eq-eqb a t.federate (sym e) in absurd cc))
+    found_by a h tag slot true true p q = newer a h tag slot (λ e k. (let not_so : is_before t.tag tag ≡ false = ap (λ g. is_before g tag) k ∙ before_irreflexive tag in absurd cc))
+    found_by a h tag slot true false p q =
+        let same : a ≡ t.federate = grind (arith, nat_tests) in
+        own_gone tag slot q ∙ ap (λ k. present_at (undivided_after n (turns + 1)).pending k tag slot) (sym same)
+
+    pending_after : HoldsPending d after (undivided_after n (turns + 1))
+    pending_after a tag slot h =
+        changed.undone a tag slot (subst (λ x. a < federate_count x) (sym kept.draft) h)
+        ∙ (ap (λ x. found_after t x (undone_of s a) a tag slot) kept.draft
+        ∙ found_by a h tag slot (nat_eq a t.federate) (is_before t.tag tag) refl refl)
+
+    few_turns : (o : Option Event) → first_of_turns n u.pending ≡ o → turns < 2 ^ 100
+    few_turns (Some e) q = turns_are_few n kept.lawful turns e q
+    few_turns None q = absurd (nothing_present u.pending (first_of_none n u.pending q) due.something.0 due.something.1 (sym (kept.pending t.federate t.tag due.something.0 there) ∙ due.something.2))
+      where
+        nothing_present : (es : List Event) → es ≡ [] → (slot : ℕ) (v : ℤ) → present_at es t.federate t.tag slot ≡ Some v → ⊥
+        nothing_present es e slot v h = none_some v (sym (ap (λ l. present_at l t.federate t.tag slot) e) ∙ h)
+
+    pub kept_turn : IsAfterTurns d inputs (set reactors t.federate next) after gone (rows ++ row ∷ [])
+    kept_turn =
+        let is : get_or reactors t.federate r ≡ r = get_or_from_slice_get reactors t.federate r r mine in
+        let same : programs_in (set reactors t.federate next) ≡ programs = map-set_same (λ x. x.behaviour) reactors t.federate next r (ap (λ x. x.behaviour) (sym is)) in
+        let count : gone + length (rows ++ row ∷ []) ≡ turns + 1 = rw (length-append rows (row ∷ [])) (omega arith) in
+        let few = few_turns (first_of_turns n u.pending) refl in
+        record {
+          programs = rw same kept.programs;
+          lawful = rw same kept.lawful;
+          draft = changed.draft ∙ kept.draft;
+          let_go = kept.let_go;
+          as_many = kept.as_many;
+          states = rw (same, count) states_after;
+          all_rows = rw (same, count) rows_after;
+          pending = rw (same, count) pending_after;
+          few = omega (arith, few, count);
+        }
 
 -- the same element, whatever stands for one past the end
 pub same-element : {X : Type 0} (xs : List X) (i : ℕ) (x y : X) → i < length xs → x ≡ get_or xs i x → y ≡ get_or xs i y → x ≡ y
@@ -151,30 +269,6 @@ same-element xs i x y below is_x is_y =
 pub programs_in-set :
     (reactors : List Reactor) (k : ℕ) (r next : Reactor) → r ≡ get_or reactors k r → next.behaviour ≡ r.behaviour → programs_in (set reactors k next) ≡ programs_in reactors
 programs_in-set reactors k r next is same = map-set_same (λ x. x.behaviour) reactors k next r (same ∙ ap (λ x. x.behaviour) is)
-
--- the same of what `turn_at` made
-pub kept-made :
-    (d : Draft) (inputs : List Input) (reactors : List Reactor) (pending : List Event) (gone : ℕ) (rows : List Row) (e : Event) (made : Made)
-    (r mine next : Reactor) (events : List Event) (federate : ℕ) (tag : LogicalTime) (row : Row) (more : List Row) →
-    IsAfterTurns d inputs reactors pending gone rows → first_of_turns (network_of d (programs_in reactors) inputs) pending ≡ Some e → IsInRange d e →
-    federate ≡ e.reactor → tag ≡ e.tag → events ≡ pending → r ≡ get_or reactors federate r → mine ≡ get_or reactors federate mine →
-    IsMadeAt d r events federate tag made → next ≡ record { behaviour = mine.behaviour; states = made.turn.states } → row ≡ record { reactor = federate; tag = tag; inputs = made.inputs; outputs = made.turn.outputs } → more ≡ rows ++ row ∷ [] →
-    IsAfterTurns d inputs (set reactors federate next) made.pending.items gone more
-kept-made d inputs reactors pending gone rows e made r mine next events federate tag row more kept first in_range at when are is_r is_mine is_made is_next is_row is_more =
-    let there : federate < length reactors = rw (reactor_count d reactors kept.programs, at) in_range in
-    let same : r ≡ mine = same-element reactors federate r mine there is_r is_mine in
-    let effect : effect_at r events federate tag ≡ effect_at mine pending e.reactor e.tag = rw (same, are, at, when) refl in
-    let same_row : row_at r events federate tag ≡ row_at mine pending e.reactor e.tag = rw (same, are, at, when) refl in
-    let made_row : row ≡ row_at r events federate tag = rw (is_row, is_made.inputs, is_made.outputs) refl in
-    let after : pending_after d r events federate tag ≡ pending_after d mine pending e.reactor e.tag = rw (same, are, at, when) refl in
-    let here : mine ≡ get_or reactors e.reactor mine = is_mine ∙ ap (λ k. get_or reactors k mine) at in
-    rw (at, is_next, is_more)
-    (kept-turn d inputs reactors pending gone rows e mine made.turn.states row made.pending.items kept first in_range here
-    (is_made.states ∙ ap (λ x. x.states) effect) (made_row ∙ same_row) (is_made.pending ∙ after))
-
-pub first_of_turns-none : (n : Network) (events : List Event) → None ≡ first_of_turns n events → events ≡ []
-first_of_turns-none n [] is = refl
-first_of_turns-none n (e ∷ rest) is = absurd cc
 
 -- a reactor that opens
 abbrev pub opened : Behaviour → Reactor
@@ -192,39 +286,43 @@ pub opened-programs : (programs : List Behaviour) (reactors : List Reactor) → 
 opened-programs programs reactors is = ap (λ rs. programs_in rs) is ∙ programs_in-opened programs
 
 -- before the first turn
-pub kept-opening :
-    (d : Draft) (inputs : List Input) (programs : List Behaviour) (reactors : List Reactor) (pending : List Event) (rows : List Row) →
-    HaveSlotsOf d.federates programs → IsLawful (network_of d programs inputs) → reactors ≡ map opened programs → pending ≡ external_of d inputs → All (IsInRange d) pending → rows ≡ [] →
-    IsAfterTurns d inputs reactors pending 0 rows
-kept-opening d inputs programs reactors pending rows are lawful is_reactors is_pending in_range is_rows =
-    let same : programs_in reactors ≡ programs = opened-programs programs reactors is_reactors in
-    let states : (λ j. opening_by (slice_get programs j)) ≡ states_in (map opened programs) =
-    fun_ext λ j. opening-states (slice_get programs j) ∙ ap (λ o. states_of o) (sym (slice_get-map opened programs j)) in
-    let before : undivided_after (network_of d programs inputs) 0 ≡ undivided_of (map opened programs) (external_of d inputs) [] =
-    let with_those : (ℕ → List ℤ) → Undivided = λ s. record { states = s; pending = external_of d inputs; rows = [] } in
-    ap with_those states in
+pub kept_opening :
+    (d : Draft) (inputs : List Input) (behaviours : List Behaviour) (reactors : List Reactor) (s : Schedule) (rows : List Row) →
+    HaveSlotsOf d.federates behaviours → IsLawful (network_of d behaviours inputs) → reactors ≡ map opened behaviours → s.draft ≡ d →
+    ((federate : ℕ) (tag : LogicalTime) (slot : ℕ) → federate < federate_count d → look (undone_of s federate) tag slot ≡ look (opening_undone d inputs federate) tag slot) →
+    rows ≡ [] → IsAfterTurns d inputs reactors s 0 rows
+kept_opening d inputs behaviours reactors s rows are lawful is_reactors is_draft undone is_rows =
+    let same : programs_in reactors ≡ behaviours = opened-programs behaviours reactors is_reactors in
+    let states : (λ j. opening_by (slice_get behaviours j)) ≡ states_in reactors =
+    (fun_ext λ j. opening-states (slice_get behaviours j) ∙ ap (λ o. states_of o) (sym (slice_get-map opened behaviours j))) ∙ ap states_in (sym is_reactors) in
+    let pending : (federate : ℕ) (tag : LogicalTime) (slot : ℕ) → federate < federate_count d → look (undone_of s federate) tag slot ≡ present_at (external_of d inputs) federate tag slot =
+    λ f tag slot h. undone f tag slot h ∙ (look_put_all (held_for f (external_of d inputs)) [] tag slot ∙ (or_nothing (last_held (held_for f (external_of d inputs)) tag slot) ∙ found_as_present (external_of d inputs) (external_in_order (external_of d inputs) lawful.external_apart) f tag slot)) in
     record {
       programs = rw same are;
       lawful = rw same lawful;
+      draft = is_draft;
       let_go = [];
       as_many = refl;
-      undivided = rw (same, is_rows, is_reactors, is_pending) before;
-      in_range = in_range;
+      states = rw (same, is_rows) states;
+      all_rows = rw is_rows refl;
+      pending = rw (same, is_rows) pending;
       few = rw is_rows (omega arith);
     }
 
 -- all rows are let go
-pub kept-let_go : (d : Draft) (inputs : List Input) (reactors : List Reactor) (pending : List Event) (gone : ℕ) (rows : List Row) →
-    IsAfterTurns d inputs reactors pending gone rows → IsAfterTurns d inputs reactors pending (gone + length rows) []
-kept-let_go d inputs reactors pending gone rows kept =
+pub kept_let_go : (d : Draft) (inputs : List Input) (reactors : List Reactor) (s : Schedule) (gone : ℕ) (rows : List Row) →
+    IsAfterTurns d inputs reactors s gone rows → IsAfterTurns d inputs reactors s (gone + length rows) []
+kept_let_go d inputs reactors s gone rows kept =
     let all : List Row = kept.let_go ++ rows in
     record {
       programs = kept.programs;
       lawful = kept.lawful;
+      draft = kept.draft;
       let_go = all;
       as_many = length-append kept.let_go rows ∙ ap (λ k. k + length rows) kept.as_many;
-      undivided = rw add-zero kept.undivided ∙ ap (λ rs. undivided_of reactors pending rs) (sym (append-nil all));
-      in_range = kept.in_range;
+      states = rw add-zero kept.states;
+      all_rows = rw add-zero kept.all_rows ∙ sym (append-nil all);
+      pending = rw add-zero kept.pending;
       few = omega (arith, kept.few);
     }
 

@@ -1,9 +1,11 @@
--- What an undivided program keeps, as code: reactors, events and rows are those after its turns.
-use Rattle.std.specs.Prelude.{◌≡◌, ℕ, ◌+◌, ◌^◌, ◌<◌, ◌≤◌, ℤ, List, [], ◌++◌, length, map, All, slice_get, Option, None, Some}
+-- What an undivided program keeps, as code: reactors, what is undone, and rows are those after its turns.
+use Rattle.std.specs.Prelude.{◌≡◌, ℕ, ◌+◌, ◌<◌, ◌≤◌, ◌^◌, ℤ, List, [], ◌++◌, length, map, slice_get, Option, None, Some}
 use Rattle.std.specs.Option.{option_map}
-use Rattle.network.specs.Event.{Event}
-use Rattle.network.specs.Undivided.{Undivided, Row, undivided_after}
+use Rattle.tag.specs.LogicalTime.{LogicalTime}
+use Rattle.network.specs.Event.{present_at}
 use Rattle.network.specs.Lawful.{IsLawful}
+use Rattle.network.specs.Undone.{look}
+use Rattle.network.specs.Undivided.{Undivided, Row, undivided_after}
 use Rattle.plan.specs.declared.draft.Draft.{Draft}
 use Rattle.plan.specs.declared.input.Input.{Input}
 use Rattle.plan.specs.Federation.{federate_count}
@@ -11,6 +13,7 @@ use Rattle.reactor.specs.Behaviour.{Behaviour}
 use Rattle.reactor.specs.Programs.{HaveSlotsOf}
 use Rattle.reactor.specs.Federation.{network_of}
 use Rattle.reactor.specs.Turn.{Reactor}
+use Rattle.whole.specs.Schedule.{Schedule, undone_of}
 
 -- a reactor's states, if it is there
 abbrev pub states_of : Option Reactor → List ℤ
@@ -25,22 +28,20 @@ states_in reactors j = states_of (slice_get reactors j)
 abbrev pub programs_in : List Reactor → List Behaviour
 programs_in reactors = map (λ r. r.behaviour) reactors
 
--- reactors, events and rows, as an undivided program
-abbrev pub undivided_of : List Reactor → List Event → List Row → Undivided
-undivided_of reactors pending rows = record { states = states_in reactors; pending = pending; rows = rows }
+-- what is undone of each federate is what is pending for it: the same is found for each slot at each tag
+abbrev pub HoldsPending : Draft → Schedule → Undivided → Type 0
+HoldsPending d s u = (federate : ℕ) (tag : LogicalTime) (slot : ℕ) → federate < federate_count d → look (undone_of s federate) tag slot ≡ present_at u.pending federate tag slot
 
--- the event is one of a federate that is there
-abbrev pub IsInRange : Draft → Event → Type 0
-IsInRange d e = e.reactor < federate_count d
-
--- reactors, events and rows are those after as many turns as there are rows and rows let go
-pub record IsAfterTurns (d : Draft) (inputs : List Input) (reactors : List Reactor) (pending : List Event) (gone : ℕ) (rows : List Row) : Type 0 where
+-- reactors, what is undone, and rows are those after as many turns as there are rows and rows let go
+pub record IsAfterTurns (d : Draft) (inputs : List Input) (reactors : List Reactor) (schedule : Schedule) (gone : ℕ) (rows : List Row) : Type 0 where
   pub programs : HaveSlotsOf d.federates (programs_in reactors)
   pub lawful : IsLawful (network_of d (programs_in reactors) inputs)
+  pub draft : schedule.draft ≡ d
   pub let_go : List Row
   pub as_many : length let_go ≡ gone
-  pub undivided : undivided_after (network_of d (programs_in reactors) inputs) (gone + length rows) ≡ undivided_of reactors pending (let_go ++ rows)
-  pub in_range : All (IsInRange d) pending
+  pub states : (undivided_after (network_of d (programs_in reactors) inputs) (gone + length rows)).states ≡ states_in reactors
+  pub all_rows : (undivided_after (network_of d (programs_in reactors) inputs) (gone + length rows)).rows ≡ let_go ++ rows
+  pub pending : HoldsPending d schedule (undivided_after (network_of d (programs_in reactors) inputs) (gone + length rows))
   -- there is one turn for each federate and tag at most
   pub few : gone + length rows ≤ 2 ^ 100
 

@@ -1,9 +1,15 @@
 -- The undivided program, as code that goes on turn by turn.
--- what is present among events
-pub mod Present
+-- to which federates a turn puts events
+pub mod Targets
+-- what a turn puts there
+pub mod Made
+-- which turn is next
+pub mod Next
+-- what is undone of each federate, and how a turn changes it
+pub mod Schedule
+-- agendas before the first turn
+pub mod Opening
 -- what such a program shows
 pub mod Progress
 -- what it keeps
 pub mod Kept
--- what a turn makes
-pub mod Made

@@ -1,39 +1,71 @@
--- What a turn of a federate makes of its reactor and of what is pending.
-use Rattle.std.specs.Prelude.{◌≡◌, ℕ, List, [], ◌++◌, length, filter, not}
-use Rattle.tag.specs.LogicalTime.{LogicalTime}
-use Rattle.network.specs.Event.{Event, is_at, listed, present_at}
-use Rattle.network.specs.Network.{Effect}
-use Rattle.network.specs.Undivided.{Row, made_by}
-use Rattle.plan.specs.declared.draft.Draft.{Draft}
-use Rattle.plan.specs.Numbering.{slot_count}
-use Rattle.reactor.specs.Effect.{effect_of}
-use Rattle.reactor.specs.Federation.{network_of}
-use Rattle.reactor.specs.Turn.{Reactor}
-use Rattle.whole.specs.declared.step.Made.{Made}
+-- What a turn of a federate puts on agendas.
+use Rattle.std.specs.Prelude.{ℕ, ℤ, Bool, false, ◌||◌, nat_eq, if◌then◌else◌, List, [], ◌∷◌, ◌++◌, Option, None, Some}
+use Rattle.std.specs.List.{flat_map}
+use Rattle.tag.specs.LogicalTime.{LogicalTime, forever, sum_of}
+use Rattle.network.specs.Connection.{Connection}
+use Rattle.network.specs.Event.{Entry}
+use Rattle.network.specs.Network.{Scheduling}
+use Rattle.network.specs.Undone.{Held, put_all, drop_up_to}
+use Rattle.agenda.specs.Agenda.{Agenda, in_time, least_in}
+use Rattle.reactor.specs.Entries.{value_at}
 
--- the effect of a reactor's turn at a tag, with these events pending
-abbrev pub effect_at : Reactor → List Event → ℕ → LogicalTime → Effect
-effect_at r pending federate tag = effect_of r.behaviour r.states (present_at pending federate tag)
+-- a turn that was run, up to which tag its events are kept, what was present, and what it made
+pub record TurnMade : Type 0 where
+  pub federate : ℕ
+  pub tag : LogicalTime
+  pub stop : LogicalTime
+  pub inputs : List Entry
+  pub outputs : List Entry
+  pub schedulings : List Scheduling
 
--- the row of a reactor's turn at a tag, with these events pending
-abbrev pub row_at : Reactor → List Event → ℕ → LogicalTime → Row
-row_at r pending federate tag =
-    record {
-      reactor = federate;
-      tag = tag;
-      inputs = listed (slot_count r.behaviour.slots) (present_at pending federate tag);
-      outputs = listed (length r.behaviour.slots.outputs) (effect_at r pending federate tag).outputs;
-    }
+-- the event of a value for a slot at a tag, if there is one, and if it isn't later than stop
+abbrev pub held_if : LogicalTime → LogicalTime → ℕ → Option ℤ → List Held
+held_if stop tag slot None = []
+held_if stop tag slot (Some value) = in_time stop (record { tag = tag; slot = slot; value = value } ∷ [])
 
--- what is pending after a reactor's turn at a tag; neither programs nor recorded inputs matter
-abbrev pub pending_after : Draft → Reactor → List Event → ℕ → LogicalTime → List Event
-pending_after d r pending federate tag =
-    filter (λ e. not (is_at federate tag e)) pending ++ made_by (network_of d [] []) federate tag (effect_at r pending federate tag)
+-- what a connection carries of the turn
+abbrev pub carried_over : TurnMade → Connection → List Held
+carried_over t c = held_if t.stop (sum_of t.tag c.delay) c.slot (value_at t.outputs c.port)
 
--- what a turn of this federate at this tag makes: the reactor's states after it, what its row holds, and what is pending then
-pub record IsMadeAt (d : Draft) (r : Reactor) (events : List Event) (federate : ℕ) (tag : LogicalTime) (made : Made) : Type 0 where
-  pub states : made.turn.states ≡ (effect_at r events federate tag).states
-  pub fits : length made.turn.states ≡ length r.states
-  pub inputs : made.inputs ≡ (row_at r events federate tag).inputs
-  pub outputs : made.turn.outputs ≡ (row_at r events federate tag).outputs
-  pub pending : made.pending.items ≡ pending_after d r events federate tag
+-- what a scheduling makes
+abbrev pub deferred_by : TurnMade → Scheduling → List Held
+deferred_by t s = held_if t.stop (sum_of t.tag s.delay) s.slot (Some s.value)
+
+-- the turn's schedulings, if the target is its own federate
+abbrev pub own_deferred : TurnMade → ℕ → List Held
+own_deferred t target = if nat_eq target t.federate then flat_map (deferred_by t) t.schedulings else []
+
+-- what is put to a target
+abbrev pub put_to : TurnMade → ℕ × List Connection → List Held
+put_to t target = flat_map (carried_over t) target.1 ++ own_deferred t target.0
+
+-- an agenda, after that was put
+abbrev pub after_put : TurnMade → ℕ × List Connection → Agenda → Agenda
+after_put t target a = record { stop = a.stop; undone = put_all (in_time a.stop (put_to t target)) a.undone; before = a.undone }
+
+-- the agenda of a federate after it was put to all these targets
+abbrev pub after_puts : TurnMade → List (ℕ × List Connection) → ℕ → Agenda → Agenda
+after_puts t [] federate a = a
+after_puts t (target ∷ rest) federate a = after_puts t rest federate (if nat_eq target.0 federate then after_put t target a else a)
+
+-- an agenda, after what was up to a tag was dropped
+abbrev pub dropped : LogicalTime → Agenda → Agenda
+dropped tag a = record { stop = a.stop; undone = drop_up_to tag a.undone; before = drop_up_to tag a.undone }
+
+-- the agenda of a federate after a turn was put to these targets
+abbrev pub after_turn : TurnMade → List (ℕ × List Connection) → ℕ → Agenda → Agenda
+after_turn t targets federate a = if nat_eq t.federate federate then dropped t.tag (after_puts t targets federate a) else after_puts t targets federate a
+
+-- the federate is one of these targets
+abbrev pub has_target : ℕ → List (ℕ × List Connection) → Bool
+has_target federate [] = false
+has_target federate (target ∷ rest) = nat_eq target.0 federate || has_target federate rest
+
+-- what is undone on an agenda, and up to which tag
+abbrev pub kept_on : Agenda → LogicalTime × List Held
+kept_on a = (a.stop, a.undone)
+
+-- the least tag on a federate's agenda, if it is there
+abbrev pub least_on : Option Agenda → LogicalTime
+least_on None = forever
+least_on (Some a) = least_in a.undone

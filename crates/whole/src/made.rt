@@ -1,96 +1,158 @@
-ghost use Rattle.std.specs.Prelude.{◌≡◌, OnOk, filter, [], ◌∷◌, ◌++◌};
+ghost use Rattle.std.specs.Prelude.{◌≡◌, ℕ, ◌<◌, ◌++◌, ◌∷◌, [], length, map, All, OnOk, OnErr, Some, false, slice_get};
 ghost use Rattle.std.specs.List.{flat_map};
-ghost use Rattle.tag.specs.LogicalTime.{is_at_most, sum_of};
-ghost use Rattle.network.specs.Undivided.{carried_by, scheduled_from};
-ghost use Rattle.plan.specs.Federation.{connections_of, stop_of};
-ghost use Rattle.reactor.specs.Entries.{value_at};
+ghost use Rattle.std.specs.Option.{option_map};
+ghost use Rattle.agenda.specs.Agenda.{in_time};
+ghost use Rattle.whole.specs.Made.{held_if, carried_over, deferred_by, own_deferred, put_to, after_puts, has_target, kept_on};
+ghost use Rattle.whole.specs.Targets.{shown, all_shown, AreApart};
 
-use crate::event::{Event, Source};
-use plan::{Connection, Plan};
+use crate::targets::Target;
+use agenda::{Agenda, Held};
+use plan::Connection;
 use reactor::entry::value_at;
-use reactor::{Entry, Memory, Scheduling};
-use tag::{Tag, plus};
+use reactor::{Entry, Memory, Rows, Scheduling};
+use std::marker::Model;
+use tag::{FiniteTag, Tag, plus};
 
-/// Adds what the connections carry of a federate's outputs at a tag, up to stop.
-pub fn add_carried(
-    events: &mut Vec<Event>,
-    plan: &Plan,
-    federate: usize,
-    tag: Tag,
-    outputs: &[Entry],
+/// A turn that was run: what was present, and what it made.
+#[derive(Drop)]
+pub struct TurnMade<'t> {
+    pub federate: usize,
+    pub tag: Tag,
+    /// Up to which tag its events are kept.
+    pub stop: FiniteTag,
+    pub inputs: &'t [Entry],
+    pub outputs: &'t [Entry],
+    pub schedulings: &'t [Scheduling],
+}
+
+impl<'t> Model for TurnMade<'t> {
+    ghost use Rattle.whole.specs.Made.{TurnMade as TurnMadeOf};
+
+    ghost Value = { TurnMadeOf };
+
+    ghost view = { λ t. record { federate = t.federate; tag = t.tag; stop = t.stop; inputs = t.inputs.now; outputs = t.outputs.now; schedulings = t.schedulings.now } };
+}
+
+/// Puts what a turn makes on the agendas of its targets, and adds its row: all or nothing. `events` is room.
+pub fn put_made(
+    agendas: &mut [Agenda],
+    rows: &mut Rows,
+    events: &mut Vec<Held>,
+    targets: &[Target],
+    turn: &TurnMade<'_>,
 ) -> Result<(), Memory>
-    ensures { OnOk result (events.new.items ≡ events.old.items ++ filter (λ e. is_at_most e.tag (stop_of plan.now)) (flat_map (carried_by federate tag (value_at outputs.now)) (connections_of plan.now))) }
+    requires there { All (λ t. t.federate < length agendas.old) targets.now }
+    requires apart { AreApart (all_shown targets.now) }
+    ensures length { length agendas.new ≡ length agendas.old }
+    ensures put { OnOk result ((federate : ℕ) → slice_get agendas.new federate ≡ option_map (after_puts turn.now (all_shown targets.now) federate) (slice_get agendas.old federate)) }
+    ensures row { OnOk result (rows.new ≡ rows.old ++ record { reactor = turn.now.federate; tag = turn.now.tag; inputs = turn.now.inputs; outputs = turn.now.outputs } ∷ []) }
+    ensures err { OnErr result (map kept_on agendas.new ≡ map kept_on agendas.old) }
+    ensures others { OnErr result ((federate : ℕ) → has_target federate (all_shown targets.now) ≡ false → slice_get agendas.new federate ≡ slice_get agendas.old federate) }
+    ensures no_row { OnErr result (rows.new ≡ rows.old) }
 {
-    for connection in plan.connections() {
-        add_carried_by(events, plan.stop(), federate, tag, outputs, *connection)?;
+    match targets {
+        [target, others @ ..] => {
+            made_for(events, turn, target)?;
+            let put = match agendas[target.federate].put_all(events.as_slice()) {
+                Ok(put) => put,
+                Err(_) => return Err(Memory),
+            };
+            match put_made(agendas, rows, events, others, turn) {
+                Ok(()) => Ok(()),
+                Err(memory) => {
+                    agendas[target.federate].take_back(put);
+                    Err(memory)
+                }
+            }
+        }
+        [] => rows.push(turn.federate, turn.tag, turn.inputs, turn.outputs),
+    }
+}
+
+/// What a turn puts to a target, in place of what `events` held.
+fn made_for(events: &mut Vec<Held>, turn: &TurnMade<'_>, target: &Target) -> Result<(), Memory>
+    ensures { OnOk result (events.new.items ≡ put_to turn.now (shown target.now)) }
+{
+    events.clear();
+    add_carried(events, turn, target.connections.as_slice())?;
+    if target.federate == turn.federate {
+        add_deferred(events, turn)?;
     }
     Ok(())
 }
 
-/// Adds what one connection carries of them.
-fn add_carried_by(
-    events: &mut Vec<Event>,
-    stop: Tag,
-    federate: usize,
-    tag: Tag,
-    outputs: &[Entry],
+fn add_carried(
+    events: &mut Vec<Held>,
+    turn: &TurnMade<'_>,
+    connections: &[Connection],
+) -> Result<(), Memory>
+    ensures { OnOk result (events.new.items ≡ events.old.items ++ flat_map (carried_over turn.now) connections.now) }
+{
+    for connection in connections {
+        add_carried_over(events, turn, *connection)?;
+    }
+    Ok(())
+}
+
+/// Adds what a connection carries of a turn's outputs.
+fn add_carried_over(
+    events: &mut Vec<Held>,
+    turn: &TurnMade<'_>,
     connection: Connection,
 ) -> Result<(), Memory>
-    ensures { OnOk result (events.new.items ≡ events.old.items ++ filter (λ e. is_at_most e.tag stop) (carried_by federate tag (value_at outputs.now) connection)) }
+    ensures { OnOk result (events.new.items ≡ events.old.items ++ carried_over turn.now connection) }
 {
-    if connection.source() != federate {
-        return Ok(());
-    }
-    let Some(value) = value_at(outputs, connection.port()) else {
+    let Some(value) = value_at(turn.outputs, connection.port()) else {
         return Ok(());
     };
-    let arrival = plus(tag, connection.delay());
-    let event = Event::new(
-        arrival,
-        connection.target(),
-        connection.slot(),
-        Source::new(tag, 0),
-        value,
-    );
-    add(events, stop, event)
+    let arrival = plus(turn.tag, connection.delay());
+    add(events, turn.stop, arrival, connection.slot(), value)
 }
 
-/// Adds the actions that a federate scheduled at a tag, up to stop.
-pub fn add_scheduled(
-    events: &mut Vec<Event>,
-    plan: &Plan,
-    federate: usize,
-    tag: Tag,
-    schedulings: &[Scheduling],
-) -> Result<(), Memory>
-    ensures { OnOk result (events.new.items ≡ events.old.items ++ filter (λ e. is_at_most e.tag (stop_of plan.now)) (scheduled_from federate tag 0 schedulings.now)) }
+fn add_deferred(events: &mut Vec<Held>, turn: &TurnMade<'_>) -> Result<(), Memory>
+    ensures { OnOk result (events.new.items ≡ events.old.items ++ flat_map (deferred_by turn.now) turn.now.schedulings) }
 {
-    for (place, scheduling) in schedulings.iter().enumerate() {
-        let event = scheduled(federate, tag, place, *scheduling);
-        add(events, plan.stop(), event)?;
+    for scheduling in turn.schedulings {
+        add_deferred_by(events, turn, *scheduling)?;
     }
     Ok(())
 }
 
-/// The event of a scheduling at a place of its turn's list.
-fn scheduled(federate: usize, tag: Tag, place: usize, scheduling: Scheduling) -> Event
-    ensures { result ≡ record { tag = sum_of tag scheduling.delay; reactor = federate; slot = scheduling.slot; source = record { tag = tag; place = place }; value = scheduling.value } }
+/// Adds the event of a scheduling.
+fn add_deferred_by(
+    events: &mut Vec<Held>,
+    turn: &TurnMade<'_>,
+    scheduling: Scheduling,
+) -> Result<(), Memory>
+    ensures { OnOk result (events.new.items ≡ events.old.items ++ deferred_by turn.now scheduling) }
 {
-    Event::new(
-        plus(tag, scheduling.delay()),
-        federate,
+    let tag = plus(turn.tag, scheduling.delay());
+    add(
+        events,
+        turn.stop,
+        tag,
         scheduling.slot(),
-        Source::new(tag, place),
         scheduling.value(),
     )
 }
 
 /// Adds an event, unless it is later than stop.
-pub fn add(events: &mut Vec<Event>, stop: Tag, event: Event) -> Result<(), Memory>
-    ensures { OnOk result (events.new.items ≡ events.old.items ++ filter (λ e. is_at_most e.tag stop) (event ∷ [])) }
+fn add(
+    events: &mut Vec<Held>,
+    stop: FiniteTag,
+    tag: Tag,
+    slot: usize,
+    value: i64,
+) -> Result<(), Memory>
+    ensures { OnOk result (events.new.items ≡ events.old.items ++ held_if stop tag slot (Some value)) }
 {
-    if event.tag() <= stop {
-        events.push(event)?;
+    if tag > stop.tag() {
+        return Ok(());
+    }
+    stop.known();
+    match FiniteTag::of(tag) {
+        Some(finite) => events.push(Held::new(finite, slot, value))?,
+        None => {}
     }
     Ok(())
 }

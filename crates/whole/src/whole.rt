@@ -2,14 +2,13 @@ ghost use Rattle.std.specs.Prelude.{◌≡◌, ℕ, ◌+◌, ◌<◌, ◌≤◌,
 ghost use Rattle.plan.specs.External.{AreInputsOf};
 ghost use Rattle.reactor.specs.Programs.{AreProgramsOf};
 
-use crate::event::Event;
-use crate::external::external_events;
-use crate::pending::first_turn;
-use crate::step::{Made, turn_at};
+use crate::made::TurnMade;
+use crate::schedule::Schedule;
 use plan::{Inputs, Plan};
-use reactor::{Memory, Programs, Reactor, Rows};
+use reactor::{Entry, Memory, Programs, Reactor, Rows, TurnRoom};
 use std::alloc::Global;
 use std::marker::Model;
+use tag::FiniteTag;
 
 /// The undivided program of a plan with its programs and inputs. Contracts see what it was made from, how many turns were made,
 /// and of how many of them the rows were let go.
@@ -18,7 +17,10 @@ pub struct Whole<'a> {
     plan: &'a Plan,
     inputs: &'a Inputs,
     reactors: Vec<Reactor<'a>>,
-    pending: Vec<Event>,
+    schedule: Schedule<'a>,
+    /// Room for what is present at a turn, and for what it makes.
+    present: Vec<Entry>,
+    room: TurnRoom,
     /// One for each turn whose row wasn't let go.
     rows: Rows,
     /// How many rows were let go.
@@ -34,7 +36,7 @@ impl<'a> Model for Whole<'a> {
 
     ghost view = { λ w. record { draft = w.plan.now; programs = programs_in w.reactors.items; inputs = w.inputs.now; turns = w.gone + length w.rows; gone = w.gone } };
 
-    ghost invariant = { λ w. IsAfterTurns w.plan.now w.inputs.now w.reactors.items w.pending.items w.gone w.rows };
+    ghost invariant = { λ w. IsAfterTurns w.plan.now w.inputs.now w.reactors.items w.schedule w.gone w.rows };
 }
 
 impl<'a> Whole<'a> {
@@ -61,7 +63,9 @@ impl<'a> Whole<'a> {
             plan,
             inputs,
             reactors,
-            pending: external_events(alloc, plan, inputs)?,
+            schedule: Schedule::new(alloc, plan, inputs)?,
+            present: Vec::new(alloc),
+            room: TurnRoom::new(alloc),
             rows: Rows::new(alloc),
             gone: 0,
         })
@@ -98,35 +102,30 @@ impl<'a> Whole<'a> {
         self.rows.clear();
     }
 
-    /// One turn, if anything is pending. All that needs memory comes before the first change.
+    /// One turn, if anything is pending. Where memory is refused, nothing changes.
     fn turn(&mut self) -> Result<bool, Memory>
         ensures made { IfOk result (λ more. MatchBool more (self.new ≡ later_by 1 self.old) ((self.new ≡ self.old) × (pending_in self.old ≡ []))) }
         ensures err { OnErr result (self.new ≡ self.old) }
     {
-        let alloc = *self.reactors.allocator();
-        let Some(first) = first_turn(self.plan, self.pending.as_slice()) else {
+        let Some(next) = self.schedule.first() else {
             return Ok(false);
         };
-        let federate = first.federate();
-        let tag = first.tag();
-        let made = turn_at(
-            alloc,
-            self.plan,
-            &self.reactors[federate],
-            self.pending.as_slice(),
+        let federate = next.federate;
+        self.plan.known();
+        self.schedule.at(federate, next.tag, &mut self.present)?;
+        let reactor = &self.reactors[federate];
+        reactor.run_in(self.present.as_slice(), &mut self.room)?;
+        let turn = TurnMade {
             federate,
-            tag,
-        )?;
-        let Made {
-            turn,
-            inputs,
-            pending,
-        } = made;
-        self.rows
-            .push(federate, tag, inputs.as_slice(), turn.outputs())?;
+            tag: next.tag,
+            stop: FiniteTag::new(self.plan.stop_time(), 0),
+            inputs: self.present.as_slice(),
+            outputs: self.room.outputs(),
+            schedulings: self.room.schedulings(),
+        };
+        self.schedule.put(&mut self.rows, &turn)?;
         let reactor = &mut self.reactors[federate];
-        reactor.commit(turn);
-        self.pending = pending;
+        reactor.commit_from(&self.room);
         Ok(true)
     }
 }

@@ -1,11 +1,10 @@
 use Rattle.std.proofs.Common.{◌≡◌, ℕ, ◌∙◌, List, length, map, ap, zero-add}
 use Rattle.std.proofs.lemmas.List.{take_all}
-use Rattle.whole.proofs.Turns.{opened, opened-programs, kept-opening, slots_of_programs}
+use Rattle.whole.proofs.Turns.{opened, opened-programs, kept_opening, slots_of_programs}
 use Rattle.reactor.specs.Behaviour.{Behaviour}
 use Rattle.reactor.proofs.LawfulNetwork.{gives_lawful}
 use Rattle.whole.specs.Kept.{programs_in}
 use Rattle.whole.specs.Progress.{Progress}
-use Rattle.whole.proofs.Outside.{external_of-in_range}
 use Rattle.whole.proofs.whole.Whole.new.Goals as goal
 
 pub invariant_of-result : goal.invariant_of-result
@@ -13,10 +12,10 @@ invariant_of-result c =
     let all : c.loop-program.reactors.items ≡ map opened c.args.programs.now =
     c.loop-program.invariant ∙
     ap (λ ps. map opened ps) (take_all c.loop-program.program-index c.args.programs.now (rw (← c.as_slice-program-items.ensures) c.loop-program-test.false)) in
-    kept-opening c.args.plan.now c.args.inputs.now c.args.programs.now c.loop-program.reactors.items c.in_ok-external_events.field-0.items c.new-2.result
+    kept_opening c.args.plan.now c.args.inputs.now c.args.programs.now c.loop-program.reactors.items c.in_ok-new-2.field-0 c.new-5.result
     (slots_of_programs c.args.plan.now.federates c.args.programs.now c.requires.programs)
-    (gives_lawful c.args.plan.now c.args.programs.now c.args.inputs.now c.known.ensures c.requires.programs c.requires.inputs) all c.in_ok-external_events.ensures
-    (rw c.in_ok-external_events.ensures (external_of-in_range c.args.plan.now c.args.inputs.now)) c.new-2.ensures
+    (gives_lawful c.args.plan.now c.args.programs.now c.args.inputs.now c.known.ensures c.requires.programs c.requires.inputs) all
+    c.in_ok-new-2.ensures.draft c.in_ok-new-2.ensures.undone c.new-5.ensures
 
 pub returns : goal.returns
 returns c =
@@ -30,6 +29,6 @@ returns c =
       turns = turns;
       gone = 0;
     } in
-    ap (λ k. shown (programs_in c.loop-program.reactors.items) k) (zero-add (length c.new-2.result)) ∙
-    ap (λ ps. shown ps (length c.new-2.result)) (opened-programs c.args.programs.now c.loop-program.reactors.items all) ∙
-    ap (λ k. shown c.args.programs.now k) (ap length c.new-2.ensures)
+    ap (λ k. shown (programs_in c.loop-program.reactors.items) k) (zero-add (length c.new-5.result)) ∙
+    ap (λ ps. shown ps (length c.new-5.result)) (opened-programs c.args.programs.now c.loop-program.reactors.items all) ∙
+    ap (λ k. shown c.args.programs.now k) (ap length c.new-5.ensures)

@@ -1,68 +1,96 @@
--- The first turn among what is pending is made, and what is kept is kept.
-use Rattle.std.proofs.Common.{◌≡◌, ℕ, ◌+◌, ◌<◌, List, [], ◌∷◌, ◌++◌, length, Some, refl, ap, sym, ◌∙◌, arith, subst, slice_set}
+-- The first turn is made, and what is kept is kept.
+use Rattle.std.proofs.Common.{◌≡◌, ℕ, ℤ, ◌+◌, ◌<◌, List, [], Option, length, Some, refl, ap, sym, ◌∙◌, arith, subst, slice_set, slice_get}
 use Rattle.std.proofs.lemmas.List.{length-append}
 use Rattle.std.proofs.lemmas.Option.{slice_get-get_or}
-use Rattle.network.specs.Undivided.{Row, first_of_turns}
+use Rattle.network.specs.Event.{listed}
+use Rattle.network.specs.Undone.{look}
+use Rattle.plan.specs.Federation.{federate_count}
+use Rattle.plan.specs.Numbering.{slot_count}
 use Rattle.reactor.specs.Behaviour.{Behaviour}
-use Rattle.reactor.specs.Federation.{network_of}
-use Rattle.whole.specs.Kept.{programs_in}
+use Rattle.reactor.specs.Entries.{value_at, AgreesBelow}
+use Rattle.reactor.specs.Federation.{slots_of}
+use Rattle.reactor.specs.Turn.{Reactor, turn_of}
+use Rattle.whole.specs.Kept.{programs_in, HasSlotsOf}
+use Rattle.whole.specs.Made.{TurnMade}
 use Rattle.whole.specs.Progress.{Progress, pending_in, later_by}
-use Rattle.whole.proofs.Turns.{has_slots, reactor_count, same-element, programs_in-set, kept-made, first_of_turns-none}
+use Rattle.whole.specs.Schedule.{undone_of}
+use Rattle.whole.proofs.Listed.{listed-agrees}
+use Rattle.whole.proofs.Turns.{IsTurnMade, done_is_done, undone_within, kept_turn, reactor_count, has_slots, slots-given, same-element, programs_in-set}
 use Rattle.whole.proofs.whole.Whole.turn.Goals as goal
 
 pub returns-in_default-clause-made : goal.returns-in_default-clause-made
 returns-in_default-clause-made c =
-    let IsDone : Progress → Type 0 = λ p. pending_in p ≡ [] in
-    let none : c.self.inside.pending.items ≡ [] =
-    first_of_turns-none (network_of c.self.inside.plan.now (programs_in c.self.inside.reactors.items) c.self.inside.inputs.now) c.self.inside.pending.items
-    (rw (← c.as_slice.ensures.value) (c.in_default.ensures.first (programs_in c.self.inside.reactors.items) c.self.inside.inputs.now)) in
-    (refl, subst IsDone c.self.view_is (ap (λ u. u.pending) c.self.invariant.undivided ∙ none))
+    let IsOver : Progress → Type 0 = λ p. pending_in p ≡ [] in (
+      refl,
+      subst IsOver c.self.view_is
+          (done_is_done c.self.inside.plan.now c.self.inside.inputs.now c.self.inside.reactors.items c.self.inside.schedule c.self.inside.gone c.self.inside.rows c.self.invariant c.in_default.ensures),
+    )
 
-pub index-requires : goal.index-requires
-index-requires c =
-    let there : c.federate-federate.result < length c.self.inside.reactors.items =
-    rw (reactor_count c.self.inside.plan.now c.self.inside.reactors.items c.self.invariant.programs, c.federate-federate.ensures) c.in-Some.ensures.in_range in
+pub index-reactor-requires : goal.index-reactor-requires
+index-reactor-requires c =
+    let d = c.self.inside.plan.now in
+    let there : c.in-Some.next.federate < federate_count d = subst (λ x. c.in-Some.next.federate < federate_count x) c.self.invariant.draft c.in-Some.ensures.there in
+    let inside : c.in-Some.next.federate < length c.self.inside.reactors.items = rw (reactor_count d c.self.inside.reactors.items c.self.invariant.programs) there in
     let counted = c.self.inside.reactors.ok.0 in
-    omega (arith, counted, there)
+    omega (arith, counted, inside)
 
 pub index_mut-reactor-requires : goal.index_mut-reactor-requires
 index_mut-reactor-requires c =
-    let there : c.federate-federate.result < length c.self.inside.reactors.items =
-    rw (reactor_count c.self.inside.plan.now c.self.inside.reactors.items c.self.invariant.programs, c.federate-federate.ensures) c.in-Some.ensures.in_range in
+    let d = c.self.inside.plan.now in
+    let there : c.in-Some.next.federate < federate_count d = subst (λ x. c.in-Some.next.federate < federate_count x) c.self.invariant.draft c.in-Some.ensures.there in
+    let inside : c.in-Some.next.federate < length c.self.inside.reactors.items = rw (reactor_count d c.self.inside.reactors.items c.self.invariant.programs) there in
     let counted = c.self.inside.reactors.ok.0 in
-    omega (arith, counted, there)
+    omega (arith, counted, inside)
 
-pub turn_at-requires-clause-slots : goal.turn_at-requires-clause-slots
-turn_at-requires-clause-slots c =
-    let there : c.federate-federate.result < length c.self.inside.reactors.items =
-    rw (reactor_count c.self.inside.plan.now c.self.inside.reactors.items c.self.invariant.programs, c.federate-federate.ensures) c.in-Some.ensures.in_range in
-    has_slots c.self.inside.plan.now c.self.inside.reactors.items c.federate-federate.result c.index.result.now c.self.invariant.programs
-    (slice_get-get_or c.self.inside.reactors.items c.federate-federate.result c.index.result.now there ∙ ap (λ r. Some r) (sym c.index.ensures))
-
-pub commit-requires : goal.commit-requires
-commit-requires c =
-    let there : c.federate-federate.result < length c.self.inside.reactors.items =
-    rw (reactor_count c.self.inside.plan.now c.self.inside.reactors.items c.self.invariant.programs, c.federate-federate.ensures) c.in-Some.ensures.in_range in
-    c.in_ok-made.ensures.fits ∙
-    ap (λ r. length r.states)
-    (same-element c.self.inside.reactors.items c.federate-federate.result c.index.result.now c.index_mut-reactor.result.now there c.index.ensures c.index_mut-reactor.ensures.value)
+pub commit_from-requires : goal.commit_from-requires
+commit_from-requires c =
+    let d = c.self.inside.plan.now in
+    let there : c.in-Some.next.federate < federate_count d = subst (λ x. c.in-Some.next.federate < federate_count x) c.self.invariant.draft c.in-Some.ensures.there in
+    let inside : c.in-Some.next.federate < length c.self.inside.reactors.items = rw (reactor_count d c.self.inside.reactors.items c.self.invariant.programs) there in
+    c.in_ok-run_in.ensures.fits ∙
+    ap (λ (r : Reactor). length r.states) (same-element c.self.inside.reactors.items c.in-Some.next.federate c.index-reactor.result.now c.index_mut-reactor.result.now inside c.index-reactor.ensures c.index_mut-reactor.ensures.value)
 
 pub invariant_of-self-2 : goal.invariant_of-self-2
 invariant_of-self-2 c =
-    let row : Row = record {
-      reactor = c.federate-federate.result;
-      tag = c.tag-tag.result;
-      inputs = c.in_ok-made.made.inputs;
-      outputs = c.in_ok-made.made.turn.outputs;
+    let d = c.self.inside.plan.now in
+    let reactors = c.self.inside.reactors.items in
+    let s = c.self.inside.schedule in
+    let f = c.in-Some.next.federate in
+    let g = c.in-Some.next.tag in
+    let r : Reactor = c.index-reactor.result.now in
+    let kept = c.self.invariant in
+    let present : ℕ → Option ℤ = look (undone_of s f) g in
+    let there : f < federate_count d = subst (λ x. f < federate_count x) kept.draft c.in-Some.ensures.there in
+    let inside : f < length reactors = rw (reactor_count d reactors kept.programs) there in
+    let mine : slice_get reactors f ≡ Some r = slice_get-get_or reactors f r inside ∙ ap (λ x. Some x) (sym c.index-reactor.ensures) in
+    let slots : HasSlotsOf d f r = has_slots d reactors f r kept.programs mine in
+    let count : slots_of (slice_get d.federates f) ≡ slot_count r.behaviour.slots = slots-given (slice_get d.federates f) r.behaviour.slots slots in
+    let entries : c.at.new.entries.items ≡ listed (slot_count r.behaviour.slots) present =
+    c.in_ok-at.ensures (slots_of (slice_get d.federates f)) (undone_within d c.self.inside.inputs.now reactors s c.self.inside.gone c.self.inside.rows kept f there)
+    ∙ ap (λ k. listed k present) count in
+    let agrees : AgreesBelow (slot_count r.behaviour.slots) (value_at c.as_slice.result.now) present =
+    rw (c.as_slice.ensures.value, entries) (listed-agrees (slot_count r.behaviour.slots) present) in
+    let turn : c.run_in.new.room ≡ turn_of r present = c.in_ok-run_in.ensures.slots_alone present agrees in
+    let t : TurnMade = record {
+      federate = f;
+      tag = g;
+      stop = c.new.result;
+      inputs = c.as_slice-2.result.now;
+      outputs = c.outputs.result.now;
+      schedulings = c.schedulings.result.now;
     } in
-    let more : c.push.new.self ≡ c.self.inside.rows ++ row ∷ [] = rw (← c.as_slice-3.ensures, ← c.outputs.ensures) c.in_ok-push.ensures.ok in
-    let first : first_of_turns (network_of c.self.inside.plan.now (programs_in c.self.inside.reactors.items) c.self.inside.inputs.now) c.self.inside.pending.items ≡ Some c.in-Some.first =
-    rw (← c.as_slice.ensures.value) (sym (c.in-Some.ensures.first (programs_in c.self.inside.reactors.items) c.self.inside.inputs.now)) in
-    kept-made c.self.inside.plan.now c.self.inside.inputs.now c.self.inside.reactors.items c.self.inside.pending.items c.self.inside.gone c.self.inside.rows
-    c.in-Some.first c.in_ok-made.made c.index.result.now c.index_mut-reactor.result.now c.commit.new.self c.as_slice-2.result.now
-    c.federate-federate.result c.tag-tag.result row c.push.new.self c.self.invariant first c.in-Some.ensures.in_range
-    c.federate-federate.ensures c.tag-tag.ensures c.as_slice-2.ensures.value c.index.ensures c.index_mut-reactor.ensures.value c.in_ok-made.ensures
-    c.commit.ensures refl more
+    let made : IsTurnMade d r s t c.run_in.new.room.states = record {
+      stop = c.new.ensures ∙ ap (λ time. record { time = time; microstep = 0 }) c.stop_time.ensures;
+      inputs = c.as_slice-2.ensures.value ∙ entries;
+      outputs = c.outputs.ensures ∙ ap (λ x. x.outputs) turn;
+      schedulings = c.schedulings.ensures ∙ ap (λ x. x.schedulings) turn;
+      new_states = ap (λ x. x.states) turn;
+    } in
+    let same : r ≡ c.index_mut-reactor.result.now = same-element reactors f r c.index_mut-reactor.result.now inside c.index-reactor.ensures c.index_mut-reactor.ensures.value in
+    let is : c.commit_from.new.self ≡ record { behaviour = r.behaviour; states = c.run_in.new.room.states } =
+    c.commit_from.ensures ∙ ap (λ (x : Reactor). record { behaviour = x.behaviour; states = c.run_in.new.room.states }) (sym same) in
+    rw (is, c.in_ok-put.ensures.row)
+    (kept_turn d c.self.inside.inputs.now reactors s c.self.inside.gone c.self.inside.rows kept t c.put.new.self r c.run_in.new.room.states c.in-Some.ensures c.in_ok-put.ensures.put mine made)
 
 pub returns-clause-made : goal.returns-clause-made
 returns-clause-made c =
@@ -73,12 +101,12 @@ returns-clause-made c =
       turns = turns;
       gone = c.self.inside.gone;
     } in
-    let programs = programs_in-set c.self.inside.reactors.items c.federate-federate.result c.index_mut-reactor.result.now c.commit.new.self
-    c.index_mut-reactor.ensures.value (ap (λ r. r.behaviour) c.commit.ensures) in
-    let one_more : length c.push.new.self ≡ length c.self.inside.rows + 1 =
-    ap length c.in_ok-push.ensures.ok ∙ length-append c.self.inside.rows _ in
-    let turns : c.self.inside.gone + length c.push.new.self ≡ c.self.inside.gone + length c.self.inside.rows + 1 = omega (arith, one_more) in
+    let programs = programs_in-set c.self.inside.reactors.items c.in-Some.next.federate c.index_mut-reactor.result.now c.commit_from.new.self
+    c.index_mut-reactor.ensures.value (ap (λ (r : Reactor). r.behaviour) c.commit_from.ensures) in
+    let one_more : length c.put.new.rows ≡ length c.self.inside.rows + 1 =
+    ap length c.in_ok-put.ensures.row ∙ length-append c.self.inside.rows _ in
+    let turns : c.self.inside.gone + length c.put.new.rows ≡ c.self.inside.gone + length c.self.inside.rows + 1 = omega (arith, one_more) in
     let IsLater : Progress → Type 0 = λ p.
-    shown (programs_in (slice_set c.self.inside.reactors.items c.federate-federate.result c.commit.new.self)) (c.self.inside.gone + length c.push.new.self) ≡ later_by 1 p in
+    shown (programs_in (slice_set c.self.inside.reactors.items c.in-Some.next.federate c.commit_from.new.self)) (c.self.inside.gone + length c.put.new.rows) ≡ later_by 1 p in
     subst IsLater c.self.view_is
-    (ap (λ ps. shown ps (c.self.inside.gone + length c.push.new.self)) programs ∙ ap (λ k. shown (programs_in c.self.inside.reactors.items) k) turns)
+    (ap (λ ps. shown ps (c.self.inside.gone + length c.put.new.rows)) programs ∙ ap (λ k. shown (programs_in c.self.inside.reactors.items) k) turns)

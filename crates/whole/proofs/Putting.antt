@@ -1,0 +1,116 @@
+-- What was put is taken back.
+use Rattle.std.proofs.Common.{◌≡◌, ◌≢◌, ℕ, zero, suc, ◌<◌, ◌≤◌, Bool, true, false, inl, inr, Option, None, List, [], ◌∷◌, ◌++◌, append-nil, length, map, take, drop, ◌-◌, get_or, set, nat_eq, ◌||◌, Some, slice_get, refl, sym, ap, ◌∙◌, arith}
+use Rattle.std.specs.List.{AllByRecursion}
+use Rattle.std.specs.Prelude.{if◌then◌else◌, Result, Ok, Err, OnErr}
+use Rattle.std.specs.Option.{option_map}
+use Rattle.std.proofs.lemmas.List.{take_all}
+use Rattle.std.proofs.Math.Seq.{drop-length}
+use Rattle.std.proofs.lemmas.Bool.{or_parts, cases_eq, ne_eqb, eq-eqb}
+use Rattle.std.proofs.lemmas.Option.{slice_get-get_or}
+use Rattle.network.specs.Connection.{Connection}
+use Rattle.agenda.specs.Agenda.{Agenda}
+use Rattle.whole.specs.declared.targets.Target.{Target}
+use Rattle.whole.specs.Targets.{all_shown, AreApart}
+use Rattle.whole.specs.Made.{TurnMade, has_target, kept_on, dropped, after_puts, after_turn}
+
+pub slice_get-set_same : {X : Type 0} (xs : List X) (k : ℕ) (y : X) → k < length xs → slice_get (set xs k y) k ≡ Some y
+slice_get-set_same [] k y below = absurd (omega arith)
+slice_get-set_same (x ∷ xs) zero y below = refl
+slice_get-set_same (x ∷ xs) (suc k) y below = slice_get-set_same xs k y (omega arith)
+
+pub slice_get-set_other : {X : Type 0} (xs : List X) (k j : ℕ) (y : X) → j ≢ k → slice_get (set xs k y) j ≡ slice_get xs j
+slice_get-set_other [] k j y apart = refl
+slice_get-set_other (x ∷ xs) zero zero y apart = absurd (apart refl)
+slice_get-set_other (x ∷ xs) zero (suc j) y apart = refl
+slice_get-set_other (x ∷ xs) (suc k) zero y apart = refl
+slice_get-set_other (x ∷ xs) (suc k) (suc j) y apart = slice_get-set_other xs k j y (λ same. apart (ap (λ n. suc n) same))
+
+map_set : {X Y : Type 0} (f : X → Y) (xs : List X) (k : ℕ) (y : X) → map f (set xs k y) ≡ set (map f xs) k (f y)
+map_set f [] k y = refl
+map_set f (x ∷ xs) zero y = refl
+map_set f (x ∷ xs) (suc k) y = ap (λ rest. f x ∷ rest) (map_set f xs k y)
+
+set_twice : {X : Type 0} (xs : List X) (k : ℕ) (x y : X) → set (set xs k x) k y ≡ set xs k y
+set_twice [] k x y = refl
+set_twice (z ∷ xs) zero x y = refl
+set_twice (z ∷ xs) (suc k) x y = ap (λ rest. z ∷ rest) (set_twice xs k x y)
+
+set_itself : {X Y : Type 0} (f : X → Y) (xs : List X) (k : ℕ) (x : X) (y : Y) → slice_get xs k ≡ Some x → y ≡ f x → set (map f xs) k y ≡ map f xs
+set_itself f [] k x y e same = refl
+set_itself f (z ∷ xs) zero x y e same = let here : z ≡ x = cc in ap (λ (v : _). v ∷ map f xs) (same ∙ ap f (sym here))
+set_itself f (z ∷ xs) (suc k) x y e same = ap (λ rest. f z ∷ rest) (set_itself f xs k x y e same)
+
+-- an agenda whose events were put, and taken back
+pub put_back : (old later : List Agenda) (k : ℕ) (x put y z : Agenda) → k < length old → put.stop ≡ (get_or old k x).stop → put.before ≡ (get_or old k x).undone →
+    map kept_on later ≡ map kept_on (set old k put) → slice_get later k ≡ slice_get (set old k put) k → k < length later → z.stop ≡ (get_or later k y).stop → z.undone ≡ (get_or later k y).before →
+    map kept_on (set later k z) ≡ map kept_on old
+put_back old later k x put y z there stop before alike same within z_stop z_undone =
+    let was : slice_get old k ≡ Some (get_or old k x) = slice_get-get_or old k x there in
+    let got : Some (get_or later k y) ≡ Some put = sym (slice_get-get_or later k y within) ∙ (same ∙ slice_get-set_same old k put there) in
+    let is : get_or later k y ≡ put = cc in
+    let shown : kept_on z ≡ kept_on (get_or old k x) = (λ i. ((z_stop ∙ (ap (λ a. a.stop) is ∙ stop)) i, (z_undone ∙ (ap (λ a. a.before) is ∙ before)) i)) in
+    map_set kept_on later k z
+    ∙ (ap (λ l. set l k (kept_on z)) (alike ∙ map_set kept_on old k put)
+    ∙ (set_twice (map kept_on old) k (kept_on put) (kept_on z)
+    ∙ set_itself kept_on old k (get_or old k x) (kept_on z) was shown))
+
+not_among : (k : ℕ) (targets : List (ℕ × List Connection)) → AllByRecursion (λ other. k ≢ other.0) targets → has_target k targets ≡ false
+not_among k [] a = refl
+not_among k (t ∷ rest) a = ap (λ b. b || has_target k rest) (ne_eqb t.0 k (λ e. a.0 (sym e))) ∙ not_among k rest a.1
+
+-- all but the first
+others_are : {X : Type 0} (x : X) (rest : List X) → take (length (x ∷ rest) - 1) rest ≡ rest
+others_are x rest = let count : length (x ∷ rest) - 1 ≡ length rest = omega arith in ap (λ n. take n rest) count ∙ take_all (length rest) rest (omega arith)
+
+abbrev pub all_but_first : List Target → List Target
+all_but_first targets = take (length targets - 1) (drop 1 targets)
+
+-- the first target isn't among the others
+pub first_apart : (targets : List Target) (t : Target) → 1 ≤ length targets → t ≡ get_or targets 0 t → AreApart (all_shown targets) → has_target t.federate (all_shown (all_but_first targets)) ≡ false
+first_apart [] t some is apart = absurd (omega arith)
+first_apart (x ∷ rest) t some is apart = ap (λ ts. has_target t.federate (all_shown ts)) (others_are x rest) ∙ ap (λ (y : Target). has_target y.federate (all_shown rest)) is ∙ not_among x.federate (all_shown rest) apart.0
+
+-- a federate that isn't a target isn't the first, nor among the others
+pub not_target : (targets : List Target) (t : Target) (federate : ℕ) → 1 ≤ length targets → t ≡ get_or targets 0 t → has_target federate (all_shown targets) ≡ false →
+    (federate ≢ t.federate) × (has_target federate (all_shown (all_but_first targets)) ≡ false)
+not_target [] t federate some is none = absurd (omega arith)
+not_target (x ∷ rest) t federate some is none =
+    let parts = or_parts (nat_eq x.federate federate) (has_target federate (all_shown rest)) none in
+    ((λ e. (let same : x.federate ≡ federate = sym (e ∙ ap (λ (y : Target). y.federate) is) in let yes : nat_eq x.federate federate ≡ true = eq-eqb x.federate federate same in let no = parts.0 in absurd cc)), ap (λ ts. has_target federate (all_shown ts)) (others_are x rest) ∙ parts.1)
+
+-- what is written over all of a list is the list
+pub written : {X : Type 0} (old new : List X) (count : ℕ) → count ≡ length old → length new ≡ length old → take count (new ++ drop (length new) old) ≡ new
+written old new count is same =
+    let none : drop (length new) old ≡ [] = ap (λ n. drop n old) same ∙ drop-length old in
+    ap (λ rest. take count (new ++ rest)) none ∙ (ap (take count) (append-nil new) ∙ take_all count new (omega arith))
+
+drop_one : (t : TurnMade) (targets : List (ℕ × List Connection)) (f : ℕ) (o : Option Agenda) (x : Agenda) (b : Bool) → nat_eq t.federate f ≡ b → b ≡ true → Some x ≡ option_map (after_puts t targets f) o →
+    Some (dropped t.tag x) ≡ option_map (after_turn t targets f) o
+drop_one t targets f None x b is yes_it e = absurd cc
+drop_one t targets f (Some a) x b is yes_it e =
+    let same : x ≡ after_puts t targets f a = cc in
+    ap (λ y. Some (dropped t.tag y)) same ∙ sym (ap (λ c. Some (if c then dropped t.tag (after_puts t targets f a) else after_puts t targets f a)) (is ∙ yes_it))
+
+keep_one : (t : TurnMade) (targets : List (ℕ × List Connection)) (f : ℕ) (o : Option Agenda) → nat_eq t.federate f ≡ false →
+    option_map (after_puts t targets f) o ≡ option_map (after_turn t targets f) o
+keep_one t targets f None is = refl
+keep_one t targets f (Some a) is = sym (ap (λ c. Some (if c then dropped t.tag (after_puts t targets f a) else after_puts t targets f a)) is)
+
+-- the turn's own federate drops what is up to its tag
+pub drop_step : (t : TurnMade) (targets : List (ℕ × List Connection)) (old put : List Agenda) (x z : Agenda) → t.federate < length put → z ≡ dropped t.tag (get_or put t.federate x) →
+    ((f : ℕ) → slice_get put f ≡ option_map (after_puts t targets f) (slice_get old f)) →
+    (f : ℕ) → slice_get (set put t.federate z) f ≡ option_map (after_turn t targets f) (slice_get old f)
+drop_step t targets old put x z there is so_far f = elim (cases_eq f t.federate) [
+  | inl e ↦ (
+      let here : nat_eq t.federate f ≡ true = eq-eqb t.federate f (sym e) in
+      let was : Some (get_or put t.federate x) ≡ option_map (after_puts t targets f) (slice_get old f) = sym (slice_get-get_or put t.federate x there) ∙ (ap (slice_get put) (sym e) ∙ so_far f) in
+      ap (slice_get (set put t.federate z)) e ∙ (slice_get-set_same put t.federate z there ∙ (ap (λ y. Some y) is
+      ∙ drop_one t targets f (slice_get old f) (get_or put t.federate x) (nat_eq t.federate f) refl here was)))
+  | inr other ↦ (
+      let elsewhere : nat_eq t.federate f ≡ false = ne_eqb t.federate f (λ q. other (sym q)) in
+      slice_get-set_other put t.federate f z other ∙ (so_far f ∙ keep_one t targets f (slice_get old f) elsewhere))
+]
+
+pub on_err : {X E : Type 0} (r : Result X E) (P : Type 0) → P → OnErr r P
+on_err (Ok x) P p = tt
+on_err (Err e) P p = p

@@ -1,0 +1,19 @@
+-- Of each federate the tag of its next event, and which of them comes first.
+use Rattle.std.specs.Prelude.{◌≡◌, ℕ, ◌<◌, Bool, false, ◌&&◌, ◌||◌, nat_lt, if◌then◌else◌, List, length, slice_get, Some}
+use Rattle.tag.specs.LogicalTime.{is_before, is_same}
+use Rattle.agenda.specs.Agenda.{Agenda}
+use Rattle.whole.specs.declared.nexts.Next.{Next}
+use Rattle.whole.specs.Made.{least_on}
+
+-- the first is before the second: by tag, then by rank
+abbrev pub is_earlier : Next → Next → Bool
+is_earlier a b = is_before a.tag b.tag || (is_same a.tag b.tag && nat_lt a.rank b.rank)
+
+-- the one at this place is there, and none before `count` is earlier
+pub record IsFirstAt (nexts : List Next) (count place : ℕ) : Type 0 where
+  pub there : place < length nexts
+  pub first : (other : ℕ) (a b : Next) → other < count → slice_get nexts other ≡ Some a → slice_get nexts place ≡ Some b → is_earlier a b ≡ false
+
+-- with the least tag of the federate's agenda, if the test passes
+abbrev pub renewed : List Agenda → Bool → ℕ → Next → Next
+renewed agendas test federate next = if test then record { federate = next.federate; tag = least_on (slice_get agendas federate); rank = next.rank } else next

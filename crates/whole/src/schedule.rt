@@ -1,0 +1,142 @@
+ghost use Rattle.std.specs.Prelude.{◌≡◌, ℕ, ◌<◌, ◌++◌, ◌∷◌, [], length, map, All, IfOk, OnOk, OnErr, true, Some, slice_get};
+ghost use Rattle.std.specs.Option.{option_map};
+ghost use Rattle.agenda.specs.Agenda.{Agenda as AgendaOf, IsAgenda};
+ghost use Rattle.whole.specs.Made.{after_turn, has_target, kept_on};
+ghost use Rattle.whole.specs.Next.{renewed};
+ghost use Rattle.whole.specs.Targets.{all_shown, AreApart};
+ghost use Rattle.tag.specs.LogicalTime.{LogicalTime};
+ghost use Rattle.network.specs.Undone.{look};
+ghost use Rattle.plan.specs.Federation.{federate_count, stop_of};
+ghost use Rattle.network.specs.Event.{listed};
+ghost use Rattle.std.specs.List.{AllByRecursion};
+
+use crate::made::{TurnMade, put_made};
+use crate::nexts::{Next, first_of, nexts_of, renew};
+use crate::opening::{opening_agendas, put_inputs};
+use crate::targets::{Target, all_targets};
+use agenda::{Agenda, Held};
+use plan::{Inputs, Plan};
+use reactor::{Entry, Memory, Rows};
+use std::alloc::Global;
+use std::marker::Model;
+use tag::Tag;
+
+/// What is undone of each federate. Contracts see the federation, and what is undone of each.
+#[derive(Drop)]
+pub struct Schedule<'p> {
+    plan: &'p Plan,
+    agendas: Vec<Agenda>,
+    /// When each federate is next.
+    nexts: Vec<Next>,
+    /// To which federates each puts events.
+    targets: Vec<Vec<Target>>,
+    /// Room for what a turn puts.
+    events: Vec<Held>,
+}
+
+impl<'p> Model for Schedule<'p> {
+    ghost use Rattle.std.specs.Prelude.{map};
+    ghost use Rattle.whole.specs.Schedule.{Schedule as ScheduleOf, IsSchedule};
+    ghost use Rattle.whole.specs.Targets.{all_shown};
+
+    ghost Value = { ScheduleOf };
+
+    ghost view = { λ s. record { draft = s.plan.now; undone = map (λ a. a.undone) s.agendas.items } };
+
+    ghost invariant = { λ s. IsSchedule s.plan.now s.agendas.items s.nexts.items (map (λ ts. all_shown ts.items) s.targets.items) };
+}
+
+impl<'p> Schedule<'p> {
+    ghost use Rattle.whole.specs.Schedule.{undone_of, opening_undone, IsFirstDue, IsAfterTurn};
+
+    /// What comes from outside is undone, up to stop.
+    pub fn new(alloc: Global, plan: &'p Plan, inputs: &Inputs) -> Result<Schedule<'p>, Memory>
+        ensures draft { IfOk result (λ schedule. schedule.draft ≡ plan.now) }
+        ensures undone { IfOk result (λ schedule. (federate : ℕ) (tag : LogicalTime) (slot : ℕ) → federate < federate_count plan.now → look (undone_of schedule federate) tag slot ≡ look (opening_undone plan.now inputs.now federate) tag slot) }
+    {
+        plan.known();
+        let mut agendas = opening_agendas(alloc, plan)?;
+        put_inputs(alloc, agendas.as_mut_slice(), plan, inputs)?;
+        let nexts = nexts_of(alloc, plan, agendas.as_slice())?;
+        let targets = all_targets(alloc, plan)?;
+        Ok(Schedule {
+            plan,
+            agendas,
+            nexts,
+            targets,
+            events: Vec::new(alloc),
+        })
+    }
+
+    /// The turn of the least (tag, rank); None where nothing is undone.
+    pub fn first(&self) -> Option<Next>
+        ensures { IsFirstDue self.now result }
+    {
+        self.plan.known();
+        let first = self.nexts[first_of(self.nexts.as_slice())];
+        if first.tag.is_forever() {
+            None
+        } else {
+            Some(first)
+        }
+    }
+
+    /// Writes what is present for a federate at the tag of its next turn over what was in `entries`.
+    pub fn at(&self, federate: usize, tag: Tag, entries: &mut Vec<Entry>) -> Result<(), Memory>
+        requires { federate < federate_count self.now.draft }
+        ensures { OnOk result ((count : ℕ) → AllByRecursion (λ e. e.slot < count) (undone_of self.now federate) → entries.new.items ≡ listed count (look (undone_of self.now federate) tag)) }
+    {
+        match self.agendas[federate].at(tag, entries) {
+            Ok(()) => Ok(()),
+            Err(_) => Err(Memory),
+        }
+    }
+
+    /// Puts what a turn makes where it goes, adds its row, and lets go of what was up to its tag: all or nothing.
+    pub fn put(&mut self, rows: &mut Rows, turn: &TurnMade<'_>) -> Result<(), Memory>
+        requires federate { turn.now.federate < federate_count self.old.draft }
+        ensures put { OnOk result (IsAfterTurn turn.now self.old self.new) }
+        ensures row { OnOk result (rows.new ≡ rows.old ++ record { reactor = turn.now.federate; tag = turn.now.tag; inputs = turn.now.inputs; outputs = turn.now.outputs } ∷ []) }
+        ensures err { OnErr result (self.new ≡ self.old) }
+        ensures no_row { OnErr result (rows.new ≡ rows.old) }
+    {
+        put_turn(
+            self.agendas.as_mut_slice(),
+            self.nexts.as_mut_slice(),
+            rows,
+            &mut self.events,
+            self.targets[turn.federate].as_slice(),
+            turn,
+        )?;
+        Ok(())
+    }
+}
+
+/// Puts what a turn makes on the agendas of its targets, and adds its row; then lets go of what was up to its tag. All or nothing.
+fn put_turn(
+    agendas: &mut [Agenda],
+    nexts: &mut [Next],
+    rows: &mut Rows,
+    events: &mut Vec<Held>,
+    targets: &[Target],
+    turn: &TurnMade<'_>,
+) -> Result<(), Memory>
+    requires federate { turn.now.federate < length agendas.old }
+    requires there { All (λ t. t.federate < length agendas.old) targets.now }
+    requires next { All (λ t. t.federate < length nexts.old) targets.now }
+    requires apart { AreApart (all_shown targets.now) }
+    ensures length { length agendas.new ≡ length agendas.old }
+    ensures nexts_length { length nexts.new ≡ length nexts.old }
+    ensures put { OnOk result ((federate : ℕ) → slice_get agendas.new federate ≡ option_map (after_turn turn.now (all_shown targets.now) federate) (slice_get agendas.old federate)) }
+    ensures nexts { OnOk result ((federate : ℕ) → slice_get nexts.new federate ≡ option_map (renewed agendas.new (has_target federate (all_shown targets.now)) federate) (slice_get nexts.old federate)) }
+    ensures known { OnOk result ((federate : ℕ) (a : AgendaOf) → has_target federate (all_shown targets.now) ≡ true → slice_get agendas.new federate ≡ Some a → IsAgenda a) }
+    ensures row { OnOk result (rows.new ≡ rows.old ++ record { reactor = turn.now.federate; tag = turn.now.tag; inputs = turn.now.inputs; outputs = turn.now.outputs } ∷ []) }
+    ensures err { OnErr result (map kept_on agendas.new ≡ map kept_on agendas.old) }
+    ensures no_next { OnErr result (nexts.new ≡ nexts.old) }
+    ensures no_row { OnErr result (rows.new ≡ rows.old) }
+{
+    put_made(agendas, rows, events, targets, turn)?;
+    agendas[turn.federate].drop_at(turn.tag);
+    renew(nexts, agendas, targets);
+    Ok(())
+}
