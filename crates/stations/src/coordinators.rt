@@ -199,7 +199,11 @@ fn waits_for_what_may_come(rt: HostRuntime) -> Result<(), Fail> {
     let answered = answers(alloc, 2, &one_wire(None), 20 * MILLISECOND, &both, sender);
     assert!(rt; answered == Some(true));
     let delay = one_wire(Some(10 * MILLISECOND));
-    let posts = [to(0, net(0, 0)), to(0, ltc(0, 0)), to(1, net(10 * MILLISECOND, 0))];
+    let posts = [
+        to(0, net(0, 0)),
+        to(0, ltc(0, 0)),
+        to(1, net(10 * MILLISECOND, 0)),
+    ];
     let nothing = Expected::Sent(None);
     let answered = answers(alloc, 2, &delay, 20 * MILLISECOND, &posts, nothing);
     assert!(rt; answered == Some(true));
@@ -208,7 +212,14 @@ fn waits_for_what_may_come(rt: HostRuntime) -> Result<(), Fail> {
 
 /// Whether frames of federates 0 and 1, wired without delay, are answered so, stop being at 100 ms.
 fn wired_answers(alloc: Global, posts: &[Post], expected: Expected) -> bool {
-    answers(alloc, 2, &one_wire(None), 100 * MILLISECOND, posts, expected) == Some(true)
+    answers(
+        alloc,
+        2,
+        &one_wire(None),
+        100 * MILLISECOND,
+        posts,
+        expected,
+    ) == Some(true)
 }
 
 #[test]
@@ -243,7 +254,10 @@ fn refuses_what_breaks_the_rules(rt: HostRuntime) -> Result<(), Fail> {
     for (post, expected) in &lone {
         assert!(rt; wired_answers(rt.alloc(), &[*post], *expected));
     }
-    let fallen = [to(0, ltc(10 * MILLISECOND, 0)), to(0, net(10 * MILLISECOND, 0))];
+    let fallen = [
+        to(0, ltc(10 * MILLISECOND, 0)),
+        to(0, net(10 * MILLISECOND, 0)),
+    ];
     assert!(rt; wired_answers(rt.alloc(), &fallen, Expected::Refused(72, true)));
     Ok(())
 }
@@ -357,6 +371,64 @@ fn sends_in_order_whatever_comes(rt: HostRuntime) -> Result<(), Fail> {
         let mut station = station(alloc, &plan).ok_or("station")?;
         let in_order = sends_in_order(&mut station, &mut chance);
         assert!(rt; in_order == Some(true), "list {list}");
+    }
+    Ok(())
+}
+
+/// At both ends, how much isn't acknowledged and how much room is left.
+fn ends_of(station: &Station<Coordinator>) -> Option<[usize; 4]> {
+    let first = station.end(0)?;
+    let second = station.end(1)?;
+    Some([
+        first.unacked(),
+        first.room_left(),
+        second.unacked(),
+        second.room_left(),
+    ])
+}
+
+/// One step, made again where there was no memory for it. None where that changed an end.
+fn step_again(station: &mut Station<Coordinator>, event: Event) -> Option<Reply> {
+    let before = ends_of(station)?;
+    if let Ok(reply) = station.step(event) {
+        return Some(reply);
+    }
+    if ends_of(station)? != before {
+        return None;
+    }
+    station.step(event).ok()
+}
+
+/// A plan of two federates, made again where there was no memory for it.
+fn plan_again(alloc: Global) -> Option<Plan> {
+    match planned(alloc, 2, &one_wire(None), 20 * MILLISECOND) {
+        Some(plan) => Some(plan),
+        None => planned(alloc, 2, &one_wire(None), 20 * MILLISECOND),
+    }
+}
+
+/// Its coordinator's station, made again where there was no memory for it.
+fn station_again(alloc: Global, plan: &Plan) -> Option<Station<Coordinator>> {
+    match station(alloc, plan) {
+        Some(made) => Some(made),
+        None => station(alloc, plan),
+    }
+}
+
+#[test]
+fn without_memory_nothing_changes(rt: HostRuntime) -> Result<(), Fail> {
+    let steps = [
+        (0, 1, net(0, 0), Some(to(0, grant(20 * MILLISECOND, 0)))),
+        (0, 2, message(0, 0, 0), Some(to(1, message(0, 0, 0)))),
+        (0, 3, ltc(0, 0), None),
+        (1, 1, Signal::Net(Tag::FOREVER), Some(to(1, grant(0, 0)))),
+    ];
+    let plan = plan_again(rt.alloc()).ok_or("plan")?;
+    let mut station = station_again(rt.alloc(), &plan).ok_or("station")?;
+    for (peer, number, signal, sent) in &steps {
+        let event = Event::Frame(*peer, data(*number, *signal));
+        let reply = step_again(&mut station, event).ok_or("step")?;
+        assert!(rt; is_answered(&reply, Expected::Sent(*sent)));
     }
     Ok(())
 }

@@ -7,9 +7,9 @@
 
 #[cfg(test)]
 mod answers;
-pub mod counter;
 #[cfg(test)]
 mod coordinators;
+pub mod counter;
 #[cfg(test)]
 mod desks;
 #[cfg(test)]
