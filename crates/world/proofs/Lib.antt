@@ -1,0 +1,2 @@
+-- How many frames a step sends to a peer at most.
+pub mod Bound

@@ -1,0 +1,40 @@
+-- How many frames a step of a station sends, and the lists of frames ever sent, with their memory.
+use Rattle.std.specs.Prelude.{ℕ, ◌+◌, ◌<◌, ◌≤◌, if◌then◌else◌, nat_eq, List, [], ◌∷◌, length, map, get_or, slice_get, max, Option, None, Some}
+use Rattle.signal.specs.declared.frame.Frame.{Frame}
+use Rattle.link.specs.Image.{Image, room_left}
+use Rattle.node.specs.declared.outgoing.Outgoing.{Outgoing}
+
+-- how many of these frames go to a peer
+abbrev pub count_to : ℕ → List Outgoing → ℕ
+count_to peer [] = 0
+count_to peer (out ∷ rest) = (if nat_eq out.peer peer then 1 else 0) + count_to peer rest
+
+-- at most so many frames go to a peer in one step: what is kept, sent again; or an answer, and new signals in the room that is left
+abbrev pub most_of : Image → ℕ
+most_of e = max (room_left e) (length e.kept) + 1
+
+-- and none to a peer that isn't there
+abbrev pub most_to : Option Image → ℕ
+most_to None = 0
+most_to (Some e) = most_of e
+
+-- all frames ever sent in a direction, and how many more take no memory
+pub record Log : Type 0 where
+  pub frames : List Frame
+  pub spare : ℕ
+
+-- the frames of each direction
+abbrev pub frames_of_each : List Log → List (List Frame)
+frames_of_each logs = map (λ log. log.frames) logs
+
+-- how many more frames take no memory in a direction
+abbrev pub spare_at : List Log → ℕ → ℕ
+spare_at logs j = get_or (map (λ log. log.spare) logs) j 0
+
+-- in each direction that is there, what a step of this station's sends at most takes no memory
+abbrev pub HasSpare : List Image → List Log → Type 0
+HasSpare ends logs = (j : ℕ) → j < length logs → most_to (slice_get ends j) ≤ spare_at logs j
+
+-- in each direction that is there, these frames take no memory
+abbrev pub Fits : List Outgoing → List Log → Type 0
+Fits outs logs = (j : ℕ) → j < length logs → count_to j outs ≤ spare_at logs j
