@@ -1,2 +1,4 @@
 -- How many frames a step sends to a peer at most.
 pub mod Bound
+-- The frames of all directions, and the memory that is left.
+pub mod Ways

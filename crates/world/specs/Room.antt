@@ -19,22 +19,22 @@ most_to None = 0
 most_to (Some e) = most_of e
 
 -- all frames ever sent in a direction, and how many more take no memory
-pub record Log : Type 0 where
+pub record SentView : Type 0 where
   pub frames : List Frame
   pub spare : ℕ
 
 -- the frames of each direction
-abbrev pub frames_of_each : List Log → List (List Frame)
-frames_of_each logs = map (λ log. log.frames) logs
+abbrev pub frames_of_each : List SentView → List (List Frame)
+frames_of_each sent = map (λ s. s.frames) sent
 
 -- how many more frames take no memory in a direction
-abbrev pub spare_at : List Log → ℕ → ℕ
-spare_at logs j = get_or (map (λ log. log.spare) logs) j 0
+abbrev pub spare_at : List SentView → ℕ → ℕ
+spare_at sent j = get_or (map (λ s. s.spare) sent) j 0
 
--- in each direction that is there, what a step of this station's sends at most takes no memory
-abbrev pub HasSpare : List Image → List Log → Type 0
-HasSpare ends logs = (j : ℕ) → j < length logs → most_to (slice_get ends j) ≤ spare_at logs j
+-- in each direction that is there, what a step of a station with these ends sends at most takes no memory
+abbrev pub HasSpare : List Image → List SentView → Type 0
+HasSpare ends sent = (j : ℕ) → j < length sent → most_to (slice_get ends j) ≤ spare_at sent j
 
 -- in each direction that is there, these frames take no memory
-abbrev pub Fits : List Outgoing → List Log → Type 0
-Fits outs logs = (j : ℕ) → j < length logs → count_to j outs ≤ spare_at logs j
+abbrev pub Fits : List Outgoing → List SentView → Type 0
+Fits outs sent = (j : ℕ) → j < length sent → count_to j outs ≤ spare_at sent j
