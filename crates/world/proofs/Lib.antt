@@ -2,3 +2,5 @@
 pub mod Bound
 -- The frames of all directions, and the memory that is left.
 pub mod Ways
+-- What a step of one station makes of the world.
+pub mod Stepping

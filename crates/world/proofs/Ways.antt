@@ -9,7 +9,7 @@ use Rattle.schedule.specs.World.{sent_out}
 use Rattle.world.specs.Room.{count_to, SentView, frames_of_each, spare_at, Fits}
 
 -- what a look at a place tells
-pub found_at : (xs : List SentView) (i : ℕ) (x : SentView) → i < length xs → x ≡ get_or xs i x → slice_get xs i ≡ Some x
+pub found_at : {X : Type 0} (xs : List X) (i : ℕ) (x : X) → i < length xs → x ≡ get_or xs i x → slice_get xs i ≡ Some x
 found_at xs i x within is = slice_get_read xs (length xs) i x refl within is
 
 pub frames_set : (xs : List SentView) (i : ℕ) (y : SentView) → frames_of_each (set xs i y) ≡ set (frames_of_each xs) i y.frames

@@ -1,5 +1,5 @@
 -- What every world keeps, and a world of which nothing was asked.
-use Rattle.std.specs.Prelude.{◌≡◌, Bool, true, false, List, [], length, map, All}
+use Rattle.std.specs.Prelude.{◌≡◌, Bool, true, false, List, [], length, replicate, All}
 use Rattle.node.specs.Step.{Station}
 use Rattle.schedule.specs.World.{World}
 
@@ -18,7 +18,7 @@ abbrev pub unused : {Hub Member : Type 0} → Station Hub → List (Station Memb
 unused coordinator federates = record {
   coordinator = coordinator;
   federates = federates;
-  up = map (λ s. []) federates;
-  down = map (λ s. []) federates;
+  up = replicate (length federates) [];
+  down = replicate (length federates) [];
   steps = [];
 }

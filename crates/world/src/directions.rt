@@ -1,12 +1,13 @@
 //! The frames of all directions from or to the coordinator, by federate.
-ghost use Rattle.std.specs.Prelude.{◌≡◌, ◌≢◌, ℕ, ◌+◌, ◌<◌, ◌≤◌, ◌++◌, ◌∷◌, [], if◌then◌else◌, nat_eq, length, map, set, get_or, slice_get, OnOk, IfOk};
-ghost use Rattle.schedule.specs.World.{sent_out};
+ghost use Rattle.std.specs.Prelude.{◌≡◌, ◌≢◌, ℕ, ◌+◌, ◌<◌, ◌≤◌, ◌++◌, ◌∷◌, [], if◌then◌else◌, nat_eq, length, map, set, get_or, slice_get, replicate, OnOk, IfOk};
+ghost use Rattle.schedule.specs.World.{sent_out, frame_at};
 ghost use Rattle.world.specs.Room.{most_to, frames_of_each, spare_at, HasSpare, Fits};
 
 use crate::memory::Memory;
 use crate::sent::Sent;
 use node::{Node, Outgoing, Station};
 use signal::Frame;
+use std::alloc::Global;
 
 // How many frames a station sends to a peer in one step at most.
 fn most_to<N: Node>(station: &Station<N>, peer: usize) -> Result<usize, Memory>
@@ -90,5 +91,33 @@ pub(crate) fn append_all(sent: &mut Vec<Sent>, place: usize, outgoing: &[Outgoin
 {
     for out in outgoing {
         append(sent, place, out.frame);
+    }
+}
+
+// No frame in each of so many directions.
+pub(crate) fn none_sent(alloc: Global, count: usize) -> Result<Vec<Sent>, Memory>
+    ensures { IfOk result (λ sent. frames_of_each sent.items ≡ replicate count []) }
+{
+    let mut sent = Vec::with_capacity(alloc, count)?;
+    for _ in 0..count {
+        sent.push_reserved(Sent::new(alloc));
+    }
+    Ok(sent)
+}
+
+// The k-th frame in a direction, counted from 1.
+pub(crate) fn nth(sent: &[Sent], place: usize, k: usize) -> Option<Frame>
+    ensures { result ≡ frame_at (get_or (frames_of_each sent.now) place []) k }
+{
+    sent.get(place)?.nth(k)
+}
+
+// How many frames were sent in a direction.
+pub(crate) fn count(sent: &[Sent], place: usize) -> usize
+    ensures { result ≡ length (get_or (frames_of_each sent.now) place []) }
+{
+    match sent.get(place) {
+        Some(direction) => direction.count(),
+        None => 0,
     }
 }

@@ -15,6 +15,7 @@
 
 mod directions;
 pub mod memory;
+mod occurrence;
 mod replies;
 pub mod sent;
 pub mod stations;

@@ -1,12 +1,14 @@
-ghost use Rattle.std.specs.Prelude.{◌≡◌, ◌<◌, ◌++◌, ◌∷◌, [], true, false, length, set, slice_get, option_map, IfOk, OnOk, OnErr, Some};
+ghost use Rattle.std.specs.Prelude.{◌≡◌, ◌<◌, ◌≤◌, ◌++◌, ◌∷◌, [], true, false, length, set, slice_get, option_map, IfOk, OnOk, OnErr, Some};
 ghost use Rattle.link.specs.Image.{room_left};
 ghost use Rattle.node.specs.Step.{Station as StationOf, said, step_of};
-ghost use Rattle.schedule.specs.World.{applied, after_steps, occurrence_of, frames_in, at_node, listed, unchanged};
+ghost use Rattle.schedule.specs.World.{applied, after_steps, occurrence_of, frames_in, frame_at, at_node, happens, listed, unchanged};
 ghost use Rattle.schedule.specs.Taken.{sender};
+ghost use Rattle.node.specs.declared.node_id.NodeId.TheVariants as NodeIds;
 ghost use Rattle.world.specs.Made.{HaveOnePeer, unused};
 
-use crate::directions::{append_all, append_each, reserve_each, reserve_first};
+use crate::directions::{append_all, append_each, count, nth, none_sent, reserve_each, reserve_first};
 use crate::memory::Memory;
+use crate::occurrence::{Occurrence, comes, federate_of, greets, sends_again};
 use crate::replies::{frames_of, outcome_of};
 use crate::sent::Sent;
 use link::LinkEnd;
@@ -46,6 +48,28 @@ impl<H: Node, M: Node> Model for Stations<H, M> {
 }
 
 impl<H: Node, M: Node> Stations<H, M> {
+    /// The world of these stations, of which nothing was asked yet.
+    pub fn new(
+        alloc: Global,
+        coordinator: Station<H>,
+        federates: Vec<Station<M>>,
+    ) -> Result<Stations<H, M>, Memory>
+        requires hub { H.HUB ≡ true }
+        requires member { M.HUB ≡ false }
+        requires one_peer { HaveOnePeer federates.items }
+        ensures { IfOk result (λ w. w ≡ unused coordinator federates.items) }
+    {
+        let up = none_sent(alloc, federates.len())?;
+        let down = none_sent(alloc, federates.len())?;
+        Ok(Stations {
+            coordinator,
+            federates,
+            up,
+            down,
+            steps: Vec::new(alloc),
+        })
+    }
+
     /// The steps made, oldest first: also those that were refused or didn't apply.
     pub fn steps(&self) -> &[Step]
         ensures { result.now ≡ self.now.steps }
@@ -65,5 +89,154 @@ impl<H: Node, M: Node> Stations<H, M> {
         ensures { option_map (λ s. s.now) result ≡ slice_get self.now.federates federate }
     {
         self.federates.get(federate)
+    }
+
+    /// The end that sends in a direction.
+    fn sender(&self, dir: Dir) -> Option<&LinkEnd>
+        ensures { option_map (λ e. e.now.image) result ≡ sender self.now dir }
+    {
+        match dir {
+            Dir::Up(federate) => self.federates.get(federate)?.end(0),
+            Dir::Down(federate) => self.coordinator.end(federate),
+        }
+    }
+
+    /// How many signals the sender of a direction keeps; None where there is no such federate.
+    pub fn unacked(&self, dir: Dir) -> Option<usize>
+        ensures { result ≡ option_map (λ e. length e.kept) (sender self.now dir) }
+    {
+        Some(self.sender(dir)?.unacked())
+    }
+
+    /// How many signals the sender of a direction may still offer; None where there is no such federate.
+    pub fn room_left(&self, dir: Dir) -> Option<usize>
+        ensures { result ≡ option_map room_left (sender self.now dir) }
+    {
+        Some(self.sender(dir)?.room_left())
+    }
+
+    /// How many frames were ever sent in a direction.
+    pub fn sent(&self, dir: Dir) -> usize
+        ensures { result ≡ length (frames_in self.now dir) }
+    {
+        match dir {
+            Dir::Up(federate) => count(&self.up, federate),
+            Dir::Down(federate) => count(&self.down, federate),
+        }
+    }
+
+    // The k-th frame ever sent in a direction, counted from 1.
+    fn frame(&self, dir: Dir, k: usize) -> Option<Frame>
+        ensures { result ≡ frame_at (frames_in self.now dir) k }
+    {
+        match dir {
+            Dir::Up(federate) => nth(&self.up, federate, k),
+            Dir::Down(federate) => nth(&self.down, federate, k),
+        }
+    }
+
+    // Which event a step is, and at which node; None where it doesn't apply, and where a federate forgets.
+    fn occurrence(&self, step: Step) -> Option<Occurrence>
+        ensures { option_map (λ o. record { node = o.node; event = o.event }) result ≡ occurrence_of self.now step }
+    {
+        let (federate, occurrence) = match step {
+            Step::Deliver(dir, k) => return Some(comes(dir, self.frame(dir, k)?)),
+            Step::Resend(dir) => (federate_of(dir), sends_again(dir)),
+            Step::Reconnect(dir) => (federate_of(dir), greets(dir)),
+            Step::Announce(federate) => (federate, by_itself(federate, Event::Announce)),
+            Step::Advance(federate) => (federate, by_itself(federate, Event::Advance)),
+            Step::Forget(_) => return None,
+        };
+        if federate < self.federates.len() {
+            Some(occurrence)
+        } else {
+            None
+        }
+    }
+
+    // A step that changes nothing.
+    fn pass(&mut self, step: Step) -> Result<Outcome, Memory>
+        ensures done { IfOk result (λ outcome. record { world = self.new; outcome = outcome } ≡ listed step (unchanged self.old)) }
+        ensures as_before { OnErr result (self.new ≡ self.old) }
+    {
+        self.steps.push(step)?;
+        Ok(Outcome::Nothing)
+    }
+
+    // An event at the coordinator.
+    fn at_coordinator(&mut self, event: Event, step: Step) -> Result<Outcome, Memory>
+        ensures done { IfOk result (λ outcome. record { world = self.new; outcome = outcome } ≡ listed step (at_node H.core M.core self.old NodeIds.Coordinator event)) }
+        ensures as_before { OnErr result (self.new ≡ self.old) }
+    {
+        self.steps.reserve(1)?;
+        reserve_each(&mut self.down, &self.coordinator)?;
+        let reply = self.coordinator.step(event)?;
+        append_each(&mut self.down, frames_of(&reply));
+        self.steps.push_reserved(step);
+        Ok(outcome_of(&reply))
+    }
+
+    // An event at a federate.
+    fn at_federate(
+        &mut self,
+        federate: usize,
+        event: Event,
+        step: Step,
+    ) -> Result<Outcome, Memory>
+        ensures done { IfOk result (λ outcome. record { world = self.new; outcome = outcome } ≡ listed step (at_node H.core M.core self.old (NodeIds.Federate federate) event)) }
+        ensures as_before { OnErr result (self.new ≡ self.old) }
+    {
+        let Some(station) = self.federates.get(federate) else {
+            return self.pass(step);
+        };
+        self.steps.reserve(1)?;
+        reserve_first(&mut self.up, federate, station)?;
+        let reply = step_at(&mut self.federates, federate, event)?;
+        append_all(&mut self.up, federate, frames_of(&reply));
+        self.steps.push_reserved(step);
+        Ok(outcome_of(&reply))
+    }
+
+    /// Makes one step other than Forget, which is listed also where it is refused or doesn't apply. Without memory the
+    /// world is as before.
+    fn happen(&mut self, step: Step) -> Result<Outcome, Memory>
+        ensures done { IfOk result (λ outcome. record { world = self.new; outcome = outcome } ≡ listed step (happens H.core M.core self.old (occurrence_of self.old step))) }
+        ensures as_before { OnErr result (self.new ≡ self.old) }
+    {
+        match self.occurrence(step) {
+            Some(Occurrence {
+                node: NodeId::Coordinator,
+                event,
+            }) => self.at_coordinator(event, step),
+            Some(Occurrence {
+                node: NodeId::Federate(federate),
+                event,
+            }) => self.at_federate(federate, event, step),
+            None => self.pass(step),
+        }
+    }
+}
+
+// A step of one of the federates' stations.
+fn step_at<M: Node>(
+    federates: &mut Vec<Station<M>>,
+    federate: usize,
+    event: Event,
+) -> Result<Reply, Memory>
+    requires there { federate < length federates.old.items }
+    ensures said { (s : StationOf M) → slice_get federates.old.items federate ≡ Some s → IfOk result (λ reply. said reply ≡ (step_of M.core M.HUB s event).answer) }
+    ensures stepped { (s : StationOf M) → slice_get federates.old.items federate ≡ Some s → OnOk result (federates.new.items ≡ set federates.old.items federate (step_of M.core M.HUB s event).station) }
+    ensures as_before { OnErr result (federates.new.items ≡ federates.old.items) }
+{
+    Ok(federates[federate].step(event)?)
+}
+
+// A federate says or runs something.
+fn by_itself(federate: usize, event: Event) -> Occurrence
+    ensures { result ≡ record { node = NodeIds.Federate federate; event = event } }
+{
+    Occurrence {
+        node: NodeId::Federate(federate),
+        event,
     }
 }
