@@ -63,6 +63,27 @@ impl LinkEnd {
         let _ = &self.room;
     }
 
+    /// Whose link it is.
+    pub fn federate(&self) -> u16
+        ensures { result ≡ self.now.image.federate }
+    {
+        self.federate
+    }
+
+    /// In which incarnation.
+    pub fn incarnation(&self) -> u32
+        ensures { result ≡ self.now.image.incarnation }
+    {
+        self.incarnation
+    }
+
+    /// How many signals are kept at most.
+    pub fn room(&self) -> usize
+        ensures { result ≡ self.now.image.room }
+    {
+        self.room
+    }
+
     /// Whether it was closed, by this side or by the other.
     pub fn is_closed(&self) -> bool
         ensures { result ≡ self.now.image.closed }
