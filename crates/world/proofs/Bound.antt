@@ -236,7 +236,7 @@ lets_in_within : {View Row : Type 0} (core : Core View Row) (s : Station View) (
 lets_in_within core s peer e (Data i n signal) arrival.Signal found =
     takes_within s peer e (Data i n signal) (ending_of (acknowledging s peer e (Data i n signal)) (core.accept s.node peer signal)) found
     (ending_within s.ends (addressed peer (ack_of (after_frame e (Data i n signal)) ∷ [])) (core.accept s.node peer signal)
-        (λ p. one_and_room s.ends peer p e (ack_of (after_frame e (Data i n signal))) (nat_eq peer p) refl found))
+    (λ p. one_and_room s.ends peer p e (ack_of (after_frame e (Data i n signal))) (nat_eq peer p) refl found))
 lets_in_within core s peer e frame arrival found = noted_within s peer e frame found
 
 turned_few : (hub : Bool) (s : List Image) (peer : ℕ) (e : Image) (frame : Frame) → slice_get s peer ≡ Some e → IsBounded s (turned_away hub peer e frame)

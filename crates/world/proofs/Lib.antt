@@ -4,3 +4,5 @@ pub mod Bound
 pub mod Ways
 -- What a step of one station makes of the world.
 pub mod Stepping
+-- What a federate that forgets makes of the world.
+pub mod Forgetting

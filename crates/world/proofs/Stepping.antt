@@ -1,7 +1,8 @@
 -- What a step of one station makes of the world.
-use Rattle.std.proofs.Common.{◌≡◌, ◌≢◌, ℕ, zero, suc, ◌+◌, ◌<◌, ◌≤◌, Bool, true, false, List, [], ◌∷◌, ◌++◌, length, map, set, get_or, slice_get, Option, None, Some, if◌then◌else◌, nat_eq, refl, sym, ap, ◌∙◌, arith}
+use Rattle.std.proofs.Common.{◌≡◌, ◌≢◌, ℕ, zero, suc, ◌+◌, ◌<◌, ◌≤◌, Bool, true, false, List, [], ◌∷◌, ◌++◌, length, map, set, get_or, take, slice_get, Option, None, Some, if◌then◌else◌, nat_eq, refl, sym, ap, ◌∙◌, arith}
 use Rattle.std.specs.Prelude.{All}
 use Rattle.std.proofs.lemmas.Bool.Decides.{nat_tests}
+use Rattle.std.proofs.lemmas.List.{take_more}
 use Rattle.std.proofs.lemmas.List.Elements.{All-get_or, All-set}
 use Rattle.std.proofs.lemmas.Option.{slice_get_past, slice_get_within, get_or_from_slice_get}
 use Rattle.signal.specs.declared.frame.Frame.{Frame}
@@ -11,7 +12,7 @@ use Rattle.node.specs.Core.{Core}
 use Rattle.node.specs.Step.{Station, Stepped, Answer, step_of}
 use Rattle.schedule.specs.declared.step.Step.{Step}
 use Rattle.schedule.specs.declared.outcome.Outcome.{Outcome}
-use Rattle.schedule.specs.World.{World, Applied, frames_of, outcome_of, at_federate, listed}
+use Rattle.schedule.specs.World.{World, Applied, frames_of, outcome_of, at_federate, listed, applied, after_steps}
 use Rattle.world.specs.Room.{count_to, most_to, SentView, spare_at, HasSpare, Fits}
 use Rattle.world.specs.Made.{IsWorld, HaveOnePeer}
 use Rattle.world.proofs.Bound.{within, IsBounded}
@@ -53,11 +54,11 @@ member_fits core hub s e answer outs spare one is says few =
     let same : outs ≡ frames_of (step_of core hub s e).answer = says ∙ ap frames_of is in
     let bound : IsBounded s.ends (frames_of (step_of core hub s e).answer) = (within core hub s e).bounded in
     let none : (p : ℕ) → p ≢ 0 → count_to p outs ≡ 0 = λ p other.
-        let past : slice_get s.ends p ≡ None = slice_get_past s.ends p (omega arith) in
-        let count : count_to p outs ≡ count_to p (frames_of (step_of core hub s e).answer) = ap (count_to p) same in
-        let most : most_to (slice_get s.ends p) ≡ 0 = ap most_to past in
-        let here = bound p in
-        omega arith in
+    let past : slice_get s.ends p ≡ None = slice_get_past s.ends p (omega arith) in
+    let count : count_to p outs ≡ count_to p (frames_of (step_of core hub s e).answer) = ap (count_to p) same in
+    let most : most_to (slice_get s.ends p) ≡ 0 = ap most_to past in
+    let here = bound p in
+    omega arith in
     let all = count_all outs none in
     let count : count_to 0 outs ≡ count_to 0 (frames_of (step_of core hub s e).answer) = ap (count_to 0) same in
     let here = bound 0 in
@@ -91,8 +92,23 @@ pub after_member : {Hub Member Row : Type 0} (core : Core Member Row) (flag : Bo
     up_ready ≡ up → up_then ≡ set up_ready j (get_or up_ready j [] ++ map (λ out. out.frame) outs) → steps_ready ≡ steps → steps_then ≡ steps_ready ++ step ∷ [] →
     o ≡ outcome_of answer →
     ◌≡◌ {A = Applied Hub Member}
-      (record { world = record { coordinator = coordinator; federates = later; up = up_then; down = down; steps = steps_then }; outcome = o })
-      (listed step (at_federate core w j e (slice_get w.federates j)))
+    (record { world = record { coordinator = coordinator; federates = later; up = up_then; down = down; steps = steps_then }; outcome = o })
+    (listed step (at_federate core w j e (slice_get w.federates j)))
 after_member core flag w coordinator federates later up up_ready up_then down steps steps_ready steps_then j s e step answer outs o view member found says stepped frames same put
     as_before made told =
     rw (view, found, told, made, as_before, put, same, frames, stepped, says, member) refl
+
+-- one step more
+pub one_more : {Hub Member HubRow Row : Type 0} (hub : Core Hub HubRow) (member : Core Member Row) (w : World Hub Member) (steps : List Step) (step : Step) →
+    after_steps hub member w (steps ++ step ∷ []) ≡ (applied hub member (after_steps hub member w steps) step).world
+one_more hub member w [] step = refl
+one_more hub member w (first ∷ steps) step = one_more hub member (applied hub member w first).world steps step
+
+-- the next step of a list
+pub step_more : {Hub Member HubRow Row : Type 0} (hub : Core Hub HubRow) (member : Core Member Row) (w now later : World Hub Member) (steps : List Step) (i : ℕ) (d : Step) (o : Outcome) →
+    i < length steps → now ≡ after_steps hub member w (take i steps) → record { world = later; outcome = o } ≡ applied hub member now (get_or steps i d) →
+    later ≡ after_steps hub member w (take (i + 1) steps)
+step_more hub member w now later steps i d o there so_far made =
+    ap (λ (a : Applied _ _). a.world) made ∙
+    (ap (λ (x : World _ _). (applied hub member x (get_or steps i d)).world) so_far ∙
+    (sym (one_more hub member w (take i steps) (get_or steps i d)) ∙ ap (λ (made_so_far : List Step). after_steps hub member w made_so_far) (sym (take_more steps i d there))))

@@ -13,6 +13,7 @@
 //! Begin with `stations`; `sent` keeps the frames of one direction.
 #![tactic(auto)]
 
+pub mod blank;
 mod directions;
 pub mod memory;
 mod occurrence;
@@ -20,6 +21,7 @@ mod replies;
 pub mod sent;
 pub mod stations;
 
+pub use blank::Blank;
 pub use memory::Memory;
 pub use schedule::{Dir, Outcome, Step};
 pub use sent::Sent;

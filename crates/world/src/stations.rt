@@ -1,12 +1,15 @@
-ghost use Rattle.std.specs.Prelude.{◌≡◌, ◌<◌, ◌≤◌, ◌++◌, ◌∷◌, [], true, false, length, set, slice_get, option_map, IfOk, OnOk, OnErr, Some};
+ghost use Rattle.std.specs.Prelude.{◌≡◌, ℕ, take, ◌<◌, ◌≤◌, ◌++◌, ◌∷◌, [], true, false, length, set, slice_get, option_map, IfOk, OnOk, OnErr, Some};
 ghost use Rattle.link.specs.Image.{room_left};
 ghost use Rattle.node.specs.Step.{Station as StationOf, said, step_of};
-ghost use Rattle.schedule.specs.World.{applied, after_steps, occurrence_of, frames_in, frame_at, at_node, happens, listed, unchanged};
+ghost use Rattle.schedule.specs.World.{applied, after_steps, occurrence_of, frames_in, frame_at, at_node, happens, forgets, listed, unchanged};
 ghost use Rattle.schedule.specs.Taken.{sender};
 ghost use Rattle.node.specs.declared.node_id.NodeId.TheVariants as NodeIds;
 ghost use Rattle.world.specs.Made.{HaveOnePeer, unused};
 
-use crate::directions::{append_all, append_each, count, nth, none_sent, reserve_each, reserve_first};
+use crate::blank::{Blank, forgotten};
+use crate::directions::{
+    append_all, append_each, count, none_sent, nth, reserve_each, reserve_first,
+};
 use crate::memory::Memory;
 use crate::occurrence::{Occurrence, comes, federate_of, greets, sends_again};
 use crate::replies::{frames_of, outcome_of};
@@ -21,7 +24,8 @@ use std::marker::Model;
 /// All stations of a federation, all frames that they ever sent, and the steps made. Federate j is peer j of the
 /// coordinator; a federate's one peer is 0.
 #[derive(Drop)]
-pub struct Stations<H: Node, M: Node> {
+pub struct Stations<H: Node, M: Blank> {
+    alloc: Global,
     coordinator: Station<H>,
     federates: Vec<Station<M>>,
     up: Vec<Sent>,
@@ -29,7 +33,7 @@ pub struct Stations<H: Node, M: Node> {
     steps: Vec<Step>,
 }
 
-impl<H: Node, M: Node> Model for Stations<H, M> {
+impl<H: Node, M: Blank> Model for Stations<H, M> {
     ghost use Rattle.schedule.specs.World as world;
     ghost use Rattle.world.specs.Room.{frames_of_each};
     ghost use Rattle.world.specs.Made.{IsWorld};
@@ -47,7 +51,7 @@ impl<H: Node, M: Node> Model for Stations<H, M> {
     ghost invariant = { λ w. IsWorld H.HUB M.HUB w.federates.items };
 }
 
-impl<H: Node, M: Node> Stations<H, M> {
+impl<H: Node, M: Blank> Stations<H, M> {
     /// The world of these stations, of which nothing was asked yet.
     pub fn new(
         alloc: Global,
@@ -62,6 +66,7 @@ impl<H: Node, M: Node> Stations<H, M> {
         let up = none_sent(alloc, federates.len())?;
         let down = none_sent(alloc, federates.len())?;
         Ok(Stations {
+            alloc,
             coordinator,
             federates,
             up,
@@ -177,12 +182,7 @@ impl<H: Node, M: Node> Stations<H, M> {
     }
 
     // An event at a federate.
-    fn at_federate(
-        &mut self,
-        federate: usize,
-        event: Event,
-        step: Step,
-    ) -> Result<Outcome, Memory>
+    fn at_federate(&mut self, federate: usize, event: Event, step: Step) -> Result<Outcome, Memory>
         ensures done { IfOk result (λ outcome. record { world = self.new; outcome = outcome } ≡ listed step (at_node H.core M.core self.old (NodeIds.Federate federate) event)) }
         ensures as_before { OnErr result (self.new ≡ self.old) }
     {
@@ -197,24 +197,74 @@ impl<H: Node, M: Node> Stations<H, M> {
         Ok(outcome_of(&reply))
     }
 
-    /// Makes one step other than Forget, which is listed also where it is refused or doesn't apply. Without memory the
-    /// world is as before.
+    // A step other than Forget.
     fn happen(&mut self, step: Step) -> Result<Outcome, Memory>
         ensures done { IfOk result (λ outcome. record { world = self.new; outcome = outcome } ≡ listed step (happens H.core M.core self.old (occurrence_of self.old step))) }
         ensures as_before { OnErr result (self.new ≡ self.old) }
     {
         match self.occurrence(step) {
-            Some(Occurrence {
-                node: NodeId::Coordinator,
-                event,
-            }) => self.at_coordinator(event, step),
-            Some(Occurrence {
-                node: NodeId::Federate(federate),
-                event,
-            }) => self.at_federate(federate, event, step),
+            Some(
+                Occurrence {
+                    node: NodeId::Coordinator,
+                    event,
+                },
+            ) => self.at_coordinator(event, step),
+            Some(
+                Occurrence {
+                    node: NodeId::Federate(federate),
+                    event,
+                },
+            ) => self.at_federate(federate, event, step),
             None => self.pass(step),
         }
     }
+
+    // A federate loses its state.
+    fn forget(&mut self, federate: usize, step: Step) -> Result<Outcome, Memory>
+        ensures done { IfOk result (λ outcome. record { world = self.new; outcome = outcome } ≡ listed step (forgets M.core self.old federate (slice_get self.old.federates federate))) }
+        ensures as_before { OnErr result (self.new ≡ self.old) }
+    {
+        let Some(station) = self.federates.get(federate) else {
+            return self.pass(step);
+        };
+        let Some(blank) = forgotten(self.alloc, station)? else {
+            return self.pass(step);
+        };
+        self.steps.push(step)?;
+        replace(&mut self.federates, federate, blank);
+        Ok(Outcome::Done)
+    }
+
+    /// Makes one step. It is listed also where it is refused or doesn't apply; without memory the world is as before, and
+    /// the same step may come again.
+    pub fn apply(&mut self, step: Step) -> Result<Outcome, Memory>
+        ensures done { IfOk result (λ outcome. record { world = self.new; outcome = outcome } ≡ applied H.core M.core self.old step) }
+        ensures as_before { OnErr result (self.new ≡ self.old) }
+    {
+        match step {
+            Step::Forget(federate) => self.forget(federate, step),
+            _ => self.happen(step),
+        }
+    }
+
+    /// Makes steps, one after the other. Without memory those before the refused one stay made.
+    pub fn run(&mut self, steps: &[Step]) -> Result<(), Memory>
+        ensures done { OnOk result (self.new ≡ after_steps H.core M.core self.old steps.now) }
+        ensures refused { OnErr result ((n : ℕ) × (n < length steps.now) × (self.new ≡ after_steps H.core M.core self.old (take n steps.now))) }
+    {
+        for step in steps {
+            self.apply(*step)?;
+        }
+        Ok(())
+    }
+}
+
+// Another station in the place of a federate's.
+fn replace<M: Node>(federates: &mut Vec<Station<M>>, federate: usize, station: Station<M>)
+    requires { federate < length federates.old.items }
+    ensures { federates.new.items ≡ set federates.old.items federate station }
+{
+    federates[federate] = station;
 }
 
 // A step of one of the federates' stations.

@@ -1,5 +1,4 @@
 use Rattle.std.proofs.Common.{◌≡◌, arith, Some, slice_get}
-
 use Rattle.world.proofs.Ways.{found_at, put_frames, spare_used}
 use Rattle.world.proofs.directions.append.Goals as goal
 

@@ -1,5 +1,4 @@
 use Rattle.std.proofs.Common.{◌≡◌, arith, Some, slice_get}
-
 use Rattle.world.proofs.Ways.{found_at, spare_here, spare_other, frames_same}
 use Rattle.world.proofs.directions.reserve_at.Goals as goal
 
