@@ -1,6 +1,6 @@
 -- How many frames a step sends to a peer at most, whatever the core.
-use Rattle.std.proofs.Common.{◌≡◌, ◌≢◌, ℕ, zero, suc, ◌+◌, ◌<◌, ◌≤◌, Bool, true, false, List, [], ◌∷◌, ◌++◌, length, map, set, slice_get, refl, sym, ap, subst, ◌∙◌, arith, Option, None, Some, Result, Ok, Err, is_ok, if◌then◌else◌}
-use Rattle.std.specs.Prelude.{nat_eq, max, ◌-◌, ◌&&◌, not, drop}
+use Rattle.std.proofs.Common.{◌≡◌, ◌≢◌, ℕ, ◌+◌, ◌≤◌, Bool, true, false, List, [], ◌∷◌, ◌++◌, length, set, slice_get, refl, ap, subst, ◌∙◌, arith, Option, None, Some, Result, Ok, Err, is_ok, if◌then◌else◌}
+use Rattle.std.specs.Prelude.{nat_eq, ◌-◌, ◌&&◌, not}
 use Rattle.std.proofs.lemmas.Bool.Decides.{nat_tests}
 use Rattle.std.proofs.lemmas.List.{length_push, length-set, length-map}
 use Rattle.link.proofs.Numbered.{length-numbered}
@@ -24,7 +24,7 @@ use Rattle.protocol.specs.Refusals.{number_of}
 use Rattle.node.specs.Numbers.{closes}
 use Rattle.node.specs.Core.{Core, Made, Ending, Refuses, LacksRoom, Stays, Moves, ending_of}
 use Rattle.node.specs.Mail.{Mail, posted, offered_at, all_posted, framed, lacks_room}
-use Rattle.node.specs.Step.{Station, Stepped, refused, received, received_at, acknowledging, unsent, Answer, Silent, Says, Declines, addressed, answer_with, step_of, frame_comes, comes, lets_in, takes, noted, acts, resends, greets, greeting, turned_away, returned, changes}
+use Rattle.node.specs.Step.{Station, Stepped, refused, received_at, acknowledging, unsent, addressed, answer_with, step_of, frame_comes, comes, lets_in, takes, noted, acts, resends, greets, greeting, turned_away, returned, changes}
 use Rattle.node.proofs.Ends.{get_set_here, get_set_other}
 use Rattle.schedule.specs.World.{frames_of}
 use Rattle.world.specs.Room.{count_to, most_of, most_to}

@@ -1,6 +1,6 @@
 -- What a federate that forgets makes of the world.
-use Rattle.std.proofs.Common.{◌≡◌, ℕ, zero, ◌+◌, ◌^◌, Bool, true, false, List, [], ◌∷◌, ◌++◌, length, map, set, slice_get, Option, None, Some, if◌then◌else◌, nat_lt, refl, sym, ap, ◌∙◌, arith}
-use Rattle.std.specs.Prelude.{◌&&◌, All}
+use Rattle.std.proofs.Common.{◌≡◌, ℕ, ◌+◌, ◌^◌, Bool, true, false, List, [], ◌∷◌, ◌++◌, length, map, set, slice_get, Option, None, Some, if◌then◌else◌, nat_lt, refl, sym, ap, ◌∙◌, arith}
+use Rattle.std.specs.Prelude.{◌&&◌}
 use Rattle.std.proofs.lemmas.List.{length-map}
 use Rattle.std.proofs.lemmas.List.Elements.{All-set}
 use Rattle.std.proofs.lemmas.Option.{cond_some}
@@ -11,7 +11,7 @@ use Rattle.node.specs.Step.{Station}
 use Rattle.schedule.specs.declared.step.Step.{Step}
 use Rattle.schedule.specs.declared.outcome.Outcome.TheVariants as outcome
 use Rattle.schedule.specs.World.{World, Applied, blank_next, forgotten, has_next, forgets, listed}
-use Rattle.world.specs.Made.{IsWorld, HaveOnePeer}
+use Rattle.world.specs.Made.{IsWorld}
 use Rattle.world.proofs.Stepping.{has_one}
 
 -- a list of one

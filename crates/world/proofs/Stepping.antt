@@ -1,6 +1,5 @@
 -- What a step of one station makes of the world.
-use Rattle.std.proofs.Common.{◌≡◌, ◌≢◌, ℕ, zero, suc, ◌+◌, ◌<◌, ◌≤◌, Bool, true, false, List, [], ◌∷◌, ◌++◌, length, map, set, get_or, take, slice_get, Option, None, Some, if◌then◌else◌, nat_eq, refl, sym, ap, ◌∙◌, arith}
-use Rattle.std.specs.Prelude.{All}
+use Rattle.std.proofs.Common.{◌≡◌, ◌≢◌, ℕ, zero, suc, ◌+◌, ◌<◌, ◌≤◌, Bool, true, false, List, [], ◌∷◌, ◌++◌, length, map, set, get_or, take, slice_get, None, Some, nat_eq, refl, sym, ap, ◌∙◌, arith}
 use Rattle.std.proofs.lemmas.Bool.Decides.{nat_tests}
 use Rattle.std.proofs.lemmas.List.{take_more}
 use Rattle.std.proofs.lemmas.List.Elements.{All-get_or, All-set}
@@ -13,7 +12,7 @@ use Rattle.node.specs.Step.{Station, Stepped, Answer, step_of}
 use Rattle.schedule.specs.declared.step.Step.{Step}
 use Rattle.schedule.specs.declared.outcome.Outcome.{Outcome}
 use Rattle.schedule.specs.World.{World, Applied, frames_of, outcome_of, at_federate, listed, applied, after_steps}
-use Rattle.world.specs.Room.{count_to, most_to, SentView, spare_at, HasSpare, Fits}
+use Rattle.world.specs.Room.{count_to, most_to, SentView, HasSpare, Fits}
 use Rattle.world.specs.Made.{IsWorld, HaveOnePeer}
 use Rattle.world.proofs.Bound.{within, IsBounded}
 

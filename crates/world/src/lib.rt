@@ -10,7 +10,7 @@
 //!                    +-----------> append         what it sends, after all that was sent before
 //!     Outcome <------+
 //!
-//! Begin with `stations`; `sent` keeps the frames of one direction.
+//! Begin with `stations`; `sent` keeps the frames of one direction, and `blank` makes a federate that forgot all.
 #![tactic(auto)]
 
 pub mod blank;
@@ -18,11 +18,10 @@ mod directions;
 pub mod memory;
 mod occurrence;
 mod replies;
-pub mod sent;
+mod sent;
 pub mod stations;
 
 pub use blank::Blank;
 pub use memory::Memory;
 pub use schedule::{Dir, Outcome, Step};
-pub use sent::Sent;
 pub use stations::Stations;

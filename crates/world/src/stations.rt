@@ -96,13 +96,13 @@ impl<H: Node, M: Blank> Stations<H, M> {
         self.federates.get(federate)
     }
 
-    /// The end that sends in a direction.
-    fn sender(&self, dir: Dir) -> Option<&LinkEnd>
-        ensures { option_map (λ e. e.now.image) result ≡ sender self.now dir }
+    /// How many frames were ever sent in a direction.
+    pub fn sent(&self, dir: Dir) -> usize
+        ensures { result ≡ length (frames_in self.now dir) }
     {
         match dir {
-            Dir::Up(federate) => self.federates.get(federate)?.end(0),
-            Dir::Down(federate) => self.coordinator.end(federate),
+            Dir::Up(federate) => count(&self.up, federate),
+            Dir::Down(federate) => count(&self.down, federate),
         }
     }
 
@@ -120,13 +120,36 @@ impl<H: Node, M: Blank> Stations<H, M> {
         Some(self.sender(dir)?.room_left())
     }
 
-    /// How many frames were ever sent in a direction.
-    pub fn sent(&self, dir: Dir) -> usize
-        ensures { result ≡ length (frames_in self.now dir) }
+    /// Makes one step. It is listed also where it is refused or doesn't apply; without memory the world is as before, and
+    /// the same step may come again.
+    pub fn apply(&mut self, step: Step) -> Result<Outcome, Memory>
+        ensures done { IfOk result (λ outcome. record { world = self.new; outcome = outcome } ≡ applied H.core M.core self.old step) }
+        ensures as_before { OnErr result (self.new ≡ self.old) }
+    {
+        match step {
+            Step::Forget(federate) => self.forget(federate, step),
+            _ => self.happen(step),
+        }
+    }
+
+    /// Makes steps, one after the other. Without memory those before the refused one stay made.
+    pub fn run(&mut self, steps: &[Step]) -> Result<(), Memory>
+        ensures done { OnOk result (self.new ≡ after_steps H.core M.core self.old steps.now) }
+        ensures refused { OnErr result ((n : ℕ) × (n < length steps.now) × (self.new ≡ after_steps H.core M.core self.old (take n steps.now))) }
+    {
+        for step in steps {
+            self.apply(*step)?;
+        }
+        Ok(())
+    }
+
+    // The end that sends in a direction.
+    fn sender(&self, dir: Dir) -> Option<&LinkEnd>
+        ensures { option_map (λ e. e.now.image) result ≡ sender self.now dir }
     {
         match dir {
-            Dir::Up(federate) => count(&self.up, federate),
-            Dir::Down(federate) => count(&self.down, federate),
+            Dir::Up(federate) => self.federates.get(federate)?.end(0),
+            Dir::Down(federate) => self.coordinator.end(federate),
         }
     }
 
@@ -168,6 +191,28 @@ impl<H: Node, M: Blank> Stations<H, M> {
         Ok(Outcome::Nothing)
     }
 
+    // A step other than Forget.
+    fn happen(&mut self, step: Step) -> Result<Outcome, Memory>
+        ensures done { IfOk result (λ outcome. record { world = self.new; outcome = outcome } ≡ listed step (happens H.core M.core self.old (occurrence_of self.old step))) }
+        ensures as_before { OnErr result (self.new ≡ self.old) }
+    {
+        match self.occurrence(step) {
+            Some(
+                Occurrence {
+                    node: NodeId::Coordinator,
+                    event,
+                },
+            ) => self.at_coordinator(event, step),
+            Some(
+                Occurrence {
+                    node: NodeId::Federate(federate),
+                    event,
+                },
+            ) => self.at_federate(federate, event, step),
+            None => self.pass(step),
+        }
+    }
+
     // An event at the coordinator.
     fn at_coordinator(&mut self, event: Event, step: Step) -> Result<Outcome, Memory>
         ensures done { IfOk result (λ outcome. record { world = self.new; outcome = outcome } ≡ listed step (at_node H.core M.core self.old NodeIds.Coordinator event)) }
@@ -197,28 +242,6 @@ impl<H: Node, M: Blank> Stations<H, M> {
         Ok(outcome_of(&reply))
     }
 
-    // A step other than Forget.
-    fn happen(&mut self, step: Step) -> Result<Outcome, Memory>
-        ensures done { IfOk result (λ outcome. record { world = self.new; outcome = outcome } ≡ listed step (happens H.core M.core self.old (occurrence_of self.old step))) }
-        ensures as_before { OnErr result (self.new ≡ self.old) }
-    {
-        match self.occurrence(step) {
-            Some(
-                Occurrence {
-                    node: NodeId::Coordinator,
-                    event,
-                },
-            ) => self.at_coordinator(event, step),
-            Some(
-                Occurrence {
-                    node: NodeId::Federate(federate),
-                    event,
-                },
-            ) => self.at_federate(federate, event, step),
-            None => self.pass(step),
-        }
-    }
-
     // A federate loses its state.
     fn forget(&mut self, federate: usize, step: Step) -> Result<Outcome, Memory>
         ensures done { IfOk result (λ outcome. record { world = self.new; outcome = outcome } ≡ listed step (forgets M.core self.old federate (slice_get self.old.federates federate))) }
@@ -233,29 +256,6 @@ impl<H: Node, M: Blank> Stations<H, M> {
         self.steps.push(step)?;
         replace(&mut self.federates, federate, blank);
         Ok(Outcome::Done)
-    }
-
-    /// Makes one step. It is listed also where it is refused or doesn't apply; without memory the world is as before, and
-    /// the same step may come again.
-    pub fn apply(&mut self, step: Step) -> Result<Outcome, Memory>
-        ensures done { IfOk result (λ outcome. record { world = self.new; outcome = outcome } ≡ applied H.core M.core self.old step) }
-        ensures as_before { OnErr result (self.new ≡ self.old) }
-    {
-        match step {
-            Step::Forget(federate) => self.forget(federate, step),
-            _ => self.happen(step),
-        }
-    }
-
-    /// Makes steps, one after the other. Without memory those before the refused one stay made.
-    pub fn run(&mut self, steps: &[Step]) -> Result<(), Memory>
-        ensures done { OnOk result (self.new ≡ after_steps H.core M.core self.old steps.now) }
-        ensures refused { OnErr result ((n : ℕ) × (n < length steps.now) × (self.new ≡ after_steps H.core M.core self.old (take n steps.now))) }
-    {
-        for step in steps {
-            self.apply(*step)?;
-        }
-        Ok(())
     }
 }
 

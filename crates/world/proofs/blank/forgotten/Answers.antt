@@ -1,5 +1,4 @@
-use Rattle.std.proofs.Common.{◌≡◌, [], ◌∷◌, arith, Some, slice_get, map}
-use Rattle.link.specs.Image.{Image}
+use Rattle.std.proofs.Common.{◌≡◌, arith, Some, slice_get, map}
 use Rattle.world.proofs.Forgetting.{no_next, some_next}
 use Rattle.world.proofs.blank.forgotten.Goals as goal
 

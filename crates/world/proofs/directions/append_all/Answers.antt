@@ -1,7 +1,7 @@
-use Rattle.std.proofs.Common.{◌≡◌, ◌+◌, ◌≤◌, ◌<◌, ◌∷◌, ◌++◌, [], arith, length, map, set, get_or, take, drop, drop-cons, refl, sym}
+use Rattle.std.proofs.Common.{◌≡◌, ◌+◌, ◌∷◌, ◌++◌, [], arith, take, drop, drop-cons}
 use Rattle.std.proofs.lemmas.List.{take_more}
 use Rattle.world.specs.Room.{frames_of_each}
-use Rattle.world.proofs.Ways.{set_same, all_more, fits_less}
+use Rattle.world.proofs.Ways.{all_more, fits_less}
 use Rattle.world.proofs.directions.append_all.Goals as goal
 
 pub loop-out-preserved : goal.loop-out-preserved

@@ -1,4 +1,4 @@
-use Rattle.std.proofs.Common.{◌≡◌, ◌+◌, ◌≤◌, [], replicate, vec_len}
+use Rattle.std.proofs.Common.{◌≡◌, ◌≤◌, [], replicate, vec_len}
 use Rattle.std.specs.Vec.{vec_capacity}
 use Rattle.world.specs.Room.{frames_of_each}
 use Rattle.world.proofs.directions.none_sent.Given as goal
