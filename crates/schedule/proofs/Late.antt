@@ -132,7 +132,7 @@ late_at_own d programs inputs w links moves step j i s e place c lawful below th
       | quiet node plain acts ↦ none (quiet_none false (links j).second.end.incarnation (c.acts 0) (acts 0 (links j).second.end found))
       | takes q m handed node plain acts ↦
           elim site.own [
-            | keeps is opened not_lost node_is queue ↦
+            | keeps is opened not_lost node_is queue frames ↦
                 let done = done_of (member.made_by (node_with d programs inputs j (members j).federate)) (federate_accepts n j (members j).federate handed.signal) m (accepts_as d programs inputs j (members j) s.node q handed.signal (Done m) node_is handed.node) in
                 let safe = widest_rule_is_safe n (least_of d) (lawful_is_wired n lawful.lawful) in
                 let replayed = moves_replay n (least_of d) (λ k. rule_of d programs inputs) moves lawful.lawful lawful.facts (λ k. safe) j in
@@ -145,7 +145,7 @@ late_at_own d programs inputs w links moves step j i s e place c lawful below th
           ]
       | notes q handed acts ↦
           elim site.own [
-            | keeps is opened not_lost node_is queue ↦
+            | keeps is opened not_lost node_is queue frames ↦
                 absurd (federate_answers n j (members j).federate handed.signal (nothing_of (member.made_by (node_with d programs inputs j (members j).federate)) _ (accepts_as d programs inputs j (members j) s.node q handed.signal Nothing node_is handed.node)))
             | loses later lost ↦ absurd (never_handed d programs inputs j (links j) (members j) s.node place handed.incarnation handed.number handed.signal q site later (handed_at w (links j) s e place q Nothing ends comes handed))
           ]

@@ -25,7 +25,7 @@ use Rattle.delivery.specs.Way.{offered_in}
 use Rattle.delivery.specs.Link.{Link, Act, Gets, Offers, replaced}
 use Rattle.delivery.proofs.Carried.{linked_back}
 use Rattle.delivery.proofs.Taken.{at_place}
-use Rattle.delivery.proofs.Forgotten.{IsOf}
+use Rattle.delivery.proofs.Forgotten.{IsOf, AreOf}
 use Rattle.delivery.proofs.Acts.{forgets}
 use Rattle.schedule.specs.World.{after_federate, forgotten}
 use Rattle.schedule.specs.Federation.{Federation}
@@ -82,9 +82,9 @@ advances_as d programs inputs j m v o is e = let P : FederateNode → Type 0 = �
 -- a kept federate takes a signal
 pub kept_takes : (d : Draft) (programs : List Behaviour) (inputs : List Input) (w : Federation) (links : ℕ → Link) (members : ℕ → Member) (j : ℕ) (s : Station FederateNode) (e : Event) (place q : ℕ) (m : Made FederateNode) (c : IsCourse federate_core false s e (λ p. (links j).first.sent) place (step_of federate_core false s e))
     → j < federate_count d → slice_get w.federates j ≡ Some s → Comes s (λ p. (links j).first.sent) place e → IsHandedOn federate_core s e q (Done m) → (step_of federate_core false s e).station.node ≡ m.after → c.acts 0 ≡ taking q place 0 (sent_to 0 m.sent)
-    → (links j).second.end.incarnation ≡ 1 → (members j).lost ≡ false → s.node ≡ node_with d programs inputs j (members j).federate → (members j).down ≡ drop (links j).second.end.taken (offered_in 1 (links j).first.sent) → IsRun d programs inputs w links members
+    → (links j).second.end.incarnation ≡ 1 → (members j).lost ≡ false → s.node ≡ node_with d programs inputs j (members j).federate → (members j).down ≡ drop (links j).second.end.taken (offered_in 1 (links j).first.sent) → AreOf 1 (links j).second.sent → IsRun d programs inputs w links members
     → IsMoved d programs inputs (after_federate w j (step_of federate_core false s e)).world (with_one links j (record { first = (links j).first; second = acted (links j).second (links j).first.sent (c.acts 0) })) members (ToFederate j)
-kept_takes d programs inputs w links members j s e place q m c below there comes h node acts is not_lost node_is queue run =
+kept_takes d programs inputs w links members j s e place q m c below there comes h node acts is not_lost node_is queue frames run =
     let n = network_of d programs inputs in
     let site = run.site j below s there in
     let l = links j in
@@ -102,7 +102,7 @@ kept_takes d programs inputs w links members j s e place q m c below there comes
       after = with_member members j (stepped (members j) rest made);
       is_made = member_move n (rule_of d programs inputs) members j h.signal rest not_lost (queue ∙ next.next) ∙ ap (with_made (λ made. with_member members j (stepped (members j) rest made))) done.1;
       run = kept_does d programs inputs w links members j s e place c (stepped (members j) rest made) made.sent (Gets place true ∷ Offers (sent_to 0 m.sent) ∷ []) below there (subst T handed.peer acts)
-          refl not_lost (node ∙ ap (λ (x : Made FederateNode). x.after) done.2) (next.incarnation ∙ is) next.unclosed (tt, (tt, tt)) (next.offered ∙ ap (λ (x : List Signal). offered_in 1 (links j).second.sent ++ x) sent) refl refl run;
+          refl not_lost (node ∙ ap (λ (x : Made FederateNode). x.after) done.2) (next.incarnation ∙ is) next.unclosed (tt, (tt, tt)) (next.offered ∙ ap (λ (x : List Signal). offered_in 1 (links j).second.sent ++ x) sent) refl refl is frames run;
       lost = same_lost members j (stepped (members j) rest made) refl;
     }
 
@@ -110,9 +110,9 @@ kept_takes d programs inputs w links members j s e place q m c below there comes
 pub kept_says : (d : Draft) (programs : List Behaviour) (inputs : List Input) (w : Federation) (links : ℕ → Link) (members : ℕ → Member) (j : ℕ) (s : Station FederateNode) (e : Event) (place : ℕ) (m : Made FederateNode) (made : Stepped) (move : Move) (c : IsCourse federate_core false s e (λ p. (links j).first.sent) place (step_of federate_core false s e))
     → j < federate_count d → slice_get w.federates j ≡ Some s → (step_of federate_core false s e).station.node ≡ m.after → c.acts 0 ≡ Offers (sent_to 0 m.sent) ∷ [] → m ≡ member.made_by (node_with d programs inputs j (members j).federate) made
     → outcome_of (network_of d programs inputs) (rule_of d programs inputs) members move ≡ Done (with_member members j (stepped (members j) (members j).down made))
-    → (links j).second.end.incarnation ≡ 1 → (links j).second.end.closed ≡ false → (members j).lost ≡ false → (members j).down ≡ drop (links j).second.end.taken (offered_in 1 (links j).first.sent) → IsRun d programs inputs w links members
+    → (links j).second.end.incarnation ≡ 1 → (links j).second.end.closed ≡ false → (members j).lost ≡ false → (members j).down ≡ drop (links j).second.end.taken (offered_in 1 (links j).first.sent) → AreOf 1 (links j).second.sent → IsRun d programs inputs w links members
     → IsMoved d programs inputs (after_federate w j (step_of federate_core false s e)).world (with_one links j (record { first = (links j).first; second = acted (links j).second (links j).first.sent (c.acts 0) })) members move
-kept_says d programs inputs w links members j s e place m made move c below there node acts m_is moves is opened not_lost queue run =
+kept_says d programs inputs w links members j s e place m made move c below there node acts m_is moves is opened not_lost queue frames run =
     let site = run.site j below s there in
     let sent : sent_to 0 m.sent ≡ made.sent = ap (λ (x : Made FederateNode). sent_to 0 x.sent) m_is ∙ sent_up made.sent in
     let linked = linked_back 1 (links j).first (links j).second (kept_linked (links j) site.held is) in
@@ -122,7 +122,7 @@ kept_says d programs inputs w links members j s e place m made move c below ther
       is_made = moves;
       run = kept_does d programs inputs w links members j s e place c (stepped (members j) (members j).down made) made.sent (Offers (sent_to 0 m.sent) ∷ []) below there acts
           refl not_lost (node ∙ ap (λ (x : Made FederateNode). x.after) m_is) (said_incarnation (links j).second (sent_to 0 m.sent) opened ∙ is) o.0 (tt, tt) (o.3 ∙ ap (λ (x : List Signal). offered_in 1 (links j).second.sent ++ x) sent) refl
-          (queue ∙ ap (λ (x : ℕ). drop x (offered_in 1 (links j).first.sent)) (sym o.1)) run;
+          (queue ∙ ap (λ (x : ℕ). drop x (offered_in 1 (links j).first.sent)) (sym o.1)) is frames run;
       lost = same_lost members j (stepped (members j) (members j).down made) refl;
     }
 
@@ -146,7 +146,7 @@ forgets_all d programs inputs w links members j s below there run =
     let mine : Link = record { first = (links j).first; second = replaced (links j).second } in
     let m : Member = record (members j) { lost = true } in
     let changed : Federation = record w { federates = set w.federates j (forgotten federate_core s) } in
-    let late : 0 < (links j).second.end.incarnation = elim site.own [ keeps is opened not_lost node queue ↦ omega arith | loses later lost ↦ omega arith ] in
+    let late : 0 < (links j).second.end.incarnation = elim site.own [ keeps is opened not_lost node queue mine ↦ omega arith | loses later lost ↦ omega arith ] in
     let L : Link → Type 0 = λ x. IsSite d programs inputs j x (with_member members j m j) (forgotten federate_core s).node in
     let M : Member → Type 0 = λ x. IsSite d programs inputs j mine x (forgotten federate_core s).node in
     member_run d programs inputs w changed links (with_one links j mine) members (with_member members j m) j s (forgotten federate_core s) there refl refl

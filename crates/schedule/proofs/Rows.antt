@@ -43,7 +43,12 @@ use Rattle.cores.specs.FederateCore as member
 use Rattle.cores.specs.FederateCore.{FederateNode, federate_core}
 use Rattle.cores.specs.CoordinatorCore.{wiring_in, coordinator_core}
 use Rattle.delivery.specs.Way.{with_offered, offered_with, offered_in}
-use Rattle.delivery.specs.Link.{Link}
+use Rattle.delivery.specs.Link.{Link, Side}
+use Rattle.delivery.proofs.Forgotten.{AreOf, IsOf}
+use Rattle.delivery.proofs.Carried.{Carried, linked_back}
+use Rattle.delivery.proofs.Places.{length_of_rest, get_below}
+use Rattle.delivery.proofs.Ways.{AreSaid}
+use Rattle.delivery.specs.Way.{IsSaid}
 use Rattle.schedule.specs.declared.dir.Dir.{Dir}
 use Rattle.schedule.specs.declared.dir.Dir.TheVariants.{Up, Down}
 use Rattle.schedule.specs.declared.step.Step.{Step}
@@ -67,11 +72,12 @@ pub record IsKeptAt (d : Draft) (programs : List Behaviour) (inputs : List Input
   pub node : station.node ≡ node_with d programs inputs j m.federate
   pub up : m.up ≡ drop l.first.end.taken (offered_in 1 l.second.sent)
   pub down : m.down ≡ drop l.second.end.taken (offered_in 1 l.first.sent)
+  pub frames : AreOf 1 l.second.sent
 
 kept_own : (d : Draft) (programs : List Behaviour) (inputs : List Input) (w : Federation) (j : ℕ) (l : Link) (m : Member) (s : Station FederateNode) → slice_get w.federates j ≡ Some s → IsSite d programs inputs j l m s.node → m.lost ≡ false → IsKeptAt d programs inputs w j l m
 kept_own d programs inputs w j l m s there site not_lost =
     elim site.own [
-      | keeps is opened lost node queue ↦ record { station = s; there = there; incarnation = is; node = node; up = site.up; down = queue }
+      | keeps is opened lost node queue frames ↦ record { station = s; there = there; incarnation = is; node = node; up = site.up; down = queue; frames = frames }
       | loses later lost ↦ absurd (let never : true ≡ false = sym lost ∙ not_lost in cc)
     ]
 

@@ -40,7 +40,9 @@ use Rattle.delivery.proofs.Offers.{offers_open}
 use Rattle.laws.proofs.Safety.{standing_stays}
 use Rattle.node.proofs.Ends.{get_set_here, get_set_other}
 use Rattle.std.proofs.Math.Path.{fun_ext}
-use Rattle.schedule.proofs.Site.{node_with, IsSite, keeps, with_first, with_second, quiet_first, firsts_held, seconds_held, calm_acted, TakesNext, takes_next}
+use Rattle.schedule.proofs.Site.{node_with, IsSite, keeps, with_first, with_second, quiet_first, firsts_held, seconds_held, calm_acted, TakesNext, takes_next, acts_of, kept_linked}
+use Rattle.delivery.proofs.Carried.{linked_back}
+use Rattle.delivery.proofs.Forgotten.{AreOf}
 use Rattle.schedule.proofs.Moves.{done_of, refused_of, rule_of, hub_makes, hub_accepts, hub_move}
 
 pub record IsRun (d : Draft) (programs : List Behaviour) (inputs : List Input) (w : Federation) (links : ℕ → Link) (members : ℕ → Member) : Type 0 where
@@ -256,9 +258,9 @@ pub kept_does : (d : Draft) (programs : List Behaviour) (inputs : List Input) (w
     → j < federate_count d → slice_get w.federates j ≡ Some s → c.acts 0 ≡ acts → m.standing ≡ (members j).standing → m.lost ≡ false → (step_of federate_core false s e).station.node ≡ node_with d programs inputs j m.federate
     → (acted (links j).second (links j).first.sent acts).end.incarnation ≡ 1 → (acted (links j).second (links j).first.sent acts).end.closed ≡ false → AllByRecursion (IsCalmAct 1) acts → offered_in 1 (acted (links j).second (links j).first.sent acts).sent ≡ offered_in 1 (links j).second.sent ++ signals
     → m.up ≡ (members j).up ++ signals → m.down ≡ drop (acted (links j).second (links j).first.sent acts).end.taken (offered_in 1 (links j).first.sent)
-    → IsRun d programs inputs w links members
+    → (links j).second.end.incarnation ≡ 1 → AreOf 1 (links j).second.sent → IsRun d programs inputs w links members
     → IsRun d programs inputs (after_federate w j (step_of federate_core false s e)).world (with_one links j (record { first = (links j).first; second = acted (links j).second (links j).first.sent (c.acts 0) })) (with_member members j m)
-kept_does d programs inputs w links members j s e place c m signals acts below there are standing lost node is opened calm offered up down run =
+kept_does d programs inputs w links members j s e place c m signals acts below there are standing lost node is opened calm offered up down was frames run =
     let made = step_of federate_core false s e in
     let mine : Link = record { first = (links j).first; second = acted (links j).second (links j).first.sent (c.acts 0) } in
     let site = run.site j below s there in
@@ -273,7 +275,7 @@ kept_does d programs inputs w links members j s e place c m signals acts below t
     (subst A (sym are)
     (with_second d programs inputs j (links j) (members j) s.node (acted (links j).second (links j).first.sent acts) m made.station.node signals site
     (seconds_held (links j) acts site.held) (calm_acted (links j).second (links j).first.sent acts calm site.ups_calm) offered up
-    (keeps is opened lost node down))))) run
+    (keeps is opened lost node down (acts_of (links j).second (links j).first acts (linked_back 1 (links j).first (links j).second (kept_linked (links j) site.held was)) frames)))))) run
 
 -- what the coordinator refuses, the machine refuses
 pub hub_refuses : (d : Draft) (programs : List Behaviour) (inputs : List Input) (w : Federation) (links : ℕ → Link) (members : ℕ → Member) (e : Event) (place q : ℕ) (refusal : Refusal) → Comes w.coordinator (ups_of links) place e → IsHandedOn coordinator_core w.coordinator e q (Refused refusal) → IsRun d programs inputs w links members

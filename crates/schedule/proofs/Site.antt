@@ -23,7 +23,7 @@ use Rattle.delivery.proofs.Places.{drop_at}
 use Rattle.delivery.proofs.Ways.{offers_same}
 use Rattle.delivery.proofs.Carried.{IsLinked, linked_back}
 use Rattle.delivery.proofs.Taken.{at_place, act_keeps}
-use Rattle.delivery.proofs.Forgotten.{AreOf, IsBlank, blank_acts, all_old}
+use Rattle.delivery.proofs.Forgotten.{AreOf, act_of, IsBlank, blank_acts, all_old}
 use Rattle.delivery.proofs.Acts.{IsHeld, first_acts, second_acts, first_in_order, second_in_order}
 use Rattle.schedule.proofs.Course.{acted, IsQuiet}
 use Rattle.schedule.proofs.Courses.{gets_frame, is_open}
@@ -35,7 +35,7 @@ node_with d programs inputs j f = record { draft = d; programs = programs; input
 
 -- a federate that kept its state is the machine's; of one that lost it the machine's is lost
 pub data Own (d : Draft) (programs : List Behaviour) (inputs : List Input) (j : ℕ) (l : Link) (m : Member) (v : FederateNode) : Type 0 where
-  keeps : l.second.end.incarnation ≡ 1 → l.second.end.closed ≡ false → m.lost ≡ false → v ≡ node_with d programs inputs j m.federate → m.down ≡ drop l.second.end.taken (offered_in 1 l.first.sent) → Own d programs inputs j l m v
+  keeps : l.second.end.incarnation ≡ 1 → l.second.end.closed ≡ false → m.lost ≡ false → v ≡ node_with d programs inputs j m.federate → m.down ≡ drop l.second.end.taken (offered_in 1 l.first.sent) → AreOf 1 l.second.sent → Own d programs inputs j l m v
   loses : 1 < l.second.end.incarnation → m.lost ≡ true → Own d programs inputs j l m v
 
 pub record IsSite (d : Draft) (programs : List Behaviour) (inputs : List Input) (j : ℕ) (l : Link) (m : Member) (v : FederateNode) : Type 0 where
@@ -84,10 +84,10 @@ with_first d programs inputs j l m v s after more site held unclosed calm offers
       up = up;
       own =
           elim site.own [
-            | keeps is opened not_lost node queue ↦
+            | keeps is opened not_lost node queue mine ↦
                 keeps is opened (lost ∙ not_lost) (node ∙ ap (node_with d programs inputs j) (sym federate))
                 (down ∙ ap (λ (x : List Signal). x ++ more) queue ∙
-                sym (ap (drop l.second.end.taken) offers ∙ drop-append-le l.second.end.taken (offered_in 1 l.first.sent) more (taken_down l site.held is)))
+                sym (ap (drop l.second.end.taken) offers ∙ drop-append-le l.second.end.taken (offered_in 1 l.first.sent) more (taken_down l site.held is))) mine
             | loses later is_lost ↦ loses later (lost ∙ is_lost)
           ];
     }
@@ -151,17 +151,22 @@ lost_second d programs inputs j l m v w acts calm later lost site =
     (calm_acted l.second l.first.sent acts calm site.ups_calm) (blank.1 ∙ sym (append-nil (offered_in 1 l.second.sent))) (sym (append-nil m.up))
     (loses blank.0.later lost)
 
+-- a side of the first incarnation sends frames of it
+pub acts_of : (s r : Side) (acts : List Act) → IsLinked 1 s r → AreOf 1 s.sent → AreOf 1 (acted s r.sent acts).sent
+acts_of s r [] l h = h
+acts_of s r (act ∷ rest) l h = acts_of (side_after s r.sent act) r rest (act_keeps 1 s r act l) (act_of 1 s r.sent act l.here h)
+
 -- quiet acts of the federate
 pub quiet_second : (d : Draft) (programs : List Behaviour) (inputs : List Input) (j : ℕ) (l : Link) (m : Member) (v : FederateNode) (acts : List Act) → AllByRecursion (IsQuiet false l.second.end.incarnation) acts → IsSite d programs inputs j l m v → IsSite d programs inputs j (record { first = l.first; second = acted l.second l.first.sent acts }) m v
 quiet_second d programs inputs j l m v acts q site =
     elim site.own [
-      | keeps is opened not_lost node queue ↦
+      | keeps is opened not_lost node queue mine ↦
           let linked = linked_back 1 l.first l.second (kept_linked l site.held is) in
           let N : ℕ → Type 0 = λ x. AllByRecursion (IsQuiet false x) acts in
           let quiet = quiet_acts false 1 l.second l.first acts (subst N is q) site.downs_calm linked in
           with_second d programs inputs j l m v (acted l.second l.first.sent acts) m v [] site (seconds_held l acts site.held)
           (quiet.calm site.ups_calm) (quiet.stays.offered ∙ sym (append-nil (offered_in 1 l.second.sent))) (sym (append-nil m.up))
-          (keeps (quiet.nothing.incarnation ∙ is) (quiet.stays.closed ∙ opened) not_lost node (queue ∙ ap (λ (x : ℕ). drop x (offered_in 1 l.first.sent)) (sym quiet.nothing.taken)))
+          (keeps (quiet.nothing.incarnation ∙ is) (quiet.stays.closed ∙ opened) not_lost node (queue ∙ ap (λ (x : ℕ). drop x (offered_in 1 l.first.sent)) (sym quiet.nothing.taken)) (acts_of l.second l.first acts linked mine))
       | loses later lost ↦ lost_second d programs inputs j l m v v acts (member_quiet_calm l.second.end.incarnation acts q) later lost site
     ]
 

@@ -125,37 +125,37 @@ goes_at_member d programs inputs w links moves step j s e place c lawful below t
           by_none d programs inputs (after_federate w j made) _ step moves (plain_told made.answer plain) (unmoved d programs inputs w links members j s e place c below there (subst N (sym node) still) run)
       | takes q m handed node plain acts ↦
           elim site.own [
-            | keeps is opened not_lost node_is queue ↦
+            | keeps is opened not_lost node_is queue frames ↦
                 by_move d programs inputs (after_federate w j made) _ step moves (ToFederate j) (plain_told made.answer plain)
-                (kept_takes d programs inputs w links members j s e place q m c below there comes handed node (acts 0) is not_lost node_is queue run)
+                (kept_takes d programs inputs w links members j s e place q m c below there comes handed node (acts 0) is not_lost node_is queue frames run)
             | loses later lost ↦ absurd (never_handed d programs inputs j (links j) (members j) s.node place handed.incarnation handed.number handed.signal q site later (handed_at w (links j) s e place q (Done m) ends comes handed))
           ]
       | notes q handed acts ↦
           elim site.own [
-            | keeps is opened not_lost node_is queue ↦
+            | keeps is opened not_lost node_is queue frames ↦
                 absurd (federate_answers n j (members j).federate handed.signal (nothing_of (member.made_by (node_with d programs inputs j (members j).federate)) _ (accepts_as d programs inputs j (members j) s.node q handed.signal Nothing node_is handed.node)))
             | loses later lost ↦ absurd (never_handed d programs inputs j (links j) (members j) s.node place handed.incarnation handed.number handed.signal q site later (handed_at w (links j) s e place q Nothing ends comes handed))
           ]
       | says m speaks node_after plain acts ↦
           elim site.own [
-            | keeps is opened not_lost node_is queue ↦
+            | keeps is opened not_lost node_is queue frames ↦
                 elim speaks [
                   | announces is_event does ↦
                       let done = done_of (member.made_by (node_with d programs inputs j (members j).federate)) (federate_announces (members j).federate) m (announces_as d programs inputs j (members j) s.node (Done m) node_is does) in
                       by_move d programs inputs (after_federate w j made) _ step moves (Announce j) (plain_told made.answer plain)
                       (kept_says d programs inputs w links members j s e place m done.0 (Announce j) c below there node_after (acts 0) done.2
-                      (announce_move n rule members j not_lost ∙ ap (with_made (λ made. with_member members j (stepped (members j) (members j).down made))) done.1) is opened not_lost queue run)
+                      (announce_move n rule members j not_lost ∙ ap (with_made (λ made. with_member members j (stepped (members j) (members j).down made))) done.1) is opened not_lost queue frames run)
                   | advances is_event does ↦
                       let done = done_of (member.made_by (node_with d programs inputs j (members j).federate)) (federate_advances n j (members j).federate) m (advances_as d programs inputs j (members j) s.node (Done m) node_is does) in
                       by_move d programs inputs (after_federate w j made) _ step moves (Advance j) (plain_told made.answer plain)
                       (kept_says d programs inputs w links members j s e place m done.0 (Advance j) c below there node_after (acts 0) done.2
-                      (advance_move n rule members j not_lost ∙ ap (with_made (λ made. with_member members j (stepped (members j) (members j).down made))) done.1) is opened not_lost queue run)
+                      (advance_move n rule members j not_lost ∙ ap (with_made (λ made. with_member members j (stepped (members j) (members j).down made))) done.1) is opened not_lost queue frames run)
                 ]
             | loses later lost ↦ lost_goes d programs inputs w links moves step j s e place m c below there plain (acts 0) later lost run
           ]
       | declines q refusal handed acts ↦
           elim site.own [
-            | keeps is opened not_lost node_is queue ↦ absurd (refuses_no d programs inputs moves (ToFederate j) refusal lawful (kept_refuses d programs inputs w links members j s e place q refusal below there comes handed is not_lost node_is queue run))
+            | keeps is opened not_lost node_is queue frames ↦ absurd (refuses_no d programs inputs moves (ToFederate j) refusal lawful (kept_refuses d programs inputs w links members j s e place q refusal below there comes handed is not_lost node_is queue run))
             | loses later lost ↦ absurd (never_handed d programs inputs j (links j) (members j) s.node place handed.incarnation handed.number handed.signal q site later (handed_at w (links j) s e place q (Refused refusal) ends comes handed))
           ]
       | cannot refusal speaks acts ↦

@@ -109,7 +109,7 @@ opening_run d programs inputs =
             ups_calm = tt;
             downs_calm = tt;
             up = refl;
-            own = keeps refl refl refl refl refl;
+            own = keeps refl refl refl refl refl tt;
           }));
     }
 
