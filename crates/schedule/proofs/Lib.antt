@@ -28,3 +28,5 @@ pub mod Taking
 pub mod InOrder
 -- No federate takes a message at a tag that it ran, or at an earlier one.
 pub mod Late
+-- Whether every signal was taken and acknowledged shows at the ends.
+pub mod Emptied

@@ -154,14 +154,14 @@ finished_rows d programs inputs steps j lawful finished below =
     subst P (sym same) every
 
 -- numbers of all signals are at most this
-abbrev Below : (incarnation most : ℕ) → Frame → Type 0
+abbrev pub Below : (incarnation most : ℕ) → Frame → Type 0
 Below i most (Hello f k n) = Unit {0}
 Below i most (Data k n signal) = k ≡ i → n ≤ most
 Below i most (Ack k n) = Unit {0}
 Below i most (Refuse k n) = Unit {0}
 
 -- then no more are offered
-few_offered : (i most : ℕ) (offered : List Signal) (frames : List Frame) → length offered ≤ most → AllByRecursion (Below i most) frames → length (offered_with i offered frames) ≤ most
+pub few_offered : (i most : ℕ) (offered : List Signal) (frames : List Frame) → length offered ≤ most → AllByRecursion (Below i most) frames → length (offered_with i offered frames) ≤ most
 few_offered i most offered [] l h = l
 few_offered i most offered (frame ∷ rest) l h = few_offered i most (with_offered i offered frame) rest (one_more frame h.0) h.1
   where
@@ -189,14 +189,14 @@ few_offered i most offered (frame ∷ rest) l h = few_offered i most (with_offer
     one_more (Ack k n) h = l
     one_more (Refuse k n) h = l
 
-none_left : {X : Type 0} (k : ℕ) (xs : List X) → length xs ≤ k → drop k xs ≡ []
+pub none_left : {X : Type 0} (k : ℕ) (xs : List X) → length xs ≤ k → drop k xs ≡ []
 none_left zero [] l = refl
 none_left zero (x ∷ xs) l = absurd (omega arith)
 none_left (suc k) [] l = refl
 none_left (suc k) (x ∷ xs) l = none_left k xs (omega arith)
 
 -- what an end took of its own incarnation
-own_number : (e : Image) → e.incarnation ≡ 1 → number_taken 1 (Some e) ≡ e.taken
+pub own_number : (e : Image) → e.incarnation ≡ 1 → number_taken 1 (Some e) ≡ e.taken
 own_number e is = ap (λ (b : Bool). if b then e.taken else 0) (one_is e.incarnation is)
   where
     one_is : (i : ℕ) → i ≡ 1 → nat_eq i 1 ≡ true

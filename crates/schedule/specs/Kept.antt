@@ -1,5 +1,5 @@
 -- Who kept its state, and when a world is stuck.
-use Rattle.std.specs.Prelude.{◌≡◌, ℕ, ◌≤◌, Bool, true, false, not, nat_eq, List, All}
+use Rattle.std.specs.Prelude.{◌≡◌, ℕ, ◌≤◌, Bool, true, false, not, nat_eq, List, [], All, IfSome}
 use Rattle.std.specs.List.{list_any}
 use Rattle.signal.specs.declared.frame.Frame.{Frame}
 use Rattle.signal.specs.declared.frame.Frame.TheVariants.{Hello, Data, Ack, Refuse}
@@ -47,3 +47,7 @@ pub record IsStuck {Hub Member HubRow Row : Type 0} (hub : Core Hub HubRow) (mem
   pub settled : (dir : Dir) → All (IsSettled w dir) (frames_in w dir)
   pub announced : (j : ℕ) → (applied hub member w (Announce j)).outcome ≡ outcome.Nothing
   pub advanced : (j : ℕ) → (applied hub member w (Advance j)).outcome ≡ outcome.Nothing
+
+-- no end keeps a signal: all that it offered is acknowledged
+abbrev pub KeepsNothing : {Hub Member : Type 0} → World Hub Member → Type 0
+KeepsNothing w = (dir : Dir) → IfSome (sender w dir) (λ e. e.kept ≡ [])

@@ -1,5 +1,5 @@
 //! What holds of the world of every federation, after any list of steps. Each function is a law: it does nothing.
-ghost use Rattle.std.specs.Prelude.{◌≡◌, ℕ, ◌<◌, true, List, ◌++◌, [], ◌∷◌};
+ghost use Rattle.std.specs.Prelude.{◌≡◌, ℕ, ◌<◌, true, List, ◌++◌, [], ◌∷◌, false, All, ◌↔◌};
 ghost use Rattle.plan.specs.declared.draft.Draft.{Draft};
 ghost use Rattle.plan.specs.declared.input.Input.{Input};
 ghost use Rattle.plan.specs.External.{AreInputsOf};
@@ -10,9 +10,11 @@ ghost use Rattle.reactor.specs.Programs.{AreProgramsOf};
 ghost use Rattle.cores.specs.FederateCore.{federate_core};
 ghost use Rattle.cores.specs.CoordinatorCore.{coordinator_core};
 ghost use Rattle.schedule.specs.declared.step.Step.{Step};
-ghost use Rattle.schedule.specs.Kept.{is_kept};
+ghost use Rattle.schedule.specs.declared.dir.Dir.{Dir};
+ghost use Rattle.schedule.specs.Kept.{is_forget, is_kept, IsSettled, KeepsNothing};
+ghost use Rattle.std.specs.List.{list_any};
 ghost use Rattle.schedule.specs.Taken.{TakesInOrder};
-ghost use Rattle.schedule.specs.World.{opened};
+ghost use Rattle.schedule.specs.World.{opened, frames_in};
 ghost use Rattle.schedule.specs.Federation.{opening_world, world_after, step_in, IsPlain, TakesNothingLate, IsBeginning, IsWhole, IsStuck, IsFinished};
 
 use node::Node;
@@ -64,4 +66,13 @@ pub fn what_is_taken_was_offered<H: Node, M: Node>()
 pub fn nothing_is_taken_late()
     ensures { (d : Draft) (programs : List Behaviour) (inputs : List Input) (steps : List Step) (j : ℕ) → IsLegal d → AreProgramsOf d programs →
         AreInputsOf d inputs → TakesNothingLate d programs inputs steps j }
+{}
+
+/// Where nobody forgot, every signal sent was taken and its acknowledgement came exactly where no end keeps a signal.
+#[tactic(none)]
+pub fn settled_shows_at_the_ends()
+    ensures { (d : Draft) (programs : List Behaviour) (inputs : List Input) (steps : List Step) → IsLegal d → AreProgramsOf d programs →
+        AreInputsOf d inputs → list_any is_forget (world_after d programs inputs steps).steps ≡ false →
+        (((dir : Dir) → All (IsSettled (world_after d programs inputs steps) dir) (frames_in (world_after d programs inputs steps) dir)) ↔
+        KeepsNothing (world_after d programs inputs steps)) }
 {}
