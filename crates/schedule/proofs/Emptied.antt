@@ -1,12 +1,11 @@
 -- Where nobody forgot, every signal sent was taken and its acknowledgement came exactly where no end keeps a signal.
-use Rattle.std.proofs.Common.{◌≡◌, ℕ, ◌+◌, ◌-◌, ◌<◌, ◌≤◌, inl, inr, Bool, true, false, List, [], ◌∷◌, length, drop, slice_get, refl, sym, ap, subst, ◌∙◌, arith, Option, None, Some, IfSome, ◌↔◌, if◌then◌else◌}
+use Rattle.std.proofs.Common.{◌≡◌, ℕ, ◌-◌, ◌<◌, ◌≤◌, inl, inr, Bool, true, false, List, [], ◌∷◌, length, drop, sym, ap, subst, ◌∙◌, arith, Option, None, Some, IfSome, ◌↔◌, if◌then◌else◌}
 use Rattle.std.specs.Prelude.{nat_eq, All}
 use Rattle.std.specs.List.{list_any, AllByRecursion}
 use Rattle.std.proofs.lemmas.Bool.{cases_lt}
 use Rattle.std.proofs.lemmas.Bool.Decides.{nat_tests}
 use Rattle.order.proofs.Lists.{each, from_each}
 use Rattle.network.specs.Tables.{IsLawfulWith}
-use Rattle.signal.specs.declared.signal.Signal.{Signal}
 use Rattle.signal.specs.declared.frame.Frame.{Frame}
 use Rattle.signal.specs.declared.frame.Frame.TheVariants.{Hello, Data, Ack, Refuse}
 use Rattle.link.specs.Image.{Image}
@@ -16,23 +15,21 @@ use Rattle.plan.specs.Federation.{federate_count}
 use Rattle.plan.specs.Least.{least_of}
 use Rattle.reactor.specs.Behaviour.{Behaviour}
 use Rattle.reactor.specs.Federation.{network_of}
-use Rattle.node.specs.Step.{Station}
 use Rattle.delivery.specs.Way.{offered_in, IsSaid}
-use Rattle.delivery.specs.Link.{Side, Link}
+use Rattle.delivery.specs.Link.{Side}
 use Rattle.delivery.proofs.Places.{length_of_rest, get_below}
 use Rattle.delivery.proofs.Ways.{AreSaid}
 use Rattle.delivery.proofs.Forgotten.{AreOf, IsOf}
-use Rattle.delivery.proofs.Carried.{IsLinked, Carried, linked_back}
+use Rattle.delivery.proofs.Carried.{IsLinked, linked_back}
 use Rattle.schedule.specs.declared.dir.Dir.{Dir}
 use Rattle.schedule.specs.declared.dir.Dir.TheVariants.{Up, Down}
 use Rattle.schedule.specs.declared.step.Step.{Step}
-use Rattle.schedule.specs.World.{World, frames_in}
+use Rattle.schedule.specs.World.{frames_in}
 use Rattle.schedule.specs.Taken.{receiver, sender, own_end, number_taken, number_acknowledged}
 use Rattle.schedule.specs.Kept.{is_forget, IsSettled, KeepsNothing}
 use Rattle.schedule.specs.Federation.{Federation, world_after}
-use Rattle.schedule.proofs.Shown.{IsShown, got, none_beyond, nothing_beyond}
+use Rattle.schedule.proofs.Shown.{got, none_beyond, nothing_beyond}
 use Rattle.schedule.proofs.Site.{kept_linked}
-use Rattle.schedule.proofs.Steps.{members_after}
 use Rattle.schedule.proofs.Worlds.{stands}
 use Rattle.schedule.proofs.InOrder.{own_is}
 use Rattle.schedule.proofs.Rows.{Below, few_offered, none_left, own_number, kept_at, all_kept}
@@ -84,9 +81,9 @@ acknowledged_below w dir most is (frame ∷ rest) h = (one frame h.0, acknowledg
     one (Hello f k n) h = tt
     one (Data k n signal) h =
         λ e. (
-            let P : ℕ → Type 0 = λ x. n ≤ number_acknowledged x (sender w dir) in
-            let Q : ℕ → Type 0 = λ x. n ≤ x in
-            subst Q is (subst P e h.1))
+        let P : ℕ → Type 0 = λ x. n ≤ number_acknowledged x (sender w dir) in
+        let Q : ℕ → Type 0 = λ x. n ≤ x in
+        subst Q is (subst P e h.1))
     one (Ack k n) h = tt
     one (Refuse k n) h = tt
 
@@ -96,10 +93,10 @@ direction_shows w dir s r d =
     let F : List Frame → Type 0 = λ x. All (IsSettled w dir) x in
     let R : List Frame → Type 0 = λ x. AllByRecursion (IsSettled w dir) x in (
       (λ settled. subst I (sym d.sending)
-      (d.linked.out.kept_is ∙
-      none_left s.end.acknowledged (offered_in 1 s.sent)
-      (few_offered 1 s.end.acknowledged [] s.sent (omega arith)
-      (acknowledged_below w dir s.end.acknowledged (ap (number_acknowledged 1) d.sending ∙ own_acknowledged s.end d.linked.here) s.sent (subst R d.frames (each (IsSettled w dir) (frames_in w dir) settled)))))),
+          (d.linked.out.kept_is ∙
+          none_left s.end.acknowledged (offered_in 1 s.sent)
+          (few_offered 1 s.end.acknowledged [] s.sent (omega arith)
+          (acknowledged_below w dir s.end.acknowledged (ap (number_acknowledged 1) d.sending ∙ own_acknowledged s.end d.linked.here) s.sent (subst R d.frames (each (IsSettled w dir) (frames_in w dir) settled)))))),
       (λ keeps. subst F (sym d.frames) (from_each (IsSettled w dir) s.sent (settled_frames w dir s r s.sent d (subst I d.sending keeps) d.own d.linked.out.said))),
     )
 

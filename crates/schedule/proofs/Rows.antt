@@ -43,12 +43,8 @@ use Rattle.cores.specs.FederateCore as member
 use Rattle.cores.specs.FederateCore.{FederateNode, federate_core}
 use Rattle.cores.specs.CoordinatorCore.{wiring_in, coordinator_core}
 use Rattle.delivery.specs.Way.{with_offered, offered_with, offered_in}
-use Rattle.delivery.specs.Link.{Link, Side}
-use Rattle.delivery.proofs.Forgotten.{AreOf, IsOf}
-use Rattle.delivery.proofs.Carried.{Carried, linked_back}
-use Rattle.delivery.proofs.Places.{length_of_rest, get_below}
-use Rattle.delivery.proofs.Ways.{AreSaid}
-use Rattle.delivery.specs.Way.{IsSaid}
+use Rattle.delivery.specs.Link.{Link}
+use Rattle.delivery.proofs.Forgotten.{AreOf}
 use Rattle.schedule.specs.declared.dir.Dir.{Dir}
 use Rattle.schedule.specs.declared.dir.Dir.TheVariants.{Up, Down}
 use Rattle.schedule.specs.declared.step.Step.{Step}
