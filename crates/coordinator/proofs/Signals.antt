@@ -30,6 +30,7 @@ use Rattle.laws.proofs.ListedStandings.{list_read}
 use Rattle.laws.proofs.Eligibility.{contains_at, between_is}
 use Rattle.order.proofs.Lists.{each_append, each, from_each}
 use Rattle.grants.specs.Wires.{Wires, network_by}
+use Rattle.grants.specs.Transit.{lesser_with}
 use Rattle.grants.specs.Records as table
 use Rattle.grants.specs.Records.{Records, AreRecords, with_looks}
 use Rattle.grants.specs.Routes.{looked_at}
@@ -334,3 +335,49 @@ ok_of (Err x) e p = let bad : ⊥ = cc in absurd bad
 pub err_of : {A E : Type 0} {P : Type 0} (result : Result A E) → is_err result ≡ true → OnErr result P → P
 err_of (Ok x) e p = let bad : ⊥ = cc in absurd bad
 err_of (Err x) e p = p
+
+-- the tests as the code makes them
+pub in_time_is : (tag g stop last : LogicalTime) (b : Bool) → g ≡ tag → last ≡ stop → b ≡ is_at_most g last → b ≡ true → is_at_most tag stop ≡ true
+in_time_is tag g stop last b same is tested so = ap (λ x. is_at_most x stop) (sym same) ∙ (ap (is_at_most g) (sym is) ∙ (sym tested ∙ so))
+
+pub next_in_time_is : (tag stop last : LogicalTime) (b : Bool) → last ≡ stop → b ≡ (is_at_most tag last || is_same tag forever) → b ≡ true → (is_at_most tag stop || is_same tag forever) ≡ true
+next_in_time_is tag stop last b is tested so = ap (λ g. is_at_most tag g || is_same tag forever) (sym is) ∙ (sym tested ∙ so)
+
+past_is : (o last : Option LogicalTime) (tag g : LogicalTime) (b : Bool) → last ≡ o → g ≡ tag → b ≡ is_past last g → b ≡ true → is_past o tag ≡ true
+past_is o last tag g b is same tested so = ap (λ x. is_past x tag) (sym is) ∙ (ap (is_past last) (sym same) ∙ (sym tested ∙ so))
+
+pub net_passed : (r t u : Records) (i : ℕ) (tag next stop : LogicalTime) (transit completed : Option LogicalTime) (in_time rising : Bool) → AreRecords r → IsSettled r → i < r.wires.federates →
+    stop ≡ r.wires.stop → in_time ≡ (is_at_most tag stop || is_same tag forever) → in_time ≡ true →
+    completed ≡ (standing_at r.standings i).completed → rising ≡ is_past completed tag → rising ≡ true →
+    ((g : LogicalTime) → least_with g (standing_at r.standings i).transit ≡ lesser_with g transit) → next ≡ lesser_with tag transit →
+    t ≡ with_looks (table.with_standing r i (record (standing_at r.standings i) { next = next })) t.looks →
+    u ≡ with_looks (table.with_standing t i (record (standing_at t.standings i) { announced = true })) u.looks →
+    IsTaken r u i i (Net tag) (noted (standing_at r.standings) i (after_net (standing_at r.standings i) tag)) (after_net (standing_at r.standings i) tag) (after_net (standing_at r.standings i) tag)
+net_passed r t u i tag next stop transit completed in_time rising are settled there stop_is tested so completed_is risen past least next_is one two =
+    net_taken r t u i t.looks u.looks tag next are settled there (next_in_time_is tag r.wires.stop stop in_time stop_is tested so)
+    (past_is (standing_at r.standings i).completed completed tag tag rising completed_is refl risen past) (next_is ∙ sym (least tag)) one two
+
+pub ltc_passed : (r t : Records) (i : ℕ) (tag g h stop : LogicalTime) (completed : Option LogicalTime) (in_time rising : Bool) → AreRecords r → IsSettled r → i < r.wires.federates →
+    g ≡ tag → stop ≡ r.wires.stop → in_time ≡ is_at_most g stop → in_time ≡ true →
+    completed ≡ (standing_at r.standings i).completed → h ≡ tag → rising ≡ is_past completed h → rising ≡ true →
+    t ≡ with_looks (table.with_standing r i (record (standing_at r.standings i) { completed = Some tag })) t.looks →
+    IsTaken r t i i (Ltc tag) (noted (standing_at r.standings) i (after_ltc (standing_at r.standings i) tag)) (record (standing_at r.standings i) { completed = Some tag }) (after_ltc (standing_at r.standings i) tag)
+ltc_passed r t i tag g h stop completed in_time rising are settled there g_is stop_is tested so completed_is h_is risen past one =
+    ltc_taken r t i t.looks tag are settled there (in_time_is tag g r.wires.stop stop in_time g_is stop_is tested so)
+    (past_is (standing_at r.standings i).completed completed tag h rising completed_is h_is risen past) one
+
+pub message_passed : (r t : Records) (i j number source : ℕ) (value : ℤ) (tag g h k next least stop : LogicalTime) (granted : Option LogicalTime) (over : Option Connection) (c : Connection) (in_time later : Bool) → AreRecords r → IsSettled r →
+    over ≡ slice_get r.wires.connections number → over ≡ Some c → source ≡ c.source → source ≡ i → j ≡ c.target →
+    g ≡ tag → stop ≡ r.wires.stop → in_time ≡ is_at_most g stop → in_time ≡ true →
+    granted ≡ (standing_at r.standings j).granted → h ≡ tag → later ≡ is_past granted h → later ≡ true →
+    next ≡ (standing_at r.standings j).next → k ≡ tag → least ≡ lesser next k →
+    t ≡ with_looks (table.with_standing r j (record (standing_at r.standings j) { next = least })) t.looks →
+    IsTaken r t i j (Msg number tag value) (routed (standing_at r.standings) (Msg number tag value) j tag) (record (standing_at r.standings j) { next = lesser (standing_at r.standings j).next tag }) (after_message (standing_at r.standings j) tag)
+message_passed r t i j number source value tag g h k next least stop granted over c in_time later are settled at found source_is own target g_is stop_is tested so granted_is h_is reached past next_is k_is least_is one =
+    let same : c.source ≡ i = sym source_is ∙ own in
+    let owned : nat_eq c.source i ≡ true = grind (arith, nat_tests) in
+    message_taken r t i j t.looks (Msg number tag value) tag least are settled (target_is_there r number j over c are at found target)
+    (ap (λ o. route (network_by r.wires) (standing_at r.standings) i (Msg number tag value) o tag) (sym at) ∙
+    route_takes (network_by r.wires) (standing_at r.standings) i j (Msg number tag value) over c tag found target owned
+    (in_time_is tag g r.wires.stop stop in_time g_is stop_is tested so) (past_is (standing_at r.standings j).granted granted tag h later granted_is h_is reached past))
+    (least_is ∙ (ap (λ x. lesser x k) next_is ∙ ap (lesser (standing_at r.standings j).next) k_is)) one

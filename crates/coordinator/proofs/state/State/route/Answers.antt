@@ -1,29 +1,21 @@
-use Rattle.std.proofs.Common.{◌≡◌, ◌<◌, ◌++◌, ◌∷◌, [], true, ◌∙◌, sym, ap, refl, arith}
-use Rattle.std.specs.Prelude.{nat_eq}
-use Rattle.std.proofs.lemmas.Bool.Decides.{nat_tests}
-use Rattle.tag.specs.LogicalTime.{is_at_most, lesser}
-use Rattle.protocol.specs.Federate.{is_past}
-use Rattle.protocol.specs.Outcome.{Done}
+use Rattle.std.proofs.Common.{◌≡◌, ◌<◌, ◌++◌, ◌∷◌, [], ◌∙◌, sym, ap, refl}
+use Rattle.tag.specs.LogicalTime.{lesser}
 use Rattle.protocol.specs.Standing.{after_message}
 use Rattle.protocol.specs.Standings.{standing_at}
-use Rattle.protocol.specs.Coordinator.{route, coordinator_takes}
 use Rattle.signal.specs.declared.signal.Signal.TheVariants.{Msg}
 use Rattle.node.specs.Mail.{lacks_room}
-use Rattle.grants.specs.Wires.{network_by}
 use Rattle.grants.specs.Routes.{looked_at}
 use Rattle.coordinator.specs.Sending.{grants_in}
 use Rattle.std.proofs.Common.{w64, to_z, of_z}
 use Rattle.std.proofs.lemmas.Int.{to_z-of_z}
 use Rattle.node.specs.declared.fault.NodeFault.TheVariants as fault
-use Rattle.coordinator.proofs.Signals.{ok_of, err_of, routed, route_takes, target_is_there, message_taken, message_added, message_back, finished_step, failed_step, message_first, peers_are_there}
+use Rattle.coordinator.proofs.Signals.{ok_of, err_of, routed, target_is_there, message_passed, message_added, message_back, finished_step, failed_step, message_first, peers_are_there}
 use Rattle.coordinator.proofs.state.State.route.Goals as goal
 
 pub prepare-requires : goal.prepare-requires
 prepare-requires c =
     let r = c.args.self.now.table in
     let j = c.target-target.result in
-    let s = standing_at r.standings j in
-    let message = Msg c.args.number c.args.tag c.args.value in
     let there = target_is_there r c.args.number j c.args.over c.in-Some.connection c.known.ensures c.requires.over c.in-Some.is c.target-target.ensures in
     rw (ap (λ x. x.wires.federates) c.set_next.ensures.value) there
 
@@ -31,8 +23,6 @@ pub set_next-requires-in-Err : goal.set_next-requires-in-Err
 set_next-requires-in-Err c =
     let r = c.args.self.now.table in
     let j = c.target-target.result in
-    let s = standing_at r.standings j in
-    let message = Msg c.args.number c.args.tag c.args.value in
     let there = target_is_there r c.args.number j c.args.over c.in-Some.connection c.known.ensures c.requires.over c.in-Some.is c.target-target.ensures in
     rw (ap (λ x. x.wires.federates) c.set_next.ensures.value) there
 
@@ -40,8 +30,6 @@ pub add_transit-requires : goal.add_transit-requires
 add_transit-requires c =
     let r = c.args.self.now.table in
     let j = c.target-target.result in
-    let s = standing_at r.standings j in
-    let message = Msg c.args.number c.args.tag c.args.value in
     let there = target_is_there r c.args.number j c.args.over c.in-Some.connection c.known.ensures c.requires.over c.in-Some.is c.target-target.ensures in
     rw (ap (λ x. x.wires.federates) c.set_next.ensures.value) there
 
@@ -49,8 +37,6 @@ pub set_next-requires-then-is_err : goal.set_next-requires-then-is_err
 set_next-requires-then-is_err c =
     let r = c.args.self.now.table in
     let j = c.target-target.result in
-    let s = standing_at r.standings j in
-    let message = Msg c.args.number c.args.tag c.args.value in
     let there = target_is_there r c.args.number j c.args.over c.in-Some.connection c.known.ensures c.requires.over c.in-Some.is c.target-target.ensures in
     let same = err_of c.add_transit.result (sym c.is_err.ensures.value ∙ c.if-is_err.true) c.add_transit.ensures.err in
     rw (ap (λ x. x.wires.federates) same, ap (λ x. x.wires.federates) c.set_next.ensures.value) there
@@ -62,19 +48,10 @@ returns-in-Err c =
     let s = standing_at r.standings j in
     let message = Msg c.args.number c.args.tag c.args.value in
     let there = target_is_there r c.args.number j c.args.over c.in-Some.connection c.known.ensures c.requires.over c.in-Some.is c.target-target.ensures in
-    let source : c.in-Some.connection.source ≡ c.args.peer = sym c.source.ensures ∙ c.if-source-peer.false in
-    let own : nat_eq c.in-Some.connection.source c.args.peer ≡ true = grind (arith, nat_tests) in
-    let in_time : is_at_most c.args.tag c.args.self.now.table.wires.stop ≡ true =
-    ap (λ g. is_at_most g c.args.self.now.table.wires.stop) (sym c.tag.ensures) ∙ (ap (is_at_most c.tag.result) (sym c.stop.ensures) ∙ (sym c.is_in_time.ensures ∙ c.if-not-is_in_time.false)) in
-    let later : is_past (standing_at c.args.self.now.table.standings c.target-target.result).granted c.args.tag ≡ true =
-    ap (λ o. is_past o c.args.tag) (sym c.granted.ensures) ∙ (ap (is_past c.granted.result) (sym c.tag-2.ensures) ∙ (sym c.is_past.ensures ∙ c.if-not-is_past.false)) in
-    let takes = route_takes (network_by r.wires) (standing_at r.standings) c.args.peer j message c.args.over c.in-Some.connection c.args.tag c.in-Some.is c.target-target.ensures own in_time later in
-    let whole : coordinator_takes (network_by c.args.self.now.table.wires) (standing_at c.args.self.now.table.standings) c.args.peer (Msg c.args.number c.args.tag c.args.value) ≡
-    Done (routed (standing_at c.args.self.now.table.standings) (Msg c.args.number c.args.tag c.args.value) c.target-target.result c.args.tag) =
-    ap (λ o. route (network_by r.wires) (standing_at r.standings) c.args.peer message o c.args.tag) (sym c.requires.over) ∙ takes in
-    let next : c.lesser.result ≡ lesser (standing_at c.args.self.now.table.standings c.target-target.result).next c.args.tag =
-    c.lesser.ensures ∙ (ap (λ g. lesser g c.tag-3.result) c.next-next.ensures ∙ ap (lesser s.next) c.tag-3.ensures) in
-    let taken = message_taken r c.set_next.new.self c.args.peer j c.set_next.new.self.looks message c.args.tag c.lesser.result c.known.ensures c.requires.settled there whole next c.set_next.ensures.value in
+    let taken = message_passed r c.set_next.new.self c.args.peer j c.args.number c.source.result c.args.value c.args.tag c.tag.result c.tag-2.result c.tag-3.result c.next-next.result c.lesser.result c.stop.result
+    c.granted.result c.args.over c.in-Some.connection c.is_in_time.result c.is_past.result c.known.ensures c.requires.settled c.requires.over c.in-Some.is c.source.ensures c.if-source-peer.false c.target-target.ensures
+    c.tag.ensures c.stop.ensures c.is_in_time.ensures c.if-not-is_in_time.false c.granted.ensures c.tag-2.ensures c.is_past.ensures c.if-not-is_past.false c.next-next.ensures c.tag-3.ensures c.lesser.ensures
+    c.set_next.ensures.value in
     let first = c.in_ok-push.ensures.items ∙
     (ap (λ xs. xs ++ record { peer = j; signal = Msg c.args.number c.args.tag (to_z w64 (of_z w64 c.args.value)) } ∷ []) c.clear.ensures.items ∙
     ap (λ v. record { peer = c.target-target.result; signal = Msg c.args.number c.args.tag v } ∷ []) (to_z-of_z w64 c.args.value c.ranges.value)) in
@@ -91,19 +68,10 @@ returns-then-is_err c =
     let s = standing_at r.standings j in
     let message = Msg c.args.number c.args.tag c.args.value in
     let there = target_is_there r c.args.number j c.args.over c.in-Some.connection c.known.ensures c.requires.over c.in-Some.is c.target-target.ensures in
-    let source : c.in-Some.connection.source ≡ c.args.peer = sym c.source.ensures ∙ c.if-source-peer.false in
-    let own : nat_eq c.in-Some.connection.source c.args.peer ≡ true = grind (arith, nat_tests) in
-    let in_time : is_at_most c.args.tag c.args.self.now.table.wires.stop ≡ true =
-    ap (λ g. is_at_most g c.args.self.now.table.wires.stop) (sym c.tag.ensures) ∙ (ap (is_at_most c.tag.result) (sym c.stop.ensures) ∙ (sym c.is_in_time.ensures ∙ c.if-not-is_in_time.false)) in
-    let later : is_past (standing_at c.args.self.now.table.standings c.target-target.result).granted c.args.tag ≡ true =
-    ap (λ o. is_past o c.args.tag) (sym c.granted.ensures) ∙ (ap (is_past c.granted.result) (sym c.tag-2.ensures) ∙ (sym c.is_past.ensures ∙ c.if-not-is_past.false)) in
-    let takes = route_takes (network_by r.wires) (standing_at r.standings) c.args.peer j message c.args.over c.in-Some.connection c.args.tag c.in-Some.is c.target-target.ensures own in_time later in
-    let whole : coordinator_takes (network_by c.args.self.now.table.wires) (standing_at c.args.self.now.table.standings) c.args.peer (Msg c.args.number c.args.tag c.args.value) ≡
-    Done (routed (standing_at c.args.self.now.table.standings) (Msg c.args.number c.args.tag c.args.value) c.target-target.result c.args.tag) =
-    ap (λ o. route (network_by r.wires) (standing_at r.standings) c.args.peer message o c.args.tag) (sym c.requires.over) ∙ takes in
-    let next : c.lesser.result ≡ lesser (standing_at c.args.self.now.table.standings c.target-target.result).next c.args.tag =
-    c.lesser.ensures ∙ (ap (λ g. lesser g c.tag-3.result) c.next-next.ensures ∙ ap (lesser s.next) c.tag-3.ensures) in
-    let taken = message_taken r c.set_next.new.self c.args.peer j c.set_next.new.self.looks message c.args.tag c.lesser.result c.known.ensures c.requires.settled there whole next c.set_next.ensures.value in
+    let taken = message_passed r c.set_next.new.self c.args.peer j c.args.number c.source.result c.args.value c.args.tag c.tag.result c.tag-2.result c.tag-3.result c.next-next.result c.lesser.result c.stop.result
+    c.granted.result c.args.over c.in-Some.connection c.is_in_time.result c.is_past.result c.known.ensures c.requires.settled c.requires.over c.in-Some.is c.source.ensures c.if-source-peer.false c.target-target.ensures
+    c.tag.ensures c.stop.ensures c.is_in_time.ensures c.if-not-is_in_time.false c.granted.ensures c.tag-2.ensures c.is_past.ensures c.if-not-is_past.false c.next-next.ensures c.tag-3.ensures c.lesser.ensures
+    c.set_next.ensures.value in
     let first = c.in_ok-push.ensures.items ∙
     (ap (λ xs. xs ++ record { peer = j; signal = Msg c.args.number c.args.tag (to_z w64 (of_z w64 c.args.value)) } ∷ []) c.clear.ensures.items ∙
     ap (λ v. record { peer = c.target-target.result; signal = Msg c.args.number c.args.tag v } ∷ []) (to_z-of_z w64 c.args.value c.ranges.value)) in
@@ -136,19 +104,10 @@ returns c =
     let s = standing_at r.standings j in
     let message = Msg c.args.number c.args.tag c.args.value in
     let there = target_is_there r c.args.number j c.args.over c.in-Some.connection c.known.ensures c.requires.over c.in-Some.is c.target-target.ensures in
-    let source : c.in-Some.connection.source ≡ c.args.peer = sym c.source.ensures ∙ c.if-source-peer.false in
-    let own : nat_eq c.in-Some.connection.source c.args.peer ≡ true = grind (arith, nat_tests) in
-    let in_time : is_at_most c.args.tag c.args.self.now.table.wires.stop ≡ true =
-    ap (λ g. is_at_most g c.args.self.now.table.wires.stop) (sym c.tag.ensures) ∙ (ap (is_at_most c.tag.result) (sym c.stop.ensures) ∙ (sym c.is_in_time.ensures ∙ c.if-not-is_in_time.false)) in
-    let later : is_past (standing_at c.args.self.now.table.standings c.target-target.result).granted c.args.tag ≡ true =
-    ap (λ o. is_past o c.args.tag) (sym c.granted.ensures) ∙ (ap (is_past c.granted.result) (sym c.tag-2.ensures) ∙ (sym c.is_past.ensures ∙ c.if-not-is_past.false)) in
-    let takes = route_takes (network_by r.wires) (standing_at r.standings) c.args.peer j message c.args.over c.in-Some.connection c.args.tag c.in-Some.is c.target-target.ensures own in_time later in
-    let whole : coordinator_takes (network_by c.args.self.now.table.wires) (standing_at c.args.self.now.table.standings) c.args.peer (Msg c.args.number c.args.tag c.args.value) ≡
-    Done (routed (standing_at c.args.self.now.table.standings) (Msg c.args.number c.args.tag c.args.value) c.target-target.result c.args.tag) =
-    ap (λ o. route (network_by r.wires) (standing_at r.standings) c.args.peer message o c.args.tag) (sym c.requires.over) ∙ takes in
-    let next : c.lesser.result ≡ lesser (standing_at c.args.self.now.table.standings c.target-target.result).next c.args.tag =
-    c.lesser.ensures ∙ (ap (λ g. lesser g c.tag-3.result) c.next-next.ensures ∙ ap (lesser s.next) c.tag-3.ensures) in
-    let taken = message_taken r c.set_next.new.self c.args.peer j c.set_next.new.self.looks message c.args.tag c.lesser.result c.known.ensures c.requires.settled there whole next c.set_next.ensures.value in
+    let taken = message_passed r c.set_next.new.self c.args.peer j c.args.number c.source.result c.args.value c.args.tag c.tag.result c.tag-2.result c.tag-3.result c.next-next.result c.lesser.result c.stop.result
+    c.granted.result c.args.over c.in-Some.connection c.is_in_time.result c.is_past.result c.known.ensures c.requires.settled c.requires.over c.in-Some.is c.source.ensures c.if-source-peer.false c.target-target.ensures
+    c.tag.ensures c.stop.ensures c.is_in_time.ensures c.if-not-is_in_time.false c.granted.ensures c.tag-2.ensures c.is_past.ensures c.if-not-is_past.false c.next-next.ensures c.tag-3.ensures c.lesser.ensures
+    c.set_next.ensures.value in
     let first = c.in_ok-push.ensures.items ∙
     (ap (λ xs. xs ++ record { peer = j; signal = Msg c.args.number c.args.tag (to_z w64 (of_z w64 c.args.value)) } ∷ []) c.clear.ensures.items ∙
     ap (λ v. record { peer = c.target-target.result; signal = Msg c.args.number c.args.tag v } ∷ []) (to_z-of_z w64 c.args.value c.ranges.value)) in

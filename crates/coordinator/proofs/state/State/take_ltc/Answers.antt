@@ -1,6 +1,4 @@
-use Rattle.std.proofs.Common.{◌≡◌, ◌<◌, ◌≤◌, ◌++◌, [], true, Some, ◌∙◌, sym, ap, arith}
-use Rattle.tag.specs.LogicalTime.{is_at_most}
-use Rattle.protocol.specs.Federate.{is_past}
+use Rattle.std.proofs.Common.{◌<◌, ◌≤◌, ◌++◌, [], Some, ◌∙◌, sym, ap, arith}
 use Rattle.protocol.specs.Standing.{after_ltc}
 use Rattle.protocol.specs.Standings.{standing_at}
 use Rattle.protocol.specs.Coordinator.{noted}
@@ -8,14 +6,13 @@ use Rattle.signal.specs.declared.signal.Signal.TheVariants.{Ltc}
 use Rattle.node.specs.Mail.{lacks_room}
 use Rattle.grants.specs.Routes.{looked_at}
 use Rattle.coordinator.specs.Sending.{grants_in}
-use Rattle.coordinator.proofs.Signals.{stranger_ltc, ltc_taken, ltc_dropped, ltc_back, finished_step, failed_step, nothing_first, peers_are_there}
+use Rattle.coordinator.proofs.Signals.{stranger_ltc, in_time_is, ltc_passed, ltc_dropped, ltc_back, finished_step, failed_step, nothing_first, peers_are_there}
 use Rattle.coordinator.proofs.state.State.take_ltc.Goals as goal
 
 pub returns-then-peer-federates : goal.returns-then-peer-federates
 returns-then-peer-federates c =
     let l : c.args.self.now.table.wires.federates ≤ c.args.peer = omega arith in
-    let in_time : is_at_most c.args.tag c.args.self.now.table.wires.stop ≡ true =
-    ap (λ g. is_at_most g c.args.self.now.table.wires.stop) (sym c.tag.ensures) ∙ (ap (is_at_most c.tag.result) (sym c.stop.ensures) ∙ (sym c.is_in_time.ensures ∙ c.if-not-is_in_time.false)) in
+    let in_time = in_time_is c.args.tag c.tag.result c.args.self.now.table.wires.stop c.stop.result c.is_in_time.result c.tag.ensures c.stop.ensures c.is_in_time.ensures c.if-not-is_in_time.false in
     stranger_ltc c.args.self.now.table c.args.outbox.now.mail c.args.peer c.args.tag c.known.ensures c.requires.settled l in_time
 
 pub returns-in-Err : goal.returns-in-Err
@@ -23,11 +20,8 @@ returns-in-Err c =
     let r = c.args.self.now.table in
     let s = standing_at r.standings c.args.peer in
     let there : c.args.peer < c.args.self.now.table.wires.federates = omega arith in
-    let in_time : is_at_most c.args.tag c.args.self.now.table.wires.stop ≡ true =
-    ap (λ g. is_at_most g c.args.self.now.table.wires.stop) (sym c.tag.ensures) ∙ (ap (is_at_most c.tag.result) (sym c.stop.ensures) ∙ (sym c.is_in_time.ensures ∙ c.if-not-is_in_time.false)) in
-    let rising : is_past (standing_at c.args.self.now.table.standings c.args.peer).completed c.args.tag ≡ true =
-    ap (λ o. is_past o c.args.tag) (sym c.completed.ensures) ∙ (ap (is_past c.completed.result) (sym c.tag-2.ensures) ∙ (sym c.is_past.ensures ∙ c.if-not-is_past.false)) in
-    let taken = ltc_taken r c.set_completed.new.self c.args.peer c.set_completed.new.self.looks c.args.tag c.known.ensures c.requires.settled there in_time rising c.set_completed.ensures.value in
+    let taken = ltc_passed r c.set_completed.new.self c.args.peer c.args.tag c.tag.result c.tag-2.result c.stop.result c.completed.result c.is_in_time.result c.is_past.result c.known.ensures c.requires.settled there
+    c.tag.ensures c.stop.ensures c.is_in_time.ensures c.if-not-is_in_time.false c.completed.ensures c.tag-2.ensures c.is_past.ensures c.if-not-is_past.false c.set_completed.ensures.value in
     let back = ltc_back r c.set_completed.new.self c.set_completed-in-Err.new.self c.args.peer c.set_completed-in-Err.new.self.looks c.args.tag c.completed-completed.result c.known.ensures there taken.wires taken.standings
     c.completed-completed.ensures c.set_completed-in-Err.ensures.value in
     failed_step r c.set_completed.new.self c.set_completed-in-Err.new.self c.args.outbox.now.mail c.prepare.new.outbox.mail c.args.peer c.args.peer (Ltc c.args.tag)
@@ -45,11 +39,8 @@ returns c =
     let r = c.args.self.now.table in
     let s = standing_at r.standings c.args.peer in
     let there : c.args.peer < c.args.self.now.table.wires.federates = omega arith in
-    let in_time : is_at_most c.args.tag c.args.self.now.table.wires.stop ≡ true =
-    ap (λ g. is_at_most g c.args.self.now.table.wires.stop) (sym c.tag.ensures) ∙ (ap (is_at_most c.tag.result) (sym c.stop.ensures) ∙ (sym c.is_in_time.ensures ∙ c.if-not-is_in_time.false)) in
-    let rising : is_past (standing_at c.args.self.now.table.standings c.args.peer).completed c.args.tag ≡ true =
-    ap (λ o. is_past o c.args.tag) (sym c.completed.ensures) ∙ (ap (is_past c.completed.result) (sym c.tag-2.ensures) ∙ (sym c.is_past.ensures ∙ c.if-not-is_past.false)) in
-    let taken = ltc_taken r c.set_completed.new.self c.args.peer c.set_completed.new.self.looks c.args.tag c.known.ensures c.requires.settled there in_time rising c.set_completed.ensures.value in
+    let taken = ltc_passed r c.set_completed.new.self c.args.peer c.args.tag c.tag.result c.tag-2.result c.stop.result c.completed.result c.is_in_time.result c.is_past.result c.known.ensures c.requires.settled there
+    c.tag.ensures c.stop.ensures c.is_in_time.ensures c.if-not-is_in_time.false c.completed.ensures c.tag-2.ensures c.is_past.ensures c.if-not-is_past.false c.set_completed.ensures.value in
     let dropped = ltc_dropped r c.set_completed.new.self c.drop_transit.new.self c.args.peer c.args.tag c.known.ensures there taken.wires taken.standings c.drop_transit.ensures in
     finished_step r c.set_completed.new.self c.drop_transit.new.self c.send.new.table c.args.outbox.now.mail c.prepare.new.outbox.mail c.send.new.outbox.mail c.args.peer c.args.peer (Ltc c.args.tag)
     (noted (standing_at r.standings) c.args.peer (after_ltc s c.args.tag)) (record s { completed = Some c.args.tag }) (after_ltc s c.args.tag) c.clear.new.self.items c.as_slice.result.now taken c.clear.ensures.items nothing_first

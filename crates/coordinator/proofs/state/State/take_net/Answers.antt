@@ -1,7 +1,4 @@
-use Rattle.std.proofs.Common.{◌≡◌, ◌<◌, true, ◌∙◌, sym, ap, refl, arith, []}
-use Rattle.std.specs.Prelude.{◌||◌}
-use Rattle.tag.specs.LogicalTime.{forever, is_at_most, is_same}
-use Rattle.protocol.specs.Federate.{is_past}
+use Rattle.std.proofs.Common.{◌<◌, ◌∙◌, ap, refl, arith, []}
 use Rattle.protocol.specs.Standing.{after_net}
 use Rattle.protocol.specs.Standings.{standing_at}
 use Rattle.protocol.specs.Coordinator.{noted}
@@ -10,14 +7,13 @@ use Rattle.std.proofs.Common.{◌≤◌, ◌++◌}
 use Rattle.node.specs.Mail.{lacks_room}
 use Rattle.grants.specs.Routes.{looked_at}
 use Rattle.coordinator.specs.Sending.{grants_in}
-use Rattle.coordinator.proofs.Signals.{stranger_net, net_taken, net_back, finished_step, failed_step, nothing_first, peers_are_there}
+use Rattle.coordinator.proofs.Signals.{stranger_net, next_in_time_is, net_passed, net_back, finished_step, failed_step, nothing_first, peers_are_there}
 use Rattle.coordinator.proofs.state.State.take_net.Goals as goal
 
 pub returns-then-peer-federates : goal.returns-then-peer-federates
 returns-then-peer-federates c =
     let l : c.args.self.now.table.wires.federates ≤ c.args.peer = omega arith in
-    let in_time : (is_at_most c.args.tag c.args.self.now.table.wires.stop || is_same c.args.tag forever) ≡ true =
-    ap (λ g. is_at_most c.args.tag g || is_same c.args.tag forever) (sym c.stop.ensures) ∙ (sym c.is_next_in_time.ensures ∙ c.if-not-is_next_in_time.false) in
+    let in_time = next_in_time_is c.args.tag c.args.self.now.table.wires.stop c.stop.result c.is_next_in_time.result c.stop.ensures c.is_next_in_time.ensures c.if-not-is_next_in_time.false in
     stranger_net c.args.self.now.table c.args.outbox.now.mail c.args.peer c.args.tag c.known.ensures c.requires.settled l in_time
 
 pub returns-in-Err : goal.returns-in-Err
@@ -25,12 +21,9 @@ returns-in-Err c =
     let r = c.args.self.now.table in
     let s = standing_at r.standings c.args.peer in
     let there : c.args.peer < c.args.self.now.table.wires.federates = omega arith in
-    let in_time : (is_at_most c.args.tag c.args.self.now.table.wires.stop || is_same c.args.tag forever) ≡ true =
-    ap (λ g. is_at_most c.args.tag g || is_same c.args.tag forever) (sym c.stop.ensures) ∙ (sym c.is_next_in_time.ensures ∙ c.if-not-is_next_in_time.false) in
-    let rising : is_past (standing_at c.args.self.now.table.standings c.args.peer).completed c.args.tag ≡ true =
-    ap (λ o. is_past o c.args.tag) (sym c.completed.ensures) ∙ (sym c.is_past.ensures ∙ c.if-not-is_past.false) in
-    let taken = net_taken r c.set_next.new.self c.set_announced.new.self c.args.peer c.set_next.new.self.looks c.set_announced.new.self.looks c.args.tag c.lesser_with-least.result
-    c.known.ensures c.requires.settled there in_time rising (c.lesser_with-least.ensures ∙ sym (c.least_transit.ensures.least c.args.tag)) c.set_next.ensures.value c.set_announced.ensures.value in
+    let taken = net_passed r c.set_next.new.self c.set_announced.new.self c.args.peer c.args.tag c.lesser_with-least.result c.stop.result c.least_transit.result c.completed.result c.is_next_in_time.result c.is_past.result
+    c.known.ensures c.requires.settled there c.stop.ensures c.is_next_in_time.ensures c.if-not-is_next_in_time.false c.completed.ensures c.is_past.ensures c.if-not-is_past.false c.least_transit.ensures.least
+    c.lesser_with-least.ensures c.set_next.ensures.value c.set_announced.ensures.value in
     let back = net_back r c.set_announced.new.self c.set_announced-in-Err.new.self c.set_next-in-Err.new.self c.args.peer c.set_announced-in-Err.new.self.looks c.set_next-in-Err.new.self.looks
     c.announced-announced.result c.next-next.result (after_net s c.args.tag) c.known.ensures there taken.wires taken.standings refl c.announced-announced.ensures c.next-next.ensures
     c.set_announced-in-Err.ensures.value c.set_next-in-Err.ensures.value in
@@ -48,12 +41,9 @@ returns c =
     let r = c.args.self.now.table in
     let s = standing_at r.standings c.args.peer in
     let there : c.args.peer < c.args.self.now.table.wires.federates = omega arith in
-    let in_time : (is_at_most c.args.tag c.args.self.now.table.wires.stop || is_same c.args.tag forever) ≡ true =
-    ap (λ g. is_at_most c.args.tag g || is_same c.args.tag forever) (sym c.stop.ensures) ∙ (sym c.is_next_in_time.ensures ∙ c.if-not-is_next_in_time.false) in
-    let rising : is_past (standing_at c.args.self.now.table.standings c.args.peer).completed c.args.tag ≡ true =
-    ap (λ o. is_past o c.args.tag) (sym c.completed.ensures) ∙ (sym c.is_past.ensures ∙ c.if-not-is_past.false) in
-    let taken = net_taken r c.set_next.new.self c.set_announced.new.self c.args.peer c.set_next.new.self.looks c.set_announced.new.self.looks c.args.tag c.lesser_with-least.result
-    c.known.ensures c.requires.settled there in_time rising (c.lesser_with-least.ensures ∙ sym (c.least_transit.ensures.least c.args.tag)) c.set_next.ensures.value c.set_announced.ensures.value in
+    let taken = net_passed r c.set_next.new.self c.set_announced.new.self c.args.peer c.args.tag c.lesser_with-least.result c.stop.result c.least_transit.result c.completed.result c.is_next_in_time.result c.is_past.result
+    c.known.ensures c.requires.settled there c.stop.ensures c.is_next_in_time.ensures c.if-not-is_next_in_time.false c.completed.ensures c.is_past.ensures c.if-not-is_past.false c.least_transit.ensures.least
+    c.lesser_with-least.ensures c.set_next.ensures.value c.set_announced.ensures.value in
     finished_step r c.set_announced.new.self c.set_announced.new.self c.send.new.table c.args.outbox.now.mail c.prepare.new.outbox.mail c.send.new.outbox.mail c.args.peer c.args.peer (Net c.args.tag)
     (noted (standing_at r.standings) c.args.peer (after_net s c.args.tag)) (after_net s c.args.tag) (after_net s c.args.tag) c.clear.new.self.items c.as_slice.result.now taken c.clear.ensures.items nothing_first
     taken.wires taken.standings (c.as_slice.ensures.value ∙ c.in_default.ensures.posts) c.prepare.ensures.mail
