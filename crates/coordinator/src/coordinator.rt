@@ -70,6 +70,7 @@ impl<'a> Node for Coordinator<'a> {
         signal: Signal,
         outbox: &mut Outbox,
     ) -> Result<bool, NodeFault> {
+        // For the prover: tags are tags, and least delays are least over all paths.
         known(&signal);
         self.state.table.known();
         self.state.take(self.plan, peer, &signal, outbox)

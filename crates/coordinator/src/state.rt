@@ -1,11 +1,10 @@
-ghost use Rattle.std.specs.Prelude.{◌≡◌, ◌<◌, ◌&&◌};
-ghost use Rattle.protocol.specs.Standings.{standing_at, is_finished};
-ghost use Rattle.grants.specs.Wires.{network_by};
+ghost use Rattle.std.specs.Prelude.{◌≡◌, ◌<◌, ◌&&◌, slice_get};
 ghost use Rattle.tag.specs.LogicalTime.{forever, is_same};
 ghost use Rattle.signal.specs.declared.signal.Signal.TheVariants as signals;
+ghost use Rattle.protocol.specs.Standings.{standing_at, is_finished};
 ghost use Rattle.plan.specs.Federation.{connections_of};
+ghost use Rattle.grants.specs.Wires.{network_by};
 ghost use Rattle.coordinator.specs.Steps.{IsSettled, IsStep};
-ghost use Rattle.std.specs.Prelude.{slice_get};
 
 use crate::sending::{prepare, send};
 use crate::tags::{is_in_time, is_next_in_time, is_past, lesser, lesser_with};
@@ -68,10 +67,12 @@ impl State {
         requires settled { IsSettled self.old.table }
         ensures { IsStep self.old.table self.new.table outbox.old.mail outbox.new.mail result peer (signals.Net tag) }
     {
+        // For the prover: a standing for each federate, and connections between federates that are there.
         self.table.known();
         if !is_next_in_time(tag, self.table.stop()) {
             return Err(NodeFault::Refused(Refusal::AfterStop));
         }
+        // Nobody became eligible by a signal of a federate that isn't there.
         if peer >= self.table.federates() {
             return Ok(true);
         }
@@ -103,10 +104,12 @@ impl State {
         requires settled { IsSettled self.old.table }
         ensures { IsStep self.old.table self.new.table outbox.old.mail outbox.new.mail result peer (signals.Ltc tag) }
     {
+        // For the prover: a standing for each federate, and connections between federates that are there.
         self.table.known();
         if !is_in_time(tag.tag(), self.table.stop()) {
             return Err(NodeFault::Refused(Refusal::AfterStop));
         }
+        // Nobody became eligible by a signal of a federate that isn't there.
         if peer >= self.table.federates() {
             return Ok(true);
         }
@@ -139,6 +142,7 @@ impl State {
         requires over { over ≡ slice_get self.old.table.wires.connections number }
         ensures { IsStep self.old.table self.new.table outbox.old.mail outbox.new.mail result peer (signals.Msg number tag value) }
     {
+        // For the prover: a standing for each federate, and connections between federates that are there.
         self.table.known();
         let Some(connection) = over else {
             return Err(NodeFault::Refused(Refusal::NotYours));
