@@ -13,6 +13,7 @@ use Rattle.signal.specs.declared.frame.Frame.TheVariants.{Hello, Data, Ack, Refu
 use Rattle.link.specs.declared.arrival.Arrival.{Arrival}
 use Rattle.link.specs.declared.arrival.Arrival.TheVariants as arrival
 use Rattle.link.specs.declared.fault.LinkFault.{LinkFault}
+use Rattle.link.specs.Fault.{number_of as number_of_fault}
 use Rattle.link.specs.Answer.{numbered}
 use Rattle.link.specs.Image.{Image, room_left, offer_of, after_offer, answer_of, after_frame, after_close, resent_by, ack_of, hello_of}
 use Rattle.protocol.specs.declared.post.Post.{Post}
@@ -239,12 +240,12 @@ lets_in_within core s peer e (Data i n signal) arrival.Signal found =
     (λ p. one_and_room s.ends peer p e (ack_of (after_frame e (Data i n signal))) (nat_eq peer p) refl found))
 lets_in_within core s peer e frame arrival found = noted_within s peer e frame found
 
+turned_if : (ends : List Image) (peer : ℕ) (e : Image) (i n : ℕ) (b : Bool) → slice_get ends peer ≡ Some e → IsBounded ends (if b then addressed peer (Refuse i n ∷ []) else [])
+turned_if ends peer e i n true found = to_one ends peer e (Refuse i n ∷ []) found (omega arith)
+turned_if ends peer e i n false found = no_frames ends
+
 turned_few : (hub : Bool) (s : List Image) (peer : ℕ) (e : Image) (frame : Frame) → slice_get s peer ≡ Some e → IsBounded s (turned_away hub peer e frame)
-turned_few hub s peer e (Hello f i n) found = by_test (hub && not (nat_eq i e.incarnation))
-  where
-    by_test : (b : Bool) → IsBounded s (if b then addressed peer (Refuse i 51 ∷ []) else [])
-    by_test true = to_one s peer e (Refuse i 51 ∷ []) found (omega arith)
-    by_test false = no_frames s
+turned_few hub s peer e (Hello f i n) found = turned_if s peer e i (number_of_fault LinkFault.Stranger) (hub && not (nat_eq i e.incarnation)) found
 turned_few hub s peer e (Data i n signal) found = no_frames s
 turned_few hub s peer e (Ack i n) found = no_frames s
 turned_few hub s peer e (Refuse i n) found = no_frames s
