@@ -1,18 +1,15 @@
 //! Federates at their stations: the answers of one to each event, late messages and old grants, that what it sends is in order
 //! whatever comes, and want of memory.
-ghost use Rattle.std.specs.Prelude.{IfOk};
-ghost use Rattle.plan.specs.External.{AreInputsOf};
-ghost use Rattle.reactor.specs.Programs.{AreProgramsOf};
-
 use crate::joined::Chance;
 use federate::Federate;
 use link::LinkEnd;
-use loadfed::{LoadFault, load};
+use loadfed::load;
 use node::{Event, Node, Reply, Station};
 use plan::{Inputs, Plan};
 use reactor::{Entry, Programs, RowView};
 use signal::{Frame, Signal};
 use std::alloc::Global;
+use std::marker::Model;
 use std::test::Fail;
 use tag::{FiniteTag, Tag, Time};
 
@@ -49,30 +46,51 @@ const SRC: usize = 0;
 
 const SNK: usize = 1;
 
-fn sums(alloc: Global) -> Result<(Plan, Programs), LoadFault>
-    ensures { IfOk result (λ loaded. AreProgramsOf loaded.0 loaded.1) }
-{
-    load(alloc, SUMS.as_bytes())
+/// Its plan, its programs, and no recorded inputs.
+#[derive(Drop)]
+struct Federation {
+    plan: Plan,
+    programs: Programs,
+    inputs: Inputs,
+}
+
+impl Model for Federation {
+    ghost use Rattle.plan.specs.declared.draft.Draft.{Draft};
+    ghost use Rattle.plan.specs.External.{AreInputsOf};
+    ghost use Rattle.reactor.specs.Programs.{AreProgramsOf};
+
+    ghost Value = { Draft };
+
+    ghost view = { λ f. f.plan };
+
+    ghost invariant = { λ f. AreProgramsOf f.plan f.programs × AreInputsOf f.plan f.inputs };
+}
+
+fn sums(alloc: Global) -> Option<Federation> {
+    let (plan, programs) = load(alloc, SUMS.as_bytes()).ok()?;
+    let inputs = Inputs::check(alloc, &plan, Vec::new(alloc)).ok()?;
+    Some(Federation {
+        plan,
+        programs,
+        inputs,
+    })
 }
 
 /// A federate's station, before any event.
-fn opened<'a>(
-    alloc: Global,
-    plan: &'a Plan,
-    programs: &'a Programs,
-    inputs: &'a Inputs,
-    number: usize,
-) -> Option<Station<Federate<'a>>>
-    requires programs { AreProgramsOf plan.now programs.now }
-    requires inputs { AreInputsOf plan.now inputs.now }
-{
-    if number >= plan.federate_count() {
+fn opened(alloc: Global, federation: &Federation, number: usize) -> Option<Station<Federate<'_>>> {
+    if number >= federation.plan.federate_count() {
         return None;
     }
-    let federate = Federate::new(alloc, plan, programs, inputs, number).ok()?;
+    let federate = Federate::new(
+        alloc,
+        &federation.plan,
+        &federation.programs,
+        &federation.inputs,
+        number,
+    );
     let mut ends = Vec::with_capacity(alloc, 1).ok()?;
     ends.push(LinkEnd::new(alloc, 0, 1, 4096)).ok()?;
-    Some(Station::new(alloc, federate, ends))
+    Some(Station::new(alloc, federate.ok()?, ends))
 }
 
 fn at(milliseconds: u64, microstep: u32) -> FiniteTag {
@@ -159,12 +177,9 @@ fn has_first_sum(station: &Station<Federate>) -> bool {
     rows.len() == 1 && is_first_sum(&rows.row(0))
 }
 
-fn sums_first(alloc: Global) -> Option<bool> {
-    let (plan, programs) = sums(alloc).ok()?;
-    let inputs = Inputs::check(alloc, &plan, Vec::new(alloc)).ok()?;
-    let mut snk = opened(alloc, &plan, &programs, &inputs, SNK)?;
+fn sum_steps() -> [(Event, Expected); 8] {
     let first = at(0, 0);
-    let steps = [
+    [
         (
             Event::Announce,
             Expected::Says(1, Signal::Net(Tag::FOREVER)),
@@ -182,8 +197,13 @@ fn sums_first(alloc: Global) -> Option<bool> {
             Event::Announce,
             Expected::Says(4, Signal::Net(Tag::FOREVER)),
         ),
-    ];
-    Some(answers(&mut snk, &steps) && has_first_sum(&snk))
+    ]
+}
+
+fn sums_first(alloc: Global) -> Option<bool> {
+    let federation = sums(alloc)?;
+    let mut snk = opened(alloc, &federation, SNK)?;
+    Some(answers(&mut snk, &sum_steps()) && has_first_sum(&snk))
 }
 
 #[test]
@@ -192,12 +212,9 @@ fn a_sum_is_made(rt: HostRuntime) -> Result<(), Fail> {
     Ok(())
 }
 
-fn refuses_late(alloc: Global) -> Option<bool> {
-    let (plan, programs) = sums(alloc).ok()?;
-    let inputs = Inputs::check(alloc, &plan, Vec::new(alloc)).ok()?;
-    let mut snk = opened(alloc, &plan, &programs, &inputs, SNK)?;
+fn late_steps() -> [(Event, Expected); 6] {
     let granted = at(10, 0);
-    let steps = [
+    [
         (data(1, Signal::Tag(granted)), Expected::Ack(1)),
         (data(2, message(granted)), Expected::Refused(61)),
         (data(2, Signal::Tag(granted)), Expected::Refused(62)),
@@ -207,8 +224,13 @@ fn refuses_late(alloc: Global) -> Option<bool> {
             Expected::Says(1, Signal::Net(Tag::FOREVER)),
         ),
         (data(2, message(at(10, 1))), Expected::Ack(2)),
-    ];
-    Some(answers(&mut snk, &steps))
+    ]
+}
+
+fn refuses_late(alloc: Global) -> Option<bool> {
+    let federation = sums(alloc)?;
+    let mut snk = opened(alloc, &federation, SNK)?;
+    Some(answers(&mut snk, &late_steps()))
 }
 
 #[test]
@@ -282,35 +304,40 @@ fn goes_on(
     Some(())
 }
 
-/// Whether so many lists of a seed leave what is sent in order; and how many signals were sent.
-fn stay_in_order(alloc: Global, seed: u64, lists: u32) -> Option<(bool, usize)> {
-    let (plan, programs) = sums(alloc).ok()?;
-    let inputs = Inputs::check(alloc, &plan, Vec::new(alloc)).ok()?;
-    let mut chance = Chance(seed);
-    let mut all = 0usize;
-    for _ in 0..lists {
-        let number = chance.below(2);
-        let mut station = opened(alloc, &plan, &programs, &inputs, number)?;
-        let mut sent = Vec::new(alloc);
-        let mut taken = 0;
-        for _ in 0..20 {
-            goes_on(&mut station, &mut chance, &mut taken, &mut sent)?;
-        }
-        if !is_in_order(&sent) {
-            return Some((false, all));
-        }
-        all = all.checked_add(sent.len())?;
+/// What a fresh federate sends, whatever comes.
+fn made_up_list(
+    alloc: Global,
+    federation: &Federation,
+    chance: &mut Chance,
+) -> Option<Vec<Signal>> {
+    let mut station = opened(alloc, federation, chance.below(2))?;
+    let mut sent = Vec::new(alloc);
+    let mut taken = 0;
+    for _ in 0..20 {
+        goes_on(&mut station, chance, &mut taken, &mut sent)?;
     }
-    Some((true, all))
+    Some(sent)
+}
+
+/// How many signals are sent in so many lists of a seed; None where some aren't in order.
+fn sent_in_order(alloc: Global, seed: u64, lists: u32) -> Option<usize> {
+    let federation = sums(alloc)?;
+    let mut chance = Chance(seed);
+    let mut count = 0usize;
+    for _ in 0..lists {
+        let sent = made_up_list(alloc, &federation, &mut chance)?;
+        if !is_in_order(&sent) {
+            return None;
+        }
+        count = count.saturating_add(sent.len());
+    }
+    Some(count)
 }
 
 #[test]
 fn whatever_comes_it_sends_in_order(rt: HostRuntime) -> Result<(), Fail> {
-    let told = stay_in_order(rt.alloc(), 1, 10_000);
-    assert!(rt;
-        matches!(told, Some((true, sent)) if sent > 10_000),
-        "{told:?}"
-    );
+    let sent = sent_in_order(rt.alloc(), 1, 10_000);
+    assert!(rt; sent > Some(10_000));
     Ok(())
 }
 
@@ -340,12 +367,20 @@ fn made_again(station: &mut Station<Federate>, event: &Event) -> bool {
     }
 }
 
-/// None where memory was wanting before the first step.
-fn counts_again(alloc: Global) -> Option<bool> {
-    let (plan, programs) = sums(alloc).ok()?;
-    let inputs = Inputs::check(alloc, &plan, Vec::new(alloc)).ok()?;
-    let mut src = opened(alloc, &plan, &programs, &inputs, SRC)?;
-    let events = [
+/// Whether a fresh federate's steps are all made, and it has so many rows then; None where memory was wanting before the first.
+fn makes_again(alloc: Global, number: usize, events: &[Event], rows: usize) -> Option<bool> {
+    let federation = sums(alloc)?;
+    let mut station = opened(alloc, &federation, number)?;
+    for event in events {
+        if !made_again(&mut station, event) {
+            return Some(false);
+        }
+    }
+    Some(station.node().rows().len() == rows)
+}
+
+fn counting() -> [Event; 7] {
+    [
         Event::Announce,
         data(1, Signal::Tag(at(20, 0))),
         Event::Advance,
@@ -353,39 +388,24 @@ fn counts_again(alloc: Global) -> Option<bool> {
         Event::Announce,
         Event::Advance,
         Event::Announce,
-    ];
-    for event in &events {
-        if !made_again(&mut src, event) {
-            return Some(false);
-        }
-    }
-    Some(src.node().rows().len() == 3)
+    ]
 }
 
-fn sums_again(alloc: Global) -> Option<bool> {
-    let (plan, programs) = sums(alloc).ok()?;
-    let inputs = Inputs::check(alloc, &plan, Vec::new(alloc)).ok()?;
-    let mut snk = opened(alloc, &plan, &programs, &inputs, SNK)?;
-    let events = [
+fn summing() -> [Event; 6] {
+    [
         data(1, message(at(0, 0))),
         data(2, message(at(10, 0))),
         data(3, Signal::Tag(at(20, 0))),
         Event::Advance,
         Event::Announce,
         Event::Advance,
-    ];
-    for event in &events {
-        if !made_again(&mut snk, event) {
-            return Some(false);
-        }
-    }
-    Some(snk.node().rows().len() == 2)
+    ]
 }
 
 /// With ample memory, and whichever one allocation is refused.
 #[test]
 fn memory_may_be_wanting(rt: HostRuntime) -> Result<(), Fail> {
-    assert!(rt; counts_again(rt.alloc()) != Some(false));
-    assert!(rt; sums_again(rt.alloc()) != Some(false));
+    assert!(rt; makes_again(rt.alloc(), SRC, &counting(), 3) != Some(false));
+    assert!(rt; makes_again(rt.alloc(), SNK, &summing(), 2) != Some(false));
     Ok(())
 }
