@@ -1,0 +1,92 @@
+//! Connections over TCP on loopback.
+ghost use Rattle.std.specs.Prelude.{◌≡◌};
+
+use crate::broken::Broken;
+use crate::connection::Connection;
+use crate::cut::Cut;
+use crate::failures::Failures;
+use crate::transport::Transport;
+use std::io;
+use std::io::{Read, Write};
+use std::net::{Net, Shutdown, SocketAddr, TcpListener, TcpStream};
+use std::sync::Wait;
+
+/// One end of a connection over TCP.
+#[derive(Drop)]
+pub struct TcpTransport {
+    stream: TcpStream,
+    failures: Failures,
+}
+
+impl Transport for TcpTransport {
+    ghost failures = { λ t. t.failures };
+
+    fn send<R: Wait>(&mut self, _rt: &R, bytes: &[u8]) -> Result<(), Broken> {
+        match self.stream.write_all(bytes) {
+            Ok(()) => Ok(()),
+            Err(_) => self.failures.tell(()),
+        }
+    }
+
+    fn recv<R: Wait>(&mut self, _rt: &R, room: &mut [u8]) -> Result<usize, Broken> {
+        match self.stream.read(room) {
+            Ok(count) => Ok(count),
+            Err(_) => self.failures.tell(0),
+        }
+    }
+
+    fn finish<R: Wait>(&mut self, _rt: &R) {
+        let _ = self.stream.shutdown(Shutdown::Write);
+    }
+}
+
+/// Ends a connection over TCP.
+#[derive(Drop)]
+pub struct TcpCut {
+    stream: TcpStream,
+}
+
+impl Cut for TcpCut {
+    fn cut<R: Wait>(&self, _rt: &R) {
+        let _ = self.stream.shutdown(Shutdown::Both);
+    }
+}
+
+/// A listener on 127.0.0.1, on a port that the system gives.
+pub fn listen<R: Net<Stream = TcpStream, Listener = TcpListener>>(
+    rt: &R,
+) -> io::Result<TcpListener> {
+    TcpListener::bind(rt, SocketAddr::from(([127, 0, 0, 1], 0)))
+}
+
+/// A new connection to a listener.
+pub fn connect<R: Net<Stream = TcpStream>>(
+    rt: &R,
+    address: SocketAddr,
+) -> io::Result<Connection<TcpTransport, TcpCut>> {
+    connection(TcpStream::connect(rt, address)?)
+}
+
+/// The next connection that comes to a listener. It waits for one.
+pub fn accept(listener: &TcpListener) -> io::Result<Connection<TcpTransport, TcpCut>> {
+    let (stream, _) = listener.accept()?;
+    connection(stream)
+}
+
+// The stream for its two workers. Frames are small and go at once.
+fn connection(stream: TcpStream) -> io::Result<Connection<TcpTransport, TcpCut>> {
+    stream.set_nodelay(true)?;
+    let outgoing = stream.try_clone()?;
+    let cut = stream.try_clone()?;
+    Ok(Connection {
+        incoming: TcpTransport {
+            stream,
+            failures: Failures::new(),
+        },
+        outgoing: TcpTransport {
+            stream: outgoing,
+            failures: Failures::new(),
+        },
+        cut: TcpCut { stream: cut },
+    })
+}
