@@ -106,20 +106,24 @@ pub type Pair = (
 pub fn pair(alloc: Global) -> Result<Pair, Memory> {
     let there = Arc::new(alloc, Way::new(alloc))?;
     let back = Arc::new(alloc, Way::new(alloc))?;
-    Ok((end(&back, &there)?, end(&there, &back)?))
+    Ok((end(alloc, &back, &there)?, end(alloc, &there, &back)?))
 }
 
 // The end to which one direction comes, and from which the other goes.
 fn end(
+    alloc: Global,
     incoming: &Arc<Way>,
     outgoing: &Arc<Way>,
 ) -> Result<Connection<MemoryTransport, MemoryCut>, Memory> {
     Ok(Connection {
         incoming: MemoryTransport::new(incoming, outgoing)?,
         outgoing: MemoryTransport::new(incoming, outgoing)?,
-        cut: MemoryCut {
-            first: Arc::try_clone(incoming)?,
-            second: Arc::try_clone(outgoing)?,
-        },
+        cut: Arc::new(
+            alloc,
+            MemoryCut {
+                first: Arc::try_clone(incoming)?,
+                second: Arc::try_clone(outgoing)?,
+            },
+        )?,
     })
 }

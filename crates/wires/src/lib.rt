@@ -8,21 +8,32 @@
 
 pub mod broken;
 pub mod connection;
+pub mod context;
 pub mod cut;
+pub mod ending;
 pub mod failures;
 pub mod gate;
 pub mod in_memory;
 pub mod memory;
+pub mod order;
+pub mod pace;
 mod pipe;
+pub mod reader;
+pub mod runner;
 pub mod tcp;
 pub mod transport;
+pub mod writer;
 
 pub use broken::Broken;
-pub use connection::Connection;
+pub use connection::{Arrived, Connection};
+pub use context::Context;
 pub use cut::Cut;
+pub use ending::Ending;
 pub use failures::Failures;
 pub use gate::{Gate, Open, Point};
 pub use in_memory::{MemoryCut, MemoryTransport, pair};
 pub use memory::Memory;
+pub use order::{Hint, Order};
+pub use pace::{Next, Pace};
 pub use tcp::{TcpCut, TcpTransport};
 pub use transport::Transport;

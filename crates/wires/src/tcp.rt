@@ -6,10 +6,11 @@ use crate::connection::Connection;
 use crate::cut::Cut;
 use crate::failures::Failures;
 use crate::transport::Transport;
+use std::alloc::Global;
 use std::io;
 use std::io::{Read, Write};
 use std::net::{Net, Shutdown, SocketAddr, TcpListener, TcpStream};
-use std::sync::Wait;
+use std::sync::{Arc, Wait};
 
 /// One end of a connection over TCP.
 #[derive(Drop)]
@@ -62,19 +63,23 @@ pub fn listen<R: Net<Stream = TcpStream, Listener = TcpListener>>(
 /// A new connection to a listener.
 pub fn connect<R: Net<Stream = TcpStream>>(
     rt: &R,
+    alloc: Global,
     address: SocketAddr,
 ) -> io::Result<Connection<TcpTransport, TcpCut>> {
-    connection(TcpStream::connect(rt, address)?)
+    connection(alloc, TcpStream::connect(rt, address)?)
 }
 
 /// The next connection that comes to a listener. It waits for one.
-pub fn accept(listener: &TcpListener) -> io::Result<Connection<TcpTransport, TcpCut>> {
+pub fn accept(
+    alloc: Global,
+    listener: &TcpListener,
+) -> io::Result<Connection<TcpTransport, TcpCut>> {
     let (stream, _) = listener.accept()?;
-    connection(stream)
+    connection(alloc, stream)
 }
 
 // The stream for its two workers. Frames are small and go at once.
-fn connection(stream: TcpStream) -> io::Result<Connection<TcpTransport, TcpCut>> {
+fn connection(alloc: Global, stream: TcpStream) -> io::Result<Connection<TcpTransport, TcpCut>> {
     stream.set_nodelay(true)?;
     let outgoing = stream.try_clone()?;
     let cut = stream.try_clone()?;
@@ -87,6 +92,6 @@ fn connection(stream: TcpStream) -> io::Result<Connection<TcpTransport, TcpCut>>
             stream: outgoing,
             failures: Failures::new(),
         },
-        cut: TcpCut { stream: cut },
+        cut: Arc::new(alloc, TcpCut { stream: cut })?,
     })
 }

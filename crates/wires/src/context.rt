@@ -1,0 +1,78 @@
+ghost use Rattle.std.specs.Prelude.{◌≡◌, ℕ, None, ◌∷◌, ◌++◌, [], IfSome};
+ghost use Rattle.wires.specs.HandedIn.{HandedIn};
+
+use crate::ending::Ending;
+use crate::gate::{Gate, Point};
+use crate::order::{Hint, Order};
+use crossbeam_channel::Sender;
+use desk::{Share, Shared};
+use node::{Event, Node, NodeId, Outgoing, Reply};
+use std::sync::Wait;
+use std::time::Clock;
+
+/// What the workers of one node are lent.
+#[derive(Drop)]
+pub struct Context<'a, N: Node, G: Gate, T: Drop, C: Drop> {
+    pub node: NodeId,
+    pub shared: &'a Shared<N>,
+    pub gate: &'a G,
+    /// To the writer of each peer, by the peer's number.
+    pub writers: &'a [Sender<Order<T, C>>],
+    /// To the node's runner, if it has one.
+    pub runner: Option<&'a Sender<Hint>>,
+    pub ending: &'a Ending,
+}
+
+impl<'a, N: Node, G: Gate, T: Drop, C: Drop> Context<'a, N, G, T, C> {
+    /// Passes the gate and makes the event's step. Where it did something, the runner gets a hint. None where there was no
+    /// memory: then nothing has changed.
+    pub fn step<R: Wait + Clock>(&self, rt: &R, share: &mut Share, event: Event) -> Option<Reply>
+        ensures slip { IfSome result (λ _. (place : ℕ) × (share.new ≡ share.old ++ record { place = place; event = event } ∷ [])) }
+        ensures as_before { result ≡ None → share.new ≡ share.old }
+    {
+        self.gate.pass(rt, self.node, Point::of(&event));
+        let reply = self.shared.handle(rt, share, event).ok()?;
+        if let Reply::Done(_) = reply {
+            self.hint(rt, Hint::Done);
+        }
+        Some(reply)
+    }
+
+    /// Makes the event's step, and hands the frames of its reply to the writers. Whether it did something.
+    pub fn hand_in<R: Wait + Clock>(&self, rt: &R, share: &mut Share, event: Event) -> bool
+        ensures { HandedIn share.old event share.new }
+    {
+        match self.step(rt, share, event) {
+            Some(Reply::Done(frames)) => {
+                self.send(rt, &frames);
+                true
+            }
+            Some(Reply::Refused(_, frames)) => {
+                self.send(rt, &frames);
+                false
+            }
+            Some(Reply::Nothing) | None => false,
+        }
+    }
+
+    /// Hands each frame to its peer's writer.
+    pub fn send<R: Wait>(&self, rt: &R, frames: &[Outgoing]) {
+        for outgoing in frames {
+            self.order(rt, outgoing.peer, Order::Frame(outgoing.frame));
+        }
+    }
+
+    /// Asks a peer's writer.
+    pub fn order<R: Wait>(&self, rt: &R, peer: usize, order: Order<T, C>) {
+        if let Some(writer) = self.writers.get(peer) {
+            let _ = writer.send(rt, order);
+        }
+    }
+
+    /// Tells the runner.
+    pub fn hint<R: Wait>(&self, rt: &R, hint: Hint) {
+        if let Some(runner) = self.runner {
+            let _ = runner.send(rt, hint);
+        }
+    }
+}

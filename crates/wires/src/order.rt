@@ -1,0 +1,24 @@
+use node::Outgoing;
+use signal::Frame;
+use std::sync::Arc;
+
+/// What a writer is asked to do.
+#[derive(Drop)]
+pub enum Order<T: Drop, C: Drop> {
+    /// To send a frame.
+    Frame(Frame),
+    /// To write on a new connection from now on, where this is sent first. What was not yet sent is dropped: the ends send
+    /// it again when they are greeted.
+    Begin(T, Arc<C>, Vec<Outgoing>),
+    /// To end what it sends.
+    End,
+}
+
+/// What a runner is told.
+#[derive(Clone, Copy, Debug, PartialEq, Eq)]
+pub enum Hint {
+    /// An event of its node did something.
+    Done,
+    /// An attempt to connect failed. It counts as a turn.
+    NotConnected,
+}
