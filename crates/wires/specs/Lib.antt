@@ -6,3 +6,5 @@ pub mod Point
 pub mod Pace
 -- What a worker's share is after it handed in an event.
 pub mod HandedIn
+-- Who a connection is, by its first frame.
+pub mod Greeter

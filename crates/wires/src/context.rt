@@ -55,17 +55,25 @@ impl<'a, N: Node, G: Gate, T: Drop, C: Drop> Context<'a, N, G, T, C> {
         }
     }
 
-    /// Hands each frame to its peer's writer.
-    pub fn send<R: Wait>(&self, rt: &R, frames: &[Outgoing]) {
-        for outgoing in frames {
-            self.order(rt, outgoing.peer, Order::Frame(outgoing.frame));
+    /// Asks the node whether nothing is left to do: then the run is to end.
+    pub fn watch<R: Wait>(&self, rt: &R) {
+        if self.shared.finished(rt) {
+            self.ending.set();
         }
     }
 
-    /// Asks a peer's writer.
-    pub fn order<R: Wait>(&self, rt: &R, peer: usize, order: Order<T, C>) {
-        if let Some(writer) = self.writers.get(peer) {
-            let _ = writer.send(rt, order);
+    /// Hands each frame to its peer's writer.
+    pub fn send<R: Wait>(&self, rt: &R, frames: &[Outgoing]) {
+        for outgoing in frames {
+            let _ = self.order(rt, outgoing.peer, Order::Frame(outgoing.frame));
+        }
+    }
+
+    /// Asks a peer's writer; whether it was asked. It isn't where there is no memory, or no such writer any more.
+    pub fn order<R: Wait>(&self, rt: &R, peer: usize, order: Order<T, C>) -> bool {
+        match self.writers.get(peer) {
+            Some(writer) => writer.send(rt, order).is_ok(),
+            None => false,
         }
     }
 

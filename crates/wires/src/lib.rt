@@ -1,15 +1,27 @@
 //! Connections between nodes, and the workers that stand between a connection and a node.
 //!
-//! Promise to the layer above: a call over a connection fails only where the connection counted a failure; what a worker
-//! decides is a function of `specs/Pace`, and what it hands in is on its share.
+//! Promise to the layer above: a call over a connection fails only where the connection counted a failure; what is handed in is
+//! the frame that was read, and no more; what a runner does next is `specs/Pace`. Nothing is said of when a call returns.
 //!
-//! Begin with `transport`, then `gate`.
+//!     federate                                                  coordinator
+//!     dial::read_dialed --- connects, Hello first -----------> acceptor::let_in --- the connection --+
+//!         |  reads frames                                                                            v
+//!         +--> Context::hand_in: gate, then the node's desk                                     reader::read
+//!                   |            |                                                                   |
+//!         Order::Frame    Hint::Done                                            Context::hand_in <---+
+//!                   v            v                                                   |
+//!            writer::write    runner::run                                      writer::write, one for each federate
+//!
+//! All workers of a node are lent one `Context`. A run ends where `Ending` is set: runners stop and ask their writers to end,
+//! writers end what they send, readers come to the end of what was sent. Begin with `transport` and `gate`, then `context`.
 #![tactic(auto)]
 
+pub mod acceptor;
 pub mod broken;
 pub mod connection;
 pub mod context;
 pub mod cut;
+pub mod dial;
 pub mod ending;
 pub mod failures;
 pub mod gate;
@@ -28,6 +40,7 @@ pub use broken::Broken;
 pub use connection::{Arrived, Connection};
 pub use context::Context;
 pub use cut::Cut;
+pub use dial::{Dial, TcpDial};
 pub use ending::Ending;
 pub use failures::Failures;
 pub use gate::{Gate, Open, Point};

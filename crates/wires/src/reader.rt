@@ -1,5 +1,9 @@
 //! The worker that reads what one peer sends to a node.
-ghost use Rattle.std.specs.Prelude.{◌≡◌};
+ghost use Rattle.std.specs.Prelude.{◌≡◌, true, false, Ok, OnErr};
+ghost use Rattle.signal.specs.declared.frame.Frame.{Frame as IsFrame};
+ghost use Rattle.signal.specs.Stream.{GivesFrame};
+ghost use Rattle.node.specs.declared.event.Event.TheVariants as Events;
+ghost use Rattle.wires.specs.HandedIn.{HandedIn};
 
 use crate::connection::{Arrived, Connection};
 use crate::context::Context;
@@ -10,7 +14,7 @@ use crate::transport::Transport;
 use crossbeam_channel::Receiver;
 use desk::Share;
 use node::{Event, Node, Outgoing, Reply};
-use signal::FrameReader;
+use signal::{FrameFault, FrameReader};
 use std::alloc::Global;
 use std::sync::{Arc, Wait};
 use std::time::Clock;
@@ -31,18 +35,10 @@ pub fn read<R: Wait + Clock, N: Node, G: Gate, T: Transport, C: Cut>(
         let Ok(Arrived { connection, first }) = arrivals.recv(rt) else {
             break;
         };
-        let mut frames = FrameReader::new(alloc);
-        match context.step(rt, &mut share, Event::Hello(peer)) {
+        match greet(rt, context, &mut share, peer) {
             Some(Reply::Done(greeting)) => {
                 read_connection(
-                    rt,
-                    context,
-                    &mut share,
-                    peer,
-                    connection,
-                    greeting,
-                    &mut frames,
-                    &first,
+                    rt, alloc, context, &mut share, peer, connection, greeting, &first,
                 );
             }
             _ => connection.cut.cut(rt),
@@ -51,16 +47,28 @@ pub fn read<R: Wait + Clock, N: Node, G: Gate, T: Transport, C: Cut>(
     share
 }
 
-/// Reads a connection to its end. The writer is asked to begin with the greeting. At the end, and where what came is no frame,
-/// both directions are ended.
+// Greets the peer on a new connection. The reply has the frame that is sent first; it is nothing where the end is closed.
+pub(crate) fn greet<R: Wait + Clock, N: Node, G: Gate, T: Drop, C: Drop>(
+    rt: &R,
+    context: &Context<'_, N, G, T, C>,
+    share: &mut Share,
+    peer: usize,
+) -> Option<Reply> {
+    let reply = context.step(rt, share, Event::Hello(peer));
+    context.watch(rt);
+    reply
+}
+
+// Reads a connection to its end. The writer is asked to begin with the greeting. At the end, and where what came is no frame,
+// both directions are ended. Where the run is to end, the writer may have ended before: then nothing is read.
 pub(crate) fn read_connection<R: Wait + Clock, N: Node, G: Gate, T: Transport, C: Cut>(
     rt: &R,
+    alloc: Global,
     context: &Context<'_, N, G, T, C>,
     share: &mut Share,
     peer: usize,
     connection: Connection<T, C>,
     greeting: Vec<Outgoing>,
-    frames: &mut FrameReader,
     first: &[u8],
 ) {
     let Connection {
@@ -69,16 +77,31 @@ pub(crate) fn read_connection<R: Wait + Clock, N: Node, G: Gate, T: Transport, C
         cut,
     } = connection;
     if let Ok(other) = Arc::try_clone(&cut) {
-        context.order(rt, peer, Order::Begin(outgoing, other, greeting));
-        let mut reading = take_in(rt, context, share, peer, frames, first);
-        for _ in rt.forever() {
-            if reading.is_none() {
-                break;
+        let has_begun = context.order(rt, peer, Order::Begin(outgoing, other, greeting));
+        if has_begun && !context.ending.is_set() {
+            let mut frames = FrameReader::new(alloc);
+            if take_in(rt, context, share, peer, &mut frames, first).is_some() {
+                read_on(rt, context, share, peer, &mut incoming, &mut frames);
             }
-            reading = read_once(rt, context, share, peer, &mut incoming, frames);
         }
     }
     cut.cut(rt);
+}
+
+// Reads to the end of the connection.
+fn read_on<R: Wait + Clock, N: Node, G: Gate, T: Transport, C: Cut>(
+    rt: &R,
+    context: &Context<'_, N, G, T, C>,
+    share: &mut Share,
+    peer: usize,
+    incoming: &mut T,
+    frames: &mut FrameReader,
+) {
+    for _ in rt.forever() {
+        if read_once(rt, context, share, peer, incoming, frames).is_none() {
+            break;
+        }
+    }
 }
 
 // Reads what comes next. None where the connection has ended.
@@ -109,13 +132,32 @@ fn take_in<R: Wait + Clock, N: Node, G: Gate, T: Transport, C: Cut>(
 ) -> Option<()> {
     frames.feed(bytes).ok()?;
     for _ in rt.forever() {
-        let Some(frame) = frames.next().ok()? else {
+        if !take_next(rt, context, share, peer, frames).ok()? {
             return Some(());
-        };
-        context.hand_in(rt, share, Event::Frame(peer, frame));
-        if context.shared.finished(rt) {
-            context.ending.set();
         }
     }
     unreachable!()
+}
+
+// Hands in the next whole frame; whether there was one. Where there is none, and where what comes next is no frame, no event is
+// handed in.
+fn take_next<R: Wait + Clock, N: Node, G: Gate, T: Drop, C: Drop>(
+    rt: &R,
+    context: &Context<'_, N, G, T, C>,
+    share: &mut Share,
+    peer: usize,
+    frames: &mut FrameReader,
+) -> Result<bool, FrameFault>
+    ensures frame { result ≡ Ok true → (frame : IsFrame) × GivesFrame frames.old frame frames.new × HandedIn share.old (Events.Frame peer frame) share.new }
+    ensures none { result ≡ Ok false → share.new ≡ share.old }
+    ensures fault { OnErr result (share.new ≡ share.old) }
+{
+    match frames.next()? {
+        Some(frame) => {
+            context.hand_in(rt, share, Event::Frame(peer, frame));
+            context.watch(rt);
+            Ok(true)
+        }
+        None => Ok(false),
+    }
 }

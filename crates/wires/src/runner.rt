@@ -35,7 +35,7 @@ pub fn run<R: Wait + Clock, N: Node, G: Gate, T: Drop, C: Drop>(
     }
     context.ending.set();
     for peer in 0..context.writers.len() {
-        context.order(rt, peer, Order::End);
+        let _ = context.order(rt, peer, Order::End);
     }
     share
 }

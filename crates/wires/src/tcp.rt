@@ -11,12 +11,20 @@ use std::io;
 use std::io::{Read, Write};
 use std::net::{Net, Shutdown, SocketAddr, TcpListener, TcpStream};
 use std::sync::{Arc, Wait};
+use std::time::Duration;
 
 /// One end of a connection over TCP.
 #[derive(Drop)]
 pub struct TcpTransport {
     stream: TcpStream,
     failures: Failures,
+}
+
+impl TcpTransport {
+    /// From now on a `recv` that waits longer fails.
+    pub fn set_longest_wait(&self, wait: Option<Duration>) -> io::Result<()> {
+        self.stream.set_read_timeout(wait)
+    }
 }
 
 impl Transport for TcpTransport {
