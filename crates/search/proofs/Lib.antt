@@ -1,0 +1,6 @@
+-- One step more at the end of a list of steps.
+mod Pushed
+-- Reading goes on by one event, and by one journal.
+mod Onwards
+-- What a search may answer, where it has read as far as it could.
+mod Findings

@@ -1,0 +1,11 @@
+use node::NodeId;
+use schedule::Step;
+
+/// What a search found.
+#[derive(Debug, Drop)]
+pub enum Found {
+    /// A list of steps in which each node's events are its journal.
+    All(Vec<Step>),
+    /// No further event can be placed: the first node whose journal isn't used up, and its next event, counted from 1.
+    Stuck(NodeId, usize),
+}

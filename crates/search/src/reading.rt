@@ -1,0 +1,142 @@
+//! Reading journals, with a machine that makes the steps.
+ghost use Rattle.std.specs.Prelude.{◌≡◌, ◌≢◌, ℕ, ◌<◌, ◌≤◌, true, false, length, get_or, slice_get, map, [], replicate, IfOk, OnOk};
+ghost use Rattle.search.specs.Journals.{node_at};
+ghost use Rattle.search.specs.Reading.{GoesOn, IsBlocked, IsFirstUnread, IsReading};
+
+use crate::machine::Machine;
+use crate::memory::Memory;
+use node::{Event, NodeId};
+use schedule::Step;
+use std::alloc::Global;
+
+// The node of a place among the journals.
+pub(crate) fn node_at(place: usize) -> NodeId
+    ensures { result ≡ node_at place }
+{
+    match place.checked_sub(1) {
+        Some(federate) => NodeId::Federate(federate),
+        None => NodeId::Coordinator,
+    }
+}
+
+// The next event of the journal at a place.
+fn next_event(journals: &[&[Event]], read: &[usize], place: usize) -> Option<Event>
+    requires { place < length read.now }
+    ensures event { result ≡ slice_get (get_or (map (λ j. j.now) journals.now) place []) (get_or read.now place 0) }
+    ensures small { result ≢ None → get_or read.now place 0 < usize.MAX }
+{
+    nth_event(journals.get(place)?, read[place])
+}
+
+// The event of a journal at a place, counted from 0.
+fn nth_event(journal: &[Event], place: usize) -> Option<Event>
+    ensures event { result ≡ slice_get journal.now place }
+    ensures small { result ≢ None → place < usize.MAX }
+{
+    if place < journal.len() {
+        Some(journal[place])
+    } else {
+        None
+    }
+}
+
+// Reads the next event of the journal at a place, if a step of the machine is that event.
+fn read_one<M: Machine>(
+    machine: &mut M,
+    journals: &[&[Event]],
+    read: &mut [usize],
+    steps: &mut Vec<Step>,
+    place: usize,
+    exact: bool,
+) -> Result<bool, Memory>
+    requires { place < length read.old }
+    ensures goes_on { IfOk result (λ moved. GoesOn M.motion (map (λ j. j.now) journals.now) (record { state = machine.old; steps = steps.old.items; read = read.old }) (record { state = machine.new; steps = steps.new.items; read = read.new }) moved) }
+    ensures blocked { IfOk result (λ moved. moved ≡ false → exact ≡ true → IsBlocked M.motion (map (λ j. j.now) journals.now) (record { state = machine.old; steps = steps.old.items; read = read.old }) place) }
+{
+    let Some(event) = next_event(journals, read, place) else {
+        return Ok(false);
+    };
+    steps.reserve(1)?;
+    let Some(step) = machine.place(node_at(place), event, exact)? else {
+        return Ok(false);
+    };
+    steps.push_reserved(step);
+    read[place] += 1;
+    Ok(true)
+}
+
+// Reads the journal at a place, as far as it goes now.
+fn read_on<M: Machine>(
+    machine: &mut M,
+    journals: &[&[Event]],
+    read: &mut [usize],
+    steps: &mut Vec<Step>,
+    place: usize,
+    exact: bool,
+) -> Result<bool, Memory>
+    requires { place < length read.old }
+    ensures goes_on { IfOk result (λ moved. GoesOn M.motion (map (λ j. j.now) journals.now) (record { state = machine.old; steps = steps.old.items; read = read.old }) (record { state = machine.new; steps = steps.new.items; read = read.new }) moved) }
+    ensures blocked { IfOk result (λ moved. moved ≡ false → exact ≡ true → IsBlocked M.motion (map (λ j. j.now) journals.now) (record { state = machine.old; steps = steps.old.items; read = read.old }) place) }
+{
+    let mut moved = false;
+    while read_one(machine, journals, read, steps, place, exact)? {
+        moved = true;
+    }
+    Ok(moved)
+}
+
+// Reads each journal once, as far as it goes then.
+pub(crate) fn round<M: Machine>(
+    machine: &mut M,
+    journals: &[&[Event]],
+    read: &mut [usize],
+    steps: &mut Vec<Step>,
+    exact: bool,
+) -> Result<bool, Memory>
+    ensures goes_on { IfOk result (λ moved. GoesOn M.motion (map (λ j. j.now) journals.now) (record { state = machine.old; steps = steps.old.items; read = read.old }) (record { state = machine.new; steps = steps.new.items; read = read.new }) moved) }
+    ensures blocked { IfOk result (λ moved. moved ≡ false → exact ≡ true → (place : ℕ) → place < length read.old → IsBlocked M.motion (map (λ j. j.now) journals.now) (record { state = machine.old; steps = steps.old.items; read = read.old }) place) }
+{
+    let mut moved = false;
+    for place in 0..read.len() {
+        if read_on(machine, journals, read, steps, place, exact)? {
+            moved = true;
+        }
+    }
+    Ok(moved)
+}
+
+// The first node whose journal isn't used up, and its next event, counted from 1.
+pub(crate) fn first_unread(journals: &[&[Event]], read: &[usize]) -> Option<(NodeId, usize)>
+    requires { length read.now ≡ length journals.now }
+    ensures { IsFirstUnread (map (λ j. j.now) journals.now) read.now result }
+{
+    for place in 0..read.len() {
+        if let Some(_) = next_event(journals, read, place) {
+            return Some((node_at(place), read[place] + 1));
+        }
+    }
+    None
+}
+
+// Reads all journals, as far as they go: by guesses, and exactly where no guess is right.
+pub(crate) fn read_all<M: Machine>(
+    machine: &mut M,
+    journals: &[&[Event]],
+    read: &mut [usize],
+    steps: &mut Vec<Step>,
+) -> Result<(), Memory>
+    ensures reading { OnOk result ((opening : M) → IsReading M.motion opening (map (λ j. j.now) journals.now) (record { state = machine.old; steps = steps.old.items; read = read.old }) → IsReading M.motion opening (map (λ j. j.now) journals.now) (record { state = machine.new; steps = steps.new.items; read = read.new })) }
+    ensures blocked { OnOk result ((place : ℕ) → place < length read.old → IsBlocked M.motion (map (λ j. j.now) journals.now) (record { state = machine.new; steps = steps.new.items; read = read.new }) place) }
+{
+    while round(machine, journals, read, steps, false)?
+        || round(machine, journals, read, steps, true)?
+    {}
+    Ok(())
+}
+
+// Of no journal anything is read.
+pub(crate) fn none_read(alloc: Global, count: usize) -> Result<Vec<usize>, Memory>
+    ensures { IfOk result (λ read. read.items ≡ replicate count 0) }
+{
+    Ok(Vec::from_elem(alloc, 0, count)?)
+}
