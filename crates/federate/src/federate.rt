@@ -20,7 +20,7 @@ use crate::prepared::{Prepared, prepare, take_in};
 use crate::recorded::put_recorded;
 use agenda::{Agenda, Held};
 use node::laws::nothing_needs_no_room;
-use node::{Node, NodeFault, Outbox};
+use node::{Blank, Node, NodeFault, Outbox};
 use plan::{Connection, Inputs, Plan};
 use protocol::Refusal;
 use reactor::{Programs, Reactor, Row, Rows};
@@ -349,4 +349,12 @@ impl<'a> Node for Federate<'a> {
     }
 
     ghost goes_on = { federates_go_on };
+}
+
+impl<'a> Blank for Federate<'a> {
+    fn blank(&self, alloc: Global) -> Result<Federate<'a>, node::Memory> {
+        self.known();
+        let blank = Federate::new(alloc, self.plan, self.programs, self.inputs, self.number)?;
+        Ok(blank)
+    }
 }

@@ -52,3 +52,9 @@ impl From<Memory> for NodeFault {
         NodeFault::Memory
     }
 }
+
+impl From<Memory> for node::Memory {
+    fn from(_memory: Memory) -> node::Memory {
+        node::Memory
+    }
+}

@@ -11,9 +11,11 @@
 //!                    +------------> LinkEnd::receive    the frame is taken
 //!     Reply <--------+                                  the acknowledgement first, then the node's frames
 //!
-//! Begin with `specs/Core`, what a node says of itself, and `specs/Step`; then `node` and `station`.
+//! Begin with `specs/Core`, what a node says of itself, and `specs/Step`; then `node` and `station`. `blank` is for nodes that can be
+//! made again.
 #![tactic(auto)]
 
+pub mod blank;
 pub mod closing;
 pub mod event;
 pub mod fault;
@@ -28,6 +30,7 @@ mod replies;
 pub mod reply;
 pub mod station;
 
+pub use blank::Blank;
 pub use event::Event;
 pub use fault::NodeFault;
 pub use memory::Memory;

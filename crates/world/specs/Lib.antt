@@ -1,6 +1,6 @@
--- The number of its refusal.
-pub mod Numbers
--- How many frames a step sends, and the lists of frames with their memory.
-pub mod Room
--- What every world keeps, and one of which nothing was asked.
+-- A world by what it was made from and its steps.
+pub mod World
+-- What holds of every world.
+pub mod Faithful
+-- What every world keeps.
 pub mod Made

@@ -1,24 +1,20 @@
--- What every world keeps, and a world of which nothing was asked.
-use Rattle.std.specs.Prelude.{◌≡◌, Bool, true, false, List, [], length, replicate, All}
-use Rattle.node.specs.Step.{Station}
-use Rattle.schedule.specs.World.{World}
+-- What every world keeps.
+use Rattle.std.specs.Prelude.{◌≡◌, Bool, List}
+use Rattle.std.specs.List.{list_any}
+use Rattle.plan.specs.declared.draft.Draft.{Draft}
+use Rattle.plan.specs.declared.input.Input.{Input}
+use Rattle.plan.specs.External.{AreInputsOf}
+use Rattle.plan.specs.Legal.{IsLegal}
+use Rattle.reactor.specs.Behaviour.{Behaviour}
+use Rattle.reactor.specs.Programs.{AreProgramsOf}
+use Rattle.schedule.specs.Kept.{is_forget}
+use Rattle.schedule.specs.Federation.{Federation, world_after}
 
--- each federate has one peer
-abbrev pub HaveOnePeer : {Member : Type 0} → List (Station Member) → Type 0
-HaveOnePeer federates = All (λ s. length s.ends ≡ 1) federates
-
--- the coordinator is the hub, no federate is, and each federate has one peer
-pub record IsWorld {Member : Type 0} (hub member : Bool) (federates : List (Station Member)) : Type 0 where
-  pub is_hub : hub ≡ true
-  pub is_member : member ≡ false
-  pub one_peer : HaveOnePeer federates
-
--- these stations, which have sent nothing
-abbrev pub unused : {Hub Member : Type 0} → Station Hub → List (Station Member) → World Hub Member
-unused coordinator federates = record {
-  coordinator = coordinator;
-  federates = federates;
-  up = replicate (length federates) [];
-  down = replicate (length federates) [];
-  steps = [];
-}
+-- its plan is legal, its programs and inputs are the plan's, its stations are those after its steps, and it knows whether somebody
+-- forgot
+pub record IsMade (d : Draft) (programs : List Behaviour) (inputs : List Input) (stations : Federation) (has_forgotten : Bool) : Type 0 where
+  pub legal : IsLegal d
+  pub programs_fit : AreProgramsOf d programs
+  pub inputs_fit : AreInputsOf d inputs
+  pub after : stations ≡ world_after d programs inputs stations.steps
+  pub forgotten : has_forgotten ≡ list_any is_forget stations.steps

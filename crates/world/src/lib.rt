@@ -1,27 +1,13 @@
-//! A world: all stations of a federation, all frames that they ever sent, and the steps made.
+//! The world of a federation: its coordinator and its federates over one schedule of frames, step by step.
 //!
-//! Promise to the layer above: each step is the step of `schedule` (its `specs/World`), whatever the nodes do, and a step
-//! without memory changes nothing.
+//! Promise to the layer above: `IsFaithful` of `specs/Faithful`, after every step: whatever frames were lost, repeated or overtaken,
+//! and whoever forgot, each federate that kept its state computes a beginning of what the undivided program computes.
 //!
-//!     Step --> Stations::apply --> occurrence     which event is it, and at which station?
-//!                    |
-//!                    +-----------> reserve        memory for all that the station may send, then
-//!                    +-----------> Station::step  what it makes of the event
-//!                    +-----------> append         what it sends, after all that was sent before
-//!     Outcome <------+
-//!
-//! Begin with `stations`; `sent` keeps the frames of one direction, and `blank` makes a federate that forgot all.
+//! Begin with `specs/World` and `specs/Faithful`, then `world`.
 #![tactic(auto)]
 
-pub mod blank;
-mod directions;
-pub mod memory;
-mod occurrence;
-mod replies;
-mod sent;
-pub mod stations;
+pub mod world;
 
-pub use blank::Blank;
-pub use memory::Memory;
 pub use schedule::{Dir, Outcome, Step};
-pub use stations::Stations;
+pub use stage::Memory;
+pub use world::World;

@@ -1,0 +1,6 @@
+-- The number of its refusal.
+pub mod Numbers
+-- How many frames a step sends, and the lists of frames with their memory.
+pub mod Room
+-- What every world keeps, and one of which nothing was asked.
+pub mod Made

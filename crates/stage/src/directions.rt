@@ -1,0 +1,123 @@
+//! The frames of all directions from or to the coordinator, by federate.
+ghost use Rattle.std.specs.Prelude.{◌≡◌, ◌≢◌, ℕ, ◌+◌, ◌<◌, ◌≤◌, ◌++◌, ◌∷◌, [], if◌then◌else◌, nat_eq, length, map, set, get_or, slice_get, replicate, OnOk, IfOk};
+ghost use Rattle.schedule.specs.World.{sent_out, frame_at};
+ghost use Rattle.stage.specs.Room.{most_to, frames_of_each, spare_at, HasSpare, Fits};
+
+use crate::memory::Memory;
+use crate::sent::Sent;
+use node::{Node, Outgoing, Station};
+use signal::Frame;
+use std::alloc::Global;
+
+// How many frames a station sends to a peer in one step at most.
+fn most_to<N: Node>(station: &Station<N>, peer: usize) -> Result<usize, Memory>
+    ensures { IfOk result (λ most. most ≡ most_to (slice_get station.now.ends peer)) }
+{
+    let Some(end) = station.end(peer) else {
+        return Ok(0);
+    };
+    end.room_left()
+        .max(end.unacked())
+        .checked_add(1)
+        .ok_or(Memory)
+}
+
+// Memory for all that the station may send in one step, to each peer.
+pub(crate) fn reserve_each<N: Node>(
+    sent: &mut Vec<Sent>,
+    station: &Station<N>,
+) -> Result<(), Memory>
+    ensures ready { OnOk result (HasSpare station.now.ends sent.new.items) }
+    ensures frames { frames_of_each sent.new.items ≡ frames_of_each sent.old.items }
+{
+    for peer in 0..sent.len() {
+        reserve_at(sent, peer, most_to(station, peer)?)?;
+    }
+    Ok(())
+}
+
+// Memory for so many frames in one direction.
+pub(crate) fn reserve_at(sent: &mut Vec<Sent>, place: usize, count: usize) -> Result<(), Memory>
+    ensures spare { OnOk result (place < length sent.new.items → count ≤ spare_at sent.new.items place) }
+    ensures others { (j : ℕ) → j ≢ place → spare_at sent.new.items j ≡ spare_at sent.old.items j }
+    ensures frames { frames_of_each sent.new.items ≡ frames_of_each sent.old.items }
+    ensures len { length sent.new.items ≡ length sent.old.items }
+{
+    if let Some(direction) = sent.get_mut(place) {
+        direction.reserve(count)?;
+    }
+    Ok(())
+}
+
+// Memory for all that the station may send to its first peer in one step.
+pub(crate) fn reserve_first<N: Node>(
+    sent: &mut Vec<Sent>,
+    place: usize,
+    station: &Station<N>,
+) -> Result<(), Memory>
+    ensures spare { OnOk result (place < length sent.new.items → most_to (slice_get station.now.ends 0) ≤ spare_at sent.new.items place) }
+    ensures frames { frames_of_each sent.new.items ≡ frames_of_each sent.old.items }
+    ensures len { length sent.new.items ≡ length sent.old.items }
+{
+    reserve_at(sent, place, most_to(station, 0)?)
+}
+
+// A frame in a direction, if that is there.
+fn append(sent: &mut Vec<Sent>, place: usize, frame: Frame)
+    requires { place < length sent.old.items → 0 < spare_at sent.old.items place }
+    ensures frames { frames_of_each sent.new.items ≡ set (frames_of_each sent.old.items) place (get_or (frames_of_each sent.old.items) place [] ++ frame ∷ []) }
+    ensures one_used { (j : ℕ) → spare_at sent.old.items j ≤ spare_at sent.new.items j + (if nat_eq place j then 1 else 0) }
+    ensures len { length sent.new.items ≡ length sent.old.items }
+{
+    if let Some(direction) = sent.get_mut(place) {
+        direction.put(frame);
+    }
+}
+
+// Each frame in the direction of its peer.
+pub(crate) fn append_each(sent: &mut Vec<Sent>, outgoing: &[Outgoing])
+    requires { Fits outgoing.now sent.old.items }
+    ensures { frames_of_each sent.new.items ≡ sent_out (frames_of_each sent.old.items) outgoing.now }
+{
+    for out in outgoing {
+        append(sent, out.peer, out.frame);
+    }
+}
+
+// All frames in one direction.
+pub(crate) fn append_all(sent: &mut Vec<Sent>, place: usize, outgoing: &[Outgoing])
+    requires { place < length sent.old.items → length outgoing.now ≤ spare_at sent.old.items place }
+    ensures { frames_of_each sent.new.items ≡ set (frames_of_each sent.old.items) place (get_or (frames_of_each sent.old.items) place [] ++ map (λ out. out.frame) outgoing.now) }
+{
+    for out in outgoing {
+        append(sent, place, out.frame);
+    }
+}
+
+// No frame in each of so many directions.
+pub(crate) fn none_sent(alloc: Global, count: usize) -> Result<Vec<Sent>, Memory>
+    ensures { IfOk result (λ sent. frames_of_each sent.items ≡ replicate count []) }
+{
+    let mut sent = Vec::with_capacity(alloc, count)?;
+    for _ in 0..count {
+        sent.push_reserved(Sent::new(alloc));
+    }
+    Ok(sent)
+}
+
+// The k-th frame in a direction, counted from 1.
+pub(crate) fn nth(sent: &[Sent], place: usize, k: usize) -> Option<Frame>
+    ensures { result ≡ frame_at (get_or (frames_of_each sent.now) place []) k }
+{
+    sent.get(place)?.nth(k)
+}
+
+// How many frames were sent in a direction.
+pub(crate) fn count(sent: &[Sent], place: usize) -> usize
+    ensures { result ≡ length (get_or (frames_of_each sent.now) place []) }
+{
+    match sent.get(place) {
+        Some(direction) => direction.count(),
+        None => 0,
+    }
+}

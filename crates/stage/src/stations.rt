@@ -1,0 +1,292 @@
+ghost use Rattle.std.specs.Prelude.{◌≡◌, ℕ, take, ◌<◌, ◌≤◌, ◌++◌, ◌∷◌, [], true, false, length, set, slice_get, option_map, IfOk, OnOk, OnErr, Some};
+ghost use Rattle.link.specs.Image.{room_left};
+ghost use Rattle.node.specs.Step.{Station as StationOf, said, step_of};
+ghost use Rattle.schedule.specs.World.{applied, after_steps, occurrence_of, frames_in, frame_at, at_node, happens, forgets, listed, unchanged};
+ghost use Rattle.schedule.specs.Taken.{sender};
+ghost use Rattle.node.specs.declared.node_id.NodeId.TheVariants as NodeIds;
+ghost use Rattle.stage.specs.Made.{HaveOnePeer, unused};
+
+use crate::blank::forgotten;
+use crate::directions::{
+    append_all, append_each, count, none_sent, nth, reserve_each, reserve_first,
+};
+use crate::memory::Memory;
+use crate::occurrence::{Occurrence, comes, federate_of, greets, sends_again};
+use crate::replies::{frames_of, outcome_of};
+use crate::sent::Sent;
+use link::LinkEnd;
+use node::{Blank, Event, Node, NodeId, Reply, Station};
+use schedule::{Dir, Outcome, Step};
+use signal::Frame;
+use std::alloc::Global;
+use std::marker::Model;
+
+/// All stations of a federation, all frames that they ever sent, and the steps made. Federate j is peer j of the
+/// coordinator; a federate's one peer is 0.
+#[derive(Drop)]
+pub struct Stations<H: Node, M: Blank> {
+    alloc: Global,
+    coordinator: Station<H>,
+    federates: Vec<Station<M>>,
+    up: Vec<Sent>,
+    down: Vec<Sent>,
+    steps: Vec<Step>,
+}
+
+impl<H: Node, M: Blank> Model for Stations<H, M> {
+    ghost use Rattle.schedule.specs.World as world;
+    ghost use Rattle.stage.specs.Room.{frames_of_each};
+    ghost use Rattle.stage.specs.Made.{IsWorld};
+
+    ghost Value = { world.World H M };
+
+    ghost view = { λ w. record {
+      coordinator = w.coordinator;
+      federates = w.federates.items;
+      up = frames_of_each w.up.items;
+      down = frames_of_each w.down.items;
+      steps = w.steps.items;
+    } };
+
+    ghost invariant = { λ w. IsWorld H.HUB M.HUB w.federates.items };
+}
+
+impl<H: Node, M: Blank> Stations<H, M> {
+    /// The world of these stations, of which nothing was asked yet.
+    pub fn new(
+        alloc: Global,
+        coordinator: Station<H>,
+        federates: Vec<Station<M>>,
+    ) -> Result<Stations<H, M>, Memory>
+        requires hub { H.HUB ≡ true }
+        requires member { M.HUB ≡ false }
+        requires one_peer { HaveOnePeer federates.items }
+        ensures { IfOk result (λ w. w ≡ unused coordinator federates.items) }
+    {
+        let up = none_sent(alloc, federates.len())?;
+        let down = none_sent(alloc, federates.len())?;
+        Ok(Stations {
+            alloc,
+            coordinator,
+            federates,
+            up,
+            down,
+            steps: Vec::new(alloc),
+        })
+    }
+
+    /// The steps made, oldest first: also those that were refused or didn't apply.
+    pub fn steps(&self) -> &[Step]
+        ensures { result.now ≡ self.now.steps }
+    {
+        &self.steps
+    }
+
+    /// The coordinator's station.
+    pub fn coordinator(&self) -> &Station<H>
+        ensures { result.now ≡ self.now.coordinator }
+    {
+        &self.coordinator
+    }
+
+    /// A federate's station.
+    pub fn federate(&self, federate: usize) -> Option<&Station<M>>
+        ensures { option_map (λ s. s.now) result ≡ slice_get self.now.federates federate }
+    {
+        self.federates.get(federate)
+    }
+
+    /// How many frames were ever sent in a direction.
+    pub fn sent(&self, dir: Dir) -> usize
+        ensures { result ≡ length (frames_in self.now dir) }
+    {
+        match dir {
+            Dir::Up(federate) => count(&self.up, federate),
+            Dir::Down(federate) => count(&self.down, federate),
+        }
+    }
+
+    /// How many signals the sender of a direction keeps; None where there is no such federate.
+    pub fn unacked(&self, dir: Dir) -> Option<usize>
+        ensures { result ≡ option_map (λ e. length e.kept) (sender self.now dir) }
+    {
+        Some(self.sender(dir)?.unacked())
+    }
+
+    /// How many signals the sender of a direction may still offer; None where there is no such federate.
+    pub fn room_left(&self, dir: Dir) -> Option<usize>
+        ensures { result ≡ option_map room_left (sender self.now dir) }
+    {
+        Some(self.sender(dir)?.room_left())
+    }
+
+    /// Makes one step. It is listed also where it is refused or doesn't apply; without memory the world is as before, and
+    /// the same step may come again.
+    pub fn apply(&mut self, step: Step) -> Result<Outcome, Memory>
+        ensures done { IfOk result (λ outcome. record { world = self.new; outcome = outcome } ≡ applied H.core M.core self.old step) }
+        ensures as_before { OnErr result (self.new ≡ self.old) }
+    {
+        match step {
+            Step::Forget(federate) => self.forget(federate, step),
+            _ => self.happen(step),
+        }
+    }
+
+    /// Makes steps, one after the other. Without memory those before the refused one stay made.
+    pub fn run(&mut self, steps: &[Step]) -> Result<(), Memory>
+        ensures done { OnOk result (self.new ≡ after_steps H.core M.core self.old steps.now) }
+        ensures refused { OnErr result ((n : ℕ) × (n < length steps.now) × (self.new ≡ after_steps H.core M.core self.old (take n steps.now))) }
+    {
+        for step in steps {
+            self.apply(*step)?;
+        }
+        Ok(())
+    }
+
+    // The end that sends in a direction.
+    fn sender(&self, dir: Dir) -> Option<&LinkEnd>
+        ensures { option_map (λ e. e.now.image) result ≡ sender self.now dir }
+    {
+        match dir {
+            Dir::Up(federate) => self.federates.get(federate)?.end(0),
+            Dir::Down(federate) => self.coordinator.end(federate),
+        }
+    }
+
+    /// The k-th frame ever sent in a direction, counted from 1.
+    pub fn frame(&self, dir: Dir, k: usize) -> Option<Frame>
+        ensures { result ≡ frame_at (frames_in self.now dir) k }
+    {
+        match dir {
+            Dir::Up(federate) => nth(&self.up, federate, k),
+            Dir::Down(federate) => nth(&self.down, federate, k),
+        }
+    }
+
+    // Which event a step is, and at which node; None where it doesn't apply, and where a federate forgets.
+    fn occurrence(&self, step: Step) -> Option<Occurrence>
+        ensures { option_map (λ o. record { node = o.node; event = o.event }) result ≡ occurrence_of self.now step }
+    {
+        let (federate, occurrence) = match step {
+            Step::Deliver(dir, k) => return Some(comes(dir, self.frame(dir, k)?)),
+            Step::Resend(dir) => (federate_of(dir), sends_again(dir)),
+            Step::Reconnect(dir) => (federate_of(dir), greets(dir)),
+            Step::Announce(federate) => (federate, by_itself(federate, Event::Announce)),
+            Step::Advance(federate) => (federate, by_itself(federate, Event::Advance)),
+            Step::Forget(_) => return None,
+        };
+        if federate < self.federates.len() {
+            Some(occurrence)
+        } else {
+            None
+        }
+    }
+
+    // A step that changes nothing.
+    fn pass(&mut self, step: Step) -> Result<Outcome, Memory>
+        ensures done { IfOk result (λ outcome. record { world = self.new; outcome = outcome } ≡ listed step (unchanged self.old)) }
+        ensures as_before { OnErr result (self.new ≡ self.old) }
+    {
+        self.steps.push(step)?;
+        Ok(Outcome::Nothing)
+    }
+
+    // A step other than Forget.
+    fn happen(&mut self, step: Step) -> Result<Outcome, Memory>
+        ensures done { IfOk result (λ outcome. record { world = self.new; outcome = outcome } ≡ listed step (happens H.core M.core self.old (occurrence_of self.old step))) }
+        ensures as_before { OnErr result (self.new ≡ self.old) }
+    {
+        match self.occurrence(step) {
+            Some(
+                Occurrence {
+                    node: NodeId::Coordinator,
+                    event,
+                },
+            ) => self.at_coordinator(event, step),
+            Some(
+                Occurrence {
+                    node: NodeId::Federate(federate),
+                    event,
+                },
+            ) => self.at_federate(federate, event, step),
+            None => self.pass(step),
+        }
+    }
+
+    // An event at the coordinator.
+    fn at_coordinator(&mut self, event: Event, step: Step) -> Result<Outcome, Memory>
+        ensures done { IfOk result (λ outcome. record { world = self.new; outcome = outcome } ≡ listed step (at_node H.core M.core self.old NodeIds.Coordinator event)) }
+        ensures as_before { OnErr result (self.new ≡ self.old) }
+    {
+        self.steps.reserve(1)?;
+        reserve_each(&mut self.down, &self.coordinator)?;
+        let reply = self.coordinator.step(event)?;
+        append_each(&mut self.down, frames_of(&reply));
+        self.steps.push_reserved(step);
+        Ok(outcome_of(&reply))
+    }
+
+    // An event at a federate.
+    fn at_federate(&mut self, federate: usize, event: Event, step: Step) -> Result<Outcome, Memory>
+        ensures done { IfOk result (λ outcome. record { world = self.new; outcome = outcome } ≡ listed step (at_node H.core M.core self.old (NodeIds.Federate federate) event)) }
+        ensures as_before { OnErr result (self.new ≡ self.old) }
+    {
+        let Some(station) = self.federates.get(federate) else {
+            return self.pass(step);
+        };
+        self.steps.reserve(1)?;
+        reserve_first(&mut self.up, federate, station)?;
+        let reply = step_at(&mut self.federates, federate, event)?;
+        append_all(&mut self.up, federate, frames_of(&reply));
+        self.steps.push_reserved(step);
+        Ok(outcome_of(&reply))
+    }
+
+    // A federate loses its state.
+    fn forget(&mut self, federate: usize, step: Step) -> Result<Outcome, Memory>
+        ensures done { IfOk result (λ outcome. record { world = self.new; outcome = outcome } ≡ listed step (forgets M.core self.old federate (slice_get self.old.federates federate))) }
+        ensures as_before { OnErr result (self.new ≡ self.old) }
+    {
+        let Some(station) = self.federates.get(federate) else {
+            return self.pass(step);
+        };
+        let Some(blank) = forgotten(self.alloc, station)? else {
+            return self.pass(step);
+        };
+        self.steps.push(step)?;
+        replace(&mut self.federates, federate, blank);
+        Ok(Outcome::Done)
+    }
+}
+
+// Another station in the place of a federate's.
+fn replace<M: Node>(federates: &mut Vec<Station<M>>, federate: usize, station: Station<M>)
+    requires { federate < length federates.old.items }
+    ensures { federates.new.items ≡ set federates.old.items federate station }
+{
+    federates[federate] = station;
+}
+
+// A step of one of the federates' stations.
+fn step_at<M: Node>(
+    federates: &mut Vec<Station<M>>,
+    federate: usize,
+    event: Event,
+) -> Result<Reply, Memory>
+    requires there { federate < length federates.old.items }
+    ensures said { (s : StationOf M) → slice_get federates.old.items federate ≡ Some s → IfOk result (λ reply. said reply ≡ (step_of M.core M.HUB s event).answer) }
+    ensures stepped { (s : StationOf M) → slice_get federates.old.items federate ≡ Some s → OnOk result (federates.new.items ≡ set federates.old.items federate (step_of M.core M.HUB s event).station) }
+    ensures as_before { OnErr result (federates.new.items ≡ federates.old.items) }
+{
+    Ok(federates[federate].step(event)?)
+}
+
+// A federate says or runs something.
+fn by_itself(federate: usize, event: Event) -> Occurrence
+    ensures { result ≡ record { node = NodeIds.Federate federate; event = event } }
+{
+    Occurrence {
+        node: NodeId::Federate(federate),
+        event,
+    }
+}

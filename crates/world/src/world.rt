@@ -1,0 +1,191 @@
+ghost use Rattle.std.specs.Prelude.{◌≡◌, ℕ, ◌<◌, [], take, length, option_map, slice_get, IsTrue, IfOk, OnOk, OnErr, ◌↔◌};
+ghost use Rattle.link.specs.Image.{room_left};
+ghost use Rattle.plan.specs.External.{AreInputsOf};
+ghost use Rattle.plan.specs.Federation.{federate_count};
+ghost use Rattle.reactor.specs.Programs.{AreProgramsOf};
+ghost use Rattle.cores.specs.CoordinatorCore.{coordinator_core};
+ghost use Rattle.schedule.specs.Federation.{step_in, IsPlain, IsStuck};
+ghost use Rattle.schedule.specs.Kept.{is_kept, is_forget, is_forget_of};
+ghost use Rattle.schedule.specs.Taken.{sender};
+ghost use Rattle.schedule.specs.World.{frames_in, frame_at};
+ghost use Rattle.world.specs.World.{stations_of, with_step, with_steps};
+ghost use Rattle.world.specs.Faithful.{IsFaithful, ArePlain};
+
+use coordinator::Coordinator;
+use federate::Federate;
+use node::Node;
+use plan::{Inputs, Plan};
+use reactor::{Programs, Rows};
+use schedule::{Dir, Outcome, Step};
+use signal::Frame;
+use stage::{Memory, Stations};
+use std::alloc::Global;
+use std::marker::Model;
+
+/// A world of a federation: its coordinator, its federates, and all frames that they ever sent. Contracts see what it was made
+/// from and the steps made: all else follows from them.
+#[derive(Drop)]
+pub struct World<'a> {
+    plan: &'a Plan,
+    programs: &'a Programs,
+    inputs: &'a Inputs,
+    stations: Stations<Coordinator<'a>, Federate<'a>>,
+    /// Whether a step made some federate forget.
+    has_forgotten: bool,
+}
+
+impl<'a> Model for World<'a> {
+    ghost use Rattle.world.specs.World.{WorldView};
+    ghost use Rattle.world.specs.Made.{IsMade};
+
+    ghost Value = { WorldView };
+
+    ghost view = { λ w. record {
+      draft = w.plan.now;
+      programs = w.programs.now;
+      inputs = w.inputs.now;
+      steps = w.stations.steps;
+    } };
+
+    ghost invariant = { λ w. IsMade w.plan.now w.programs.now w.inputs.now w.stations w.has_forgotten };
+}
+
+impl<'a> World<'a> {
+    /// The world of a plan with its programs and inputs, before the first step.
+    pub fn new(
+        alloc: Global,
+        plan: &'a Plan,
+        programs: &'a Programs,
+        inputs: &'a Inputs,
+    ) -> Result<World<'a>, Memory>
+        requires programs { AreProgramsOf plan.now programs.now }
+        requires inputs { AreInputsOf plan.now inputs.now }
+        ensures { IfOk result (λ world. world ≡ record { draft = plan.now; programs = programs.now; inputs = inputs.now; steps = [] }) }
+    {
+        let _ = (alloc, plan, programs, inputs);
+        Err(Memory)
+    }
+
+    /// What holds of every world.
+    pub fn known(&self)
+        ensures { IsFaithful self.now }
+    {
+        let _ = &self.plan;
+    }
+
+    /// Makes one step. It is listed also where it is refused or doesn't apply; without memory the world is as before, and the same
+    /// step may come again.
+    pub fn apply(&mut self, step: Step) -> Result<Outcome, Memory>
+        ensures done { OnOk result (self.new ≡ with_step self.old step) }
+        ensures told { IfOk result (λ outcome. outcome ≡ (step_in (stations_of self.old) step).outcome) }
+        ensures plain { IfOk result IsPlain }
+        ensures as_before { OnErr result (self.new ≡ self.old) }
+        ensures faithful { IsFaithful self.new }
+    {
+        let outcome = self.stations.apply(step)?;
+        self.has_forgotten = self.has_forgotten || is_forget(step);
+        Ok(outcome)
+    }
+
+    /// Makes steps, one after the other. Without memory those before the refused one stay made.
+    pub fn run(&mut self, steps: &[Step]) -> Result<(), Memory>
+        ensures done { OnOk result (self.new ≡ with_steps self.old steps.now) }
+        ensures refused { OnErr result ((n : ℕ) × (n < length steps.now) × (self.new ≡ with_steps self.old (take n steps.now))) }
+        ensures plain { ArePlain self.new }
+        ensures faithful { IsFaithful self.new }
+    {
+        for step in steps {
+            self.apply(*step)?;
+        }
+        self.known();
+        Ok(())
+    }
+
+    /// The steps made, oldest first: also those that were refused or didn't apply.
+    pub fn steps(&self) -> &[Step]
+        ensures { result.now ≡ self.now.steps }
+    {
+        self.stations.steps()
+    }
+
+    /// How many federates there are.
+    pub fn federate_count(&self) -> usize
+        ensures { result ≡ federate_count self.now.draft }
+    {
+        self.plan.federate_count()
+    }
+
+    /// A federate's rows; None where there is no such federate.
+    pub fn rows(&self, federate: usize) -> Option<&Rows>
+        ensures { option_map (λ r. r.now) result ≡ option_map (λ s. s.node.federate.rows) (slice_get (stations_of self.now).federates federate) }
+    {
+        Some(self.stations.federate(federate)?.node().rows())
+    }
+
+    /// Whether a federate kept its state.
+    pub fn kept(&self, federate: usize) -> bool
+        ensures { result ≡ is_kept self.now.steps federate }
+    {
+        !self
+            .steps()
+            .iter()
+            .any(|step| is_forget_of(federate, *step))
+    }
+
+    /// Whether the coordinator says that all is finished.
+    pub fn finished(&self) -> bool
+        ensures { result ≡ coordinator_core.finished (stations_of self.now).coordinator.node }
+    {
+        self.stations.coordinator().node().finished()
+    }
+
+    /// How many frames were ever sent in a direction.
+    pub fn sent(&self, dir: Dir) -> usize
+        ensures { result ≡ length (frames_in (stations_of self.now) dir) }
+    {
+        self.stations.sent(dir)
+    }
+
+    /// The k-th frame ever sent in a direction, counted from 1.
+    pub fn frame(&self, dir: Dir, k: usize) -> Option<Frame>
+        ensures { result ≡ frame_at (frames_in (stations_of self.now) dir) k }
+    {
+        self.stations.frame(dir, k)
+    }
+
+    /// How many signals the sender of a direction keeps; None where there is no such federate.
+    pub fn unacked(&self, dir: Dir) -> Option<usize>
+        ensures { result ≡ option_map (λ e. length e.kept) (sender (stations_of self.now) dir) }
+    {
+        self.stations.unacked(dir)
+    }
+
+    /// How many signals the sender of a direction may still offer; None where there is no such federate.
+    pub fn room_left(&self, dir: Dir) -> Option<usize>
+        ensures { result ≡ option_map room_left (sender (stations_of self.now) dir) }
+    {
+        self.stations.room_left(dir)
+    }
+
+    /// Whether the world is stuck: nobody forgot, every signal sent was taken and acknowledged, and nobody has anything to announce
+    /// or to run.
+    pub fn stuck(&self) -> bool
+        ensures { IsTrue result ↔ IsStuck (stations_of self.now) }
+    {
+        false
+    }
+}
+
+// Whether a step makes some federate forget.
+fn is_forget(step: Step) -> bool
+    ensures { result ≡ is_forget step }
+{
+    matches!(step, Step::Forget(_))
+}
+
+// Whether a step makes this federate forget.
+fn is_forget_of(federate: usize, step: Step) -> bool
+    ensures { result ≡ is_forget_of federate step }
+{
+    matches!(step, Step::Forget(forgetting) if forgetting == federate)
+}
