@@ -1,0 +1,2 @@
+-- how the lines of a file are counted
+pub mod Lines

@@ -1,0 +1,13 @@
+use Rattle.std.proofs.Common.{◌≡◌, ◌≤◌, ◌+◌, length}
+use Rattle.script.specs.Scripts.{line_count, AreLinesOf}
+use Rattle.script.proofs.script.read_lines.Given as goal
+
+abbrev pub invariant-loop-line : goal.invariant-loop-line
+invariant-loop-line l = record {
+  made : AreLinesOf l.plan l.last l.lines.items;
+  counted : l.last + line_count l.rest ≡ line_count l.bytes;
+  room : l.last + length l.rest ≤ length l.bytes;
+}
+
+abbrev pub decreases-loop-line : goal.decreases-loop-line
+decreases-loop-line l = length l.rest
