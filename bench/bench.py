@@ -1,12 +1,13 @@
 #!/usr/bin/env python3
-"""Times the program on federations of growing size: rows a second, peak memory, and how both grow.
+"""Times the program on federations of growing size: rows or steps a second, peak memory, and how both grow.
 
   bench/bench.py crates/fedrun/out/fedrun
   bench/bench.py crates/fedrun/out/fedrun --modes whole --only chain,ring --chart chart.svg
 
 Each case is run with a size that grows fourfold until a run takes more than a quarter of --seconds. Shown is the best of
 --rounds runs. "time ~ size^E" says how the time grows between the smallest and the largest size that take at least 20 ms,
-and "KiB a row" how the memory does. On a machine that has other work, repeat a run before you believe it.
+and "KiB a row" how the memory does. Of replay the size is the count of rounds too, and what is counted are steps: each
+round's announces and advances; the frames that a round brings come on top. A chain of 8,192 rounds has a million. On a machine that has other work, repeat a run before you believe it.
 """
 import argparse
 import math
@@ -149,11 +150,15 @@ CASES = {
     "inputs": (inputs, 1_024, 65_536, "recorded inputs"),
 }
 
-# name: from the files of federation and inputs to the words, and which cases are for it
+# name: from the files of federation, inputs and schedule to the words, which cases are for it, and what is counted
 MODES = {
-    "whole": (lambda fed, recorded: ["whole", fed, recorded, ALL_TURNS], list(CASES)),
-    "check": (lambda fed, recorded: ["check", fed], ["wide", "layers"]),
+    "whole": (lambda fed, recorded, _: ["whole", fed, recorded, ALL_TURNS], list(CASES), "row"),
+    "check": (lambda fed, recorded, _: ["check", fed], ["wide", "layers"], "row"),
+    "replay": (lambda fed, recorded, rounds: ["replay", fed, recorded, rounds], ["few", "chain", "diamond", "ring"], "step"),
 }
+
+# How many lines `round` a schedule file has room for.
+MOST_ROUNDS = 2**20 // len("round\n")
 
 
 # ---- measuring
@@ -193,24 +198,30 @@ def run(program, words, watch):
 
 
 def points(program, mode, case, options, folder):
-    """One measurement a size: size, rows, seconds, KiB."""
+    """One measurement a size: size, rows or steps, seconds, KiB."""
     make, size, most, _ = CASES[case]
+    words_of, _, counted = MODES[mode]
+    if counted == "step":
+        most = min(most, MOST_ROUNDS)
     measured = []
     while size <= most:
         text, recorded = make(size)
         files = []
-        for name, content in (("federation.toml", text), ("inputs.toml", recorded)):
+        schedule = "round\n" * size if counted == "step" else ""
+        for name, content in (("federation.toml", text), ("inputs.toml", recorded), ("rounds.schedule", schedule)):
             path = os.path.join(folder, name)
             with open(path, "w", encoding="ascii") as file:
                 file.write(content)
             files.append(path)
-        words = MODES[mode][0](files[0], files[1] if recorded else "-")
+        words = words_of(files[0], files[1] if recorded else "-", files[2])
         for _ in range(10):
-            _, rows, peak = run(program, words, watch=True)
+            _, count, peak = run(program, words, watch=True)
             if peak:
                 break
+        if counted == "step":
+            count = 2 * size * text.count("[[federate]]")
         seconds = min(run(program, words, watch=False)[0] for _ in range(options.rounds))
-        measured.append((size, rows, seconds, peak))
+        measured.append((size, count, seconds, peak))
         if seconds > options.seconds / 4:
             break
         size *= 4
@@ -226,9 +237,9 @@ def exponent(measured):
     return f"time ~ size^{math.log(last[2] / first[2]) / math.log(last[0] / first[0]):.2f}"
 
 
-def memory_growth(measured):
-    (_, few_rows, _, few_kib), (_, rows, _, kib) = measured[0], measured[-1]
-    return f"{(kib - few_kib) / (rows - few_rows):.3f} KiB a row" if rows > few_rows else "no more rows"
+def memory_growth(measured, counted):
+    (_, few, _, few_kib), (_, many, _, kib) = measured[0], measured[-1]
+    return f"{(kib - few_kib) / (many - few):.3f} KiB a {counted}" if many > few else f"no more {counted}s"
 
 
 # ---- a chart
@@ -264,7 +275,7 @@ def panel(left, title, lines):
 
 
 def chart(results):
-    """Rows a second and peak memory by size, one line for each mode and case."""
+    """Rows or steps a second and peak memory by size, one line for each mode and case."""
     def lines(value):
         found = [(f"{mode} {case}", [(p[0], value(p)) for p in measured if value(p) > 0]) for (mode, case), measured in results]
         return [line for line in found if line[1]]
@@ -277,7 +288,7 @@ def chart(results):
     return (
         '<svg xmlns="http://www.w3.org/2000/svg" width="1220" height="430" font-family="sans-serif" font-size="12">\n'
         '<rect width="1220" height="430" fill="white"/>\n'
-        + "\n".join([panel(60, "rows a second by size", speed), panel(590, "peak memory by size, MiB", memory), legend])
+        + "\n".join([panel(60, "rows or steps a second by size", speed), panel(590, "peak memory by size, MiB", memory), legend])
         + "\n</svg>\n"
     )
 
@@ -306,7 +317,7 @@ def main():
     program = os.path.realpath(options.program)
     modes, only = known(options.modes.split(","), MODES), known(options.only.split(","), CASES)
     results = []
-    print(f"{'mode':6} {'case':8} {'size':>9} {'rows':>10} {'seconds':>9} {'rows a second':>14} {'peak MiB':>9}")
+    print(f"{'mode':6} {'case':8} {'size':>9} {'rows/steps':>10} {'seconds':>9} {'a second':>14} {'peak MiB':>9}")
     with tempfile.TemporaryDirectory() as folder:
         for mode in modes:
             for case in (case for case in MODES[mode][1] if case in only):
@@ -314,10 +325,10 @@ def main():
                     measured = points(program, mode, case, options, folder)
                 except (Failed, OSError) as failure:
                     sys.exit(f"bench: {mode} {case}: {failure}")
-                for size, rows, seconds, peak in measured:
-                    speed = f"{rows / seconds:,.0f}"
-                    print(f"{mode:6} {case:8} {size:9,} {rows:10,} {seconds:9.4f} {speed:>14} {peak / 1024:9.1f}")
-                print(f"{mode:6} {case:8} {exponent(measured)}, {memory_growth(measured)}", flush=True)
+                for size, count, seconds, peak in measured:
+                    speed = f"{count / seconds:,.0f}"
+                    print(f"{mode:6} {case:8} {size:9,} {count:10,} {seconds:9.4f} {speed:>14} {peak / 1024:9.1f}")
+                print(f"{mode:6} {case:8} {exponent(measured)}, {memory_growth(measured, MODES[mode][2])}", flush=True)
                 results.append(((mode, case), measured))
     if options.chart:
         with open(options.chart, "w", encoding="ascii") as file:

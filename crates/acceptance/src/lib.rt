@@ -33,4 +33,6 @@ mod programs;
 #[cfg(test)]
 mod rows;
 #[cfg(test)]
+mod schedules;
+#[cfg(test)]
 mod tags;
