@@ -31,6 +31,8 @@ mod plans;
 #[cfg(test)]
 mod programs;
 #[cfg(test)]
+mod requests;
+#[cfg(test)]
 mod rows;
 #[cfg(test)]
 mod schedules;

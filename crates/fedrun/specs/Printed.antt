@@ -9,8 +9,8 @@ use Rattle.reactor.specs.Federation.{network_of}
 use Rattle.whole.specs.Progress.{Progress, pending_in, all_rows_in}
 use Rattle.printed.specs.RowText.{printed_rows}
 use Rattle.printed.specs.PlanText.{printed_plan}
-use Rattle.fedrun.specs.declared.words.Request.{Request}
-use Rattle.fedrun.specs.declared.words.Request.TheVariants.{Whole, Check}
+use Rattle.words.specs.declared.request.Request.{Request}
+use Rattle.words.specs.declared.request.Request.TheVariants.{Whole, Check, Replay, Run}
 use Rattle.fedrun.specs.Loaded.{Contents, input_file, IsFederation, RecordsInputs}
 
 -- an undivided program after at most so many turns, fewer only where nothing is left to do
@@ -71,6 +71,8 @@ abbrev pub PrintsFor : Contents → Request → Option (List ℕ) → Option (Li
 PrintsFor contents (Whole federation inputs turns) before after =
     PrintsRun (contents federation.now) (input_file contents inputs.now) turns before after
 PrintsFor contents (Check federation) before after = PrintsPlan (contents federation.now) before after
+PrintsFor contents (Replay federation inputs schedule until_stuck) before after = ⊥
+PrintsFor contents (Run federation inputs turns) before after = ⊥
 
 -- for some request, what it asks for was printed
 pub record PrintsAnswer (contents : Contents) (before after : Option (List ℕ)) : Type 0 where

@@ -16,8 +16,8 @@ use Rattle.fedrun.specs.declared.fault.Fault.{Fault}
 use Rattle.fedrun.specs.declared.fault.Fault.TheVariants.{Usage, CannotRead, CannotWrite, Load, Turns, Print}
 use Rattle.fedrun.specs.declared.files.FileFault.{FileFault}
 use Rattle.fedrun.specs.declared.files.FileFault.TheVariants as file_fault
-use Rattle.fedrun.specs.declared.words.Request.{Request}
-use Rattle.fedrun.specs.declared.words.Request.TheVariants.{Whole, Check}
+use Rattle.words.specs.declared.request.Request.{Request}
+use Rattle.words.specs.declared.request.Request.TheVariants.{Whole, Check, Replay, Run}
 use Rattle.fedrun.specs.Faults.{status_of, line_of}
 use Rattle.fedrun.specs.Loaded.{Contents, input_file, IsFederation, RecordsInputs}
 use Rattle.fedrun.specs.Printed.{PrintsFirstRows}
@@ -77,6 +77,8 @@ IsFaultOf contents before after (Whole federation inputs turns) fault =
     ⊎ IsLastFault (input_file contents inputs.now) d (λ recorded g. IsRunFault d programs recorded turns before after g) f) fault
 IsFaultOf contents before after (Check federation) fault =
     IsFederationFault federation contents fault ⊎ IsLaterFault (contents federation.now) (λ d programs f. IsPrintFault before after f) fault
+IsFaultOf contents before after (Replay federation inputs schedule until_stuck) fault = ⊥
+IsFaultOf contents before after (Run federation inputs turns) fault = ⊥
 
 -- the fault is one of words, or stands against some request
 abbrev pub Stands : Contents → Option (List ℕ) → Option (List ℕ) → Fault → Type 0

@@ -8,11 +8,10 @@ ghost use Rattle.fedrun.specs.declared.files.FileFault.{FileFault as FileFaultOf
 ghost use Rattle.fedrun.specs.Faults.{status_of, line_of};
 ghost use Rattle.fedrun.specs.Loaded.{input_file, AreBytesOf, IsFederation, RecordsInputs};
 ghost use Rattle.fedrun.specs.Printed.{PrintsRows, PrintsFirstRows, PrintsRun, PrintsPlan, PrintsAnswer, IsPrinted, let_go_after};
-ghost use Rattle.fedrun.specs.Refused.{IsFederationFault, IsInputFault, IsRunFault, IsPrintFault, IsFaultOf, TellsFault, Stands, told_of_file};
+ghost use Rattle.fedrun.specs.Refused.{IsFederationFault, IsInputFault, IsRunFault, IsPrintFault, IsWordsFault, IsFaultOf, TellsFault, Stands, told_of_file};
 
 use crate::fault::Fault;
 use crate::files::{FileFault, Files};
-use crate::words::{Request, read_words};
 use loadfed::{LoadFault, MOST_BYTES, MOST_INPUT_BYTES, load, load_inputs};
 use plan::{Inputs, Plan};
 use printed::{plan_text, write_rows};
@@ -21,6 +20,7 @@ use std::alloc::Global;
 use std::io;
 use std::io::Write;
 use whole::Whole;
+use words::{Request, WordsFault, read_words};
 
 /// Of how many turns the rows are kept before they are written.
 const TURNS_AT_ONCE: u32 = 256;
@@ -100,13 +100,25 @@ fn run<'a, F: Files, O: Write>(
     ensures stands { IfErr result (Stands (F.contents files.old) (O.contents out.old) (O.contents out.new)) }
     ensures untouched { IfErr result (λ fault. status_of fault ≢ 3 → out.new ≡ out.old) }
 {
-    match read_words(alloc, words)? {
+    match requested(alloc, words)? {
         Request::Whole {
             federation,
             inputs,
             turns,
         } => whole(alloc, federation, inputs, turns, files, out),
         Request::Check { federation } => check(alloc, federation, files, out),
+        Request::Replay { .. } | Request::Run { .. } => Err(Fault::Usage),
+    }
+}
+
+/// What the words ask for.
+fn requested<'a>(alloc: Global, words: &'a [String]) -> Result<Request<'a>, Fault<'static>>
+    ensures { IfErr result IsWordsFault }
+{
+    match read_words(alloc, words) {
+        Ok(request) => Ok(request),
+        Err(WordsFault::Usage) => Err(Fault::Usage),
+        Err(WordsFault::Memory) => Err(Fault::Load(LoadFault::Memory)),
     }
 }
 

@@ -10,7 +10,6 @@ mod files;
 mod machine;
 #[cfg(test)]
 mod tests;
-mod words;
 
 use fault::Fault;
 use loadfed::LoadFault;

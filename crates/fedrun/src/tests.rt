@@ -4,8 +4,8 @@ mod federations;
 mod files;
 mod limits;
 mod reader;
+mod requests;
 mod rows;
-mod words;
 mod writers;
 
 use crate::command::command;

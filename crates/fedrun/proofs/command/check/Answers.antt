@@ -1,7 +1,7 @@
 use Rattle.std.proofs.Common.{inr}
 use Rattle.std.proofs.lemmas.Result.{IfErr-weaker, on_ok_weaker}
 use Rattle.fedrun.specs.Refused.{IsFaultOf, IsPrintFault}
-use Rattle.fedrun.specs.declared.words.Request.TheVariants.{Check}
+use Rattle.words.specs.declared.request.Request.TheVariants.{Check}
 use Rattle.fedrun.proofs.command.check.Goals as goal
 
 pub returns-clause-ok : goal.returns-clause-ok

@@ -2,7 +2,7 @@ use Rattle.std.proofs.Common.{inr, subst}
 use Rattle.std.proofs.lemmas.Result.{IfErr-weaker, on_ok_weaker}
 use Rattle.fedrun.specs.Loaded.{input_file, RecordsInputs}
 use Rattle.fedrun.specs.Refused.{IsFaultOf, IsRunFault}
-use Rattle.fedrun.specs.declared.words.Request.TheVariants.{Whole}
+use Rattle.words.specs.declared.request.Request.TheVariants.{Whole}
 use Rattle.fedrun.proofs.command.whole.Goals as goal
 
 pub returns-clause-ok : goal.returns-clause-ok

@@ -1,0 +1,121 @@
+use crate::request::Request;
+use clap::error::ErrorKind;
+use clap::{Arg, ArgAction, ArgMatches, Command};
+use std::alloc::{AllocError, Global};
+
+/// The turns of a run for which no number is given.
+const RUN_TURNS: u32 = 1_000_000;
+
+/// Why the words give no request.
+#[derive(Clone, Copy, Debug, PartialEq, Eq)]
+pub enum WordsFault {
+    /// They are no command: whoever gave them corrects them.
+    Usage,
+    /// An allocation failed. The same words may be given again.
+    Memory,
+}
+
+/// What the words ask for: one subcommand with its arguments and options.
+pub fn read_words<'a>(alloc: Global, words: &'a [String]) -> Result<Request<'a>, WordsFault> {
+    let Ok(command) = commands(alloc) else {
+        return Err(WordsFault::Memory);
+    };
+    match command.try_get_matches_from(words) {
+        Ok(matches) => requested(&matches).ok_or(WordsFault::Usage),
+        Err(error) if error.kind() == ErrorKind::OutOfMemory => Err(WordsFault::Memory),
+        Err(_) => Err(WordsFault::Usage),
+    }
+}
+
+/// The request of words that were parsed.
+fn requested<'a>(matches: &ArgMatches<'a>) -> Option<Request<'a>> {
+    if let Some(given) = matches.subcommand_matches("whole") {
+        return whole(given);
+    }
+    if let Some(given) = matches.subcommand_matches("check") {
+        return check(given);
+    }
+    if let Some(given) = matches.subcommand_matches("replay") {
+        return replay(given);
+    }
+    run(matches.subcommand_matches("run")?)
+}
+
+/// The subcommands, with their arguments and options.
+fn commands<'a>(alloc: Global) -> Result<Command<'a>, AllocError> {
+    let replay = subcommand(alloc, "replay", &["FED", "IN", "SCHEDULE"])?;
+    Command::new(alloc, "fedrun")
+        .no_binary_name(true)
+        .disable_help_flag(true)
+        .disable_help_subcommand(true)
+        .subcommand_required(true)
+        .subcommand(subcommand(alloc, "whole", &["FED", "IN", "TURNS"])?)?
+        .subcommand(subcommand(alloc, "check", &["FED"])?)?
+        .subcommand(replay.arg(option(alloc, "until-stuck"))?)
+}
+
+/// A subcommand with arguments that have to be there.
+fn subcommand<'a>(
+    alloc: Global,
+    name: &'a str,
+    arguments: &[&'a str],
+) -> Result<Command<'a>, AllocError> {
+    let mut command = Command::new(alloc, name).disable_help_flag(true);
+    for argument in arguments {
+        command = command.arg(Arg::new(alloc, *argument).required(true))?;
+    }
+    Ok(command)
+}
+
+/// An option with a value, which may be given once.
+fn option<'a>(alloc: Global, name: &'a str) -> Arg<'a> {
+    Arg::new(alloc, name).long(name).action(ArgAction::Set)
+}
+
+fn whole<'a>(given: &ArgMatches<'a>) -> Option<Request<'a>> {
+    Some(Request::Whole {
+        federation: given.get_str("FED")?,
+        inputs: given.get_str("IN")?,
+        turns: count(given.get_str("TURNS")?)?,
+    })
+}
+
+fn check<'a>(given: &ArgMatches<'a>) -> Option<Request<'a>> {
+    Some(Request::Check {
+        federation: given.get_str("FED")?,
+    })
+}
+
+fn replay<'a>(given: &ArgMatches<'a>) -> Option<Request<'a>> {
+    let until_stuck = match given.get_str("until-stuck") {
+        Some(rounds) => Some(count(rounds)?),
+        None => None,
+    };
+    Some(Request::Replay {
+        federation: given.get_str("FED")?,
+        inputs: given.get_str("IN")?,
+        schedule: given.get_str("SCHEDULE")?,
+        until_stuck,
+    })
+}
+
+fn run<'a>(given: &ArgMatches<'a>) -> Option<Request<'a>> {
+    let turns = match given.get_str("turns") {
+        Some(turns) => count(turns)?,
+        None => RUN_TURNS,
+    };
+    Some(Request::Run {
+        federation: given.get_str("FED")?,
+        inputs: given.get_str("IN")?,
+        turns,
+    })
+}
+
+/// A number of turns or rounds, in ASCII digits.
+fn count(text: &str) -> Option<u32> {
+    if text.bytes().all(|byte| byte.is_ascii_digit()) {
+        text.parse::<u32>().ok()
+    } else {
+        None
+    }
+}
