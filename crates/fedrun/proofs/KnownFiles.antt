@@ -4,7 +4,7 @@ use Rattle.std.specs.Borrow.{Bor}
 use Rattle.loadfed.specs.declared.fault.LoadFault.{LoadFault}
 use Rattle.loadfed.specs.declared.fault.LoadFault.TheVariants.{Memory}
 use Rattle.fedrun.specs.declared.fault.Fault.TheVariants.{Load}
-use Rattle.fedrun.specs.Loaded.{AreBytesOf}
+use Rattle.files.specs.Contents.{AreBytesOf}
 use Rattle.fedrun.specs.Refused.{IsFileFault}
 
 holds_of_file : (P : List ℕ → Type 0) (known : Option (List ℕ)) (bytes : List ℕ) → AreBytesOf known bytes → P bytes → IfSome known P

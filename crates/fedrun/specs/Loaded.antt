@@ -1,6 +1,7 @@
 -- The federation and the recorded inputs that files are. What a file holds is said where its bytes are known.
-use Rattle.std.specs.Prelude.{◌≡◌, ℕ, List, [], Option, Some, IfSome, codes, if◌then◌else◌}
+use Rattle.std.specs.Prelude.{ℕ, List, [], Option, Some, codes, if◌then◌else◌}
 use Rattle.std.specs.Str.{bytes_eq}
+use Rattle.files.specs.Contents.{Contents, AreBytesOf}
 use Rattle.plan.specs.declared.draft.Draft.{Draft}
 use Rattle.plan.specs.declared.input.Input.{Input}
 use Rattle.plan.specs.External.{AreInputsOf}
@@ -9,17 +10,9 @@ use Rattle.reactor.specs.Programs.{AreProgramsOf}
 use Rattle.loadfed.specs.Loaded.{IsFederationFile}
 use Rattle.loadfed.specs.InputShape.{SaysInputFile}
 
--- the bytes of files by name, where they are known
-abbrev pub Contents : Type 0
-Contents = List ℕ → Option (List ℕ)
-
 -- the bytes of an input file; `-` is a file without any
 abbrev pub input_file : Contents → List ℕ → Option (List ℕ)
 input_file contents name = if bytes_eq name (codes "-") then Some [] else contents name
-
--- these are the file's bytes, where they are known
-abbrev pub AreBytesOf : Option (List ℕ) → List ℕ → Type 0
-AreBytesOf known bytes = IfSome known (λ there. bytes ≡ there)
 
 -- the file is this federation with these programs
 pub record IsFederation (known : Option (List ℕ)) (d : Draft) (programs : List Behaviour) : Type 0 where

@@ -14,13 +14,14 @@ use Rattle.loadfed.specs.Loaded.{HasLoadFault}
 use Rattle.loadfed.specs.InputShape.{HasInputFileFault}
 use Rattle.fedrun.specs.declared.fault.Fault.{Fault}
 use Rattle.fedrun.specs.declared.fault.Fault.TheVariants.{Usage, CannotRead, CannotWrite, Load, Turns, Print}
-use Rattle.fedrun.specs.declared.files.FileFault.{FileFault}
-use Rattle.fedrun.specs.declared.files.FileFault.TheVariants as file_fault
+use Rattle.files.specs.declared.named.FileFault.{FileFault}
+use Rattle.files.specs.declared.named.FileFault.TheVariants as file_fault
+use Rattle.files.specs.Contents.{Contents}
 use Rattle.words.specs.declared.request.Request.{Request}
 use Rattle.words.specs.declared.request.Request.TheVariants.{Whole, Check, Replay, Run}
 use Rattle.fedrun.specs.Faults.{status_of, line_of}
-use Rattle.fedrun.specs.Loaded.{Contents, input_file, IsFederation, RecordsInputs}
-use Rattle.fedrun.specs.Printed.{PrintsFirstRows}
+use Rattle.fedrun.specs.Loaded.{input_file, IsFederation, RecordsInputs}
+use Rattle.undivided.specs.Printed.{PrintsFirstRows}
 
 -- what is told of words
 abbrev pub IsWordsFault : Fault → Type 0

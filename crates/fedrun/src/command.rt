@@ -1,29 +1,26 @@
-ghost use Rattle.std.specs.Prelude.{◌≡◌, ◌≢◌, ◌<◌, ◌≤◌, ℕ, Bool, List, [], Option, length, IsTrue, IfOk, IfErr, IfSome, OnOk, OnErr, string_bytes, vec_len};
+ghost use Rattle.std.specs.Prelude.{◌≡◌, ◌≢◌, ◌<◌, ◌≤◌, ℕ, Bool, length, IsTrue, IfOk, IfErr, IfSome, OnOk, string_bytes, vec_len};
 ghost use Rattle.std.specs.Io.KnownBytes.{Appends};
 ghost use Rattle.printed.specs.PlanText.{printed_plan};
 ghost use Rattle.plan.specs.External.{AreInputsOf};
 ghost use Rattle.reactor.specs.Programs.{AreProgramsOf};
-ghost use Rattle.whole.specs.Progress.{pending_in};
-ghost use Rattle.fedrun.specs.declared.files.FileFault.{FileFault as FileFaultOf};
+ghost use Rattle.undivided.specs.Printed.{PrintsRows};
+ghost use Rattle.files.specs.Contents.{AreBytesOf};
+ghost use Rattle.files.specs.declared.named.FileFault.{FileFault as FileFaultOf};
 ghost use Rattle.fedrun.specs.Faults.{status_of, line_of};
-ghost use Rattle.fedrun.specs.Loaded.{input_file, AreBytesOf, IsFederation, RecordsInputs};
-ghost use Rattle.fedrun.specs.Printed.{PrintsRows, PrintsFirstRows, PrintsRun, PrintsPlan, PrintsAnswer, IsPrinted, let_go_after};
+ghost use Rattle.fedrun.specs.Loaded.{input_file, IsFederation, RecordsInputs};
+ghost use Rattle.fedrun.specs.Printed.{PrintsRun, PrintsPlan, PrintsAnswer};
 ghost use Rattle.fedrun.specs.Refused.{IsFederationFault, IsInputFault, IsRunFault, IsPrintFault, IsWordsFault, IsFaultOf, TellsFault, Stands, told_of_file};
 
 use crate::fault::Fault;
-use crate::files::{FileFault, Files};
+use files::{FileFault, Files};
 use loadfed::{LoadFault, MOST_BYTES, MOST_INPUT_BYTES, load, load_inputs};
 use plan::{Inputs, Plan};
-use printed::{plan_text, write_rows};
+use printed::plan_text;
 use reactor::Programs;
 use std::alloc::Global;
-use std::io;
 use std::io::Write;
-use whole::Whole;
+use undivided::{TurnsFault, print_turns};
 use words::{Request, WordsFault, read_words};
-
-/// Of how many turns the rows are kept before they are written.
-const TURNS_AT_ONCE: u32 = 256;
 
 /// Does what the words ask for, over these files, and answers the exit status: 0 where it is done, 1 where what it was given
 /// is refused or can't be read, 2 where the words are no command, 3 where it couldn't finish. What it has to say of a
@@ -218,8 +215,7 @@ fn told<'a>(name: &'a str, why: FileFault) -> Fault<'a>
     }
 }
 
-/// Prints the rows of the undivided program after at most so many turns, one a line, as they are made. Where there is no
-/// memory for a turn, the rows before it are written.
+/// Prints the rows of the undivided program after at most so many turns.
 fn print_run<O: Write>(
     alloc: Global,
     plan: &Plan,
@@ -234,59 +230,11 @@ fn print_run<O: Write>(
     ensures stands { IfErr result (IsRunFault plan.now programs.now inputs.now turns (O.contents out.old) (O.contents out.new)) }
     ensures late { IfErr result (λ fault. status_of fault ≡ 3) }
 {
-    let mut program = match Whole::new(alloc, plan, programs, inputs) {
-        Ok(program) => program,
-        Err(memory) => return Err(Fault::Turns(memory)),
-    };
-    let turned = print_turns(&mut program, plan, turns, out).map_err(|_| Fault::CannotWrite)?;
-    out.flush().map_err(|_| Fault::CannotWrite)?;
-    match turned {
+    match print_turns(alloc, plan, programs, inputs, turns, out) {
         Ok(()) => Ok(()),
-        Err(memory) => Err(Fault::Turns(memory)),
+        Err(TurnsFault::Memory(memory)) => Err(Fault::Turns(memory)),
+        Err(TurnsFault::CannotWrite) => Err(Fault::CannotWrite),
     }
-}
-
-/// Makes at most so many turns, or as many as there is memory for, and prints their rows.
-fn print_turns<O: Write>(
-    program: &mut Whole<'_>,
-    plan: &Plan,
-    turns: u32,
-    out: &mut O,
-) -> io::Result<Result<(), reactor::Memory>>
-    requires draft { program.old.draft ≡ plan.now }
-    requires none_made { program.old.turns ≡ 0 }
-    requires none_gone { program.old.gone ≡ 0 }
-    ensures ok { IfOk result (λ turned. OnOk turned (PrintsRows plan.now program.old.programs program.old.inputs turns (O.contents out.old) (O.contents out.new))) }
-    ensures err { IfOk result (λ turned. OnErr turned (PrintsFirstRows plan.now program.old.programs program.old.inputs turns (O.contents out.old) (O.contents out.new))) }
-{
-    let mut left = turns;
-    while left > 0 {
-        let most = left.min(TURNS_AT_ONCE);
-        match print_some(program, plan, most, out)? {
-            Ok(made) if made == most => left -= made,
-            Ok(_) => return Ok(Ok(())),
-            Err(memory) => return Ok(Err(memory)),
-        }
-    }
-    Ok(Ok(()))
-}
-
-/// Makes at most so many turns, prints their rows, and lets go of them.
-fn print_some<O: Write>(
-    program: &mut Whole<'_>,
-    plan: &Plan,
-    most: u32,
-    out: &mut O,
-) -> io::Result<Result<u32, reactor::Memory>>
-    requires { program.old.draft ≡ plan.now }
-    ensures printed { OnOk result ((before : Option (List ℕ)) → IsPrinted program.old before (O.contents out.old) → IsPrinted program.new before (O.contents out.new)) }
-    ensures made { IfOk result (λ turned. IfOk turned (λ made. (program.new ≡ let_go_after made program.old) × (made ≤ most) × (made < most → pending_in program.new ≡ []))) }
-    ensures err { IfOk result (λ turned. OnErr turned ((made : ℕ) × (program.new ≡ let_go_after made program.old) × (made < most))) }
-{
-    let turned = program.turns(most);
-    write_rows(out, plan, program.rows())?;
-    program.let_go();
-    Ok(turned)
 }
 
 /// Prints the plan.

@@ -6,14 +6,12 @@
 
 mod command;
 mod fault;
-mod files;
-mod machine;
 #[cfg(test)]
 mod tests;
 
 use fault::Fault;
+use files::MachineFiles;
 use loadfed::LoadFault;
-use machine::MachineFiles;
 use std::io::{BufWriter, ErrorKind, Stdout};
 use std::process::ExitCode;
 use std::{env, io};

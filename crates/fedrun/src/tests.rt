@@ -1,16 +1,16 @@
 //! What the program prints and tells, by its words and files.
 mod faults;
 mod federations;
-mod files;
 mod limits;
 mod reader;
 mod requests;
 mod rows;
+mod two_files;
 mod writers;
 
 use crate::command::command;
-use files::TwoFiles;
 use std::alloc::Global;
+use two_files::TwoFiles;
 
 /// What a command answered and wrote.
 #[derive(Drop)]

@@ -1,7 +1,7 @@
 //! Files of the longest length and one byte more, as many federates and reactions as there may be and one more, and want of
 //! memory for a file.
 use super::federations::{CONNECTION, RECEIVER, SENDER};
-use super::files::NoMemory;
+use super::two_files::NoMemory;
 use super::{given, joined, outcome_of};
 use crate::command::command;
 use std::alloc::Global;

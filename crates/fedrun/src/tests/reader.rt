@@ -1,6 +1,5 @@
 //! How a file is read to its end: in pieces, with interruptions, up to its limit, and with errors.
-use crate::files::{FileFault, Files};
-use crate::machine::{MachineFiles, read_to_end};
+use files::{FileFault, Files, MachineFiles, read_to_end};
 use std::alloc::Global;
 use std::io::{ErrorKind, Read};
 use std::{fs, io, rt};

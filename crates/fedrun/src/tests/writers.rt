@@ -1,6 +1,6 @@
 //! Writers that refuse.
 use super::federations::{CONNECTION, RECEIVER, SENDER};
-use super::files::TwoFiles;
+use super::two_files::TwoFiles;
 use super::{given, joined};
 use crate::command::command;
 use std::io;

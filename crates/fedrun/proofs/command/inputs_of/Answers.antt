@@ -1,6 +1,7 @@
 use Rattle.std.proofs.Common.{rules}
 use Rattle.loadfed.specs.InputShape.{HasInputFileFault}
-use Rattle.fedrun.specs.Loaded.{AreBytesOf, input_file}
+use Rattle.files.specs.Contents.{AreBytesOf}
+use Rattle.fedrun.specs.Loaded.{input_file}
 use Rattle.fedrun.proofs.KnownFiles.{refused_file}
 use Rattle.fedrun.proofs.command.inputs_of.Goals as goal
 

@@ -1,6 +1,6 @@
 use Rattle.std.proofs.Common.{◌≤◌, vec_len}
 use Rattle.std.specs.Io.KnownBytes.{Consumes}
-use Rattle.fedrun.proofs.machine.read_to_end.Given as goal
+use Rattle.files.proofs.machine.read_to_end.Given as goal
 
 abbrev pub invariant-loop : goal.invariant-loop
 invariant-loop g l = record {

@@ -1,6 +1,6 @@
 ghost use Rattle.std.specs.Prelude.{◌≡◌, ◌<◌, ◌≤◌, ℕ, List, Option, None, IfOk, IfSome, length, vec_len};
-ghost use Rattle.fedrun.specs.Loaded.{AreBytesOf};
-ghost use Rattle.fedrun.specs.declared.files.FileFault.TheVariants.{OverLimit as over_limit};
+ghost use Rattle.files.specs.Contents.{AreBytesOf};
+ghost use Rattle.files.specs.declared.named.FileFault.TheVariants.{OverLimit as over_limit};
 
 /// Why a file's bytes can't be had. Nothing of them is kept.
 #[derive(Clone, Copy, Debug, PartialEq, Eq)]

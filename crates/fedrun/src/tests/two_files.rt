@@ -1,5 +1,5 @@
 //! Files in memory.
-use crate::files::{FileFault, Files};
+use files::{FileFault, Files};
 use std::alloc::Global;
 
 /// The files `fed.toml`, `in.toml` and `-in.toml`, which is the second again.

@@ -1,9 +1,9 @@
 ghost use Rattle.std.specs.Prelude.{◌≡◌, ◌≢◌, ◌<◌, ◌≤◌, IfOk, IfSome, OnOk, length, vec_len};
 ghost use Rattle.std.specs.IoError.{error_kind};
 ghost use Rattle.std.specs.Io.KnownBytes.{Consumes, IsAtEnd};
-ghost use Rattle.fedrun.specs.declared.files.FileFault.TheVariants.{Unreadable, OverLimit, Memory};
+ghost use Rattle.files.specs.declared.named.FileFault.TheVariants.{Unreadable, OverLimit, Memory};
 
-use crate::files::{FileFault, Files};
+use crate::named::{FileFault, Files};
 use std::alloc::Global;
 use std::io::{ErrorKind, Read};
 use std::{fs, io, rt};

@@ -1,5 +1,5 @@
-use Rattle.fedrun.proofs.Batches.{Going}
-use Rattle.fedrun.proofs.command.print_turns.Given as goal
+use Rattle.undivided.proofs.Batches.{Going}
+use Rattle.undivided.proofs.turns.print_in_batches.Given as goal
 
 abbrev pub invariant-loop-left : goal.invariant-loop-left
 invariant-loop-left g l =

@@ -12,7 +12,7 @@ use Rattle.plan.specs.declared.input.Input.{Input}
 use Rattle.reactor.specs.Behaviour.{Behaviour}
 use Rattle.whole.specs.Progress.{Progress, network_in, all_rows_in, rows_in, later_by}
 use Rattle.printed.specs.RowText.{printed_line, printed_rows}
-use Rattle.fedrun.specs.Printed.{PrintsFirstRows, IsPrinted, let_go_after}
+use Rattle.undivided.specs.Printed.{PrintsFirstRows, IsPrinted, let_go_after}
 
 -- some turns are made, whatever the answer
 pub some_made : {E : Type 0} (answer : Result ℕ E) (most : ℕ) (p q : Progress) → IfOk answer (λ made. q ≡ later_by made p)

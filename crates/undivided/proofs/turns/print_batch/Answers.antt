@@ -2,9 +2,9 @@
 use Rattle.std.proofs.Common.{◌≡◌, ◌∙◌, ap, sym}
 use Rattle.plan.specs.declared.draft.Draft.{Draft}
 use Rattle.whole.specs.Progress.{Progress}
-use Rattle.fedrun.specs.Printed.{let_go_after}
-use Rattle.fedrun.proofs.Batches.{some_made, printed_further}
-use Rattle.fedrun.proofs.command.print_some.Goals as goal
+use Rattle.undivided.specs.Printed.{let_go_after}
+use Rattle.undivided.proofs.Batches.{some_made, printed_further}
+use Rattle.undivided.proofs.turns.print_batch.Goals as goal
 
 pub returns-clause-printed : goal.returns-clause-printed
 returns-clause-printed g c before so_far =

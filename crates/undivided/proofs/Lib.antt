@@ -1,0 +1,3 @@
+-- Lemmas.
+-- rows that are written some turns at a time
+pub mod Batches
