@@ -9,6 +9,13 @@ use Rattle.reactor.specs.Behaviour.{Behaviour}
 use Rattle.reactor.specs.Programs.{AreProgramsOf}
 use Rattle.schedule.specs.Kept.{is_forget}
 use Rattle.schedule.specs.Federation.{Federation, world_after}
+use Rattle.world.specs.World.{WorldView}
+
+-- a legal plan, with its programs and inputs
+pub record IsFederation (w : WorldView) : Type 0 where
+  pub legal : IsLegal w.draft
+  pub programs_fit : AreProgramsOf w.draft w.programs
+  pub inputs_fit : AreInputsOf w.draft w.inputs
 
 -- its plan is legal, its programs and inputs are the plan's, its stations are those after its steps, and it knows whether somebody
 -- forgot

@@ -6,6 +6,7 @@
 //! Begin with `specs/World` and `specs/Faithful`, then `world`.
 #![tactic(auto)]
 
+mod opened;
 pub mod world;
 
 pub use schedule::{Dir, Outcome, Step};

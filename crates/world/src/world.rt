@@ -1,4 +1,5 @@
-ghost use Rattle.std.specs.Prelude.{◌≡◌, ℕ, ◌<◌, [], take, length, option_map, slice_get, IsTrue, IfOk, OnOk, OnErr, ◌↔◌};
+ghost use Rattle.std.specs.Prelude.{◌≡◌, ℕ, ◌<◌, [], take, length, option_map, slice_get, IsTrue, IfOk, OnOk, OnErr, ◌↔◌, ◌||◌};
+ghost use Rattle.std.specs.List.{list_any};
 ghost use Rattle.link.specs.Image.{room_left};
 ghost use Rattle.plan.specs.External.{AreInputsOf};
 ghost use Rattle.plan.specs.Federation.{federate_count};
@@ -9,8 +10,11 @@ ghost use Rattle.schedule.specs.Kept.{is_kept, is_forget, is_forget_of};
 ghost use Rattle.schedule.specs.Taken.{sender};
 ghost use Rattle.schedule.specs.World.{frames_in, frame_at};
 ghost use Rattle.world.specs.World.{stations_of, with_step, with_steps};
+ghost use Rattle.world.specs.Made.{IsFederation};
 ghost use Rattle.world.specs.Faithful.{IsFaithful, ArePlain};
+ghost use Rattle.world.specs.Quiet.{IsQuiet, IsSilent, SendsNoMore};
 
+use crate::opened::{new_hub, new_members};
 use coordinator::Coordinator;
 use federate::Federate;
 use node::Node;
@@ -62,8 +66,17 @@ impl<'a> World<'a> {
         requires inputs { AreInputsOf plan.now inputs.now }
         ensures { IfOk result (λ world. world ≡ record { draft = plan.now; programs = programs.now; inputs = inputs.now; steps = [] }) }
     {
-        let _ = (alloc, plan, programs, inputs);
-        Err(Memory)
+        plan.known();
+        let coordinator = new_hub(alloc, plan)?;
+        let federates = new_members(alloc, plan, programs, inputs)?;
+        let stations = Stations::new(alloc, coordinator, federates)?;
+        Ok(World {
+            plan,
+            programs,
+            inputs,
+            stations,
+            has_forgotten: false,
+        })
     }
 
     /// What holds of every world.
@@ -83,7 +96,8 @@ impl<'a> World<'a> {
         ensures faithful { IsFaithful self.new }
     {
         let outcome = self.stations.apply(step)?;
-        self.has_forgotten = self.has_forgotten || is_forget(step);
+        let has_forgotten = somebody_forgot(self.has_forgotten, step);
+        self.has_forgotten = has_forgotten;
         Ok(outcome)
     }
 
@@ -94,10 +108,10 @@ impl<'a> World<'a> {
         ensures plain { ArePlain self.new }
         ensures faithful { IsFaithful self.new }
     {
+        self.fits();
         for step in steps {
             self.apply(*step)?;
         }
-        self.known();
         Ok(())
     }
 
@@ -126,10 +140,7 @@ impl<'a> World<'a> {
     pub fn kept(&self, federate: usize) -> bool
         ensures { result ≡ is_kept self.now.steps federate }
     {
-        !self
-            .steps()
-            .iter()
-            .any(|step| is_forget_of(federate, *step))
+        !is_among(federate, self.steps())
     }
 
     /// Whether the coordinator says that all is finished.
@@ -172,15 +183,67 @@ impl<'a> World<'a> {
     pub fn stuck(&self) -> bool
         ensures { IsTrue result ↔ IsStuck (stations_of self.now) }
     {
-        false
+        !self.has_forgotten && self.is_quiet()
+    }
+
+    // Its plan is legal, and its programs and inputs are the plan's.
+    fn fits(&self)
+        ensures { IsFederation self.now }
+    {
+        let _ = &self.plan;
+    }
+
+    // Whether nothing is left to be done at any federate.
+    fn is_quiet(&self) -> bool
+        ensures { IsTrue result ↔ ((j : ℕ) → IsQuiet (stations_of self.now) j) }
+    {
+        for federate in 0..self.plan.federate_count() {
+            if !self.is_quiet_at(federate) {
+                return false;
+            }
+        }
+        true
+    }
+
+    // Whether nothing is left to be done at a federate, in either direction of its link.
+    fn is_quiet_at(&self, federate: usize) -> bool
+        ensures { IsTrue result ↔ IsQuiet (stations_of self.now) federate }
+    {
+        self.sends_no_more(Dir::Up(federate))
+            && self.sends_no_more(Dir::Down(federate))
+            && self.is_silent(federate)
+    }
+
+    // Whether the sender of a direction keeps no signal.
+    fn sends_no_more(&self, dir: Dir) -> bool
+        ensures { IsTrue result ↔ SendsNoMore (stations_of self.now) dir }
+    {
+        matches!(self.unacked(dir), None | Some(0))
+    }
+
+    // Whether a federate has nothing to announce and nothing to run.
+    fn is_silent(&self, federate: usize) -> bool
+        ensures { IsTrue result ↔ IsSilent (stations_of self.now) federate }
+    {
+        match self.stations.federate(federate) {
+            Some(station) => station.node().has_announced() && station.node().is_waiting(),
+            None => true,
+        }
     }
 }
 
-// Whether a step makes some federate forget.
-fn is_forget(step: Step) -> bool
-    ensures { result ≡ is_forget step }
+// Whether some federate forgot, at this step or before.
+fn somebody_forgot(before: bool, step: Step) -> bool
+    ensures { result ≡ (before || is_forget step) }
 {
-    matches!(step, Step::Forget(_))
+    before || matches!(step, Step::Forget(_))
+}
+
+// Whether one of these steps makes this federate forget.
+fn is_among(federate: usize, steps: &[Step]) -> bool
+    ensures { result ≡ list_any (is_forget_of federate) steps.now }
+{
+    steps.iter().any(|step| is_forget_of(federate, *step))
 }
 
 // Whether a step makes this federate forget.

@@ -1,0 +1,41 @@
+-- What holds of every world, by the laws of a federation's worlds.
+use Rattle.std.proofs.Common.{◌≡◌, List, sym, subst}
+use Rattle.plan.specs.Federation.{federate_count}
+use Rattle.reactor.proofs.LawfulNetwork.{gives_lawful_with}
+use Rattle.cores.specs.FederateCore.{federate_core}
+use Rattle.cores.specs.CoordinatorCore.{coordinator_core}
+use Rattle.schedule.specs.declared.limits.TheConstants.{LINK_ROOM}
+use Rattle.schedule.specs.declared.step.Step.{Step}
+use Rattle.schedule.specs.declared.outcome.Outcome.{Outcome}
+use Rattle.schedule.specs.Federation.{opening_coordinator, opening_member, step_in, IsPlain}
+use Rattle.schedule.proofs.InOrder.{taken_in_order}
+use Rattle.schedule.proofs.Late.{nothing_late}
+use Rattle.schedule.proofs.Rows.{rows_begin, stuck_rows, finished_rows}
+use Rattle.schedule.proofs.Worlds.{refusals_are_plain}
+use Rattle.world.specs.Made.{IsFederation}
+use Rattle.world.specs.World.{WorldView, stations_of, with_steps}
+use Rattle.world.specs.Faithful.{IsFaithful, ArePlain}
+
+pub faithful : (w : WorldView) → IsFederation w → IsFaithful w
+faithful w fit =
+    let lawful = gives_lawful_with w.draft w.programs w.inputs fit.legal fit.programs_fit fit.inputs_fit in
+    record {
+      nothing_late = λ j. nothing_late w.draft w.programs w.inputs w.steps j lawful;
+      beginning = λ j below kept. rows_begin w.draft w.programs w.inputs w.steps j lawful below kept;
+      stuck = λ stuck j below. stuck_rows w.draft w.programs w.inputs w.steps j lawful stuck below;
+      finished = λ finished j below. finished_rows w.draft w.programs w.inputs w.steps j lawful finished below;
+      in_order = taken_in_order coordinator_core federate_core (opening_coordinator w.draft) (federate_count w.draft) (opening_member w.draft w.programs w.inputs) LINK_ROOM w.steps;
+    }
+
+pub plain : (w : WorldView) → IsFederation w → ArePlain w
+plain w fit before after step is = refusals_are_plain w.draft w.programs w.inputs before step (gives_lawful_with w.draft w.programs w.inputs fit.legal fit.programs_fit fit.inputs_fit)
+
+-- nor is the next step refused otherwise
+pub plain_next : (w : WorldView) (step : Step) (o : Outcome) → IsFederation w → o ≡ (step_in (stations_of w) step).outcome → IsPlain o
+plain_next w step o fit told =
+    subst IsPlain (sym told)
+    (refusals_are_plain w.draft w.programs w.inputs w.steps step (gives_lawful_with w.draft w.programs w.inputs fit.legal fit.programs_fit fit.inputs_fit))
+
+-- through steps the plan stays, with its programs and inputs
+pub still_fit : (w later : WorldView) (steps : List Step) → IsFederation w → later ≡ with_steps w steps → IsFederation later
+still_fit w later steps fit is = subst IsFederation (sym is) (record { legal = fit.legal; programs_fit = fit.programs_fit; inputs_fit = fit.inputs_fit })

@@ -1,0 +1,68 @@
+-- When a world is stuck: nobody forgot, and nothing is left to be done at any federate.
+use Rattle.std.proofs.Common.{◌≡◌, ℕ, ◌<◌, ◌≤◌, ◌⊎◌, inl, inr, Bool, true, false, length, slice_get, None, ◌↔◌, refl, sym, ap, subst, ◌∙◌, arith}
+use Rattle.std.specs.Prelude.{IfSome, []}
+use Rattle.plan.specs.Federation.{federate_count}
+use Rattle.reactor.proofs.LawfulNetwork.{gives_lawful_with}
+use Rattle.std.specs.List.{list_any}
+use Rattle.std.proofs.lemmas.Bool.{cases_lt}
+use Rattle.schedule.specs.declared.dir.Dir.{Dir}
+use Rattle.schedule.specs.declared.dir.Dir.TheVariants.{Up, Down}
+use Rattle.schedule.specs.Kept.{is_forget}
+use Rattle.schedule.specs.Taken.{sender, own_end}
+use Rattle.schedule.specs.Federation.{Federation, IsStuck}
+use Rattle.schedule.proofs.Emptied.{shows_at_the_ends}
+use Rattle.schedule.proofs.Shown.{nothing_beyond}
+use Rattle.schedule.proofs.Worlds.{stands, listed_so}
+use Rattle.world.specs.Made.{IsFederation}
+use Rattle.world.specs.World.{WorldView, stations_of}
+use Rattle.world.specs.Quiet.{SendsNoMore, IsQuiet}
+use Rattle.world.proofs.Silence.{silent_where_none}
+
+quiet_where_none : (w : Federation) (j : ℕ) → slice_get w.coordinator.ends j ≡ None → slice_get w.federates j ≡ None → IsQuiet w j
+quiet_where_none w j no_end no_federate = record {
+  up = rw (no_federate) tt;
+  down = rw (no_end) tt;
+  silent = silent_where_none w j no_federate;
+}
+
+-- nothing is left to be done at a federate that isn't there
+quiet_beyond : (w : WorldView) (j : ℕ) → IsFederation w → federate_count w.draft ≤ j → IsQuiet (stations_of w) j
+quiet_beyond w j fit beyond =
+    let lawful = gives_lawful_with w.draft w.programs w.inputs fit.legal fit.programs_fit fit.inputs_fit in
+    let shown = (stands w.draft w.programs w.inputs w.steps lawful).stands.run.shown in
+    let ends = shown.ends in
+    let federates = shown.federates in
+    quiet_where_none (stations_of w) j (nothing_beyond (stations_of w).coordinator.ends j (omega arith)) (nothing_beyond (stations_of w).federates j (omega arith))
+
+-- so it is enough to look at those that are
+pub all_quiet : (w : WorldView) → IsFederation w →
+    ((j : ℕ) → j < federate_count w.draft → IsQuiet (stations_of w) j) → (j : ℕ) → IsQuiet (stations_of w) j
+all_quiet w fit quiet j =
+    elim (cases_lt j (federate_count w.draft)) [
+      | inl below ↦ quiet j below
+      | inr beyond ↦ quiet_beyond w j fit (let there = beyond in omega arith)
+    ]
+
+keeps : (w : Federation) → ((j : ℕ) → IsQuiet w j) → (dir : Dir) → SendsNoMore w dir
+keeps w quiet (Up j) = (quiet j).up
+keeps w quiet (Down j) = (quiet j).down
+
+-- a world without forgetting is stuck where nothing is left to be done
+pub stuck_is : (w : WorldView) → IsFederation w → list_any is_forget w.steps ≡ false →
+    ((j : ℕ) → IsQuiet (stations_of w) j) ↔ IsStuck (stations_of w)
+stuck_is w fit none =
+    let lawful = gives_lawful_with w.draft w.programs w.inputs fit.legal fit.programs_fit fit.inputs_fit in
+    let none_so : list_any is_forget (stations_of w).steps ≡ false = ap (list_any is_forget) (listed_so w.draft w.programs w.inputs w.steps) ∙ none in
+    let shows = shows_at_the_ends w.draft w.programs w.inputs w.steps lawful none_so in (
+      (λ quiet. record {
+        kept = none_so;
+        settled = shows.1 (keeps (stations_of w) quiet);
+        announced = λ j. (quiet j).silent.announced;
+        advanced = λ j. (quiet j).silent.advanced;
+      }),
+      (λ stuck j. record {
+        up = shows.0 stuck.settled (Up j);
+        down = shows.0 stuck.settled (Down j);
+        silent = record { announced = stuck.announced j; advanced = stuck.advanced j };
+      }),
+    )

@@ -1,0 +1,8 @@
+use Rattle.std.proofs.Common.{ap, ◌∙◌}
+use Rattle.schedule.specs.World.{frames_in, frame_at}
+use Rattle.schedule.specs.Federation.{Federation}
+use Rattle.world.proofs.Seen.{seen}
+use Rattle.world.proofs.world.World.frame.Goals as goal
+
+pub returns : goal.returns
+returns c = c.frame.ensures ∙ ap (λ (w : Federation). frame_at (frames_in w c.args.dir) c.args.k) (seen c.self.view_is c.self.invariant).stations_are
