@@ -1,4 +1,4 @@
--- The number of its refusal.
+-- How its refusal is told.
 pub mod Numbers
 -- How many frames a step sends, and the lists of frames with their memory.
 pub mod Room

@@ -1,6 +1,7 @@
 ghost use Rattle.std.specs.Prelude.{◌≡◌};
 
 use std::alloc::{AllocError, AllocFailed};
+use std::fmt;
 
 /// No memory was to be had for a step: the world is as before that step.
 #[derive(Clone, Copy, Debug, PartialEq, Eq)]
@@ -16,6 +17,20 @@ impl Memory {
         90
     }
 }
+
+impl fmt::Display for Memory {
+    ghost use Rattle.std.specs.Prelude.{Some};
+    ghost use Rattle.stage.specs.Numbers.{told_out_of_memory};
+
+    ghost output = { λ memory. Some told_out_of_memory };
+
+    fn fmt<W: fmt::Write>(&self, f: &mut fmt::Formatter<W>) -> fmt::Result {
+        let number = self.number();
+        write!(f, "{number} Memory")
+    }
+}
+
+impl std::error::Error for Memory {}
 
 impl From<AllocError> for Memory {
     fn from(_: AllocError) -> Memory {

@@ -1,5 +1,5 @@
 -- The stations before the first step are those of the opening world.
-use Rattle.std.proofs.Common.{◌≡◌, ℕ, ◌+◌, Bool, List, [], ◌∷◌, ◌++◌, length, map, replicate, All, refl, sym, ap, ◌∙◌, arith}
+use Rattle.std.proofs.Common.{◌≡◌, ℕ, ◌+◌, Bool, List, [], ◌∷◌, ◌++◌, length, map, replicate, refl, sym, ap, ◌∙◌, arith}
 use Rattle.std.specs.List.{range_with_len}
 use Rattle.std.proofs.lemmas.List.{map-append}
 use Rattle.std.proofs.lemmas.List.Elements.{All-map}
@@ -17,7 +17,7 @@ use Rattle.reactor.specs.Programs.{AreProgramsOf}
 use Rattle.node.specs.Step.{Station}
 use Rattle.cores.specs.FederateCore.{FederateNode}
 use Rattle.cores.specs.CoordinatorCore.{CoordinatorNode}
-use Rattle.schedule.specs.Federation.{Federation, opening_world, world_after}
+use Rattle.schedule.specs.Federation.{Federation, opening_world}
 use Rattle.stage.specs.Made.{HaveOnePeer, unused}
 use Rattle.world.specs.Opened.{new_end, new_hub, new_member, new_members}
 use Rattle.world.specs.Made.{IsMade}

@@ -1,5 +1,5 @@
 -- A world by its fields, as its value shows it.
-use Rattle.std.proofs.Common.{◌≡◌, Bool, List, refl, subst}
+use Rattle.std.proofs.Common.{◌≡◌, Bool, List, subst}
 use Rattle.std.specs.List.{list_any}
 use Rattle.plan.specs.declared.draft.Draft.{Draft}
 use Rattle.plan.specs.declared.input.Input.{Input}

@@ -1,6 +1,5 @@
 -- When a world is stuck: nobody forgot, and nothing is left to be done at any federate.
-use Rattle.std.proofs.Common.{◌≡◌, ℕ, ◌<◌, ◌≤◌, ◌⊎◌, inl, inr, Bool, true, false, length, slice_get, None, ◌↔◌, refl, sym, ap, subst, ◌∙◌, arith}
-use Rattle.std.specs.Prelude.{IfSome, []}
+use Rattle.std.proofs.Common.{◌≡◌, ℕ, ◌<◌, ◌≤◌, inl, inr, false, slice_get, None, ◌↔◌, ap, ◌∙◌, arith}
 use Rattle.plan.specs.Federation.{federate_count}
 use Rattle.reactor.proofs.LawfulNetwork.{gives_lawful_with}
 use Rattle.std.specs.List.{list_any}
@@ -8,7 +7,6 @@ use Rattle.std.proofs.lemmas.Bool.{cases_lt}
 use Rattle.schedule.specs.declared.dir.Dir.{Dir}
 use Rattle.schedule.specs.declared.dir.Dir.TheVariants.{Up, Down}
 use Rattle.schedule.specs.Kept.{is_forget}
-use Rattle.schedule.specs.Taken.{sender, own_end}
 use Rattle.schedule.specs.Federation.{Federation, IsStuck}
 use Rattle.schedule.proofs.Emptied.{shows_at_the_ends}
 use Rattle.schedule.proofs.Shown.{nothing_beyond}

@@ -1,5 +1,5 @@
 -- What holds of every world of a federation, whatever happened to its frames.
-use Rattle.std.specs.Prelude.{◌≡◌, ℕ, ◌<◌, true, List, [], ◌∷◌, ◌++◌}
+use Rattle.std.specs.Prelude.{◌≡◌, ℕ, ◌<◌, true, List, ◌∷◌, ◌++◌}
 use Rattle.plan.specs.Federation.{federate_count}
 use Rattle.cores.specs.FederateCore.{federate_core}
 use Rattle.cores.specs.CoordinatorCore.{coordinator_core}
