@@ -1,0 +1,3 @@
+-- Lemmas.
+-- steps that are made one after the other
+pub mod Playing
