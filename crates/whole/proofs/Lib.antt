@@ -4,6 +4,8 @@ pub mod Steps
 pub mod Putting
 -- the first of turns that are next
 pub mod NextTurns
+-- the first of each block, and of all
+pub mod Firsts
 -- what is found, and its least tag
 pub mod Looks
 -- lists with a value for each number

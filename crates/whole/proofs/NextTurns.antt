@@ -1,5 +1,5 @@
 -- The first of turns that are next, and those that are renewed.
-use Rattle.std.proofs.Common.{◌≡◌, ℕ, ◌+◌, ◌<◌, Bool, true, false, List, [], ◌∷◌, ◌++◌, length, take, get_or, set, nat_eq, nat_lt, ◌||◌, ◌&&◌, Option, None, Some, slice_get, refl, sym, ap, subst, ◌∙◌, arith, inl, inr}
+use Rattle.std.proofs.Common.{◌≡◌, ℕ, ◌+◌, ◌<◌, Bool, true, false, List, [], ◌∷◌, ◌++◌, length, length-set, take, get_or, set, nat_eq, nat_lt, ◌||◌, ◌&&◌, Option, None, Some, slice_get, refl, sym, ap, subst, ◌∙◌, arith, inl, inr}
 use Rattle.std.specs.Option.{option_map}
 use Rattle.std.proofs.lemmas.Bool.{false_from_ne_true, or_left, or_right, and_from, and_parts, cases_lt, cases_eq, ne_eqb, eq-eqb, eqb-true}
 use Rattle.std.proofs.lemmas.Bool.Decides.{nat_tests}
@@ -13,7 +13,7 @@ use Rattle.whole.specs.declared.targets.Target.{Target}
 use Rattle.whole.specs.declared.nexts.Next.{Next}
 use Rattle.whole.specs.Targets.{all_shown, shown}
 use Rattle.whole.specs.Made.{has_target, least_on}
-use Rattle.whole.specs.Next.{is_earlier, IsFirstAt, renewed}
+use Rattle.whole.specs.Next.{is_earlier, renewed}
 use Rattle.whole.proofs.Putting.{slice_get-set_same, slice_get-set_other}
 
 rank_then : (a b c : Next) → a.tag ≡ b.tag → b.tag ≡ c.tag → nat_lt a.rank b.rank ≡ true → nat_lt b.rank c.rank ≡ true → is_earlier a c ≡ true
@@ -46,46 +46,8 @@ earlier_then a b c h k = then_by a b c (is_before a.tag b.tag) refl h k
 pub not_itself : (a : Next) → is_earlier a a ≡ false
 not_itself a = grind (arith, nat_tests)
 
-same_some : {X : Type 0} (o : Option X) (x y : X) → o ≡ Some x → o ≡ Some y → x ≡ y
+pub same_some : {X : Type 0} (o : Option X) (x y : X) → o ≡ Some x → o ≡ Some y → x ≡ y
 same_some o x y p q = cc
-
--- one more is looked at, and is earlier than the first so far
-pub earlier_step : (nexts : List Next) (place first : ℕ) (x y : Next) → place < length nexts → x ≡ get_or nexts place x → y ≡ get_or nexts first y → is_earlier x y ≡ true →
-    IsFirstAt nexts place first → IsFirstAt nexts (place + 1) place
-earlier_step nexts place first x y there is_x is_y h w = record {
-  there = there;
-  first = λ other a b below at_a at_b.
-      let here : slice_get nexts place ≡ Some x = slice_get-get_or nexts place x there ∙ ap (λ n. Some n) (sym is_x) in
-      let same : b ≡ x = same_some (slice_get nexts place) b x at_b here in
-      let was : slice_get nexts first ≡ Some y = slice_get-get_or nexts first y w.there ∙ ap (λ n. Some n) (sym is_y) in
-      ap (is_earlier a) same ∙ (elim (cases_lt other place) [
-        | inl low ↦ (
-            let not : is_earlier a y ≡ false = w.first other a y low at_a was in
-            false_from_ne_true (is_earlier a x) (λ k. (let yes = earlier_then a x y k h in absurd cc)))
-        | inr high ↦ (
-            let at : other ≡ place = omega arith in
-            let mine : a ≡ x = same_some (slice_get nexts place) a x (ap (slice_get nexts) (sym at) ∙ at_a) here in
-            ap (λ n. is_earlier n x) mine ∙ not_itself x)
-      ]);
-}
-
--- and is not earlier
-pub later_step : (nexts : List Next) (place first : ℕ) (x y : Next) → place < length nexts → x ≡ get_or nexts place x → y ≡ get_or nexts first y → is_earlier x y ≡ false →
-    IsFirstAt nexts place first → IsFirstAt nexts (place + 1) first
-later_step nexts place first x y there is_x is_y h w = record {
-  there = w.there;
-  first = λ other a b below at_a at_b.
-      let here : slice_get nexts place ≡ Some x = slice_get-get_or nexts place x there ∙ ap (λ n. Some n) (sym is_x) in
-      let was : slice_get nexts first ≡ Some y = slice_get-get_or nexts first y w.there ∙ ap (λ n. Some n) (sym is_y) in
-      elim (cases_lt other place) [
-        | inl low ↦ w.first other a b low at_a at_b
-        | inr high ↦ (
-            let at : other ≡ place = omega arith in
-            let mine : a ≡ x = same_some (slice_get nexts place) a x (ap (slice_get nexts) (sym at) ∙ at_a) here in
-            let same : b ≡ y = same_some (slice_get nexts first) b y at_b was in
-            (λ i. is_earlier (mine i) (same i)) ∙ h)
-      ];
-}
 
 has_target-append : (f : ℕ) (xs ys : List (ℕ × List Connection)) → has_target f (xs ++ ys) ≡ (has_target f xs || has_target f ys)
 has_target-append f [] ys = refl
@@ -141,6 +103,23 @@ renew_step agendas old nexts targets i t x a tag h is_t there is_x held is_a lea
           ∙ (ap (λ v. option_map (renewed agendas v f) (slice_get old f)) (or_not b (nat_eq t.federate f || false) c)
           ∙ sym (ap (λ v. option_map (renewed agendas v f) (slice_get old f)) more))))
     ]
+
+-- the same, where it is said of the federate's value
+pub renewed_to :
+    (agendas : List Agenda) (old nexts new : List Next) (targets : List Target) (i : ℕ) (t : Target) (a : Agenda) (tag : LogicalTime) → i < length targets → t ≡ get_or targets i t →
+    t.federate < length nexts → t.federate < length agendas → a ≡ get_or agendas t.federate a → tag ≡ least_in a.undone →
+    ((x : Next) → slice_get nexts t.federate ≡ Some x → new ≡ set nexts t.federate (record { federate = x.federate; tag = tag; rank = x.rank })) →
+    ((f : ℕ) → slice_get nexts f ≡ option_map (renewed agendas (has_target f (all_shown (take i targets))) f) (slice_get old f)) →
+    (length new ≡ length nexts) × ((f : ℕ) → slice_get new f ≡ option_map (renewed agendas (has_target f (all_shown (take (i + 1) targets))) f) (slice_get old f))
+renewed_to agendas old nexts new targets i t a tag h is_t there held is_a least is so_far =
+    let none : Next = record { federate = i; tag = tag; rank = i } in
+    let x : Next = get_or nexts t.federate none in
+    let at : slice_get nexts t.federate ≡ Some x = slice_get-get_or nexts t.federate none there in
+    let is_x : x ≡ get_or nexts t.federate x = same_some (slice_get nexts t.federate) x (get_or nexts t.federate x) at (slice_get-get_or nexts t.federate x there) in
+    let e = is x at in (
+      ap length e ∙ length-set nexts t.federate (record { federate = x.federate; tag = tag; rank = x.rank }),
+      λ f. ap (λ ns. slice_get ns f) e ∙ renew_step agendas old nexts targets i t x a tag h is_t there is_x held is_a least so_far f,
+    )
 
 -- one more target's agenda is known
 pub known_step :

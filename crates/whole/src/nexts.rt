@@ -1,7 +1,8 @@
-ghost use Rattle.std.specs.Prelude.{◌≡◌, ℕ, ◌<◌, length, All, IfOk, true, Some, slice_get};
+ghost use Rattle.std.specs.Prelude.{◌≡◌, ℕ, ◌<◌, ◌≤◌, ◌+◌, ◌*◌, length, All, IfOk, true, Some, slice_get, slice_set};
 ghost use Rattle.std.specs.Option.{option_map};
+ghost use Rattle.whole.specs.declared.nexts.Next.{Next as NextOf};
 ghost use Rattle.whole.specs.Made.{has_target, least_on};
-ghost use Rattle.whole.specs.Next.{is_earlier, IsFirstAt, renewed};
+ghost use Rattle.whole.specs.Next.{is_earlier, IsFirstAmong, AreFirsts, renewed};
 ghost use Rattle.whole.specs.Targets.{all_shown};
 ghost use Rattle.whole.specs.Schedule.{next_on, for_each};
 ghost use Rattle.agenda.specs.Agenda.{Agenda as AgendaOf, IsAgenda};
@@ -12,7 +13,11 @@ use agenda::Agenda;
 use plan::Plan;
 use reactor::Memory;
 use std::alloc::Global;
+use std::marker::Model;
 use tag::Tag;
+
+/// How many federates are a block.
+const BLOCK: usize = 8;
 
 /// The tag of a federate's next event, FOREVER where there is none, and the federate's rank.
 #[derive(Clone, Copy, Debug)]
@@ -22,8 +27,62 @@ pub struct Next {
     pub rank: usize,
 }
 
+/// When each federate is next. The first of each block is kept beside them, so that the first of all is found without reading
+/// all. Contracts see the list.
+#[derive(Drop)]
+pub struct Nexts {
+    nexts: Vec<Next>,
+    firsts: Vec<Next>,
+}
+
+impl Model for Nexts {
+    ghost use Rattle.std.specs.Prelude.{List};
+    ghost use Rattle.whole.specs.declared.nexts.Next.{Next as NextOf};
+    ghost use Rattle.whole.specs.Next.{AreFirsts};
+
+    ghost Value = { List NextOf };
+
+    ghost view = { λ n. n.nexts.items };
+
+    ghost invariant = { λ n. AreFirsts n.nexts.items n.firsts.items };
+}
+
+impl Nexts {
+    /// Of the federates of a plan.
+    pub fn new(alloc: Global, plan: &Plan, agendas: &[Agenda]) -> Result<Nexts, Memory>
+        requires { length agendas.now ≡ federate_count plan.now }
+        ensures { IfOk result (λ nexts. (federate : ℕ) → slice_get nexts federate ≡ for_each plan.now (next_on plan.now agendas.now) federate) }
+    {
+        let nexts = nexts_of(alloc, plan, agendas)?;
+        let firsts = firsts_of(alloc, nexts.as_slice())?;
+        Ok(Nexts { nexts, firsts })
+    }
+
+    /// The one whose turn is first.
+    pub fn first(&self) -> Next
+        requires { 0 < length self.now }
+        ensures { IsFirstAmong self.now 0 (length self.now) result }
+    {
+        let firsts = self.firsts.as_slice();
+        first_among(firsts, 0, firsts.len())
+    }
+
+    /// Gives a federate the tag of its next event.
+    fn set_tag(&mut self, federate: usize, tag: Tag)
+        requires { federate < length self.old }
+        ensures { (next : NextOf) → slice_get self.old federate ≡ Some next → self.new ≡ slice_set self.old federate (record next { tag = tag }) }
+    {
+        set_tag(
+            self.nexts.as_mut_slice(),
+            self.firsts.as_mut_slice(),
+            federate,
+            tag,
+        );
+    }
+}
+
 /// When each federate of a plan is next.
-pub fn nexts_of(alloc: Global, plan: &Plan, agendas: &[Agenda]) -> Result<Vec<Next>, Memory>
+fn nexts_of(alloc: Global, plan: &Plan, agendas: &[Agenda]) -> Result<Vec<Next>, Memory>
     requires { length agendas.now ≡ federate_count plan.now }
     ensures { IfOk result (λ nexts. (federate : ℕ) → slice_get nexts.items federate ≡ for_each plan.now (next_on plan.now agendas.now) federate) }
 {
@@ -39,28 +98,64 @@ pub fn nexts_of(alloc: Global, plan: &Plan, agendas: &[Agenda]) -> Result<Vec<Ne
 }
 
 /// By tag, then by rank.
-fn is_earlier(first: Next, second: Next) -> bool
-    ensures { result ≡ is_earlier first second }
+fn is_earlier(first: &Next, second: &Next) -> bool
+    ensures { result ≡ is_earlier first.now second.now }
 {
     first.tag < second.tag || (first.tag == second.tag && first.rank < second.rank)
 }
 
-/// The place of the one whose turn is first.
-pub fn first_of(nexts: &[Next]) -> usize
-    requires { 0 < length nexts.now }
-    ensures { IsFirstAt nexts.now (length nexts.now) result }
+/// The first of those from one place up to another.
+fn first_among(nexts: &[Next], low: usize, high: usize) -> Next
+    requires some { low < high }
+    requires there { high ≤ length nexts.now }
+    ensures { IsFirstAmong nexts.now low high result }
 {
-    let mut first = 0;
-    for place in 1..nexts.len() {
-        if is_earlier(nexts[place], nexts[first]) {
-            first = place;
+    let mut first = nexts[low];
+    for place in low + 1..high {
+        let next = &nexts[place];
+        if is_earlier(next, &first) {
+            first = *next;
         }
     }
     first
 }
 
+/// The first of each block.
+fn firsts_of(alloc: Global, nexts: &[Next]) -> Result<Vec<Next>, Memory>
+    ensures { IfOk result (λ firsts. AreFirsts nexts.now firsts.items) }
+{
+    let mut firsts = Vec::new(alloc);
+    for block in 0..nexts.len().div_ceil(BLOCK) {
+        firsts.push(first_of_block(nexts, block))?;
+    }
+    Ok(firsts)
+}
+
+/// The first of a block.
+fn first_of_block(nexts: &[Next], block: usize) -> Next
+    requires { block * 8 < length nexts.now }
+    ensures { IsFirstAmong nexts.now (block * 8) (block * 8 + 8) result }
+{
+    let low = block * BLOCK;
+    first_among(nexts, low, nexts.len().min(low + BLOCK))
+}
+
+fn set_tag(nexts: &mut [Next], firsts: &mut [Next], federate: usize, tag: Tag)
+    requires there { federate < length nexts.old }
+    requires firsts { AreFirsts nexts.old firsts.old }
+    ensures nexts { (next : NextOf) → slice_get nexts.old federate ≡ Some next → nexts.new ≡ slice_set nexts.old federate (record next { tag = tag }) }
+    ensures firsts { AreFirsts nexts.new firsts.new }
+    ensures length { length nexts.new ≡ length nexts.old }
+    ensures as_many { length firsts.new ≡ length firsts.old }
+{
+    let next = nexts[federate];
+    nexts[federate] = Next { tag, ..next };
+    let block = federate / BLOCK;
+    firsts[block] = first_of_block(nexts, block);
+}
+
 /// Gives the targets of a turn the tags of their next events.
-pub fn renew(nexts: &mut [Next], agendas: &[Agenda], targets: &[Target])
+pub fn renew(nexts: &mut Nexts, agendas: &[Agenda], targets: &[Target])
     requires there { All (λ t. t.federate < length nexts.old) targets.now }
     requires agendas { All (λ t. t.federate < length agendas.now) targets.now }
     ensures renewed { (federate : ℕ) → slice_get nexts.new federate ≡ option_map (renewed agendas.now (has_target federate (all_shown targets.now)) federate) (slice_get nexts.old federate) }
@@ -72,7 +167,6 @@ pub fn renew(nexts: &mut [Next], agendas: &[Agenda], targets: &[Target])
         let agenda = &agendas[federate];
         agenda.known();
         let tag = agenda.least();
-        let next = nexts[federate];
-        nexts[federate] = Next { tag, ..next };
+        nexts.set_tag(federate, tag);
     }
 }

@@ -11,7 +11,7 @@ ghost use Rattle.network.specs.Event.{listed};
 ghost use Rattle.std.specs.List.{AllByRecursion};
 
 use crate::made::{TurnMade, put_made};
-use crate::nexts::{Next, first_of, nexts_of, renew};
+use crate::nexts::{Next, Nexts, renew};
 use crate::opening::{opening_agendas, put_inputs};
 use crate::targets::{Target, all_targets};
 use agenda::{Agenda, Held};
@@ -27,7 +27,7 @@ pub struct Schedule<'p> {
     plan: &'p Plan,
     agendas: Vec<Agenda>,
     /// When each federate is next.
-    nexts: Vec<Next>,
+    nexts: Nexts,
     /// To which federates each puts events.
     targets: Vec<Vec<Target>>,
     /// Room for what a turn puts.
@@ -43,7 +43,7 @@ impl<'p> Model for Schedule<'p> {
 
     ghost view = { λ s. record { draft = s.plan.now; undone = map (λ a. a.undone) s.agendas.items } };
 
-    ghost invariant = { λ s. IsSchedule s.plan.now s.agendas.items s.nexts.items (map (λ ts. all_shown ts.items) s.targets.items) };
+    ghost invariant = { λ s. IsSchedule s.plan.now s.agendas.items s.nexts (map (λ ts. all_shown ts.items) s.targets.items) };
 }
 
 impl<'p> Schedule<'p> {
@@ -57,7 +57,7 @@ impl<'p> Schedule<'p> {
         plan.known();
         let mut agendas = opening_agendas(alloc, plan)?;
         put_inputs(alloc, agendas.as_mut_slice(), plan, inputs)?;
-        let nexts = nexts_of(alloc, plan, agendas.as_slice())?;
+        let nexts = Nexts::new(alloc, plan, agendas.as_slice())?;
         let targets = all_targets(alloc, plan)?;
         Ok(Schedule {
             plan,
@@ -73,7 +73,7 @@ impl<'p> Schedule<'p> {
         ensures { IsFirstDue self.now result }
     {
         self.plan.known();
-        let first = self.nexts[first_of(self.nexts.as_slice())];
+        let first = self.nexts.first();
         if first.tag.is_forever() {
             None
         } else {
@@ -102,7 +102,7 @@ impl<'p> Schedule<'p> {
     {
         put_turn(
             self.agendas.as_mut_slice(),
-            self.nexts.as_mut_slice(),
+            &mut self.nexts,
             rows,
             &mut self.events,
             self.targets[turn.federate].as_slice(),
@@ -115,7 +115,7 @@ impl<'p> Schedule<'p> {
 /// Puts what a turn makes on the agendas of its targets, and adds its row; then lets go of what was up to its tag. All or nothing.
 fn put_turn(
     agendas: &mut [Agenda],
-    nexts: &mut [Next],
+    nexts: &mut Nexts,
     rows: &mut Rows,
     events: &mut Vec<Held>,
     targets: &[Target],

@@ -4,7 +4,7 @@ use Rattle.agenda.specs.Agenda.{IsAgenda}
 use Rattle.whole.specs.declared.targets.Target.{Target}
 use Rattle.whole.specs.Made.{has_target}
 use Rattle.whole.specs.Targets.{all_shown}
-use Rattle.whole.proofs.NextTurns.{renew_step, known_step}
+use Rattle.whole.proofs.NextTurns.{renewed_to, known_step}
 use Rattle.whole.proofs.nexts.renew.Goals as goal
 
 pub loop-target-init : goal.loop-target-init
@@ -15,10 +15,11 @@ loop-target-preserved c =
     let low = c.requires.there c.loop-target.target-index c.target-item.result (omega arith) in
     let low_too = c.requires.agendas c.loop-target.target-index c.target-item.result (omega arith) in
     let at = ap (λ (t : Target). t.federate) c.target-item.is in
-    let same = c.loop-target.invariant.0 in (
-      search rules,
-      renew_step c.args.agendas.now c.args.nexts.now c.loop-target.nexts c.args.targets.now c.loop-target.target-index c.target-item.result c.index-nexts-federate.result c.index-agendas-federate.result c.least-tag.result
-          (omega arith) c.target-item.is (omega (arith, low, at, same)) c.index-nexts-federate.is (omega (arith, low_too, at)) c.index-agendas-federate.is c.least-tag.ensures c.loop-target.invariant.1,
+    let same = c.loop-target.invariant.0 in
+    let more = renewed_to c.args.agendas.now c.args.nexts.now c.loop-target.nexts c.set_tag.new.self c.args.targets.now c.loop-target.target-index c.target-item.result c.index-agendas-federate.result c.least-tag.result
+    (omega arith) c.target-item.is (omega (arith, low, at, same)) (omega (arith, low_too, at)) c.index-agendas-federate.is c.least-tag.ensures c.set_tag.ensures c.loop-target.invariant.1 in (
+      more.0 ∙ same,
+      more.1,
       known_step IsAgenda c.args.agendas.now c.args.targets.now c.loop-target.target-index c.target-item.result c.index-agendas-federate.result
           (omega arith) c.target-item.is (omega (arith, low_too, at)) (subst IsAgenda c.index-agendas-federate.is c.known.ensures) c.loop-target.invariant.2,
     )

@@ -1,0 +1,124 @@
+-- The first of turns that are next, in blocks and of all.
+use Rattle.std.proofs.Common.{◌≡◌, ◌≢◌, ℕ, ◌+◌, ◌*◌, ◌/◌, ◌<◌, ◌≤◌, true, false, List, length, length-set, get_or, set, Option, None, Some, slice_get, refl, sym, ap, subst, ◌∙◌, arith, inl, inr}
+use Rattle.std.proofs.lemmas.Bool.{false_from_ne_true, cases_lt, cases_eq}
+use Rattle.std.proofs.lemmas.Bool.Decides.{nat_tests}
+use Rattle.std.proofs.lemmas.Option.{slice_get-get_or, slice_get_within}
+use Rattle.whole.specs.declared.nexts.Next.{Next}
+use Rattle.whole.specs.Next.{is_earlier, IsFirstAt, IsFirstAmong, AreFirsts}
+use Rattle.whole.proofs.NextTurns.{earlier_then, not_itself, same_some}
+use Rattle.whole.proofs.Putting.{slice_get-set_same, slice_get-set_other}
+
+here : (nexts : List Next) (place : ℕ) (x : Next) → place < length nexts → x ≡ get_or nexts place x → slice_get nexts place ≡ Some x
+here nexts place x there is = slice_get-get_or nexts place x there ∙ ap (λ n. Some n) (sym is)
+
+pub first_alone : (nexts : List Next) (low : ℕ) (x : Next) → low < length nexts → x ≡ get_or nexts low x → IsFirstAmong nexts low (low + 1) x
+first_alone nexts low x there is = record {
+  place = low;
+  not_below = omega arith;
+  below = omega arith;
+  there = here nexts low x there is;
+  first = λ other a from to at.
+      let it : other ≡ low = omega arith in
+      let mine : a ≡ x = same_some (slice_get nexts low) a x (ap (slice_get nexts) (sym it) ∙ at) (here nexts low x there is) in
+      ap (λ n. is_earlier n x) mine ∙ not_itself x;
+}
+
+-- one more is looked at, and is earlier than the first so far
+pub earlier_among : (nexts : List Next) (low place : ℕ) (x y : Next) → low < place → place < length nexts → x ≡ get_or nexts place x → is_earlier x y ≡ true → IsFirstAmong nexts low place y → IsFirstAmong nexts low (place + 1) x
+earlier_among nexts low place x y some there is h w = record {
+  place = place;
+  not_below = omega arith;
+  below = omega arith;
+  there = here nexts place x there is;
+  first = λ other a from to at. elim (cases_lt other place) [
+    | inl less ↦ (
+        let not : is_earlier a y ≡ false = w.first other a from less at in
+        false_from_ne_true (is_earlier a x) (λ k. (let yes = earlier_then a x y k h in absurd cc)))
+    | inr more ↦ (
+        let it : other ≡ place = omega arith in
+        let mine : a ≡ x = same_some (slice_get nexts place) a x (ap (slice_get nexts) (sym it) ∙ at) (here nexts place x there is) in
+        ap (λ n. is_earlier n x) mine ∙ not_itself x)
+  ];
+}
+
+-- and is not earlier
+pub later_among : (nexts : List Next) (low place : ℕ) (x y : Next) → low < place → place < length nexts → x ≡ get_or nexts place x → is_earlier x y ≡ false → IsFirstAmong nexts low place y → IsFirstAmong nexts low (place + 1) y
+later_among nexts low place x y some there is h w = record {
+  place = w.place;
+  not_below = w.not_below;
+  below = (let b = w.below in omega arith);
+  there = w.there;
+  first = λ other a from to at. elim (cases_lt other place) [
+    | inl less ↦ w.first other a from less at
+    | inr more ↦ (
+        let it : other ≡ place = omega arith in
+        let mine : a ≡ x = same_some (slice_get nexts place) a x (ap (slice_get nexts) (sym it) ∙ at) (here nexts place x there is) in
+        ap (λ n. is_earlier n y) mine ∙ h)
+  ];
+}
+
+-- past the end there are none
+pub widened : (nexts : List Next) (low high wide : ℕ) (x : Next) → high ≤ wide → ((k : ℕ) → k < length nexts → k < wide → k < high) → IsFirstAmong nexts low high x → IsFirstAmong nexts low wide x
+widened nexts low high wide x h fits w = record {
+  place = w.place;
+  not_below = w.not_below;
+  below = (let b = w.below in omega arith);
+  there = w.there;
+  first = λ other a from to at. w.first other a from (fits other (slice_get_within nexts other a at) to) at;
+}
+
+not_earlier : (a b c : Next) → is_earlier a b ≡ false → is_earlier b c ≡ false → is_earlier a c ≡ false
+not_earlier a b c h k = grind (arith, nat_tests)
+
+in_block : (k : ℕ) → (k / 8 * 8 ≤ k) × (k < k / 8 * 8 + 8)
+in_block k = (omega arith, omega arith)
+
+-- the first of the firsts of blocks is the first of all
+pub first_of_all : (nexts firsts : List Next) (x : Next) → AreFirsts nexts firsts → IsFirstAmong firsts 0 (length firsts) x → IsFirstAmong nexts 0 (length nexts) x
+first_of_all nexts firsts x w top =
+    let at = w.each top.place x top.there in record {
+      place = at.place;
+      not_below = omega arith;
+      below = slice_get_within nexts at.place x at.there;
+      there = at.there;
+      first = λ other a from to at_a.
+          let cover = w.cover in
+          let block = in_block other in
+          let low = block.0 in
+          let high = block.1 in
+          let there : other / 8 < length firsts = omega arith in
+          let mine : slice_get firsts (other / 8) ≡ Some (get_or firsts (other / 8) x) = slice_get-get_or firsts (other / 8) x there in
+          not_earlier a (get_or firsts (other / 8) x) x
+          ((w.each (other / 8) (get_or firsts (other / 8) x) mine).first other a low high at_a)
+          (top.first (other / 8) (get_or firsts (other / 8) x) (omega arith) there mine);
+    }
+
+moved : (nexts : List Next) (f low high : ℕ) (v x : Next) → ((k : ℕ) → low ≤ k → k < high → k ≢ f) → IsFirstAmong nexts low high x → IsFirstAmong (set nexts f v) low high x
+moved nexts f low high v x apart w = record {
+  place = w.place;
+  not_below = w.not_below;
+  below = w.below;
+  there = slice_get-set_other nexts f w.place v (apart w.place w.not_below w.below) ∙ w.there;
+  first = λ other a from to at. w.first other a from to (sym (slice_get-set_other nexts f other v (apart other from to)) ∙ at);
+}
+
+-- one is replaced, and the first of its block with it
+pub set_firsts : (nexts firsts : List Next) (f block : ℕ) (v x : Next) → block ≡ f / 8 → block < length firsts → AreFirsts nexts firsts →
+    IsFirstAmong (set nexts f v) (block * 8) (block * 8 + 8) x → AreFirsts (set nexts f v) (set firsts block x)
+set_firsts nexts firsts f block v x is there w mine = record {
+  cover = (let cover = w.cover in let many = length-set nexts f v in let as_many = length-set firsts block x in omega arith);
+  each = λ k n at. elim (cases_eq k block) [
+    | inl e ↦ (
+        let same : x ≡ n = same_some (slice_get (set firsts block x) block) x n (slice_get-set_same firsts block x there) (ap (slice_get (set firsts block x)) (sym e) ∙ at) in
+        subst (λ j. IsFirstAmong (set nexts f v) (j * 8) (j * 8 + 8) n) (sym e) (subst (IsFirstAmong (set nexts f v) (block * 8) (block * 8 + 8)) same mine))
+    | inr other ↦ moved nexts f (k * 8) (k * 8 + 8) v n (λ j from to same. other (let held = in_block f in let low = held.0 in let high = held.1 in omega arith))
+        (w.each k n (sym (slice_get-set_other firsts block k x other) ∙ at))
+  ];
+}
+
+pub first_at : (nexts : List Next) (x : Next) (w : IsFirstAmong nexts 0 (length nexts) x) → IsFirstAt nexts (length nexts) w.place
+first_at nexts x w = record {
+  there = w.below;
+  first = λ other a b below at_a at_b.
+      ap (is_earlier a) (same_some (slice_get nexts w.place) b x at_b w.there) ∙ w.first other a (omega arith) below at_a;
+}
