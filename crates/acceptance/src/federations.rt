@@ -7,54 +7,13 @@ use plan::Plan;
 use reactor::Programs;
 use std::alloc::{AllocError, Global};
 
-/// A counter `src`, and `snk`, the sum of its counts.
-pub(crate) const FEDERATES: &str = r#"
-stop = "20 ms"
-
-[[federate]]
-name = "src"
-outputs = ["y"]
-timers = [{ name = "t", offset = "0", period = "10 ms" }]
-state = [{ name = "n", value = 0 }]
-
-[[federate.reaction]]
-triggers = ["t"]
-body = ["n = n + 1", "out.y = n"]
-
-[[federate]]
-name = "snk"
-inputs = ["x"]
-outputs = ["total"]
-state = [{ name = "s", value = 0 }]
-
-[[federate.reaction]]
-triggers = ["x"]
-body = ["s = s + in.x", "out.total = s"]
-"#;
-
-/// Between them.
-pub(crate) const CONNECTION: &str = r#"
-[[connection]]
-from = "src.y"
-to = "snk.x"
-"#;
-
 /// A federate `f` with a physical action `p`.
 pub(crate) const ONE_ACTION: &str = r#"
 stop = "20 ms"
 federate = [{ name = "f", inputs = ["x"], physical = ["p"] }]
 "#;
 
-/// Two federates, each with an input and an output.
-pub(crate) const PAIR: &str = r#"
-stop = "10 ms"
-federate = [
-    { name = "a", inputs = ["x"], outputs = ["y"] },
-    { name = "b", inputs = ["x"], outputs = ["y"] },
-]
-"#;
-
-/// Four of them; the third has a second input.
+/// Four federates, each with an input and an output; the third has a second input.
 pub(crate) const FOUR: &str = r#"
 stop = "10 ms"
 federate = [
@@ -65,9 +24,15 @@ federate = [
 ]
 "#;
 
-/// From `a` to `b` a microstep later, and back.
-pub(crate) const ROUND: &str = r#"connection = [
-    { from = "a.y", to = "b.x", after = "0" },
+/// Of them: an input that two outputs are connected to.
+pub(crate) const TWO_SOURCES: &str =
+    r#"connection = [{ from = "a.y", to = "b.x" }, { from = "c.y", to = "b.x" }]"#;
+
+/// Of them: a cycle without delay, entered by its highest federate.
+pub(crate) const CYCLE: &str = r#"connection = [
+    { from = "d.y", to = "c.x" },
+    { from = "c.y", to = "b.x" },
+    { from = "b.y", to = "d.x" },
     { from = "b.y", to = "a.x" },
 ]"#;
 
@@ -83,14 +48,4 @@ pub(crate) fn loaded(alloc: Global, front: &str, back: &str) -> Result<(Plan, Pr
 {
     let text = joined(alloc, front, back)?;
     load(alloc, text.as_bytes())
-}
-
-/// The number that tells why a file of two parts is refused; 0 where it is taken.
-pub(crate) fn refusal(alloc: Global, front: &str, back: &str) -> u16 {
-    match loaded(alloc, front, back) {
-        Ok(_) => 0,
-        Err(LoadFault::Plan(fault)) => fault.number(),
-        Err(LoadFault::Program { federate: _, fault }) => fault.number(),
-        Err(fault) => fault.number(),
-    }
 }

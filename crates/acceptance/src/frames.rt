@@ -1,7 +1,7 @@
 //! Frames as bytes: examples of each kind, in any pieces, and what is refused.
 ghost use Rattle.std.specs.Prelude.{◌<◌};
 
-use signal::{Frame, FrameFault, FrameReader, Signal, write_frame};
+use signal::{Frame, FrameReader, Signal, write_frame};
 use std::alloc::Global;
 use std::test::Fail;
 use tag::{FiniteTag, Tag, Time};
@@ -118,10 +118,18 @@ fn is_spelled(alloc: Global, frame: &Frame, bytes: &[u8]) -> bool {
         && gives(&mut reader, &[*frame])
 }
 
+/// The same of the spelling at this place.
+fn is_spelled_there(alloc: Global, frame: &Frame, place: usize) -> bool {
+    match SPELLINGS.get(place) {
+        Some(bytes) => is_spelled(alloc, frame, bytes),
+        None => false,
+    }
+}
+
 #[test]
 fn are_written_and_read(rt: HostRuntime) {
-    for (frame, bytes) in frames().iter().zip(SPELLINGS) {
-        assert!(rt; is_spelled(rt.alloc(), frame, bytes));
+    for (place, frame) in frames().iter().enumerate() {
+        assert!(rt; is_spelled_there(rt.alloc(), frame, place));
     }
 }
 
@@ -154,12 +162,10 @@ fn stream(alloc: Global) -> Option<Vec<u8>> {
 
 #[test]
 fn are_read_in_any_pieces(rt: HostRuntime) {
+    let frames = frames();
     if let Some(stream) = stream(rt.alloc()) {
         for size in [1, 2, 7, 64, 1000] {
-            assert!(rt;
-                are_read(rt.alloc(), &stream, size, &frames()),
-                "in pieces of {size}"
-            );
+            assert!(rt; are_read(rt.alloc(), &stream, size, &frames));
         }
     }
 }
@@ -265,49 +271,31 @@ fn are_refused_for_good(rt: HostRuntime) {
     }
 }
 
-/// How many acknowledgements come out of these bytes, fed in one piece, where nothing else does and nothing is left.
-fn acknowledgements(alloc: Global, bytes: &[u8]) -> Option<usize> {
-    let mut reader = FrameReader::new(alloc);
-    reader.feed(bytes).ok()?;
-    for count in 0..bytes.len() {
-        match reader.next() {
-            Ok(Some(Frame::Ack { .. })) => {}
-            Ok(None) => return Some(count),
-            _ => return None,
+/// How many acknowledgements a reader gives before anything else, at most so many.
+fn acknowledgements(reader: &mut FrameReader, most: usize) -> usize {
+    for count in 0..most {
+        if !matches!(reader.next(), Ok(Some(Frame::Ack { .. }))) {
+            return count;
         }
     }
-    None
+    most
 }
 
-/// So many acknowledgements, one after the other.
-fn many(alloc: Global, count: usize) -> Option<Vec<u8>> {
+/// Whether so many acknowledgements, fed in one piece, are read; None where there was no memory for them.
+fn are_fed_at_once(alloc: Global, count: usize) -> Option<bool> {
     let mut stream = Vec::new(alloc);
     for _ in 0..count {
         stream.extend_from_slice(&ACK).ok()?;
     }
-    Some(stream)
+    let mut reader = FrameReader::new(alloc);
+    reader.feed(&stream).ok()?;
+    Some(acknowledgements(&mut reader, count) == count && gives(&mut reader, &[]))
 }
 
+/// They are 1,048,577 bytes.
 #[test]
 fn a_megabyte_is_fed_at_once(rt: HostRuntime) {
-    if let Some(stream) = many(rt.alloc(), 61_681) {
-        assert!(rt; stream.len() > 1_048_576);
-        assert_eq!(rt; acknowledgements(rt.alloc(), &stream), Some(61_681));
-    }
-}
-
-#[test]
-fn no_bytes_are_fed(rt: HostRuntime) {
-    let mut reader = FrameReader::new(rt.alloc());
-    assert!(rt; reader.feed(&[]).is_ok() && gives(&mut reader, &[]));
-}
-
-#[test]
-fn are_read_inside_a_frame(rt: HostRuntime) {
-    let (front, rest) = ACK.split_at(9);
-    let mut reader = FrameReader::new(rt.alloc());
-    assert!(rt; reader.feed(front).is_ok() && gives(&mut reader, &[]));
-    assert!(rt; reader.feed(rest).is_ok() && matches!(reader.next(), Ok(Some(Frame::Ack { .. }))));
+    assert!(rt; are_fed_at_once(rt.alloc(), 61_681) != Some(false));
 }
 
 /// Whether a Hello of this version is read.
@@ -323,26 +311,6 @@ fn any_version_is_read(rt: HostRuntime) {
     for version in [1, 2, 255] {
         assert!(rt; is_hello(rt.alloc(), version), "version {version}");
     }
-}
-
-/// Each fault, its number, and what is printed of it.
-const TOLD: &[(FrameFault, u16, &str)] = &[
-    (FrameFault::BadLength, 40, "40 BadLength"),
-    (FrameFault::BadKind, 41, "41 BadKind"),
-    (FrameFault::BadTag, 42, "42 BadTag"),
-    (FrameFault::Trailing, 43, "43 Trailing"),
-];
-
-#[test]
-fn faults_are_told(rt: HostRuntime) -> Result<(), Fail> {
-    for (fault, number, text) in TOLD {
-        let printed = format!(in rt.alloc(); "{fault}")?;
-        assert!(rt;
-            fault.number() == *number && printed.as_str() == *text,
-            "{text}"
-        );
-    }
-    Ok(())
 }
 
 /// Whether the frame is written, the next time if memory was refused, when nothing was appended.
@@ -364,15 +332,19 @@ fn are_fed(reader: &mut FrameReader, bytes: &[u8]) -> bool {
     }
 }
 
+/// Whether a frame is written and fed, each at once or the next time.
+fn comes_through(alloc: Global, reader: &mut FrameReader, frame: &Frame) -> bool {
+    let mut bytes = Vec::new(alloc);
+    is_written(frame, &mut bytes) && are_fed(reader, &bytes)
+}
+
 /// Passes whichever allocation is refused: each refusal is told, and all is as before it.
 #[test]
 fn lacks_memory_for_bytes(rt: HostRuntime) {
     let frames = frames();
     let mut reader = FrameReader::new(rt.alloc());
     for frame in &frames {
-        let mut bytes = Vec::new(rt.alloc());
-        assert!(rt; is_written(frame, &mut bytes));
-        assert!(rt; are_fed(&mut reader, &bytes));
+        assert!(rt; comes_through(rt.alloc(), &mut reader, frame));
     }
     assert!(rt; gives(&mut reader, &frames));
 }

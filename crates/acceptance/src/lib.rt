@@ -1,5 +1,5 @@
 //! Tests of what the crates below it let others call, and of what no clause there says: rows of small federations, least
-//! delays of worked examples, which lines and keys are refused and how, that calls succeed with ample memory, and that want
+//! delays of worked examples, how files are answered, what lines are read as, that calls succeed with ample memory, and that want
 //! of memory is told and nothing else. It has nothing of its own: a crate with tests is proved twice, so the libraries have
 //! theirs here.
 //!
@@ -9,8 +9,6 @@
 #[cfg(test)]
 mod delays;
 #[cfg(test)]
-mod drafts;
-#[cfg(test)]
 mod durations;
 #[cfg(test)]
 mod federations;
@@ -19,17 +17,11 @@ mod files;
 #[cfg(test)]
 mod frames;
 #[cfg(test)]
-mod inputs;
-#[cfg(test)]
 mod lines;
 #[cfg(test)]
 mod link_ends;
 #[cfg(test)]
 mod memory;
-#[cfg(test)]
-mod plans;
-#[cfg(test)]
-mod programs;
 #[cfg(test)]
 mod requests;
 #[cfg(test)]

@@ -1,33 +1,10 @@
-//! Body lines: which are read, as what, and how each other is refused.
+//! Body lines, and what they are read as.
 use crate::federations::loaded;
-use loadfed::LoadFault;
-use reactor::{Expression, Line, Operand, Operator, Program, ProgramFault, Programs, Statement};
+use crate::files::ONE_REACTION;
+use reactor::{Expression, Line, Operand, Operator, Program, Statement};
 use std::alloc::Global;
 use std::test::Fail;
 use tag::{Delay, Time};
-
-/// A federate, up to the body of its one reaction.
-const FEDERATE: &str = r#"
-stop = "0"
-
-[[federate]]
-name = "f"
-inputs = ["x"]
-outputs = ["y", "z"]
-actions = ["act"]
-physical = ["p"]
-state = [{ name = "n", value = 0 }, { name = "m", value = 0 }]
-
-[[federate.reaction]]
-triggers = ["x"]
-"#;
-
-/// The federate's programs, with this body line.
-fn with_line(alloc: Global, line: &str) -> Result<Programs, LoadFault> {
-    let body = format!(in alloc; "body = [\"{line}\"]")?;
-    let (_plan, programs) = loaded(alloc, FEDERATE, body.as_str())?;
-    Ok(programs)
-}
 
 fn is_only_line(programs: &[Program], wanted: Line) -> bool {
     match programs {
@@ -39,57 +16,47 @@ fn is_only_line(programs: &[Program], wanted: Line) -> bool {
     }
 }
 
-fn is_read_as(alloc: Global, line: &str, wanted: Line) -> bool {
-    match with_line(alloc, line) {
-        Ok(programs) => is_only_line(programs.as_slice(), wanted),
+fn is_read_as(alloc: Global, body: &str, wanted: Line) -> bool {
+    match loaded(alloc, ONE_REACTION, body) {
+        Ok((_plan, programs)) => is_only_line(programs.as_slice(), wanted),
         Err(_) => false,
-    }
-}
-
-fn plain(statement: Statement) -> Line {
-    Line {
-        condition: None,
-        statement,
     }
 }
 
 /// `n = ..`
 fn assigned(expression: Expression) -> Line {
-    plain(Statement::Assign(0, expression))
+    Line {
+        condition: None,
+        statement: Statement::Assign(0, expression),
+    }
 }
 
 /// Of the form `n = n OP m`.
 const COMBINED: &[(&str, Operator)] = &[
-    ("n = n - m", Operator::Minus),
-    ("n = n * m", Operator::Times),
-    (" n  = n min  m ", Operator::Minimum),
-    ("n = n max m", Operator::Maximum),
-    ("n = n < m", Operator::Less),
-    ("n = n == m", Operator::Equal),
+    ("body = [\"n = n - m\"]", Operator::Minus),
+    ("body = [\"n = n * m\"]", Operator::Times),
+    ("body = [\" n  = n min  m \"]", Operator::Minimum),
+    ("body = [\"n = n max m\"]", Operator::Maximum),
+    ("body = [\"n = n < m\"]", Operator::Less),
+    ("body = [\"n = n == m\"]", Operator::Equal),
 ];
 
 /// Of the form `n = A`.
 const SINGLE: &[(&str, Operand)] = &[
-    ("n = in.act", Operand::Value(2)),
-    ("n = has.p", Operand::Presence(3)),
-    ("n = 007", Operand::Number(7)),
+    ("body = [\"n = in.act\"]", Operand::Value(2)),
+    ("body = [\"n = has.p\"]", Operand::Presence(3)),
+    ("body = [\"n = 007\"]", Operand::Number(7)),
 ];
 
 #[test]
 fn reads_assignments(rt: HostRuntime) {
-    for (line, operator) in COMBINED {
+    for (body, operator) in COMBINED {
         let expression = Expression::Binary(Operand::State(0), *operator, Operand::State(1));
-        assert!(rt;
-            is_read_as(rt.alloc(), line, assigned(expression)),
-            "at {line}"
-        );
+        assert!(rt; is_read_as(rt.alloc(), body, assigned(expression)));
     }
-    for (line, operand) in SINGLE {
+    for (body, operand) in SINGLE {
         let expression = Expression::Single(*operand);
-        assert!(rt;
-            is_read_as(rt.alloc(), line, assigned(expression)),
-            "at {line}"
-        );
+        assert!(rt; is_read_as(rt.alloc(), body, assigned(expression)));
     }
 }
 
@@ -99,65 +66,32 @@ fn reads_a_condition(rt: HostRuntime) {
         condition: Some(Operand::State(0)),
         statement: Statement::Output(0, Operand::Number(1)),
     };
-    assert!(rt; is_read_as(rt.alloc(), "when n:out.y = 1", wanted));
+    assert!(rt; is_read_as(rt.alloc(), "body = [\"when n:out.y = 1\"]", wanted));
 }
 
 /// With the time in ns and the value.
 const SCHEDULED: &[(&str, u64, i64)] = &[
-    ("schedule act 0 1", 0, 1),
-    ("schedule act 10ms -1", 10_000_000, -1),
-    ("schedule  act 5   ms 7", 5_000_000, 7),
+    ("body = [\"schedule act 0 1\"]", 0, 1),
+    ("body = [\"schedule act 10ms -1\"]", 10_000_000, -1),
+    ("body = [\"schedule  act 5   ms 7\"]", 5_000_000, 7),
 ];
 
-fn scheduled(nanoseconds: u64, value: i64) -> Option<Line> {
-    let delay = Delay::after(Time::new(nanoseconds)?);
-    Some(plain(Statement::Schedule(2, delay, Operand::Number(value))))
-}
-
-#[test]
-fn reads_schedulings(rt: HostRuntime) -> Result<(), Fail> {
-    for (line, nanoseconds, value) in SCHEDULED {
-        let wanted = scheduled(*nanoseconds, *value).ok_or("time")?;
-        assert!(rt; is_read_as(rt.alloc(), line, wanted), "at {line}");
-    }
-    Ok(())
-}
-
-/// The first line of the first reaction is of no form.
-pub(crate) const BAD: ProgramFault = ProgramFault::BadLine {
-    reaction: 1,
-    line: 1,
-};
-
-/// It has a name that isn't there.
-pub(crate) const UNKNOWN: ProgramFault = ProgramFault::UnknownOperand {
-    reaction: 1,
-    line: 1,
-};
-
-const REFUSED: &[(&str, ProgramFault)] = &[
-    ("n = startup", BAD),
-    ("n = 1 : 2", BAD),
-    ("schedule act 5 kg 1", BAD),
-    ("schedule act 4611686018427387904 ns 1", BAD),
-    ("when n : when n : n = 1", BAD),
-    ("q = 1 + 99999999999999999999", BAD),
-    ("out.x = 1", UNKNOWN),
-    ("schedule p 0 1", UNKNOWN),
-    ("n = in.startup", UNKNOWN),
-    ("when q : n = 1", UNKNOWN),
-];
-
-fn is_refused(alloc: Global, line: &str, wanted: ProgramFault) -> bool {
-    match with_line(alloc, line) {
-        Err(LoadFault::Program { federate, fault }) => federate.is("f") && fault == wanted,
-        _ => false,
+fn is_scheduled(alloc: Global, body: &str, nanoseconds: u64, value: i64) -> bool {
+    match Time::new(nanoseconds) {
+        Some(time) => {
+            let wanted = Line {
+                condition: None,
+                statement: Statement::Schedule(2, Delay::after(time), Operand::Number(value)),
+            };
+            is_read_as(alloc, body, wanted)
+        }
+        None => false,
     }
 }
 
 #[test]
-fn refuses_lines(rt: HostRuntime) {
-    for (line, fault) in REFUSED {
-        assert!(rt; is_refused(rt.alloc(), line, *fault), "at {line}");
+fn reads_schedulings(rt: HostRuntime) {
+    for (body, nanoseconds, value) in SCHEDULED {
+        assert!(rt; is_scheduled(rt.alloc(), body, *nanoseconds, *value));
     }
 }

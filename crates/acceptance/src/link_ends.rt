@@ -1,6 +1,7 @@
 //! Link ends by worked examples, and with want of memory.
 use link::{Arrival, LinkEnd, LinkFault};
 use signal::{Frame, Signal};
+use std::alloc::Global;
 use std::test::Fail;
 use tag::{FiniteTag, Time};
 
@@ -59,6 +60,10 @@ enum Step {
     Left(usize, usize),
     /// What it greets with and what it acknowledges.
     Says(Option<Frame>, Frame),
+    /// So many frames are sent again, of which this is the first.
+    Resends(usize, Option<Frame>),
+    /// It is closed by this side.
+    Closes,
 }
 
 fn is_done(end: &mut LinkEnd, step: Step) -> bool {
@@ -70,6 +75,11 @@ fn is_done(end: &mut LinkEnd, step: Step) -> bool {
         Step::Left(room, kept) => end.room_left() == room && end.unacked() == kept,
         Step::Says(greeting, acknowledgement) => {
             end.hello() == greeting && end.ack() == acknowledgement
+        }
+        Step::Resends(count, first) => resends(end, count, first),
+        Step::Closes => {
+            end.close();
+            end.is_closed()
         }
     }
 }
@@ -84,10 +94,18 @@ fn is_taken_in(end: &mut LinkEnd, frame: Frame, arrival: Arrival) -> bool {
     }
 }
 
-/// The place of the first step that the end doesn't do.
-fn first_wrong(end: &mut LinkEnd, steps: &[Step]) -> Option<usize> {
+fn resends(end: &LinkEnd, count: usize, first: Option<Frame>) -> bool {
+    match end.resend() {
+        Ok(resent) => resent.len() == count && resent.first().copied() == first,
+        Err(_) => false,
+    }
+}
+
+/// The place of the first step that a fresh end with so much room doesn't do.
+fn first_wrong(alloc: Global, room: usize, steps: &[Step]) -> Option<usize> {
+    let mut end = LinkEnd::new(alloc, 4, 1, room);
     for (place, step) in steps.iter().enumerate() {
-        if !is_done(end, *step) {
+        if !is_done(&mut end, *step) {
             return Some(place);
         }
     }
@@ -105,17 +123,10 @@ fn has_one_place(rt: HostRuntime) {
         Step::Refused(ack(3), LinkFault::AckOfUnsent),
         Step::Refused(hello(4, 3), LinkFault::AckOfUnsent),
         Step::Refused(hello(5, 2), LinkFault::Stranger),
+        Step::Closes,
+        Step::Refused(ack(0), LinkFault::Closed),
     ];
-    let mut end = LinkEnd::new(rt.alloc(), 4, 1, 1);
-    assert_eq!(rt; first_wrong(&mut end, &steps), None);
-}
-
-/// Whether this is all that is sent again.
-fn resends(end: &LinkEnd, frames: &[Frame]) -> bool {
-    match end.resend() {
-        Ok(resent) => resent.as_slice() == frames,
-        Err(_) => false,
-    }
+    assert_eq!(rt; first_wrong(rt.alloc(), 1, &steps), None);
 }
 
 #[test]
@@ -125,13 +136,12 @@ fn starts_again(rt: HostRuntime) {
         Step::Offered(2, data(2, 2)),
         Step::Offered(3, data(3, 3)),
         Step::Left(0, 3),
+        Step::Resends(3, Some(data(1, 1))),
+        Step::Came(hello(4, 2), Arrival::Resume),
+        Step::Left(2, 1),
+        Step::Resends(1, Some(data(3, 3))),
     ];
-    let mut end = LinkEnd::new(rt.alloc(), 4, 1, 3);
-    assert_eq!(rt; first_wrong(&mut end, &steps), None);
-    assert!(rt; resends(&end, &[data(1, 1), data(2, 2), data(3, 3)]));
-    let greeted = [Step::Came(hello(4, 2), Arrival::Resume), Step::Left(2, 1)];
-    assert_eq!(rt; first_wrong(&mut end, &greeted), None);
-    assert!(rt; resends(&end, &[data(3, 3)]));
+    assert_eq!(rt; first_wrong(rt.alloc(), 3, &steps), None);
 }
 
 #[test]
@@ -149,12 +159,11 @@ fn takes_in_turn(rt: HostRuntime) {
         Step::Refused(stranger, LinkFault::Stranger),
         Step::Came(data(2, 2), Arrival::Signal),
     ];
-    let mut end = LinkEnd::new(rt.alloc(), 4, 1, 3);
-    assert_eq!(rt; first_wrong(&mut end, &steps), None);
+    assert_eq!(rt; first_wrong(rt.alloc(), 3, &steps), None);
 }
 
 #[test]
-fn closes(rt: HostRuntime) {
+fn is_closed_by_a_refusal(rt: HostRuntime) {
     let stranger = Frame::Ack {
         incarnation: 2,
         last_taken: 9,
@@ -163,48 +172,15 @@ fn closes(rt: HostRuntime) {
         Step::Offered(1, data(1, 1)),
         Step::Came(refuse(71), Arrival::Closed),
         Step::Refused(data(1, 1), LinkFault::Closed),
-        Step::Refused(data(2, 1), LinkFault::Closed),
-        Step::Refused(ack(1), LinkFault::Closed),
         Step::Refused(ack(9), LinkFault::Closed),
         Step::Refused(hello(4, 0), LinkFault::Closed),
         Step::Refused(refuse(71), LinkFault::Closed),
         Step::Refused(stranger, LinkFault::Stranger),
         Step::NotOffered(2, LinkFault::Closed),
         Step::Says(None, ack(0)),
+        Step::Resends(0, None),
     ];
-    let mut end = LinkEnd::new(rt.alloc(), 4, 1, 3);
-    assert_eq!(rt; first_wrong(&mut end, &steps), None);
-    assert!(rt; end.is_closed());
-    assert!(rt; resends(&end, &[]));
-}
-
-#[test]
-fn is_closed_by_this_side(rt: HostRuntime) {
-    let mut end = LinkEnd::new(rt.alloc(), 4, 1, 3);
-    end.close();
-    assert_eq!(rt; end.peek(&ack(0)), Err(LinkFault::Closed));
-}
-
-/// Each refusal, its number, and what is printed of it.
-const TOLD: &[(LinkFault, u16, &str)] = &[
-    (LinkFault::Full, 50, "50 Full"),
-    (LinkFault::Stranger, 51, "51 Stranger"),
-    (LinkFault::Gap, 52, "52 Gap"),
-    (LinkFault::AckOfUnsent, 53, "53 AckOfUnsent"),
-    (LinkFault::Memory, 54, "54 Memory"),
-    (LinkFault::Closed, 55, "55 Closed"),
-];
-
-#[test]
-fn refusals_are_told(rt: HostRuntime) -> Result<(), Fail> {
-    for (fault, number, text) in TOLD {
-        let printed = format!(in rt.alloc(); "{fault}")?;
-        assert!(rt;
-            fault.number() == *number && printed.as_str() == *text,
-            "{text}"
-        );
-    }
-    Ok(())
+    assert_eq!(rt; first_wrong(rt.alloc(), 3, &steps), None);
 }
 
 /// Whether so many signals are taken one after the other, and each that was refused for want of memory the next time.
@@ -243,13 +219,18 @@ fn resent(end: &LinkEnd) -> Option<usize> {
     Some(frames.len())
 }
 
+/// Whether signals are taken, room is reserved, and what was taken is sent again.
+fn does_all(end: &mut LinkEnd) -> bool {
+    takes_all(end, 20)
+        && end.reserve(usize::MAX) == Err(LinkFault::Memory)
+        && reserves(end, 50)
+        && end.unacked() == 20
+        && resent(end) == Some(20)
+}
+
 /// Whichever allocation is refused, nothing has changed and the same call succeeds later: `rt try --test --fail-alloc N`.
 #[test]
 fn lacks_memory(rt: HostRuntime) {
     let mut end = LinkEnd::new(rt.alloc(), 4, 1, 100);
-    assert!(rt; takes_all(&mut end, 20));
-    assert_eq!(rt; end.reserve(usize::MAX), Err(LinkFault::Memory));
-    assert!(rt; reserves(&mut end, 50));
-    assert_eq!(rt; end.unacked(), 20);
-    assert_eq!(rt; resent(&end), Some(20));
+    assert!(rt; does_all(&mut end));
 }

@@ -3,134 +3,66 @@
 ghost use Rattle.plan.specs.External.{AreInputsOf};
 ghost use Rattle.reactor.specs.Programs.{AreProgramsOf};
 
-use crate::drafts::{draft, refusal};
-use crate::federations::{CONNECTION, FEDERATES, ONE_ACTION, PAIR, loaded};
-use crate::inputs::many_inputs;
-use crate::programs::{is_first, is_fresh};
+use crate::federations::{CYCLE, FOUR, ONE_ACTION, TWO_SOURCES, loaded};
 use crate::rows::are_first;
 use loadfed::{LoadFault, load_inputs};
-use plan::{InputFault, Inputs, Plan, PlanFault};
-use reactor::{Entry, Memory, Program, Programs, Reactor};
+use plan::{Inputs, Plan};
+use reactor::{Memory, Programs};
+use samples::COUNTER;
 use std::alloc::Global;
+use std::test::Fail;
 use whole::Whole;
 
-/// Whether what a first call told was right, or want of memory and then right. None where memory was wanting before it.
-fn is_right(first: Option<u16>, again: Option<u16>, right: u16, memory: u16) -> bool {
-    match first {
-        None => true,
-        Some(number) => number == right || (number == memory && again == Some(right)),
-    }
+/// Whether what a first call told was right, or want of memory and then right.
+fn is_right(first: u16, again: u16, right: u16) -> bool {
+    first == right || (first == LoadFault::Memory.number() && again == right)
 }
 
-/// A file's federates, connections between them, and the number that refuses both together.
-const DRAFTS: &[(&str, &[(&str, &str)], u16)] = &[
-    (FEDERATES, &[("src", "snk")], 0),
-    (FEDERATES, &[("src", "snk"), ("src", "snk")], 12),
-    (PAIR, &[("a", "b"), ("b", "a")], 13),
-];
+/// Files of two parts, and the number that refuses them; 0 where they are taken.
+const FILES: &[(&str, &str, u16)] = &[(COUNTER, "", 0), (FOUR, TWO_SOURCES, 32), (FOUR, CYCLE, 32)];
 
-fn told(alloc: Global, file: &str, between: &[(&str, &str)]) -> Option<u16> {
-    let draft = draft(alloc, file, between)?;
-    Some(refusal(alloc, draft))
-}
-
-#[test]
-fn tells_want_of_memory_of_plans(rt: HostRuntime) {
-    for (file, between, number) in DRAFTS {
-        let first = told(rt.alloc(), file, between);
-        let again = told(rt.alloc(), file, between);
-        assert!(rt;
-            is_right(first, again, *number, PlanFault::Memory.number()),
-            "{number}"
-        );
-    }
-}
-
-/// 0 where three inputs are taken.
-fn told_of_inputs(alloc: Global, plan: &Plan) -> Option<u16> {
-    let inputs = many_inputs(alloc, 3)?;
-    match Inputs::check(alloc, plan, inputs) {
-        Ok(_) => Some(0),
-        Err(fault) => Some(fault.number()),
-    }
-}
-
-fn are_inputs_right(alloc: Global, plan: &Plan) -> bool {
-    let first = told_of_inputs(alloc, plan);
-    let again = told_of_inputs(alloc, plan);
-    is_right(first, again, 0, InputFault::Memory.number())
-}
-
-#[test]
-fn tells_want_of_memory_of_inputs(rt: HostRuntime) {
-    if let Ok((plan, _programs)) = loaded(rt.alloc(), ONE_ACTION, "") {
-        assert!(rt; are_inputs_right(rt.alloc(), &plan));
-    }
-}
-
-/// 0 where an empty input file is taken.
-fn told_of_no_inputs(alloc: Global, plan: &Plan) -> u16 {
-    match load_inputs(alloc, b"", plan) {
+fn told(alloc: Global, front: &str, back: &str) -> u16 {
+    match loaded(alloc, front, back) {
         Ok(_) => 0,
-        Err(fault) => fault.number(),
-    }
-}
-
-/// 0 where the counter's files are taken.
-fn told_of_files(alloc: Global) -> u16 {
-    match loaded(alloc, FEDERATES, CONNECTION) {
-        Ok((plan, _programs)) => told_of_no_inputs(alloc, &plan),
         Err(fault) => fault.number(),
     }
 }
 
 #[test]
 fn tells_want_of_memory_of_files(rt: HostRuntime) {
-    let first = told_of_files(rt.alloc());
-    let again = told_of_files(rt.alloc());
-    assert!(rt;
-        is_right(Some(first), Some(again), 0, LoadFault::Memory.number()),
-        "{first}, {again}"
-    );
-}
-
-/// 0 where the counter's first turn is what it should be. None where there was no memory for the reactor.
-fn told_of_turn(alloc: Global, program: &Program) -> Option<u16> {
-    let reactor = Reactor::new(alloc, program).ok()?;
-    match reactor.run(&[Entry::new(1, 0)]) {
-        Ok(turn) => Some(if is_first(&turn) { 0 } else { 1 }),
-        Err(memory) => Some(if is_fresh(&reactor) {
-            memory.number()
-        } else {
-            1
-        }),
+    for (front, back, right) in FILES {
+        let first = told(rt.alloc(), front, back);
+        let again = told(rt.alloc(), front, back);
+        assert!(rt; is_right(first, again, *right));
     }
 }
 
-fn are_turns_right(alloc: Global, programs: &Programs) -> bool {
-    match programs.as_slice() {
-        [program, ..] => {
-            let first = told_of_turn(alloc, program);
-            let again = told_of_turn(alloc, program);
-            is_right(first, again, 0, Memory.number())
-        }
-        [] => false,
+/// Three recorded inputs.
+const INPUTS: &str = r#"
+input = [
+    { federate = "f", action = "p", time = "0", value = 1 },
+    { federate = "f", action = "p", time = "0", micro = 1, value = 2 },
+    { federate = "f", action = "p", time = "5 ms", value = 3 },
+]"#;
+
+fn told_of_inputs(alloc: Global, plan: &Plan) -> u16 {
+    match load_inputs(alloc, INPUTS.as_bytes(), plan) {
+        Ok(_) => 0,
+        Err(fault) => fault.number(),
     }
 }
 
 #[test]
-fn tells_want_of_memory_of_turns(rt: HostRuntime) {
-    if let Ok((_plan, programs)) = loaded(rt.alloc(), FEDERATES, CONNECTION) {
-        assert!(rt; are_turns_right(rt.alloc(), &programs));
+fn tells_want_of_memory_of_inputs(rt: HostRuntime) {
+    if let Ok((plan, _programs)) = loaded(rt.alloc(), ONE_ACTION, "") {
+        let first = told_of_inputs(rt.alloc(), &plan);
+        let again = told_of_inputs(rt.alloc(), &plan);
+        assert!(rt; is_right(first, again, 0));
     }
 }
 
-/// Whether all six rows come, after want of memory too, which leaves the rows before it. None where there was no memory to begin.
-fn goes_on(alloc: Global, plan: &Plan, programs: &Programs, inputs: &Inputs) -> Option<bool>
-    requires programs { AreProgramsOf plan.now programs.now }
-    requires inputs { AreInputsOf plan.now inputs.now }
-{
-    let mut whole = Whole::new(alloc, plan, programs, inputs).ok()?;
+/// Whether all six rows come, after want of memory too, which leaves the rows before it.
+fn makes_six(whole: &mut Whole<'_>) -> bool {
     let stands = match whole.turns(100) {
         Ok(made) => made == 6,
         Err(Memory) => {
@@ -138,7 +70,16 @@ fn goes_on(alloc: Global, plan: &Plan, programs: &Programs, inputs: &Inputs) -> 
             made < 6 && are_first(whole.rows(), made) && whole.turns(100).is_ok()
         }
     };
-    Some(stands && are_first(whole.rows(), 6))
+    stands && are_first(whole.rows(), 6)
+}
+
+/// The same of a fresh one; None where there was no memory to begin.
+fn goes_on(alloc: Global, plan: &Plan, programs: &Programs, inputs: &Inputs) -> Option<bool>
+    requires programs { AreProgramsOf plan.now programs.now }
+    requires inputs { AreInputsOf plan.now inputs.now }
+{
+    let mut whole = Whole::new(alloc, plan, programs, inputs).ok()?;
+    Some(makes_six(&mut whole))
 }
 
 /// Whether that is so once there was memory to begin, the first time or the second.
@@ -157,7 +98,7 @@ fn is_gone_on(alloc: Global, plan: &Plan, programs: &Programs) -> bool
 
 #[test]
 fn tells_want_of_memory_and_goes_on(rt: HostRuntime) {
-    if let Ok((plan, programs)) = loaded(rt.alloc(), FEDERATES, CONNECTION) {
+    if let Ok((plan, programs)) = loaded(rt.alloc(), COUNTER, "") {
         assert!(rt; is_gone_on(rt.alloc(), &plan, &programs));
     }
 }

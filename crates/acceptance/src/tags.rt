@@ -1,148 +1,137 @@
 //! Tags and delays: their order, their sums, and how they are printed.
-use std::cmp::Ordering;
+use std::alloc::Global;
+use std::fmt::Display;
 use std::test::Fail;
 use tag::{Delay, FiniteTag, Tag, Time, plus, pred, succ, then};
 
 const LAST: u64 = (1 << 62) - 1;
 
-/// FOREVER where there is no such time.
-fn tag(time: u64, microstep: u32) -> Tag {
-    Time::new(time).map_or(Tag::FOREVER, |time| Tag::new(time, microstep))
+/// FOREVER, as are all numbers of which the first is no time.
+const FOREVER: (u64, u32) = (1 << 62, 0);
+
+fn tag(of: (u64, u32)) -> Tag {
+    match Time::new(of.0) {
+        Some(time) => Tag::new(time, of.1),
+        None => Tag::FOREVER,
+    }
 }
 
-/// FOREVER where there is no such time.
-fn delay(time: u64, microstep: u32) -> Delay {
-    Time::new(time).map_or(Delay::FOREVER, |time| Delay::new(time, microstep))
+fn delay(of: (u64, u32)) -> Delay {
+    match Time::new(of.0) {
+        Some(time) => Delay::new(time, of.1),
+        None => Delay::FOREVER,
+    }
 }
-
-/// Time and microstep of tags, each later than the one before.
-const RISING: [(u64, u32); 7] = [
-    (0, 0),
-    (0, 1),
-    (0, u32::MAX),
-    (1, 0),
-    (1, 1),
-    (LAST, 0),
-    (LAST, u32::MAX),
-];
 
 #[test]
 fn order_by_time_then_microstep(rt: HostRuntime) {
-    for (place, &(time, microstep)) in RISING.iter().enumerate() {
-        for (other_place, &(other_time, other_microstep)) in RISING.iter().enumerate() {
-            let order = place.cmp(&other_place);
-            let first = tag(time, microstep);
-            let second = tag(other_time, other_microstep);
-            assert_eq!(rt; first.cmp(&second), order, "{first} and {second}");
-            assert_eq!(rt;
-                FiniteTag::of(first).cmp(&FiniteTag::of(second)),
-                order,
-                "{first} and {second}"
-            );
-            let first = delay(time, microstep);
-            let second = delay(other_time, other_microstep);
-            assert_eq!(rt; first.cmp(&second), order, "{first} and {second}");
-        }
-    }
+    assert!(rt; tag((0, u32::MAX)) < tag((1, 0)) && tag((LAST, u32::MAX)) < Tag::FOREVER);
+    assert!(rt; delay((0, u32::MAX)) < delay((1, 0)) && delay((LAST, 0)) < Delay::FOREVER);
+}
+
+/// A tag, a delay, and their sum.
+const SUMS: &[((u64, u32), (u64, u32), (u64, u32))] = &[
+    ((LAST - 1, 0), (1, 0), (LAST, 0)),
+    ((LAST - 1, 0), (2, 0), FOREVER),
+    ((0, u32::MAX), (0, 1), (1, 0)),
+    ((0, u32::MAX), (0, 2), (1, 0)),
+    ((LAST, u32::MAX), (0, 1), FOREVER),
+    ((5, 3), (0, 1), (5, 4)),
+    ((5, 3), (2, 0), (7, 0)),
+    ((5, 3), (0, 0), (5, 3)),
+    ((5, 3), FOREVER, FOREVER),
+    (FOREVER, (0, 1), FOREVER),
+];
+
+/// Two delays, and what they are one after the other.
+const DELAYS: &[((u64, u32), (u64, u32), (u64, u32))] = &[
+    ((0, u32::MAX), (0, 2), (1, 0)),
+    ((3, 0), (0, 1), (3, 1)),
+    ((3, 1), (4, 0), (7, 0)),
+    (FOREVER, (0, 0), FOREVER),
+];
+
+/// The place of the first wrong sum.
+fn wrong_sum() -> Option<usize> {
+    SUMS.iter().position(|(start, length, sum)| plus(tag(*start), delay(*length)) != tag(*sum))
+}
+
+/// The place of the first two delays that are wrong.
+fn wrong_delay() -> Option<usize> {
+    DELAYS.iter().position(|(first, second, sum)| then(delay(*first), delay(*second))
+        != delay(*sum))
 }
 
 #[test]
-fn forever_is_last(rt: HostRuntime) {
-    assert_eq!(rt; tag(LAST, u32::MAX).cmp(&Tag::FOREVER), Ordering::Less);
-    assert_eq!(rt; Tag::FOREVER.cmp(&Tag::FOREVER), Ordering::Equal);
-    assert_eq!(rt; delay(LAST, u32::MAX).cmp(&Delay::FOREVER), Ordering::Less);
-    assert_eq!(rt; FiniteTag::of(Tag::FOREVER), None);
+fn sums(rt: HostRuntime) {
+    assert_eq!(rt; wrong_sum(), None);
+    assert_eq!(rt; wrong_delay(), None);
+}
+
+/// Whether the second tag is the first one's successor, and the first the second one's predecessor.
+fn are_next(earlier: (u64, u32), later: (u64, u32)) -> bool {
+    succ(tag(earlier)) == tag(later) && pred(tag(later)) == Some(tag(earlier))
 }
 
 #[test]
-fn sums_of_tags(rt: HostRuntime) {
-    for (start, length, sum) in [
-        (tag(LAST - 1, 0), delay(1, 0), tag(LAST, 0)),
-        (tag(LAST - 1, 0), delay(2, 0), Tag::FOREVER),
-        (tag(0, u32::MAX), delay(0, 1), tag(1, 0)),
-        (tag(0, u32::MAX), delay(0, 2), tag(1, 0)),
-        (tag(LAST, u32::MAX), delay(0, 1), Tag::FOREVER),
-        (tag(5, 3), delay(0, 1), tag(5, 4)),
-        (tag(5, 3), delay(2, 0), tag(7, 0)),
-        (tag(5, 3), Delay::none(), tag(5, 3)),
-        (tag(5, 3), Delay::FOREVER, Tag::FOREVER),
-        (Tag::FOREVER, delay(0, 1), Tag::FOREVER),
-    ] {
-        assert_eq!(rt; plus(start, length), sum, "{start} + {length}");
+fn successors_and_predecessors(rt: HostRuntime) {
+    assert!(rt; are_next((5, 3), (5, 4)) && are_next((0, 0), (0, 1)));
+    assert!(rt; are_next((5, u32::MAX), (6, 0)) && are_next((LAST, u32::MAX), FOREVER));
+    assert!(rt; succ(Tag::FOREVER) == Tag::FOREVER && pred(Tag::origin()).is_none());
+}
+
+/// Whether a value is printed so.
+fn prints<T: Display>(alloc: Global, value: &T, text: &str) -> bool {
+    match format!(in alloc; "{value}") {
+        Ok(printed) => printed.as_str() == text,
+        Err(_) => false,
     }
 }
 
-#[test]
-fn sums_of_delays(rt: HostRuntime) {
-    for (first, second, sum) in [
-        (delay(0, u32::MAX), delay(0, 2), delay(1, 0)),
-        (delay(3, 0), delay(0, 1), delay(3, 1)),
-        (delay(3, 1), delay(4, 0), delay(7, 0)),
-        (Delay::FOREVER, Delay::none(), Delay::FOREVER),
-    ] {
-        assert_eq!(rt; then(first, second), sum, "{first} then {second}");
+/// Tags, how their time is printed, and how they are.
+const PRINTED: &[((u64, u32), &str, &str)] = &[
+    ((0, 0), "0", "(0, 0)"),
+    ((1, 1), "1 ns", "(1 ns, 1)"),
+    ((1_500, 0), "1500 ns", "(1500 ns, 0)"),
+    ((2_000, 0), "2 us", "(2 us, 0)"),
+    ((1_500_000, 0), "1500 us", "(1500 us, 0)"),
+    ((10_000_000, 3), "10 ms", "(10 ms, 3)"),
+    ((2_000_000_000, 0), "2 s", "(2 s, 0)"),
+    (
+        (LAST, 0),
+        "4611686018427387903 ns",
+        "(4611686018427387903 ns, 0)",
+    ),
+    (FOREVER, "", "FOREVER"),
+];
+
+/// Whether the time, if it is one, is printed so.
+fn prints_time(alloc: Global, time: u64, text: &str) -> bool {
+    match Time::new(time) {
+        Some(time) => prints(alloc, &time, text),
+        None => text.is_empty(),
     }
 }
 
-#[test]
-fn successors(rt: HostRuntime) {
-    for (start, later) in [
-        (tag(5, 3), tag(5, 4)),
-        (tag(5, u32::MAX), tag(6, 0)),
-        (Tag::FOREVER, Tag::FOREVER),
-    ] {
-        assert_eq!(rt; succ(start), later, "after {start}");
+/// Whether the finite tag, if it is one, is printed so.
+fn prints_finite(alloc: Global, tag: Tag, text: &str) -> bool {
+    match FiniteTag::of(tag) {
+        Some(finite) => finite.tag() == tag && prints(alloc, &finite, text),
+        None => text == "FOREVER",
     }
 }
 
-#[test]
-fn predecessors(rt: HostRuntime) {
-    for (start, earlier) in [
-        (tag(5, 4), Some(tag(5, 3))),
-        (tag(1, 0), Some(tag(0, u32::MAX))),
-        (tag(0, 1), Some(tag(0, 0))),
-        (tag(0, 0), None),
-        (Tag::FOREVER, Some(tag(LAST, u32::MAX))),
-    ] {
-        assert_eq!(rt; pred(start), earlier, "before {start}");
-    }
+/// Whether a time, and the tags and the delay with it, are printed so.
+fn are_printed(alloc: Global, of: (u64, u32), time: &str, text: &str) -> bool {
+    prints_time(alloc, of.0, time)
+        && prints(alloc, &tag(of), text)
+        && prints_finite(alloc, tag(of), text)
+        && prints(alloc, &delay(of), text)
 }
 
 #[test]
-fn printed_times(rt: HostRuntime) -> Result<(), Fail> {
-    for (time, text) in [
-        (0, "0"),
-        (1, "1 ns"),
-        (1_500, "1500 ns"),
-        (2_000, "2 us"),
-        (1_500_000, "1500 us"),
-        (10_000_000, "10 ms"),
-        (2_000_000_000, "2 s"),
-        (4_611_686_018_427_387_903, "4611686018427387903 ns"),
-    ] {
-        let time = Time::new(time).ok_or("a time")?;
-        assert_eq!(rt; time.to_string(rt.alloc())?.as_str(), text);
+fn printed(rt: HostRuntime) {
+    for (of, time, text) in PRINTED {
+        assert!(rt; are_printed(rt.alloc(), *of, time, text), "{text}");
     }
-    Ok(())
-}
-
-#[test]
-fn printed_tags(rt: HostRuntime) -> Result<(), Fail> {
-    for (tag, text) in [
-        (tag(10_000_000, 3), "(10 ms, 3)"),
-        (Tag::origin(), "(0, 0)"),
-        (Tag::FOREVER, "FOREVER"),
-    ] {
-        assert_eq!(rt; tag.to_string(rt.alloc())?.as_str(), text);
-    }
-    let finite = FiniteTag::of(tag(10_000_000, 3)).ok_or("a finite tag")?;
-    assert_eq!(rt; finite.to_string(rt.alloc())?.as_str(), "(10 ms, 3)");
-    assert_eq!(rt; finite.tag(), tag(10_000_000, 3));
-    for (delay, text) in [
-        (Delay::after(Time::zero()), "(0, 1)"),
-        (Delay::FOREVER, "FOREVER"),
-    ] {
-        assert_eq!(rt; delay.to_string(rt.alloc())?.as_str(), text);
-    }
-    Ok(())
 }

@@ -1,2 +1,0 @@
--- parts of a program that may be read
-pub mod Readable
