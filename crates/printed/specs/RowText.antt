@@ -2,6 +2,7 @@
 use Rattle.std.specs.Prelude.{ℕ, if◌then◌else◌, List, [], ◌++◌, slice_get, slice_index_or, Option, None, Some, codes}
 use Rattle.std.specs.List.{flat_map, join_by}
 use Rattle.std.specs.Fmt.{signed_decimal}
+use Rattle.tag.specs.LogicalTime.{LogicalTime}
 use Rattle.tag.specs.Printed.{printed_tag}
 use Rattle.network.specs.Event.{Entry}
 use Rattle.network.specs.Undivided.{Row}
@@ -29,6 +30,18 @@ printed_output s e = valued s.outputs e
 -- entries in brackets, parted by one space
 abbrev pub bracketed : (Entry → List ℕ) → List Entry → List ℕ
 bracketed printed entries = codes "[" ++ (join_by printed (codes " ") entries ++ codes "]")
+
+-- a tag between spaces
+unfoldable pub spaced_tag : LogicalTime → List ℕ
+spaced_tag g = codes " " ++ (printed_tag g ++ codes " ")
+
+-- what was present, and the arrow after it
+unfoldable pub printed_inputs : Slots → List Entry → List ℕ
+printed_inputs s entries = bracketed (printed_input s) entries ++ codes " -> "
+
+-- what was set, and the end of the line
+unfoldable pub printed_outputs : Slots → List Entry → List ℕ
+printed_outputs s entries = bracketed (printed_output s) entries ++ codes "\n"
 
 -- a row of this federate
 unfoldable pub printed_turn : Federate → Row → List ℕ

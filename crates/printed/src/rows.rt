@@ -4,7 +4,7 @@ ghost use Rattle.std.specs.Fmt.{signed_decimal};
 ghost use Rattle.std.specs.Io.KnownBytes.{Appends};
 ghost use Rattle.plan.specs.Numbering.{timer_names};
 ghost use Rattle.reactor.specs.Resolution.{slot_names};
-ghost use Rattle.printed.specs.RowText.{name_at, printed_input, printed_output, bracketed, printed_turn, printed_line, printed_rows};
+ghost use Rattle.printed.specs.RowText.{name_at, printed_input, printed_output, printed_inputs, printed_outputs, spaced_tag, printed_turn, printed_line, printed_rows};
 
 use crate::tags::{write_tag, write_value};
 use plan::{Federate, Plan, Slots, Text, Timer};
@@ -26,54 +26,59 @@ pub fn write_rows<W: Write>(out: &mut W, plan: &Plan, rows: &Rows) -> io::Result
 fn write_line<W: Write>(out: &mut W, federates: &[Federate], row: &RowView<'_>) -> io::Result<()>
     ensures { OnOk result (Appends (W.contents out.old) (W.contents out.new) (printed_line federates.now row.now)) }
 {
-    if let Some(federate) = federates.get(row.federate()) {
-        write_turn(out, federate, row)?;
+    match federates.get(row.federate()) {
+        Some(federate) => write_turn(out, federate, row),
+        None => out.write_all(b"\n"),
     }
-    out.write_all(b"\n")
 }
 
-/// Writes a row of this federate.
-#[tactic(auto, unfolding(crate::specs::RowText::printed_turn))]
+/// Writes a row of this federate and the end of its line.
 fn write_turn<W: Write>(out: &mut W, federate: &Federate, row: &RowView<'_>) -> io::Result<()>
-    ensures { OnOk result (Appends (W.contents out.old) (W.contents out.new) (printed_turn federate.now row.now)) }
+    ensures { OnOk result (Appends (W.contents out.old) (W.contents out.new) (printed_turn federate.now row.now ++ codes "\n")) }
+{
+    write_parts(out, federate, row)
+}
+
+/// Writes the parts of a row one after the other, each with what parts it from the next.
+fn write_parts<W: Write>(out: &mut W, federate: &Federate, row: &RowView<'_>) -> io::Result<()>
+    ensures { OnOk result (Appends (W.contents out.old) (W.contents out.new) (federate.now.name ++ (spaced_tag row.now.tag ++ (printed_inputs federate.now.slots row.now.inputs ++ printed_outputs federate.now.slots row.now.outputs)))) }
 {
     out.write_all(federate.name.as_str().as_bytes())?;
-    out.write_all(b" ")?;
     write_tag(out, row.tag())?;
-    out.write_all(b" ")?;
     write_inputs(out, &federate.slots, row.inputs())?;
-    out.write_all(b" -> ")?;
     write_outputs(out, &federate.slots, row.outputs())
 }
 
-/// Writes the slots that were present, in brackets.
+/// Writes the slots that were present, in brackets, and an arrow.
+#[tactic(auto, unfolding(crate::specs::RowText::printed_inputs))]
 fn write_inputs<W: Write>(out: &mut W, slots: &Slots, entries: &[Entry]) -> io::Result<()>
-    ensures { OnOk result (Appends (W.contents out.old) (W.contents out.new) (bracketed (printed_input slots.now) entries.now)) }
+    ensures { OnOk result (Appends (W.contents out.old) (W.contents out.new) (printed_inputs slots.now entries.now)) }
 {
     let Some((first, rest)) = entries.split_first() else {
-        return out.write_all(b"[]");
+        return out.write_all(b"[] -> ");
     };
     out.write_all(b"[")?;
     write_input(out, slots, *first)?;
     for entry in rest {
         write_next_input(out, slots, *entry)?;
     }
-    out.write_all(b"]")
+    out.write_all(b"] -> ")
 }
 
-/// Writes the outputs that were set, in brackets.
+/// Writes the outputs that were set, in brackets, and the end of the line.
+#[tactic(auto, unfolding(crate::specs::RowText::printed_outputs))]
 fn write_outputs<W: Write>(out: &mut W, slots: &Slots, entries: &[Entry]) -> io::Result<()>
-    ensures { OnOk result (Appends (W.contents out.old) (W.contents out.new) (bracketed (printed_output slots.now) entries.now)) }
+    ensures { OnOk result (Appends (W.contents out.old) (W.contents out.new) (printed_outputs slots.now entries.now)) }
 {
     let Some((first, rest)) = entries.split_first() else {
-        return out.write_all(b"[]");
+        return out.write_all(b"[]\n");
     };
     out.write_all(b"[")?;
     write_output(out, slots, *first)?;
     for entry in rest {
         write_next_output(out, slots, *entry)?;
     }
-    out.write_all(b"]")
+    out.write_all(b"]\n")
 }
 
 /// Writes a slot that was present.

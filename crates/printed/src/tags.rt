@@ -1,29 +1,41 @@
 //! Numbers and tags, written as they are displayed.
-ghost use Rattle.std.specs.Prelude.{OnOk};
+ghost use Rattle.std.specs.Prelude.{◌++◌, OnOk, codes};
 ghost use Rattle.std.specs.Fmt.{decimal, signed_decimal};
 ghost use Rattle.std.specs.Io.KnownBytes.{Appends};
-ghost use Rattle.tag.specs.Printed.{printed_time, printed_tag};
+ghost use Rattle.tag.specs.Printed.{printed_time};
+ghost use Rattle.printed.specs.RowText.{spaced_tag};
 
 use itoa::Buffer;
 use std::io;
 use std::io::Write;
 use tag::{Tag, Time};
 
-/// Writes a tag.
+/// Writes a tag between spaces.
+#[tactic(auto, unfolding(crate::specs::RowText::spaced_tag))]
 pub fn write_tag<W: Write>(out: &mut W, tag: Tag) -> io::Result<()>
-    ensures { OnOk result (Appends (W.contents out.old) (W.contents out.new) (printed_tag tag)) }
+    ensures { OnOk result (Appends (W.contents out.old) (W.contents out.new) (spaced_tag tag)) }
 {
     let time = tag.time();
     match Time::new(time) {
         Some(_) => {
-            out.write_all(b"(")?;
+            out.write_all(b" (")?;
             write_time(out, time)?;
-            out.write_all(b", ")?;
-            write_count(out, u64::from(tag.microstep()))?;
-            out.write_all(b")")
+            write_microstep(out, tag.microstep())
         }
-        None => out.write_all(b"FOREVER"),
+        None => out.write_all(b" FOREVER "),
     }
+}
+
+/// Writes a microstep after its time, and the end of the tag.
+fn write_microstep<W: Write>(out: &mut W, microstep: u32) -> io::Result<()>
+    ensures { OnOk result (Appends (W.contents out.old) (W.contents out.new) (codes ", " ++ (decimal microstep ++ codes ") "))) }
+{
+    if microstep == 0 {
+        return out.write_all(b", 0) ");
+    }
+    out.write_all(b", ")?;
+    write_count(out, u64::from(microstep))?;
+    out.write_all(b") ")
 }
 
 /// Writes a time in the greatest unit that divides it.

@@ -1,0 +1,11 @@
+use Rattle.std.proofs.Common.{◌≡◌, ◌++◌, [], ◌∷◌, OnOk, sym, subst, ap, ◌∙◌, arith}
+use Rattle.std.specs.Fmt.{decimal}
+use Rattle.std.specs.Io.KnownBytes.{Appends}
+use Rattle.printed.proofs.Lines.{zero_is}
+use Rattle.printed.proofs.tags.write_microstep.Goals as goal
+
+pub returns-then-microstep-eq0 : goal.returns-then-microstep-eq0
+returns-then-microstep-eq0 g c =
+    let zero = c.if-microstep-eq0.true in
+    let e : c.args.microstep ≡ 0 = omega arith in
+    subst (λ d. OnOk c.write_all.result (Appends (g.W.Write.contents c.args.out.now) (g.W.Write.contents c.write_all.new.self) (44 ∷ 32 ∷ (d ++ 41 ∷ 32 ∷ [])))) (sym (ap decimal e ∙ zero_is)) c.write_all.ensures.bytes
