@@ -1,0 +1,432 @@
+//! What schedules print over the worked federations.
+use crate::federations::{CHAIN, CHAIN_INPUT, COUNTER, IDLE, TICKS};
+use crate::played::Case;
+
+const CASES: &[Case<'static>] = &[
+    // A replay by rounds alone.
+    Case {
+        federation: COUNTER,
+        inputs: "",
+        schedule: "round
+round
+round
+round
+round
+round
+round
+round
+round
+round
+",
+        closing: None,
+        text: "src (0, 0) [t] -> [y=1]
+src (10 ms, 0) [t] -> [y=2]
+src (20 ms, 0) [t] -> [y=3]
+snk (0, 0) [x=1] -> [total=1]
+snk (10 ms, 0) [x=2] -> [total=3]
+snk (20 ms, 0) [x=3] -> [total=6]
+end
+",
+    },
+    // Frames out of order and repeated.
+    Case {
+        federation: COUNTER,
+        inputs: "",
+        schedule: "announce src
+deliver up src 1
+deliver down src 2
+advance src
+deliver up src 4
+deliver up src 1
+deliver up src 3
+deliver up src 3
+deliver up src 4
+round
+round
+round
+round
+round
+round
+round
+round
+round
+round
+",
+        closing: None,
+        text: "step 5 refused 52
+src (0, 0) [t] -> [y=1]
+src (10 ms, 0) [t] -> [y=2]
+src (20 ms, 0) [t] -> [y=3]
+snk (0, 0) [x=1] -> [total=1]
+snk (10 ms, 0) [x=2] -> [total=3]
+snk (20 ms, 0) [x=3] -> [total=6]
+end
+",
+    },
+    // A lost frame, and a new connection.
+    Case {
+        federation: COUNTER,
+        inputs: "",
+        schedule: "announce src
+skip up src
+reconnect up src
+reconnect down src
+round
+round
+round
+round
+round
+round
+round
+round
+round
+round
+round
+round
+",
+        closing: None,
+        text: "src (0, 0) [t] -> [y=1]
+src (10 ms, 0) [t] -> [y=2]
+src (20 ms, 0) [t] -> [y=3]
+snk (0, 0) [x=1] -> [total=1]
+snk (10 ms, 0) [x=2] -> [total=3]
+snk (20 ms, 0) [x=3] -> [total=6]
+end
+",
+    },
+    // A federate that forgets.
+    Case {
+        federation: COUNTER,
+        inputs: "",
+        schedule: "round
+round
+round
+forget snk
+reconnect up snk
+round
+round
+round
+round
+round
+round
+round
+round
+",
+        closing: None,
+        text: "step 6 refused 51
+step 6 refused 51
+step 6 refused 51
+src (0, 0) [t] -> [y=1]
+src (10 ms, 0) [t] -> [y=2]
+src (20 ms, 0) [t] -> [y=3]
+snk forgotten
+end
+",
+    },
+    // A lost frame, sent again.
+    Case {
+        federation: COUNTER,
+        inputs: "",
+        schedule: "announce src
+skip up src
+resend up src
+round
+round
+round
+round
+round
+round
+round
+round
+round
+round
+",
+        closing: None,
+        text: "src (0, 0) [t] -> [y=1]
+src (10 ms, 0) [t] -> [y=2]
+src (20 ms, 0) [t] -> [y=3]
+snk (0, 0) [x=1] -> [total=1]
+snk (10 ms, 0) [x=2] -> [total=3]
+snk (20 ms, 0) [x=3] -> [total=6]
+end
+",
+    },
+    // A frame that was never sent.
+    Case {
+        federation: COUNTER,
+        inputs: "",
+        schedule: "deliver up src 9
+",
+        closing: None,
+        text: "end
+",
+    },
+    // Three federates in a chain.
+    Case {
+        federation: CHAIN,
+        inputs: CHAIN_INPUT,
+        schedule: "round
+round
+round
+round
+round
+round
+round
+round
+round
+round
+round
+round
+round
+round
+round
+round
+round
+round
+round
+round
+round
+round
+round
+round
+round
+round
+round
+round
+round
+round
+round
+round
+round
+round
+round
+round
+round
+round
+round
+round
+round
+round
+round
+round
+round
+round
+round
+round
+round
+round
+round
+round
+round
+round
+round
+round
+round
+round
+round
+round
+",
+        closing: None,
+        text: "a (10 ms, 0) [t] -> [y=1]
+b (10 ms, 0) [x=1] -> []
+b (15 ms, 0) [act=7] -> [z=7]
+b (100 ms, 0) [p=9] -> [z=9]
+c (15 ms, 0) [w=7] -> [o=7]
+c (50 ms, 0) [t] -> [o=-1]
+c (100 ms, 0) [w=9] -> [o=9]
+end
+",
+    },
+    // A federate ahead of the others.
+    Case {
+        federation: CHAIN,
+        inputs: CHAIN_INPUT,
+        schedule: "announce b
+deliver up b 1
+announce a
+deliver up a 1
+deliver down a 2
+advance a
+deliver up a 3
+deliver up a 4
+deliver down b 2
+deliver down b 3
+advance b
+deliver up b 4
+announce a
+deliver up a 5
+announce c
+deliver up c 1
+deliver down c 2
+advance c
+round
+round
+round
+round
+round
+round
+round
+round
+round
+round
+round
+round
+round
+round
+round
+round
+round
+round
+round
+round
+round
+round
+round
+round
+round
+round
+round
+round
+round
+round
+round
+round
+round
+round
+round
+round
+round
+round
+round
+round
+round
+round
+round
+round
+round
+round
+round
+round
+round
+round
+round
+round
+round
+round
+round
+round
+round
+round
+round
+round
+",
+        closing: None,
+        text: "a (10 ms, 0) [t] -> [y=1]
+b (10 ms, 0) [x=1] -> []
+b (15 ms, 0) [act=7] -> [z=7]
+b (100 ms, 0) [p=9] -> [z=9]
+c (15 ms, 0) [w=7] -> [o=7]
+c (50 ms, 0) [t] -> [o=-1]
+c (100 ms, 0) [w=9] -> [o=9]
+end
+",
+    },
+    // A timer of one nanosecond.
+    Case {
+        federation: TICKS,
+        inputs: "",
+        schedule: "round
+round
+round
+round
+round
+round
+",
+        closing: None,
+        text: "one (0, 0) [t] -> [y=1]
+one (1 ns, 0) [t] -> [y=2]
+one (2 ns, 0) [t] -> [y=3]
+one (3 ns, 0) [t] -> [y=4]
+one (4 ns, 0) [t] -> [y=5]
+end
+",
+    },
+    // Rounds until it is stuck.
+    Case {
+        federation: COUNTER,
+        inputs: "",
+        schedule: "",
+        closing: Some(20),
+        text: "stuck
+src (0, 0) [t] -> [y=1]
+src (10 ms, 0) [t] -> [y=2]
+src (20 ms, 0) [t] -> [y=3]
+snk (0, 0) [x=1] -> [total=1]
+snk (10 ms, 0) [x=2] -> [total=3]
+snk (20 ms, 0) [x=3] -> [total=6]
+end
+",
+    },
+    // Too few rounds.
+    Case {
+        federation: COUNTER,
+        inputs: "",
+        schedule: "",
+        closing: Some(2),
+        text: "stopped at 2 rounds
+src (0, 0) [t] -> [y=1]
+end
+",
+    },
+    // A lost frame, and rounds until it is stuck.
+    Case {
+        federation: COUNTER,
+        inputs: "",
+        schedule: "announce src
+skip up src
+",
+        closing: Some(20),
+        text: "stuck
+src (0, 0) [t] -> [y=1]
+src (10 ms, 0) [t] -> [y=2]
+src (20 ms, 0) [t] -> [y=3]
+snk (0, 0) [x=1] -> [total=1]
+snk (10 ms, 0) [x=2] -> [total=3]
+snk (20 ms, 0) [x=3] -> [total=6]
+end
+",
+    },
+    // Nothing to do.
+    Case {
+        federation: IDLE,
+        inputs: "",
+        schedule: "",
+        closing: Some(20),
+        text: "stuck
+end
+",
+    },
+    // A new incarnation.
+    Case {
+        federation: COUNTER,
+        inputs: "",
+        schedule: "announce snk
+deliver up snk 1
+forget snk
+reconnect up snk
+deliver up snk 2
+",
+        closing: None,
+        text: "step 5 refused 51
+snk forgotten
+end
+",
+    },
+];
+
+#[test]
+fn prints_what_is_worked_out(rt: HostRuntime) {
+    for case in CASES {
+        assert!(rt; case.prints(rt.alloc()), "{}", case.schedule);
+    }
+}
