@@ -1,4 +1,4 @@
-//! Desks: their journals, and what two workers at one desk are told.
+//! What two workers at one desk are told, and its journal.
 ghost use Rattle.std.specs.Prelude.{◌≡◌, IfOk};
 ghost use Rattle.stations.specs.Counting.{counting};
 ghost use Rattle.node.specs.Step.{opening_of};
@@ -37,45 +37,6 @@ fn told(reply: &Reply) -> Option<u64> {
     }
 }
 
-/// Whether a fresh desk's events are answered so, and are its journal.
-fn journals(alloc: Global, events: &[(Event, Option<u64>)]) -> Result<bool, AllocError> {
-    let mut desk = Desk::new(alloc, opened(alloc)?);
-    for (event, expected) in events {
-        match desk.handle(*event) {
-            Ok(reply) if told(&reply) == *expected => {}
-            _ => return Ok(false),
-        }
-    }
-    let (_station, journal) = desk.into_parts();
-    Ok(
-        journal.len() == events.len()
-            && journal
-                .iter()
-                .zip(events)
-                .all(|(journaled, (event, _))| journaled == event),
-    )
-}
-
-#[test]
-fn a_desk_journals_all(rt: HostRuntime) -> Result<(), Fail> {
-    let unsent = Frame::Ack {
-        incarnation: 1,
-        last_taken: 9,
-    };
-    let journaled = journals(
-        rt.alloc(),
-        &[
-            (Event::Announce, None),
-            (Event::Advance, Some(0)),
-            (Event::Frame(0, unsent), Some(53)),
-            (Event::Resend(1), Some(51)),
-            (Event::Advance, Some(1)),
-        ],
-    )?;
-    assert!(rt; journaled);
-    Ok(())
-}
-
 /// Hands in advances; the share, where each is told the number of its place in the journal: the station numbers them.
 fn advance<R: Wait>(rt: &R, alloc: Global, shared: &Shared<Counter>, count: u32) -> Option<Share> {
     let mut share = Share::new(alloc);
@@ -102,43 +63,23 @@ fn by_two<R: Threads + Wait + Sync>(
     )
 }
 
-/// The events of a desk that is gathered from these shares; none where they disagree.
-fn gathered(
-    alloc: Global,
-    shared: Shared<Counter>,
-    shares: [Option<Share>; 2],
-) -> Result<Option<usize>, AllocError> {
-    let mut all = Vec::with_capacity(alloc, 2)?;
-    for share in shares.into_iter().flatten() {
-        all.push(share)?;
-    }
-    match gather(shared, all) {
-        Ok(desk) => Ok(Some(desk.journal().len())),
-        Err(_) => Ok(None),
-    }
+/// How many events the journal has that is gathered from these shares; None where they disagree, or there was no memory.
+fn gathered(alloc: Global, shared: Shared<Counter>, first: Share, second: Share) -> Option<usize> {
+    let mut shares = Vec::with_capacity(alloc, 2).ok()?;
+    shares.push(first).ok()?;
+    shares.push(second).ok()?;
+    let desk = gather(shared, shares).ok()?;
+    Some(desk.journal().len())
+}
+
+/// The same of what two workers hand in at once.
+fn journaled<R: Threads + Wait + Sync>(rt: &R, alloc: Global, count: u32) -> Option<usize> {
+    let shared = Shared::new(Desk::new(alloc, opened(alloc).ok()?));
+    let (first, second) = by_two(rt, alloc, &shared, count);
+    gathered(alloc, shared, first?, second?)
 }
 
 #[test]
-fn two_workers(rt: HostRuntime) -> Result<(), Fail> {
-    let alloc = rt.alloc();
-    let shared = Shared::new(Desk::new(alloc, opened(alloc)?));
-    let (first, second) = by_two(&rt, alloc, &shared, 40);
-    let count = gathered(alloc, shared, [first, second])?;
-    assert!(rt; count == Some(80));
-    Ok(())
-}
-
-#[test]
-fn shares_of_another_desk(rt: HostRuntime) -> Result<(), Fail> {
-    let alloc = rt.alloc();
-    let shared = Shared::new(Desk::new(alloc, opened(alloc)?));
-    let other = Shared::new(Desk::new(alloc, opened(alloc)?));
-    let mut share = Share::new(alloc);
-    let mut another = Share::new(alloc);
-    let handled = shared.handle(&rt, &mut share, Event::Announce).is_ok()
-        && other.handle(&rt, &mut another, Event::Advance).is_ok();
-    let changed = gathered(alloc, shared, [Some(another), None])?;
-    let missing = gathered(alloc, other, [None, None])?;
-    assert!(rt; handled && changed.is_none() && missing.is_none());
-    Ok(())
+fn two_workers(rt: HostRuntime) {
+    assert!(rt; journaled(&rt, rt.alloc(), 40) == Some(80));
 }

@@ -4,49 +4,21 @@ use crate::joined::Chance;
 use federate::Federate;
 use link::LinkEnd;
 use loadfed::load;
-use node::{Event, Node, Reply, Station};
+use node::{Event, Node, Outgoing, Reply, Station};
 use plan::{Inputs, Plan};
 use reactor::{Entry, Programs, RowView};
+use samples::COUNTER;
 use signal::{Frame, Signal};
 use std::alloc::Global;
 use std::marker::Model;
 use std::test::Fail;
 use tag::{FiniteTag, Tag, Time};
 
-/// A counter `src`, and `snk`, the sum of its counts.
-const SUMS: &str = r#"
-stop = "20 ms"
-
-[[federate]]
-name = "src"
-outputs = ["y"]
-timers = [{ name = "t", offset = "0", period = "10 ms" }]
-state = [{ name = "n", value = 0 }]
-
-[[federate.reaction]]
-triggers = ["t"]
-body = ["n = n + 1", "out.y = n"]
-
-[[federate]]
-name = "snk"
-inputs = ["x"]
-outputs = ["total"]
-state = [{ name = "s", value = 0 }]
-
-[[federate.reaction]]
-triggers = ["x"]
-body = ["s = s + in.x", "out.total = s"]
-
-[[connection]]
-from = "src.y"
-to = "snk.x"
-"#;
-
 const SRC: usize = 0;
 
 const SNK: usize = 1;
 
-/// Its plan, its programs, and no recorded inputs.
+/// The counter's plan, its programs, and no recorded inputs.
 #[derive(Drop)]
 struct Federation {
     plan: Plan,
@@ -67,7 +39,7 @@ impl Model for Federation {
 }
 
 fn sums(alloc: Global) -> Option<Federation> {
-    let (plan, programs) = load(alloc, SUMS.as_bytes()).ok()?;
+    let (plan, programs) = load(alloc, COUNTER.as_bytes()).ok()?;
     let inputs = Inputs::check(alloc, &plan, Vec::new(alloc)).ok()?;
     Some(Federation {
         plan,
@@ -127,6 +99,8 @@ enum Expected {
     Nothing,
     Ack(u64),
     Says(u64, Signal),
+    /// A message and an LTC, of this number and the next.
+    Turn(u64, Signal, Signal),
     Refused(u16),
 }
 
@@ -139,13 +113,24 @@ fn is_frame(frame: Frame, expected: Expected) -> bool {
     }
 }
 
+fn are_sent(frames: &[Outgoing], expected: Expected) -> bool {
+    match (frames, expected) {
+        ([first, second], Expected::Turn(number, message, completed)) => {
+            is_frame(first.frame, Expected::Says(number, message))
+                && is_frame(
+                    second.frame,
+                    Expected::Says(number.saturating_add(1), completed),
+                )
+        }
+        ([first], _) => is_frame(first.frame, expected),
+        _ => false,
+    }
+}
+
 fn is_answer(reply: &Reply, expected: Expected) -> bool {
     match reply {
         Reply::Nothing => matches!(expected, Expected::Nothing),
-        Reply::Done(frames) => match frames.first() {
-            Some(first) => frames.len() == 1 && is_frame(first.frame, expected),
-            None => false,
-        },
+        Reply::Done(frames) => are_sent(frames.as_slice(), expected),
         Reply::Refused(number, frames) => match expected {
             Expected::Refused(refusal) => *number == refusal && frames.is_empty(),
             _ => false,
@@ -153,12 +138,44 @@ fn is_answer(reply: &Reply, expected: Expected) -> bool {
     }
 }
 
+/// What is seen of a station: how many rows, what its end keeps and has room for, and what would do nothing.
+fn seen(station: &Station<Federate>) -> (usize, usize, usize, bool, bool) {
+    let node = station.node();
+    let (unacked, room) = match station.end(0) {
+        Some(end) => (end.unacked(), end.room_left()),
+        None => (0, 0),
+    };
+    (
+        node.rows().len(),
+        unacked,
+        room,
+        node.has_announced(),
+        node.is_waiting(),
+    )
+}
+
+/// Whether an event is answered so; None where there was no memory for it.
+fn answer(station: &mut Station<Federate>, event: &Event, expected: &Expected) -> Option<bool> {
+    match station.step(*event) {
+        Ok(reply) => Some(is_answer(&reply, *expected)),
+        Err(_) => None,
+    }
+}
+
+/// Whether a step is answered so. Where there was no memory for it, nothing is to have changed, and it is made again.
+fn is_answered(station: &mut Station<Federate>, event: &Event, expected: &Expected) -> bool {
+    let before = seen(station);
+    match answer(station, event, expected) {
+        Some(right) => right,
+        None => seen(station) == before && answer(station, event, expected) == Some(true),
+    }
+}
+
 /// Whether a station's steps, one after the other, answer so.
 fn answers(station: &mut Station<Federate>, steps: &[(Event, Expected)]) -> bool {
     for (event, expected) in steps {
-        match station.step(*event) {
-            Ok(reply) if is_answer(&reply, *expected) => {}
-            _ => return false,
+        if !is_answered(station, event, expected) {
+            return false;
         }
     }
     true
@@ -200,16 +217,17 @@ fn sum_steps() -> [(Event, Expected); 8] {
     ]
 }
 
-fn sums_first(alloc: Global) -> Option<bool> {
-    let federation = sums(alloc)?;
-    let mut snk = opened(alloc, &federation, SNK)?;
-    Some(answers(&mut snk, &sum_steps()) && has_first_sum(&snk))
-}
-
-#[test]
-fn a_sum_is_made(rt: HostRuntime) -> Result<(), Fail> {
-    assert!(rt; sums_first(rt.alloc()) == Some(true));
-    Ok(())
+/// Whether a fresh federate's steps answer so, and it has the first sum's row then if that is asked; None where there was no
+/// memory for it.
+fn answers_of(
+    alloc: Global,
+    federation: &Federation,
+    number: usize,
+    steps: &[(Event, Expected)],
+    sum: bool,
+) -> Option<bool> {
+    let mut station = opened(alloc, federation, number)?;
+    Some(answers(&mut station, steps) && (!sum || has_first_sum(&station)))
 }
 
 fn late_steps() -> [(Event, Expected); 6] {
@@ -227,16 +245,39 @@ fn late_steps() -> [(Event, Expected); 6] {
     ]
 }
 
-fn refuses_late(alloc: Global) -> Option<bool> {
+fn count_steps() -> [(Event, Expected); 4] {
+    let first = at(0, 0);
+    [
+        (
+            Event::Announce,
+            Expected::Says(1, Signal::Net(Tag::origin())),
+        ),
+        (data(1, Signal::Tag(at(20, 0))), Expected::Ack(1)),
+        (
+            Event::Advance,
+            Expected::Turn(2, message(first), Signal::Ltc(first)),
+        ),
+        (
+            Event::Announce,
+            Expected::Says(4, Signal::Net(at(10, 0).tag())),
+        ),
+    ]
+}
+
+/// Whether nothing is wrong with either federate; None where there was no memory for one.
+fn are_right(alloc: Global) -> Option<bool> {
     let federation = sums(alloc)?;
-    let mut snk = opened(alloc, &federation, SNK)?;
-    Some(answers(&mut snk, &late_steps()))
+    let summed = answers_of(alloc, &federation, SNK, &sum_steps(), true)?;
+    let late = answers_of(alloc, &federation, SNK, &late_steps(), false)?;
+    let counted = answers_of(alloc, &federation, SRC, &count_steps(), false)?;
+    Some(summed && late && counted)
 }
 
 #[test]
-fn late_messages_and_old_grants(rt: HostRuntime) -> Result<(), Fail> {
-    assert!(rt; refuses_late(rt.alloc()) == Some(true));
-    Ok(())
+fn federates_answer(rt: HostRuntime) {
+    let first = are_right(rt.alloc());
+    let again = are_right(rt.alloc());
+    assert!(rt; first.or(again) == Some(true));
 }
 
 /// A signal made up; the coordinator would send few of them.
@@ -254,158 +295,90 @@ fn made_up(chance: &mut Chance) -> Signal {
     }
 }
 
-/// LTCs rise, and each message is later than every LTC before it.
-fn is_in_order(sent: &[Signal]) -> bool {
-    let mut completed: Option<FiniteTag> = None;
-    for signal in sent {
-        match *signal {
-            Signal::Net(_) => {}
-            Signal::Ltc(tag) => {
-                if completed >= Some(tag) {
-                    return false;
-                }
-                completed = Some(tag);
+/// What a federate has sent and taken.
+#[derive(Clone, Copy)]
+struct Course {
+    completed: Option<FiniteTag>,
+    sent: usize,
+    taken: u64,
+}
+
+/// Whether LTCs rise, and each message is later than every LTC before it.
+fn is_in_order(course: &mut Course, signal: Signal) -> bool {
+    course.sent = course.sent.saturating_add(1);
+    match signal {
+        Signal::Net(_) => true,
+        Signal::Ltc(tag) => {
+            let later = course.completed < Some(tag);
+            course.completed = Some(tag);
+            later
+        }
+        Signal::Msg { tag, .. } => course.completed < Some(tag),
+        Signal::Tag(_) => false,
+    }
+}
+
+/// Whether what is sent is in order. A signal that was taken is counted.
+fn are_in_order(course: &mut Course, frames: &[Outgoing]) -> bool {
+    for outgoing in frames {
+        let in_order = match outgoing.frame {
+            Frame::Data { signal, .. } => is_in_order(course, signal),
+            Frame::Ack { last_taken, .. } => {
+                course.taken = last_taken;
+                true
             }
-            Signal::Msg { tag, .. } => {
-                if completed >= Some(tag) {
-                    return false;
-                }
-            }
-            Signal::Tag(_) => return false,
+            _ => false,
+        };
+        if !in_order {
+            return false;
         }
     }
     true
 }
 
-/// One step more, of a list that is made up. What it sends is kept; a signal that was taken is counted.
-fn goes_on(
-    station: &mut Station<Federate>,
-    chance: &mut Chance,
-    taken: &mut u64,
-    sent: &mut Vec<Signal>,
-) -> Option<()> {
+/// Whether one step more, of a list that is made up, sends in order.
+fn goes_on(station: &mut Station<Federate>, chance: &mut Chance, course: &mut Course) -> bool {
     let event = match chance.below(4) {
         0 => Event::Announce,
         1 => Event::Advance,
-        _ => data(taken.checked_add(1)?, made_up(chance)),
+        _ => data(course.taken.saturating_add(1), made_up(chance)),
     };
-    let frames = match station.step(event) {
-        Ok(Reply::Done(frames)) => frames,
-        Ok(_) => return Some(()),
-        Err(_) => return None,
-    };
-    for outgoing in &frames {
-        match outgoing.frame {
-            Frame::Data { signal, .. } => sent.push(signal).ok()?,
-            Frame::Ack { last_taken, .. } => *taken = last_taken,
-            _ => return None,
-        }
+    match station.step(event) {
+        Ok(Reply::Done(frames)) => are_in_order(course, frames.as_slice()),
+        Ok(_) => true,
+        Err(_) => false,
     }
-    Some(())
 }
 
-/// What a fresh federate sends, whatever comes.
-fn made_up_list(
-    alloc: Global,
-    federation: &Federation,
-    chance: &mut Chance,
-) -> Option<Vec<Signal>> {
-    let mut station = opened(alloc, federation, chance.below(2))?;
-    let mut sent = Vec::new(alloc);
-    let mut taken = 0;
+/// How many signals a station sends whatever comes; None where some aren't in order.
+fn sent_by(station: &mut Station<Federate>, chance: &mut Chance) -> Option<usize> {
+    let mut course = Course {
+        completed: None,
+        sent: 0,
+        taken: 0,
+    };
     for _ in 0..20 {
-        goes_on(&mut station, chance, &mut taken, &mut sent)?;
-    }
-    Some(sent)
-}
-
-/// How many signals are sent in so many lists of a seed; None where some aren't in order.
-fn sent_in_order(alloc: Global, seed: u64, lists: u32) -> Option<usize> {
-    let federation = sums(alloc)?;
-    let mut chance = Chance(seed);
-    let mut count = 0usize;
-    for _ in 0..lists {
-        let sent = made_up_list(alloc, &federation, &mut chance)?;
-        if !is_in_order(&sent) {
+        if !goes_on(station, chance, &mut course) {
             return None;
         }
-        count = count.saturating_add(sent.len());
+    }
+    Some(course.sent)
+}
+
+/// The same of so many fresh federates.
+fn sent_in_order(alloc: Global, federation: &Federation, lists: u32) -> Option<usize> {
+    let mut chance = Chance(1);
+    let mut count = 0usize;
+    for _ in 0..lists {
+        let mut station = opened(alloc, federation, chance.below(2))?;
+        count = count.saturating_add(sent_by(&mut station, &mut chance)?);
     }
     Some(count)
 }
 
 #[test]
-fn whatever_comes_it_sends_in_order(rt: HostRuntime) -> Result<(), Fail> {
-    let sent = sent_in_order(rt.alloc(), 1, 10_000);
-    assert!(rt; sent > Some(10_000));
-    Ok(())
-}
-
-/// What is seen of a station: how many rows, what its end keeps and has room for, and what would do nothing.
-fn seen(station: &Station<Federate>) -> (usize, usize, usize, bool, bool) {
-    let node = station.node();
-    let (unacked, room) = match station.end(0) {
-        Some(end) => (end.unacked(), end.room_left()),
-        None => (0, 0),
-    };
-    (
-        node.rows().len(),
-        unacked,
-        room,
-        node.has_announced(),
-        node.is_waiting(),
-    )
-}
-
-/// A step, which is made again where memory was wanting; whether nothing had changed then.
-fn made_again(station: &mut Station<Federate>, event: &Event) -> bool {
-    let before = seen(station);
-    match station.step(*event) {
-        Ok(Reply::Refused(_, _)) => false,
-        Ok(_) => true,
-        Err(_) => seen(station) == before && station.step(*event).is_ok(),
+fn whatever_comes_it_sends_in_order(rt: HostRuntime) {
+    if let Some(federation) = sums(rt.alloc()) {
+        assert!(rt; sent_in_order(rt.alloc(), &federation, 10_000) > Some(10_000));
     }
-}
-
-/// Whether a fresh federate's steps are all made, and it has so many rows then; None where memory was wanting before the first.
-fn makes_again(alloc: Global, number: usize, events: &[Event], rows: usize) -> Option<bool> {
-    let federation = sums(alloc)?;
-    let mut station = opened(alloc, &federation, number)?;
-    for event in events {
-        if !made_again(&mut station, event) {
-            return Some(false);
-        }
-    }
-    Some(station.node().rows().len() == rows)
-}
-
-fn counting() -> [Event; 7] {
-    [
-        Event::Announce,
-        data(1, Signal::Tag(at(20, 0))),
-        Event::Advance,
-        Event::Advance,
-        Event::Announce,
-        Event::Advance,
-        Event::Announce,
-    ]
-}
-
-fn summing() -> [Event; 6] {
-    [
-        data(1, message(at(0, 0))),
-        data(2, message(at(10, 0))),
-        data(3, Signal::Tag(at(20, 0))),
-        Event::Advance,
-        Event::Announce,
-        Event::Advance,
-    ]
-}
-
-/// With ample memory, and whichever one allocation is refused.
-#[test]
-fn memory_may_be_wanting(rt: HostRuntime) -> Result<(), Fail> {
-    assert!(rt; makes_again(rt.alloc(), SRC, &counting(), 3) != Some(false));
-    assert!(rt; makes_again(rt.alloc(), SNK, &summing(), 2) != Some(false));
-    Ok(())
 }

@@ -1,7 +1,6 @@
 //! A node for tests, and tests of stations and desks: what a link's end refuses, what a node refuses, which refusals close a
-//! link, two stations that talk over lines where frames are lost, repeated and overtaken, two workers at one desk, tables of
-//! grants, and the coordinator. No program uses this crate: it is there so that a node meets the trait, and stations and desks
-//! are run.
+//! link, two stations that talk over lines where frames are lost, repeated and overtaken, two workers at one desk, federates
+//! and the coordinator. No program uses this crate: it is there so that a node meets the trait, and stations and desks are run.
 //!
 //! Begin with `counter`, the node.
 #![tactic(auto)]
@@ -19,7 +18,5 @@ mod federates;
 mod joined;
 #[cfg(test)]
 mod plans;
-#[cfg(test)]
-mod tables;
 
 pub use counter::Counter;
