@@ -57,8 +57,16 @@ impl<'a, N: Node, G: Gate, T: Drop, C: Drop> Context<'a, N, G, T, C> {
 
     /// Asks the node whether nothing is left to do: then the run is to end.
     pub fn watch<R: Wait>(&self, rt: &R) {
-        if self.shared.finished(rt) {
-            self.ending.set();
+        if !self.ending.is_set() && self.shared.finished(rt) {
+            self.end(rt);
+        }
+    }
+
+    /// The run is to end. The node's writers are told, so that they needn't see it by themselves.
+    pub fn end<R: Wait>(&self, rt: &R) {
+        self.ending.set();
+        for writer in self.writers {
+            let _ = writer.send(rt, Order::End);
         }
     }
 

@@ -1,7 +1,7 @@
 //! The reader of a federate, which makes its connections itself.
 ghost use Rattle.std.specs.Prelude.{◌≡◌};
 
-use crate::connection::Connection;
+use crate::connection::{Arrived, Connection, Greeted};
 use crate::context::Context;
 use crate::cut::Cut;
 use crate::gate::Gate;
@@ -53,7 +53,15 @@ pub fn read_dialed<R: Wait + Clock, N: Node, G: Gate, T: Transport, C: Cut, D: D
         match greet(rt, context, &mut share, 0) {
             Some(Reply::Done(greeting)) => match dial.dial(rt, alloc) {
                 Some(connection) => {
-                    read_connection(rt, alloc, context, &mut share, 0, connection, greeting, &[]);
+                    let greeted = Greeted {
+                        peer: 0,
+                        arrived: Arrived {
+                            connection,
+                            first: Vec::new(alloc),
+                        },
+                        greeting,
+                    };
+                    read_connection(rt, alloc, context, &mut share, greeted);
                 }
                 None => tell_failure(rt, context),
             },

@@ -12,14 +12,16 @@
 //!                   v            v                                                   |
 //!            writer::write    runner::run                                      writer::write, one for each federate
 //!
-//! All workers of a node are lent one `Context`. A run ends where `Ending` is set: runners stop and ask their writers to end,
-//! writers end what they send, readers come to the end of what was sent. Begin with `transport` and `gate`, then `context`.
+//! All workers of a node are lent one `Context`; `crew` starts the workers of all nodes, and gathers each node's desk when they
+//! have ended. A run ends where `Ending` is set: runners stop and tell their writers, writers end what they send, readers come
+//! to the end of what was sent. Begin with `transport` and `gate`, then `context`, then `crew`.
 #![tactic(auto)]
 
 pub mod acceptor;
 pub mod broken;
 pub mod connection;
 pub mod context;
+pub mod crew;
 pub mod cut;
 pub mod dial;
 pub mod ending;
@@ -31,14 +33,18 @@ pub mod order;
 pub mod pace;
 mod pipe;
 pub mod reader;
+pub mod run_fault;
 pub mod runner;
+mod stranger;
 pub mod tcp;
 pub mod transport;
 pub mod writer;
 
+pub use acceptor::{Entrance, TcpEntrance};
 pub use broken::Broken;
 pub use connection::{Arrived, Connection};
 pub use context::Context;
+pub use crew::{Gathered, Member, run, run_over_tcp};
 pub use cut::Cut;
 pub use dial::{Dial, TcpDial};
 pub use ending::Ending;
@@ -48,5 +54,6 @@ pub use in_memory::{MemoryCut, MemoryTransport, pair};
 pub use memory::Memory;
 pub use order::{Hint, Order};
 pub use pace::{Next, Pace};
+pub use run_fault::RunFault;
 pub use tcp::{TcpCut, TcpTransport};
 pub use transport::Transport;

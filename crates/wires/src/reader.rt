@@ -5,7 +5,7 @@ ghost use Rattle.signal.specs.Stream.{GivesFrame};
 ghost use Rattle.node.specs.declared.event.Event.TheVariants as Events;
 ghost use Rattle.wires.specs.HandedIn.{HandedIn};
 
-use crate::connection::{Arrived, Connection};
+use crate::connection::{Arrived, Connection, Greeted};
 use crate::context::Context;
 use crate::cut::Cut;
 use crate::gate::Gate;
@@ -13,7 +13,7 @@ use crate::order::Order;
 use crate::transport::Transport;
 use crossbeam_channel::Receiver;
 use desk::Share;
-use node::{Event, Node, Outgoing, Reply};
+use node::{Event, Node, Reply};
 use signal::{FrameFault, FrameReader};
 use std::alloc::Global;
 use std::sync::{Arc, Wait};
@@ -32,16 +32,19 @@ pub fn read<R: Wait + Clock, N: Node, G: Gate, T: Transport, C: Cut>(
 ) -> Share {
     let mut share = Share::new(alloc);
     for _ in rt.forever() {
-        let Ok(Arrived { connection, first }) = arrivals.recv(rt) else {
+        let Ok(arrived) = arrivals.recv(rt) else {
             break;
         };
         match greet(rt, context, &mut share, peer) {
             Some(Reply::Done(greeting)) => {
-                read_connection(
-                    rt, alloc, context, &mut share, peer, connection, greeting, &first,
-                );
+                let greeted = Greeted {
+                    peer,
+                    arrived,
+                    greeting,
+                };
+                read_connection(rt, alloc, context, &mut share, greeted);
             }
-            _ => connection.cut.cut(rt),
+            _ => arrived.connection.cut.cut(rt),
         }
     }
     share
@@ -66,11 +69,13 @@ pub(crate) fn read_connection<R: Wait + Clock, N: Node, G: Gate, T: Transport, C
     alloc: Global,
     context: &Context<'_, N, G, T, C>,
     share: &mut Share,
-    peer: usize,
-    connection: Connection<T, C>,
-    greeting: Vec<Outgoing>,
-    first: &[u8],
+    greeted: Greeted<T, C>,
 ) {
+    let Greeted {
+        peer,
+        arrived: Arrived { connection, first },
+        greeting,
+    } = greeted;
     let Connection {
         mut incoming,
         outgoing,
@@ -80,7 +85,7 @@ pub(crate) fn read_connection<R: Wait + Clock, N: Node, G: Gate, T: Transport, C
         let has_begun = context.order(rt, peer, Order::Begin(outgoing, other, greeting));
         if has_begun && !context.ending.is_set() {
             let mut frames = FrameReader::new(alloc);
-            if take_in(rt, context, share, peer, &mut frames, first).is_some() {
+            if take_in(rt, context, share, peer, &mut frames, &first).is_some() {
                 read_on(rt, context, share, peer, &mut incoming, &mut frames);
             }
         }

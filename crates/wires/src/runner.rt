@@ -3,7 +3,7 @@ ghost use Rattle.std.specs.Prelude.{◌≡◌};
 
 use crate::context::Context;
 use crate::gate::Gate;
-use crate::order::{Hint, Order};
+use crate::order::Hint;
 use crate::pace::{Next, Pace};
 use crossbeam_channel::Receiver;
 use desk::Share;
@@ -15,8 +15,7 @@ use std::time::{Clock, Duration};
 // The longest wait for a hint, in ms.
 const LONGEST_WAIT: u64 = 10;
 
-/// Runs a node for so many turns, or until the run is to end; its share. Where its turns are used up, the run is to end. Its
-/// writers are asked to end what they send.
+/// Runs a node for so many turns, or until the run is to end; its share. Where its turns are used up, the run is to end.
 pub fn run<R: Wait + Clock, N: Node, G: Gate, T: Drop, C: Drop>(
     rt: &R,
     alloc: Global,
@@ -33,10 +32,7 @@ pub fn run<R: Wait + Clock, N: Node, G: Gate, T: Drop, C: Drop>(
         }
         next = go_on(rt, context, hints, &mut share, &mut pace, next);
     }
-    context.ending.set();
-    for peer in 0..context.writers.len() {
-        let _ = context.order(rt, peer, Order::End);
-    }
+    context.end(rt);
     share
 }
 

@@ -1,5 +1,5 @@
 //! Connections over TCP on loopback.
-ghost use Rattle.std.specs.Prelude.{◌≡◌};
+ghost use Rattle.std.specs.Prelude.{◌≡◌, ◌≤◌, IfOk, IfSome, length};
 
 use crate::broken::Broken;
 use crate::connection::Connection;
@@ -8,10 +8,9 @@ use crate::failures::Failures;
 use crate::transport::Transport;
 use std::alloc::Global;
 use std::io;
-use std::io::{Read, Write};
+use std::io::{ErrorKind, Read, Write};
 use std::net::{Net, Shutdown, SocketAddr, TcpListener, TcpStream};
 use std::sync::{Arc, Wait};
-use std::time::Duration;
 
 /// One end of a connection over TCP.
 #[derive(Drop)]
@@ -21,9 +20,20 @@ pub struct TcpTransport {
 }
 
 impl TcpTransport {
-    /// From now on a `recv` that waits longer fails.
-    pub fn set_longest_wait(&self, wait: Option<Duration>) -> io::Result<()> {
-        self.stream.set_read_timeout(wait)
+    // Reads what has come, without waiting; how many bytes, and none where nothing has come. It is asked before the workers have
+    // the connection, since it changes for a moment how both ends of the stream wait.
+    pub(crate) fn read_now(&mut self, room: &mut [u8]) -> io::Result<Option<usize>>
+        ensures room { length room.new ≡ length room.old }
+        ensures came { IfOk result (λ read. IfSome read (λ count. count ≤ length room.new)) }
+    {
+        self.stream.set_nonblocking(true)?;
+        let read = self.stream.read(room);
+        self.stream.set_nonblocking(false)?;
+        match read {
+            Ok(count) => Ok(Some(count)),
+            Err(error) if error.kind() == ErrorKind::WouldBlock => Ok(None),
+            Err(error) => Err(error),
+        }
     }
 }
 

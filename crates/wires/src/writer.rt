@@ -3,14 +3,19 @@ ghost use Rattle.std.specs.Prelude.{◌≡◌, ◌++◌, [], OnOk, OnErr};
 ghost use Rattle.signal.specs.Frame.{frame_bytes};
 
 use crate::cut::Cut;
+use crate::ending::Ending;
 use crate::order::Order;
 use crate::transport::Transport;
-use crossbeam_channel::Receiver;
+use crossbeam_channel::{Receiver, RecvTimeoutError};
 use node::Outgoing;
 use signal::{Frame, Memory, write_frame};
 use std::alloc::Global;
 use std::marker::Model;
 use std::sync::{Arc, Wait};
+use std::time::{Clock, Duration};
+
+// The longest wait until a writer sees by itself that the run is to end, in ms.
+const LONGEST_WAIT: u64 = 100;
 
 // The side of a connection on which a writer writes.
 #[derive(Drop)]
@@ -86,61 +91,53 @@ impl<T: Transport, C: Cut> Writer<T, C> {
         }
     }
 
-    // Does what it is asked; whether it goes on. A frame for which there is no memory is lost, as on a line that loses frames.
-    fn obey(&mut self, order: Order<T, C>) -> bool {
+    // Does what it is asked. A frame for which there is no memory is lost, as on a line that loses frames.
+    fn obey(&mut self, order: Order<T, C>) {
         match order {
             Order::Frame(frame) => {
                 let _ = self.add(&frame);
-                true
             }
             Order::Begin(transport, cut, greeting) => {
                 self.begin(transport, cut);
-                self.greet(&greeting);
-                true
+                for outgoing in &greeting {
+                    let _ = self.add(&outgoing.frame);
+                }
             }
-            Order::End => false,
+            Order::End => {}
         }
     }
 
-    // Puts the greeting on the new connection.
-    fn greet(&mut self, greeting: &[Outgoing]) {
-        for outgoing in greeting {
-            let _ = self.add(&outgoing.frame);
-        }
-    }
-
-    // Does this and all that it is asked besides; whether it goes on.
-    fn obey_all<R: Wait>(
-        &mut self,
-        rt: &R,
-        first: Order<T, C>,
-        orders: &Receiver<Order<T, C>>,
-    ) -> bool {
-        let mut goes_on = self.obey(first);
+    // Does all that it is asked by now.
+    fn obey_all<R: Wait>(&mut self, rt: &R, orders: &Receiver<Order<T, C>>) {
         for _ in rt.forever() {
-            if !goes_on {
-                break;
-            }
             match orders.try_recv(rt) {
-                Ok(order) => goes_on = self.obey(order),
+                Ok(order) => self.obey(order),
                 Err(_) => break,
             }
         }
-        goes_on
     }
 }
 
-/// Writes what is waiting, each time in one send, until it is asked to end or nobody can ask any more.
-pub fn write<R: Wait, T: Transport, C: Cut>(rt: &R, alloc: Global, orders: &Receiver<Order<T, C>>) {
+/// Writes what is waiting, each time in one send, until the run is to end or nobody can ask any more. What was asked before the
+/// end is still written.
+pub fn write<R: Wait + Clock, T: Transport, C: Cut>(
+    rt: &R,
+    alloc: Global,
+    orders: &Receiver<Order<T, C>>,
+    ending: &Ending,
+) {
     let mut writer = Writer::new(alloc);
     for _ in rt.forever() {
-        let Ok(order) = orders.recv(rt) else {
-            break;
-        };
-        let goes_on = writer.obey_all(rt, order, orders);
+        let is_last = ending.is_set();
+        writer.obey_all(rt, orders);
         writer.flush(rt);
-        if !goes_on {
+        if is_last {
             break;
+        }
+        match orders.recv_timeout(rt, Duration::from_millis(LONGEST_WAIT)) {
+            Ok(order) => writer.obey(order),
+            Err(RecvTimeoutError::Timeout) => {}
+            Err(RecvTimeoutError::Disconnected) => break,
         }
     }
     writer.finish(rt);
