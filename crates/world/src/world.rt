@@ -108,6 +108,7 @@ impl<'a> World<'a> {
         ensures plain { ArePlain self.new }
         ensures faithful { IsFaithful self.new }
     {
+        // For the prover: through all steps the plan stays legal.
         self.fits();
         for step in steps {
             self.apply(*step)?;
