@@ -1,5 +1,6 @@
 -- A schedule: its commands and their lines, and what is wrong with a file.
-use Rattle.std.specs.Prelude.{◌≡◌, ℕ, suc, ◌<◌, ◌≤◌, ◌^◌, Bool, not, ◌==◌, if◌then◌else◌, List, [], ◌∷◌, length, All, AllPairs}
+use Rattle.std.specs.Prelude.{◌≡◌, ℕ, ◌+◌, ◌<◌, ◌≤◌, ◌^◌, Bool, true, not, ◌==◌, if◌then◌else◌, List, [], ◌∷◌, length, map, All, AllPairs}
+use Rattle.std.specs.List.{onto_first}
 use Rattle.plan.specs.declared.draft.Draft.{Draft}
 use Rattle.plan.specs.Federation.{federate_count}
 use Rattle.schedule.specs.declared.dir.Dir.{Dir}
@@ -20,11 +21,26 @@ most_bytes = 1048576
 abbrev pub is_within_line : ℕ → Bool
 is_within_line byte = not (byte == 10)
 
--- how many lines a file has: each ends with a line feed, which the last one may lack
+-- the lines of a file: each ends with a line feed, which isn't part of it and which the last one may lack
+abbrev pub lines_of : List ℕ → List (List ℕ)
+lines_of [] = []
+lines_of (byte ∷ []) = (if is_within_line byte then byte ∷ [] else []) ∷ []
+lines_of (byte ∷ next ∷ rest) =
+    if is_within_line byte then onto_first byte (lines_of (next ∷ rest)) else [] ∷ lines_of (next ∷ rest)
+
+-- how many lines a file has
 abbrev pub line_count : List ℕ → ℕ
-line_count [] = 0
-line_count (byte ∷ []) = 1
-line_count (byte ∷ next ∷ rest) = if is_within_line byte then line_count (next ∷ rest) else suc (line_count (next ∷ rest))
+line_count file = length (lines_of file)
+
+-- a line that does nothing: it is empty, or begins with # (35)
+abbrev pub is_idle : List ℕ → Bool
+is_idle [] = true
+is_idle (byte ∷ rest) = byte == 35
+
+-- the numbers of those lines that ask for something, the first line having this number
+abbrev pub asking : ℕ → List (List ℕ) → List ℕ
+asking number [] = []
+asking number (line ∷ rest) = if is_idle line then asking (number + 1) rest else number ∷ asking (number + 1) rest
 
 -- a direction of a federate that is there
 abbrev pub IsDirOf : Draft → Dir → Type 0
@@ -59,6 +75,7 @@ pub record AreLinesOf (d : Draft) (last : ℕ) (lines : List Line) : Type 0 wher
 -- what is sure of a schedule that was read from a file, whatever its lines say
 pub record IsScriptOf (d : Draft) (file : List ℕ) (s : Script) : Type 0 where
   pub lines : AreLinesOf d s.last_line s.lines
+  pub every : map (λ line. line.number) s.lines ≡ asking 1 (lines_of file)
   pub last : s.last_line ≡ line_count file
 
 -- what is told of a file; a line that is told is one of its lines

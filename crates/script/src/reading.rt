@@ -1,14 +1,16 @@
 //! What a line of a schedule says.
 ghost use Rattle.std.specs.Prelude.{◌≡◌, ◌<◌, ◌^◌, IfSome};
 ghost use Rattle.plan.specs.Federation.{federate_count};
-ghost use Rattle.script.specs.Scripts.{IsCommandOf, IsDirOf};
+ghost use Rattle.script.specs.Scripts.{is_idle, IsCommandOf, IsDirOf};
 
 use crate::command::Command;
 use plan::{Plan, place_of};
 use schedule::{Dir, Step};
 
 /// Whether a line does nothing: it is empty, or a comment, which may have any bytes.
-pub fn is_idle(line: &[u8]) -> bool {
+pub fn is_idle(line: &[u8]) -> bool
+    ensures { result ≡ is_idle line.now }
+{
     match line {
         [] | [b'#', ..] => true,
         _ => false,
@@ -19,6 +21,9 @@ pub fn is_idle(line: &[u8]) -> bool {
 pub fn read_command(plan: &Plan, line: &[u8]) -> Option<Command>
     ensures { IfSome result (IsCommandOf plan.now) }
 {
+    if !line.is_ascii() {
+        return None;
+    }
     let text = str::from_utf8(line).ok()?;
     if text == "round" {
         return Some(Command::Round);

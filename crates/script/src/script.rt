@@ -1,6 +1,6 @@
-ghost use Rattle.std.specs.Prelude.{◌≡◌, ◌≢◌, ◌<◌, ◌≤◌, ◌↔◌, suc, length, IfOk, IfErr, IfSome, MatchOption, Err};
+ghost use Rattle.std.specs.Prelude.{◌≡◌, ◌≢◌, ◌<◌, ◌≤◌, ◌↔◌, ◌+◌, ◌∷◌, [], length, IfOk, IfErr, IfSome, MatchOption, Err};
 ghost use Rattle.std.specs.List.{prefix_len};
-ghost use Rattle.script.specs.Scripts.{most_bytes, is_within_line, line_count, IsScriptOf, IsFaultOf};
+ghost use Rattle.script.specs.Scripts.{most_bytes, is_within_line, lines_of, line_count, IsScriptOf, IsFaultOf};
 
 use crate::command::Command;
 use crate::fault::ScriptFault;
@@ -63,6 +63,7 @@ pub fn read_script(alloc: Global, bytes: &[u8], plan: &Plan) -> Result<Script, S
     read_lines(alloc, bytes, plan)
 }
 
+#[tactic(auto, using(crate::proofs::Lines::asked_nothing, crate::proofs::Lines::asked_something))]
 fn read_lines(alloc: Global, bytes: &[u8], plan: &Plan) -> Result<Script, ScriptFault>
     requires { length bytes.now ≤ most_bytes }
     ensures ok { IfOk result (IsScriptOf plan.now bytes.now) }
@@ -85,7 +86,8 @@ fn read_lines(alloc: Global, bytes: &[u8], plan: &Plan) -> Result<Script, Script
 
 /// The first of some lines, and what follows it; None where there is no line.
 fn next_line(lines: &[u8]) -> Option<(&[u8], &[u8])>
-    ensures lines { MatchOption result (line_count lines.now ≡ 0) (λ parts. line_count lines.now ≡ suc (line_count parts.1.now)) }
+    ensures lines { MatchOption result (lines_of lines.now ≡ []) (λ parts. lines_of lines.now ≡ parts.0.now ∷ lines_of parts.1.now) }
+    ensures count { MatchOption result (line_count lines.now ≡ 0) (λ parts. line_count lines.now ≡ line_count parts.1.now + 1) }
     ensures shorter { IfSome result (λ parts. length parts.1.now < length lines.now) }
 {
     if lines.is_empty() {
