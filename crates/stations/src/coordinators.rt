@@ -179,7 +179,13 @@ fn first_wrong(station: &mut Station<Coordinator>, steps: &[Step]) -> Option<usi
     None
 }
 
-/// The same of a fresh coordinator of so many federates; nothing is wrong where there was no memory for it.
+/// The same of a plan's fresh coordinator; nothing is wrong where there was no memory for it.
+fn first_wrong_of_fresh(alloc: Global, plan: &Plan, steps: &[Step]) -> Option<usize> {
+    let mut station = station(alloc, plan)?;
+    first_wrong(&mut station, steps)
+}
+
+/// The same of a federation of so many federates.
 fn first_wrong_of(
     alloc: Global,
     federates: usize,
@@ -188,18 +194,7 @@ fn first_wrong_of(
     steps: &[Step],
 ) -> Option<usize> {
     let plan = planned(alloc, federates, wires, stop)?;
-    let mut station = station(alloc, &plan)?;
-    first_wrong(&mut station, steps)
-}
-
-/// There is memory for a plan and a coordinator.
-#[test]
-fn begins(rt: HostRuntime) {
-    let begun = match planned(rt.alloc(), 2, &one_wire(None), 0) {
-        Some(plan) => station(rt.alloc(), &plan).is_some(),
-        None => false,
-    };
-    assert!(rt; begun);
+    first_wrong_of_fresh(alloc, &plan, steps)
 }
 
 #[test]
@@ -415,8 +410,8 @@ fn first_out_of_order(alloc: Global, plan: &Plan, lists: u32) -> Option<u32> {
     None
 }
 
-#[test]
-fn sends_in_order_whatever_comes(rt: HostRuntime) {
+/// Two federates, wired both ways, of which one has a delay.
+fn wired_both_ways(alloc: Global) -> Option<Plan> {
     let wires = [
         Wire {
             from: 0,
@@ -429,7 +424,18 @@ fn sends_in_order_whatever_comes(rt: HostRuntime) {
             after: Some(MILLISECOND),
         },
     ];
-    if let Some(plan) = planned(rt.alloc(), 2, &wires, 4 * MILLISECOND) {
-        assert_eq!(rt; first_out_of_order(rt.alloc(), &plan, 10_000), None);
+    planned(alloc, 2, &wires, 4 * MILLISECOND)
+}
+
+/// Whether all lists are in order; not where there was no memory for one.
+fn are_all_in_order(alloc: Global, lists: u32) -> bool {
+    match wired_both_ways(alloc) {
+        Some(plan) => first_out_of_order(alloc, &plan, lists).is_none(),
+        None => false,
     }
+}
+
+#[test]
+fn sends_in_order_whatever_comes(rt: HostRuntime) {
+    assert!(rt; are_all_in_order(rt.alloc(), 10_000));
 }

@@ -48,21 +48,29 @@ fn sums(alloc: Global) -> Option<Federation> {
     })
 }
 
+/// A federate's one end.
+fn ends(alloc: Global) -> Option<Vec<LinkEnd>> {
+    let mut ends = Vec::with_capacity(alloc, 1).ok()?;
+    ends.push(LinkEnd::new(alloc, 0, 1, 4096)).ok()?;
+    Some(ends)
+}
+
 /// A federate's station, before any event.
 fn opened(alloc: Global, federation: &Federation, number: usize) -> Option<Station<Federate<'_>>> {
     if number >= federation.plan.federate_count() {
         return None;
     }
-    let federate = Federate::new(
+    let ends = ends(alloc)?;
+    match Federate::new(
         alloc,
         &federation.plan,
         &federation.programs,
         &federation.inputs,
         number,
-    );
-    let mut ends = Vec::with_capacity(alloc, 1).ok()?;
-    ends.push(LinkEnd::new(alloc, 0, 1, 4096)).ok()?;
-    Some(Station::new(alloc, federate.ok()?, ends))
+    ) {
+        Ok(federate) => Some(Station::new(alloc, federate, ends)),
+        Err(_) => None,
+    }
 }
 
 fn at(milliseconds: u64, microstep: u32) -> FiniteTag {
@@ -264,19 +272,38 @@ fn count_steps() -> [(Event, Expected); 4] {
     ]
 }
 
-/// Whether nothing is wrong with either federate; None where there was no memory for one.
-fn are_right(alloc: Global) -> Option<bool> {
+/// The same of a fresh federation; None also where there was no memory for that.
+fn answers_of_fresh(
+    alloc: Global,
+    number: usize,
+    steps: &[(Event, Expected)],
+    sum: bool,
+) -> Option<bool> {
     let federation = sums(alloc)?;
-    let summed = answers_of(alloc, &federation, SNK, &sum_steps(), true)?;
-    let late = answers_of(alloc, &federation, SNK, &late_steps(), false)?;
-    let counted = answers_of(alloc, &federation, SRC, &count_steps(), false)?;
-    Some(summed && late && counted)
+    answers_of(alloc, &federation, number, steps, sum)
 }
 
 #[test]
-fn federates_answer(rt: HostRuntime) {
-    let first = are_right(rt.alloc());
-    let again = are_right(rt.alloc());
+fn a_sum_is_made(rt: HostRuntime) {
+    let steps = sum_steps();
+    let first = answers_of_fresh(rt.alloc(), SNK, &steps, true);
+    let again = answers_of_fresh(rt.alloc(), SNK, &steps, true);
+    assert!(rt; first.or(again) == Some(true));
+}
+
+#[test]
+fn late_messages_and_old_grants(rt: HostRuntime) {
+    let steps = late_steps();
+    let first = answers_of_fresh(rt.alloc(), SNK, &steps, false);
+    let again = answers_of_fresh(rt.alloc(), SNK, &steps, false);
+    assert!(rt; first.or(again) == Some(true));
+}
+
+#[test]
+fn a_count_is_sent(rt: HostRuntime) {
+    let steps = count_steps();
+    let first = answers_of_fresh(rt.alloc(), SRC, &steps, false);
+    let again = answers_of_fresh(rt.alloc(), SRC, &steps, false);
     assert!(rt; first.or(again) == Some(true));
 }
 
@@ -365,13 +392,18 @@ fn sent_by(station: &mut Station<Federate>, chance: &mut Chance) -> Option<usize
     Some(course.sent)
 }
 
-/// The same of so many fresh federates.
+/// The same of a fresh federate, either of the two.
+fn sent_by_fresh(alloc: Global, federation: &Federation, chance: &mut Chance) -> Option<usize> {
+    let mut station = opened(alloc, federation, chance.below(2))?;
+    sent_by(&mut station, chance)
+}
+
+/// The same of so many of them.
 fn sent_in_order(alloc: Global, federation: &Federation, lists: u32) -> Option<usize> {
     let mut chance = Chance(1);
     let mut count = 0usize;
     for _ in 0..lists {
-        let mut station = opened(alloc, federation, chance.below(2))?;
-        count = count.saturating_add(sent_by(&mut station, &mut chance)?);
+        count = count.saturating_add(sent_by_fresh(alloc, federation, &mut chance)?);
     }
     Some(count)
 }
