@@ -1,6 +1,6 @@
 //! Tests of what the crates below it let others call, and of what no clause there says: rows of small federations, least
-//! delays of worked examples, how files are answered, what lines are read as, that calls succeed with ample memory, and that want
-//! of memory is told and nothing else. It has nothing of its own: a crate with tests is proved twice, so the libraries have
+//! delays of worked examples, how files are answered, what lines are read as, that calls succeed with ample memory, and that
+//! want of memory is told and nothing else. It has nothing of its own: a crate with tests is proved twice, so the libraries have
 //! theirs here.
 //!
 //! Begin with `federations`, whose texts the others load.
