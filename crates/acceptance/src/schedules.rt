@@ -10,7 +10,10 @@ use std::test::Fail;
 const FORMS: &[(&str, Command)] = &[
     ("announce src", Command::Make(Step::Announce(0))),
     ("advance snk", Command::Make(Step::Advance(1))),
-    ("deliver up src 1", Command::Make(Step::Deliver(Dir::Up(0), 1))),
+    (
+        "deliver up src 1",
+        Command::Make(Step::Deliver(Dir::Up(0), 1)),
+    ),
     (
         "deliver down snk 4294967295",
         Command::Make(Step::Deliver(Dir::Down(1), 4_294_967_295)),
@@ -21,7 +24,10 @@ const FORMS: &[(&str, Command)] = &[
     ),
     ("resend up snk", Command::Make(Step::Resend(Dir::Up(1)))),
     ("resend down src", Command::Make(Step::Resend(Dir::Down(0)))),
-    ("reconnect up src", Command::Make(Step::Reconnect(Dir::Up(0)))),
+    (
+        "reconnect up src",
+        Command::Make(Step::Reconnect(Dir::Up(0))),
+    ),
     (
         "reconnect down snk",
         Command::Make(Step::Reconnect(Dir::Down(1))),
@@ -52,7 +58,10 @@ fn reads(alloc: Global, plan: &Plan, file: &[u8], command: Command) -> bool {
 fn reads_each_form(rt: HostRuntime) -> Result<(), Fail> {
     let (plan, _programs) = loaded(rt.alloc(), FEDERATES, "")?;
     for (line, command) in FORMS {
-        assert!(rt; reads(rt.alloc(), &plan, line.as_bytes(), *command), "{line}");
+        assert!(rt;
+            reads(rt.alloc(), &plan, line.as_bytes(), *command),
+            "{line}"
+        );
     }
     Ok(())
 }
@@ -161,7 +170,10 @@ fn counts_lines(rt: HostRuntime) -> Result<(), Fail> {
     let (plan, _programs) = loaded(rt.alloc(), FEDERATES, "")?;
     for (place, (file, bad, commands, number, last)) in FILES.iter().enumerate() {
         let answer = answer(rt.alloc(), &plan, file);
-        assert!(rt; answer == Some((*bad, *commands, *number, *last)), "file {place}");
+        assert!(rt;
+            answer == Some((*bad, *commands, *number, *last)),
+            "file {place}"
+        );
     }
     Ok(())
 }
