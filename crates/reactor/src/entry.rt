@@ -45,7 +45,7 @@ impl Entry {
 }
 
 /// Entries, in their order. Contracts see the list of them.
-#[derive(Debug, Drop)]
+#[derive(Drop)]
 pub struct Entries {
     entries: Vec<Entry>,
 }

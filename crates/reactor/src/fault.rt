@@ -45,7 +45,7 @@ impl ProgramFault {
 }
 
 /// A refusal of the program of the federate of this name, to be printed.
-#[derive(Clone, Copy, Debug)]
+#[derive(Clone, Copy)]
 pub struct FaultOf<'a> {
     pub federate: &'a str,
     pub fault: ProgramFault,

@@ -6,7 +6,7 @@ use tag::Delay;
 
 /// What a body line reads: a number, a state, the value at a slot (0 where nothing is present), or whether something is
 /// present there (1 or 0). States and slots go by number.
-#[derive(Clone, Copy, Debug, PartialEq, Eq)]
+#[derive(Clone, Copy, PartialEq, Eq)]
 pub enum Operand {
     Number(i64),
     State(usize),
@@ -15,7 +15,7 @@ pub enum Operand {
 }
 
 /// Sums, differences and products wrap; the tests give 1 or 0.
-#[derive(Clone, Copy, Debug, PartialEq, Eq)]
+#[derive(Clone, Copy, PartialEq, Eq)]
 pub enum Operator {
     Plus,
     Minus,
@@ -26,13 +26,13 @@ pub enum Operator {
     Equal,
 }
 
-#[derive(Clone, Copy, Debug, PartialEq, Eq)]
+#[derive(Clone, Copy, PartialEq, Eq)]
 pub enum Expression {
     Single(Operand),
     Binary(Operand, Operator, Operand),
 }
 
-#[derive(Clone, Copy, Debug, PartialEq, Eq)]
+#[derive(Clone, Copy, PartialEq, Eq)]
 pub enum Statement {
     /// A state gets a value.
     Assign(usize, Expression),
@@ -43,7 +43,7 @@ pub enum Statement {
 }
 
 /// A body line: a statement, done only where its condition, if it has one, isn't 0.
-#[derive(Clone, Copy, Debug, PartialEq, Eq)]
+#[derive(Clone, Copy, PartialEq, Eq)]
 pub struct Line {
     pub condition: Option<Operand>,
     pub statement: Statement,

@@ -1,7 +1,7 @@
 use plan::Names;
 
 /// A reaction as it is declared: the texts of its triggers and of its body lines.
-#[derive(Debug, Drop)]
+#[derive(Drop)]
 pub struct ReactionDraft {
     pub triggers: Names,
     pub body: Names,

@@ -5,7 +5,7 @@ use std::marker::Model;
 use tag::Tag;
 
 /// One turn of one federate: what was present at its slots, and which outputs it set.
-#[derive(Debug, Drop)]
+#[derive(Drop)]
 pub struct Row {
     federate: usize,
     tag: Tag,

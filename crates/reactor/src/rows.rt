@@ -114,7 +114,7 @@ impl Rows {
 }
 
 /// A row among others.
-#[derive(Debug, Drop)]
+#[derive(Drop)]
 pub struct RowView<'r> {
     federate: usize,
     tag: Tag,

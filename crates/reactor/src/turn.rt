@@ -6,7 +6,7 @@ use std::mem;
 use tag::Delay;
 
 /// An action that is to be present a delay after the turn, with a value.
-#[derive(Clone, Copy, Debug, PartialEq, Eq)]
+#[derive(Clone, Copy, PartialEq, Eq)]
 pub struct Scheduling {
     slot: usize,
     delay: Delay,
@@ -51,7 +51,7 @@ impl Scheduling {
 }
 
 /// Schedulings, in the order in which they were made. Contracts see the list of them.
-#[derive(Debug, Drop)]
+#[derive(Drop)]
 pub struct Schedulings {
     schedulings: Vec<Scheduling>,
 }
@@ -80,7 +80,7 @@ impl Schedulings {
 }
 
 /// What a turn makes: new states, outputs, and schedulings in order. It changes no reactor until it is committed there.
-#[derive(Debug, Drop)]
+#[derive(Drop)]
 pub struct Turn {
     states: Vec<i64>,
     outputs: Entries,

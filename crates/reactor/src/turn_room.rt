@@ -12,7 +12,7 @@ use std::marker::Model;
 
 /// A turn in room that is kept for the next one, so that a turn asks for memory only where it needs more than those before
 /// it. Contracts see the turn.
-#[derive(Debug, Drop)]
+#[derive(Drop)]
 pub struct TurnRoom {
     working: Working,
     /// How many of the registers are states.
