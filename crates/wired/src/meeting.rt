@@ -1,0 +1,66 @@
+//! Two federates that have nothing to do with each other run at the same time.
+use crate::federations::{APART, loaded};
+use crate::memory_lines::{Plain, ran_in_memory};
+use crate::running::is_finished;
+use node::NodeId;
+use std::alloc::Global;
+use std::sync::Wait;
+use std::sync::atomic::{AtomicBool, Ordering};
+use std::test::Fail;
+use std::thread;
+use std::thread::Threads;
+use std::time::{Clock, Duration};
+use wires::{Gate, Point};
+
+/// Each of two federates waits before it advances until the other has come too, at most 10,000 times 1 ms.
+#[derive(Drop)]
+struct Meeting {
+    has_come: [AtomicBool; 2],
+    has_waited_in_vain: AtomicBool,
+}
+
+impl Meeting {
+    fn new() -> Meeting {
+        Meeting {
+            has_come: [AtomicBool::new(false), AtomicBool::new(false)],
+            has_waited_in_vain: AtomicBool::new(false),
+        }
+    }
+
+    fn wait<R: Clock>(&self, rt: &R, other: usize) {
+        for _ in 0..10_000 {
+            match self.has_come.get(other) {
+                Some(flag) if !flag.load(Ordering::SeqCst) => {
+                    thread::sleep(rt, Duration::from_millis(1));
+                }
+                _ => return,
+            }
+        }
+        self.has_waited_in_vain.store(true, Ordering::SeqCst);
+    }
+}
+
+impl Gate for Meeting {
+    fn pass<R: Wait + Clock>(&self, rt: &R, node: NodeId, point: Point) {
+        if let (NodeId::Federate(number), Point::Advance) = (node, point) {
+            if let Some(flag) = self.has_come.get(number) {
+                flag.store(true, Ordering::SeqCst);
+                self.wait(rt, if number == 0 { 1 } else { 0 });
+            }
+        }
+    }
+}
+
+/// Whether both pass, and the run finishes.
+fn meets<R: Threads + Wait + Clock + Sync>(rt: &R, alloc: Global) -> Option<bool> {
+    let federation = loaded(alloc, APART)?;
+    let meeting = Meeting::new();
+    let gathered = ran_in_memory(rt, alloc, &federation, &meeting, Plain)?;
+    Some(is_finished(&gathered) && !meeting.has_waited_in_vain.load(Ordering::SeqCst))
+}
+
+#[test]
+fn two_advance_at_once(rt: HostRuntime) -> Result<(), Fail> {
+    assert!(rt; meets(&rt, rt.alloc()) == Some(true));
+    Ok(())
+}

@@ -1,0 +1,108 @@
+//! Federations in threads over connections in memory.
+use crate::federations::Federation;
+use coordinator::Coordinator;
+use crossbeam_channel::{Sender, unbounded};
+use desks::{coordinator_desk, federate_desks};
+use federate::Federate;
+use std::alloc::Global;
+use std::sync::Wait;
+use std::thread::Threads;
+use std::time::Clock;
+use wires::{
+    Arrived, Connection, Cut, Dial, Ending, Entrance, Gate, Gathered, Member, MemoryCut,
+    MemoryTransport, Transport, pair, run,
+};
+
+/// Makes one end of a connection something that the workers are given.
+pub(crate) trait Wrap<T: Drop> {
+    fn wrap(&self, end: MemoryTransport) -> T;
+}
+
+/// Leaves it as it is.
+#[derive(Clone, Copy)]
+pub(crate) struct Plain;
+
+impl Wrap<MemoryTransport> for Plain {
+    fn wrap(&self, end: MemoryTransport) -> MemoryTransport {
+        end
+    }
+}
+
+/// Makes a federate's connections, and hands their other ends to the coordinator's reader.
+#[derive(Drop)]
+pub(crate) struct MemoryDial<T: Drop, W: Drop> {
+    arrivals: Sender<Arrived<T, MemoryCut>>,
+    wrap: W,
+}
+
+/// A connection with ends of another kind.
+fn wrapped<T: Drop, W: Wrap<T>>(
+    wrap: &W,
+    connection: Connection<MemoryTransport, MemoryCut>,
+) -> Connection<T, MemoryCut> {
+    Connection {
+        incoming: wrap.wrap(connection.incoming),
+        outgoing: wrap.wrap(connection.outgoing),
+        cut: connection.cut,
+    }
+}
+
+impl<T: Drop, W: Wrap<T> + Drop> Dial<T, MemoryCut> for MemoryDial<T, W> {
+    fn dial<R: Wait>(&self, rt: &R, alloc: Global) -> Option<Connection<T, MemoryCut>> {
+        let (near, far) = pair(alloc).ok()?;
+        let arrived = Arrived {
+            connection: wrapped(&self.wrap, far),
+            first: Vec::new(alloc),
+        };
+        self.arrivals.send(rt, arrived).ok()?;
+        Some(wrapped(&self.wrap, near))
+    }
+}
+
+/// No connections come from outside.
+#[derive(Drop)]
+pub(crate) struct NoEntrance;
+
+impl Entrance for NoEntrance {
+    fn let_in<R: Wait + Clock>(self, _rt: &R, _alloc: Global, _ending: &Ending) {}
+}
+
+/// The desks after a run over memory; None where there are none.
+pub(crate) fn ran_in_memory<
+    'a,
+    R: Threads + Wait + Clock + Sync,
+    G: Gate + Sync,
+    T: Transport + Send,
+    W: Wrap<T> + Copy + Send + Drop,
+>(
+    rt: &R,
+    alloc: Global,
+    federation: &'a Federation,
+    gate: &G,
+    wrap: W,
+) -> Option<Gathered<Coordinator<'a>, Federate<'a>>> {
+    let hub = coordinator_desk(alloc, &federation.plan).ok()?;
+    let desks = federate_desks(
+        alloc,
+        &federation.plan,
+        &federation.programs,
+        &federation.inputs,
+    )
+    .ok()?;
+    let mut members = Vec::new(alloc);
+    for desk in desks {
+        let (sender, arrivals) = unbounded(alloc).ok()?;
+        let dial = MemoryDial {
+            arrivals: sender,
+            wrap,
+        };
+        members
+            .push(Member {
+                desk,
+                dial,
+                arrivals,
+            })
+            .ok()?;
+    }
+    run(rt, alloc, hub, members, NoEntrance, gate, 100_000).ok()
+}
