@@ -1,6 +1,7 @@
 //! Which lines a schedule has, what each asks for, and which line is told as bad.
-use crate::federations::{FEDERATES, loaded};
+use crate::federations::loaded;
 use plan::Plan;
+use samples::COUNTER;
 use schedule::{Dir, Step};
 use script::{Command, Line, MOST_BYTES, ScriptFault, read_script};
 use std::alloc::Global;
@@ -56,7 +57,7 @@ fn reads(alloc: Global, plan: &Plan, file: &[u8], command: Command) -> bool {
 
 #[test]
 fn reads_each_form(rt: HostRuntime) -> Result<(), Fail> {
-    let (plan, _programs) = loaded(rt.alloc(), FEDERATES, "")?;
+    let (plan, _programs) = loaded(rt.alloc(), COUNTER, "")?;
     for (line, command) in FORMS {
         assert!(rt;
             reads(rt.alloc(), &plan, line.as_bytes(), *command),
@@ -120,7 +121,7 @@ fn told(alloc: Global, plan: &Plan, file: &[u8]) -> Option<ScriptFault> {
 
 #[test]
 fn refuses_other_lines(rt: HostRuntime) -> Result<(), Fail> {
-    let (plan, _programs) = loaded(rt.alloc(), FEDERATES, "")?;
+    let (plan, _programs) = loaded(rt.alloc(), COUNTER, "")?;
     for (place, line) in BAD.iter().enumerate() {
         let fault = told(rt.alloc(), &plan, line);
         assert!(rt; fault == Some(ScriptFault::Line(1)), "line {place}");
@@ -167,7 +168,7 @@ fn answer(alloc: Global, plan: &Plan, file: &[u8]) -> Option<(usize, usize, usiz
 
 #[test]
 fn counts_lines(rt: HostRuntime) -> Result<(), Fail> {
-    let (plan, _programs) = loaded(rt.alloc(), FEDERATES, "")?;
+    let (plan, _programs) = loaded(rt.alloc(), COUNTER, "")?;
     for (place, (file, bad, commands, number, last)) in FILES.iter().enumerate() {
         let answer = answer(rt.alloc(), &plan, file);
         assert!(rt;
@@ -180,24 +181,12 @@ fn counts_lines(rt: HostRuntime) -> Result<(), Fail> {
 
 #[test]
 fn long_schedules(rt: HostRuntime) -> Result<(), Fail> {
-    let (plan, _programs) = loaded(rt.alloc(), FEDERATES, "")?;
+    let (plan, _programs) = loaded(rt.alloc(), COUNTER, "")?;
     let long = Vec::from_elem(rt.alloc(), b'\n', MOST_BYTES)?;
     let answer = answer(rt.alloc(), &plan, long.as_slice());
     assert!(rt; answer == Some((0, 0, 0, 1_048_576)));
     let longer = Vec::from_elem(rt.alloc(), b' ', MOST_BYTES + 1)?;
     let fault = told(rt.alloc(), &plan, longer.as_slice());
     assert!(rt; fault == Some(ScriptFault::OverLimit));
-    Ok(())
-}
-
-#[test]
-fn schedule_faults(rt: HostRuntime) -> Result<(), Fail> {
-    for (fault, text) in [
-        (ScriptFault::OverLimit, "36 OverLimit"),
-        (ScriptFault::Line(12), "schedule line 12"),
-        (ScriptFault::Memory, "37 Memory"),
-    ] {
-        assert_eq!(rt; fault.to_string(rt.alloc())?.as_str(), text);
-    }
     Ok(())
 }
