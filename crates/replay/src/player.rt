@@ -10,7 +10,7 @@ use crate::fault::ReplayFault;
 use plan::{Inputs, Plan};
 use reactor::Programs;
 use schedule::{Dir, Outcome, Step};
-use script::{Command, Line};
+use script::{Command, Line, Script};
 use std::alloc::Global;
 use std::io::Write;
 use std::marker::Model;
@@ -55,8 +55,8 @@ impl<'a> Player<'a> {
         &self.world
     }
 
-    /// Does what the lines of a schedule ask for, one after the other.
-    pub fn play<W: Write>(&mut self, out: &mut W, lines: &[Line]) -> Result<(), ReplayFault>
+    // Does what the lines of a schedule ask for, one after the other.
+    fn play<W: Write>(&mut self, out: &mut W, lines: &[Line]) -> Result<(), ReplayFault>
         ensures { HasPlayed result self.old self.new (W.contents out.old) (W.contents out.new) }
     {
         for line in lines {
@@ -65,13 +65,24 @@ impl<'a> Player<'a> {
         Ok(())
     }
 
-    /// Makes closing rounds for a line until the world is stuck, or so many were made.
-    pub fn close<W: Write>(
+    /// Does what a schedule asks for; then closing rounds, for the line after its last, where they are asked for.
+    pub fn play_on<W: Write>(
         &mut self,
         out: &mut W,
-        line: usize,
-        most: u32,
+        script: &Script,
+        closing: Option<u32>,
     ) -> Result<(), ReplayFault>
+        ensures { HasPlayed result self.old self.new (W.contents out.old) (W.contents out.new) }
+    {
+        self.play(out, script.lines())?;
+        match closing {
+            Some(most) => self.close(out, script.last_line().saturating_add(1), most),
+            None => Ok(()),
+        }
+    }
+
+    // Makes closing rounds for a line until the world is stuck, or so many were made.
+    fn close<W: Write>(&mut self, out: &mut W, line: usize, most: u32) -> Result<(), ReplayFault>
         ensures { HasPlayed result self.old self.new (W.contents out.old) (W.contents out.new) }
     {
         for _ in 0..most {

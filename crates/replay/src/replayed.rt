@@ -33,10 +33,7 @@ pub fn replay<W: Write>(
         Ok(player) => player,
         Err(memory) => return Err(ReplayFault::World(memory)),
     };
-    player.play(out, script.lines())?;
-    if let Some(most) = closing {
-        player.close(out, script.last_line().saturating_add(1), most)?;
-    }
+    player.play_on(out, script, closing)?;
     player.world().known();
     write_end(out, plan, player.world(), closing).map_err(|_| ReplayFault::CannotWrite)
 }
