@@ -7,7 +7,8 @@ use Rattle.fedrun.specs.declared.fault.Fault.TheVariants.{Load}
 use Rattle.files.specs.Contents.{AreBytesOf}
 use Rattle.fedrun.specs.Refused.{IsFileFault}
 
-holds_of_file : (P : List ℕ → Type 0) (known : Option (List ℕ)) (bytes : List ℕ) → AreBytesOf known bytes → P bytes → IfSome known P
+-- what holds of the bytes that were read holds of the file
+pub holds_of_file : (P : List ℕ → Type 0) (known : Option (List ℕ)) (bytes : List ℕ) → AreBytesOf known bytes → P bytes → IfSome known P
 holds_of_file P None bytes same holds = tt
 holds_of_file P (Some there) bytes same holds = subst P same holds
 

@@ -1,16 +1,20 @@
 -- The program's faults: the exit status that goes with each, and how it is told.
 use Rattle.std.specs.Prelude.{ℕ, List, ◌++◌, codes}
+use Rattle.std.specs.Fmt.{decimal}
 use Rattle.loadfed.specs.Numbers as loadfed
+use Rattle.script.specs.Faults as script
 use Rattle.reactor.specs.Fault as reactor
+use Rattle.stage.specs.Numbers.{out_of_memory}
 use Rattle.printed.specs.Fault as printed
 use Rattle.fedrun.specs.declared.fault.Fault.{Fault}
-use Rattle.fedrun.specs.declared.fault.Fault.TheVariants.{Usage, CannotRead, CannotWrite, Load, Turns, Print}
+use Rattle.fedrun.specs.declared.fault.Fault.TheVariants.{Usage, CannotRead, CannotWrite, Load, Schedule, Turns, World, Print}
 
 -- the exit status of a fault: 2 for words that are no command, 3 for what stopped the program after all was loaded
 abbrev pub status_of : Fault → ℕ
 status_of Usage = 2
 status_of CannotWrite = 3
 status_of (Turns memory) = 3
+status_of (World memory) = 3
 status_of (Print memory) = 3
 status_of fault = 1
 
@@ -20,7 +24,9 @@ printed_fault Usage = codes "usage"
 printed_fault (CannotRead name) = codes "cannot read " ++ name.now
 printed_fault CannotWrite = codes "cannot write"
 printed_fault (Load fault) = loadfed.printed_fault fault
+printed_fault (Schedule fault) = script.printed_fault fault
 printed_fault (Turns memory) = reactor.printed_memory
+printed_fault (World memory) = decimal out_of_memory ++ codes " Memory"
 printed_fault (Print memory) = printed.printed_memory
 
 -- the line on standard error

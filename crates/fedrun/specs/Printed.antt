@@ -7,6 +7,7 @@ use Rattle.reactor.specs.Behaviour.{Behaviour}
 use Rattle.printed.specs.PlanText.{printed_plan}
 use Rattle.files.specs.Contents.{Contents}
 use Rattle.undivided.specs.Printed.{PrintsRows}
+use Rattle.replay.specs.Replayed.{IsReplayed}
 use Rattle.words.specs.declared.request.Request.{Request}
 use Rattle.words.specs.declared.request.Request.TheVariants.{Whole, Check, Replay, Run}
 use Rattle.fedrun.specs.Loaded.{input_file, IsFederation, RecordsInputs}
@@ -20,6 +21,16 @@ pub record PrintsRun (federation inputs : Option (List ℕ)) (turns : ℕ) (befo
   pub inputs_are : RecordsInputs inputs draft recorded
   pub printed : PrintsRows draft programs recorded turns before after
 
+-- or by what a schedule's world refuses and the rows after its steps, of the federation in a file, with the inputs in another; after
+-- closing rounds where some were asked for
+pub record PrintsReplay (federation inputs : Option (List ℕ)) (until_stuck : Option ℕ) (before after : Option (List ℕ)) : Type 0 where
+  pub draft : Draft
+  pub programs : List Behaviour
+  pub recorded : List Input
+  pub federation_is : IsFederation federation draft programs
+  pub inputs_are : RecordsInputs inputs draft recorded
+  pub printed : IsReplayed draft programs recorded until_stuck before after
+
 -- or by the plan of the federation in a file
 pub record PrintsPlan (federation before after : Option (List ℕ)) : Type 0 where
   pub draft : Draft
@@ -32,7 +43,8 @@ abbrev pub PrintsFor : Contents → Request → Option (List ℕ) → Option (Li
 PrintsFor contents (Whole federation inputs turns) before after =
     PrintsRun (contents federation.now) (input_file contents inputs.now) turns before after
 PrintsFor contents (Check federation) before after = PrintsPlan (contents federation.now) before after
-PrintsFor contents (Replay federation inputs schedule until_stuck) before after = ⊥
+PrintsFor contents (Replay federation inputs schedule until_stuck) before after =
+    PrintsReplay (contents federation.now) (input_file contents inputs.now) until_stuck before after
 PrintsFor contents (Run federation inputs turns) before after = ⊥
 
 -- for some request, what it asks for was printed

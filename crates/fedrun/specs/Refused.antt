@@ -1,6 +1,6 @@
 -- Which fault stands where nothing more is printed: in the words, in the files of the request, or after all was loaded. What a
 -- writer holds before and after is said of faults that come after that.
-use Rattle.std.specs.Prelude.{◌≡◌, ℕ, IsTrue, Bool, ◌⊎◌, List, Option, IfSome}
+use Rattle.std.specs.Prelude.{◌≡◌, ℕ, ◌<◌, IsTrue, Bool, ◌⊎◌, List, length, Option, IfSome}
 use Rattle.std.specs.Borrow.{Bor}
 use Rattle.std.specs.Io.KnownBytes.{Appends}
 use Rattle.plan.specs.declared.draft.Draft.{Draft}
@@ -13,7 +13,12 @@ use Rattle.loadfed.specs.declared.fault.LoadFault.TheVariants.{OverLimit, Memory
 use Rattle.loadfed.specs.Loaded.{HasLoadFault}
 use Rattle.loadfed.specs.InputShape.{HasInputFileFault}
 use Rattle.fedrun.specs.declared.fault.Fault.{Fault}
-use Rattle.fedrun.specs.declared.fault.Fault.TheVariants.{Usage, CannotRead, CannotWrite, Load, Turns, Print}
+use Rattle.fedrun.specs.declared.fault.Fault.TheVariants.{Usage, CannotRead, CannotWrite, Load, Schedule, Turns, World, Print}
+use Rattle.script.specs.declared.fault.ScriptFault.{ScriptFault}
+use Rattle.script.specs.Scripts.{most_bytes, IsFaultOf as IsScriptFault}
+use Rattle.replay.specs.declared.fault.ReplayFault.TheVariants as broken
+use Rattle.replay.specs.Replayed.{IsBrokenOff}
+use Rattle.stage.specs.declared.memory.Memory as steps
 use Rattle.files.specs.declared.named.FileFault.{FileFault}
 use Rattle.files.specs.declared.named.FileFault.TheVariants as file_fault
 use Rattle.files.specs.Contents.{Contents}
@@ -46,6 +51,18 @@ IsFederationFault name contents fault = IsFileFault HasLoadFault name (contents 
 abbrev pub IsInputFault : Draft → Bor (List ℕ) → Contents → Fault → Type 0
 IsInputFault d name contents fault = IsFileFault (HasInputFileFault d) name (input_file contents name.now) fault
 
+-- why the schedule file isn't taken
+abbrev pub IsScheduleFault : Bor (List ℕ) → Contents → Fault → Type 0
+IsScheduleFault name contents fault =
+    IsFileFault (λ bytes why. (why ≡ OverLimit) × (most_bytes < length bytes)) name (contents name.now) fault
+    ⊎ ((why : ScriptFault) × (fault ≡ Schedule why) × IfSome (contents name.now) (λ bytes. IsScriptFault bytes why))
+
+-- why a replay breaks off, once all was loaded: it can't be written, or there was no memory for a step; then what was refused of those
+-- before it is written
+abbrev pub IsReplayFault : Draft → List Behaviour → List Input → Option (List ℕ) → Option (List ℕ) → Fault → Type 0
+IsReplayFault d programs inputs before after fault =
+    ((memory : steps.Memory) × (fault ≡ World memory) × IsBrokenOff d programs inputs before after (broken.World memory)) ⊎ (fault ≡ CannotWrite)
+
 -- why not all rows are printed, once all was loaded: it can't be written, or there was no memory for a turn; then the rows of those
 -- before it are written
 abbrev pub IsRunFault : Draft → List Behaviour → List Input → ℕ → Option (List ℕ) → Option (List ℕ) → Fault → Type 0
@@ -69,7 +86,7 @@ pub record IsLastFault (known : Option (List ℕ)) (d : Draft) (Later : List Inp
   pub inputs_are : RecordsInputs known d recorded
   pub later : Later recorded fault
 
--- why a request isn't done: the federation file's fault comes first, then the input file's
+-- why a request isn't done: the federation file's fault comes first, then the input file's, then the schedule's
 abbrev pub IsFaultOf : Contents → Option (List ℕ) → Option (List ℕ) → Request → Fault → Type 0
 IsFaultOf contents before after (Whole federation inputs turns) fault =
     IsFederationFault federation contents fault
@@ -78,7 +95,12 @@ IsFaultOf contents before after (Whole federation inputs turns) fault =
     ⊎ IsLastFault (input_file contents inputs.now) d (λ recorded g. IsRunFault d programs recorded turns before after g) f) fault
 IsFaultOf contents before after (Check federation) fault =
     IsFederationFault federation contents fault ⊎ IsLaterFault (contents federation.now) (λ d programs f. IsPrintFault before after f) fault
-IsFaultOf contents before after (Replay federation inputs schedule until_stuck) fault = ⊥
+IsFaultOf contents before after (Replay federation inputs schedule until_stuck) fault =
+    IsFederationFault federation contents fault
+    ⊎ IsLaterFault (contents federation.now)
+    (λ d programs f. IsInputFault d inputs contents f
+    ⊎ IsLastFault (input_file contents inputs.now) d
+    (λ recorded g. IsScheduleFault schedule contents g ⊎ IsReplayFault d programs recorded before after g) f) fault
 IsFaultOf contents before after (Run federation inputs turns) fault = ⊥
 
 -- the fault is one of words, or stands against some request

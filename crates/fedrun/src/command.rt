@@ -1,15 +1,16 @@
 ghost use Rattle.std.specs.Prelude.{◌≡◌, ◌≢◌, ◌<◌, ◌≤◌, ℕ, Bool, length, IsTrue, IfOk, IfErr, IfSome, OnOk, string_bytes, vec_len};
-ghost use Rattle.std.specs.Io.KnownBytes.{Appends};
+ghost use Rattle.std.specs.Io.KnownBytes.{Appends, Keeps};
 ghost use Rattle.printed.specs.PlanText.{printed_plan};
 ghost use Rattle.plan.specs.External.{AreInputsOf};
 ghost use Rattle.reactor.specs.Programs.{AreProgramsOf};
 ghost use Rattle.undivided.specs.Printed.{PrintsRows};
+ghost use Rattle.replay.specs.Replayed.{IsReplayed};
 ghost use Rattle.files.specs.Contents.{AreBytesOf};
 ghost use Rattle.files.specs.declared.named.FileFault.{FileFault as FileFaultOf};
 ghost use Rattle.fedrun.specs.Faults.{status_of, line_of};
 ghost use Rattle.fedrun.specs.Loaded.{input_file, IsFederation, RecordsInputs};
-ghost use Rattle.fedrun.specs.Printed.{PrintsRun, PrintsPlan, PrintsAnswer};
-ghost use Rattle.fedrun.specs.Refused.{IsFederationFault, IsInputFault, IsRunFault, IsPrintFault, IsWordsFault, IsFaultOf, TellsFault, Stands, told_of_file};
+ghost use Rattle.fedrun.specs.Printed.{PrintsRun, PrintsReplay, PrintsPlan, PrintsAnswer};
+ghost use Rattle.fedrun.specs.Refused.{IsFederationFault, IsInputFault, IsScheduleFault, IsRunFault, IsReplayFault, IsPrintFault, IsWordsFault, IsFaultOf, TellsFault, Stands, told_of_file};
 
 use crate::fault::Fault;
 use files::{FileFault, Files};
@@ -17,6 +18,8 @@ use loadfed::{LoadFault, MOST_BYTES, MOST_INPUT_BYTES, load, load_inputs};
 use plan::{Inputs, Plan};
 use printed::plan_text;
 use reactor::Programs;
+use replay::{ReplayFault, replay as play};
+use script::{MOST_BYTES as MOST_SCHEDULE_BYTES, Script, read_script};
 use std::alloc::Global;
 use std::io::Write;
 use undivided::{TurnsFault, print_turns};
@@ -104,7 +107,13 @@ fn run<'a, F: Files, O: Write>(
             turns,
         } => whole(alloc, federation, inputs, turns, files, out),
         Request::Check { federation } => check(alloc, federation, files, out),
-        Request::Replay { .. } | Request::Run { .. } => Err(Fault::Usage),
+        Request::Replay {
+            federation,
+            inputs,
+            schedule,
+            until_stuck,
+        } => replay(alloc, federation, inputs, schedule, until_stuck, files, out),
+        Request::Run { .. } => Err(Fault::Usage),
     }
 }
 
@@ -135,6 +144,26 @@ fn whole<'a, F: Files, O: Write>(
     let (plan, programs) = loaded(alloc, federation, files)?;
     let inputs = inputs_of(alloc, inputs, &plan, files)?;
     print_run(alloc, &plan, &programs, &inputs, turns, out)
+}
+
+/// Prints what a schedule's world refuses, and the rows after it.
+fn replay<'a, F: Files, O: Write>(
+    alloc: Global,
+    federation: &'a str,
+    inputs: &'a str,
+    schedule: &'a str,
+    until_stuck: Option<u32>,
+    files: &mut F,
+    out: &mut O,
+) -> Result<(), Fault<'a>>
+    ensures ok { OnOk result (PrintsReplay (F.contents files.old federation.entry.now) (input_file (F.contents files.old) inputs.entry.now) until_stuck (O.contents out.old) (O.contents out.new)) }
+    ensures stands { IfErr result (IsFaultOf (F.contents files.old) (O.contents out.old) (O.contents out.new) (Request.Replay federation.entry inputs.entry schedule.entry until_stuck)) }
+    ensures untouched { IfErr result (λ fault. status_of fault ≢ 3 → out.new ≡ out.old) }
+{
+    let (plan, programs) = loaded(alloc, federation, files)?;
+    let inputs = inputs_of(alloc, inputs, &plan, files)?;
+    let script = script_of(alloc, schedule, &plan, files)?;
+    print_replay(alloc, &plan, &programs, &inputs, &script, until_stuck, out)
 }
 
 /// Prints the plan.
@@ -178,6 +207,7 @@ fn inputs_of<'a, F: Files>(
 ) -> Result<Inputs, Fault<'a>>
     ensures ok { IfOk result (RecordsInputs (input_file (F.contents files.old) name.entry.now) plan.now) }
     ensures err { IfErr result (IsInputFault plan.now name.entry (F.contents files.old)) }
+    ensures same { F.contents files.new ≡ F.contents files.old }
 {
     let bytes = if name == "-" {
         Vec::new(alloc)
@@ -187,6 +217,22 @@ fn inputs_of<'a, F: Files>(
     match load_inputs(alloc, bytes.as_slice(), plan) {
         Ok(inputs) => Ok(inputs),
         Err(fault) => Err(Fault::Load(fault)),
+    }
+}
+
+/// The schedule in a file.
+fn script_of<'a, F: Files>(
+    alloc: Global,
+    name: &'a str,
+    plan: &Plan,
+    files: &mut F,
+) -> Result<Script, Fault<'a>>
+    ensures { IfErr result (IsScheduleFault name.entry (F.contents files.old)) }
+{
+    let bytes = bytes_of(name, files, MOST_SCHEDULE_BYTES)?;
+    match read_script(alloc, bytes.as_slice(), plan) {
+        Ok(script) => Ok(script),
+        Err(fault) => Err(Fault::Schedule(fault)),
     }
 }
 
@@ -237,6 +283,32 @@ fn print_run<O: Write>(
     }
 }
 
+/// Plays a schedule and prints what `replay` does. Where there is no memory for a step, the refused steps before it are written.
+fn print_replay<O: Write>(
+    alloc: Global,
+    plan: &Plan,
+    programs: &Programs,
+    inputs: &Inputs,
+    script: &Script,
+    until_stuck: Option<u32>,
+    out: &mut O,
+) -> Result<(), Fault<'static>>
+    requires programs { AreProgramsOf plan.now programs.now }
+    requires inputs { AreInputsOf plan.now inputs.now }
+    ensures ok { OnOk result (IsReplayed plan.now programs.now inputs.now until_stuck (O.contents out.old) (O.contents out.new)) }
+    ensures stands { IfErr result (IsReplayFault plan.now programs.now inputs.now (O.contents out.old) (O.contents out.new)) }
+    ensures late { IfErr result (λ fault. status_of fault ≡ 3) }
+{
+    match play(alloc, out, plan, programs, inputs, script, until_stuck) {
+        Ok(()) => flush(out),
+        Err(ReplayFault::World(memory)) => {
+            flush(out)?;
+            Err(Fault::World(memory))
+        }
+        Err(ReplayFault::CannotWrite) => Err(Fault::CannotWrite),
+    }
+}
+
 /// Prints the plan.
 fn print_plan<O: Write>(alloc: Global, plan: &Plan, out: &mut O) -> Result<(), Fault<'static>>
     ensures ok { OnOk result (Appends (O.contents out.old) (O.contents out.new) (printed_plan plan.now)) }
@@ -255,5 +327,13 @@ fn print<O: Write>(out: &mut O, text: &String) -> Result<(), Fault<'static>>
 {
     out.write_all(text.as_bytes())
         .map_err(|_| Fault::CannotWrite)?;
+    flush(out)
+}
+
+/// Sends on what was written.
+fn flush<O: Write>(out: &mut O) -> Result<(), Fault<'static>>
+    ensures kept { Keeps (O.contents out.old) (O.contents out.new) }
+    ensures err { IfErr result (λ fault. fault ≡ Fault.CannotWrite) }
+{
     out.flush().map_err(|_| Fault::CannotWrite)
 }

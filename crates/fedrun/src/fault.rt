@@ -1,6 +1,7 @@
 ghost use Rattle.std.specs.Prelude.{◌≡◌};
 
 use loadfed::LoadFault;
+use script::ScriptFault;
 use std::fmt;
 use thiserror::Error;
 
@@ -16,8 +17,12 @@ pub enum Fault<'a> {
     CannotWrite,
     /// A file isn't taken, and the inner fault says why; or memory was wanting before all was loaded. Nothing was printed.
     Load(LoadFault),
+    /// The schedule isn't taken, and the inner fault says why. Nothing was printed.
+    Schedule(ScriptFault),
     /// No memory for a turn. The same command may be given again, with fewer turns.
     Turns(reactor::Memory),
+    /// No memory for a step of a replay. What was refused before it is printed. The same command may be given again, with fewer steps.
+    World(world::Memory),
     /// No memory for the text of rows or of a plan. The same command may be given again.
     Print(printed::Memory),
 }
@@ -31,8 +36,8 @@ impl Fault<'_> {
     {
         match self {
             Fault::Usage => 2,
-            Fault::CannotRead(_) | Fault::Load(_) => 1,
-            Fault::CannotWrite | Fault::Turns(_) | Fault::Print(_) => 3,
+            Fault::CannotRead(_) | Fault::Load(_) | Fault::Schedule(_) => 1,
+            Fault::CannotWrite | Fault::Turns(_) | Fault::World(_) | Fault::Print(_) => 3,
         }
     }
 }
@@ -56,7 +61,9 @@ impl fmt::Display for Fault<'_> {
             Fault::CannotRead(name) => write!(f, "cannot read {name}"),
             Fault::CannotWrite => write!(f, "cannot write"),
             Fault::Load(fault) => write!(f, "{fault}"),
+            Fault::Schedule(fault) => write!(f, "{fault}"),
             Fault::Turns(memory) => write!(f, "{memory}"),
+            Fault::World(memory) => write!(f, "{memory}"),
             Fault::Print(memory) => write!(f, "{memory}"),
         }
     }

@@ -3,6 +3,7 @@ mod faults;
 mod federations;
 mod limits;
 mod reader;
+mod replays;
 mod requests;
 mod rows;
 mod two_files;

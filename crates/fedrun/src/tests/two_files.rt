@@ -2,12 +2,13 @@
 use files::{FileFault, Files};
 use std::alloc::Global;
 
-/// The files `fed.toml`, `in.toml` and `-in.toml`, which is the second again.
+/// The files `fed.toml`, `in.toml` and `-in.toml`, which is the second again, and a schedule under the name `-`.
 #[derive(Drop)]
 pub struct TwoFiles<'a> {
     alloc: Global,
     federation: &'a str,
     inputs: &'a str,
+    schedule: &'a str,
 }
 
 impl<'a> TwoFiles<'a> {
@@ -16,6 +17,17 @@ impl<'a> TwoFiles<'a> {
             alloc,
             federation,
             inputs,
+            schedule: "",
+        }
+    }
+
+    /// Those of a federation and a schedule.
+    pub fn of_schedule(alloc: Global, federation: &'a str, schedule: &'a str) -> TwoFiles<'a> {
+        TwoFiles {
+            alloc,
+            federation,
+            inputs: "",
+            schedule,
         }
     }
 }
@@ -25,6 +37,7 @@ impl Files for TwoFiles<'_> {
         let text = match name {
             "fed.toml" => self.federation,
             "in.toml" | "-in.toml" => self.inputs,
+            "-" => self.schedule,
             _ => return Err(FileFault::Unreadable),
         };
         if text.len() > most {

@@ -41,10 +41,18 @@ impl Write for Unflushed {
     }
 }
 
-/// Whether a run whose rows can't be written tells so.
-fn tells_cannot_write<R: AllocGlobal, O: Write>(rt: &R, out: &mut O) -> Option<bool> {
+const WHOLE: &[&str] = &["whole", "fed.toml", "-", "4"];
+
+const REPLAY: &[&str] = &["replay", "fed.toml", "-", "in.toml", "--until-stuck", "9"];
+
+/// Whether a command whose rows can't be written tells so.
+fn tells_cannot_write<R: AllocGlobal, O: Write>(
+    rt: &R,
+    words: &[&str],
+    out: &mut O,
+) -> Option<bool> {
     let alloc = rt.alloc();
-    let words = given(alloc, &["whole", "fed.toml", "-", "4"])?;
+    let words = given(alloc, words)?;
     let federation = joined(alloc, &[SENDER, RECEIVER, CONNECTION])?;
     let mut files = TwoFiles::new(alloc, federation.as_str(), "");
     let mut err = Vec::new(alloc);
@@ -54,10 +62,12 @@ fn tells_cannot_write<R: AllocGlobal, O: Write>(rt: &R, out: &mut O) -> Option<b
 
 #[test]
 fn tells_that_it_cannot_write(rt: HostRuntime) {
-    for room in [0, 1, 40] {
-        assert!(rt; tells_cannot_write(&rt, &mut Narrow { room }) == Some(true));
+    for words in [WHOLE, REPLAY] {
+        for room in [0, 1, 40] {
+            assert!(rt; tells_cannot_write(&rt, words, &mut Narrow { room }) == Some(true));
+        }
+        assert!(rt; tells_cannot_write(&rt, words, &mut Unflushed) == Some(true));
     }
-    assert!(rt; tells_cannot_write(&rt, &mut Unflushed) == Some(true));
 }
 
 /// The status of a refused file, where its line can't be written.

@@ -1,0 +1,49 @@
+-- What a replay printed stays printed where a writer keeps its bytes.
+use Rattle.std.proofs.Common.{ℕ, List, Option, None, Some, Result, Ok, Err, OnOk}
+use Rattle.std.specs.Io.KnownBytes.{Keeps}
+use Rattle.std.proofs.KnownBytes.{Appends-kept}
+use Rattle.plan.specs.declared.draft.Draft.{Draft}
+use Rattle.plan.specs.declared.input.Input.{Input}
+use Rattle.reactor.specs.Behaviour.{Behaviour}
+use Rattle.stage.specs.declared.memory.Memory.{Memory}
+use Rattle.world.specs.World.{WorldView}
+use Rattle.replay.specs.Replayed.{IsEnded, IsReplayed, IsBrokenOff}
+use Rattle.replay.specs.declared.fault.ReplayFault.TheVariants.{World}
+
+ended_kept : (closing : Option ℕ) (w : WorldView) (before mid after : Option (List ℕ)) → IsEnded closing w before mid → Keeps mid after
+    → IsEnded closing w before after
+ended_kept None w before mid after ended kept = Appends-kept before mid after _ ended kept
+ended_kept (Some most) w before mid after ended kept =
+    record { is_stuck = ended.is_stuck; tells = ended.tells; printed = Appends-kept before mid after _ ended.printed kept }
+
+-- all of a replay
+pub replayed_kept :
+    (d : Draft) (programs : List Behaviour) (inputs : List Input) (closing : Option ℕ) (before mid after : Option (List ℕ)) →
+    IsReplayed d programs inputs closing before mid → Keeps mid after → IsReplayed d programs inputs closing before after
+replayed_kept d programs inputs closing before mid after replayed kept =
+    record {
+      last = replayed.last;
+      played = replayed.played;
+      plays = replayed.plays;
+      ended = ended_kept closing replayed.last replayed.played mid after replayed.ended kept;
+      faithful = replayed.faithful;
+    }
+
+-- the refused steps of one that broke off
+pub broken_off_kept :
+    (d : Draft) (programs : List Behaviour) (inputs : List Input) (memory : Memory) (before mid after : Option (List ℕ)) →
+    IsBrokenOff d programs inputs before mid (World memory) → Keeps mid after → IsBrokenOff d programs inputs before after (World memory)
+broken_off_kept d programs inputs memory before mid after broken kept =
+    let plays = broken.1 in (
+      broken.0,
+      record {
+        made = plays.made;
+        later_is = plays.later_is;
+        printed = Appends-kept before mid after _ plays.printed kept;
+      },
+    )
+
+-- what holds holds of a result too, where it is fine
+pub on_ok_always : {T E : Type 0} {P : Type 0} (r : Result T E) → P → OnOk r P
+on_ok_always (Ok x) holds = holds
+on_ok_always (Err e) holds = tt
