@@ -1,10 +1,9 @@
 -- The program's faults: the exit status that goes with each, and how it is told.
 use Rattle.std.specs.Prelude.{ℕ, List, ◌++◌, codes}
-use Rattle.std.specs.Fmt.{decimal}
 use Rattle.loadfed.specs.Numbers as loadfed
 use Rattle.script.specs.Faults as script
 use Rattle.reactor.specs.Fault as reactor
-use Rattle.stage.specs.Numbers.{out_of_memory}
+use Rattle.stage.specs.Numbers.{told_out_of_memory}
 use Rattle.printed.specs.Fault as printed
 use Rattle.fedrun.specs.declared.fault.Fault.{Fault}
 use Rattle.fedrun.specs.declared.fault.Fault.TheVariants.{Usage, CannotRead, CannotWrite, Load, Schedule, Turns, World, Print}
@@ -26,7 +25,7 @@ printed_fault CannotWrite = codes "cannot write"
 printed_fault (Load fault) = loadfed.printed_fault fault
 printed_fault (Schedule fault) = script.printed_fault fault
 printed_fault (Turns memory) = reactor.printed_memory
-printed_fault (World memory) = decimal out_of_memory ++ codes " Memory"
+printed_fault (World memory) = told_out_of_memory
 printed_fault (Print memory) = printed.printed_memory
 
 -- the line on standard error
