@@ -1,0 +1,68 @@
+-- What a search for the journals of a claim says of it.
+use Rattle.std.proofs.Common.{◌≡◌, ◌∙◌, ℕ, ◌<◌, List, [], sym, ap, subst}
+use Rattle.plan.specs.External.{AreInputsOf}
+use Rattle.plan.specs.Federation.{federate_count}
+use Rattle.plan.specs.Legal.{IsLegal}
+use Rattle.reactor.specs.Programs.{AreProgramsOf}
+use Rattle.node.specs.declared.event.Event.{Event}
+use Rattle.schedule.specs.declared.step.Step.{Step}
+use Rattle.search.specs.Motion.{after_all}
+use Rattle.search.specs.Journals.{IsFound}
+use Rattle.search.specs.declared.found.Found.{Found}
+use Rattle.search.specs.declared.found.Found.TheVariants.{All as Whole, Stuck}
+use Rattle.world.specs.World.{WorldView}
+use Rattle.recorder.specs.declared.report.Report.{Report}
+use Rattle.recorder.specs.Reports.{AreComplete, all_journals}
+use Rattle.recorder.specs.Placing.{world_motion}
+use Rattle.recorder.specs.Audited.{Claim, world_of, claim_of, AgreesWith, HasReportedRows, HasSearched, IsFirstApart, IsMismatch, IsProvedBy}
+use Rattle.recorder.proofs.Proved.{after_world, proved}
+
+-- what was searched for is this claim
+pub found_so : (c : Claim) (opening : WorldView) (journals : List (List Event)) (w : WorldView) (found : Found) →
+    opening ≡ world_of c [] → journals ≡ all_journals (federate_count c.draft) c.reports c.coordinator →
+    IsFound world_motion opening journals w found → HasSearched c w found
+found_so c opening journals w found opened are searched =
+    let here : IsFound world_motion (world_of c []) journals w found = subst (λ o. IsFound world_motion o journals w found) opened searched in
+    subst (λ js. IsFound world_motion (world_of c []) js w found) are here
+
+-- the world that is left is of the claim's federation
+pub same_claim : (c : Claim) (w : WorldView) (found : Found) → HasSearched c w found → claim_of w c.reports c.coordinator ≡ c
+same_claim c w (Whole steps) searched = ap (λ v. claim_of v c.reports c.coordinator) (searched.1 ∙ after_world (world_of c []) steps.items)
+same_claim c w (Stuck node event) searched = ap (λ v. claim_of v c.reports c.coordinator) (searched.2 ∙ after_world (world_of c []) searched.0)
+
+-- so its plan is legal, and its programs and inputs are the plan's
+pub fits : (c : Claim) (w : WorldView) (found : Found) → HasSearched c w found → IsLegal c.draft → AreProgramsOf c.draft c.programs → AreInputsOf c.draft c.inputs →
+    IsLegal w.draft × AreProgramsOf w.draft w.programs × AreInputsOf w.draft w.inputs
+fits c w found searched legal are given =
+    let P : Claim → Type 0 = λ d. IsLegal d.draft × AreProgramsOf d.draft d.programs × AreInputsOf d.draft d.inputs in
+    subst P (sym (same_claim c w found searched)) (legal, are, given)
+
+pub complete_there : (c : Claim) (w : WorldView) (found : Found) → HasSearched c w found → AreComplete (federate_count c.draft) c.reports →
+    AreComplete (federate_count w.draft) c.reports
+complete_there c w found searched complete =
+    let P : Claim → Type 0 = λ d. AreComplete (federate_count d.draft) d.reports in
+    subst P (sym (same_claim c w found searched)) complete
+
+-- and the search is one for what is claimed of that world's federation
+pub searched_there : (c : Claim) (w : WorldView) (found : Found) → HasSearched c w found → HasSearched (claim_of w c.reports c.coordinator) w found
+searched_there c w found searched = subst (λ (d : Claim). HasSearched d w found) (sym (same_claim c w found searched)) searched
+
+module _ (w : WorldView) (reports : List Report) (coordinator : List Event) where
+  found_world : (steps : List Step) → w ≡ after_all world_motion (world_of (claim_of w reports coordinator) []) steps → w ≡ world_of (claim_of w reports coordinator) steps
+  found_world steps is = is ∙ after_world (world_of (claim_of w reports coordinator) []) steps
+
+  -- these steps agree with the journals, and this is the first place at which rows differ
+  pub apart_so : (steps : List Step) (j row : ℕ) → AgreesWith (claim_of w reports coordinator) steps →
+      w ≡ after_all world_motion (world_of (claim_of w reports coordinator) []) steps → IsFirstApart w reports j row → IsMismatch (claim_of w reports coordinator) steps j row
+  apart_so steps j row agrees is apart = record {
+    agrees = agrees;
+    apart = subst (λ v. IsFirstApart v reports j row) (found_world steps is) apart;
+  }
+
+  -- or no rows differ
+  pub proved_so : (steps : List Step) → IsLegal w.draft → AreProgramsOf w.draft w.programs → AreInputsOf w.draft w.inputs → AreComplete (federate_count w.draft) reports →
+      AgreesWith (claim_of w reports coordinator) steps → w ≡ after_all world_motion (world_of (claim_of w reports coordinator) []) steps →
+      ((j : ℕ) → j < federate_count w.draft → HasReportedRows w reports j) → IsProvedBy (claim_of w reports coordinator) steps
+  proved_so steps legal are given complete agrees is rows =
+      proved (claim_of w reports coordinator) legal are given steps complete agrees
+      (λ j below. subst (λ v. HasReportedRows v reports j) (found_world steps is) (rows j below))

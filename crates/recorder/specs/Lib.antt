@@ -1,0 +1,10 @@
+-- Reports of federates: how many there are of each, and what each of them says.
+pub mod Reports
+-- The first place at which two lists of rows differ.
+pub mod Difference
+-- The numbers by which refusals are told.
+pub mod Numbers
+-- The machine of an audit, and which step an event can be.
+pub mod Placing
+-- What an audit answers.
+pub mod Audited

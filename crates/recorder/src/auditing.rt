@@ -1,0 +1,117 @@
+ghost use Rattle.std.specs.Prelude.{◌≡◌, ℕ, ◌<◌, ◌≤◌, List, length, IfOk, IfErr, MatchOption};
+ghost use Rattle.plan.specs.External.{AreInputsOf};
+ghost use Rattle.plan.specs.Federation.{federate_count};
+ghost use Rattle.plan.specs.Legal.{IsLegal};
+ghost use Rattle.reactor.specs.Programs.{AreProgramsOf};
+ghost use Rattle.schedule.specs.Federation.{rows_in};
+ghost use Rattle.world.specs.World.{stations_of};
+ghost use Rattle.recorder.specs.Reports.{how_many, reported_rows, AreComplete};
+ghost use Rattle.recorder.specs.Difference.{DifferAt};
+ghost use Rattle.recorder.specs.Audited.{HasReportedRows, IsFirstApart, IsProvedBy, IsUnproved, HasSearched, claim_of};
+ghost use Rattle.node.specs.declared.event.Event.{Event};
+
+use crate::auditor::Auditor;
+use crate::complete::{refuse_incomplete, report_of};
+use crate::difference::first_difference;
+use crate::journals::all_journals;
+use crate::report::Report;
+use crate::unproved::Unproved;
+use node::Event;
+use plan::{Inputs, Plan};
+use reactor::Programs;
+use schedule::Step;
+use search::{Found, search};
+use std::alloc::Global;
+use world::World;
+
+/// Makes a world anew from what each node wrote down, and compares its rows with those of the reports. An Ok is the list of its
+/// steps: nobody forgets in it, each node's events are its journal, and each federate's rows are those that it reports. So they
+/// are a beginning of its part of what the undivided program computes, and all of it where the coordinator's journal gives a
+/// finished one. In a run of honest nodes it takes time in proportion to the journals.
+pub fn audit(
+    alloc: Global,
+    plan: &Plan,
+    programs: &Programs,
+    inputs: &Inputs,
+    reports: &[Report],
+    coordinator: &[Event],
+) -> Result<Vec<Step>, Unproved>
+    requires programs { AreProgramsOf plan.now programs.now }
+    requires inputs { AreInputsOf plan.now inputs.now }
+    ensures proved { IfOk result (λ steps. IsProvedBy (record { draft = plan.now; programs = programs.now; inputs = inputs.now; reports = reports.now; coordinator = coordinator.now }) steps.items) }
+    ensures unproved { IfErr result (IsUnproved (record { draft = plan.now; programs = programs.now; inputs = inputs.now; reports = reports.now; coordinator = coordinator.now })) }
+{
+    if let Err(fault) = refuse_incomplete(plan.federate_count(), reports) {
+        return Err(fault);
+    }
+    replay(alloc, plan, programs, inputs, reports, coordinator)
+}
+
+// The audit of complete reports.
+fn replay(
+    alloc: Global,
+    plan: &Plan,
+    programs: &Programs,
+    inputs: &Inputs,
+    reports: &[Report],
+    coordinator: &[Event],
+) -> Result<Vec<Step>, Unproved>
+    requires programs { AreProgramsOf plan.now programs.now }
+    requires inputs { AreInputsOf plan.now inputs.now }
+    requires complete { AreComplete (federate_count plan.now) reports.now }
+    ensures proved { IfOk result (λ steps. IsProvedBy (record { draft = plan.now; programs = programs.now; inputs = inputs.now; reports = reports.now; coordinator = coordinator.now }) steps.items) }
+    ensures unproved { IfErr result (IsUnproved (record { draft = plan.now; programs = programs.now; inputs = inputs.now; reports = reports.now; coordinator = coordinator.now })) }
+{
+    // For the prover: the plan is legal.
+    plan.known();
+    let journals = all_journals(alloc, plan.federate_count(), reports, coordinator)?;
+    let world = World::new(alloc, plan, programs, inputs)?;
+    let mut auditor = Auditor::new(alloc, world)?;
+    let found = search(alloc, &mut auditor, &journals)?;
+    judge(auditor.world(), reports, found)
+}
+
+// What is to be said of complete reports, in the world in which a search for their journals ended, whatever the coordinator's is.
+fn judge(world: &World<'_>, reports: &[Report], found: Found) -> Result<Vec<Step>, Unproved>
+    requires federation { IsLegal world.now.draft × AreProgramsOf world.now.draft world.now.programs × AreInputsOf world.now.draft world.now.inputs }
+    requires complete { AreComplete (federate_count world.now.draft) reports.now }
+    ensures proved { IfOk result (λ steps. (coordinator : List Event) → HasSearched (claim_of world.now reports.now coordinator) world.now found → IsProvedBy (claim_of world.now reports.now coordinator) steps.items) }
+    ensures unproved { IfErr result (λ fault. (coordinator : List Event) → HasSearched (claim_of world.now reports.now coordinator) world.now found → IsUnproved (claim_of world.now reports.now coordinator) fault) }
+{
+    match found {
+        Found::Stuck(node, event) => Err(Unproved::Stuck(node, event)),
+        Found::All(steps) => match first_apart(world, reports) {
+            Some((federate, row)) => Err(Unproved::Mismatch(federate, row)),
+            None => Ok(steps),
+        },
+    }
+}
+
+// The first federate whose rows aren't those that it reports, and the first place, counted from 1, at which they differ.
+fn first_apart(world: &World<'_>, reports: &[Report]) -> Option<(usize, usize)>
+    requires sized { length (stations_of world.now).federates ≡ federate_count world.now.draft }
+    requires reported { (j : ℕ) → j < federate_count world.now.draft → 1 ≤ how_many reports.now j }
+    ensures { MatchOption result ((j : ℕ) → j < federate_count world.now.draft → HasReportedRows world.now reports.now j) (λ found. IsFirstApart world.now reports.now found.0 found.1) }
+{
+    for federate in 0..world.federate_count() {
+        if let Some(row) = difference_at(world, reports, federate) {
+            return Some((federate, row));
+        }
+    }
+    None
+}
+
+// The first place, counted from 1, at which a federate's rows and those that it reports differ.
+fn difference_at(world: &World<'_>, reports: &[Report], federate: usize) -> Option<usize>
+    requires there { federate < length (stations_of world.now).federates }
+    requires reported { 1 ≤ how_many reports.now federate }
+    ensures { MatchOption result (HasReportedRows world.now reports.now federate) (DifferAt (reported_rows reports.now federate) (rows_in (stations_of world.now) federate)) }
+{
+    let Some(report) = report_of(reports, federate) else {
+        return None;
+    };
+    let Some(rows) = world.rows(federate) else {
+        return None;
+    };
+    first_difference(&report.rows, rows)
+}

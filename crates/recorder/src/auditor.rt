@@ -1,0 +1,235 @@
+ghost use Rattle.std.specs.Prelude.{◌≡◌, ◌≢◌, ◌↔◌, ℕ, ◌<◌, ◌≤◌, [], true, None, Some, length, nat_lt, IfOk, IfSome, OnOk, OnErr};
+ghost use Rattle.std.proofs.Common.{refl};
+ghost use Rattle.node.specs.declared.event.Event.TheVariants as Events;
+ghost use Rattle.schedule.specs.World.{frames_in, frame_at};
+ghost use Rattle.search.specs.Motion.{IsEvent, IsNoStep};
+ghost use Rattle.world.specs.World.{stations_of, with_step};
+ghost use Rattle.recorder.specs.Placing.{world_motion, direction_to, step_alone};
+
+use crate::cursors::Cursors;
+use node::{Event, NodeId};
+use schedule::{Dir, Step};
+use search::{Machine, Memory};
+use signal::Frame;
+use std::alloc::Global;
+use std::marker::Model;
+use world::World;
+
+/// How far from its cursor a frame is looked for by a guess.
+const REACH: usize = 64;
+
+/// The world that an audit makes, step by step. Contracts see that world.
+#[derive(Drop)]
+pub(crate) struct Auditor<'a> {
+    world: World<'a>,
+    cursors: Cursors,
+}
+
+impl<'a> Model for Auditor<'a> {
+    ghost use Rattle.world.specs.World.{WorldView};
+
+    ghost Value = { WorldView };
+
+    ghost view = { λ a. a.world };
+}
+
+impl<'a> Machine for Auditor<'a> {
+    ghost motion = { world_motion };
+
+    fn place(&mut self, node: NodeId, event: Event, exact: bool) -> Result<Option<Step>, Memory> {
+        let Some(step) = self.step_of(node, &event, exact) else {
+            return Ok(None);
+        };
+        self.make(step)?;
+        Ok(Some(step))
+    }
+
+    ghost forgetting = { λ state federate. refl };
+}
+
+impl<'a> Auditor<'a> {
+    /// Over a world.
+    pub(crate) fn new(alloc: Global, world: World<'a>) -> Result<Auditor<'a>, Memory>
+        ensures { IfOk result (λ auditor. auditor ≡ world.entry) }
+    {
+        let cursors = Cursors::new(alloc, world.federate_count())?;
+        Ok(Auditor { world, cursors })
+    }
+
+    /// That world.
+    pub(crate) fn world(&self) -> &World<'a>
+        ensures { result.now ≡ self.now }
+    {
+        &self.world
+    }
+
+    // The step that is this event at this node. With None no step is, where it looks exactly.
+    fn step_of(&self, node: NodeId, event: &Event, exact: bool) -> Option<Step>
+        ensures found { IfSome result (λ step. IsEvent world_motion self.now step node event.now) }
+        ensures none { result ≡ None → exact ≡ true → IsNoStep world_motion self.now node event.now }
+    {
+        step_of(&self.world, &self.cursors, node, event, exact)
+    }
+
+    // Makes a step, and moves the cursor past the frame that it delivers.
+    fn make(&mut self, step: Step) -> Result<(), Memory>
+        ensures made { OnOk result (self.new ≡ with_step self.old step) }
+        ensures as_before { OnErr result (self.new ≡ self.old) }
+    {
+        match self.world.apply(step) {
+            Ok(_) => {}
+            Err(_) => return Err(Memory),
+        }
+        if let Step::Deliver(dir, k) = step {
+            self.cursors.move_past(dir, k);
+        }
+        Ok(())
+    }
+}
+
+// The step that is this event at this node. With None no step is, where it looks exactly.
+fn step_of(
+    world: &World<'_>,
+    cursors: &Cursors,
+    node: NodeId,
+    event: &Event,
+    exact: bool,
+) -> Option<Step>
+    ensures found { IfSome result (λ step. IsEvent world_motion world.now step node event.now) }
+    ensures none { result ≡ None → exact ≡ true → IsNoStep world_motion world.now node event.now }
+{
+    match event {
+        Event::Frame(peer, frame) => delivery_of(world, cursors, node, *peer, frame, exact),
+        _ => step_alone(world, node, event),
+    }
+}
+
+// The step that delivers a frame to a node from a peer.
+fn delivery_of(
+    world: &World<'_>,
+    cursors: &Cursors,
+    node: NodeId,
+    peer: usize,
+    frame: &Frame,
+    exact: bool,
+) -> Option<Step>
+    ensures found { IfSome result (λ step. IsEvent world_motion world.now step node (Events.Frame peer frame.now)) }
+    ensures none { result ≡ None → exact ≡ true → IsNoStep world_motion world.now node (Events.Frame peer frame.now) }
+{
+    let Some(dir) = direction_to(node, peer) else {
+        return None;
+    };
+    let Some(k) = place_of(world, cursors.at(dir), dir, frame, exact) else {
+        return None;
+    };
+    Some(Step::Deliver(dir, k))
+}
+
+// A place at which this frame stands in a direction: near the next one, or, where it looks exactly, anywhere.
+fn place_of(world: &World<'_>, next: usize, dir: Dir, frame: &Frame, exact: bool) -> Option<usize>
+    ensures found { IfSome result (λ k. frame_at (frames_in (stations_of world.now) dir) k ≡ Some frame.now) }
+    ensures none { result ≡ None → exact ≡ true → (k : ℕ) → frame_at (frames_in (stations_of world.now) dir) k ≢ Some frame.now }
+{
+    if let Some(k) = place_among(world, dir, frame, next, ahead_of(world, dir, next)) {
+        return Some(k);
+    }
+    if let Some(k) = place_among(world, dir, frame, next.saturating_sub(REACH), next) {
+        return Some(k);
+    }
+    if exact {
+        place_anywhere(world, dir, frame)
+    } else {
+        None
+    }
+}
+
+// The direction in which frames come to a node from a peer.
+fn direction_to(node: NodeId, peer: usize) -> Option<Dir>
+    ensures { result ≡ direction_to node peer }
+{
+    match node {
+        NodeId::Coordinator => Some(Dir::Up(peer)),
+        NodeId::Federate(federate) if peer == 0 => Some(Dir::Down(federate)),
+        NodeId::Federate(_) => None,
+    }
+}
+
+// Whether two frames are the same.
+fn is_same(frame: &Frame, other: &Frame) -> bool
+    ensures { (result ≡ true) ↔ (frame.now ≡ other.now) }
+{
+    frame == other
+}
+
+// The step that is an event, where no frame comes.
+fn step_alone(world: &World<'_>, node: NodeId, event: &Event) -> Option<Step>
+    ensures { result ≡ step_alone (length (stations_of world.now).federates) node event.now }
+{
+    let (federate, step) = match (node, event) {
+        (NodeId::Coordinator, Event::Resend(peer)) => (*peer, Step::Resend(Dir::Down(*peer))),
+        (NodeId::Coordinator, Event::Hello(peer)) => (*peer, Step::Reconnect(Dir::Down(*peer))),
+        (NodeId::Federate(federate), Event::Resend(0)) => {
+            (federate, Step::Resend(Dir::Up(federate)))
+        }
+        (NodeId::Federate(federate), Event::Hello(0)) => {
+            (federate, Step::Reconnect(Dir::Up(federate)))
+        }
+        (NodeId::Federate(federate), Event::Announce) => (federate, Step::Announce(federate)),
+        (NodeId::Federate(federate), Event::Advance) => (federate, Step::Advance(federate)),
+        _ => return None,
+    };
+    if is_there(world, federate) {
+        Some(step)
+    } else {
+        None
+    }
+}
+
+// Whether there is such a federate.
+fn is_there(world: &World<'_>, federate: usize) -> bool
+    ensures { result ≡ nat_lt federate (length (stations_of world.now).federates) }
+{
+    world.rows(federate).is_some()
+}
+
+// How far ahead of its cursor a frame is looked for by a guess: not past the last one.
+fn ahead_of(world: &World<'_>, dir: Dir, next: usize) -> usize {
+    let end = world.sent(dir).saturating_add(1);
+    next.saturating_add(REACH).min(end)
+}
+
+// A place at which the frame stands, among all.
+fn place_anywhere(world: &World<'_>, dir: Dir, frame: &Frame) -> Option<usize>
+    ensures found { IfSome result (λ k. frame_at (frames_in (stations_of world.now) dir) k ≡ Some frame.now) }
+    ensures none { result ≡ None → (k : ℕ) → frame_at (frames_in (stations_of world.now) dir) k ≢ Some frame.now }
+{
+    let last = world.sent(dir);
+    if is_at(world, dir, last, frame) {
+        Some(last)
+    } else {
+        place_among(world, dir, frame, 1, last)
+    }
+}
+
+// The first of these places at which the frame stands.
+fn place_among(world: &World<'_>, dir: Dir, frame: &Frame, from: usize, to: usize) -> Option<usize>
+    ensures found { IfSome result (λ k. frame_at (frames_in (stations_of world.now) dir) k ≡ Some frame.now) }
+    ensures none { result ≡ None → (k : ℕ) → from ≤ k → k < to → frame_at (frames_in (stations_of world.now) dir) k ≢ Some frame.now }
+{
+    for k in from..to {
+        if is_at(world, dir, k, frame) {
+            return Some(k);
+        }
+    }
+    None
+}
+
+// Whether the frame stands at this place.
+fn is_at(world: &World<'_>, dir: Dir, k: usize, frame: &Frame) -> bool
+    ensures { (result ≡ true) ↔ (frame_at (frames_in (stations_of world.now) dir) k ≡ Some frame.now) }
+{
+    match world.frame(dir, k) {
+        Some(sent) => is_same(&sent, frame),
+        None => false,
+    }
+}

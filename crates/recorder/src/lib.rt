@@ -1,0 +1,30 @@
+//! What federates report after a run, and the audit that believes it.
+//!
+//! Promise to the layer above: an Ok of `audit` is a list of steps of the federation's world, in which nobody forgets, each node's
+//! events are its journal, and each federate's rows are those that it reports (`specs/Audited`).
+//!
+//!     Report --> Collector::add          a federate's report, once
+//!     reports --> audit --> complete     one of each federate?
+//!                   |
+//!                   +-----> search       over an `Auditor`: a world that makes the steps
+//!                   +-----> compare      each federate's rows there with those that it reports
+//!
+//! Begin with `report`, then `audit`.
+#![tactic(auto)]
+
+pub mod auditing;
+mod auditor;
+pub mod collector;
+mod complete;
+mod cursors;
+mod difference;
+mod journals;
+pub mod report;
+pub mod report_fault;
+pub mod unproved;
+
+pub use auditing::audit;
+pub use collector::Collector;
+pub use report::Report;
+pub use report_fault::{Refused, ReportFault};
+pub use unproved::Unproved;
