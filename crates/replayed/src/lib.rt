@@ -3,8 +3,6 @@
 #![tactic(auto)]
 
 #[cfg(test)]
-mod federations;
-#[cfg(test)]
 mod lists;
 #[cfg(test)]
 mod played;

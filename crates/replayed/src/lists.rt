@@ -4,12 +4,10 @@ ghost use Rattle.std.specs.Prelude.{◌<◌, length};
 ghost use Rattle.plan.specs.External.{AreInputsOf};
 ghost use Rattle.reactor.specs.Programs.{AreProgramsOf};
 
-use crate::federations::{
-    ACTION, CHAIN, CHAIN_INPUT, COUNTER, DELAYED_COUNTER, LOOP, STARTED_COUNTER,
-};
 use loadfed::{load, load_inputs};
 use plan::{Inputs, Plan};
 use reactor::{Programs, RowView, Rows};
+use samples::{CHAIN, CHAIN_INPUT, COUNTER, DELAYED_COUNTER, LOOP, REPLACED, STARTED_COUNTER};
 use schedule::{Dir, Outcome, Step};
 use std::alloc::Global;
 use whole::Whole;
@@ -193,7 +191,7 @@ fn holds_of_a_delayed_counter(rt: HostRuntime) {
 
 #[test]
 fn holds_of_an_action(rt: HostRuntime) {
-    assert!(rt; holds(rt.alloc(), ACTION, "") == Some(true));
+    assert!(rt; holds(rt.alloc(), REPLACED, "") == Some(true));
 }
 
 #[test]

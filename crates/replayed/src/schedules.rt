@@ -1,6 +1,23 @@
 //! What schedules print over the worked federations.
-use crate::federations::{CHAIN, CHAIN_INPUT, COUNTER, IDLE, TICKS};
 use crate::played::Case;
+use samples::{CHAIN, CHAIN_INPUT, COUNTER};
+
+/// A timer of one nanosecond.
+const TICKS: &str = r#"stop = "1 s"
+[[federate]]
+name = "one"
+outputs = ["y"]
+timers = [{ name = "t", offset = "0", period = "1 ns" }]
+state = [{ name = "n", value = 0 }]
+[[federate.reaction]]
+triggers = ["t"]
+body = ["n = n + 1", "out.y = n"]
+"#;
+
+/// Two federates with nothing to do.
+const IDLE: &str = r#"stop = "20 ms"
+federate = [{ name = "a" }, { name = "b" }]
+"#;
 
 const CASES: &[Case<'static>] = &[
     // A replay by rounds alone.

@@ -2,11 +2,11 @@
 ghost use Rattle.plan.specs.External.{AreInputsOf};
 ghost use Rattle.reactor.specs.Programs.{AreProgramsOf};
 
-use crate::federations::COUNTER;
 use loadfed::{load, load_inputs};
 use plan::{Inputs, Plan};
 use reactor::Programs;
 use replay::{ReplayFault, replay};
+use samples::COUNTER;
 use script::{Script, read_script};
 use std::alloc::Global;
 use std::io;

@@ -1,9 +1,10 @@
 //! Connections that break in the midst of a run: the federates connect again, and the rows are the same.
 ghost use Rattle.std.specs.Prelude.{◌≡◌};
 
-use crate::federations::{SUMS, loaded, undivided};
+use crate::federations::{loaded, undivided};
 use crate::memory_lines::{Wrap, ran_in_memory};
 use crate::running::has_rows;
+use samples::COUNTER;
 use std::alloc::Global;
 use std::sync::Wait;
 use std::sync::atomic::{AtomicU64, Ordering};
@@ -85,7 +86,7 @@ impl<'a> Wrap<Breaking<'a>> for Breaks<'a> {
 
 /// Whether a run has its rows, though all calls that may fail did.
 fn mends<R: Threads + Wait + Clock + Sync>(rt: &R, alloc: Global) -> Option<bool> {
-    let federation = loaded(alloc, SUMS)?;
+    let federation = loaded(alloc, COUNTER, "")?;
     let whole = undivided(alloc, &federation)?;
     let calls = Calls {
         count: AtomicU64::new(0),

@@ -4,194 +4,19 @@ ghost use Rattle.std.specs.Prelude.{IfSome};
 use loadfed::{load, load_inputs};
 use plan::{Inputs, Plan};
 use reactor::{Programs, RowView, Rows};
+use samples::{CHAIN, CHAIN_INPUT, COUNTER, DELAYED_COUNTER, LOOP, REPLACED, STARTED_COUNTER};
 use std::alloc::Global;
 use std::marker::Model;
 use whole::Whole;
 
-/// A federation's file in parts, and its input file.
-#[derive(Clone, Copy)]
-pub(crate) struct Files<'a> {
-    pub federation: &'a [&'a str],
-    pub inputs: &'a str,
-}
-
-const SRC: &str = r#"
-stop = "20 ms"
-[[federate]]
-name = "src"
-outputs = ["y"]
-timers = [{ name = "t", offset = "0", period = "10 ms" }]
-state = [{ name = "n", value = 0 }]
-[[federate.reaction]]
-triggers = ["t"]
-body = ["n = n + 1", "out.y = n"]
-"#;
-
-const SNK: &str = r#"
-[[federate]]
-name = "snk"
-inputs = ["x"]
-outputs = ["total"]
-state = [{ name = "s", value = 0 }]
-[[federate.reaction]]
-triggers = ["x"]
-body = ["s = s + in.x", "out.total = s"]
-"#;
-
-const SNK_AT_STARTUP: &str = r#"
-[[federate]]
-name = "snk"
-inputs = ["x"]
-outputs = ["total"]
-state = [{ name = "s", value = 0 }]
-[[federate.reaction]]
-triggers = ["startup", "x"]
-body = ["s = s + in.x", "out.total = s"]
-"#;
-
-const CONNECTION: &str = r#"
-[[connection]]
-from = "src.y"
-to = "snk.x"
-"#;
-
-const DELAYED: &str = r#"
-stop = "20 ms"
-[[federate]]
-name = "src"
-outputs = ["y"]
-actions = ["a"]
-[[federate.reaction]]
-triggers = ["startup"]
-body = ["out.y = 1", "schedule a 0 2"]
-[[federate.reaction]]
-triggers = ["a"]
-body = ["out.y = in.a"]
-[[federate]]
-name = "snk"
-inputs = ["x"]
-outputs = ["v"]
-[[federate.reaction]]
-triggers = ["x"]
-body = ["out.v = in.x"]
-[[connection]]
-from = "src.y"
-to = "snk.x"
-after = "10 ms"
-"#;
-
-const LOOP: &str = r#"
-stop = "12 ms"
-[[federate]]
-name = "loop"
-inputs = ["x"]
-outputs = ["y"]
-state = [{ name = "n", value = 0 }]
-[[federate.reaction]]
-triggers = ["startup"]
-body = ["n = 1", "out.y = n"]
-[[federate.reaction]]
-triggers = ["x"]
-body = ["n = in.x + 1", "out.y = n"]
-[[connection]]
-from = "loop.y"
-to = "loop.x"
-after = "5 ms"
-"#;
-
-const CHAIN: &str = r#"
-stop = "100 ms"
-[[federate]]
-name = "a"
-outputs = ["y"]
-timers = [{ name = "t", offset = "10 ms", period = "0" }]
-[[federate.reaction]]
-triggers = ["t"]
-body = ["out.y = 1"]
-[[federate]]
-name = "b"
-inputs = ["x"]
-outputs = ["z"]
-actions = ["act"]
-physical = ["p"]
-[[federate.reaction]]
-triggers = ["x"]
-body = ["schedule act 5 ms 7"]
-[[federate.reaction]]
-triggers = ["act"]
-body = ["out.z = in.act"]
-[[federate.reaction]]
-triggers = ["p"]
-body = ["out.z = in.p"]
-[[federate]]
-name = "c"
-inputs = ["w"]
-outputs = ["o"]
-timers = [{ name = "t", offset = "50 ms", period = "0" }]
-[[federate.reaction]]
-triggers = ["w"]
-body = ["out.o = in.w"]
-[[federate.reaction]]
-triggers = ["t"]
-body = ["out.o = -1"]
-[[connection]]
-from = "a.y"
-to = "b.x"
-[[connection]]
-from = "b.z"
-to = "c.w"
-"#;
-
-const CHAIN_INPUTS: &str = r#"
-[[input]]
-federate = "b"
-action = "p"
-time = "100 ms"
-value = 9
-"#;
-
-/// A counter `src`, and `snk`, the sum of its counts: six rows.
-pub(crate) const SUMS: Files<'_> = Files {
-    federation: &[SRC, SNK, CONNECTION],
-    inputs: "",
-};
-
-/// Two federates without a connection, three rows and none.
-pub(crate) const APART: Files<'_> = Files {
-    federation: &[
-        SRC,
-        r#"
-[[federate]]
-name = "other"
-timers = [{ name = "t", offset = "0", period = "10 ms" }]
-"#,
-    ],
-    inputs: "",
-};
-
-/// Each is run.
-pub(crate) const ALL: &[Files<'_>] = &[
-    SUMS,
-    Files {
-        federation: &[SRC, SNK, CONNECTION, "after = \"0\"\n"],
-        inputs: "",
-    },
-    Files {
-        federation: &[DELAYED],
-        inputs: "",
-    },
-    Files {
-        federation: &[LOOP],
-        inputs: "",
-    },
-    Files {
-        federation: &[CHAIN],
-        inputs: CHAIN_INPUTS,
-    },
-    Files {
-        federation: &[SRC, SNK_AT_STARTUP, CONNECTION],
-        inputs: "",
-    },
+/// The federations that are run, each with its input file.
+pub(crate) const ALL: &[(&str, &str)] = &[
+    (COUNTER, ""),
+    (DELAYED_COUNTER, ""),
+    (REPLACED, ""),
+    (LOOP, ""),
+    (CHAIN, CHAIN_INPUT),
+    (STARTED_COUNTER, ""),
 ];
 
 /// A plan, its programs and its recorded inputs.
@@ -214,14 +39,10 @@ impl Model for Federation {
     ghost invariant = { λ f. AreProgramsOf f.plan f.programs × AreInputsOf f.plan f.inputs };
 }
 
-/// None where it can't be loaded.
-pub(crate) fn loaded(alloc: Global, files: Files<'_>) -> Option<Federation> {
-    let mut text = String::new(alloc);
-    for part in files.federation {
-        text.push_str(part).ok()?;
-    }
-    let (plan, programs) = load(alloc, text.as_bytes()).ok()?;
-    let inputs = load_inputs(alloc, files.inputs.as_bytes(), &plan).ok()?;
+/// The federation of a file and its input file; None where it can't be loaded.
+pub(crate) fn loaded(alloc: Global, federation: &str, inputs: &str) -> Option<Federation> {
+    let (plan, programs) = load(alloc, federation.as_bytes()).ok()?;
+    let inputs = load_inputs(alloc, inputs.as_bytes(), &plan).ok()?;
     Some(Federation {
         plan,
         programs,

@@ -1,8 +1,9 @@
 //! Two federates that have nothing to do with each other run at the same time.
-use crate::federations::{APART, loaded};
+use crate::federations::loaded;
 use crate::memory_lines::{Plain, ran_in_memory};
 use crate::running::is_finished;
 use node::NodeId;
+use samples::APART;
 use std::alloc::Global;
 use std::sync::Wait;
 use std::sync::atomic::{AtomicBool, Ordering};
@@ -53,7 +54,7 @@ impl Gate for Meeting {
 
 /// Whether both pass, and the run finishes.
 fn meets<R: Threads + Wait + Clock + Sync>(rt: &R, alloc: Global) -> Option<bool> {
-    let federation = loaded(alloc, APART)?;
+    let federation = loaded(alloc, APART, "")?;
     let meeting = Meeting::new();
     let gathered = ran_in_memory(rt, alloc, &federation, &meeting, Plain)?;
     Some(is_finished(&gathered) && !meeting.has_waited_in_vain.load(Ordering::SeqCst))

@@ -1,10 +1,11 @@
 //! Federations in threads over TCP.
-use crate::federations::{ALL, Federation, Files, SUMS, are_rows_of, loaded, undivided};
+use crate::federations::{ALL, Federation, are_rows_of, loaded, undivided};
 use coordinator::Coordinator;
 use desks::{coordinator_desk, federate_desks};
 use federate::Federate;
 use node::Node;
 use reactor::Rows;
+use samples::COUNTER;
 use std::alloc::Global;
 use std::net::{Net, TcpListener, TcpStream};
 use std::sync::Wait;
@@ -50,9 +51,10 @@ pub(crate) fn has_rows(gathered: &Gathered<Coordinator<'_>, Federate<'_>>, all: 
 fn runs<R: Threads + Wait + Clock + Net<Stream = TcpStream, Listener = TcpListener> + Sync>(
     rt: &R,
     alloc: Global,
-    files: Files<'_>,
+    federation: &str,
+    inputs: &str,
 ) -> Option<bool> {
-    let federation = loaded(alloc, files)?;
+    let federation = loaded(alloc, federation, inputs)?;
     let whole = undivided(alloc, &federation)?;
     let gathered = ran(rt, alloc, &federation, 100_000)?;
     Some(has_rows(&gathered, whole.rows()))
@@ -60,9 +62,9 @@ fn runs<R: Threads + Wait + Clock + Net<Stream = TcpStream, Listener = TcpListen
 
 #[test]
 fn each_has_its_rows(rt: HostRuntime) -> Result<(), Fail> {
-    for files in ALL {
+    for (federation, inputs) in ALL {
         for _ in 0..5 {
-            assert!(rt; runs(&rt, rt.alloc(), *files) == Some(true));
+            assert!(rt; runs(&rt, rt.alloc(), federation, inputs) == Some(true));
         }
     }
     Ok(())
@@ -72,7 +74,7 @@ fn each_has_its_rows(rt: HostRuntime) -> Result<(), Fail> {
 fn ends_unfinished<
     R: Threads + Wait + Clock + Net<Stream = TcpStream, Listener = TcpListener> + Sync,
 >(rt: &R, alloc: Global, turns: u32) -> Option<bool> {
-    let federation = loaded(alloc, SUMS)?;
+    let federation = loaded(alloc, COUNTER, "")?;
     let gathered = ran(rt, alloc, &federation, turns)?;
     Some(!is_finished(&gathered))
 }
