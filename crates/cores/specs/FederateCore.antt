@@ -10,7 +10,7 @@ use Rattle.protocol.specs.Alone.{is_sent_after}
 use Rattle.node.specs.Core.{Core, Made}
 use Rattle.plan.specs.declared.draft.Draft.{Draft}
 use Rattle.plan.specs.declared.input.Input.{Input}
-use Rattle.reactor.specs.Behaviour.{Behaviour}
+use Rattle.program.specs.Behaviour.{Behaviour}
 use Rattle.reactor.specs.Federation.{network_of}
 
 -- what it was made from, with its number, and where it stands

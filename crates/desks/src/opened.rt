@@ -2,7 +2,7 @@ ghost use Rattle.std.specs.Prelude.{◌≡◌, ◌<◌, [], map, length, vec_len
 ghost use Rattle.node.specs.Step.{fresh};
 ghost use Rattle.plan.specs.Federation.{federate_count};
 ghost use Rattle.plan.specs.External.{AreInputsOf};
-ghost use Rattle.reactor.specs.Programs.{AreProgramsOf};
+ghost use Rattle.program.specs.Programs.{AreProgramsOf};
 
 use coordinator::Coordinator;
 use desk::{Desk, Memory};

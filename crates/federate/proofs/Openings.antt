@@ -16,7 +16,7 @@ use Rattle.plan.specs.Numbering.{startup_slot, first_timer}
 use Rattle.plan.specs.Federation.{stop_of}
 use Rattle.plan.specs.External.{startup_of, firings_from, firing_times, own_events, own_events_in, input_events_to, external_of}
 use Rattle.plan.proofs.Outside.{external_parts}
-use Rattle.reactor.specs.Behaviour.{Behaviour}
+use Rattle.program.specs.Behaviour.{Behaviour}
 use Rattle.reactor.specs.Effect.{opening_states}
 use Rattle.reactor.specs.Federation.{network_of, opening_by}
 use Rattle.reactor.specs.Turn.{Reactor}

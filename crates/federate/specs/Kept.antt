@@ -9,9 +9,9 @@ use Rattle.plan.specs.declared.input.Input.{Input}
 use Rattle.plan.specs.External.{AreInputsOf}
 use Rattle.plan.specs.Federation.{federate_count, connections_of, stop_of}
 use Rattle.plan.specs.Legal.{IsLegal}
-use Rattle.reactor.specs.Behaviour.{Behaviour}
+use Rattle.program.specs.Behaviour.{Behaviour}
 use Rattle.reactor.specs.Federation.{network_of}
-use Rattle.reactor.specs.Programs.{AreProgramsOf}
+use Rattle.program.specs.Programs.{AreProgramsOf}
 use Rattle.reactor.specs.Turn.{Reactor}
 use Rattle.agenda.specs.Agenda.{Agenda}
 use Rattle.cores.specs.FederateCore.{FederateNode, network_at}

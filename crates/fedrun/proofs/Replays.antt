@@ -4,7 +4,7 @@ use Rattle.std.specs.Io.KnownBytes.{Keeps}
 use Rattle.std.proofs.KnownBytes.{Appends-kept}
 use Rattle.plan.specs.declared.draft.Draft.{Draft}
 use Rattle.plan.specs.declared.input.Input.{Input}
-use Rattle.reactor.specs.Behaviour.{Behaviour}
+use Rattle.program.specs.Behaviour.{Behaviour}
 use Rattle.stage.specs.declared.memory.Memory.{Memory}
 use Rattle.world.specs.World.{WorldView}
 use Rattle.replay.specs.Replayed.{IsEnded, IsReplayed, IsBrokenOff}

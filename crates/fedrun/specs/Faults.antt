@@ -2,7 +2,7 @@
 use Rattle.std.specs.Prelude.{ℕ, List, ◌++◌, codes}
 use Rattle.loadfed.specs.Numbers as loadfed
 use Rattle.script.specs.Faults as script
-use Rattle.reactor.specs.Fault as reactor
+use Rattle.program.specs.Fault as program
 use Rattle.stage.specs.Numbers.{told_out_of_memory}
 use Rattle.printed.specs.Fault as printed
 use Rattle.fedrun.specs.declared.fault.Fault.{Fault}
@@ -24,7 +24,7 @@ printed_fault (CannotRead name) = codes "cannot read " ++ name.now
 printed_fault CannotWrite = codes "cannot write"
 printed_fault (Load fault) = loadfed.printed_fault fault
 printed_fault (Schedule fault) = script.printed_fault fault
-printed_fault (Turns memory) = reactor.printed_memory
+printed_fault (Turns memory) = program.printed_memory
 printed_fault (World memory) = told_out_of_memory
 printed_fault (Print memory) = printed.printed_memory
 

@@ -5,8 +5,8 @@ use Rattle.files.specs.Contents.{Contents, AreBytesOf}
 use Rattle.plan.specs.declared.draft.Draft.{Draft}
 use Rattle.plan.specs.declared.input.Input.{Input}
 use Rattle.plan.specs.External.{AreInputsOf}
-use Rattle.reactor.specs.Behaviour.{Behaviour}
-use Rattle.reactor.specs.Programs.{AreProgramsOf}
+use Rattle.program.specs.Behaviour.{Behaviour}
+use Rattle.program.specs.Programs.{AreProgramsOf}
 use Rattle.loadfed.specs.Loaded.{IsFederationFile}
 use Rattle.loadfed.specs.InputShape.{SaysInputFile}
 

@@ -5,7 +5,7 @@ use Rattle.std.specs.Borrow.{Bor}
 use Rattle.std.specs.Io.KnownBytes.{Appends}
 use Rattle.plan.specs.declared.draft.Draft.{Draft}
 use Rattle.plan.specs.declared.input.Input.{Input}
-use Rattle.reactor.specs.Behaviour.{Behaviour}
+use Rattle.program.specs.Behaviour.{Behaviour}
 use Rattle.reactor.specs.declared.memory.Memory as turns
 use Rattle.printed.specs.declared.memory.Memory as text
 use Rattle.loadfed.specs.declared.fault.LoadFault.{LoadFault}

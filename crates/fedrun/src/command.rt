@@ -2,7 +2,7 @@ ghost use Rattle.std.specs.Prelude.{◌≡◌, ◌≢◌, ◌<◌, ◌≤◌, �
 ghost use Rattle.std.specs.Io.KnownBytes.{Appends, Keeps};
 ghost use Rattle.printed.specs.PlanText.{printed_plan};
 ghost use Rattle.plan.specs.External.{AreInputsOf};
-ghost use Rattle.reactor.specs.Programs.{AreProgramsOf};
+ghost use Rattle.program.specs.Programs.{AreProgramsOf};
 ghost use Rattle.undivided.specs.Printed.{PrintsRows};
 ghost use Rattle.replay.specs.Replayed.{IsReplayed};
 ghost use Rattle.files.specs.Contents.{AreBytesOf};

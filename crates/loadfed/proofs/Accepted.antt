@@ -6,9 +6,9 @@ use Rattle.toml.specs.Parse.{parse_document}
 use Rattle.plan.specs.declared.draft.Federate.{Federate}
 use Rattle.plan.specs.declared.draft.Draft.{Draft}
 use Rattle.plan.specs.Legal.{IsLegal}
-use Rattle.reactor.specs.Behaviour.{Behaviour}
-use Rattle.reactor.specs.Spelled.{SpellsProgram}
-use Rattle.reactor.proofs.OneReading.{one_program}
+use Rattle.program.specs.Behaviour.{Behaviour}
+use Rattle.program.specs.Spelled.{SpellsProgram}
+use Rattle.program.proofs.OneReading.{one_program}
 use Rattle.loadfed.specs.declared.fault.LoadFault.{LoadFault}
 use Rattle.loadfed.specs.declared.fault.LoadFault.TheVariants.{Memory}
 use Rattle.loadfed.specs.Shape.{ProgramDraft, SaysFederation}

@@ -7,7 +7,7 @@ use Rattle.std.specs.Map.{keys_of}
 use Rattle.std.specs.Map.Iter.{deref}
 use Rattle.tag.specs.Duration.{Spells}
 use Rattle.tag.specs.declared.duration.DurationFault.{DurationFault}
-use Rattle.reactor.specs.Tokens.{is_name}
+use Rattle.program.specs.Tokens.{is_name}
 use Rattle.toml.specs.Data.{Data, string, table, Members, get_member}
 use Rattle.toml.specs.View.{view, members_view}
 use Rattle.toml.specs.declared.value.Value.{Value}

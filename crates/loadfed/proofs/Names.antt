@@ -7,8 +7,8 @@ use Rattle.plan.specs.declared.slots.Slots.{Slots}
 use Rattle.plan.specs.declared.slots.Timer.{Timer}
 use Rattle.plan.specs.declared.draft.Federate.{Federate}
 use Rattle.plan.specs.Numbering.{timer_names, all_names}
-use Rattle.reactor.specs.declared.reaction_draft.ReactionDraft.{ReactionDraft}
-use Rattle.reactor.specs.Tokens.{is_name}
+use Rattle.program.specs.declared.reaction_draft.ReactionDraft.{ReactionDraft}
+use Rattle.program.specs.Tokens.{is_name}
 use Rattle.toml.specs.Data.{Members}
 use Rattle.loadfed.specs.Tables.{SaysEach}
 use Rattle.loadfed.specs.Shape.{SaysTimer, SaysState, SaysReaction, ProgramDraft, SaysProgram, SaysSlots, SaysFederate, SaysFederates}

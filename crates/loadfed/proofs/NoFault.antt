@@ -8,8 +8,8 @@ use Rattle.plan.specs.declared.slots.Timer.{Timer}
 use Rattle.plan.specs.declared.draft.Federate.{Federate}
 use Rattle.plan.specs.declared.draft.ConnectionDraft.{ConnectionDraft}
 use Rattle.plan.specs.declared.draft.Draft.{Draft}
-use Rattle.reactor.specs.declared.program.State.{State}
-use Rattle.reactor.specs.declared.reaction_draft.ReactionDraft.{ReactionDraft}
+use Rattle.program.specs.declared.program.State.{State}
+use Rattle.program.specs.declared.reaction_draft.ReactionDraft.{ReactionDraft}
 use Rattle.toml.specs.Data.{Data, string, table, Members}
 use Rattle.loadfed.specs.declared.fault.LoadFault.{LoadFault}
 use Rattle.loadfed.specs.Tables.{keys_in, is_among, HasOnly, SaysArray, SaysTables, SaysEach}

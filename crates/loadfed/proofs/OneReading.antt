@@ -10,8 +10,8 @@ use Rattle.plan.specs.declared.draft.Federate.{Federate}
 use Rattle.plan.specs.declared.draft.PortName.{PortName}
 use Rattle.plan.specs.declared.draft.ConnectionDraft.{ConnectionDraft}
 use Rattle.plan.specs.declared.draft.Draft.{Draft}
-use Rattle.reactor.specs.declared.program.State.{State}
-use Rattle.reactor.specs.declared.reaction_draft.ReactionDraft.{ReactionDraft}
+use Rattle.program.specs.declared.program.State.{State}
+use Rattle.program.specs.declared.reaction_draft.ReactionDraft.{ReactionDraft}
 use Rattle.toml.specs.Data.{Data, string, integer, array, table, Members, get_member}
 use Rattle.toml.specs.View.{items_of}
 use Rattle.loadfed.specs.Tables.{IsWithout, SaysText, SaysNumber, SaysDuration, MaySay, SaysDurationOrZero, SaysMicrostep, SaysArray, SaysTexts, SaysTables, SaysEach}

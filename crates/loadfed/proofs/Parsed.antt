@@ -8,9 +8,9 @@ use Rattle.plan.specs.declared.draft.Draft.{Draft}
 use Rattle.plan.specs.Legal.{IsLegal, IsWithinLimits}
 use Rattle.plan.specs.Naming.{AreDistinct}
 use Rattle.plan.specs.Numbering.{all_names}
-use Rattle.reactor.specs.Behaviour.{Behaviour}
-use Rattle.reactor.specs.Programs.{HaveSlotsOf}
-use Rattle.reactor.specs.Spelled.{SpellsProgram, IsReadable}
+use Rattle.program.specs.Behaviour.{Behaviour}
+use Rattle.program.specs.Programs.{HaveSlotsOf}
+use Rattle.program.specs.Spelled.{SpellsProgram, IsReadable}
 use Rattle.loadfed.specs.Shape.{ProgramDraft}
 use Rattle.loadfed.specs.Ready.{IsReady, AreReady}
 use Rattle.loadfed.specs.Loaded.{SpellPrograms}

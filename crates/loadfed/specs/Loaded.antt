@@ -8,10 +8,10 @@ use Rattle.plan.specs.declared.fault.PlanFault.{PlanFault}
 use Rattle.plan.specs.declared.fault.PlanFault.TheVariants as plan_fault
 use Rattle.plan.specs.Legal.{IsLegal}
 use Rattle.plan.specs.Faults.{StandsIn}
-use Rattle.reactor.specs.declared.fault.ProgramFault.{ProgramFault}
-use Rattle.reactor.specs.declared.fault.ProgramFault.TheVariants as program_fault
-use Rattle.reactor.specs.Behaviour.{Behaviour}
-use Rattle.reactor.specs.Spelled.{SpellsProgram, IsFaultOf}
+use Rattle.program.specs.declared.fault.ProgramFault.{ProgramFault}
+use Rattle.program.specs.declared.fault.ProgramFault.TheVariants as program_fault
+use Rattle.program.specs.Behaviour.{Behaviour}
+use Rattle.program.specs.Spelled.{SpellsProgram, IsFaultOf}
 use Rattle.loadfed.specs.declared.fault.LoadFault.{LoadFault}
 use Rattle.loadfed.specs.declared.fault.LoadFault.TheVariants.{NotToml, Plan, Program, OverLimit}
 use Rattle.loadfed.specs.Shape.{ProgramDraft, SaysFederation}

@@ -7,7 +7,7 @@ use Rattle.plan.specs.declared.fault.InputFault.{InputFault}
 use Rattle.plan.specs.declared.fault.InputFault.TheVariants as input_fault
 use Rattle.plan.specs.Faults as plan_faults
 use Rattle.plan.specs.InputFaults.{input_number_of, printed_input_fault}
-use Rattle.reactor.specs.Fault.{printed_fault_of}
+use Rattle.program.specs.Fault.{printed_fault_of}
 use Rattle.loadfed.specs.declared.fault.LoadFault.{LoadFault}
 use Rattle.loadfed.specs.declared.fault.LoadFault.TheVariants.{NotToml, WrongShape, Plan, Program, UnknownAction, RepeatedInput, OverLimit, Memory}
 

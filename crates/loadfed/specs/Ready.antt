@@ -3,9 +3,9 @@ use Rattle.std.specs.Prelude.{◌≤◌, List, length, All, IsTrue}
 use Rattle.std.specs.List.{AllZip}
 use Rattle.plan.specs.declared.draft.Federate.{Federate}
 use Rattle.plan.specs.Numbering.{all_names}
-use Rattle.reactor.specs.Tokens.{is_name}
-use Rattle.reactor.specs.Resolution.{state_names}
-use Rattle.reactor.specs.Limits.{most_states, most_reactions, most_lines}
+use Rattle.program.specs.Tokens.{is_name}
+use Rattle.program.specs.Resolution.{state_names}
+use Rattle.program.specs.Limits.{most_states, most_reactions, most_lines}
 use Rattle.loadfed.specs.Shape.{ProgramDraft}
 
 -- a federate's slots and states have names, and its program is within the limits

@@ -8,11 +8,11 @@ use Rattle.plan.specs.declared.draft.Federate.{Federate}
 use Rattle.plan.specs.declared.draft.PortName.{PortName}
 use Rattle.plan.specs.declared.draft.ConnectionDraft.{ConnectionDraft}
 use Rattle.plan.specs.declared.draft.Draft.{Draft}
-use Rattle.reactor.specs.declared.program.State.{State}
-use Rattle.reactor.specs.declared.reaction_draft.ReactionDraft.{ReactionDraft}
-use Rattle.reactor.specs.Tokens.{is_name}
+use Rattle.program.specs.declared.program.State.{State}
+use Rattle.program.specs.declared.reaction_draft.ReactionDraft.{ReactionDraft}
+use Rattle.program.specs.Tokens.{is_name}
 use Rattle.toml.specs.Data.{Members}
-use Rattle.reactor.specs.Limits.{most_states, most_reactions, most_lines}
+use Rattle.program.specs.Limits.{most_states, most_reactions, most_lines}
 use Rattle.loadfed.specs.Tables.{HasOnly, SaysText, SaysNumber, SaysName, SaysDuration, MaySay, SaysDurationOrZero, SaysTexts, SaysNames, SaysTables, SaysEach}
 
 -- the keys of a federation file

@@ -1,7 +1,7 @@
 -- What is wrong with the shape of a federation file, and at which key.
 use Rattle.std.specs.Prelude.{◌≡◌, ℕ, ◌<◌, ◌⊎◌, false, List, length, slice_get, Contains, Some, codes}
 use Rattle.toml.specs.Data.{Data, table, Members}
-use Rattle.reactor.specs.Limits.{most_states, most_reactions, most_lines}
+use Rattle.program.specs.Limits.{most_states, most_reactions, most_lines}
 use Rattle.loadfed.specs.declared.fault.LoadFault.{LoadFault}
 use Rattle.loadfed.specs.declared.fault.LoadFault.TheVariants.{WrongShape, OverLimit}
 use Rattle.loadfed.specs.Tables.{keys_in, is_among, SaysNumber, SaysName, SaysDuration, MaySay, SaysDurationOrZero, SaysArray, SaysTexts, SaysNames, SaysTables}

@@ -3,7 +3,7 @@ use Rattle.std.specs.Prelude.{◌≡◌, ℕ, ℤ, pos, ◌<◌, ◌^◌, ◌⊎
 use Rattle.std.specs.List.{AllZip, list_any}
 use Rattle.std.specs.Str.{bytes_eq}
 use Rattle.tag.specs.Duration.{Spells}
-use Rattle.reactor.specs.Tokens.{is_name}
+use Rattle.program.specs.Tokens.{is_name}
 use Rattle.toml.specs.Data.{Data, string, integer, array, table, Members, no_members, member, get_member}
 use Rattle.toml.specs.View.{items_of}
 

@@ -2,9 +2,9 @@ ghost use Rattle.std.specs.Prelude.{◌≡◌, ◌≤◌, ◌⊎◌, List, IfOk,
 ghost use Rattle.loadfed.specs.Ready.{AreReady};
 ghost use Rattle.plan.specs.declared.draft.Draft.{Draft};
 ghost use Rattle.plan.specs.Legal.{IsLegal};
-ghost use Rattle.reactor.specs.Behaviour.{Behaviour};
-ghost use Rattle.reactor.specs.Programs.{AreProgramsOf};
-ghost use Rattle.reactor.specs.Spelled.{SpellsProgram, IsReadable};
+ghost use Rattle.program.specs.Behaviour.{Behaviour};
+ghost use Rattle.program.specs.Programs.{AreProgramsOf};
+ghost use Rattle.program.specs.Spelled.{SpellsProgram, IsReadable};
 ghost use Rattle.loadfed.specs.Loaded.{most_bytes, SpellPrograms, IsFederationFile, IsPlanFault, IsProgramFault, IsFaultAmong, HasLoadFault};
 ghost use Rattle.loadfed.specs.Shape.{ProgramDraft};
 

@@ -1,5 +1,5 @@
 ghost use Rattle.std.specs.Prelude.{◌≡◌, ◌≤◌, ◌⊎◌, IfOk, IfErr, length, codes};
-ghost use Rattle.reactor.specs.Limits.{most_states, most_reactions, most_lines};
+ghost use Rattle.program.specs.Limits.{most_states, most_reactions, most_lines};
 ghost use Rattle.loadfed.specs.Sections.{members_of};
 ghost use Rattle.loadfed.specs.Tables.{SaysTexts, SaysEach};
 ghost use Rattle.loadfed.specs.Shape.{SaysState, SaysTriggers, SaysReaction, SaysProgram};

@@ -1,5 +1,5 @@
 ghost use Rattle.std.specs.Prelude.{◌≡◌, ◌⊎◌, IfOk, IfErr, OnOk, map, option_map, IsTrue, All, ◌↔◌, false};
-ghost use Rattle.reactor.specs.Tokens.{is_name};
+ghost use Rattle.program.specs.Tokens.{is_name};
 ghost use Rattle.toml.specs.Data.{get_member, string, table};
 ghost use Rattle.toml.specs.View.{view, table_view};
 ghost use Rattle.loadfed.specs.Sections.{members_of};

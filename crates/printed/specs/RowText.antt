@@ -9,7 +9,7 @@ use Rattle.network.specs.Undivided.{Row}
 use Rattle.plan.specs.declared.slots.Slots.{Slots}
 use Rattle.plan.specs.declared.draft.Federate.{Federate}
 use Rattle.plan.specs.Numbering.{is_bare}
-use Rattle.reactor.specs.Resolution.{slot_names}
+use Rattle.program.specs.Resolution.{slot_names}
 
 -- the name at this place of these
 abbrev pub name_at : List (List ℕ) → ℕ → List ℕ

@@ -24,8 +24,8 @@ use Rattle.plan.specs.External.{own_events_from, input_events, external_of, AreI
 use Rattle.plan.specs.Legal.{IsLegal}
 use Rattle.plan.proofs.Legality.{rank_rises}
 use Rattle.plan.proofs.Paths.{before_by-lt, before_by-injective}
-use Rattle.reactor.specs.Behaviour.{Behaviour, IsWellFormed}
-use Rattle.reactor.specs.Programs.{AreProgramsOf}
+use Rattle.program.specs.Behaviour.{Behaviour, IsWellFormed}
+use Rattle.program.specs.Programs.{AreProgramsOf}
 use Rattle.reactor.specs.Federation.{slots_of, ports_of, effect_by, network_of}
 use Rattle.reactor.proofs.Wiring.{IsWired, all_wired, same_federate}
 use Rattle.reactor.proofs.Outside.{IsOutside, IsOwnSlot, IsInputSlot, own_events_outside, inputs_outside}

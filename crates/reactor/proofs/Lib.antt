@@ -1,19 +1,3 @@
--- decimal digits, one after another
-pub mod Numerals
--- a line's tokens, one after another
-pub mod Splitting
--- where a text's first token stands
-pub mod FirstTokens
--- where names stand
-pub mod NamePlaces
--- a whole read from its parts
-pub mod Readings
--- two lists, place by place
-pub mod Zips
--- where faults stand
-pub mod LineFaults
--- what is spelled names only what is there
-pub mod Present
 -- what is listed of a function, one place more
 pub mod Listing
 -- a turn under way
@@ -28,8 +12,6 @@ pub mod Within
 pub mod FlatRows
 -- what a turn depends on
 pub mod Presence
--- what is spelled is spelled once, and is read
-pub mod OneReading
 -- lists that are made of others
 pub mod Pairs
 -- where connections begin and end
@@ -42,9 +24,3 @@ pub mod Apart
 pub mod Scheduled
 -- the network of a legal plan is lawful
 pub mod LawfulNetwork
--- durations in one token or in two
-pub mod Durations
--- a statement read from its parts
-pub mod StatementReadings
--- a line read from its parts
-pub mod LineReadings

@@ -4,11 +4,11 @@ use Rattle.std.proofs.lemmas.List.Elements.{All-nil, All-head, All-tail, All-pus
 use Rattle.tag.specs.Total.{IsAfterDelay}
 use Rattle.network.specs.Network.{Scheduling, Effect}
 use Rattle.plan.specs.Numbering.{first_action, first_physical}
-use Rattle.reactor.specs.declared.program.Statement.{Statement}
-use Rattle.reactor.specs.declared.program.Statement.TheVariants.{Assign, Output, Schedule}
-use Rattle.reactor.specs.declared.program.Line.{Line}
-use Rattle.reactor.specs.declared.program.Reaction.{Reaction}
-use Rattle.reactor.specs.Behaviour.{Behaviour, HasStatement, HasLine, HasReaction, IsWellFormed}
+use Rattle.program.specs.declared.program.Statement.{Statement}
+use Rattle.program.specs.declared.program.Statement.TheVariants.{Assign, Output, Schedule}
+use Rattle.program.specs.declared.program.Line.{Line}
+use Rattle.program.specs.declared.program.Reaction.{Reaction}
+use Rattle.program.specs.Behaviour.{Behaviour, HasStatement, HasLine, HasReaction, IsWellFormed}
 use Rattle.reactor.specs.Effect.{operand_value, after_statement, is_done, after_line, is_triggered, after_reaction, effect_before, effect_of}
 
 -- at an action's slot, after a time below 2^62

@@ -8,15 +8,15 @@ use Rattle.plan.specs.declared.slots.Timer.{Timer}
 use Rattle.plan.specs.declared.draft.ConnectionDraft.{ConnectionDraft}
 use Rattle.plan.specs.declared.draft.Draft.{Draft}
 use Rattle.plan.specs.declared.input.Input.{Input}
-use Rattle.reactor.specs.declared.program.Operand.TheVariants.{Number, State, Value}
-use Rattle.reactor.specs.declared.program.Operator.TheVariants.{Plus}
-use Rattle.reactor.specs.declared.program.Expression.TheVariants.{Single, Binary}
-use Rattle.reactor.specs.declared.program.Statement.{Statement}
-use Rattle.reactor.specs.declared.program.Statement.TheVariants.{Assign, Output, Schedule}
-use Rattle.reactor.specs.declared.program.Line.{Line}
-use Rattle.reactor.specs.declared.program.Reaction.{Reaction}
-use Rattle.reactor.specs.declared.program.State as StateOf
-use Rattle.reactor.specs.Behaviour.{Behaviour}
+use Rattle.program.specs.declared.program.Operand.TheVariants.{Number, State, Value}
+use Rattle.program.specs.declared.program.Operator.TheVariants.{Plus}
+use Rattle.program.specs.declared.program.Expression.TheVariants.{Single, Binary}
+use Rattle.program.specs.declared.program.Statement.{Statement}
+use Rattle.program.specs.declared.program.Statement.TheVariants.{Assign, Output, Schedule}
+use Rattle.program.specs.declared.program.Line.{Line}
+use Rattle.program.specs.declared.program.Reaction.{Reaction}
+use Rattle.program.specs.declared.program.State as StateOf
+use Rattle.program.specs.Behaviour.{Behaviour}
 
 -- so many milliseconds
 abbrev pub ms : ℕ → ℕ

@@ -7,7 +7,7 @@ use Rattle.plan.specs.declared.input.Input.{Input}
 use Rattle.plan.specs.Numbering.{slot_count}
 use Rattle.plan.specs.Federation.{federate_count, connections_of, rank_of, stop_of}
 use Rattle.plan.specs.External.{external_of}
-use Rattle.reactor.specs.Behaviour.{Behaviour}
+use Rattle.program.specs.Behaviour.{Behaviour}
 use Rattle.reactor.specs.Effect.{effect_of, effect_before, opening_states}
 
 -- a federate's number of slots

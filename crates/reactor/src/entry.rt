@@ -1,9 +1,6 @@
-ghost use Rattle.std.specs.Prelude.{◌≡◌, ℕ, ℤ, length, IfOk, Option};
-ghost use Rattle.network.specs.Event.{listed};
-ghost use Rattle.reactor.specs.Entries.{value_at, value_in};
+ghost use Rattle.std.specs.Prelude.{◌≡◌};
+ghost use Rattle.reactor.specs.Entries.{value_at};
 
-use crate::memory::Memory;
-use std::alloc::Global;
 use std::marker::Model;
 
 /// A value that is present at a slot, or set at an output port, by number.
@@ -66,30 +63,10 @@ impl Entries {
         Entries { entries }
     }
 
-    /// The values that are there, each with its place.
-    #[tactic(auto, using(crate::proofs::Listing::listed_some, crate::proofs::Listing::listed_none))]
-    pub fn listed(alloc: Global, values: &[Option<i64>]) -> Result<Entries, Memory>
-        ensures { IfOk result (λ entries. entries ≡ listed (length values.now) (value_in values.now)) }
-    {
-        let mut entries = Vec::new(alloc);
-        for (place, value) in values.iter().enumerate() {
-            if let Some(value) = *value {
-                entries.push(Entry::new(place, value))?;
-            }
-        }
-        Ok(Entries { entries })
-    }
-
     pub fn as_slice(&self) -> &[Entry]
         ensures { result.now ≡ self.now }
     {
         self.entries.as_slice()
-    }
-
-    pub fn into_vec(self) -> Vec<Entry>
-        ensures { result.items ≡ self }
-    {
-        self.entries
     }
 }
 

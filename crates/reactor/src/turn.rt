@@ -1,8 +1,7 @@
-ghost use Rattle.std.specs.Prelude.{◌≡◌, []};
+ghost use Rattle.std.specs.Prelude.{◌≡◌};
 
 use crate::entry::{Entries, Entry};
 use std::marker::Model;
-use std::mem;
 use tag::Delay;
 
 /// An action that is to be present a delay after the turn, with a value.
@@ -129,14 +128,5 @@ impl Turn {
         ensures { result.items ≡ self.states }
     {
         self.states
-    }
-
-    /// The outputs, which the turn gives up.
-    pub fn take_outputs(&mut self) -> Entries
-        ensures outputs { result ≡ self.old.outputs }
-        ensures rest { self.new ≡ record self.old { outputs = [] } }
-    {
-        let none = Entries::new(Vec::new(*self.states.allocator()));
-        mem::replace(&mut self.outputs, none)
     }
 }

@@ -6,7 +6,7 @@ use Rattle.laws.specs.Rows.{HasEveryRow}
 use Rattle.plan.specs.declared.draft.Draft.{Draft}
 use Rattle.plan.specs.declared.input.Input.{Input}
 use Rattle.plan.specs.Federation.{federate_count}
-use Rattle.reactor.specs.Behaviour.{Behaviour}
+use Rattle.program.specs.Behaviour.{Behaviour}
 use Rattle.reactor.specs.Federation.{network_of}
 use Rattle.node.specs.declared.event.Event.{Event}
 use Rattle.desk.specs.Replay as replayed

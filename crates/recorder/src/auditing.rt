@@ -2,7 +2,7 @@ ghost use Rattle.std.specs.Prelude.{◌≡◌, ℕ, ◌<◌, ◌≤◌, List, le
 ghost use Rattle.plan.specs.External.{AreInputsOf};
 ghost use Rattle.plan.specs.Federation.{federate_count};
 ghost use Rattle.plan.specs.Legal.{IsLegal};
-ghost use Rattle.reactor.specs.Programs.{AreProgramsOf};
+ghost use Rattle.program.specs.Programs.{AreProgramsOf};
 ghost use Rattle.schedule.specs.Federation.{rows_in};
 ghost use Rattle.world.specs.World.{stations_of};
 ghost use Rattle.recorder.specs.Reports.{how_many, reported_rows, AreComplete};

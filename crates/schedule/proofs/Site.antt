@@ -12,7 +12,7 @@ use Rattle.link.specs.declared.fault.LinkFault.{LinkFault}
 use Rattle.link.specs.Image.{answer_of, after_frame, ack_of}
 use Rattle.plan.specs.declared.draft.Draft.{Draft}
 use Rattle.plan.specs.declared.input.Input.{Input}
-use Rattle.reactor.specs.Behaviour.{Behaviour}
+use Rattle.program.specs.Behaviour.{Behaviour}
 use Rattle.protocol.specs.Federate.{Federate}
 use Rattle.protocol.specs.Machine.{Member}
 use Rattle.cores.specs.FederateCore.{FederateNode}

@@ -10,7 +10,7 @@ use Rattle.signal.specs.declared.signal.Signal.TheVariants.{Net, Ltc, Tag, Msg}
 use Rattle.plan.specs.declared.draft.Draft.{Draft}
 use Rattle.plan.specs.declared.input.Input.{Input}
 use Rattle.plan.specs.Federation.{federate_count}
-use Rattle.reactor.specs.Behaviour.{Behaviour}
+use Rattle.program.specs.Behaviour.{Behaviour}
 use Rattle.reactor.specs.Federation.{network_of}
 use Rattle.protocol.specs.Federate.{opening_federate}
 use Rattle.protocol.specs.Standing.{opening_standing}

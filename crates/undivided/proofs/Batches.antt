@@ -9,7 +9,7 @@ use Rattle.order.proofs.Prefix.{whole_begins}
 use Rattle.plan.specs.declared.draft.Federate.{Federate}
 use Rattle.plan.specs.declared.draft.Draft.{Draft}
 use Rattle.plan.specs.declared.input.Input.{Input}
-use Rattle.reactor.specs.Behaviour.{Behaviour}
+use Rattle.program.specs.Behaviour.{Behaviour}
 use Rattle.whole.specs.Progress.{Progress, network_in, all_rows_in, rows_in, later_by}
 use Rattle.printed.specs.RowText.{printed_line, printed_rows}
 use Rattle.undivided.specs.Printed.{PrintsFirstRows, IsPrinted, let_go_after}

@@ -30,10 +30,10 @@ use Rattle.plan.specs.declared.input.Input.{Input}
 use Rattle.plan.specs.Federation.{federate_count, connections_of, stop_of}
 use Rattle.plan.specs.Numbering.{slot_count}
 use Rattle.plan.specs.External.{external_of}
-use Rattle.reactor.specs.Behaviour.{Behaviour}
+use Rattle.program.specs.Behaviour.{Behaviour}
 use Rattle.reactor.specs.Entries.{value_at}
 use Rattle.reactor.specs.Federation.{network_of, slots_of, ports_of, effect_by, opening_by}
-use Rattle.reactor.specs.Programs.{HaveProgramsOf, HaveSlotsOf}
+use Rattle.program.specs.Programs.{HaveProgramsOf, HaveSlotsOf}
 use Rattle.reactor.specs.Effect.{opening_states, effect_of}
 use Rattle.reactor.specs.Turn.{Reactor}
 use Rattle.agenda.specs.Agenda.{in_time}

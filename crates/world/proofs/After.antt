@@ -5,7 +5,7 @@ use Rattle.std.specs.List.{list_any}
 use Rattle.std.proofs.lemmas.List.Folds.{list_any-append}
 use Rattle.plan.specs.declared.draft.Draft.{Draft}
 use Rattle.plan.specs.declared.input.Input.{Input}
-use Rattle.reactor.specs.Behaviour.{Behaviour}
+use Rattle.program.specs.Behaviour.{Behaviour}
 use Rattle.cores.specs.FederateCore.{FederateNode}
 use Rattle.cores.specs.CoordinatorCore.{CoordinatorNode}
 use Rattle.schedule.specs.declared.step.Step.{Step}

@@ -12,8 +12,8 @@ use Rattle.plan.specs.declared.input.Input.{Input}
 use Rattle.plan.specs.External.{AreInputsOf}
 use Rattle.plan.specs.Federation.{federate_count}
 use Rattle.plan.specs.Legal.{IsLegal}
-use Rattle.reactor.specs.Behaviour.{Behaviour}
-use Rattle.reactor.specs.Programs.{AreProgramsOf}
+use Rattle.program.specs.Behaviour.{Behaviour}
+use Rattle.program.specs.Programs.{AreProgramsOf}
 use Rattle.node.specs.Step.{Station}
 use Rattle.cores.specs.FederateCore.{FederateNode}
 use Rattle.cores.specs.CoordinatorCore.{CoordinatorNode}

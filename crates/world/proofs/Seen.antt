@@ -3,7 +3,7 @@ use Rattle.std.proofs.Common.{◌≡◌, Bool, List, subst}
 use Rattle.std.specs.List.{list_any}
 use Rattle.plan.specs.declared.draft.Draft.{Draft}
 use Rattle.plan.specs.declared.input.Input.{Input}
-use Rattle.reactor.specs.Behaviour.{Behaviour}
+use Rattle.program.specs.Behaviour.{Behaviour}
 use Rattle.schedule.specs.Kept.{is_forget}
 use Rattle.schedule.specs.Federation.{Federation}
 use Rattle.world.specs.World.{WorldView, stations_of}

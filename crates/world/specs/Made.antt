@@ -5,8 +5,8 @@ use Rattle.plan.specs.declared.draft.Draft.{Draft}
 use Rattle.plan.specs.declared.input.Input.{Input}
 use Rattle.plan.specs.External.{AreInputsOf}
 use Rattle.plan.specs.Legal.{IsLegal}
-use Rattle.reactor.specs.Behaviour.{Behaviour}
-use Rattle.reactor.specs.Programs.{AreProgramsOf}
+use Rattle.program.specs.Behaviour.{Behaviour}
+use Rattle.program.specs.Programs.{AreProgramsOf}
 use Rattle.schedule.specs.Kept.{is_forget}
 use Rattle.schedule.specs.Federation.{Federation, world_after}
 use Rattle.world.specs.World.{WorldView}

@@ -5,7 +5,7 @@ use Rattle.link.specs.Image.{Image, blank}
 use Rattle.plan.specs.declared.draft.Draft.{Draft}
 use Rattle.plan.specs.declared.input.Input.{Input}
 use Rattle.plan.specs.Federation.{federate_count}
-use Rattle.reactor.specs.Behaviour.{Behaviour}
+use Rattle.program.specs.Behaviour.{Behaviour}
 use Rattle.node.specs.Step.{Station}
 use Rattle.cores.specs.FederateCore.{FederateNode}
 use Rattle.cores.specs.CoordinatorCore.{CoordinatorNode}

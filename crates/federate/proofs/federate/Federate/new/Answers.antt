@@ -1,8 +1,8 @@
 use Rattle.plan.specs.Federation.{stop_of}
 use Rattle.std.proofs.Common.{refl, ◌≡◌, ◌<◌, ◌∙◌, sym, ap, subst, Some, length, slice_get, arith}
-use Rattle.reactor.specs.Behaviour.{Behaviour, IsWellFormed}
+use Rattle.program.specs.Behaviour.{Behaviour, IsWellFormed}
 use Rattle.reactor.specs.Federation.{network_of}
-use Rattle.reactor.proofs.Zips.{all_zip_lengths, slice_get-here}
+use Rattle.program.proofs.Zips.{all_zip_lengths, slice_get-here}
 use Rattle.reactor.proofs.LawfulNetwork.{gives_lawful}
 use Rattle.plan.specs.declared.draft.Federate as declared
 use Rattle.protocol.specs.Federate as protocol

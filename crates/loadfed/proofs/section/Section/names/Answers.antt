@@ -1,6 +1,6 @@
 use Rattle.std.proofs.Common.{◌≡◌, true, IsTrue}
 use Rattle.std.specs.Prelude.{All}
-use Rattle.reactor.specs.Tokens.{is_name}
+use Rattle.program.specs.Tokens.{is_name}
 use Rattle.loadfed.specs.Sections.{members_of}
 use Rattle.loadfed.proofs.Refusals.{told}
 use Rattle.loadfed.proofs.KeyReadings.{no_names}

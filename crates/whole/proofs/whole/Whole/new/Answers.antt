@@ -1,7 +1,7 @@
 use Rattle.std.proofs.Common.{◌≡◌, ℕ, ◌∙◌, List, length, map, ap, zero-add}
 use Rattle.std.proofs.lemmas.List.{take_all}
 use Rattle.whole.proofs.Turns.{opened, opened-programs, kept_opening, slots_of_programs}
-use Rattle.reactor.specs.Behaviour.{Behaviour}
+use Rattle.program.specs.Behaviour.{Behaviour}
 use Rattle.reactor.proofs.LawfulNetwork.{gives_lawful}
 use Rattle.whole.specs.Kept.{programs_in}
 use Rattle.whole.specs.Progress.{Progress}

@@ -6,7 +6,7 @@ use Rattle.network.specs.Event.{listed}
 use Rattle.network.specs.Undone.{look}
 use Rattle.plan.specs.Federation.{federate_count}
 use Rattle.plan.specs.Numbering.{slot_count}
-use Rattle.reactor.specs.Behaviour.{Behaviour}
+use Rattle.program.specs.Behaviour.{Behaviour}
 use Rattle.reactor.specs.Entries.{value_at, AgreesBelow}
 use Rattle.reactor.specs.Federation.{slots_of}
 use Rattle.reactor.specs.Turn.{Reactor, turn_of}

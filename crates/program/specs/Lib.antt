@@ -1,0 +1,19 @@
+-- The programs of reactors.
+-- how much a program may have
+pub mod Limits
+-- what a reactor has and does
+pub mod Behaviour
+-- tokens, names and whole numbers
+pub mod Tokens
+-- how body lines are written, with names
+pub mod Grammar
+-- what those names stand for
+pub mod Resolution
+-- which program texts spell, and which fault stands in them
+pub mod Spelled
+-- programs for the federates of a federation
+pub mod Programs
+-- what reading one line answers
+pub mod Reading
+-- the refusals by number
+pub mod Fault
