@@ -1,6 +1,7 @@
 -- A table says one thing: two readings of it are the same.
-use Rattle.std.proofs.Common.{◌≡◌, ℕ, ℤ, List, [], ◌∷◌, ◌++◌, map, Option, Some, None, Bool, codes, refl, sym, ap, ◌∙◌, subst, inl, inr}
-use Rattle.std.specs.Prelude.{pos}
+use Rattle.std.proofs.Common.{◌≡◌, ℕ, suc, ◌≤◌, ℤ, List, [], ◌∷◌, ◌++◌, map, length, Option, Some, None, Bool, codes, refl, sym, ap, ◌∙◌, subst, inl, inr, arith, Vec, Global}
+use Rattle.std.specs.Prelude.{pos, Result, Ok, Err, IfOk}
+use Rattle.std.proofs.lemmas.List.{length-map}
 use Rattle.std.specs.List.{AllZip}
 use Rattle.tag.specs.Duration.{Spells}
 use Rattle.tag.proofs.Spellings.{one_value}
@@ -13,7 +14,9 @@ use Rattle.plan.specs.declared.draft.Draft.{Draft}
 use Rattle.program.specs.declared.program.State.{State}
 use Rattle.program.specs.declared.reaction_draft.ReactionDraft.{ReactionDraft}
 use Rattle.toml.specs.Data.{Data, string, integer, array, table, Members, get_member}
-use Rattle.toml.specs.View.{items_of}
+use Rattle.toml.specs.View.{items_of, view}
+use Rattle.toml.specs.declared.value.Value.{Value}
+use Rattle.loadfed.specs.declared.fault.LoadFault.{LoadFault}
 use Rattle.loadfed.specs.Tables.{IsWithout, SaysText, SaysNumber, SaysDuration, MaySay, SaysDurationOrZero, SaysMicrostep, SaysArray, SaysTexts, SaysTables, SaysEach}
 use Rattle.loadfed.specs.Shape.{SaysTimer, SaysState, SaysReaction, ProgramDraft, SaysProgram, wants_startup, SaysSlots, SaysFederate, SaysPort, SaysConnection, SaysFederates, SaysFederation}
 use Rattle.loadfed.proofs.Dots.{one_split}
@@ -115,6 +118,25 @@ one_zip_of R one key m ts us xs ys h k a b =
 pub one_each : {X : Type 0} (R : Members → X → Type 0) → ((m : Members) (x y : X) → R m x → R m y → x ≡ y) → (key : List ℕ) (m : Members)
     (xs ys : List X) → SaysEach R key m xs → SaysEach R key m ys → xs ≡ ys
 one_each R one key m xs ys h k = one_zip_of R one key m h.tables k.tables xs ys h.there k.there h.each k.each
+
+zip_length : {X : Type 0} (R : Members → X → Type 0) (ts : List Members) (xs : List X) → AllZip R ts xs → length ts ≡ length xs
+zip_length R [] [] h = refl
+zip_length R [] (x ∷ xs) h = absurd h
+zip_length R (t ∷ ts) [] h = absurd h
+zip_length R (t ∷ ts) (x ∷ xs) h = ap suc (zip_length R ts xs h.1)
+
+few_said : {X : Type 0} (R : Members → X → Type 0) (key : List ℕ) (m : Members) (values : List Value) (xs : List X) (most : ℕ)
+    → length values ≤ most → SaysArray key m (map view values) → SaysEach R key m xs → length xs ≤ most
+few_said R key m values xs most few held says =
+    let same : length (map view values) ≡ length (map table says.tables) = ap length (one_array key m (map view values) (map table says.tables) held says.there) in
+    let zipped : length says.tables ≡ length xs = zip_length R says.tables xs says.each in
+    omega (arith, length-map values view, length-map says.tables table)
+
+-- as many are read as there are entries
+pub each_few : {X : Type 0} {most : ℕ} (R : Members → X → Type 0) (key : List ℕ) (m : Members) (values : List Value) (r : Result (Vec X Global) LoadFault)
+    → length values ≤ most → SaysArray key m (map view values) → IfOk r (λ each. SaysEach R key m each.items) → IfOk r (λ each. length each.items ≤ most)
+each_few {X} {most} R key m values (Ok each) few held says = few_said R key m values each.items most few held says
+each_few R key m values (Err fault) few held says = says
 
 abbrev timer_with : List ℕ → ℕ → ℕ → Timer
 timer_with n o p = record { name = n; offset = o; period = p }

@@ -1,5 +1,6 @@
 -- A fault that is told upward stands above too.
 use Rattle.std.proofs.Common.{◌≡◌, ◌⊎◌, inl, inr, List, ℕ}
+use Rattle.std.specs.Prelude.{Result, Ok, Err, IfErr}
 use Rattle.loadfed.specs.declared.fault.LoadFault.{LoadFault}
 use Rattle.loadfed.specs.declared.fault.LoadFault.TheVariants.{WrongShape, Memory}
 use Rattle.loadfed.specs.ShapeFaults.{IsWrongAt}
@@ -27,3 +28,8 @@ first_of (inr h) = inr (inl h)
 pub second_of : {M P Q : Type 0} → M ⊎ Q → M ⊎ (P ⊎ Q)
 second_of (inl memory) = inl memory
 second_of (inr h) = inr (inr h)
+
+-- want of memory alone
+pub memory_alone : {A : Type 0} (Has : LoadFault → Type 0) (r : Result A LoadFault) → IfErr r (λ fault. fault ≡ Memory) → IfErr r (λ fault. (fault ≡ Memory) ⊎ Has fault)
+memory_alone Has (Ok a) h = h
+memory_alone Has (Err fault) h = inl h

@@ -1,20 +1,19 @@
 -- What readings of keys say of the parts of a federation.
-use Rattle.std.proofs.Common.{◌≡◌, ◌≢◌, ◌⊎◌, inl, inr, ℕ, ◌<◌, ◌≤◌, ◌+◌, List, [], ◌∷◌, ◌++◌, map, length, get_or, take, false, IsTrue, codes, refl, sym, ap, ◌∙◌, subst, arith}
+use Rattle.std.proofs.Common.{◌≡◌, ◌≢◌, ◌⊎◌, inl, inr, ℕ, ◌<◌, List, [], ◌∷◌, ◌++◌, map, length, get_or, false, IsTrue, codes, refl, sym, ap, ◌∙◌, subst, arith, Vec, Global}
 use Rattle.std.specs.List.{AllZip}
 use Rattle.plan.specs.declared.draft.Federate.{Federate}
 use Rattle.plan.specs.declared.draft.PortName.{PortName}
 use Rattle.program.specs.Tokens.{is_name}
-use Rattle.toml.specs.Data.{Data, table, Members}
-use Rattle.toml.specs.View.{view}
-use Rattle.toml.specs.declared.value.Value.{Value}
+use Rattle.toml.specs.Data.{Members}
 use Rattle.loadfed.specs.declared.fault.LoadFault.{LoadFault}
 use Rattle.loadfed.specs.declared.fault.LoadFault.TheVariants.{WrongShape, Memory}
-use Rattle.loadfed.specs.Tables.{SaysText, SaysName, SaysTexts, SaysArray}
+use Rattle.loadfed.specs.Tables.{SaysText, SaysName, SaysTexts, SaysEach}
+use Rattle.loadfed.specs.declared.federation_shape.FederateShape.{FederateShape}
+use Rattle.std.specs.Prelude.{Result, Ok, Err, IfOk}
 use Rattle.loadfed.specs.Shape.{SaysTriggers, SaysFederateName, SaysPort, ProgramDraft, SaysProgram, SaysFederate, SaysFederates}
 use Rattle.loadfed.specs.ShapeFaults.{IsWrongAt}
 use Rattle.loadfed.proofs.OneReading.{one_text, one_texts}
 use Rattle.loadfed.proofs.Dots.{name_has_none, HasNoDot}
-use Rattle.loadfed.proofs.TableReadings.{tables_more, zip_push, all_tables}
 
 pub texts_of_triggers : (m : Members) (ts : List (List ℕ)) → SaysTriggers m ts → (us : List (List ℕ)) × SaysTexts (codes "triggers") m us
 texts_of_triggers m ts h = (ts, h.0)
@@ -56,34 +55,38 @@ no_port_of key m text front back says cut none p h =
     let parts = cut p.federate p.port same (name_has_none p.federate h.federate_named) in
     none (subst (λ x. IsTrue (is_name x)) (sym parts.0) h.federate_named) (subst (λ x. IsTrue (is_name x)) (sym parts.1) h.port_named)
 
--- federates as they are read
-pub record AreFederatesRead (entries : List Data) (fs : List Federate) (ps : List ProgramDraft) : Type 0 where
-  pub tables : List Members
-  pub entries_are : entries ≡ map table tables
-  pub each_federate : AllZip SaysFederate tables fs
-  pub each_program : AllZip SaysProgram tables ps
+-- a federate with its program
+abbrev pub SaysShape : Members → FederateShape → Type 0
+SaysShape members shape = SaysFederate members shape.federate × SaysProgram members shape.program
 
-pub federates_none : AreFederatesRead [] [] []
-federates_none = record { tables = []; entries_are = refl; each_federate = tt; each_program = tt }
+each_federate : (tables : List Members) (shapes : List FederateShape) → AllZip SaysShape tables shapes → AllZip SaysFederate tables (map (λ s. s.federate) shapes)
+each_federate [] [] h = tt
+each_federate [] (s ∷ shapes) h = absurd h
+each_federate (t ∷ tables) [] h = absurd h
+each_federate (t ∷ tables) (s ∷ shapes) h = (h.0.0, each_federate tables shapes h.1)
 
-pub federates_more : (values : List Value) (fs : List Federate) (ps : List ProgramDraft) (i : ℕ) (v : Value) (inner : Members) (f : Federate) (p : ProgramDraft)
-    → i < length values → v ≡ get_or values i v → AreFederatesRead (map view (take i values)) fs ps → view v ≡ table inner → SaysFederate inner f → SaysProgram inner p
-    → AreFederatesRead (map view (take (i + 1) values)) (fs ++ f ∷ []) (ps ++ p ∷ [])
-federates_more values fs ps i v inner f p low is read this federate program = record {
-  tables = read.tables ++ inner ∷ [];
-  entries_are = tables_more values read.tables i v inner low is read.entries_are this;
-  each_federate = zip_push SaysFederate read.tables fs inner f read.each_federate federate;
-  each_program = zip_push SaysProgram read.tables ps inner p read.each_program program;
+each_program : (tables : List Members) (shapes : List FederateShape) → AllZip SaysShape tables shapes → AllZip SaysProgram tables (map (λ s. s.program) shapes)
+each_program [] [] h = tt
+each_program [] (s ∷ shapes) h = absurd h
+each_program (t ∷ tables) [] h = absurd h
+each_program (t ∷ tables) (s ∷ shapes) h = (h.0.1, each_program tables shapes h.1)
+
+says_federates : (m : Members) (shapes : List FederateShape) → SaysEach SaysShape (codes "federate") m shapes
+    → SaysFederates m (map (λ s. s.federate) shapes) (map (λ s. s.program) shapes)
+says_federates m shapes says = record {
+  tables = says.tables;
+  there = says.there;
+  each_federate = each_federate says.tables shapes says.each;
+  each_program = each_program says.tables shapes says.each;
 }
 
-pub federates_all : (m : Members) (values : List Value) (fs : List Federate) (ps : List ProgramDraft) (i : ℕ) → SaysArray (codes "federate") m (map view values)
-    → AreFederatesRead (map view (take i values)) fs ps → length values ≤ i → SaysFederates m fs ps
-federates_all m values fs ps i says read all = record {
-  tables = read.tables;
-  there = all_tables (codes "federate") m values read.tables i says read.entries_are all;
-  each_federate = read.each_federate;
-  each_program = read.each_program;
-}
+-- federates, parted from their programs
+pub federates_parted : (m : Members) (shapes : List FederateShape) (r : Result (List Federate × Vec ProgramDraft Global) LoadFault)
+    → SaysEach SaysShape (codes "federate") m shapes
+    → IfOk r (λ made. (made.0 ≡ map (λ s. s.federate) shapes) × (made.1.items ≡ map (λ s. s.program) shapes))
+    → IfOk r (λ made. SaysFederates m made.0 made.1.items)
+federates_parted m shapes (Ok made) says parts = rw (parts.0, parts.1) (says_federates m shapes says)
+federates_parted m shapes (Err fault) says parts = parts
 
 pub front_told : (key : List ℕ) (m : Members) (text front back : List ℕ) (fault : LoadFault) → SaysText key m text
     → ((xs ys : List ℕ) → text ≡ xs ++ (46 ∷ ys) → HasNoDot xs → (front ≡ xs) × (back ≡ ys))

@@ -94,16 +94,3 @@ many_told key most m values says many =
 
 pub texts_too_many : (key : List ℕ) (most : ℕ) (m : Members) (entries : List Data) → SaysArray key m entries → most < length entries → HasTooMany key most m OverLimit
 texts_too_many key most m entries says many = record { told = refl; entries = entries; there = says; many = many }
-
-zip_length : {X : Type 0} (R : Members → X → Type 0) (ts : List Members) (xs : List X) → AllZip R ts xs → length ts ≡ length xs
-zip_length R [] [] h = refl
-zip_length R [] (x ∷ xs) h = absurd h
-zip_length R (t ∷ ts) [] h = absurd h
-zip_length R (t ∷ ts) (x ∷ xs) h = ap suc (zip_length R ts xs h.1)
-
--- as many are read as there are entries
-pub read_length : {X : Type 0} (Says : Members → X → Type 0) (values : List Value) (xs : List X) (i : ℕ) → AreRead Says (map view (take i values)) xs
-    → length values ≤ i → length xs ≡ length values
-read_length Says values xs i read all =
-    let whole : map view values ≡ map table read.tables = sym (ap (map view) (take_all i values all)) ∙ read.entries_are in
-    sym (zip_length Says read.tables xs read.each) ∙ sym (map_length table read.tables) ∙ sym (ap length whole) ∙ map_length view values

@@ -1,6 +1,8 @@
 -- What the two files of a federation say.
 -- the numbers of the refusals
 pub mod Numbers
+-- faults, as a trait names them
+pub mod Refused
 -- what stands at a key of a table
 pub mod Tables
 -- what a federation file says, table by table

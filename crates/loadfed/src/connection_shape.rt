@@ -4,6 +4,7 @@ ghost use Rattle.loadfed.specs.Tables.{SaysEach};
 ghost use Rattle.loadfed.specs.Shape.{SaysPort, SaysConnection};
 ghost use Rattle.loadfed.specs.ShapeFaults.{IsWrongAt, HasConnectionFault, HasTablesFault};
 
+use crate::arrays::{FromTable, read_each};
 use crate::fault::LoadFault;
 use crate::section::Section;
 use plan::{ConnectionDraft, Connections, PortName};
@@ -14,25 +15,22 @@ pub fn connections_shape(alloc: Global, file: &Section<'_>) -> Result<Connection
     ensures ok { IfOk result (SaysEach SaysConnection (codes "connection") (members_of file.now)) }
     ensures refused { IfErr result (λ fault. (fault ≡ LoadFault.Memory) ⊎ HasTablesFault HasConnectionFault (codes "connection") (members_of file.now) fault) }
 {
-    let values = file.array("connection")?;
-    let mut connections = Vec::new(alloc);
-    for value in values {
-        let section = Section::entry(alloc, "connection", value)?;
-        let connection = connection(alloc, &section)?;
-        connections.push(connection)?;
-    }
+    let connections = read_each(alloc, file, "connection")?;
     Ok(Connections::new(connections))
 }
 
-fn connection(alloc: Global, section: &Section<'_>) -> Result<ConnectionDraft, LoadFault>
-    ensures ok { IfOk result (SaysConnection (members_of section.now)) }
-    ensures refused { IfErr result (λ fault. (fault ≡ LoadFault.Memory) ⊎ HasConnectionFault (members_of section.now) fault) }
-{
-    section.has_only(&["from", "to", "after"])?;
-    let from = port(alloc, section, "from")?;
-    let to = port(alloc, section, "to")?;
-    let after = section.duration("after")?;
-    Ok(ConnectionDraft { from, to, after })
+impl FromTable for ConnectionDraft {
+    ghost says = { SaysConnection };
+
+    ghost has_fault = { HasConnectionFault };
+
+    fn from_table(alloc: Global, table: &Section<'_>) -> Result<ConnectionDraft, LoadFault> {
+        table.has_only(&["from", "to", "after"])?;
+        let from = port(alloc, table, "from")?;
+        let to = port(alloc, table, "to")?;
+        let after = table.duration("after")?;
+        Ok(ConnectionDraft { from, to, after })
+    }
 }
 
 /// The port at a key, `FEDERATE.PORT`.

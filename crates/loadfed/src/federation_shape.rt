@@ -1,8 +1,9 @@
-ghost use Rattle.std.specs.Prelude.{◌≡◌, ◌⊎◌, IfOk, IfErr, codes};
+ghost use Rattle.std.specs.Prelude.{◌≡◌, ◌⊎◌, map, IfOk, IfErr, codes};
 ghost use Rattle.loadfed.specs.Sections.{members_of};
 ghost use Rattle.loadfed.specs.Shape.{SaysFederateName, SaysFederate, SaysProgram, SaysFederates, SaysFederation};
 ghost use Rattle.loadfed.specs.ShapeFaults.{IsWrongAt, HasFederateFault, HasTablesFault, HasShapeFault};
 
+use crate::arrays::{FromTable, read_each};
 use crate::connection_shape::connections_shape;
 use crate::fault::LoadFault;
 use crate::program_shape::ProgramShape;
@@ -40,31 +41,51 @@ fn federates(alloc: Global, file: &Section<'_>) -> Result<(Federates, Vec<Progra
     ensures ok { IfOk result (λ made. SaysFederates (members_of file.now) made.0 made.1.items) }
     ensures refused { IfErr result (λ fault. (fault ≡ LoadFault.Memory) ⊎ HasTablesFault HasFederateFault (codes "federate") (members_of file.now) fault) }
 {
-    let values = file.array("federate")?;
+    let shapes = read_each(alloc, file, "federate")?;
+    parted(alloc, shapes)
+}
+
+/// The federates, and their programs.
+fn parted(
+    alloc: Global,
+    shapes: Vec<FederateShape>,
+) -> Result<(Federates, Vec<ProgramShape>), LoadFault>
+    ensures ok { IfOk result (λ made. (made.0 ≡ map (λ shape. shape.federate) shapes.items) × (made.1.items ≡ map (λ shape. shape.program) shapes.items)) }
+    ensures refused { IfErr result (λ fault. fault ≡ LoadFault.Memory) }
+{
     let mut federates = Vec::new(alloc);
     let mut programs = Vec::new(alloc);
-    for value in values {
-        let section = Section::entry(alloc, "federate", value)?;
-        let (federate, program) = federate(alloc, &section)?;
-        federates.push(federate)?;
-        programs.push(program)?;
+    for shape in shapes {
+        federates.push(shape.federate)?;
+        programs.push(shape.program)?;
     }
     Ok((Federates::new(federates), programs))
 }
 
-/// The federate in a table, and its program.
-fn federate(alloc: Global, section: &Section<'_>) -> Result<(Federate, ProgramShape), LoadFault>
-    ensures federate { IfOk result (λ made. SaysFederate (members_of section.now) made.0) }
-    ensures program { IfOk result (λ made. SaysProgram (members_of section.now) made.1) }
-    ensures refused { IfErr result (λ fault. (fault ≡ LoadFault.Memory) ⊎ HasFederateFault (members_of section.now) fault) }
-{
-    section.has_only(&[
-        "name", "inputs", "outputs", "actions", "physical", "timers", "state", "reaction",
-    ])?;
-    let name = federate_name(alloc, section)?;
-    let program = ProgramShape::read(alloc, section)?;
-    let slots = slots_shape(alloc, section, program.reactions())?;
-    Ok((Federate { name, slots }, program))
+/// A federate as a file has it, and its program.
+#[derive(Drop)]
+struct FederateShape {
+    federate: Federate,
+    program: ProgramShape,
+}
+
+impl FromTable for FederateShape {
+    ghost says = { λ members shape. SaysFederate members shape.federate × SaysProgram members shape.program };
+
+    ghost has_fault = { HasFederateFault };
+
+    fn from_table(alloc: Global, table: &Section<'_>) -> Result<FederateShape, LoadFault> {
+        table.has_only(&[
+            "name", "inputs", "outputs", "actions", "physical", "timers", "state", "reaction",
+        ])?;
+        let name = federate_name(alloc, table)?;
+        let program = ProgramShape::read(alloc, table)?;
+        let slots = slots_shape(alloc, table, program.reactions())?;
+        Ok(FederateShape {
+            federate: Federate { name, slots },
+            program,
+        })
+    }
 }
 
 /// A federate's name, which isn't that of the coordinator.

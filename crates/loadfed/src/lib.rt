@@ -1,9 +1,11 @@
 //! The two files of a federation: what it is, and the inputs recorded for it.
 //!
 //! Promise to the layer above: `load` and `load_inputs` take exactly the texts that `specs/` says, and tell where a fault stands.
-//! Begin with `federation`, then `section`, which reads one table of a file key by key.
+//! Begin with `federation`, then `section`, which reads one table of a file key by key, and `arrays`, which reads its arrays of
+//! tables.
 #![tactic(auto)]
 
+mod arrays;
 mod connection_shape;
 mod data;
 mod document;

@@ -5,6 +5,7 @@ ghost use Rattle.loadfed.specs.Tables.{SaysTexts, SaysEach};
 ghost use Rattle.loadfed.specs.Shape.{SaysState, SaysTriggers, SaysReaction, SaysProgram};
 ghost use Rattle.loadfed.specs.ShapeFaults.{IsWrongAt, HasTooMany, HasStateFault, HasReactionFault, HasStatesFault, HasReactionsFault};
 
+use crate::arrays::{FromTable, read_each};
 use crate::fault::LoadFault;
 use crate::section::Section;
 use plan::Names;
@@ -71,23 +72,20 @@ fn states(alloc: Global, federate: &Section<'_>) -> Result<Vec<State>, LoadFault
     if values.len() > MOST_STATES {
         return Err(LoadFault::OverLimit);
     }
-    let mut states = Vec::new(alloc);
-    for value in values {
-        let section = Section::entry(alloc, "state", value)?;
-        let state = state(&section)?;
-        states.push(state)?;
-    }
-    Ok(states)
+    read_each(alloc, federate, "state")
 }
 
-fn state(section: &Section<'_>) -> Result<State, LoadFault>
-    ensures ok { IfOk result (SaysState (members_of section.now)) }
-    ensures refused { IfErr result (λ fault. (fault ≡ LoadFault.Memory) ⊎ HasStateFault (members_of section.now) fault) }
-{
-    section.has_only(&["name", "value"])?;
-    let name = section.name("name")?;
-    let value = section.needed_number("value")?;
-    Ok(State { name, value })
+impl FromTable for State {
+    ghost says = { SaysState };
+
+    ghost has_fault = { HasStateFault };
+
+    fn from_table(_alloc: Global, table: &Section<'_>) -> Result<State, LoadFault> {
+        table.has_only(&["name", "value"])?;
+        let name = table.name("name")?;
+        let value = table.needed_number("value")?;
+        Ok(State { name, value })
+    }
 }
 
 fn reactions(alloc: Global, federate: &Section<'_>) -> Result<Vec<ReactionDraft>, LoadFault>
@@ -99,23 +97,20 @@ fn reactions(alloc: Global, federate: &Section<'_>) -> Result<Vec<ReactionDraft>
     if values.len() > MOST_REACTIONS {
         return Err(LoadFault::OverLimit);
     }
-    let mut reactions = Vec::new(alloc);
-    for value in values {
-        let section = Section::entry(alloc, "reaction", value)?;
-        let reaction = reaction(alloc, &section)?;
-        reactions.push(reaction)?;
-    }
-    Ok(reactions)
+    read_each(alloc, federate, "reaction")
 }
 
-fn reaction(alloc: Global, section: &Section<'_>) -> Result<ReactionDraft, LoadFault>
-    ensures ok { IfOk result (SaysReaction (members_of section.now)) }
-    ensures refused { IfErr result (λ fault. (fault ≡ LoadFault.Memory) ⊎ HasReactionFault (members_of section.now) fault) }
-{
-    section.has_only(&["triggers", "body"])?;
-    let triggers = triggers(alloc, section)?;
-    let body = body(section)?;
-    Ok(ReactionDraft { triggers, body })
+impl FromTable for ReactionDraft {
+    ghost says = { SaysReaction };
+
+    ghost has_fault = { HasReactionFault };
+
+    fn from_table(alloc: Global, table: &Section<'_>) -> Result<ReactionDraft, LoadFault> {
+        table.has_only(&["triggers", "body"])?;
+        let triggers = triggers(alloc, table)?;
+        let body = body(table)?;
+        Ok(ReactionDraft { triggers, body })
+    }
 }
 
 /// The triggers in a reaction's table, of which there is at least one.

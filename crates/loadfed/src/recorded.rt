@@ -2,10 +2,9 @@ ghost use Rattle.std.specs.Prelude.{◌≡◌, ◌≤◌, ◌⊎◌, List, IfOk,
 ghost use Rattle.plan.specs.declared.input.Input.{Input};
 ghost use Rattle.plan.specs.External.{AreInputsOf};
 ghost use Rattle.loadfed.specs.Sections.{members_of};
-ghost use Rattle.loadfed.specs.Tables.{SaysEach};
-ghost use Rattle.loadfed.specs.ShapeFaults.{HasTablesFault};
 ghost use Rattle.loadfed.specs.InputShape.{most_input_bytes, SaysInput, SaysInputs, HasInputFault, HasInputsFault, SaysInputFile, IsFaultOfInputs, HasInputFileFault};
 
+use crate::arrays::{FromTable, read_each};
 use crate::document::document;
 use crate::fault::LoadFault;
 use crate::section::Section;
@@ -63,37 +62,26 @@ fn inputs_shape(alloc: Global, file: &Section<'_>) -> Result<Vec<Input>, LoadFau
     ensures refused { IfErr result (λ fault. (fault ≡ LoadFault.Memory) ⊎ HasInputsFault (members_of file.now) fault) }
 {
     file.has_only(&["input"])?;
-    inputs(alloc, file)
+    read_each(alloc, file, "input")
 }
 
-fn inputs(alloc: Global, file: &Section<'_>) -> Result<Vec<Input>, LoadFault>
-    ensures ok { IfOk result (λ inputs. SaysEach SaysInput (codes "input") (members_of file.now) inputs.items) }
-    ensures refused { IfErr result (λ fault. (fault ≡ LoadFault.Memory) ⊎ HasTablesFault HasInputFault (codes "input") (members_of file.now) fault) }
-{
-    let values = file.array("input")?;
-    let mut inputs = Vec::new(alloc);
-    for value in values {
-        let section = Section::entry(alloc, "input", value)?;
-        let input = input(&section)?;
-        inputs.push(input)?;
+impl FromTable for Input {
+    ghost says = { SaysInput };
+
+    ghost has_fault = { HasInputFault };
+
+    fn from_table(_alloc: Global, table: &Section<'_>) -> Result<Input, LoadFault> {
+        table.has_only(&["federate", "action", "time", "micro", "value"])?;
+        let federate = table.copied_text("federate")?;
+        let action = table.copied_text("action")?;
+        let time = table.needed_duration("time")?;
+        let microstep = table.microstep("micro")?;
+        let value = table.needed_number("value")?;
+        Ok(Input {
+            federate,
+            action,
+            tag: FiniteTag::new(time, microstep),
+            value,
+        })
     }
-    Ok(inputs)
-}
-
-fn input(section: &Section<'_>) -> Result<Input, LoadFault>
-    ensures ok { IfOk result (SaysInput (members_of section.now)) }
-    ensures refused { IfErr result (λ fault. (fault ≡ LoadFault.Memory) ⊎ HasInputFault (members_of section.now) fault) }
-{
-    section.has_only(&["federate", "action", "time", "micro", "value"])?;
-    let federate = section.copied_text("federate")?;
-    let action = section.copied_text("action")?;
-    let time = section.needed_duration("time")?;
-    let microstep = section.microstep("micro")?;
-    let value = section.needed_number("value")?;
-    Ok(Input {
-        federate,
-        action,
-        tag: FiniteTag::new(time, microstep),
-        value,
-    })
 }

@@ -1,9 +1,9 @@
 ghost use Rattle.std.specs.Prelude.{◌≡◌, ◌⊎◌, IfOk, IfErr, codes};
 ghost use Rattle.loadfed.specs.Sections.{members_of};
-ghost use Rattle.loadfed.specs.Tables.{SaysEach};
 ghost use Rattle.loadfed.specs.Shape.{SaysTimer, SaysSlots, has_startup, wants_startup};
-ghost use Rattle.loadfed.specs.ShapeFaults.{HasTimerFault, HasTablesFault, HasSlotsFault};
+ghost use Rattle.loadfed.specs.ShapeFaults.{HasTimerFault, HasSlotsFault};
 
+use crate::arrays::{FromTable, read_each};
 use crate::fault::LoadFault;
 use crate::section::Section;
 use plan::{Slots, Text, Timer, Timers};
@@ -21,14 +21,14 @@ pub fn slots_shape(
 {
     let inputs = federate.names("inputs")?;
     let outputs = federate.names("outputs")?;
-    let timers = timers(alloc, federate)?;
+    let timers = read_each(alloc, federate, "timers")?;
     let actions = federate.names("actions")?;
     let physical = federate.names("physical")?;
     Ok(Slots {
         startup: want_startup(reactions),
         inputs,
         outputs,
-        timers,
+        timers: Timers::new(timers),
         actions,
         physical,
     })
@@ -53,31 +53,20 @@ fn has_startup(triggers: &[Text]) -> bool
     }
 }
 
-fn timers(alloc: Global, federate: &Section<'_>) -> Result<Timers, LoadFault>
-    ensures ok { IfOk result (SaysEach SaysTimer (codes "timers") (members_of federate.now)) }
-    ensures refused { IfErr result (λ fault. (fault ≡ LoadFault.Memory) ⊎ HasTablesFault HasTimerFault (codes "timers") (members_of federate.now) fault) }
-{
-    let values = federate.array("timers")?;
-    let mut timers = Vec::new(alloc);
-    for value in values {
-        let section = Section::entry(alloc, "timers", value)?;
-        let timer = timer(&section)?;
-        timers.push(timer)?;
-    }
-    Ok(Timers::new(timers))
-}
+impl FromTable for Timer {
+    ghost says = { SaysTimer };
 
-fn timer(section: &Section<'_>) -> Result<Timer, LoadFault>
-    ensures ok { IfOk result (SaysTimer (members_of section.now)) }
-    ensures refused { IfErr result (λ fault. (fault ≡ LoadFault.Memory) ⊎ HasTimerFault (members_of section.now) fault) }
-{
-    section.has_only(&["name", "offset", "period"])?;
-    let name = section.name("name")?;
-    let offset = section.nanoseconds("offset")?;
-    let period = section.nanoseconds("period")?;
-    Ok(Timer {
-        name,
-        offset,
-        period,
-    })
+    ghost has_fault = { HasTimerFault };
+
+    fn from_table(_alloc: Global, table: &Section<'_>) -> Result<Timer, LoadFault> {
+        table.has_only(&["name", "offset", "period"])?;
+        let name = table.name("name")?;
+        let offset = table.nanoseconds("offset")?;
+        let period = table.nanoseconds("period")?;
+        Ok(Timer {
+            name,
+            offset,
+            period,
+        })
+    }
 }

@@ -1,33 +1,10 @@
 use Rattle.std.proofs.lemmas.Result.{err_from_is_err_and}
-use Rattle.std.proofs.Common.{codes}
-use Rattle.loadfed.specs.Sections.{members_of}
-use Rattle.loadfed.specs.Shape.{SaysConnection}
-use Rattle.loadfed.specs.ShapeFaults.{HasConnectionFault}
-use Rattle.loadfed.proofs.TableReadings.{read_none, read_more, read_all, array_told, entry_told, inside_told}
 use Rattle.loadfed.proofs.connection_shape.connections_shape.Goals as goal
 
-pub loop-value-preserved : goal.loop-value-preserved
-loop-value-preserved c =
-    rw c.in_ok-push.ensures.items
-    (read_more SaysConnection c.in_ok-values.values.now c.loop-value.connections.items c.loop-value.value-index c.value-item.result (members_of c.in_ok-section.section) c.in_ok-connection.connection c.loop-value-test.true c.value-item.is c.loop-value.invariant c.in_ok-section.ensures.ok c.in_ok-connection.ensures.ok)
-
-pub loop-value-init : goal.loop-value-init
-loop-value-init c = rw c.new-connections.ensures.items (read_none SaysConnection)
-
-pub returns-in_err-values-clause-refused : goal.returns-in_err-values-clause-refused
-returns-in_err-values-clause-refused c =
+pub returns-in_err-connections-clause-refused : goal.returns-in_err-connections-clause-refused
+returns-in_err-connections-clause-refused c =
     let p = err_from_is_err_and c.from_residual.result c.from_residual.ensures.1 in
-    rw (p.1, p.2) (array_told HasConnectionFault (codes "connection") (members_of c.args.file.now) _ c.in_err-values.ensures.refused)
-
-pub returns-in_err-section-clause-refused : goal.returns-in_err-section-clause-refused
-returns-in_err-section-clause-refused c =
-    let p = err_from_is_err_and c.from_residual-in_err-section.result c.from_residual-in_err-section.ensures.1 in
-    rw (p.1, p.2) (entry_told HasConnectionFault (codes "connection") (members_of c.args.file.now) c.in_ok-values.values.now c.loop-value.value-index c.value-item.result _ c.in_ok-values.ensures.ok c.loop-value-test.true c.value-item.is c.in_err-section.ensures.refused)
-
-pub returns-in_err-connection-clause-refused : goal.returns-in_err-connection-clause-refused
-returns-in_err-connection-clause-refused c =
-    let p = err_from_is_err_and c.from_residual-in_err-connection.result c.from_residual-in_err-connection.ensures.1 in
-    rw (p.1, p.2) (inside_told HasConnectionFault (codes "connection") (members_of c.args.file.now) c.in_ok-values.values.now c.loop-value.value-index c.value-item.result (members_of c.in_ok-section.section) _ c.in_ok-values.ensures.ok c.loop-value-test.true c.value-item.is c.in_ok-section.ensures.ok c.in_err-connection.ensures.refused)
+    rw (p.1, p.2) c.in_err-connections.ensures.refused
 
 pub returns-clause-ok : goal.returns-clause-ok
-returns-clause-ok c = rw c.new.ensures (read_all SaysConnection (codes "connection") (members_of c.args.file.now) c.in_ok-values.values.now c.loop-value.connections.items c.loop-value.value-index c.in_ok-values.ensures.ok c.loop-value.invariant c.loop-value-test.false)
+returns-clause-ok c = rw c.new.ensures c.in_ok-connections.ensures.ok

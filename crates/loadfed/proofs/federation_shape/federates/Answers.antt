@@ -1,35 +1,19 @@
 use Rattle.std.proofs.lemmas.Result.{err_from_is_err_and}
 use Rattle.std.proofs.Common.{codes}
 use Rattle.loadfed.specs.Sections.{members_of}
-use Rattle.loadfed.specs.ShapeFaults.{HasFederateFault}
-use Rattle.loadfed.proofs.TableReadings.{array_told, entry_told, inside_told}
-use Rattle.loadfed.proofs.ShapeReadings.{federates_none, federates_more, federates_all}
+use Rattle.loadfed.specs.ShapeFaults.{HasFederateFault, HasTablesFault}
+use Rattle.loadfed.proofs.ShapeReadings.{federates_parted}
+use Rattle.loadfed.proofs.Refusals.{memory_alone}
 use Rattle.loadfed.proofs.federation_shape.federates.Goals as goal
 
-pub loop-value-preserved : goal.loop-value-preserved
-loop-value-preserved c =
-    rw (c.in_ok-push.ensures.items, c.in_ok-push-2.ensures.items)
-    (federates_more c.in_ok-values.values.now c.loop-value.federates.items c.loop-value.programs.items c.loop-value.value-index c.value-item.result (members_of c.in_ok-section.section) c.in_ok-federate.federate c.in_ok-federate.program c.loop-value-test.true c.value-item.is c.loop-value.invariant c.in_ok-section.ensures.ok c.in_ok-federate.ensures.federate c.in_ok-federate.ensures.program)
-
-pub loop-value-init : goal.loop-value-init
-loop-value-init c =
-    rw (c.new-federates.ensures.items, c.new-programs.ensures.items) federates_none
-
-pub returns-in_err-values-clause-refused : goal.returns-in_err-values-clause-refused
-returns-in_err-values-clause-refused c =
+pub returns-in_err-shapes-clause-refused : goal.returns-in_err-shapes-clause-refused
+returns-in_err-shapes-clause-refused c =
     let p = err_from_is_err_and c.from_residual.result c.from_residual.ensures.1 in
-    rw (p.1, p.2) (array_told HasFederateFault (codes "federate") (members_of c.args.file.now) _ c.in_err-values.ensures.refused)
-
-pub returns-in_err-section-clause-refused : goal.returns-in_err-section-clause-refused
-returns-in_err-section-clause-refused c =
-    let p = err_from_is_err_and c.from_residual-in_err-section.result c.from_residual-in_err-section.ensures.1 in
-    rw (p.1, p.2) (entry_told HasFederateFault (codes "federate") (members_of c.args.file.now) c.in_ok-values.values.now c.loop-value.value-index c.value-item.result _ c.in_ok-values.ensures.ok c.loop-value-test.true c.value-item.is c.in_err-section.ensures.refused)
-
-pub returns-in_err-federate-clause-refused : goal.returns-in_err-federate-clause-refused
-returns-in_err-federate-clause-refused c =
-    let p = err_from_is_err_and c.from_residual-in_err-federate.result c.from_residual-in_err-federate.ensures.1 in
-    rw (p.1, p.2) (inside_told HasFederateFault (codes "federate") (members_of c.args.file.now) c.in_ok-values.values.now c.loop-value.value-index c.value-item.result (members_of c.in_ok-section.section) _ c.in_ok-values.ensures.ok c.loop-value-test.true c.value-item.is c.in_ok-section.ensures.ok c.in_err-federate.ensures.refused)
+    rw (p.1, p.2) c.in_err-shapes.ensures.refused
 
 pub returns-clause-ok : goal.returns-clause-ok
 returns-clause-ok c =
-    rw c.new.ensures (federates_all (members_of c.args.file.now) c.in_ok-values.values.now c.loop-value.federates.items c.loop-value.programs.items c.loop-value.value-index c.in_ok-values.ensures.ok c.loop-value.invariant c.loop-value-test.false)
+    federates_parted (members_of c.args.file.now) c.in_ok-shapes.shapes.items c.parted.result c.in_ok-shapes.ensures.ok c.parted.ensures.ok
+
+pub returns-clause-refused : goal.returns-clause-refused
+returns-clause-refused c = memory_alone (HasTablesFault HasFederateFault (codes "federate") (members_of c.args.file.now)) c.parted.result c.parted.ensures.refused

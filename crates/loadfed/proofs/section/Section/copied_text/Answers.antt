@@ -1,6 +1,5 @@
 use Rattle.std.proofs.lemmas.Result.{err_from_is_err_and}
 use Rattle.loadfed.specs.Sections.{members_of}
-use Rattle.loadfed.proofs.Refusals.{weaker}
 use Rattle.loadfed.proofs.KeyReadings.{text_made, text_refused}
 use Rattle.loadfed.proofs.section.Section.copied_text.Goals as goal
 
