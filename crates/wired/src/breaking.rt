@@ -1,14 +1,13 @@
 //! Connections that break in the midst of a run: the federates connect again, and the rows are the same.
 ghost use Rattle.std.specs.Prelude.{◌≡◌};
 
-use crate::federations::{loaded, undivided};
+use crate::federations::{Federation, loaded};
 use crate::memory_lines::{Wrap, ran_in_memory};
-use crate::running::has_rows;
+use crate::running::has_all_rows;
 use samples::COUNTER;
 use std::alloc::Global;
 use std::sync::Wait;
 use std::sync::atomic::{AtomicU64, Ordering};
-use std::test::Fail;
 use std::thread::Threads;
 use std::time::Clock;
 use wires::{Broken, Failures, MemoryTransport, Open, Transport};
@@ -85,19 +84,29 @@ impl<'a> Wrap<Breaking<'a>> for Breaks<'a> {
 }
 
 /// Whether a run has its rows, though all calls that may fail did.
-fn mends<R: Threads + Wait + Clock + Sync>(rt: &R, alloc: Global) -> Option<bool> {
-    let federation = loaded(alloc, COUNTER, "")?;
-    let whole = undivided(alloc, &federation)?;
-    let calls = Calls {
-        count: AtomicU64::new(0),
-    };
-    let gathered = ran_in_memory(rt, alloc, &federation, &Open, Breaks { calls: &calls })?;
-    let has_broken = calls.count.load(Ordering::SeqCst) >= 2 * EVERY;
-    Some(has_broken && has_rows(&gathered, whole.rows()))
+fn mends<R: Threads + Wait + Clock + Sync>(
+    rt: &R,
+    alloc: Global,
+    federation: &Federation,
+    calls: &Calls,
+) -> bool {
+    match ran_in_memory(rt, alloc, federation, &Open, Breaks { calls }) {
+        Some(gathered) => {
+            calls.count.load(Ordering::SeqCst) >= 2 * EVERY
+                && has_all_rows(alloc, federation, &gathered)
+        }
+        None => false,
+    }
 }
 
 #[test]
-fn breaks_mend(rt: HostRuntime) -> Result<(), Fail> {
-    assert!(rt; mends(&rt, rt.alloc()) == Some(true));
-    Ok(())
+fn breaks_mend(rt: HostRuntime) {
+    let calls = Calls {
+        count: AtomicU64::new(0),
+    };
+    let mended = match loaded(rt.alloc(), COUNTER, "") {
+        Some(federation) => mends(&rt, rt.alloc(), &federation, &calls),
+        None => false,
+    };
+    assert!(rt; mended);
 }

@@ -1,6 +1,10 @@
 //! Federations to run, and the rows that they must have.
 ghost use Rattle.std.specs.Prelude.{IfSome};
 
+use coordinator::Coordinator;
+use desk::Desk;
+use desks::{coordinator_desk, federate_desks};
+use federate::Federate;
 use loadfed::{load, load_inputs};
 use plan::{Inputs, Plan};
 use reactor::{Programs, RowView, Rows};
@@ -39,6 +43,9 @@ impl Model for Federation {
     ghost invariant = { λ f. AreProgramsOf f.plan f.programs × AreInputsOf f.plan f.inputs };
 }
 
+/// The coordinator's desk, and the federates'.
+pub(crate) type Desks<'a> = (Desk<Coordinator<'a>>, Vec<Desk<Federate<'a>>>);
+
 /// The federation of a file and its input file; None where it can't be loaded.
 pub(crate) fn loaded(alloc: Global, federation: &str, inputs: &str) -> Option<Federation> {
     let (plan, programs) = load(alloc, federation.as_bytes()).ok()?;
@@ -48,6 +55,18 @@ pub(crate) fn loaded(alloc: Global, federation: &str, inputs: &str) -> Option<Fe
         programs,
         inputs,
     })
+}
+
+/// The desks of a federation's nodes: the coordinator's, and the federates' by number.
+pub(crate) fn desks_of<'a>(alloc: Global, federation: &'a Federation) -> Option<Desks<'a>> {
+    let hub = coordinator_desk(alloc, &federation.plan).ok()?;
+    let desks = federate_desks(
+        alloc,
+        &federation.plan,
+        &federation.programs,
+        &federation.inputs,
+    );
+    Some((hub, desks.ok()?))
 }
 
 /// The rows of the undivided program; None where there is no memory for it.

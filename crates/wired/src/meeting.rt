@@ -1,5 +1,5 @@
 //! Two federates that have nothing to do with each other run at the same time.
-use crate::federations::loaded;
+use crate::federations::{Federation, loaded};
 use crate::memory_lines::{Plain, ran_in_memory};
 use crate::running::is_finished;
 use node::NodeId;
@@ -7,7 +7,6 @@ use samples::APART;
 use std::alloc::Global;
 use std::sync::Wait;
 use std::sync::atomic::{AtomicBool, Ordering};
-use std::test::Fail;
 use std::thread;
 use std::thread::Threads;
 use std::time::{Clock, Duration};
@@ -53,15 +52,26 @@ impl Gate for Meeting {
 }
 
 /// Whether both pass, and the run finishes.
-fn meets<R: Threads + Wait + Clock + Sync>(rt: &R, alloc: Global) -> Option<bool> {
-    let federation = loaded(alloc, APART, "")?;
-    let meeting = Meeting::new();
-    let gathered = ran_in_memory(rt, alloc, &federation, &meeting, Plain)?;
-    Some(is_finished(&gathered) && !meeting.has_waited_in_vain.load(Ordering::SeqCst))
+fn meets<R: Threads + Wait + Clock + Sync>(
+    rt: &R,
+    alloc: Global,
+    federation: &Federation,
+    meeting: &Meeting,
+) -> bool {
+    match ran_in_memory(rt, alloc, federation, meeting, Plain) {
+        Some(gathered) => {
+            is_finished(&gathered) && !meeting.has_waited_in_vain.load(Ordering::SeqCst)
+        }
+        None => false,
+    }
 }
 
 #[test]
-fn two_advance_at_once(rt: HostRuntime) -> Result<(), Fail> {
-    assert!(rt; meets(&rt, rt.alloc()) == Some(true));
-    Ok(())
+fn two_advance_at_once(rt: HostRuntime) {
+    let meeting = Meeting::new();
+    let met = match loaded(rt.alloc(), APART, "") {
+        Some(federation) => meets(&rt, rt.alloc(), &federation, &meeting),
+        None => false,
+    };
+    assert!(rt; met);
 }

@@ -1,8 +1,8 @@
 //! Federations in threads over connections in memory.
-use crate::federations::Federation;
+use crate::federations::{Federation, desks_of};
 use coordinator::Coordinator;
 use crossbeam_channel::{Sender, unbounded};
-use desks::{coordinator_desk, federate_desks};
+use desk::Desk;
 use federate::Federate;
 use std::alloc::Global;
 use std::sync::Wait;
@@ -67,6 +67,29 @@ impl Entrance for NoEntrance {
     fn let_in<R: Wait + Clock>(self, _rt: &R, _alloc: Global, _ending: &Ending) {}
 }
 
+/// The members of a federation, each with its way to the coordinator.
+fn members<'a, T: Drop, W: Wrap<T> + Copy + Drop>(
+    alloc: Global,
+    desks: Vec<Desk<Federate<'a>>>,
+    wrap: W,
+) -> Option<Vec<Member<Federate<'a>, MemoryDial<T, W>, T, MemoryCut>>> {
+    let mut members = Vec::with_capacity(alloc, desks.len()).ok()?;
+    for desk in desks {
+        let (sender, arrivals) = unbounded(alloc).ok()?;
+        let dial = MemoryDial {
+            arrivals: sender,
+            wrap,
+        };
+        let member = Member {
+            desk,
+            dial,
+            arrivals,
+        };
+        members.push(member).ok()?;
+    }
+    Some(members)
+}
+
 /// The desks after a run over memory; None where there are none.
 pub(crate) fn ran_in_memory<
     'a,
@@ -81,28 +104,7 @@ pub(crate) fn ran_in_memory<
     gate: &G,
     wrap: W,
 ) -> Option<Gathered<Coordinator<'a>, Federate<'a>>> {
-    let hub = coordinator_desk(alloc, &federation.plan).ok()?;
-    let desks = federate_desks(
-        alloc,
-        &federation.plan,
-        &federation.programs,
-        &federation.inputs,
-    )
-    .ok()?;
-    let mut members = Vec::new(alloc);
-    for desk in desks {
-        let (sender, arrivals) = unbounded(alloc).ok()?;
-        let dial = MemoryDial {
-            arrivals: sender,
-            wrap,
-        };
-        members
-            .push(Member {
-                desk,
-                dial,
-                arrivals,
-            })
-            .ok()?;
-    }
+    let (hub, desks) = desks_of(alloc, federation)?;
+    let members = members(alloc, desks, wrap)?;
     run(rt, alloc, hub, members, NoEntrance, gate, 100_000).ok()
 }

@@ -1,7 +1,6 @@
 //! Federations in threads over TCP.
-use crate::federations::{ALL, Federation, are_rows_of, loaded, undivided};
+use crate::federations::{ALL, Federation, are_rows_of, desks_of, loaded, undivided};
 use coordinator::Coordinator;
-use desks::{coordinator_desk, federate_desks};
 use federate::Federate;
 use node::Node;
 use reactor::Rows;
@@ -9,7 +8,6 @@ use samples::COUNTER;
 use std::alloc::Global;
 use std::net::{Net, TcpListener, TcpStream};
 use std::sync::Wait;
-use std::test::Fail;
 use std::thread::Threads;
 use std::time::Clock;
 use wires::{Gathered, Open, run_over_tcp};
@@ -21,14 +19,7 @@ fn ran<'a, R: Threads + Wait + Clock + Net<Stream = TcpStream, Listener = TcpLis
     federation: &'a Federation,
     turns: u32,
 ) -> Option<Gathered<Coordinator<'a>, Federate<'a>>> {
-    let hub = coordinator_desk(alloc, &federation.plan).ok()?;
-    let desks = federate_desks(
-        alloc,
-        &federation.plan,
-        &federation.programs,
-        &federation.inputs,
-    )
-    .ok()?;
+    let (hub, desks) = desks_of(alloc, federation)?;
     run_over_tcp(rt, alloc, hub, desks, &Open, turns).ok()
 }
 
@@ -47,41 +38,63 @@ pub(crate) fn has_rows(gathered: &Gathered<Coordinator<'_>, Federate<'_>>, all: 
     is_finished(gathered)
 }
 
+/// Whether the coordinator is finished, and each federate has its rows of the undivided program.
+pub(crate) fn has_all_rows(
+    alloc: Global,
+    federation: &Federation,
+    gathered: &Gathered<Coordinator<'_>, Federate<'_>>,
+) -> bool {
+    match undivided(alloc, federation) {
+        Some(whole) => has_rows(gathered, whole.rows()),
+        None => false,
+    }
+}
+
 /// Whether a run has the rows of the undivided program.
 fn runs<R: Threads + Wait + Clock + Net<Stream = TcpStream, Listener = TcpListener> + Sync>(
     rt: &R,
     alloc: Global,
-    federation: &str,
-    inputs: &str,
-) -> Option<bool> {
-    let federation = loaded(alloc, federation, inputs)?;
-    let whole = undivided(alloc, &federation)?;
-    let gathered = ran(rt, alloc, &federation, 100_000)?;
-    Some(has_rows(&gathered, whole.rows()))
+    federation: &Federation,
+) -> bool {
+    match ran(rt, alloc, federation, 100_000) {
+        Some(gathered) => has_all_rows(alloc, federation, &gathered),
+        None => false,
+    }
+}
+
+/// Whether each of five runs has the rows of the undivided program.
+fn runs_each_time<
+    R: Threads + Wait + Clock + Net<Stream = TcpStream, Listener = TcpListener> + Sync,
+>(rt: &R, alloc: Global, federation: &str, inputs: &str) -> bool {
+    match loaded(alloc, federation, inputs) {
+        Some(federation) => (0..5).all(|_| runs(rt, alloc, &federation)),
+        None => false,
+    }
 }
 
 #[test]
-fn each_has_its_rows(rt: HostRuntime) -> Result<(), Fail> {
+fn each_has_its_rows(rt: HostRuntime) {
     for (federation, inputs) in ALL {
-        for _ in 0..5 {
-            assert!(rt; runs(&rt, rt.alloc(), federation, inputs) == Some(true));
-        }
+        assert!(rt; runs_each_time(&rt, rt.alloc(), federation, inputs));
     }
-    Ok(())
 }
 
 /// Whether a run with so few turns ends unfinished.
 fn ends_unfinished<
     R: Threads + Wait + Clock + Net<Stream = TcpStream, Listener = TcpListener> + Sync,
->(rt: &R, alloc: Global, turns: u32) -> Option<bool> {
-    let federation = loaded(alloc, COUNTER, "")?;
-    let gathered = ran(rt, alloc, &federation, turns)?;
-    Some(!is_finished(&gathered))
+>(rt: &R, alloc: Global, turns: u32) -> bool {
+    match loaded(alloc, COUNTER, "") {
+        Some(federation) => match ran(rt, alloc, &federation, turns) {
+            Some(gathered) => !is_finished(&gathered),
+            None => false,
+        },
+        None => false,
+    }
 }
 
 #[test]
-fn few_turns(rt: HostRuntime) -> Result<(), Fail> {
-    assert!(rt; ends_unfinished(&rt, rt.alloc(), 0) == Some(true));
-    assert!(rt; ends_unfinished(&rt, rt.alloc(), 3) == Some(true));
-    Ok(())
+fn few_turns(rt: HostRuntime) {
+    for turns in [0, 3] {
+        assert!(rt; ends_unfinished(&rt, rt.alloc(), turns));
+    }
 }

@@ -1,8 +1,8 @@
 -- How a runner goes on: turns, and waits for a hint in between.
 use Rattle.std.specs.Prelude.{ℕ, ◌+◌, ◌-◌, Bool, not, ◌&&◌, nat_eq, if◌then◌else◌}
-use Rattle.wires.specs.declared.pace.Next.{Next}
-use Rattle.wires.specs.declared.pace.Next.TheVariants.{Turn, Wait, Repeat, End}
-use Rattle.wires.specs.declared.pace.TheConstants.{WAITS}
+use Rattle.workers.specs.declared.pace.Next.{Next}
+use Rattle.workers.specs.declared.pace.Next.TheVariants.{Turn, Wait, Repeat, End}
+use Rattle.workers.specs.declared.pace.TheConstants.{WAITS}
 
 -- the turns that are left, and the waits so far without a hint, in a row
 pub record Pace : Type 0 where

@@ -1,14 +1,15 @@
 ghost use Rattle.std.specs.Prelude.{◌≡◌, ℕ, None, ◌∷◌, ◌++◌, [], IfSome};
-ghost use Rattle.wires.specs.HandedIn.{HandedIn};
+ghost use Rattle.workers.specs.HandedIn.{HandedIn};
 
-use crate::ending::Ending;
 use crate::gate::{Gate, Point};
-use crate::order::{Hint, Order};
+use crate::hints::{Hint, Hints};
+use crate::order::Order;
 use crossbeam_channel::Sender;
 use desk::{Share, Shared};
 use node::{Event, Node, NodeId, Outgoing, Reply};
 use std::sync::Wait;
 use std::time::Clock;
+use transports::Ending;
 
 /// What the workers of one node are lent.
 #[derive(Drop)]
@@ -19,7 +20,7 @@ pub struct Context<'a, N: Node, G: Gate, T: Drop, C: Drop> {
     /// To the writer of each peer, by the peer's number.
     pub writers: &'a [Sender<Order<T, C>>],
     /// To the node's runner, if it has one.
-    pub runner: Option<&'a Sender<Hint>>,
+    pub runner: Option<&'a Hints>,
     pub ending: &'a Ending,
 }
 
@@ -88,7 +89,7 @@ impl<'a, N: Node, G: Gate, T: Drop, C: Drop> Context<'a, N, G, T, C> {
     /// Tells the runner.
     pub fn hint<R: Wait>(&self, rt: &R, hint: Hint) {
         if let Some(runner) = self.runner {
-            let _ = runner.send(rt, hint);
+            runner.tell(rt, hint);
         }
     }
 }

@@ -1,6 +1,6 @@
 use Rattle.std.proofs.Common.{Ok, subst}
 use Rattle.signal.specs.Stream.{Gives}
-use Rattle.wires.proofs.reader.take_next.Goals as goal
+use Rattle.workers.proofs.reader.take_next.Goals as goal
 
 pub returns-in-Some-clause-frame : goal.returns-in-Some-clause-frame
 returns-in-Some-clause-frame g c =

@@ -1,5 +1,5 @@
 ghost use Rattle.std.specs.Prelude.{◌≡◌};
-ghost use Rattle.wires.specs.Point.{point_of};
+ghost use Rattle.workers.specs.Point.{point_of};
 
 use node::{Event, NodeId};
 use std::sync::Wait;

@@ -1,6 +1,6 @@
 //! A connection that hasn't yet said whose it is.
 ghost use Rattle.std.specs.Prelude.{◌≡◌};
-ghost use Rattle.wires.specs.Greeter.{greeter_of};
+ghost use Rattle.transports.specs.Greeter.{greeter_of};
 
 use crate::connection::{Arrived, Connection};
 use crate::tcp::{TcpCut, TcpTransport};

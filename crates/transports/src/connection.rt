@@ -1,4 +1,3 @@
-use node::Outgoing;
 use std::sync::Arc;
 
 /// One end of a connection, for the two workers that share it: one reads and one writes, and either may end it.
@@ -14,12 +13,4 @@ pub struct Connection<T: Drop, C: Drop> {
 pub struct Arrived<T: Drop, C: Drop> {
     pub connection: Connection<T, C>,
     pub first: Vec<u8>,
-}
-
-/// A connection on which a peer was greeted, with the frames that are sent first.
-#[derive(Drop)]
-pub(crate) struct Greeted<T: Drop, C: Drop> {
-    pub peer: usize,
-    pub arrived: Arrived<T, C>,
-    pub greeting: Vec<Outgoing>,
 }

@@ -1,8 +1,8 @@
 -- The kind of an event.
 use Rattle.node.specs.declared.event.Event.{Event}
 use Rattle.node.specs.declared.event.Event.TheVariants as Events
-use Rattle.wires.specs.declared.gate.Point.{Point}
-use Rattle.wires.specs.declared.gate.Point.TheVariants as Points
+use Rattle.workers.specs.declared.gate.Point.{Point}
+use Rattle.workers.specs.declared.gate.Point.TheVariants as Points
 
 -- an event's kind
 abbrev pub point_of : Event → Point

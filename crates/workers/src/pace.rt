@@ -1,5 +1,5 @@
 ghost use Rattle.std.specs.Prelude.{◌≡◌};
-ghost use Rattle.wires.specs.Pace.{turn_of, turned, after_turn, waited, after_wait};
+ghost use Rattle.workers.specs.Pace.{turn_of, turned, after_turn, waited, after_wait};
 
 use std::marker::Model;
 
@@ -28,8 +28,8 @@ pub struct Pace {
 
 impl Model for Pace {
     ghost use Rattle.std.specs.Prelude.{◌<◌};
-    ghost use Rattle.wires.specs.Pace as pace;
-    ghost use Rattle.wires.specs.declared.pace.TheConstants.{WAITS};
+    ghost use Rattle.workers.specs.Pace as pace;
+    ghost use Rattle.workers.specs.declared.pace.TheConstants.{WAITS};
 
     ghost Value = { pace.Pace };
 

@@ -13,12 +13,3 @@ pub enum Order<T: Drop, C: Drop> {
     /// To see that the run is to end. Where there is no memory to ask it so, it sees it by itself a little later.
     End,
 }
-
-/// What a runner is told.
-#[derive(Clone, Copy, Debug, PartialEq, Eq)]
-pub enum Hint {
-    /// An event of its node did something.
-    Done,
-    /// An attempt to connect failed. It counts as a turn.
-    NotConnected,
-}

@@ -1,5 +1,5 @@
 ghost use Rattle.std.specs.Prelude.{◌≡◌, ◌++◌, [], false, true, take, drop, length, min, OnOk, OnErr};
-ghost use Rattle.wires.specs.Pipe.{must_wait};
+ghost use Rattle.transports.specs.Pipe.{must_wait};
 
 use std::alloc::{AllocError, Global};
 use std::marker::Model;
@@ -15,7 +15,7 @@ pub struct Pipe {
 
 impl Model for Pipe {
     ghost use Rattle.std.specs.Prelude.{◌≤◌, drop, vec_len};
-    ghost use Rattle.wires.specs.Pipe as pipe;
+    ghost use Rattle.transports.specs.Pipe as pipe;
 
     ghost Value = { pipe.Pipe };
 

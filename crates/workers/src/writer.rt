@@ -2,10 +2,7 @@
 ghost use Rattle.std.specs.Prelude.{◌≡◌, ◌++◌, [], OnOk, OnErr};
 ghost use Rattle.signal.specs.Frame.{frame_bytes};
 
-use crate::cut::Cut;
-use crate::ending::Ending;
 use crate::order::Order;
-use crate::transport::Transport;
 use crossbeam_channel::{Receiver, RecvTimeoutError};
 use node::Outgoing;
 use signal::{Frame, Memory, write_frame};
@@ -13,6 +10,7 @@ use std::alloc::Global;
 use std::marker::Model;
 use std::sync::{Arc, Wait};
 use std::time::{Clock, Duration};
+use transports::{Cut, Ending, Transport};
 
 // The longest wait until a writer sees by itself that the run is to end, in ms.
 const LONGEST_WAIT: u64 = 100;

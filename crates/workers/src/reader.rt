@@ -3,14 +3,12 @@ ghost use Rattle.std.specs.Prelude.{◌≡◌, true, false, Ok, OnErr};
 ghost use Rattle.signal.specs.declared.frame.Frame.{Frame as IsFrame};
 ghost use Rattle.signal.specs.Stream.{GivesFrame};
 ghost use Rattle.node.specs.declared.event.Event.TheVariants as Events;
-ghost use Rattle.wires.specs.HandedIn.{HandedIn};
+ghost use Rattle.workers.specs.HandedIn.{HandedIn};
 
-use crate::connection::{Arrived, Connection, Greeted};
 use crate::context::Context;
-use crate::cut::Cut;
 use crate::gate::Gate;
+use crate::greeted::Greeted;
 use crate::order::Order;
-use crate::transport::Transport;
 use crossbeam_channel::Receiver;
 use desk::Share;
 use node::{Event, Node, Reply};
@@ -18,6 +16,7 @@ use signal::{FrameFault, FrameReader};
 use std::alloc::Global;
 use std::sync::{Arc, Wait};
 use std::time::Clock;
+use transports::{Arrived, Connection, Cut, Transport};
 
 // Bytes of one read.
 const ROOM: usize = 4096;

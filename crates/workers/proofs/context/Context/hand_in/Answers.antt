@@ -1,5 +1,5 @@
-use Rattle.wires.specs.HandedIn.{handled}
-use Rattle.wires.proofs.context.Context.hand_in.Goals as goal
+use Rattle.workers.specs.HandedIn.{handled}
+use Rattle.workers.proofs.context.Context.hand_in.Goals as goal
 
 pub returns-in-Some-Done : goal.returns-in-Some-Done
 returns-in-Some-Done g c = handled c.in-Some-Done.ensures.slip.0 c.in-Some-Done.ensures.slip.1

@@ -1,0 +1,4 @@
+-- Bytes on their way in one direction.
+pub mod Pipe
+-- Who a connection is, by its first frame.
+pub mod Greeter

@@ -1,0 +1,67 @@
+use crossbeam_channel::{Receiver, Sender, unbounded};
+use std::alloc::{AllocError, Global};
+use std::sync::Wait;
+use std::sync::atomic::{AtomicBool, Ordering};
+use std::time::{Clock, Duration};
+
+// The longest wait for a hint, in ms.
+const LONGEST_WAIT: u64 = 10;
+
+/// What a runner is told.
+#[derive(Clone, Copy, Debug, PartialEq, Eq)]
+pub enum Hint {
+    /// An event of its node did something.
+    Done,
+    /// An attempt to connect failed. It counts as a turn.
+    NotConnected,
+}
+
+/// The hints of a node's workers to its runner. However much is done, a `Done` that waits is not told again.
+#[derive(Drop)]
+pub struct Hints {
+    sender: Sender<Hint>,
+    receiver: Receiver<Hint>,
+    // Whether `Done` was told since the runner last took what was waiting.
+    is_done_told: AtomicBool,
+}
+
+impl Hints {
+    /// None is waiting.
+    pub fn new(alloc: Global) -> Result<Hints, AllocError> {
+        let (sender, receiver) = unbounded(alloc)?;
+        Ok(Hints {
+            sender,
+            receiver,
+            is_done_told: AtomicBool::new(false),
+        })
+    }
+
+    /// Tells the runner. Where there is no memory for it, it isn't told.
+    pub fn tell<R: Wait>(&self, rt: &R, hint: Hint) {
+        if hint == Hint::NotConnected || !self.is_done_told.swap(true, Ordering::SeqCst) {
+            let _ = self.sender.send(rt, hint);
+        }
+    }
+
+    /// Waits for a hint; none where none came for too long.
+    pub fn wait<R: Wait + Clock>(&self, rt: &R) -> Option<Hint> {
+        self.receiver
+            .recv_timeout(rt, Duration::from_millis(LONGEST_WAIT))
+            .ok()
+    }
+
+    /// Takes all hints that are waiting, before a turn that answers them; how many attempts to connect failed. What is done
+    /// before it ends is seen by that turn, and of what is done after it there is a hint again.
+    pub fn take_waiting<R: Wait>(&self, rt: &R) -> u32 {
+        let mut failed: u32 = 0;
+        for _ in rt.forever() {
+            match self.receiver.try_recv(rt) {
+                Ok(Hint::Done) => {}
+                Ok(Hint::NotConnected) => failed = failed.saturating_add(1),
+                Err(_) => break,
+            }
+        }
+        self.is_done_told.store(false, Ordering::SeqCst);
+        failed
+    }
+}

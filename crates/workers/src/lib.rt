@@ -1,0 +1,37 @@
+//! The workers that stand between a connection and a node: a reader, a writer, a runner.
+//!
+//! Promise to the layer above: what is handed in is the frame that was read, and no more; what a runner does next is
+//! `specs/Pace`. Nothing is said of when a call returns.
+//!
+//!     federate                                                  coordinator
+//!     dialed::read_dialed -- connects, Hello first ----------> an entrance --- the connection ---+
+//!         |  reads frames                                                                        v
+//!         +--> Context::hand_in: gate, then the node's desk                                 reader::read
+//!                   |            |                                                               |
+//!         Order::Frame    Hint::Done                                        Context::hand_in <---+
+//!                   v            v                                               |
+//!            writer::write    runner::run                                  writer::write, one for each federate
+//!
+//! All workers of a node are lent one `Context`. A run ends where `Ending` is set: runners stop and tell their writers, writers
+//! end what they send, readers come to the end of what was sent. Begin with `gate`, then `context`, then `reader`.
+#![tactic(auto)]
+
+pub mod context;
+pub mod dialed;
+pub mod gate;
+mod greeted;
+pub mod hints;
+pub mod order;
+pub mod pace;
+pub mod reader;
+pub mod runner;
+pub mod writer;
+
+pub use context::Context;
+pub use dialed::read_dialed;
+pub use gate::{Gate, Open, Point};
+pub use hints::{Hint, Hints};
+pub use order::Order;
+pub use pace::{Next, Pace};
+pub use reader::read;
+pub use writer::write;
