@@ -2,19 +2,14 @@
 use Rattle.std.proofs.Common.{◌≡◌, true, false, List, [], ◌∷◌, refl, arith, Less}
 use Rattle.std.specs.List.{AllByRecursion}
 use Rattle.std.proofs.lemmas.Bool.Decides.{nat_tests}
-use Rattle.tag.specs.LogicalTime.{LogicalTime, is_before, is_at_most}
+use Rattle.tag.specs.LogicalTime.{LogicalTime, is_before}
+use Rattle.tag.proofs.Order.{not_at_most}
 use Rattle.network.specs.Undone.{Held, drop_up_to}
 use Rattle.agenda.specs.Agenda.{Rises}
 use Rattle.agenda.specs.Kept.{has_due}
 use Rattle.agenda.proofs.Order.{held_cmp}
 use Rattle.agenda.proofs.Putting.{Ordered, Above, ordered}
 use Rattle.agenda.proofs.Filtered.{filter_all}
-
-pub not_later : (g tag : LogicalTime) → is_at_most g tag ≡ true → is_before tag g ≡ false
-not_later g tag h = grind (arith, nat_tests)
-
-pub later : (g tag : LogicalTime) → is_at_most g tag ≡ false → is_before tag g ≡ true
-later g tag h = grind (arith, nat_tests)
 
 after : (a b : Held) (tag : LogicalTime) → is_before tag a.tag ≡ true → held_cmp a b ≡ Less → is_before tag b.tag ≡ true
 after a b tag h k = grind (arith, nat_tests)
@@ -26,7 +21,7 @@ all_after a (e ∷ u) tag h r = (after a e tag h r.0, all_after a u tag h r.1)
 pub none_due_by : (u : List Held) (tag : LogicalTime) → Ordered u → has_due tag u ≡ false → drop_up_to tag u ≡ u
 none_due_by [] tag r h = refl
 none_due_by (e ∷ u) tag r h =
-    let first = later e.tag tag h in filter_all (λ x. is_before tag x.tag) (e ∷ u) (first, all_after e u tag first r.0)
+    let first = not_at_most e.tag tag h in filter_all (λ x. is_before tag x.tag) (e ∷ u) (first, all_after e u tag first r.0)
 
 pub none_due : (u : List Held) (tag : LogicalTime) → Rises u → has_due tag u ≡ false → drop_up_to tag u ≡ u
 none_due u tag r h = none_due_by u tag (ordered u r) h

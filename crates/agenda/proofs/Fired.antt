@@ -4,6 +4,7 @@ use Rattle.std.specs.Prelude.{if◌then◌else◌, map, filter}
 use Rattle.std.specs.List.{AllByRecursion}
 use Rattle.std.proofs.lemmas.Bool.Decides.{nat_tests}
 use Rattle.tag.specs.LogicalTime.{LogicalTime, is_before, is_same}
+use Rattle.tag.proofs.Order.{not_before, before_not_same}
 use Rattle.network.specs.Undone.{Held, drop_up_to}
 use Rattle.plan.specs.External.{times_from}
 use Rattle.agenda.specs.declared.firings.Firings.{Firings}
@@ -12,7 +13,7 @@ use Rattle.agenda.specs.Kept.{has_due, has_before, firing, firings_of, Climbs, I
 use Rattle.agenda.proofs.Order.{held_cmp}
 use Rattle.agenda.proofs.Putting.{Above, Ordered}
 use Rattle.agenda.proofs.Filtered.{filter_none}
-use Rattle.agenda.proofs.Due.{not_later, none_due_by}
+use Rattle.agenda.proofs.Due.{none_due_by}
 
 earlier_firing : (slot t u : ℕ) → t < u → held_cmp (firing slot t) (firing slot u) ≡ Less
 earlier_firing slot t u h = grind (arith, nat_tests)
@@ -50,7 +51,7 @@ due_firing f tag h due =
     let at = ap (has_due tag) (sym (stepped_firings f h)) ∙ due in
     sym (ap (drop_up_to tag) (stepped_firings f h)
     ∙ ap (λ b. cond b (firing f.slot f.next ∷ drop_up_to tag (firings_of (stepped f))) (drop_up_to tag (firings_of (stepped f))))
-    (not_later (firing f.slot f.next).tag tag at))
+    (not_before tag (firing f.slot f.next).tag at))
 
 pub none_due_left : (f : Firings) (tag : LogicalTime) → IsTimer f → has_due tag (firings_of f) ≡ false → drop_up_to tag (firings_of f) ≡ firings_of f
 none_due_left f tag t none = none_due_by (firings_of f) tag (firings_ordered f.slot (times_from f.next f.period f.left) t.climbs) none
@@ -58,9 +59,6 @@ none_due_left f tag t none = none_due_by (firings_of f) tag (firings_ordered f.s
 -- those at a tag
 abbrev pub those_at : LogicalTime → List Held → List Held
 those_at tag u = filter (λ e. is_same e.tag tag) u
-
-before_not_same : (g tag : LogicalTime) → is_before g tag ≡ true → is_same g tag ≡ false
-before_not_same g tag h = grind (arith, nat_tests)
 
 pub firing_before : (f : Firings) (tag : LogicalTime) → 0 < f.left → has_before tag (firings_of f) ≡ true →
     those_at tag (firings_of (stepped f)) ≡ those_at tag (firings_of f)

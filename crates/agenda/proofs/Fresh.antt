@@ -6,14 +6,14 @@ use Rattle.std.proofs.lemmas.Bool.Decides.{nat_tests}
 use Rattle.std.proofs.lemmas.List.{map-append}
 use Rattle.std.proofs.Math.Nat.{suc-mul}
 use Rattle.tag.specs.LogicalTime.{LogicalTime, origin}
-use Rattle.network.specs.Undone.{Held, put_all}
+use Rattle.network.specs.Undone.{Held, put_all, held_of}
 use Rattle.plan.specs.declared.slots.Timer.{Timer}
 use Rattle.plan.specs.declared.slots.Slots.{Slots}
 use Rattle.plan.specs.Legal.{IsTimerInRange}
 use Rattle.plan.specs.Numbering.{first_timer}
 use Rattle.plan.specs.External.{outside, times_from, firing_count, firing_times, firings_from}
 use Rattle.plan.proofs.Outside.{firing_in_time}
-use Rattle.agenda.specs.Agenda.{held_of, own_undone}
+use Rattle.agenda.specs.Agenda.{own_undone}
 use Rattle.agenda.specs.Kept.{startup_in, firing, all_firings, timers_from, undone_of, Climbs, IsTimer, IsFit}
 use Rattle.agenda.proofs.Order.{held_cmp}
 use Rattle.agenda.proofs.Putting.{Above, put_first}

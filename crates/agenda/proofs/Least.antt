@@ -4,6 +4,7 @@ use Rattle.std.specs.Prelude.{if◌then◌else◌}
 use Rattle.std.specs.List.{AllByRecursion}
 use Rattle.std.proofs.lemmas.Bool.Decides.{nat_tests}
 use Rattle.tag.specs.LogicalTime.{LogicalTime, IsFinite, forever, lesser, is_before}
+use Rattle.tag.proofs.Order.{before_irreflexive, before_forever, lesser_first, lesser_second, lesser_commutes, lesser_associates}
 use Rattle.network.specs.Undone.{Held, put, put_all}
 use Rattle.agenda.specs.Agenda.{least_in}
 use Rattle.agenda.proofs.Order.{held_cmp}
@@ -17,38 +18,14 @@ AreFinite u = AllByRecursion (λ e. IsFinite e.tag) u
 lesser_if : (g h : LogicalTime) (b : Bool) → is_before g h ≡ b → lesser g h ≡ cond b g h
 lesser_if g h b e = ap (λ t. if t then g else h) e
 
-before_forever : (g : LogicalTime) → IsFinite g → is_before g forever ≡ true
-before_forever g f = let t = f.time in grind (arith, nat_tests)
-
 less_tag : (a b : Held) → held_cmp a b ≡ Less → is_before b.tag a.tag ≡ false
 less_tag a b h = grind (arith, nat_tests)
 
--- not before each other is the same
-either : (g h : LogicalTime) → is_before h g ≡ false → lesser g h ≡ g
-either g h e =
-    let one : (b : Bool) → is_before g h ≡ b → lesser g h ≡ g = λ b. elim b as (λ b. is_before g h ≡ b → lesser g h ≡ g) [
-      | true ↦ λ t. lesser_if g h true t
-      | false ↦ λ f. lesser_if g h false f ∙ tied g h f e
-    ] in
-    one (is_before g h) refl
-  where
-    tied : (g h : LogicalTime) → is_before g h ≡ false → is_before h g ≡ false → h ≡ g
-    tied g h a b =
-        let t : h.time ≡ g.time = grind (arith, nat_tests) in
-        let m : h.microstep ≡ g.microstep = grind (arith, nat_tests) in
-        ap (λ time. record { time = time; microstep = h.microstep }) t ∙ ap (λ microstep. record { time = g.time; microstep = microstep }) m
-
-other : (g h : LogicalTime) → is_before g h ≡ false → lesser g h ≡ h
-other g h e = lesser_if g h false e
-
 least_put_at : (e x : Held) (u : List Held) (o : Ordering) → held_cmp e x ≡ o → least_in (put e (x ∷ u)) ≡ lesser e.tag x.tag
-least_put_at e x u Less h = ap least_in (put_less e x u h) ∙ sym (either e.tag x.tag (less_tag e x h))
+least_put_at e x u Less h = ap least_in (put_less e x u h) ∙ sym (lesser_first e.tag x.tag (less_tag e x h))
 least_put_at e x u Equal h =
-    ap least_in (put_equal e x u h) ∙ sym (either e.tag x.tag (ap (λ g. is_before g e.tag) (sym (same_tag e x h)) ∙ itself e.tag))
-  where
-    itself : (g : LogicalTime) → is_before g g ≡ false
-    itself g = grind (arith, nat_tests)
-least_put_at e x u Greater h = ap least_in (put_greater e x u h) ∙ sym (other e.tag x.tag (greater_tag e x h))
+    ap least_in (put_equal e x u h) ∙ sym (lesser_first e.tag x.tag (ap (λ g. is_before g e.tag) (sym (same_tag e x h)) ∙ before_irreflexive e.tag))
+least_put_at e x u Greater h = ap least_in (put_greater e x u h) ∙ sym (lesser_second e.tag x.tag (greater_tag e x h))
   where
     greater_tag : (a b : Held) → held_cmp a b ≡ Greater → is_before a.tag b.tag ≡ false
     greater_tag a b h = grind (arith, nat_tests)
@@ -69,7 +46,7 @@ least_put_all (e ∷ es) u f = least_put_all es (put e u) f.1 ∙ ap (lesser_all
 -- none of them is before this one
 stays : (es : List Held) (g : LogicalTime) → AllByRecursion (λ x. is_before x.tag g ≡ false) es → lesser_all es g ≡ g
 stays [] g a = refl
-stays (e ∷ es) g a = ap (lesser_all es) (other e.tag g a.0) ∙ stays es g a.1
+stays (e ∷ es) g a = ap (lesser_all es) (lesser_second e.tag g a.0) ∙ stays es g a.1
 
 not_before_if : (g h k : LogicalTime) → is_before k g ≡ false → (b : Bool) → is_before g h ≡ b → is_before k (cond b g h) ≡ false
 not_before_if g h k a true p = a
@@ -84,27 +61,15 @@ not_before e g (x ∷ es) a = (
 
 -- in order the first is the least
 pub first_is_least : (es : List Held) (g : LogicalTime) → Ordered es → is_before forever g ≡ false → lesser_all es g ≡ lesser (least_in es) g
-first_is_least [] g r f = sym (other forever g f)
+first_is_least [] g r f = sym (lesser_second forever g f)
 first_is_least (e ∷ es) g r f = stays es (lesser e.tag g) (not_before e g es r.0)
 
 pub lesser_all-append : (xs ys : List Held) (g : LogicalTime) → lesser_all (xs ++ ys) g ≡ lesser_all ys (lesser_all xs g)
 lesser_all-append [] ys g = refl
 lesser_all-append (x ∷ xs) ys g = lesser_all-append xs ys (lesser x.tag g)
 
-order_by : (a h k : LogicalTime) (b c : Bool) → is_before h k ≡ b → is_before h a ≡ c → lesser a (lesser h k) ≡ lesser (lesser h a) k
-order_by a h k true true p q =
-    let back : is_before a h ≡ false = grind (arith, nat_tests) in
-    ap (lesser a) (lesser_if h k true p) ∙ other a h back ∙ sym (ap (λ g. lesser g k) (lesser_if h a true q) ∙ lesser_if h k true p)
-order_by a h k true false p q =
-    let back : is_before k a ≡ false = grind (arith, nat_tests) in
-    ap (lesser a) (lesser_if h k true p) ∙ either a h q ∙ sym (ap (λ g. lesser g k) (lesser_if h a false q) ∙ either a k back)
-order_by a h k false true p q =
-    let back : is_before a k ≡ false = grind (arith, nat_tests) in
-    ap (lesser a) (lesser_if h k false p) ∙ other a k back ∙ sym (ap (λ g. lesser g k) (lesser_if h a true q) ∙ lesser_if h k false p)
-order_by a h k false false p q = ap (lesser a) (lesser_if h k false p) ∙ sym (ap (λ g. lesser g k) (lesser_if h a false q))
-
 pub lesser_swaps : (a h k : LogicalTime) → lesser a (lesser h k) ≡ lesser (lesser h a) k
-lesser_swaps a h k = order_by a h k (is_before h k) (is_before h a) refl refl
+lesser_swaps a h k = sym (lesser_associates a h k) ∙ ap (λ g. lesser g k) (lesser_commutes a h)
 
 pub at_most_forever : (g h : LogicalTime) → is_before forever h ≡ false → is_before forever (lesser g h) ≡ false
 at_most_forever g h e = ap (is_before forever) (lesser_if g h (is_before g h) refl) ∙ by g h e (is_before g h) refl
@@ -112,9 +77,3 @@ at_most_forever g h e = ap (is_before forever) (lesser_if g h (is_before g h) re
     by : (g h : LogicalTime) → is_before forever h ≡ false → (b : Bool) → is_before g h ≡ b → is_before forever (cond b g h) ≡ false
     by g h e true p = grind (arith, nat_tests)
     by g h e false p = e
-
-pub either_forever : (g : LogicalTime) → is_before forever g ≡ false → lesser g forever ≡ g
-either_forever g e = either g forever e
-
-pub first_forever : (g : LogicalTime) → is_before forever g ≡ false → g ≡ lesser forever g
-first_forever g e = sym (other forever g e)

@@ -26,3 +26,5 @@ pub mod Writing
 pub mod Listing
 -- What a new agenda holds.
 pub mod Fresh
+-- What is listed of a function is what it has there.
+pub mod Listed

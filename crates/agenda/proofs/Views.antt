@@ -2,6 +2,7 @@
 use Rattle.std.proofs.Common.{◌≡◌, false, List, [], ◌∷◌, refl, sym, ap, ◌∙◌}
 use Rattle.std.specs.List.{AllByRecursion}
 use Rattle.tag.specs.LogicalTime.{LogicalTime, forever, lesser, is_before}
+use Rattle.tag.proofs.Order.{lesser_first, lesser_second}
 use Rattle.network.specs.Undone.{Held, put_all, drop_up_to}
 use Rattle.plan.specs.External.{times_from}
 use Rattle.agenda.specs.declared.firings.Firings.{Firings}
@@ -10,7 +11,7 @@ use Rattle.agenda.specs.Kept.{all_firings, first_firing, firings_of, undone_of, 
 use Rattle.agenda.proofs.Putting.{Ordered, ordered, rises, ordered_put_all, put_all_among}
 use Rattle.agenda.proofs.Filtered.{all_put_all, kept_put_all}
 use Rattle.agenda.proofs.Fired.{firings_ordered}
-use Rattle.agenda.proofs.Least.{AreFinite, least_put_all, lesser_all, first_is_least, lesser_all-append, lesser_swaps, at_most_forever, either_forever, first_forever}
+use Rattle.agenda.proofs.Least.{AreFinite, least_put_all, lesser_all, first_is_least, lesser_all-append, lesser_swaps, at_most_forever}
 
 -- all firings, in order
 abbrev pub firings_in : List Firings → List Held
@@ -51,7 +52,7 @@ finite_from stop (e ∷ u) a = (a.0.finite, finite_from stop u a.1)
 
 pub least_of_firings : (timers : List Firings) (g : LogicalTime) → AllByRecursion IsTimer timers → is_before forever g ≡ false →
     lesser_all (all_firings timers) g ≡ lesser (first_firing timers) g
-least_of_firings [] g a e = first_forever g e
+least_of_firings [] g a e = sym (lesser_second forever g e)
 least_of_firings (f ∷ timers) g a e =
     lesser_all-append (firings_of f) (all_firings timers) g
     ∙ ap (lesser_all (all_firings timers)) (first_is_least (firings_of f) g (firings_ordered f.slot (times_from f.next f.period f.left) a.0.climbs) e)
@@ -67,5 +68,5 @@ pub least_undone : (stop : LogicalTime) (events : List Held) (timers : List Firi
 least_undone stop events timers r e t f =
     least_put_all events (firings_in timers) (finite_from stop events e)
     ∙ ap (lesser_all events) (least_put_all (all_firings timers) [] (finite_from stop (all_firings timers) f) ∙ least_of_firings timers forever t refl
-    ∙ either_forever (first_firing timers) (first_at_most timers))
+    ∙ lesser_first (first_firing timers) forever (first_at_most timers))
     ∙ first_is_least events (first_firing timers) (ordered events r) (first_at_most timers)

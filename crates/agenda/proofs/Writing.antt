@@ -7,6 +7,7 @@ use Rattle.std.proofs.lemmas.Bool.Decides.{nat_tests}
 use Rattle.std.proofs.lemmas.List.{map-append, take_more}
 use Rattle.std.proofs.lemmas.List.Elements.{filter-append}
 use Rattle.tag.specs.LogicalTime.{LogicalTime, is_before, is_at_most, is_same}
+use Rattle.tag.proofs.Order.{not_at_most, after_not_same}
 use Rattle.network.specs.Event.{Entry}
 use Rattle.network.specs.Undone.{Held, look}
 use Rattle.reactor.specs.Entries.{value_at}
@@ -17,7 +18,7 @@ use Rattle.agenda.specs.Kept.{held_at, held_in, firings_of, all_firings}
 use Rattle.agenda.specs.Present.{entry_of, is_there, set_entry, set_entries}
 use Rattle.agenda.proofs.Putting.{Ordered}
 use Rattle.agenda.proofs.Filtered.{filter_none}
-use Rattle.agenda.proofs.Due.{later, all_after}
+use Rattle.agenda.proofs.Due.{all_after}
 use Rattle.agenda.proofs.TimerLists.{all_firings-push}
 use Rattle.agenda.proofs.Fired.{those_at}
 
@@ -89,9 +90,6 @@ firings_more tag timers i d first before after h so_far here =
 
 -- ---- past the tag
 
-after_not_same : (g tag : LogicalTime) → is_before tag g ≡ true → is_same g tag ≡ false
-after_not_same g tag h = grind (arith, nat_tests)
-
 none_same : (tag : LogicalTime) (u : List Held) → AllByRecursion (λ e. is_before tag e.tag ≡ true) u → AllByRecursion (λ e. is_same e.tag tag ≡ false) u
 none_same tag [] a = tt
 none_same tag (e ∷ u) a = (after_not_same e.tag tag a.0, none_same tag u a.1)
@@ -99,7 +97,7 @@ none_same tag (e ∷ u) a = (after_not_same e.tag tag a.0, none_same tag u a.1)
 none_left : (tag : LogicalTime) (e : Key × ℤ) (es : List (Key × ℤ)) → Ordered (held_in (e ∷ es)) → is_at_most e.0.tag tag ≡ false →
     those_at tag (held_in (e ∷ es)) ≡ []
 none_left tag e es r h =
-    let first = later (held_at e).tag tag h in
+    let first = not_at_most (held_at e).tag tag h in
     filter_none (λ x. is_same x.tag tag) (held_in (e ∷ es)) (none_same tag (held_in (e ∷ es)) (first, all_after (held_at e) (held_in es) tag first r.0))
 
 -- none is at it

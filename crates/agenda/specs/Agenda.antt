@@ -2,8 +2,8 @@
 use Rattle.std.specs.Prelude.{IsTrue, List, [], ◌∷◌, map, filter}
 use Rattle.std.specs.List.{AllByRecursion}
 use Rattle.tag.specs.LogicalTime.{LogicalTime, forever, is_at_most, is_same, IsFinite}
-use Rattle.network.specs.Event.{Event, Entry}
-use Rattle.network.specs.Undone.{Held, is_held_before, put_all}
+use Rattle.network.specs.Event.{Entry}
+use Rattle.network.specs.Undone.{Held, held_of, is_held_before, put_all}
 use Rattle.plan.specs.declared.slots.Slots.{Slots}
 use Rattle.plan.specs.External.{own_events}
 
@@ -12,10 +12,6 @@ pub record Agenda : Type 0 where
   pub stop : LogicalTime
   pub undone : List Held
   pub before : List Held
-
--- an event, once it is known whose it is and no later one can replace it
-abbrev pub held_of : Event → Held
-held_of e = record { tag = e.tag; slot = e.slot; value = e.value }
 
 -- what a federate holds by its slots alone: its startup, where it has one, and all firings of its timers up to stop
 abbrev pub own_undone : LogicalTime → Slots → List Held

@@ -13,7 +13,7 @@ use crate::key::Key;
 use crate::memory::Memory;
 use crate::present::{add_firings, add_puts};
 use crate::puts::{Puts, drop_puts, first_put, in_order, put_in_time, undo_each};
-use crate::timers::{drop_firings, first_firing, lesser, timers_of};
+use crate::timers::{drop_firings, first_firing, timers_of};
 use crate::undo::Undo;
 use plan::Slots;
 use reactor::Entry;
@@ -21,7 +21,7 @@ use std::alloc::Global;
 use std::collections::BTreeMap;
 use std::marker::Model;
 use std::mem;
-use tag::{FiniteTag, Tag, Time};
+use tag::{FiniteTag, Tag, Time, lesser};
 
 /// What `put_all` gives, and `take_back` takes.
 #[derive(Debug, Drop)]

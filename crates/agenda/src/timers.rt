@@ -1,6 +1,5 @@
 ghost use Rattle.std.specs.Prelude.{◌≡◌, ◌+◌, ◌<◌, ◌^◌, All, IfOk, length, map};
 ghost use Rattle.std.specs.List.{AllByRecursion};
-ghost use Rattle.tag.specs.LogicalTime.{lesser};
 ghost use Rattle.network.specs.Undone.{drop_up_to};
 ghost use Rattle.plan.specs.External.{firing_count};
 ghost use Rattle.plan.specs.Legal.{IsTimerInRange, IsWithinLimits};
@@ -11,7 +10,7 @@ use crate::firings::{Firings, later_than, next_tag};
 use crate::memory::Memory;
 use plan::{Slots, Timer};
 use std::alloc::Global;
-use tag::{Tag, Time};
+use tag::{Tag, Time, lesser};
 
 /// The timers of a federate, before any firing.
 pub fn timers_of(alloc: Global, slots: &Slots, stop: Time) -> Result<Vec<Firings>, Memory>
@@ -56,13 +55,6 @@ pub fn first_firing(timers: &[Firings]) -> Tag
         first = lesser(next_tag(timers[place]), first);
     }
     first
-}
-
-/// The lesser of two tags.
-pub fn lesser(tag: Tag, other: Tag) -> Tag
-    ensures { result ≡ lesser tag other }
-{
-    if tag < other { tag } else { other }
 }
 
 /// Lets go of the firings up to a tag.

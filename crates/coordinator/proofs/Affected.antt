@@ -3,13 +3,12 @@ use Rattle.std.proofs.Common.{◌≡◌, ◌≢◌, ℕ, suc, ◌<◌, ◌≤◌
 use Rattle.std.specs.Prelude.{nat_eq, if◌then◌else◌, ◌&&◌, ◌||◌, is_some, slice_get, MatchOption}
 use Rattle.std.specs.List.{list_all}
 use Rattle.std.proofs.Math.Path.{fun_ext}
-use Rattle.std.proofs.lemmas.Bool.{eqb-true}
+use Rattle.std.proofs.lemmas.Bool.{eqb-true, eqb-false, or_parts}
 use Rattle.std.proofs.lemmas.Bool.Decides.{nat_tests}
-use Rattle.tag.specs.LogicalTime.{LogicalTime, is_before, is_at_most, sum_of}
+use Rattle.tag.specs.LogicalTime.{LogicalTime, is_before, is_at_most, sum_of, is_past}
 use Rattle.network.specs.Connection.{Connection, IsLeastDelay, IsUnreachable}
 use Rattle.network.specs.Network.{Network}
 use Rattle.network.specs.Tables.{Table}
-use Rattle.protocol.specs.Federate.{is_past}
 use Rattle.protocol.specs.Standing.{Standing}
 use Rattle.protocol.specs.Grant.{after_completed, all_below, is_before_arrival, passes_paths, passes_connection, passes_connections, is_eligible}
 use Rattle.protocol.specs.Coordinator.{with_standing}
@@ -82,22 +81,12 @@ none_of : (o : Option LogicalTime) → is_some o ≡ false → o ≡ None
 none_of None e = refl
 none_of (Some d) e = cc
 
-first_false : (a b : Bool) → (a || b) ≡ false → a ≡ false
-first_false true b e = e
-first_false false b e = refl
-
-second_false : (a b : Bool) → (a || b) ≡ false → b ≡ false
-second_false true b e = cc
-second_false false b e = e
-
-different : (j i : ℕ) → nat_eq j i ≡ false → j ≢ i
-different j i e = grind (arith, nat_tests)
-
 -- whoever a change doesn't concern stays as eligible as before
 pub unconcerned : (w : Wires) (f : ℕ → Standing) (i : ℕ) (s : Standing) (j : ℕ) → AreWires w → may_change w i j ≡ false →
     is_eligible (network_by w) (least_by w) (with_standing f i s) j ≡ is_eligible (network_by w) (least_by w) f j
 unconcerned w f i s j wires e =
-    eligible_stays w f i s j wires (different j i (first_false (nat_eq j i) (has_path w i j) e)) (none_of (least_by w i j) (second_false (nat_eq j i) (has_path w i j) e))
+    let neither = or_parts (nat_eq j i) (has_path w i j) e in
+    eligible_stays w f i s j wires (eqb-false j i neither.0) (none_of (least_by w i j) neither.1)
 
 no_path_from : (w : Wires) (i j : ℕ) (o : Option LogicalTime) → AreWires w → w.federates ≤ i → MatchOption o (IsUnreachable w.connections i j) (IsLeastDelay w.connections i j) → o ≡ None
 no_path_from w i j None wires l least = refl

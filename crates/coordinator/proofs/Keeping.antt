@@ -3,7 +3,7 @@ use Rattle.std.proofs.Common.{◌≡◌, ◌≢◌, ℕ, zero, suc, ◌<◌, ◌
 use Rattle.std.specs.Prelude.{nat_eq, if◌then◌else◌, ◌||◌, ◌&&◌, not, slice_get}
 use Rattle.std.proofs.lemmas.Bool.{cases_lt}
 use Rattle.std.proofs.lemmas.Bool.Decides.{nat_tests}
-use Rattle.tag.specs.LogicalTime.{LogicalTime, IsLogicalTime, is_at_most, is_same, forever}
+use Rattle.tag.specs.LogicalTime.{LogicalTime, IsLogicalTime, is_at_most, is_same, forever, is_past}
 use Rattle.network.specs.Connection.{Connection}
 use Rattle.network.specs.Network.{Network}
 use Rattle.network.specs.Tables.{Table}
@@ -13,8 +13,7 @@ use Rattle.signal.specs.declared.signal.Signal.TheVariants.{Net, Ltc, Tag, Msg}
 use Rattle.protocol.specs.declared.refusal.Refusal.{Refusal}
 use Rattle.protocol.specs.declared.refusal.Refusal.TheVariants.{NotYours, NotForCoordinator}
 use Rattle.protocol.specs.Outcome.{Outcome, Refused, Nothing, Done, with_made, IfDone}
-use Rattle.protocol.specs.Federate.{is_past}
-use Rattle.protocol.specs.Standing.{Standing, opening_standing, after_grant, after_net, after_ltc}
+use Rattle.protocol.specs.Standing.{Standing, opening_standing, after_net, after_ltc}
 use Rattle.protocol.specs.Standings.{Listed, standing_at, standings_listed, listed_after, coordinator_accepts_in}
 use Rattle.protocol.specs.Grant.{Rule, IsSafeRule, is_eligible, all_below}
 use Rattle.protocol.specs.Machine.{sent_to}
@@ -26,9 +25,9 @@ use Rattle.node.specs.Mail.{Mail, all_posted, lacks_room}
 use Rattle.node.specs.Core.{Made, LacksRoom, Moves, answer_of, node_after, mail_after, IsCall, Allows, SendsOnly}
 use Rattle.laws.specs.Runs.{IsFullRule}
 use Rattle.laws.proofs.SafeGrants.{widest_rule_is_safe, widest_rule_is_full}
-use Rattle.laws.proofs.Settled.{NobodyIsEligible, settled_by_grants}
+use Rattle.laws.proofs.Settled.{NobodyIsEligible, settled_by_grants, next_same}
 use Rattle.laws.proofs.CoordinatorAlone.{accepts_stand, accepts_in_order, opening_is_standing}
-use Rattle.laws.proofs.ListedStandings.{accepts_listed}
+use Rattle.laws.proofs.ListedStandings.{accepts_listed, opening_read}
 use Rattle.laws.proofs.Eligibility.{contains_at, between_is, all_below_from}
 use Rattle.laws.proofs.Tests.{both_hold}
 use Rattle.plan.specs.declared.draft.Draft.{Draft}
@@ -39,12 +38,9 @@ use Rattle.cores.specs.CoordinatorCore.{CoordinatorNode, made_by, accepts, coord
 use Rattle.coordinator.specs.Sending.{rule_by}
 use Rattle.coordinator.specs.Steps.{IsSettled, IsKept, IsStep, made_listed, taken_by}
 use Rattle.coordinator.proofs.Signals.{stranger_done}
+use Rattle.grants.proofs.Eligible.{not_announced}
 
 -- what the definition makes, on lists, before TAGs
-next_same : (s : Standing) (o : Option LogicalTime) → (after_grant s o).next ≡ s.next
-next_same s None = refl
-next_same s (Some tag) = refl
-
 AllStanding : Outcome Coordinated → Type 0
 AllStanding o = IfDone o (λ made. (j : ℕ) → IsStanding (made.after j))
 
@@ -237,16 +233,6 @@ below_fails (suc count) j test l e =
     and_false true = refl
     and_false false = refl
 
--- all stand as at the start
-opening_at : (count j : ℕ) → standing_at (standings_listed count (λ k. opening_standing)) j ≡ opening_standing
-opening_at zero j = refl
-opening_at (suc count) zero = refl
-opening_at (suc count) (suc j) = opening_at count j
-
-not_announced : (a b c d : Bool) → a ≡ false → (a && b && c && d) ≡ false
-not_announced true b c d e = let bad : ⊥ = cc in absurd bad
-not_announced false b c d e = refl
-
 -- what a coordinator keeps holds at the start
 pub opening_is_kept : (d : Draft) → IsKept d (opening_records d)
 opening_is_kept d =
@@ -254,7 +240,7 @@ opening_is_kept d =
     record {
       wires = refl;
       settled = record {
-        standings = λ j. (let P : Standing → Type 0 = λ s. IsStanding s in subst P (sym (opening_at (federate_count d) j)) opening_is_standing);
-        nobody = λ j l. not_announced (f j).announced _ _ _ (ap (λ s. s.announced) (opening_at (federate_count d) j));
+        standings = λ j. (let P : Standing → Type 0 = λ s. IsStanding s in subst P (sym (opening_read (federate_count d) j)) opening_is_standing);
+        nobody = λ j l. not_announced (f j).announced _ _ _ (ap (λ s. s.announced) (opening_read (federate_count d) j));
       };
     }

@@ -11,13 +11,13 @@ use Rattle.protocol.specs.declared.post.Post.{Post}
 use Rattle.protocol.specs.Standing.{Standing}
 use Rattle.protocol.specs.Standings.{standing_at}
 use Rattle.protocol.specs.Grant.{Rule, bound_of}
-use Rattle.protocol.specs.Coordinator.{grant_to, grant_post}
+use Rattle.protocol.specs.Coordinator.{grant_to, grant_post, grants_over}
 use Rattle.order.proofs.Lists.{each_append, from_each}
 use Rattle.std.specs.List.{AllByRecursion}
 use Rattle.grants.specs.Wires.{Wires, network_by, least_by}
 use Rattle.grants.specs.Routes.{listed_below, may_change, looked_at}
 use Rattle.grants.specs.Records.{Records, is_eligible_in, with_looks, with_standing}
-use Rattle.coordinator.specs.Sending.{rule_by, grants_over, grants_in, granted_with, all_granted}
+use Rattle.coordinator.specs.Sending.{rule_by, grants_in, granted_with, all_granted}
 
 pub over_append : (n : Network) (rule : Rule) (f : ℕ → Standing) (xs ys : List ℕ) → grants_over n rule f (xs ++ ys) ≡ grants_over n rule f xs ++ grants_over n rule f ys
 over_append n rule f [] ys = refl

@@ -7,7 +7,7 @@ use Rattle.std.proofs.Math.ListN.{length-set, get_or-eq_default}
 use Rattle.std.proofs.lemmas.Bool.Decides.{nat_tests}
 use Rattle.std.proofs.lemmas.Grind.{get_or-set_at}
 use Rattle.std.proofs.lemmas.List.{set-set, set-get_or}
-use Rattle.tag.specs.LogicalTime.{LogicalTime, forever, is_at_most, is_same, is_before, lesser}
+use Rattle.tag.specs.LogicalTime.{LogicalTime, forever, is_at_most, is_same, is_before, lesser, is_past}
 use Rattle.network.specs.Connection.{Connection}
 use Rattle.network.specs.Network.{Network}
 use Rattle.signal.specs.declared.signal.Signal.{Signal}
@@ -16,11 +16,10 @@ use Rattle.protocol.specs.declared.post.Post.{Post}
 use Rattle.protocol.specs.declared.refusal.Refusal.{Refusal}
 use Rattle.protocol.specs.declared.refusal.Refusal.TheVariants.{NotYours, BelowGrant, NotRising, AfterStop}
 use Rattle.protocol.specs.Outcome.{Outcome, Refused, Done, with_made}
-use Rattle.protocol.specs.Federate.{is_past}
 use Rattle.protocol.specs.Standing.{Standing, opening_standing, least_with, with_tag, after_grant, after_net, after_ltc, after_message}
 use Rattle.protocol.specs.Standings.{standing_at, standings_listed, listed_after}
 use Rattle.protocol.specs.Grant.{Rule}
-use Rattle.protocol.specs.Coordinator.{Coordinated, with_standing, noted, route, coordinator_takes, with_grants, grant_to, grant_post, grants_from}
+use Rattle.protocol.specs.Coordinator.{Coordinated, with_standing, noted, route, coordinator_takes, with_grants, grant_to, grant_post, grants_from, grants_over}
 use Rattle.node.specs.declared.fault.NodeFault.{NodeFault}
 use Rattle.node.specs.declared.fault.NodeFault.TheVariants as fault
 use Rattle.node.specs.Mail.{Mail, all_posted, lacks_room}
@@ -34,7 +33,7 @@ use Rattle.grants.specs.Transit.{lesser_with}
 use Rattle.grants.specs.Records as table
 use Rattle.grants.specs.Records.{Records, AreRecords, with_looks}
 use Rattle.grants.specs.Routes.{looked_at}
-use Rattle.coordinator.specs.Sending.{rule_by, grants_over, grants_in, all_granted}
+use Rattle.coordinator.specs.Sending.{rule_by, grants_in, all_granted}
 use Rattle.coordinator.specs.Steps.{IsSettled, IsStep, made_listed, taken_by}
 use Rattle.coordinator.proofs.Listed.{read_set, listed_same}
 use Rattle.coordinator.proofs.Unseen.{without_transit}

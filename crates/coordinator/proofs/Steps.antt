@@ -12,7 +12,7 @@ use Rattle.protocol.specs.Outcome.{Outcome, Done, with_made}
 use Rattle.protocol.specs.Standing.{Standing}
 use Rattle.protocol.specs.Standings.{Listed, standing_at, listed_after}
 use Rattle.protocol.specs.Grant.{Rule, is_eligible}
-use Rattle.protocol.specs.Coordinator.{Coordinated, with_standing, coordinator_takes, with_grants, grant_to, grant_post, grants_from}
+use Rattle.protocol.specs.Coordinator.{Coordinated, with_standing, coordinator_takes, with_grants, grant_to, grant_post, grants_from, grants_over}
 use Rattle.node.specs.declared.fault.NodeFault.{NodeFault}
 use Rattle.node.specs.declared.fault.NodeFault.TheVariants as fault
 use Rattle.node.specs.Mail.{Mail, all_posted, lacks_room}
@@ -20,7 +20,7 @@ use Rattle.node.specs.Core.{Made, LacksRoom, Moves, answer_of, node_after, mail_
 use Rattle.grants.specs.Wires.{Wires, network_by, least_by}
 use Rattle.grants.specs.Records.{Records, AreRecords}
 use Rattle.grants.specs.Routes.{listed_below, may_change, looked_at}
-use Rattle.coordinator.specs.Sending.{rule_by, grants_over, all_granted}
+use Rattle.coordinator.specs.Sending.{rule_by, all_granted}
 use Rattle.coordinator.specs.Steps.{IsSettled, IsStep, made_listed, taken_by}
 use Rattle.coordinator.proofs.Listed.{read_set, grants_listed, grants_more}
 use Rattle.coordinator.proofs.Unseen.{without_transit, all_without, posts_unseen}

@@ -2,23 +2,17 @@
 use Rattle.std.specs.Prelude.{ℕ, List, [], ◌∷◌, ◌++◌, slice_set, Some}
 use Rattle.signal.specs.declared.signal.Signal.{Signal}
 use Rattle.signal.specs.declared.signal.Signal.TheVariants.{Net, Ltc, Tag, Msg}
-use Rattle.network.specs.Network.{Network}
 use Rattle.protocol.specs.declared.post.Post.{Post}
 use Rattle.protocol.specs.Standing.{Standing}
 use Rattle.protocol.specs.Standings.{standing_at}
 use Rattle.protocol.specs.Grant.{Rule, grant_widest}
-use Rattle.protocol.specs.Coordinator.{grant_to, grant_post}
+use Rattle.protocol.specs.Coordinator.{grants_over}
 use Rattle.grants.specs.Wires.{Wires, network_by, least_by}
 use Rattle.grants.specs.Records.{Records}
 
 -- each eligible federate is granted as much as is safe
 abbrev pub rule_by : Wires → Rule
 rule_by w = grant_widest (network_by w) (least_by w)
-
--- the TAGs to these federates, in their order
-abbrev pub grants_over : Network → Rule → (ℕ → Standing) → List ℕ → List Post
-grants_over n rule standings [] = []
-grants_over n rule standings (j ∷ rest) = grant_post j (grant_to n rule standings j) ++ grants_over n rule standings rest
 
 -- the TAGs that a table has for these federates
 abbrev pub grants_in : Records → List ℕ → List Post

@@ -7,13 +7,13 @@ ghost use Rattle.grants.specs.Wires.{network_by};
 ghost use Rattle.coordinator.specs.Steps.{IsSettled, IsStep};
 
 use crate::sending::{prepare, send};
-use crate::tags::{is_in_time, is_next_in_time, is_past, lesser, lesser_with};
+use crate::tags::{is_in_time, is_next_in_time, is_past, lesser_with};
 use grants::Table;
 use node::{NodeFault, Outbox};
 use plan::{Connection, Plan};
 use protocol::{Post, Refusal};
 use signal::Signal;
-use tag::{FiniteTag, Tag};
+use tag::{FiniteTag, Tag, lesser};
 
 /// What the coordinator knows of the federates, and room for what a step sends, which is kept.
 #[derive(Drop)]

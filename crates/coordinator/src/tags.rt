@@ -1,10 +1,9 @@
-//! Tests of tags, and the lesser of two.
+//! Tests of tags, and the lesser of a tag and of another that may be there.
 ghost use Rattle.std.specs.Prelude.{◌≡◌, ◌||◌};
-ghost use Rattle.tag.specs.LogicalTime.{forever, is_at_most, is_same, lesser};
-ghost use Rattle.protocol.specs.Federate.{is_past};
+ghost use Rattle.tag.specs.LogicalTime.{forever, is_at_most, is_same, is_past};
 ghost use Rattle.grants.specs.Transit.{lesser_with};
 
-use tag::{FiniteTag, Tag};
+use tag::{FiniteTag, Tag, lesser};
 
 /// Whether a tag isn't later than stop.
 pub(crate) fn is_in_time(tag: Tag, stop: FiniteTag) -> bool
@@ -28,13 +27,6 @@ pub(crate) fn lesser_with(tag: Tag, other: Option<FiniteTag>) -> Tag
         Some(other) => lesser(other.tag(), tag),
         None => tag,
     }
-}
-
-/// The lesser of two tags.
-pub(crate) fn lesser(tag: Tag, other: Tag) -> Tag
-    ensures { result ≡ lesser tag other }
-{
-    if tag < other { tag } else { other }
 }
 
 /// Whether a tag is later than the last one, if there is one.

@@ -1,7 +1,7 @@
 -- Each step of a node adds to its rows, and leaves what it was made from.
 use Rattle.std.proofs.Common.{◌≡◌, ◌∙◌, ℕ, ℤ, Bool, true, false, not, ◌&&◌, nat_eq, if◌then◌else◌, List, [], ◌∷◌, ◌++◌, slice_get, Option, None, Some, refl, sym, subst}
 use Rattle.std.proofs.lemmas.List.{append-nil}
-use Rattle.tag.specs.LogicalTime.{LogicalTime, is_at_most}
+use Rattle.tag.specs.LogicalTime.{LogicalTime, is_at_most, is_past, is_reached}
 use Rattle.network.specs.Connection.{Connection}
 use Rattle.network.specs.Network.{Network}
 use Rattle.network.specs.Undivided.{Row}
@@ -10,7 +10,7 @@ use Rattle.signal.specs.declared.signal.Signal.{Signal}
 use Rattle.signal.specs.declared.signal.Signal.TheVariants.{Net, Ltc, Tag, Msg}
 use Rattle.protocol.specs.declared.refusal.Refusal.{Refusal}
 use Rattle.protocol.specs.Outcome.{Outcome, Refused, Nothing, Done, with_made, IfDone}
-use Rattle.protocol.specs.Federate.{Federate, Stepped, is_past, is_reached, is_told, next_event, accept_message, advance_to, row_of_turn, turn_at, federate_accepts, federate_announces, federate_advances}
+use Rattle.protocol.specs.Federate.{Federate, Stepped, is_told, next_event, accept_message, advance_to, row_of_turn, turn_at, federate_accepts, federate_announces, federate_advances}
 use Rattle.protocol.specs.Standings.{Listed}
 use Rattle.node.specs.Core.{Made, GoesOn, IsCore}
 use Rattle.cores.specs.FederateCore.{FederateNode, made_by, network_at, federate_core}

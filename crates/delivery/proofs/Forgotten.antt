@@ -4,6 +4,7 @@ use Rattle.std.specs.Prelude.{slice_get, nat_eq, nat_le, nat_lt, if◌then◌els
 use Rattle.std.specs.List.{AllByRecursion}
 use Rattle.std.proofs.lemmas.Bool.Decides.{nat_tests}
 use Rattle.std.proofs.lemmas.List.{append-nil}
+use Rattle.std.proofs.lemmas.Bool.{ne_eqb}
 use Rattle.order.proofs.Lists.{each_append}
 use Rattle.signal.specs.declared.signal.Signal.{Signal}
 use Rattle.signal.specs.declared.frame.Frame.{Frame}
@@ -121,10 +122,7 @@ resent_foreign i k n signals false e = numbered_foreign i k n signals e
 
 -- frames of the other incarnation are strangers to it
 not_own : (k i j : ℕ) → k ≡ i → j ≢ i → nat_eq k j ≡ false
-not_own k i j e d = not_same k j (λ q. d (sym q ∙ e))
-  where
-    not_same : (a b : ℕ) → (a ≡ b → ⊥) → nat_eq a b ≡ false
-    not_same a b h = grind (arith, nat_tests)
+not_own k i j e d = ne_eqb k j (λ q. d (sym q ∙ e))
 
 closes_if : (i : ℕ) (s : Side) (k n : ℕ) (is_taken own closed : Bool) → IsBlank i s → StaysBlank i s (hears is_taken s (Refuse k n) (if own then (if closed then Err LinkFault.Closed else Ok arrival.Closed) else Err LinkFault.Stranger))
 closes_if i s k n is_taken false closed b = unchanged i s b

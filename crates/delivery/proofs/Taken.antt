@@ -2,7 +2,7 @@
 use Rattle.std.proofs.Common.{◌≡◌, ◌≢◌, ℕ, zero, suc, ◌+◌, ◌-◌, ◌<◌, ◌≤◌, Bool, true, false, List, [], ◌∷◌, length, drop, refl, ap, subst, ◌∙◌, arith, Option, None, Some}
 use Rattle.std.specs.Prelude.{slice_get, nat_eq, nat_le, nat_lt, if◌then◌else◌, ◌&&◌, Ok, Err}
 use Rattle.std.specs.List.{AllByRecursion}
-use Rattle.std.proofs.lemmas.Bool.{eqb-true}
+use Rattle.std.proofs.lemmas.Bool.{eqb-true, leb-true}
 use Rattle.std.proofs.lemmas.Bool.Decides.{nat_tests}
 use Rattle.signal.specs.declared.signal.Signal.{Signal}
 use Rattle.signal.specs.declared.frame.Frame.{Frame}
@@ -63,13 +63,10 @@ refuse_heard i s r k n is_taken true false l = linked_closes i s r l
 pub own_hello : (i k f g : ℕ) → (nat_eq k i && nat_eq f g) ≡ true → k ≡ i
 own_hello i k f g h = grind (arith, nat_tests)
 
-at_most_by_test : (a b : ℕ) → nat_le a b ≡ true → a ≤ b
-at_most_by_test a b h = grind (arith, nat_tests)
-
 heard : (i : ℕ) (s r : Side) (frame : Frame) (is_taken : Bool) → IsSaid i (offered_in i r.sent) r.end.taken frame → IsLinked i s r → IsLinked i (gets is_taken s (Some frame)) r
 heard i s r (Hello f k n) is_taken said l = hello_heard i s r f k n is_taken (nat_eq k s.end.incarnation && nat_eq f s.end.federate) s.end.closed (nat_lt (last_number s.end) n) (own_hello s.end.incarnation k f s.end.federate) said l
 heard i s r (Data k n signal) is_taken said l =
-    data_heard i s r k n signal is_taken (nat_eq k s.end.incarnation) s.end.closed (nat_le n s.end.taken) (nat_eq n (s.end.taken + 1)) (eqb-true k s.end.incarnation) (at_most_by_test n s.end.taken) (eqb-true n (s.end.taken + 1)) said l
+    data_heard i s r k n signal is_taken (nat_eq k s.end.incarnation) s.end.closed (nat_le n s.end.taken) (nat_eq n (s.end.taken + 1)) (eqb-true k s.end.incarnation) (leb-true n s.end.taken) (eqb-true n (s.end.taken + 1)) said l
 heard i s r (Ack k n) is_taken said l = ack_heard i s r k n is_taken (nat_eq k s.end.incarnation) s.end.closed (nat_lt (last_number s.end) n) (eqb-true k s.end.incarnation) said l
 heard i s r (Refuse k n) is_taken said l = refuse_heard i s r k n is_taken (nat_eq k s.end.incarnation) s.end.closed l
 

@@ -2,8 +2,6 @@
 pub mod Outlets
 -- Recorded inputs, one after the other.
 pub mod RecordedInputs
--- What is listed of a function is what it has there.
-pub mod Listed
 -- A turn that is prepared is the turn of the definition.
 pub mod Turns
 -- What a node's call comes to, by its step.

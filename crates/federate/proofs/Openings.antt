@@ -5,8 +5,8 @@ use Rattle.std.proofs.lemmas.Simd.{map-map}
 use Rattle.tag.specs.LogicalTime.{origin}
 use Rattle.network.specs.Event.{Event, outside}
 use Rattle.network.specs.Undivided.{Row}
-use Rattle.network.specs.Undone.{Held, put_all}
-use Rattle.protocol.specs.Federate.{Federate, held_of, opening_federate}
+use Rattle.network.specs.Undone.{Held, put_all, held_of}
+use Rattle.protocol.specs.Federate.{Federate, opening_federate}
 use Rattle.plan.specs.declared.slots.Slots.{Slots}
 use Rattle.plan.specs.declared.slots.Timer.{Timer}
 use Rattle.plan.specs.declared.draft.Draft.{Draft}

@@ -5,8 +5,7 @@ use Rattle.std.proofs.lemmas.List.{take_more, map-append}
 use Rattle.std.proofs.lemmas.List.Elements.{filter-append, filter_map-append}
 use Rattle.tag.specs.LogicalTime.{is_at_most}
 use Rattle.network.specs.Event.{Event}
-use Rattle.network.specs.Undone.{Held, put_all}
-use Rattle.protocol.specs.Federate.{held_of}
+use Rattle.network.specs.Undone.{Held, put_all, held_of}
 use Rattle.plan.specs.declared.draft.Draft.{Draft}
 use Rattle.plan.specs.declared.input.Input.{Input}
 use Rattle.plan.specs.Federation.{stop_of}

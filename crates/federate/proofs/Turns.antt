@@ -3,7 +3,7 @@ use Rattle.std.proofs.Common.{◌≡◌, ℕ, ◌+◌, ◌<◌, ℤ, Bool, true,
 use Rattle.std.specs.List.{AllByRecursion}
 use Rattle.std.proofs.lemmas.Bool.{eqb-true}
 use Rattle.std.proofs.lemmas.Slice.Zip.{AllZip-right}
-use Rattle.tag.specs.LogicalTime.{LogicalTime, IsFinite, is_at_most, is_before}
+use Rattle.tag.specs.LogicalTime.{LogicalTime, IsFinite, is_at_most, is_before, is_reached}
 use Rattle.tag.proofs.Order.{finite_is_logical, finite_is_not_forever}
 use Rattle.tag.proofs.SumLaws.{sum_later}
 use Rattle.network.specs.Connection.{Connection}
@@ -15,7 +15,7 @@ use Rattle.network.specs.Lawful.{IsLawful, IsConnected, IsOwn}
 use Rattle.order.proofs.Lists.{each, each_more, each_append}
 use Rattle.signal.specs.declared.signal.Signal.TheVariants.{Ltc}
 use Rattle.protocol.specs.Outcome.{Nothing, Done, IfDone}
-use Rattle.protocol.specs.Federate.{Federate, is_reached, effect_of, scheduled_at, scheduled_by, message_over, messages_from, turn_at, advance_to, federate_advances}
+use Rattle.protocol.specs.Federate.{Federate, effect_of, scheduled_at, scheduled_by, message_over, messages_from, turn_at, advance_to, federate_advances}
 use Rattle.protocol.specs.Alone.{IsFederate, IsStillToRun}
 use Rattle.laws.proofs.FederateAlone.{advance_leaves}
 use Rattle.plan.specs.declared.draft.Draft.{Draft}
@@ -36,7 +36,7 @@ use Rattle.federate.specs.declared.prepared.Prepared.{Prepared}
 use Rattle.federate.specs.Outlets.{outlet_if, outlets_from, messages_by}
 use Rattle.federate.specs.Turn.{due_if, due_in, effect_at, IsPrepared}
 use Rattle.federate.specs.Kept.{IsKept, standing}
-use Rattle.federate.proofs.Listed.{listed_value}
+use Rattle.agenda.proofs.Listed.{listed_value}
 use Rattle.federate.proofs.Outlets.{messages_are}
 
 -- ---- what is due

@@ -1,11 +1,11 @@
 -- What a turn of a federate makes, before anything changes; and which tag is due.
 use Rattle.std.specs.Prelude.{◌≡◌, if◌then◌else◌, List, [], ◌∷◌, ◌++◌, map, filter, length, Option, None, Some}
-use Rattle.tag.specs.LogicalTime.{LogicalTime, is_at_most}
+use Rattle.tag.specs.LogicalTime.{LogicalTime, is_at_most, is_reached}
 use Rattle.network.specs.Event.{listed}
 use Rattle.network.specs.Network.{Effect}
 use Rattle.network.specs.Undone.{Held, look, first_tag}
 use Rattle.signal.specs.declared.signal.Signal.TheVariants.{Ltc}
-use Rattle.protocol.specs.Federate.{Federate, is_reached, scheduled_at}
+use Rattle.protocol.specs.Federate.{Federate, scheduled_at}
 use Rattle.plan.specs.declared.draft.Draft.{Draft}
 use Rattle.plan.specs.Federation.{stop_of}
 use Rattle.plan.specs.Numbering.{slot_count}

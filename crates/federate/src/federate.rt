@@ -1,9 +1,9 @@
 ghost use Rattle.std.specs.Prelude.{◌≡◌, ◌<◌, ◌↔◌, ◌&&◌, ℕ, nat_eq, slice_get, IsTrue, IfOk, OnOk, OnErr, MatchResult, [], ◌∷◌};
-ghost use Rattle.tag.specs.LogicalTime.{is_at_most};
+ghost use Rattle.tag.specs.LogicalTime.{is_at_most, is_past};
 ghost use Rattle.signal.specs.Signal.{IsSignal};
 ghost use Rattle.signal.specs.declared.signal.Signal.TheVariants as Signals;
 ghost use Rattle.protocol.specs.Outcome.{Nothing, Done, Refused};
-ghost use Rattle.protocol.specs.Federate.{accept_grant, accept_message, opening_federate, federate_accepts, is_past};
+ghost use Rattle.protocol.specs.Federate.{accept_grant, accept_message, opening_federate, federate_accepts};
 ghost use Rattle.protocol.specs.Alone.{IsFederate};
 ghost use Rattle.plan.specs.External.{AreInputsOf};
 ghost use Rattle.plan.specs.Federation.{connections_of, federate_count, stop_of};

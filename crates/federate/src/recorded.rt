@@ -1,8 +1,7 @@
 ghost use Rattle.std.specs.Prelude.{◌≡◌, [], ◌∷◌, OnOk, map};
-ghost use Rattle.network.specs.Undone.{put_all};
+ghost use Rattle.network.specs.Undone.{put_all, held_of};
 ghost use Rattle.plan.specs.External.{input_events_to};
 ghost use Rattle.plan.specs.Federation.{stop_of};
-ghost use Rattle.protocol.specs.Federate.{held_of};
 
 use crate::memory::Memory;
 use agenda::{Agenda, Held};

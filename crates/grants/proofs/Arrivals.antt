@@ -1,11 +1,10 @@
 -- Arrivals along lists of routes are the bounds.
-use Rattle.std.proofs.Common.{◌≡◌, ℕ, zero, suc, Bool, true, false, cond, List, [], ◌∷◌, ◌++◌, refl, sym, ap, ◌∙◌, append-nil, arith, Option, None, Some}
+use Rattle.std.proofs.Common.{◌≡◌, ℕ, zero, suc, Bool, true, false, cond, List, [], ◌∷◌, ◌++◌, refl, sym, ap, ◌∙◌, append-nil, Option, None, Some}
 use Rattle.std.specs.Prelude.{nat_eq, if◌then◌else◌}
 use Rattle.std.specs.List.{fold}
-use Rattle.std.proofs.lemmas.Bool.Decides.{nat_tests}
 use Rattle.std.proofs.lemmas.List.Sums.{fold-append}
 use Rattle.tag.specs.LogicalTime.{LogicalTime, forever, greater, lesser, sum_of}
-use Rattle.tag.proofs.Order.{lesser_associates}
+use Rattle.tag.proofs.Order.{lesser_associates, lesser_commutes}
 use Rattle.network.specs.Connection.{Connection}
 use Rattle.network.specs.Tables.{Table}
 use Rattle.protocol.specs.Standing.{Standing}
@@ -30,9 +29,6 @@ by_paths table standings j (suc count) =
     ∙ with_upstream standings count (table count j) (upstream_of table j count)
 
 -- over connections, in either order
-lesser_swaps : (a h : LogicalTime) → lesser a h ≡ lesser h a
-lesser_swaps a h = grind (arith, nat_tests)
-
 abbrev incoming_step : (ℕ → Standing) → LogicalTime → Connection → LogicalTime
 incoming_step standings first c = lesser (sum_of (after_completed (standings c.source).completed) c.delay) first
 
@@ -42,7 +38,7 @@ first_over standings arrival first [] = refl
 first_over standings arrival first (c ∷ rest) =
     let sent = sum_of (after_completed (standings c.source).completed) c.delay in
     let swapped : lesser sent (lesser arrival first) ≡ lesser arrival (lesser sent first) =
-    sym (lesser_associates sent arrival first) ∙ ap (λ x. lesser x first) (lesser_swaps sent arrival) ∙ lesser_associates arrival sent first in
+    sym (lesser_associates sent arrival first) ∙ ap (λ x. lesser x first) (lesser_commutes sent arrival) ∙ lesser_associates arrival sent first in
     ap (λ x. fold (incoming_step standings) x rest) swapped ∙ first_over standings arrival (lesser sent first) rest
 
 with_incoming : (standings : ℕ → Standing) (c : Connection) (b : Bool) (rest : LogicalTime) (incoming : List Connection) → rest ≡ first_incoming standings incoming →

@@ -2,8 +2,7 @@
 use Rattle.std.proofs.Common.{◌≡◌, ℕ, ◌+◌, ◌<◌, ◌≤◌, Bool, true, false, List, [], ◌∷◌, length, refl, sym, ap, ◌∙◌, arith, length-set, inl, inr, Option, None, Some}
 use Rattle.std.specs.Prelude.{nat_eq, is_some, if◌then◌else◌, ◌||◌, slice_get, slice_index_or, slice_set, MatchOption}
 use Rattle.std.proofs.Math.Path.{fun_ext}
-use Rattle.std.proofs.lemmas.Bool.{cases_eq, eq-eqb}
-use Rattle.std.proofs.lemmas.Bool.Decides.{nat_tests}
+use Rattle.std.proofs.lemmas.Bool.{cases_eq, eq-eqb, ne_eqb, eqb-false, or_parts}
 use Rattle.std.proofs.lemmas.List.{get_or-set_same, get_or-set_other}
 use Rattle.tag.specs.LogicalTime.{LogicalTime}
 use Rattle.network.specs.Connection.{Connection, IsPath, IsLeastDelay, IsUnreachable}
@@ -45,11 +44,8 @@ replaced_at standings i mine l j =
       | inl same ↦
           ap (standing_at (slice_set standings i mine)) same ∙ own_standing standings i mine l
           ∙ ap (λ b. if b then mine else standing_at standings j) (sym (eq-eqb j i same))
-      | inr n ↦ other_standing standings i j mine n ∙ ap (λ b. if b then mine else standing_at standings j) (sym (different j i n))
+      | inr n ↦ other_standing standings i j mine n ∙ ap (λ b. if b then mine else standing_at standings j) (sym (ne_eqb j i n))
     ]
-  where
-    different : (j i : ℕ) → (j ≡ i → ⊥) → nat_eq j i ≡ false
-    different j i n = grind (arith, nat_tests)
 
 pub is_replaced : (standings : List Standing) (i : ℕ) (mine : Standing) → i < length standings → standing_at (slice_set standings i mine) ≡ with_one (standing_at standings) i mine
 is_replaced standings i mine l = fun_ext (replaced_at standings i mine l)
@@ -63,14 +59,6 @@ replaced_is_listed standings i mine l =
 
 -- ---- who is not i and hears nothing from i
 
-neither_itself : (b c : Bool) → (b || c) ≡ false → b ≡ false
-neither_itself true c h = cc
-neither_itself false c h = refl
-
-neither_path : (b c : Bool) → (b || c) ≡ false → c ≡ false
-neither_path true c h = cc
-neither_path false c h = h
-
 -- where a path leads, there is an entry
 some_entry : (connections : List Connection) (i j : ℕ) (path : List Connection) (o : Option LogicalTime) →
     MatchOption o (IsUnreachable connections i j) (λ d. IsLeastDelay connections i j d) → IsPath connections i path j → is_some o ≡ true
@@ -82,13 +70,13 @@ connected w j k c are e t = some_entry w.connections c.source j (c ∷ []) (leas
 
 pub hears_not : (w : Wires) (i j : ℕ) → may_change w i j ≡ false → (k : ℕ) → has_path w k j ≡ true → k ≡ i → ⊥
 hears_not w i j away k path same =
-    let none : has_path w i j ≡ false = neither_path (nat_eq j i) (has_path w i j) away in
+    let none : has_path w i j ≡ false = (or_parts (nat_eq j i) (has_path w i j) away).1 in
     let some : has_path w i j ≡ true = ap (λ x. has_path w x j) (sym same) ∙ path in
     cc
 
 is_not : (w : Wires) (i j : ℕ) → may_change w i j ≡ false → j ≡ i → ⊥
 is_not w i j away same =
-    let none : nat_eq j i ≡ false = neither_itself (nat_eq j i) (has_path w i j) away in
+    let none : nat_eq j i ≡ false = (or_parts (nat_eq j i) (has_path w i j) away).0 in
     let some : nat_eq j i ≡ true = eq-eqb j i same in
     cc
 
@@ -209,16 +197,13 @@ changed_by_looks w standings i mine are =
     (λ j away. others_stay w standings i j mine are away) in
     omega arith
 
-not_same : (j i : ℕ) → nat_eq j i ≡ false → j ≡ i → ⊥
-not_same j i h e = let some : nat_eq j i ≡ true = eq-eqb j i e in cc
-
 pub changed_by_one_look : (w : Wires) (standings : List Standing) (i : ℕ) (mine : Standing) → AreWires w → i < length standings →
     mine.next ≡ (standing_at standings i).next → mine.completed ≡ (standing_at standings i).completed →
     count_below w.federates (λ j. differ (is_eligible_by w standings j) (is_eligible_by w (slice_set standings i mine) j)) ≤ 1
 changed_by_one_look w standings i mine are l next completed =
     let one = count_one w.federates i in
     let few = changed_few w.federates (is_eligible_by w standings) (is_eligible_by w (slice_set standings i mine)) (λ j. nat_eq j i)
-    (λ j away. alone_changes w standings i j mine are l next completed (not_same j i away)) in
+    (λ j away. alone_changes w standings i j mine are l next completed (eqb-false j i away)) in
     omega arith
 
 pub looked_at_few : (w : Wires) (i : ℕ) → length (looked_at w i) ≤ 1 + reached_from w i

@@ -3,12 +3,11 @@ use Rattle.std.proofs.Common.{◌≡◌, ℕ, zero, suc, Bool, true, false, List
 use Rattle.std.specs.Prelude.{nat_eq, is_some, if◌then◌else◌, ◌&&◌, ◌||◌, slice_get}
 use Rattle.std.proofs.lemmas.Bool.{eqb-true}
 use Rattle.std.proofs.lemmas.Bool.Decides.{nat_tests}
-use Rattle.tag.specs.LogicalTime.{LogicalTime, is_before, is_at_most, lesser, greater, origin, sum_of}
+use Rattle.tag.specs.LogicalTime.{LogicalTime, is_before, is_at_most, lesser, greater, origin, sum_of, is_past}
 use Rattle.network.specs.Connection.{Connection}
 use Rattle.network.specs.Network.{Network}
 use Rattle.network.specs.Wiring.{IsWired}
 use Rattle.network.specs.Tables.{Table, IsLeastTable}
-use Rattle.protocol.specs.Federate.{is_past}
 use Rattle.protocol.specs.Standing.{Standing}
 use Rattle.protocol.specs.Grant.{after_completed, passes_paths, passes_connections, is_eligible, lesser_arrival, bound_by_paths, bound_by_connections, bound_of}
 use Rattle.protocol.specs.Bound.{IsWithin}
@@ -54,7 +53,7 @@ by_bound n table standings j wired least =
     }))))
 
 -- nobody is before the first announcement
-not_announced : (a b c d : Bool) → a ≡ false → (a && b && c && d) ≡ false
+pub not_announced : (a b c d : Bool) → a ≡ false → (a && b && c && d) ≡ false
 not_announced true b c d e = cc
 not_announced false b c d e = refl
 

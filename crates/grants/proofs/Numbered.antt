@@ -1,7 +1,7 @@
 -- Numbers that pass a test: listed, and counted.
 use Rattle.std.proofs.Common.{◌≡◌, ℕ, zero, suc, ◌+◌, ◌<◌, ◌≤◌, Bool, true, false, [], ◌∷◌, length, refl, ap, ◌∙◌, arith, length-append, inl, inr}
 use Rattle.std.specs.Prelude.{nat_eq, if◌then◌else◌, ◌||◌, All}
-use Rattle.std.proofs.lemmas.Bool.{cases_eq}
+use Rattle.std.proofs.lemmas.Bool.{cases_eq, ne_eqb}
 use Rattle.std.proofs.lemmas.Bool.Decides.{nat_tests}
 use Rattle.std.proofs.lemmas.List.Elements.{All-nil, All-cons, All-append, All-weaker}
 use Rattle.grants.specs.Looks.{count_below}
@@ -44,9 +44,6 @@ count_weaker (suc count) p q h = let rest = count_weaker count p q h in let here
 not_same : (j i : ℕ) → j < i → nat_eq j i ≡ false
 not_same j i l = grind (arith, nat_tests)
 
-different : (j i : ℕ) → (j ≡ i → ⊥) → nat_eq j i ≡ false
-different j i n = grind (arith, nat_tests)
-
 count_none : (count i : ℕ) → count ≤ i → count_below count (λ j. nat_eq j i) ≡ 0
 count_none zero i l = refl
 count_none (suc count) i l =
@@ -66,7 +63,7 @@ count_one zero i = omega arith
 count_one (suc count) i =
     elim (cases_eq count i) [
       | inl e ↦ next_one (count_below count (λ j. nat_eq j i)) (nat_eq count i) (count_none count i (omega arith))
-      | inr n ↦ none_next (count_below count (λ j. nat_eq j i)) (nat_eq count i) (count_one count i) (different count i n)
+      | inr n ↦ none_next (count_below count (λ j. nat_eq j i)) (nat_eq count i) (count_one count i) (ne_eqb count i n)
     ]
 
 either_counts : (p q : Bool) → (if p || q then 1 else 0) ≤ (if p then 1 else 0) + (if q then 1 else 0)

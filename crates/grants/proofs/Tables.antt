@@ -2,8 +2,7 @@
 use Rattle.std.proofs.Common.{◌≡◌, ℕ, ◌+◌, ◌<◌, ◌≤◌, Bool, true, false, IsTrue, List, length, get_or, replicate, sym, ap, subst, ◌∙◌, arith}
 use Rattle.std.specs.Prelude.{◌&&◌, All, slice_index_or, slice_set}
 use Rattle.std.proofs.lemmas.List.{get_or_read, get_or-replicate, length-replicate}
-use Rattle.tag.specs.LogicalTime.{LogicalTime, is_at_most, is_before, lesser, origin, predecessor_of}
-use Rattle.protocol.specs.Federate.{is_past}
+use Rattle.tag.specs.LogicalTime.{LogicalTime, is_at_most, is_before, lesser, origin, predecessor_of, is_past}
 use Rattle.protocol.specs.Standing.{Standing, opening_standing}
 use Rattle.protocol.specs.Standings.{standing_at, standings_listed}
 use Rattle.protocol.specs.Grant.{Eligible, bound_of}

@@ -6,8 +6,9 @@ use Rattle.std.specs.List.Sorted.{IsStrictlySortedBy}
 use Rattle.std.specs.Ordering.{match_ordering}
 use Rattle.std.specs.BTreeSet.{insert_key}
 use Rattle.std.proofs.lemmas.Bool.Decides.{nat_tests}
-use Rattle.tag.specs.LogicalTime.{LogicalTime, is_before, is_at_most, lesser}
+use Rattle.tag.specs.LogicalTime.{LogicalTime, is_before, lesser}
 use Rattle.tag.specs.contracts.finite_tag.FiniteTagOrd.TheImpl as finite_tag_ord
+use Rattle.tag.proofs.Order.{before_transitive, not_at_most}
 use Rattle.protocol.specs.Standing.{with_tag, least_with}
 use Rattle.grants.specs.Transit.{lesser_with, has_up_to, Rises}
 
@@ -39,9 +40,6 @@ rises [] r = tt
 rises (g ∷ rest) r = (all_before g rest r.0, rises rest r.1)
 
 -- what is later than the first is later than the least of all
-lesser_stays : (g h : LogicalTime) → is_before h g ≡ false → lesser g h ≡ g
-lesser_stays g h e = grind (arith, nat_tests)
-
 least_of_later : (g tag : LogicalTime) (rest : List LogicalTime) → AllByRecursion (λ h. is_before g h ≡ true) rest → lesser g (least_with tag rest) ≡ lesser g tag
 least_of_later g tag [] a = refl
 least_of_later g tag (h ∷ rest) a = later_first g h (least_with tag rest) a.0 ∙ least_of_later g tag rest a.1
@@ -55,24 +53,15 @@ least_is (g ∷ rest) tag r = least_of_later g tag rest r.0
 
 -- ---- dropping the first ones
 
-pub not_later : (g last : LogicalTime) → is_at_most g last ≡ true → is_before last g ≡ false
-not_later g last h = grind (arith, nat_tests)
-
-later : (g last : LogicalTime) → is_at_most g last ≡ false → is_before last g ≡ true
-later g last h = grind (arith, nat_tests)
-
-after : (last g h : LogicalTime) → is_before last g ≡ true → is_before g h ≡ true → is_before last h ≡ true
-after last g h p q = grind (arith, nat_tests)
-
 none_dropped : (last g : LogicalTime) (rest : List LogicalTime) → is_before last g ≡ true → AllByRecursion (λ h. is_before g h ≡ true) rest →
     filter (λ t. is_before last t) rest ≡ rest
 none_dropped last g [] e a = refl
 none_dropped last g (h ∷ rest) e a =
-    ap (λ b. if b then h ∷ filter (λ t. is_before last t) rest else filter (λ t. is_before last t) rest) (after last g h e a.0)
+    ap (λ b. if b then h ∷ filter (λ t. is_before last t) rest else filter (λ t. is_before last t) rest) (before_transitive last g h e a.0)
     ∙ ap (λ hs. h ∷ hs) (none_dropped last g rest e a.1)
 
 pub all_later : (tags : List LogicalTime) (last : LogicalTime) → Rises tags → has_up_to last tags ≡ false → filter (λ t. is_before last t) tags ≡ tags
 all_later [] last r h = refl
 all_later (g ∷ rest) last r h =
-    ap (λ b. if b then g ∷ filter (λ t. is_before last t) rest else filter (λ t. is_before last t) rest) (later g last h)
-    ∙ ap (λ hs. g ∷ hs) (none_dropped last g rest (later g last h) r.0)
+    ap (λ b. if b then g ∷ filter (λ t. is_before last t) rest else filter (λ t. is_before last t) rest) (not_at_most g last h)
+    ∙ ap (λ hs. g ∷ hs) (none_dropped last g rest (not_at_most g last h) r.0)

@@ -1,5 +1,5 @@
 ghost use Rattle.std.specs.Prelude.{◌≡◌, ◌<◌, All, length};
-ghost use Rattle.tag.specs.LogicalTime.{greater, is_before, lesser};
+ghost use Rattle.tag.specs.LogicalTime.{is_before};
 ghost use Rattle.protocol.specs.Grant.{after_completed};
 ghost use Rattle.protocol.specs.Standings.{standing_at};
 ghost use Rattle.grants.specs.Bounds.{first_incoming, first_upstream};
@@ -7,7 +7,7 @@ ghost use Rattle.grants.specs.Bounds.{first_incoming, first_upstream};
 use crate::routes::Upstream;
 use crate::standing::Standing;
 use plan::Connection;
-use tag::{FiniteTag, Tag, plus, succ};
+use tag::{FiniteTag, Tag, lesser, plus, succ};
 
 /// The least tag at which anything of these federates' next turns can arrive; FOREVER where there are none.
 pub fn first_upstream(upstream: &[Upstream], standings: &[Standing]) -> Tag
@@ -50,18 +50,4 @@ pub fn is_before(tag: Tag, other: Tag) -> bool
     ensures { result ≡ is_before tag other }
 {
     tag < other
-}
-
-/// The lesser of two tags.
-fn lesser(tag: Tag, other: Tag) -> Tag
-    ensures { result ≡ lesser tag other }
-{
-    if tag < other { tag } else { other }
-}
-
-/// The greater of two tags.
-pub fn greater(tag: Tag, other: Tag) -> Tag
-    ensures { result ≡ greater tag other }
-{
-    if tag < other { other } else { tag }
 }

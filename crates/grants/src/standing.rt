@@ -1,6 +1,5 @@
 ghost use Rattle.std.specs.Prelude.{◌≡◌, ◌&&◌, OnErr, OnOk, filter, slice_get};
-ghost use Rattle.tag.specs.LogicalTime.{LogicalTime, is_at_most, is_before};
-ghost use Rattle.protocol.specs.Federate.{is_past};
+ghost use Rattle.tag.specs.LogicalTime.{LogicalTime, is_at_most, is_before, is_past};
 ghost use Rattle.protocol.specs.Standing.{opening_standing, least_with, with_tag};
 ghost use Rattle.grants.specs.Transit.{Rises, has_up_to, lesser_with};
 

@@ -5,14 +5,14 @@ ghost use Rattle.protocol.specs.Standings.{standing_at};
 ghost use Rattle.grants.specs.Wires.{AreWires, least_by, network_by, wires_of};
 ghost use Rattle.grants.specs.Routes.{looked_at, routed_below};
 
-use crate::bounds::{first_incoming, first_upstream, greater, is_before};
+use crate::bounds::{first_incoming, first_upstream, is_before};
 use crate::memory::Memory;
 use crate::routes::Routes;
 use crate::standing::Standing;
 use plan::{Connection, Plan};
 use std::alloc::Global;
 use std::marker::Model;
-use tag::{FiniteTag, Tag};
+use tag::{FiniteTag, Tag, greater};
 
 /// How the federates of a plan are connected.
 #[derive(Drop)]

@@ -3,14 +3,13 @@ use Rattle.std.proofs.Common.{◌≡◌, ℕ, zero, suc, ◌<◌, ◌⊎◌, inl
 use Rattle.std.specs.Prelude.{slice_get, All, IfSome, nat_eq, if◌then◌else◌, ◌||◌}
 use Rattle.std.specs.List.{list_all}
 use Rattle.std.proofs.lemmas.Bool.{eq-eqb, cases_lt, eqb-true}
-use Rattle.tag.specs.LogicalTime.{LogicalTime, is_before, is_at_most, sum_of}
-use Rattle.tag.proofs.Order.{at_most_reflexive, before_then}
+use Rattle.tag.specs.LogicalTime.{LogicalTime, is_before, is_at_most, sum_of, is_past}
+use Rattle.tag.proofs.Order.{at_most_reflexive, before_then, either_of}
 use Rattle.tag.proofs.SumLaws.{sum_monotone_left, sum_monotone_right, sum_twice_at_least}
 use Rattle.network.specs.Connection.{Connection}
 use Rattle.network.specs.Network.{Network}
 use Rattle.network.specs.Tables.{Table, IsWithin, IsTable}
 use Rattle.network.proofs.Tables.{within_found}
-use Rattle.protocol.specs.Federate.{is_past}
 use Rattle.protocol.specs.Standing.{Standing, after_message, after_grant}
 use Rattle.protocol.specs.Coordinator.{with_standing}
 use Rattle.protocol.specs.Grant.{after_completed, all_below, is_before_arrival, passes_paths, passes_connection, passes_connections}
@@ -100,10 +99,6 @@ if_some_at : (o : Option LogicalTime) (d : LogicalTime) (P : LogicalTime → Typ
 if_some_at None d P e h = cc
 if_some_at (Some x) d P e h = let same : x ≡ d = cc in subst P same h
 
-lesser_cases : (P : LogicalTime → Type 0) (g h : LogicalTime) (b : Bool) → P g → P h → P (if b then g else h)
-lesser_cases P g h true p q = p
-lesser_cases P g h false p q = q
-
 -- a message that is sent from a tag at or after its sender's next, and after the last LTC, is past what its receiver was granted
 pub message_is_past : (n : Network) (table : Table) (standings : ℕ → Standing) (k : ℕ) (c : Connection) (s : LogicalTime) (o : Option LogicalTime) → IsTable n table → slice_get n.connections k ≡ Some c → c.source < n.reactors → is_at_most (standings c.source).next s ≡ true → is_at_most (after_completed (standings c.source).completed) s ≡ true → IsBacked n table standings c.target o → is_past o (sum_of s c.delay) ≡ true
 message_is_past n table standings k c s None t e l m a b = refl
@@ -134,7 +129,7 @@ message_keeps_backing n table standings k c s j (Some g) t e l m (inl h) =
     let Q : LogicalTime → Type 0 = λ x. is_before g (sum_of x d) ≡ true in
     let there : table c.target j ≡ Some d = ap (λ x. table x j) (sym q) ∙ p in
     let R : ℕ → Type 0 = λ x. is_before g (sum_of (standings x).next d) ≡ true in
-    lesser_cases Q (standings c.target).next (sum_of s c.delay) (is_before (standings c.target).next (sum_of s c.delay)) (subst R q (h i d r p)) (arrives there)))
+    either_of Q (standings c.target).next (sum_of s c.delay) (is_before (standings c.target).next (sum_of s c.delay)) (subst R q (h i d r p)) (arrives there)))
     (h i d r p)))
 message_keeps_backing n table standings k c s j (Some g) t e l m (inr h) =
     inr (λ x y f q. (

@@ -2,8 +2,8 @@
 use Rattle.std.proofs.Common.{◌≡◌, ℕ, ◌+◌, ◌<◌, ◌≤◌, Bool, true, false, cond, List, [], ◌∷◌, ◌++◌, length, refl, sym, ap, subst, ◌∙◌, arith, Option, None, Some, ℤ}
 use Rattle.std.specs.Prelude.{slice_get, map, nat_eq, if◌then◌else◌, not, ◌&&◌, ◌||◌}
 use Rattle.std.proofs.Math.Path.{fun_ext}
-use Rattle.std.proofs.lemmas.Bool.{eq-eqb, eqb-true}
-use Rattle.tag.specs.LogicalTime.{LogicalTime, IsLogicalTime, is_at_most, is_same, forever, place}
+use Rattle.std.proofs.lemmas.Bool.{eqb-true, eqb-false}
+use Rattle.tag.specs.LogicalTime.{LogicalTime, IsLogicalTime, is_at_most, is_same, forever, place, is_past, is_reached}
 use Rattle.tag.proofs.Order.{finite_is_logical, place_of_finite}
 use Rattle.network.specs.Connection.{Connection}
 use Rattle.network.specs.Network.{Network}
@@ -14,7 +14,7 @@ use Rattle.signal.specs.declared.signal.Signal.TheVariants.{Net, Ltc, Tag, Msg}
 use Rattle.protocol.specs.declared.refusal.Refusal.TheVariants.{Late, OldGrant, WrongSignal, NotYours, BelowGrant, NotRising, AfterStop}
 use Rattle.protocol.specs.Outcome.{Outcome, Refused, Nothing, Done, made_or, with_made}
 use Rattle.network.specs.Undone.{Held, put, first_tag, look, drop_up_to}
-use Rattle.protocol.specs.Federate.{is_past, is_reached, is_told, next_event, accept_message, federate_announces, advance_to, turn_at, effect_of, scheduled_by, messages_from}
+use Rattle.protocol.specs.Federate.{is_told, next_event, accept_message, federate_announces, advance_to, turn_at, effect_of, scheduled_by, messages_from}
 use Rattle.protocol.specs.Standing.{Standing, after_message, after_net, after_ltc}
 use Rattle.protocol.specs.Grant.{Rule, IsSafeRule}
 use Rattle.protocol.specs.declared.post.Post.{Post}
@@ -46,9 +46,6 @@ member_if n completed k mine other false m o = o refl
 completed_if : (mine other : Member) (b : Bool) → (if b then mine else other).federate.completed ≡ (if b then mine.federate.completed else other.federate.completed)
 completed_if mine other true = refl
 completed_if mine other false = refl
-
-apart_if : (k j : ℕ) → nat_eq k j ≡ false → k ≡ j → ⊥
-apart_if k j e s = let t = eq-eqb k j s in cc
 
 first_clear : (n : Network) (completed : ℕ → Option LogicalTime) (k : ℕ) (u : List Held) (g : LogicalTime) → first_tag u ≡ Some g → AreClear n completed k u → IsClear n completed k g
 first_clear n completed k [] g e a = cc
@@ -114,7 +111,7 @@ turn_clears n table members j g lawful facts sound first reached clear =
     subst P (sym same)
     (λ x. member_if n (completed_with (completed_of members) j g) x mine (members x) (nat_eq x j)
     (λ e. subst Q (sym (eqb-true x j e)) own)
-    (λ e. turn_other n table members j x g grant.0 t (apart_if x j e) clear))
+    (λ e. turn_other n table members j x g grant.0 t (eqb-false x j e) clear))
 
 -- a member is replaced by one that completed the same
 kept_clears : (n : Network) (members : ℕ → Member) (i : ℕ) (mine : Member) → mine.federate.completed ≡ (members i).federate.completed → IsMemberClear n (completed_of members) i mine.federate.undone mine.up mine.down → AllClear n members → AllClear n (with_member members i mine)

@@ -1,6 +1,6 @@
 -- What every run computes: its histories are a consistent trace, and so its rows are the undivided program's.
 use Rattle.std.proofs.Common.{◌≡◌, ℕ, ◌+◌, ◌*◌, ◌<◌, ◌≤◌, ◌⊎◌, IsTrue, List, arith}
-use Rattle.tag.specs.LogicalTime.{LogicalTime, IsFinite, place}
+use Rattle.tag.specs.LogicalTime.{LogicalTime, IsFinite, place, is_reached}
 use Rattle.network.specs.Network.{Network}
 use Rattle.network.specs.Undivided.{whole, part}
 use Rattle.network.specs.Lawful.{IsLawful}
@@ -8,7 +8,6 @@ use Rattle.network.specs.Tables.{Table, IsTable}
 use Rattle.order.specs.History.{up_to}
 use Rattle.order.specs.Consistent.{IsInTime}
 use Rattle.order.proofs.Agree.{agree}
-use Rattle.protocol.specs.Federate.{is_reached}
 use Rattle.protocol.specs.Grant.{Rule, IsSafeRule}
 use Rattle.protocol.specs.Machine.{Move, after_moves}
 use Rattle.laws.specs.Runs.{IsQuiet}

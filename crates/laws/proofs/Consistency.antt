@@ -4,7 +4,7 @@ use Rattle.std.specs.Prelude.{slice_get, nat_eq, if◌then◌else◌, ◌&&◌, 
 use Rattle.std.specs.List.{AllByRecursion}
 use Rattle.std.proofs.Math.Path.{fun_ext}
 use Rattle.std.proofs.lemmas.Bool.{true_from_ne_false, eqb-true}
-use Rattle.tag.specs.LogicalTime.{LogicalTime, IsLogicalTime, is_before, is_at_most, is_same, sum_of, place}
+use Rattle.tag.specs.LogicalTime.{LogicalTime, IsLogicalTime, is_before, is_at_most, is_same, sum_of, place, is_past}
 use Rattle.tag.proofs.Order.{at_most_by_before, at_most_from_places, at_most_then, before_irreflexive, before_transitive, finite_is_logical, not_before, same_is_equal}
 use Rattle.tag.proofs.SumLaws.{sum_monotone_left}
 use Rattle.network.specs.Connection.{Connection, then_along, IsWalk}
@@ -20,7 +20,6 @@ use Rattle.signal.specs.declared.signal.Signal.{Signal}
 use Rattle.signal.specs.declared.signal.Signal.TheVariants.{Net, Ltc, Tag, Msg}
 use Rattle.network.specs.Undone.{Held, look}
 use Rattle.network.proofs.Walks.{along-snoc}
-use Rattle.protocol.specs.Federate.{is_past}
 use Rattle.protocol.specs.Grant.{Rule, IsSafeRule}
 use Rattle.protocol.specs.Machine.{Member, after_moves}
 use Rattle.laws.specs.Chains.{IsPending, undone, down, up}

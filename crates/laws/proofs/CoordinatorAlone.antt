@@ -6,7 +6,7 @@ use Rattle.std.proofs.lemmas.Bool.Decides.{nat_tests}
 use Rattle.std.proofs.lemmas.List.Elements.{All-filter}
 use Rattle.std.proofs.lemmas.List.Kept.{AllPairs-cons, AllPairs-filter}
 use Rattle.std.proofs.lemmas.Bool.{eqb-true}
-use Rattle.tag.specs.LogicalTime.{LogicalTime, IsLogicalTime, IsFinite, is_before, is_at_most, is_same, forever}
+use Rattle.tag.specs.LogicalTime.{LogicalTime, IsLogicalTime, IsFinite, is_before, is_at_most, is_same, forever, is_past}
 use Rattle.tag.proofs.Order.{finite_is_logical, origin_is_logical, before_transitive}
 use Rattle.network.specs.Connection.{Connection}
 use Rattle.network.specs.Network.{Network}
@@ -18,7 +18,6 @@ use Rattle.signal.specs.declared.signal.Signal.TheVariants.{Net, Ltc, Tag, Msg}
 use Rattle.protocol.specs.declared.refusal.Refusal.{Refusal}
 use Rattle.protocol.specs.declared.refusal.Refusal.TheVariants.{NotYours, BelowGrant, NotRising, AfterStop}
 use Rattle.protocol.specs.Outcome.{Outcome, Refused, Nothing, Done, with_made, IfDone}
-use Rattle.protocol.specs.Federate.{is_past}
 use Rattle.protocol.specs.Standing.{Standing, opening_standing, least_with, with_tag, after_message, after_net, after_ltc, after_grant}
 use Rattle.protocol.specs.Grant.{Rule, IsSafe, IsSafeRule}
 use Rattle.protocol.specs.declared.post.Post.{Post}

@@ -6,8 +6,8 @@ use Rattle.std.specs.Option.{option_map}
 use Rattle.std.proofs.lemmas.Bool.{eqb-true}
 use Rattle.std.proofs.lemmas.Bool.Decides.{nat_tests}
 use Rattle.std.proofs.lemmas.List.Kept.{AllPairs-cons, AllPairs-filter}
-use Rattle.tag.specs.LogicalTime.{LogicalTime, IsLogicalTime, IsFinite, is_before, is_at_most, is_same, sum_of}
-use Rattle.tag.proofs.Order.{before_then, finite_is_logical, finite_is_not_forever, finite_up_to}
+use Rattle.tag.specs.LogicalTime.{LogicalTime, IsLogicalTime, IsFinite, is_before, is_at_most, is_same, sum_of, is_past, is_reached}
+use Rattle.tag.proofs.Order.{at_most_then, before_at_most, before_then, finite_is_logical, finite_is_not_forever, finite_up_to}
 use Rattle.tag.proofs.SumLaws.{sum_at_least_first, sum_is_logical, sum_later}
 use Rattle.tag.proofs.Paths.{plain_is_logical}
 use Rattle.network.specs.Connection.{Connection}
@@ -15,7 +15,7 @@ use Rattle.network.specs.Event.{Event}
 use Rattle.network.specs.Network.{Network, Scheduling}
 use Rattle.network.specs.Undivided.{Row}
 use Rattle.network.specs.Lawful.{IsLawful, IsConnected, IsExternal, IsOwn}
-use Rattle.network.specs.Undone.{Held, is_held_before, is_for_same, put, put_all, look, first_tag, drop_up_to}
+use Rattle.network.specs.Undone.{Held, is_held_before, is_for_same, put, put_all, look, first_tag, drop_up_to, held_of}
 use Rattle.network.proofs.Lawful.{contained_is}
 use Rattle.order.proofs.Lists.{each, from_each, each_more, each_filter, first_pair, later_pairs}
 use Rattle.signal.specs.Signal.{IsSignal}
@@ -24,7 +24,7 @@ use Rattle.signal.specs.declared.signal.Signal.TheVariants.{Net, Ltc, Tag, Msg}
 use Rattle.protocol.specs.declared.refusal.Refusal.{Refusal}
 use Rattle.protocol.specs.declared.refusal.Refusal.TheVariants.{Late, OldGrant, WrongSignal}
 use Rattle.protocol.specs.Outcome.{Outcome, Refused, Nothing, Done, IfDone}
-use Rattle.protocol.specs.Federate.{Federate, Stepped, held_of, opening_federate, is_past, is_reached, is_told, next_event, accept_message, federate_accepts, federate_announces, advance_to, federate_advances, effect_of, scheduled_at, scheduled_by, messages_from, turn_at}
+use Rattle.protocol.specs.Federate.{Federate, Stepped, opening_federate, is_told, next_event, accept_message, federate_accepts, federate_announces, advance_to, federate_advances, effect_of, scheduled_at, scheduled_by, messages_from, turn_at}
 use Rattle.protocol.specs.Alone.{IsStillToRun, IsFederate, is_of_turn, is_sent_after, completed_by}
 use Rattle.laws.proofs.Tags.{past_then}
 use Rattle.laws.proofs.Upward.{IsOver}
@@ -159,10 +159,7 @@ message_leaves n j f number (Some c) g v lawful finite e k =
 still_granted : (completed granted : Option LogicalTime) (g : LogicalTime) → IfSome completed (λ tag. IsFinite tag × IsTrue (is_reached granted tag)) → is_past granted g ≡ true → IfSome completed (λ tag. IsFinite tag × IsTrue (is_at_most tag g))
 still_granted None granted g h p = tt
 still_granted (Some c) None g h p = let never = h.1 in cc
-still_granted (Some c) (Some d) g h p = (h.0, past_weakens c d g h.1 p)
-  where
-    past_weakens : (c d g : LogicalTime) → is_at_most c d ≡ true → is_before d g ≡ true → is_at_most c g ≡ true
-    past_weakens c d g p q = grind (arith, nat_tests)
+still_granted (Some c) (Some d) g h p = (h.0, before_at_most c g (at_most_then c d g h.1 p))
 
 -- a TAG
 grant_leaves : (n : Network) (j : ℕ) (f : Federate) (g : LogicalTime) → IsFinite g → IsFederate n j f → LeavesFederate n j (federate_accepts n j f (Tag g))

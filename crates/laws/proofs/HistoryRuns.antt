@@ -4,7 +4,7 @@ use Rattle.std.specs.Prelude.{slice_get, filter, map, nat_eq, if◌then◌else�
 use Rattle.std.specs.List.{AllByRecursion}
 use Rattle.std.proofs.lemmas.Bool.{eq-eqb, false_from_ne_true, eqb-true}
 use Rattle.std.proofs.lemmas.List.{append-nil}
-use Rattle.tag.specs.LogicalTime.{LogicalTime, is_at_most, is_same, forever}
+use Rattle.tag.specs.LogicalTime.{LogicalTime, is_at_most, is_same, forever, is_past, is_reached}
 use Rattle.tag.proofs.Order.{same_is_equal}
 use Rattle.network.specs.Connection.{Connection}
 use Rattle.network.specs.Event.{Event}
@@ -22,8 +22,8 @@ use Rattle.signal.specs.declared.signal.Signal.{Signal}
 use Rattle.signal.specs.declared.signal.Signal.TheVariants.{Net, Ltc, Tag, Msg}
 use Rattle.protocol.specs.declared.refusal.Refusal.TheVariants.{Late, OldGrant, WrongSignal, NotYours, BelowGrant, NotRising, AfterStop}
 use Rattle.protocol.specs.Outcome.{Outcome, Refused, Nothing, Done, made_or, with_made}
-use Rattle.network.specs.Undone.{put, look, first_tag}
-use Rattle.protocol.specs.Federate.{held_of, is_past, is_reached, is_told, next_event, accept_message, federate_announces, advance_to, turn_at}
+use Rattle.network.specs.Undone.{put, look, first_tag, held_of}
+use Rattle.protocol.specs.Federate.{is_told, next_event, accept_message, federate_announces, advance_to, turn_at}
 use Rattle.protocol.specs.Standing.{Standing, after_message, after_net, after_ltc}
 use Rattle.protocol.specs.Grant.{Rule, IsSafeRule}
 use Rattle.protocol.specs.declared.post.Post.{Post}

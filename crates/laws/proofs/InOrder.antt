@@ -1,10 +1,9 @@
 -- Signals in order, and then more of them in order, are in order.
 use Rattle.std.proofs.Common.{◌≡◌, Bool, true, false, List, [], ◌∷◌, ◌++◌, refl, sym, ap, ◌∙◌, Option, Some}
 use Rattle.std.specs.Prelude.{◌&&◌}
-use Rattle.tag.specs.LogicalTime.{LogicalTime}
+use Rattle.tag.specs.LogicalTime.{LogicalTime, is_past}
 use Rattle.signal.specs.declared.signal.Signal.{Signal}
 use Rattle.signal.specs.declared.signal.Signal.TheVariants.{Net, Ltc, Tag, Msg}
-use Rattle.protocol.specs.Federate.{is_past}
 use Rattle.protocol.specs.Alone.{is_sent_after, completed_by, is_sent_past, granted_by}
 
 both_then : (a b c : Bool) → (a && (b && c)) ≡ ((a && b) && c)

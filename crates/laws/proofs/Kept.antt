@@ -2,14 +2,14 @@
 use Rattle.std.proofs.Common.{◌≡◌, ℕ, ◌+◌, ◌≤◌, IsTrue, inl, inr, List, [], ◌∷◌, ◌++◌, refl, ap, subst, ◌∙◌, arith, min, max, Some, ℤ}
 use Rattle.std.specs.Prelude.{slice_get, filter, map, unwrap_or, nat_eq, ◌||◌}
 use Rattle.std.proofs.lemmas.Bool.Decides.{nat_tests}
-use Rattle.tag.specs.LogicalTime.{LogicalTime, IsLogicalTime, is_before, is_at_most, is_same, forever, place}
+use Rattle.tag.specs.LogicalTime.{LogicalTime, IsLogicalTime, is_before, is_at_most, is_same, forever, place, is_reached}
 use Rattle.tag.proofs.Order.{at_most_from_places, at_most_places, finite_is_logical, forever_is_logical, origin_is_logical, place_bound, place_of_finite, place_of_forever, place_of_origin, same_itself, top}
 use Rattle.network.specs.Network.{Network}
 use Rattle.network.specs.Lawful.{IsLawful}
 use Rattle.signal.specs.declared.signal.Signal.{Signal}
 use Rattle.signal.specs.declared.signal.Signal.TheVariants.{Net, Ltc, Tag, Msg}
-use Rattle.network.specs.Undone.{Held, put, put_all, look, first_tag, drop_up_to}
-use Rattle.protocol.specs.Federate.{Federate, next_event, turn_at, effect_of, scheduled_by, messages_from, is_reached, opening_federate, held_of}
+use Rattle.network.specs.Undone.{Held, put, put_all, look, first_tag, drop_up_to, held_of}
+use Rattle.protocol.specs.Federate.{Federate, next_event, turn_at, effect_of, scheduled_by, messages_from, opening_federate}
 use Rattle.protocol.specs.Standing.{Standing, opening_standing, with_tag, after_message, after_net, after_ltc, after_grant}
 use Rattle.laws.proofs.Tags.{IsOptional, above, reached_true}
 use Rattle.laws.proofs.Transit.{least_above, AreTags, above_rises, above_one_more, tags_one_more, above_later, tags_later, lesser_is_tag, place_of_lesser, least_is_tag, place_of_least, covers_one_more, covers_it, covers_later}

@@ -4,7 +4,7 @@ use Rattle.std.specs.Prelude.{slice_get, nat_eq, nat_lt, if◌then◌else◌, no
 use Rattle.std.proofs.Math.Path.{fun_ext}
 use Rattle.std.proofs.lemmas.Bool.{cases_lt}
 use Rattle.std.proofs.lemmas.Bool.Decides.{nat_tests}
-use Rattle.tag.specs.LogicalTime.{LogicalTime, forever, is_at_most, is_same}
+use Rattle.tag.specs.LogicalTime.{LogicalTime, forever, is_at_most, is_same, is_past}
 use Rattle.tag.proofs.Order.{same_is_equal, same_itself}
 use Rattle.network.specs.Connection.{Connection}
 use Rattle.network.specs.Network.{Network}
@@ -14,7 +14,6 @@ use Rattle.signal.specs.declared.signal.Signal.TheVariants.{Net, Ltc, Tag, Msg}
 use Rattle.protocol.specs.declared.refusal.Refusal.{Refusal}
 use Rattle.protocol.specs.declared.refusal.Refusal.TheVariants.{NotYours, BelowGrant, NotRising, AfterStop}
 use Rattle.protocol.specs.Outcome.{Outcome, Refused, Nothing, Done, with_made, IfDone}
-use Rattle.protocol.specs.Federate.{is_past}
 use Rattle.protocol.specs.Standing.{Standing, opening_standing, after_message, after_net, after_ltc, after_grant}
 use Rattle.protocol.specs.Grant.{Rule}
 use Rattle.protocol.specs.Coordinator.{Coordinated, with_standing, noted, route, coordinator_takes, grant_to, with_grants, coordinator_accepts}
@@ -32,6 +31,12 @@ read_beyond : (count : ℕ) (standings : ℕ → Standing) (j : ℕ) → count �
 read_beyond zero standings j l = refl
 read_beyond (suc count) standings zero l = absurd (omega arith)
 read_beyond (suc count) standings (suc j) l = read_beyond count (λ k. standings (suc k)) j (omega arith)
+
+-- all stand as at the start
+pub opening_read : (count j : ℕ) → standing_at (standings_listed count (λ k. opening_standing)) j ≡ opening_standing
+opening_read zero j = refl
+opening_read (suc count) zero = refl
+opening_read (suc count) (suc j) = opening_read count j
 
 pub list_read : (standings : List Standing) → standings_listed (length standings) (standing_at standings) ≡ standings
 list_read [] = refl

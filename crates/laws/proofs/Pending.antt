@@ -1,7 +1,7 @@
 -- What is pending, one by one: it is in range, and clear of what is completed.
 use Rattle.std.proofs.Common.{◌≡◌, ℕ, zero, suc, ◌+◌, IsTrue, List, [], ◌∷◌, refl, sym, subst, Option, None, Some, ℤ}
 use Rattle.std.specs.Prelude.{slice_get}
-use Rattle.tag.specs.LogicalTime.{LogicalTime, IsLogicalTime, place}
+use Rattle.tag.specs.LogicalTime.{LogicalTime, IsLogicalTime, place, is_past}
 use Rattle.tag.proofs.SumLaws.{sum_is_logical}
 use Rattle.tag.proofs.Paths.{plain_is_logical}
 use Rattle.network.specs.Connection.{Connection, then_along, IsWalk}
@@ -12,7 +12,6 @@ use Rattle.signal.specs.declared.signal.Signal.{Signal}
 use Rattle.signal.specs.declared.signal.Signal.TheVariants.{Net, Ltc, Tag, Msg}
 use Rattle.network.specs.Undone.{Held}
 use Rattle.network.proofs.Lawful.{contained_is}
-use Rattle.protocol.specs.Federate.{is_past}
 use Rattle.protocol.specs.Grant.{Rule, IsSafeRule}
 use Rattle.protocol.specs.Machine.{Member, Move, after_moves}
 use Rattle.laws.specs.Chains.{IsPending, undone, down, up}

@@ -3,14 +3,13 @@ use Rattle.std.proofs.Common.{◌≡◌, ℕ, zero, suc, ◌^◌, ◌<◌, ◌�
 use Rattle.std.specs.Prelude.{nat_eq, nat_lt, IsSomeAnd, if◌then◌else◌, ◌&&◌, ◌||◌}
 use Rattle.std.specs.List.{list_all}
 use Rattle.std.proofs.lemmas.Bool.Decides.{nat_tests}
-use Rattle.tag.specs.LogicalTime.{LogicalTime, IsLogicalTime, IsFinite, is_before, is_at_most, sum_of, forever, lesser, greater, predecessor_of}
-use Rattle.tag.proofs.Order.{lesser_at_most_first, lesser_at_most_second, predecessor_before, predecessor_at_least, predecessor_microstep, at_most_reflexive, before_then, finite_up_to}
+use Rattle.tag.specs.LogicalTime.{LogicalTime, IsLogicalTime, IsFinite, is_before, is_at_most, sum_of, forever, lesser, greater, predecessor_of, is_past}
+use Rattle.tag.proofs.Order.{either_of as one_of_two, before_forever, lesser_at_most_first, lesser_at_most_second, predecessor_before, predecessor_at_least, predecessor_microstep, at_most_reflexive, before_then, finite_up_to}
 use Rattle.tag.proofs.SumLaws.{sum_microstep_below}
 use Rattle.network.specs.Connection.{Connection}
 use Rattle.network.specs.Network.{Network}
 use Rattle.network.specs.Wiring.{IsWired}
 use Rattle.network.specs.Tables.{Table}
-use Rattle.protocol.specs.Federate.{is_past}
 use Rattle.protocol.specs.Standing.{Standing}
 use Rattle.protocol.specs.Grant.{after_completed, all_below, is_before_arrival, passes_paths, passes_connection, passes_connections, is_eligible, grant_next, IsSafe, IsSafeRule, lesser_arrival, bound_by_paths, bound_by_connections, bound_of, grant_widest, is_safe, if_safe, grant_chosen}
 use Rattle.laws.proofs.Tags.{past_then}
@@ -53,13 +52,9 @@ next_rule_is_safe n table wired standings tags j tag e =
     let P : LogicalTime → Type 0 = λ x. IsSafe n table standings j x in
     subst P given.1 (next_is_safe n table standings j wired tags given.0)
 
-before_lesser_if : (tag g h : LogicalTime) (b : Bool) → is_before tag g ≡ true → is_before tag h ≡ true → is_before tag (if b then g else h) ≡ true
-before_lesser_if tag g h true p q = p
-before_lesser_if tag g h false p q = q
-
 before_arrival : (tag next : LogicalTime) (o : Option LogicalTime) (other : LogicalTime) → is_before_arrival tag next o ≡ true → is_before tag other ≡ true → is_before tag (lesser_arrival next o other) ≡ true
 before_arrival tag next None other h k = k
-before_arrival tag next (Some d) other h k = before_lesser_if tag (sum_of next d) other (is_before (sum_of next d) other) h k
+before_arrival tag next (Some d) other h k = one_of_two (λ x. is_before tag x ≡ true) (sum_of next d) other (is_before (sum_of next d) other) h k
 
 before_paths : (table : Table) (standings : ℕ → Standing) (j count : ℕ) (tag : LogicalTime) → is_before tag forever ≡ true → all_below count (λ i. is_before_arrival tag (standings i).next (table i j)) ≡ true → is_before tag (bound_by_paths table standings j count) ≡ true
 before_paths table standings j zero tag f h = f
@@ -69,7 +64,7 @@ before_paths table standings j (suc count) tag f h =
     before_arrival tag (standings count).next (table count j) (bound_by_paths table standings j count) (both_left now rest h) (before_paths table standings j count tag f (both_right now rest h))
 
 before_connection : (tag arrival other : LogicalTime) (b : Bool) → (if b then is_before tag arrival else true) ≡ true → is_before tag other ≡ true → is_before tag (if b then lesser arrival other else other) ≡ true
-before_connection tag arrival other true h k = before_lesser_if tag arrival other (is_before arrival other) h k
+before_connection tag arrival other true h k = one_of_two (λ x. is_before tag x ≡ true) arrival other (is_before arrival other) h k
 before_connection tag arrival other false h k = k
 
 before_connections : (standings : ℕ → Standing) (j : ℕ) (tag : LogicalTime) (cs : List Connection) → is_before tag forever ≡ true → list_all (passes_connection standings j tag) cs ≡ true → is_before tag (bound_by_connections standings j cs) ≡ true
@@ -111,10 +106,6 @@ connections_pass standings j tag (c ∷ rest) h =
     both_hold (passes_connection standings j tag c) (list_all (passes_connection standings j tag) rest)
     (connection_passes tag arrival other (nat_eq c.target j) h) (connections_pass standings j tag rest (others_pass tag arrival other (nat_eq c.target j) h))
 
-greater_is_one : (P : LogicalTime → Type 0) (g h : LogicalTime) (b : Bool) → P g → P h → P (if b then h else g)
-greater_is_one P g h true p q = q
-greater_is_one P g h false p q = p
-
 pub greater_splits : (tag g h : LogicalTime) (b : Bool) → is_before tag (if b then h else g) ≡ true → (is_before tag g ≡ true) ⊎ (is_before tag h ≡ true)
 greater_splits tag g h true p = inr p
 greater_splits tag g h false p = inl p
@@ -125,20 +116,19 @@ greater_from_first tag g h p = grind (arith, nat_tests)
 pub greater_from_second : (tag g h : LogicalTime) → is_before tag h ≡ true → is_before tag (greater g h) ≡ true
 greater_from_second tag g h p = grind (arith, nat_tests)
 
-one_microstep_of : (g h : LogicalTime) (b : Bool) → g.microstep < 2 ^ 32 → h.microstep < 2 ^ 32 → (if b then g else h).microstep < 2 ^ 32
-one_microstep_of g h true p q = p
-one_microstep_of g h false p q = q
+abbrev HasMicrostep : LogicalTime → Type 0
+HasMicrostep g = g.microstep < 2 ^ 32
 
 arrival_microstep : (next : LogicalTime) (o : Option LogicalTime) (other : LogicalTime) → other.microstep < 2 ^ 32 → (lesser_arrival next o other).microstep < 2 ^ 32
 arrival_microstep next None other h = h
-arrival_microstep next (Some d) other h = one_microstep_of (sum_of next d) other (is_before (sum_of next d) other) (sum_microstep_below next d) h
+arrival_microstep next (Some d) other h = one_of_two HasMicrostep (sum_of next d) other (is_before (sum_of next d) other) (sum_microstep_below next d) h
 
 paths_microstep : (table : Table) (standings : ℕ → Standing) (j count : ℕ) → (bound_by_paths table standings j count).microstep < 2 ^ 32
 paths_microstep table standings j zero = omega arith
 paths_microstep table standings j (suc count) = arrival_microstep (standings count).next (table count j) (bound_by_paths table standings j count) (paths_microstep table standings j count)
 
 connection_microstep : (arrival other : LogicalTime) (b : Bool) → arrival.microstep < 2 ^ 32 → other.microstep < 2 ^ 32 → (if b then lesser arrival other else other).microstep < 2 ^ 32
-connection_microstep arrival other true p q = one_microstep_of arrival other (is_before arrival other) p q
+connection_microstep arrival other true p q = one_of_two HasMicrostep arrival other (is_before arrival other) p q
 connection_microstep arrival other false p q = q
 
 connections_microstep : (standings : ℕ → Standing) (j : ℕ) (cs : List Connection) → (bound_by_connections standings j cs).microstep < 2 ^ 32
@@ -147,18 +137,11 @@ connections_microstep standings j (c ∷ rest) =
     connection_microstep (sum_of (after_completed (standings c.source).completed) c.delay) (bound_by_connections standings j rest) (nat_eq c.target j)
     (sum_microstep_below (after_completed (standings c.source).completed) c.delay) (connections_microstep standings j rest)
 
-at_least_both : (g a b : LogicalTime) (t : Bool) → is_at_most g a ≡ true → is_at_most g b ≡ true → is_at_most g (if t then a else b) ≡ true
-at_least_both g a b true p q = p
-at_least_both g a b false p q = q
-
 pub lesser_before : (g h b : LogicalTime) → is_before g b ≡ true → is_before (lesser g h) b ≡ true
 lesser_before g h b p = grind (arith, nat_tests)
 
 time_within : (g h : LogicalTime) → is_at_most g h ≡ true → g.time ≤ h.time
 time_within g h p = grind (arith, nat_tests)
-
-finite_before : (g : LogicalTime) → IsFinite g → is_before g forever ≡ true
-finite_before g p = let a = p.time in grind (arith, nat_tests)
 
 -- a tag before the bound is safe
 pub bound_is_safe : (n : Network) (table : Table) (standings : ℕ → Standing) (j : ℕ) (tag : LogicalTime) → is_before tag (bound_of n table standings j) ≡ true → (passes_paths n table standings j tag || passes_connections n standings j tag) ≡ true
@@ -186,19 +169,19 @@ widest_is_safe n table standings j wired tags h =
     let safe = next_is_safe n table standings j wired tags h in
     let bound = bound_of n table standings j in
     let next = (standings j).next in
-    let before : is_before next bound ≡ true = safe_is_bounded n table standings j next (finite_before next safe.finite) safe.safe in
+    let before : is_before next bound ≡ true = safe_is_bounded n table standings j next (before_forever next safe.finite) safe.safe in
     let small : bound.microstep < 2 ^ 32 =
-    one_microstep_of (bound_by_connections standings j n.connections) (bound_by_paths table standings j n.reactors)
+    one_of_two HasMicrostep (bound_by_connections standings j n.connections) (bound_by_paths table standings j n.reactors)
     (is_before (bound_by_paths table standings j n.reactors) (bound_by_connections standings j n.connections))
     (connections_microstep standings j n.connections) (paths_microstep table standings j n.reactors) in
     let within = time_within (lesser (predecessor_of bound) n.stop) n.stop (lesser_at_most_second (predecessor_of bound) n.stop) in
     let end = wired.stop.time in
     let grows : is_at_most next (lesser (predecessor_of bound) n.stop) ≡ true =
-    at_least_both next (predecessor_of bound) n.stop (is_before (predecessor_of bound) n.stop) (predecessor_at_least next bound (tags j).microstep before) safe.in_time in
+    one_of_two (λ x. is_at_most next x ≡ true) (predecessor_of bound) n.stop (is_before (predecessor_of bound) n.stop) (predecessor_at_least next bound (tags j).microstep before) safe.in_time in
     record {
       finite = record {
         time = omega arith;
-        microstep = one_microstep_of (predecessor_of bound) n.stop (is_before (predecessor_of bound) n.stop) (predecessor_microstep bound small) wired.stop.microstep;
+        microstep = one_of_two HasMicrostep (predecessor_of bound) n.stop (is_before (predecessor_of bound) n.stop) (predecessor_microstep bound small) wired.stop.microstep;
       };
       later = past_then (standings j).granted next (lesser (predecessor_of bound) n.stop) safe.later grows;
       in_time = lesser_at_most_second (predecessor_of bound) n.stop;
@@ -224,8 +207,8 @@ widest_is_at_least n table standings j wired tags h =
     let safe = next_is_safe n table standings j wired tags h in
     let bound = bound_of n table standings j in
     let next = (standings j).next in
-    let before : is_before next bound ≡ true = safe_is_bounded n table standings j next (finite_before next safe.finite) safe.safe in
-    at_least_both next (predecessor_of bound) n.stop (is_before (predecessor_of bound) n.stop) (predecessor_at_least next bound (tags j).microstep before) safe.in_time
+    let before : is_before next bound ≡ true = safe_is_bounded n table standings j next (before_forever next safe.finite) safe.safe in
+    one_of_two (λ x. is_at_most next x ≡ true) (predecessor_of bound) n.stop (is_before (predecessor_of bound) n.stop) (predecessor_at_least next bound (tags j).microstep before) safe.in_time
 
 pub widest_rule_is_full : (n : Network) (table : Table) → IsWired n → IsFullRule n table (grant_widest n table)
 widest_rule_is_full n table wired standings tags j e =

@@ -2,11 +2,11 @@
 use Rattle.std.proofs.Common.{◌≡◌, ℕ, zero, suc, ◌+◌, ◌<◌, ◌≤◌, ◌⊎◌, inl, inr, Bool, true, false, cond, IsTrue, List, [], ◌∷◌, ◌++◌, length, refl, sym, ap, subst, ◌∙◌, arith, Option, None, Some, ℤ}
 use Rattle.std.specs.Prelude.{slice_get, filter, map, nat_eq, nat_lt, if◌then◌else◌, not, ◌&&◌, ◌||◌}
 use Rattle.std.proofs.Math.Path.{fun_ext}
-use Rattle.std.proofs.lemmas.Bool.{eq-eqb, cases_lt, eqb-true}
+use Rattle.std.proofs.lemmas.Bool.{eq-eqb, cases_lt, eqb-true, ne_eqb}
 use Rattle.std.proofs.lemmas.Bool.Decides.{nat_tests}
 use Rattle.std.proofs.lemmas.List.{append-nil, append_assoc, map-append}
 use Rattle.std.proofs.lemmas.List.Elements.{filter-append}
-use Rattle.tag.specs.LogicalTime.{LogicalTime, IsLogicalTime, is_at_most, is_same, sum_of, successor_of, forever, place}
+use Rattle.tag.specs.LogicalTime.{LogicalTime, IsLogicalTime, is_at_most, is_same, sum_of, successor_of, forever, place, is_past, is_reached}
 use Rattle.tag.proofs.Order.{at_most_from_places, at_most_reflexive, at_most_transitive, finite_is_logical}
 use Rattle.tag.proofs.SumLaws.{successor_at_least, sum_is_logical}
 use Rattle.tag.proofs.Paths.{plain_is_logical}
@@ -20,7 +20,7 @@ use Rattle.protocol.specs.declared.refusal.Refusal.{Refusal}
 use Rattle.protocol.specs.declared.refusal.Refusal.TheVariants.{Late, OldGrant, WrongSignal, NotYours, BelowGrant, NotRising, AfterStop}
 use Rattle.protocol.specs.Outcome.{Outcome, Refused, Nothing, Done, made_or, with_made}
 use Rattle.network.specs.Undone.{first_tag, put}
-use Rattle.protocol.specs.Federate.{Federate, Stepped, is_past, is_reached, is_told, next_event, accept_message, federate_announces, advance_to, federate_advances, turn_at}
+use Rattle.protocol.specs.Federate.{Federate, Stepped, is_told, next_event, accept_message, federate_announces, advance_to, federate_advances, turn_at}
 use Rattle.protocol.specs.Standing.{Standing, after_message, after_net, after_ltc, after_grant}
 use Rattle.protocol.specs.Grant.{Rule, IsSafe, IsSafeRule, after_completed}
 use Rattle.protocol.specs.declared.post.Post.{Post}
@@ -151,12 +151,9 @@ post_here : (j k : ℕ) (o : Option LogicalTime) → j ≡ k → sent_to j (gran
 post_here j k None e = refl
 post_here j k (Some g) e = let P : Bool → Type 0 = λ b. map (λ (p : Post). p.signal) (cond b (record { peer = k; signal = Tag g } ∷ []) []) ≡ Tag g ∷ [] in subst P (sym (eq-eqb j k e)) refl
 
-not_equal : (j k : ℕ) → (j ≡ k → ⊥) → nat_eq j k ≡ false
-not_equal j k h = grind (arith, nat_tests)
-
 post_elsewhere : (j k : ℕ) (o : Option LogicalTime) → (j ≡ k → ⊥) → sent_to j (grant_post k o) ≡ []
 post_elsewhere j k None e = refl
-post_elsewhere j k (Some g) e = let P : Bool → Type 0 = λ b. map (λ (p : Post). p.signal) (cond b (record { peer = k; signal = Tag g } ∷ []) []) ≡ [] in subst P (sym (not_equal j k e)) refl
+post_elsewhere j k (Some g) e = let P : Bool → Type 0 = λ b. map (λ (p : Post). p.signal) (cond b (record { peer = k; signal = Tag g } ∷ []) []) ≡ [] in subst P (sym (ne_eqb j k e)) refl
 
 grants_elsewhere : (n : Network) (rule : Rule) (standings : ℕ → Standing) (j k count : ℕ) → (j < k) ⊎ (k + count ≤ j) → sent_to j (grants_from n rule standings k count) ≡ []
 grants_elsewhere n rule standings j k zero h = refl

@@ -1,17 +1,18 @@
 -- After each of its steps the coordinator leaves nobody eligible, by a safe rule that leaves no eligible federate without a grant.
 use Rattle.std.proofs.Common.{◌≡◌, ℕ, ◌<◌, Bool, true, false, IsTrue, List, [], ◌∷◌, length, refl, sym, ap, subst, ◌∙◌, arith, Option, None, Some}
-use Rattle.std.specs.Prelude.{nat_eq, nat_lt, if◌then◌else◌, ◌&&◌, ◌||◌, IsSomeAnd}
+use Rattle.std.specs.Prelude.{nat_eq, if◌then◌else◌, ◌&&◌, ◌||◌, IsSomeAnd}
 use Rattle.std.specs.List.{list_all}
 use Rattle.std.proofs.Math.Path.{fun_ext}
 use Rattle.std.proofs.lemmas.Bool.Decides.{nat_tests}
-use Rattle.tag.specs.LogicalTime.{LogicalTime, IsLogicalTime, is_before, is_at_most, sum_of}
+use Rattle.std.proofs.lemmas.Bool.{lt-ltb, false_from_ne_true}
+use Rattle.tag.specs.LogicalTime.{LogicalTime, IsLogicalTime, is_before, is_at_most, sum_of, is_past}
 use Rattle.tag.proofs.Order.{not_before}
 use Rattle.network.specs.Network.{Network}
 use Rattle.network.specs.Lawful.{IsLawful}
 use Rattle.network.specs.Tables.{Table, IsTable}
 use Rattle.signal.specs.declared.signal.Signal.{Signal}
 use Rattle.protocol.specs.Outcome.{Outcome, Refused, Nothing, Done, made_or, with_made}
-use Rattle.protocol.specs.Federate.{Stepped, is_past, federate_accepts, federate_announces, federate_advances}
+use Rattle.protocol.specs.Federate.{Stepped, federate_accepts, federate_announces, federate_advances}
 use Rattle.protocol.specs.Standing.{Standing, after_grant}
 use Rattle.protocol.specs.Grant.{Rule, IsSafeRule, after_completed, all_below, is_before_arrival, passes_paths, passes_connection, passes_connections, is_eligible}
 use Rattle.protocol.specs.Coordinator.{Coordinated, coordinator_takes, grant_to, with_grants}
@@ -23,7 +24,7 @@ use Rattle.laws.proofs.Safety.{Goes, standing_stays, move_goes, moves_sound}
 abbrev pub NobodyIsEligible : Network → Table → (ℕ → Standing) → Type 0
 NobodyIsEligible n table standings = (j : ℕ) → j < n.reactors → is_eligible n table standings j ≡ false
 
-next_same : (s : Standing) (o : Option LogicalTime) → (after_grant s o).next ≡ s.next
+pub next_same : (s : Standing) (o : Option LogicalTime) → (after_grant s o).next ≡ s.next
 next_same s None = refl
 next_same s (Some g) = refl
 
@@ -53,10 +54,6 @@ second_false true true c d h = cc
 second_false true false c d h = refl
 second_false false b c d h = refl
 
-not_true : (b : Bool) → (b ≡ true → ⊥) → b ≡ false
-not_true true h = absurd (h refl)
-not_true false h = refl
-
 -- what isn't granted at one tag isn't before a later one that is granted
 past_falls : (granted : Option LogicalTime) (g tag : LogicalTime) → is_past granted g ≡ true → is_past granted tag ≡ false → is_before g tag ≡ false
 past_falls None g tag p q = cc
@@ -66,11 +63,11 @@ past_falls (Some k) g tag p q = grind (arith, nat_tests)
 second_falls : (a b c d e : Bool) → ((a && b && c && d) ≡ true → e ≡ false) → (b ≡ false → e ≡ false) → (a && e && c && d) ≡ false
 second_falls a b c d false h k = second_false a false c d refl
 second_falls a false c d true h k = let clash : true ≡ false = k refl in cc
-second_falls a true c d true h k = not_true (a && true && c && d) (λ t. let clash : true ≡ false = h t in cc)
+second_falls a true c d true h k = false_from_ne_true (a && true && c && d) (λ t. let clash : true ≡ false = h t in cc)
 
 -- a federate isn't eligible after its grant; and whoever was eligible has one
 standing_settled : (n : Network) (s : Standing) (passes : LogicalTime → Bool) (here : Option LogicalTime) → ((tag : LogicalTime) → here ≡ Some tag → is_past s.granted tag ≡ true) → (eligible_so n s passes ≡ true → IsSomeAnd here (λ tag. IsTrue (is_at_most s.next tag))) → eligible_so n (after_grant s here) passes ≡ false
-standing_settled n s passes None later full = not_true (eligible_so n s passes) full
+standing_settled n s passes None later full = false_from_ne_true (eligible_so n s passes) full
 standing_settled n s passes (Some g) later full =
     second_falls s.announced (is_past s.granted s.next) (is_at_most s.next n.stop) (passes s.next) (is_before g s.next)
     (λ t. not_before g s.next (full t)) (past_falls s.granted g s.next (later g refl))
@@ -85,13 +82,10 @@ settled_if n table standings o j here e later full =
     ap (λ x. eligible_so n (after_grant (standings j) here) x) passes ∙
     standing_settled n (standings j) (λ tag. passes_paths n table standings j tag || passes_connections n standings j tag) here later full
 
-within_number : (j count : ℕ) → j < count → nat_lt j count ≡ true
-within_number j count h = grind (arith, nat_tests)
-
 pub settled_by_grants : (n : Network) (table : Table) (rule : Rule) (standings : ℕ → Standing) → IsSafeRule n table rule → IsFullRule n table rule → ((i : ℕ) → IsLogicalTime (standings i).next) → NobodyIsEligible n table (λ i. after_grant (standings i) (grant_to n rule standings i))
 settled_by_grants n table rule standings safe full tags j l =
     settled_if n table standings (grant_to n rule standings) j (rule standings j)
-    (ap (λ b. if b then rule standings j else None) (within_number j n.reactors l)) (λ tag e. (safe standings tags j tag e).later) (full standings tags j)
+    (ap (λ b. if b then rule standings j else None) (lt-ltb j n.reactors l)) (λ tag e. (safe standings tags j tag e).later) (full standings tags j)
 
 -- a move leaves nobody eligible
 abbrev pub Settles : Network → Table → Outcome (ℕ → Member) → Type 0

@@ -4,7 +4,7 @@ use Rattle.std.specs.Prelude.{if◌then◌else◌, ◌&&◌, ◌||◌, Contains,
 use Rattle.std.specs.List.{list_any}
 use Rattle.std.proofs.lemmas.Bool.{cases_lt}
 use Rattle.std.proofs.lemmas.Bool.Decides.{nat_tests}
-use Rattle.tag.specs.LogicalTime.{LogicalTime, is_before, is_at_most, sum_of, origin, place}
+use Rattle.tag.specs.LogicalTime.{LogicalTime, is_before, is_at_most, sum_of, origin, place, is_past, is_reached}
 use Rattle.tag.proofs.Order.{at_most_from_places, at_most_then, before_from_places, before_then, finite_is_logical, not_forever, place_bound, place_of_finite, same_is_equal, top}
 use Rattle.tag.proofs.SumLaws.{sum_at_least_first, sum_later}
 use Rattle.network.specs.Connection.{Connection, IsPath, total_of, IsLeastDelay, IsUnreachable}
@@ -16,7 +16,7 @@ use Rattle.signal.specs.declared.signal.Signal.{Signal}
 use Rattle.signal.specs.declared.signal.Signal.TheVariants.{Net}
 use Rattle.protocol.specs.Outcome.{Nothing, Done}
 use Rattle.network.specs.Undone.{Held, first_tag}
-use Rattle.protocol.specs.Federate.{Stepped, is_past, is_reached, is_told, next_event, advance_to, turn_at}
+use Rattle.protocol.specs.Federate.{Stepped, is_told, next_event, advance_to, turn_at}
 use Rattle.protocol.specs.Standing.{Standing}
 use Rattle.protocol.specs.Grant.{Rule, IsSafeRule, is_before_arrival, passes_paths, passes_connections}
 use Rattle.protocol.specs.Machine.{Member, Move, standings_of, after_moves}

@@ -1,10 +1,9 @@
 -- Optional tags, none of which is before all, as places: what the tests of grants and completed tags say of them.
 use Rattle.std.proofs.Common.{◌≡◌, ℕ, ◌+◌, ◌<◌, ◌≤◌, true, false, refl, arith, Option, None, Some}
 use Rattle.std.proofs.lemmas.Bool.Decides.{nat_tests}
-use Rattle.tag.specs.LogicalTime.{LogicalTime, IsLogicalTime, is_at_most, place}
+use Rattle.tag.specs.LogicalTime.{LogicalTime, IsLogicalTime, is_at_most, place, is_past, is_reached}
 use Rattle.tag.proofs.Order.{before_then, before_places, not_before_places, before_from_places, at_most_places, at_most_from_places}
 use Rattle.tag.proofs.SumLaws.{successor_least}
-use Rattle.protocol.specs.Federate.{is_past, is_reached}
 use Rattle.protocol.specs.Grant.{after_completed}
 
 -- the place above an optional tag: none is before all

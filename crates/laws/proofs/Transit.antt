@@ -3,7 +3,7 @@ use Rattle.std.proofs.Common.{◌≡◌, ℕ, ◌+◌, ◌<◌, ◌≤◌, Bool,
 use Rattle.std.specs.Prelude.{filter, nat_lt, if◌then◌else◌}
 use Rattle.std.proofs.lemmas.Bool.Decides.{nat_tests}
 use Rattle.tag.specs.LogicalTime.{LogicalTime, IsLogicalTime, is_before, is_same, lesser, place}
-use Rattle.tag.proofs.Order.{before_places, not_before_places, place_bound, same_is_equal, top}
+use Rattle.tag.proofs.Order.{either_of, before_places, not_before_places, place_bound, same_is_equal, top}
 use Rattle.protocol.specs.Standing.{least_with, with_tag}
 
 -- the least of these from a place on
@@ -60,12 +60,8 @@ pub tags_later : (c : LogicalTime) (xs : List LogicalTime) → AreTags xs → Ar
 tags_later c [] a = tt
 tags_later c (x ∷ rest) a = tags_kept x (filter (λ t. is_before c t) rest) (is_before c x) a.0 (tags_later c rest a.1)
 
-lesser_is_one : (g h : LogicalTime) (b : Bool) → IsLogicalTime g → IsLogicalTime h → IsLogicalTime (if b then g else h)
-lesser_is_one g h true p q = p
-lesser_is_one g h false p q = q
-
 pub lesser_is_tag : (g h : LogicalTime) → IsLogicalTime g → IsLogicalTime h → IsLogicalTime (lesser g h)
-lesser_is_tag g h p q = lesser_is_one g h (is_before g h) p q
+lesser_is_tag g h p q = either_of IsLogicalTime g h (is_before g h) p q
 
 place_of_one : (g h : LogicalTime) (b : Bool) → (b ≡ true → place g < place h) → (b ≡ false → place h ≤ place g) → place (if b then g else h) ≡ min (place g) (place h)
 place_of_one g h true t f = let l = t refl in omega arith

@@ -12,8 +12,8 @@ use Rattle.network.specs.Network.{Network, Scheduling}
 use Rattle.network.specs.Lawful.{IsOwn, IsExternal}
 use Rattle.signal.specs.declared.signal.Signal.{Signal}
 use Rattle.signal.specs.declared.signal.Signal.TheVariants.{Net, Ltc, Tag, Msg}
-use Rattle.network.specs.Undone.{Held}
-use Rattle.protocol.specs.Federate.{held_of, scheduled_at, message_over, sent_over, messages_from}
+use Rattle.network.specs.Undone.{Held, held_of}
+use Rattle.protocol.specs.Federate.{scheduled_at, message_over, sent_over, messages_from}
 use Rattle.laws.proofs.Upward.{next_ltc, IsOver, last_ltc, IsUp, least_key, AreNets}
 use Rattle.laws.proofs.StillUndone.{AreHeld}
 

@@ -4,8 +4,8 @@ use Rattle.std.specs.List.{AllByRecursion}
 use Rattle.std.proofs.lemmas.Bool.Decides.{nat_tests}
 use Rattle.std.proofs.lemmas.List.{append-nil}
 use Rattle.std.proofs.lemmas.List.Elements.{filter-append}
-use Rattle.tag.specs.LogicalTime.{LogicalTime, IsFinite, is_before, is_at_most, place}
-use Rattle.tag.proofs.Order.{at_most_transitive, one_of_three}
+use Rattle.tag.specs.LogicalTime.{LogicalTime, IsFinite, is_before, is_at_most, place, is_reached}
+use Rattle.tag.proofs.Order.{at_most_transitive, before_at_most, before_then, one_of_three}
 use Rattle.network.specs.Network.{Network}
 use Rattle.network.specs.Undivided.{Row, whole, part}
 use Rattle.network.specs.Lawful.{IsLawful}
@@ -14,7 +14,6 @@ use Rattle.order.specs.Consistent.{IsInTime, IsCalledFor, IsConsistent}
 use Rattle.order.proofs.Lists.{each, each_more}
 use Rattle.order.proofs.Meet.{IsRising}
 use Rattle.order.proofs.Agree.{agree}
-use Rattle.protocol.specs.Federate.{is_reached}
 use Rattle.protocol.specs.Machine.{Member}
 use Rattle.laws.specs.Histories.{histories_of}
 use Rattle.order.specs.Settled.{BeginsWith}
@@ -58,10 +57,7 @@ all_kept n j tag (x ∷ xs) a =
 
 kept_or_not : (n : Network) (j : ℕ) (tag : LogicalTime) (x : Turn) (xs : List Turn) (b : Bool) → is_at_most x.tag tag ≡ b → AllByRecursion (λ y. IsTrue (is_before y.tag x.tag)) xs → rows_of n j (up_to tag xs) ≡ rows_up_to tag (rows_of n j xs) → rows_of n j (cond b (x ∷ xs) (up_to tag xs)) ≡ rows_up_to tag (rows_of n j (x ∷ xs))
 kept_or_not n j tag x xs true e below h =
-    sym (all_kept n j tag (x ∷ xs) (e, each_more (λ y. IsTrue (is_before y.tag x.tag)) (λ y. IsTrue (is_at_most y.tag tag)) (λ y b. earlier y.tag x.tag tag b e) xs below))
-  where
-    earlier : (g h t : LogicalTime) → IsTrue (is_before g h) → is_at_most h t ≡ true → IsTrue (is_at_most g t)
-    earlier g h t p q = grind (arith, nat_tests)
+    sym (all_kept n j tag (x ∷ xs) (e, each_more (λ y. IsTrue (is_before y.tag x.tag)) (λ y. IsTrue (is_at_most y.tag tag)) (λ y b. before_at_most y.tag tag (before_then y.tag x.tag tag b e)) xs below))
 kept_or_not n j tag x xs false e below h =
     let row : Row = row_after n j xs x in
     let none = ap (λ (b : Bool). cond b (row ∷ []) []) e in

@@ -1,10 +1,10 @@
 -- What waits for a slot at a tag: on queues the last message for it, and what is undone.
-use Rattle.std.proofs.Common.{◌≡◌, ℕ, ◌<◌, ◌≤◌, Bool, true, false, cond, List, [], ◌∷◌, ◌++◌, refl, sym, ap, ◌∙◌, inl, inr, arith, Option, None, Some, ℤ}
+use Rattle.std.proofs.Common.{◌≡◌, ℕ, ◌<◌, ◌≤◌, Bool, true, false, cond, List, [], ◌∷◌, ◌++◌, refl, sym, ap, ◌∙◌, arith, Option, None, Some, ℤ}
 use Rattle.std.specs.Prelude.{slice_get, nat_eq, if◌then◌else◌, ◌&&◌}
 use Rattle.std.proofs.lemmas.Bool.{false_from_ne_true, eqb-true}
 use Rattle.std.proofs.lemmas.Bool.Decides.{nat_tests}
 use Rattle.tag.specs.LogicalTime.{LogicalTime, IsLogicalTime, is_before, is_same, place}
-use Rattle.tag.proofs.Order.{before_places, not_before_places, one_of_three, same_is_equal}
+use Rattle.tag.proofs.Order.{equal_places, not_before_places, same_is_equal}
 use Rattle.network.specs.Connection.{Connection}
 use Rattle.network.specs.Network.{Network}
 use Rattle.signal.specs.declared.signal.Signal.{Signal}
@@ -59,12 +59,6 @@ last_message-append n a t slot (Tag g ∷ rest) ys = last_message-append n a t s
 last_message-append n a t slot (Msg k s v ∷ rest) ys =
     let this : Option ℤ = brought_over (slice_get n.connections k) s v a t slot in
     ap (λ (x : Option ℤ). or_else x this) (last_message-append n a t slot rest ys) ∙ or_apart (last_message n a t slot ys) (last_message n a t slot rest) this
-
-pub equal_places : (g h : LogicalTime) → IsLogicalTime g → IsLogicalTime h → place g ≡ place h → g ≡ h
-equal_places g h p q e = elim (one_of_three g h) [
-  | inl b ↦ (let l = before_places g h p q b in absurd (omega arith))
-  | inr r ↦ elim r [ inl s ↦ s | inr b ↦ (let l = before_places h g q p b in absurd (omega arith)) ]
-]
 
 drop_found : (x : Held) (rest kept : List Held) (t : LogicalTime) (slot : ℕ) (b : Bool) → (b ≡ false → (is_same x.tag t && nat_eq x.slot slot) ≡ false) → look kept t slot ≡ look rest t slot → look (cond b (x ∷ kept) kept) t slot ≡ look (x ∷ rest) t slot
 drop_found x rest kept t slot true f r = ap (λ (o : Option ℤ). if is_same x.tag t && nat_eq x.slot slot then Some x.value else o) r

@@ -1,11 +1,10 @@
 -- Chains of what is pending: from an event on, over connections, hop by hop.
 use Rattle.std.specs.Prelude.{◌≡◌, ℕ, ℤ, List, Contains, IsTrue, Some, slice_get}
-use Rattle.tag.specs.LogicalTime.{LogicalTime}
+use Rattle.tag.specs.LogicalTime.{LogicalTime, is_past}
 use Rattle.network.specs.Connection.{Connection, IsWalk, then_along}
 use Rattle.network.specs.Network.{Network}
 use Rattle.signal.specs.declared.signal.Signal.TheVariants.{Msg}
 use Rattle.network.specs.Undone.{Held}
-use Rattle.protocol.specs.Federate.{is_past}
 use Rattle.protocol.specs.Grant.{Rule}
 use Rattle.protocol.specs.Machine.{Member, Move, after_moves}
 

@@ -1,13 +1,12 @@
 -- Weaker rules, by which a grant comes too early; and three reactors in a line, on which each of them lets a message come too late.
 use Rattle.std.specs.Prelude.{ℕ, zero, suc, Bool, true, false, ◌&&◌, ◌||◌, nat_eq, if◌then◌else◌, List, [], ◌∷◌, Option, None, Some, pos}
 use Rattle.std.specs.List.{list_all}
-use Rattle.tag.specs.LogicalTime.{LogicalTime, is_before, is_at_most, sum_of}
+use Rattle.tag.specs.LogicalTime.{LogicalTime, is_before, is_at_most, sum_of, is_past}
 use Rattle.network.specs.Event.{Event, outside}
 use Rattle.network.specs.Network.{Network}
 use Rattle.network.specs.Examples.{at}
 use Rattle.network.specs.Tables.{Table}
 use Rattle.protocol.specs.Outcome.{Outcome}
-use Rattle.protocol.specs.Federate.{is_past}
 use Rattle.protocol.specs.Standing.{Standing}
 use Rattle.protocol.specs.Grant.{Rule, all_below, passes_paths, passes_connections}
 use Rattle.protocol.specs.Machine.{Member, Move, ToCoordinator, ToFederate, Announce, Advance, outcome_of, after_moves}

@@ -4,7 +4,7 @@
 //! Begin with `rows_are_a_beginning`; its words are in `specs/Rows`.
 
 ghost use Rattle.std.specs.Prelude.{◌≡◌, ℕ, ◌<◌, ◌⊎◌, List, IsTrue};
-ghost use Rattle.tag.specs.LogicalTime.{LogicalTime, IsFinite};
+ghost use Rattle.tag.specs.LogicalTime.{LogicalTime, IsFinite, is_reached};
 ghost use Rattle.network.specs.Network.{Network};
 ghost use Rattle.network.specs.Lawful.{IsLawful};
 ghost use Rattle.network.specs.Undivided.{part, whole};
@@ -12,7 +12,6 @@ ghost use Rattle.network.specs.Tables.{Table, IsTable};
 ghost use Rattle.order.specs.Settled.{BeginsWith, IsEnough};
 ghost use Rattle.order.specs.History.{up_to};
 ghost use Rattle.order.specs.Consistent.{IsInTime};
-ghost use Rattle.protocol.specs.Federate.{is_reached};
 ghost use Rattle.protocol.specs.Alone.{last_row_tag};
 ghost use Rattle.protocol.specs.Grant.{Rule, IsSafeRule};
 ghost use Rattle.protocol.specs.Machine.{Move, after_moves};

@@ -33,13 +33,13 @@ pub record Undivided : Type 0 where
 abbrev pub opening_of : Network → Undivided
 opening_of n = record { states = n.opening; pending = n.external; rows = [] }
 
--- a reactor's turn at a tag is before another's: by tag, then by the reactors' ranks
-abbrev pub comes_before : Network → ℕ → LogicalTime → ℕ → LogicalTime → Bool
-comes_before n reactor tag other other_tag = is_before tag other_tag || (is_same tag other_tag && nat_lt (n.rank reactor) (n.rank other))
+-- by these ranks, a reactor's turn at a tag is before another's: by tag, then by rank
+abbrev pub comes_before : (ℕ → ℕ) → ℕ → LogicalTime → ℕ → LogicalTime → Bool
+comes_before rank reactor tag other other_tag = is_before tag other_tag || (is_same tag other_tag && nat_lt (rank reactor) (rank other))
 
 -- the first event's turn is before the second's
 abbrev pub is_turn_before : Network → Event → Event → Bool
-is_turn_before n a b = comes_before n a.reactor a.tag b.reactor b.tag
+is_turn_before n a b = comes_before n.rank a.reactor a.tag b.reactor b.tag
 
 -- the earlier of two turns
 abbrev pub earlier_of : Network → Event → Option Event → Event

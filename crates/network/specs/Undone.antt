@@ -1,12 +1,17 @@
 -- The events that one reactor has still to run: a list that strictly rises by tag and slot, with one value for a slot at a tag.
 use Rattle.std.specs.Prelude.{ℕ, ℤ, Bool, ◌&&◌, ◌||◌, nat_eq, nat_lt, if◌then◌else◌, List, [], ◌∷◌, filter, Option, None, Some}
 use Rattle.tag.specs.LogicalTime.{LogicalTime, is_before, is_same}
+use Rattle.network.specs.Event.{Event}
 
 -- something that will be present at a slot
 pub record Held : Type 0 where
   pub tag : LogicalTime
   pub slot : ℕ
   pub value : ℤ
+
+-- an event, once it is known whose it is and no later one can replace it
+abbrev pub held_of : Event → Held
+held_of e = record { tag = e.tag; slot = e.slot; value = e.value }
 
 -- by tag, then by slot
 abbrev pub is_held_before : Held → Held → Bool

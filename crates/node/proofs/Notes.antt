@@ -12,6 +12,7 @@ use Rattle.node.specs.Mail.{Mail}
 use Rattle.node.specs.Step.{changes, received, returned}
 use Rattle.node.specs.Kinds.{IsHello}
 use Rattle.node.proofs.Ends.{get_set_here}
+use Rattle.link.proofs.Numbered.{length-numbered}
 
 -- the end after a frame was taken in
 pub received_here : (m : Mail) (peer : ℕ) (frame : Frame) (e : Image) → slice_get m.ends peer ≡ Some e →
@@ -56,10 +57,6 @@ changes_shown e (Data i n signal) ok = rw (open_for e (Data i n signal) ok) (gri
 changes_shown e (Ack i n) ok = rw (open_for e (Ack i n) ok, length-drop (n - e.acknowledged) e.kept) (forgotten e.acknowledged n (length e.kept) (ack_within e i n ok))
 changes_shown e (Refuse i n) ok = refl
 
-length_numbered : (incarnation first : ℕ) (signals : List Signal) → length (numbered incarnation first signals) ≡ length signals
-length_numbered incarnation first [] = refl
-length_numbered incarnation first (signal ∷ signals) = grind (arith, length_numbered incarnation (first + 1) signals)
-
 numbered_drop : (k incarnation first : ℕ) (signals : List Signal) → drop k (numbered incarnation first signals) ≡ numbered incarnation (first + k) (drop k signals)
 numbered_drop zero incarnation first signals = let z : first + 0 ≡ first = omega arith in rw z refl
 numbered_drop (suc k) incarnation first [] = refl
@@ -69,7 +66,7 @@ numbered_drop (suc k) incarnation first (signal ∷ signals) =
 -- how much is kept after a Hello
 pub hello_keeps : (e : Image) (frame : Frame) → IsHello frame → IsOk (answer_of e frame) → length (after_frame e frame).kept ≤ length (resent_by e)
 hello_keeps e (Hello f i n) hello ok =
-    rw (open_for e (Hello f i n) ok, length_numbered e.incarnation (e.acknowledged + 1) e.kept, length-drop (n - e.acknowledged) e.kept) (omega arith)
+    rw (open_for e (Hello f i n) ok, length-numbered e.incarnation (e.acknowledged + 1) e.kept, length-drop (n - e.acknowledged) e.kept) (omega arith)
 hello_keeps e (Data _ _ _) hello ok = elim hello [ ]
 hello_keeps e (Ack _ _) hello ok = elim hello [ ]
 hello_keeps e (Refuse _ _) hello ok = elim hello [ ]
@@ -83,7 +80,7 @@ resent_after e (Hello f i n) hello ok =
     let first : (e.acknowledged + 1) + (n - e.acknowledged) ≡ max e.acknowledged n + 1 = omega arith in
     rw (
       open_for e (Hello f i n) ok,
-      length_numbered e.incarnation (e.acknowledged + 1) e.kept,
+      length-numbered e.incarnation (e.acknowledged + 1) e.kept,
       length-drop (n - e.acknowledged) e.kept,
       gone,
       numbered_drop (n - e.acknowledged) e.incarnation (e.acknowledged + 1) e.kept,

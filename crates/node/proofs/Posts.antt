@@ -99,7 +99,7 @@ posted_memory m post before after p count has less e found unclosed =
     let enough = has b.0 b.1 (grind (arith, same, unclosed)) in
     grind (arith, enough, less)
 
-count_more : (p : ℕ) (post : Post) (rest : List Post) → count_for p (post ∷ rest) ≡ (if nat_eq post.peer p then 1 else 0) + count_for p rest
+pub count_more : (p : ℕ) (post : Post) (rest : List Post) → count_for p (post ∷ rest) ≡ (if nat_eq post.peer p then 1 else 0) + count_for p rest
 count_more p post rest = grind arith
 
 count_own : (post : Post) (rest : List Post) → 1 ≤ count_for post.peer (post ∷ rest)

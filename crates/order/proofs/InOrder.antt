@@ -1,36 +1,30 @@
 -- Of the events that a turn makes for a slot at a tag the last counts, and so do the external events.
-use Rattle.std.proofs.Common.{◌≡◌, ℕ, ◌+◌, ◌≤◌, List, [], ◌∷◌, ◌++◌, Bool, true, false, cond, ◌&&◌, IsTrue, refl, sym, ap, ◌∙◌, ℤ, arith}
-use Rattle.std.specs.Prelude.{nat_eq, nat_lt, map, Option, None, Some, filter, AllPairs, if◌then◌else◌}
+use Rattle.std.proofs.Common.{◌≡◌, ℕ, ◌+◌, ◌≤◌, List, [], ◌∷◌, ◌++◌, Bool, true, false, cond, ◌&&◌, IsTrue, refl, sym, ap, ◌∙◌, ℤ}
+use Rattle.std.specs.Prelude.{nat_eq, map, Option, None, Some, filter, AllPairs, if◌then◌else◌}
 use Rattle.std.specs.List.{AllByRecursion, flat_map}
-use Rattle.std.proofs.lemmas.Bool.{or_right, and_from}
-use Rattle.std.proofs.lemmas.Bool.Decides.{nat_tests}
-use Rattle.tag.specs.LogicalTime.{LogicalTime, is_before, is_at_most, is_same, sum_of}
-use Rattle.tag.proofs.Order.{same_is_equal, same_itself}
+use Rattle.tag.specs.LogicalTime.{LogicalTime, is_at_most, is_same, sum_of}
+use Rattle.tag.proofs.Order.{same_is_equal}
 use Rattle.network.specs.Connection.{Connection}
-use Rattle.network.specs.Event.{Source, Event, is_later, present_at}
+use Rattle.network.specs.Event.{Event, is_later, present_at}
 use Rattle.network.specs.Network.{Network, Scheduling, Effect}
 use Rattle.network.specs.Undivided.{message_of, carried_by, scheduled_from, made_by}
 use Rattle.network.specs.Lawful.{IsLawful, IsOwn, EndApart, FallApart}
-use Rattle.network.specs.Undone.{Held}
+use Rattle.network.specs.Undone.{Held, held_of}
 use Rattle.order.specs.Newest.{or_else}
 use Rattle.order.specs.Pending.{Replaces, AreInOrder}
 use Rattle.order.proofs.Lists.{each, each_more, each_both, each_append, each_filter, first_pair, later_pairs}
 use Rattle.order.proofs.LookUps.{last_held, or_nothing}
 use Rattle.order.proofs.Agree.{is_for}
-use Rattle.order.proofs.Newest.{latest_value, latest_value_after, IsFrom, all_scheduled_from}
+use Rattle.order.proofs.Newest.{latest_value, latest_value_after, IsFrom, all_scheduled_from, same_turn_later}
 use Rattle.order.proofs.Maker.{is_for_parts}
-
--- an event, once it is known whose it is
-abbrev held : Event → Held
-held e = record { tag = e.tag; slot = e.slot; value = e.value }
 
 -- those of one reactor, as they are put
 abbrev pub held_for : ℕ → List Event → List Held
-held_for a events = map held (filter (λ e. nat_eq e.reactor a) events)
+held_for a events = map held_of (filter (λ e. nat_eq e.reactor a) events)
 
 one_found : (x : Event) (xs : List Event) (a : ℕ) (t : LogicalTime) (slot : ℕ) → AllByRecursion (Replaces x) xs → (b c d : Bool) → nat_eq x.reactor a ≡ b → is_same x.tag t ≡ c → nat_eq x.slot slot ≡ d →
     last_held (held_for a xs) t slot ≡ present_at xs a t slot →
-    last_held (map held (cond b (x ∷ filter (λ e. nat_eq e.reactor a) xs) (filter (λ e. nat_eq e.reactor a) xs))) t slot
+    last_held (map held_of (cond b (x ∷ filter (λ e. nat_eq e.reactor a) xs) (filter (λ e. nat_eq e.reactor a) xs))) t slot
     ≡ latest_value (cond ((b && c) && d) (x ∷ filter (is_for a t slot) xs) (filter (is_for a t slot) xs))
 one_found x xs a t slot w false c d p q r h = h
 one_found x xs a t slot w true false d p q r h =
@@ -102,12 +96,6 @@ carried_in_order i s outputs (c ∷ cs) a =
     (λ x at. carried_goes (Replaces x) i s outputs cs (each_more (EndApart c) (λ d. (e : Event) → GoesTo d e → Replaces x e)
     (λ d end e to p q r. absurd (end (sym at.0 ∙ sym p ∙ to.0) (sym at.1 ∙ sym r ∙ to.1))) cs apart))
     (carried_by i s outputs c) (message_goes s c (outputs c.port) (nat_eq c.source i)))
-
-same_turn_later : (s : LogicalTime) (place : ℕ) (y : Source) → y.tag ≡ s → place + 1 ≤ y.place → IsTrue (is_later y (record { tag = s; place = place }))
-same_turn_later s place y p h =
-    let same : is_same y.tag s ≡ true = ap (λ (g : LogicalTime). is_same g s) p ∙ same_itself s in
-    let more : nat_lt place y.place ≡ true = grind (arith, nat_tests) in
-    or_right (is_before s y.tag) (is_same y.tag s && nat_lt place y.place) (and_from (is_same y.tag s) (nat_lt place y.place) same more)
 
 scheduled_in_order : (i : ℕ) (s : LogicalTime) (place : ℕ) (ss : List Scheduling) → AreInOrder (scheduled_from i s place ss)
 scheduled_in_order i s place [] = tt

@@ -18,7 +18,7 @@ numbers_before g h r s a b c d = grind (arith, nat_tests)
 pub low_rank : (n : Network) → IsLawful n → (i : ℕ) → i < n.reactors → n.rank i < 64
 low_rank n L i h = omega (arith, L.ranks i h, L.few_reactors)
 
-pub key-before : (n : Network) → IsLawful n → (i j : ℕ) (g h : LogicalTime) → i < n.reactors → j < n.reactors → IsFinite g → IsFinite h → IsTrue (comes_before n i g j h) ↔ (key n i g < key n j h)
+pub key-before : (n : Network) → IsLawful n → (i j : ℕ) (g h : LogicalTime) → i < n.reactors → j < n.reactors → IsFinite g → IsFinite h → IsTrue (comes_before n.rank i g j h) ↔ (key n i g < key n j h)
 key-before n L i j g h a b p q = numbers_before g h (n.rank i) (n.rank j) p.microstep q.microstep (low_rank n L i a) (low_rank n L j b)
 
 -- one turn has one number

@@ -3,7 +3,7 @@ use Rattle.std.proofs.Common.{◌≡◌, List, [], ◌∷◌, Bool, true, false,
 use Rattle.std.specs.List.{AllByRecursion}
 use Rattle.std.proofs.lemmas.Bool.Decides.{nat_tests}
 use Rattle.tag.specs.LogicalTime.{LogicalTime, is_before, is_at_most, is_same}
-use Rattle.tag.proofs.Order.{at_most_reflexive, one_of_three, before_transitive, before_irreflexive, same_itself}
+use Rattle.tag.proofs.Order.{at_most_reflexive, one_of_three, before_transitive, before_irreflexive, before_asymmetric, before_at_most, before_not_same, after_not_at_most, after_not_same, same_itself}
 use Rattle.order.specs.History.{Turn, back_to, up_to, has_turn_at}
 use Rattle.order.proofs.Lists.{Among, each_more}
 
@@ -78,11 +78,8 @@ all_before t (x ∷ xs) a = rw a.0 refl
 none_at : (t : LogicalTime) (xs : List Turn) → AllByRecursion (λ y. IsTrue (is_before y.tag t)) xs → has_turn_at t xs ≡ false
 none_at t [] a = refl
 none_at t (x ∷ xs) a =
-    let apart : is_same x.tag t ≡ false = before_apart x.tag t a.0 in
+    let apart : is_same x.tag t ≡ false = before_not_same x.tag t a.0 in
     rw apart (none_at t xs a.1)
-  where
-    before_apart : (g h : LogicalTime) → IsTrue (is_before g h) → is_same g h ≡ false
-    before_apart g h p = grind (arith, nat_tests)
 
 -- how a tag stands to another, with all tests
 pub data Stands (g t : LogicalTime) : Type 0 where
@@ -92,24 +89,9 @@ pub data Stands (g t : LogicalTime) : Type 0 where
 
 stands : (g t : LogicalTime) → Stands g t
 stands g t = elim (one_of_three g t) [
-  | inl p ↦ earlier p (le g t p) (ne g t p)
-  | inr q ↦ elim q [ inl e ↦ same e (rw e (before_irreflexive t)) (rw e (at_most_reflexive t)) (rw e (same_itself t)) | inr p ↦ later (nb g t p) (nl g t p) (en g t p) ]
+  | inl p ↦ earlier p (before_at_most g t p) (before_not_same g t p)
+  | inr q ↦ elim q [ inl e ↦ same e (rw e (before_irreflexive t)) (rw e (at_most_reflexive t)) (rw e (same_itself t)) | inr p ↦ later (before_asymmetric g t p) (after_not_at_most g t p) (after_not_same g t p) ]
 ]
-  where
-    le : (g t : LogicalTime) → IsTrue (is_before g t) → is_at_most g t ≡ true
-    le g t p = grind (arith, nat_tests)
-
-    ne : (g t : LogicalTime) → IsTrue (is_before g t) → is_same g t ≡ false
-    ne g t p = grind (arith, nat_tests)
-
-    nb : (g t : LogicalTime) → IsTrue (is_before t g) → is_before g t ≡ false
-    nb g t p = grind (arith, nat_tests)
-
-    nl : (g t : LogicalTime) → IsTrue (is_before t g) → is_at_most g t ≡ false
-    nl g t p = grind (arith, nat_tests)
-
-    en : (g t : LogicalTime) → IsTrue (is_before t g) → is_same g t ≡ false
-    en g t p = grind (arith, nat_tests)
 
 split_step : (t : LogicalTime) (z : Turn) (zs : List Turn) → AllByRecursion (λ y. IsTrue (is_before y.tag z.tag)) zs → Stands z.tag t → WithTurn t zs ⊎ WithoutTurn t zs → WithTurn t (z ∷ zs) ⊎ WithoutTurn t (z ∷ zs)
 split_step t z zs r (earlier b m s) h =

@@ -190,6 +190,13 @@ scheduled_first e a t slot s x p q r =
     let here : nat_eq e.reactor a ≡ true = grind (arith, nat_tests) in
     (λ y. (here y && is_same (p y) t) && nat_eq (r y) slot)
 
+-- of one turn's schedulings a later one has the later source
+pub same_turn_later : (s : LogicalTime) (place : ℕ) (y : Source) → y.tag ≡ s → place + 1 ≤ y.place → IsTrue (is_later y (record { tag = s; place = place }))
+same_turn_later s place y p h =
+    let same : is_same y.tag s ≡ true = ap (λ (g : LogicalTime). is_same g s) p ∙ same_itself s in
+    let more : nat_lt place y.place ≡ true = grind (arith, nat_tests) in
+    or_right (is_before s y.tag) (is_same y.tag s && nat_lt place y.place) (and_from (is_same y.tag s) (nat_lt place y.place) same more)
+
 scheduled_value : (a : ℕ) (t : LogicalTime) (slot : ℕ) (s : LogicalTime) (place : ℕ) (ss : List Scheduling) → latest_value (filter (is_for a t slot) (scheduled_from a s place ss)) ≡ last_in_list ss s slot t
 scheduled_value a t slot s place [] = refl
 scheduled_value a t slot s place (x ∷ xs) =
@@ -201,12 +208,6 @@ scheduled_value a t slot s place (x ∷ xs) =
     ∙ ((λ y. or_else (latest_value (filter (is_for a t slot) rest)) (if scheduled_first e a t slot s x refl refl refl y then Some x.value else None))
     ∙ ap (λ (o : Option ℤ). or_else o (scheduled_to x s slot t)) (scheduled_value a t slot s (place + 1) xs))
   where
-    same_turn_later : (s : LogicalTime) (place : ℕ) (y : Source) → y.tag ≡ s → place + 1 ≤ y.place → IsTrue (is_later y (record { tag = s; place = place }))
-    same_turn_later s place y p h =
-        let same : is_same y.tag s ≡ true = ap (λ (g : LogicalTime). is_same g s) p ∙ same_itself s in
-        let more : nat_lt place y.place ≡ true = grind (arith, nat_tests) in
-        or_right (is_before s y.tag) (is_same y.tag s && nat_lt place y.place) (and_from (is_same y.tag s) (nat_lt place y.place) same more)
-
     by_test : (e : Event) (ys : List Event) (b : Bool) → AllByRecursion (λ y. IsTrue (is_later y.source e.source)) ys → latest_value (cond b (e ∷ ys) ys) ≡ or_else (latest_value ys) (if b then Some e.value else None)
     by_test e ys true w = latest_value_after (e ∷ []) ys (w, tt)
     by_test e ys false w = or_none (latest_value ys)

@@ -51,9 +51,9 @@ module _ (n : Network) (L : IsLawful n) (turns : ℕ) where
       let there : event_key n from.0 ≡ key n j g = (λ y. key n (from.2 y) (from.3 y)) in
       let least : event_key n x ≤ event_key n from.0 = each_among (λ y. event_key n x ≤ event_key n y) from.0 u.pending f.least from.1 in
       let some = something_present x u.pending f.among in
-      let not_earlier : comes_before n x.reactor x.tag from.0.reactor from.0.tag ≡ false =
-      (λ y. comes_before n x.reactor x.tag (from.2 y) (from.3 y)) ∙ w.first x.reactor x.tag x.slot some.0 f.sound.reactor some.1 in
-      let high : event_key n from.0 ≤ event_key n x = not_less (event_key n x) (event_key n from.0) (comes_before n x.reactor x.tag from.0.reactor from.0.tag) not_earlier
+      let not_earlier : comes_before n.rank x.reactor x.tag from.0.reactor from.0.tag ≡ false =
+      (λ y. comes_before n.rank x.reactor x.tag (from.2 y) (from.3 y)) ∙ w.first x.reactor x.tag x.slot some.0 f.sound.reactor some.1 in
+      let high : event_key n from.0 ≤ event_key n x = not_less (event_key n x) (event_key n from.0) (comes_before n.rank x.reactor x.tag from.0.reactor from.0.tag) not_earlier
       (key-before n L x.reactor from.0.reactor x.tag from.0.tag f.sound.reactor mine.reactor f.sound.tag mine.tag).1 in
       let same = key_injective n L x.reactor from.0.reactor x.tag from.0.tag f.sound.reactor mine.reactor f.sound.tag mine.tag (omega arith) in
       record { event = x; found = e; least = f; reactor = same.0 ∙ from.2; tag = same.1 ∙ from.3 }

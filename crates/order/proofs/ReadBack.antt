@@ -3,7 +3,7 @@ use Rattle.std.proofs.Common.{◌≡◌, ℕ, zero, suc, ◌+◌, ◌<◌, ◌�
 use Rattle.std.specs.Prelude.{nat_eq, nat_lt, Option, None, Some, filter, map, reverse, if◌then◌else◌}
 use Rattle.std.specs.Option.{option_map}
 use Rattle.std.specs.List.{AllByRecursion}
-use Rattle.std.proofs.lemmas.Bool.{false_from_ne_true}
+use Rattle.std.proofs.lemmas.Bool.{false_from_ne_true, eqb-false, eqb-true}
 use Rattle.std.proofs.lemmas.Bool.Decides.{nat_tests}
 use Rattle.std.proofs.lemmas.List.{map-append, reverse-append}
 use Rattle.std.proofs.lemmas.List.Elements.{filter-append}
@@ -68,13 +68,7 @@ with_turn_if P false turn old f g = g refl
 
 -- what holds of the reactor with its turn and of the others holds of all
 pub in_trace : (P : ℕ → List Turn → Type 0) (trace : ℕ → List Turn) (j : ℕ) (turn : Turn) → P j (turn ∷ trace j) → ((i : ℕ) → (j ≡ i → ⊥) → P i (trace i)) → (i : ℕ) → P i (with_turn trace j turn i)
-in_trace P trace j turn mine others i = with_turn_if (P i) (nat_eq j i) turn (trace i) (λ e. at j i (same j i e) turn mine) (λ e. others i (other j i e))
+in_trace P trace j turn mine others i = with_turn_if (P i) (nat_eq j i) turn (trace i) (λ e. at j i (eqb-true j i e) turn mine) (λ e. others i (eqb-false j i e))
   where
-    same : (j i : ℕ) → nat_eq j i ≡ true → j ≡ i
-    same j i e = grind (arith, nat_tests)
-
-    other : (j i : ℕ) → nat_eq j i ≡ false → j ≡ i → ⊥
-    other j i e = grind (arith, nat_tests)
-
     at : (j i : ℕ) → j ≡ i → (turn : Turn) → P j (turn ∷ trace j) → P i (turn ∷ trace i)
     at j i e turn p = rw (← e) p

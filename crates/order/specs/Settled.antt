@@ -7,7 +7,7 @@ use Rattle.network.specs.Undivided.{Undivided, Row, comes_before, first_of_turns
 
 -- one row's turn is before another's
 abbrev pub is_row_before : Network → Row → Row → Bool
-is_row_before n a b = comes_before n a.reactor a.tag b.reactor b.tag
+is_row_before n a b = comes_before n.rank a.reactor a.tag b.reactor b.tag
 
 -- rows that begin with these
 abbrev pub BeginsWith : List Row → List Row → Type 0
@@ -16,7 +16,7 @@ BeginsWith rows beginning = (rest : List Row) × (rows ≡ beginning ++ rest)
 -- a turn is before that of an event, if there is one
 abbrev pub is_ahead_of : Network → ℕ → LogicalTime → Option Event → Bool
 is_ahead_of n reactor tag None = true
-is_ahead_of n reactor tag (Some e) = comes_before n reactor tag e.reactor e.tag
+is_ahead_of n reactor tag (Some e) = comes_before n.rank reactor tag e.reactor e.tag
 
 -- a reactor's turns up to a tag are done: nothing is pending, or the least (tag, rank) pending is later than the reactor's at the tag
 abbrev pub is_settled : Network → Undivided → ℕ → LogicalTime → Bool

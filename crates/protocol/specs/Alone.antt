@@ -2,13 +2,13 @@
 use Rattle.std.specs.Prelude.{◌≡◌, ℕ, ◌<◌, Bool, true, false, ◌&&◌, List, [], ◌∷◌, All, AllPairs, IsTrue, Option, None, Some, IfSome}
 use Rattle.std.specs.Option.{option_map}
 use Rattle.std.specs.List.{last_or}
-use Rattle.tag.specs.LogicalTime.{LogicalTime, IsLogicalTime, IsFinite, is_before, is_at_most}
+use Rattle.tag.specs.LogicalTime.{LogicalTime, IsLogicalTime, IsFinite, is_before, is_at_most, is_past, is_reached}
 use Rattle.network.specs.Network.{Network}
 use Rattle.network.specs.Undivided.{Row}
 use Rattle.network.specs.Undone.{Held, is_held_before}
 use Rattle.signal.specs.declared.signal.Signal.{Signal}
 use Rattle.signal.specs.declared.signal.Signal.TheVariants.{Net, Ltc, Tag, Msg}
-use Rattle.protocol.specs.Federate.{Federate, is_past, is_reached}
+use Rattle.protocol.specs.Federate.{Federate}
 use Rattle.protocol.specs.Standing.{Standing}
 
 -- the tag of the last row

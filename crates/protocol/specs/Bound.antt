@@ -1,9 +1,8 @@
 -- Before which tag nothing can still arrive at a federate, and how far it may be granted.
 use Rattle.std.specs.Prelude.{◌≡◌, ℕ, ◌⊎◌, Contains, IsTrue}
-use Rattle.tag.specs.LogicalTime.{LogicalTime, forever, is_before, is_at_most, sum_of, predecessor_of, lesser, greater}
+use Rattle.tag.specs.LogicalTime.{LogicalTime, forever, is_before, is_at_most, sum_of, predecessor_of, lesser, greater, is_past}
 use Rattle.network.specs.Connection.{Connection, IsLeastDelay}
 use Rattle.network.specs.Network.{Network}
-use Rattle.protocol.specs.Federate.{is_past}
 use Rattle.protocol.specs.Standing.{Standing}
 use Rattle.protocol.specs.Grant.{after_completed}
 

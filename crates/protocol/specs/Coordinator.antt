@@ -1,6 +1,6 @@
 -- The coordinator: what it does with a federate's signal, and which TAGs then go out. It knows each federate's standing, by number.
 use Rattle.std.specs.Prelude.{ℕ, zero, suc, ◌+◌, not, ◌||◌, nat_eq, nat_lt, if◌then◌else◌, List, [], ◌∷◌, ◌++◌, slice_get, Option, None, Some}
-use Rattle.tag.specs.LogicalTime.{LogicalTime, forever, is_at_most, is_same}
+use Rattle.tag.specs.LogicalTime.{LogicalTime, forever, is_at_most, is_same, is_past}
 use Rattle.network.specs.Connection.{Connection}
 use Rattle.network.specs.Network.{Network, with_one}
 use Rattle.signal.specs.declared.signal.Signal.{Signal}
@@ -8,7 +8,6 @@ use Rattle.signal.specs.declared.signal.Signal.TheVariants.{Net, Ltc, Tag, Msg}
 use Rattle.protocol.specs.declared.post.Post.{Post}
 use Rattle.protocol.specs.declared.refusal.Refusal.TheVariants.{NotYours, BelowGrant, NotRising, AfterStop, NotForCoordinator}
 use Rattle.protocol.specs.Outcome.{Outcome, Refused, Done, with_made}
-use Rattle.protocol.specs.Federate.{is_past}
 use Rattle.protocol.specs.Standing.{Standing, after_message, after_net, after_ltc, after_grant}
 use Rattle.protocol.specs.Grant.{Rule}
 
@@ -60,11 +59,19 @@ abbrev pub grant_post : ℕ → Option LogicalTime → List Post
 grant_post j None = []
 grant_post j (Some tag) = record { peer = j; signal = Tag tag } ∷ []
 
+-- the TAGs to these federates, in their order
+abbrev pub grants_over : Network → Rule → (ℕ → Standing) → List ℕ → List Post
+grants_over n rule standings [] = []
+grants_over n rule standings (j ∷ rest) = grant_post j (grant_to n rule standings j) ++ grants_over n rule standings rest
+
+-- the next `count` numbers from j on
+abbrev pub numbers_from : ℕ → ℕ → List ℕ
+numbers_from j zero = []
+numbers_from j (suc count) = j ∷ numbers_from (j + 1) count
+
 -- the TAGs to the next `count` federates from j on, in number order
 abbrev pub grants_from : Network → Rule → (ℕ → Standing) → ℕ → ℕ → List Post
-grants_from n rule standings j zero = []
-grants_from n rule standings j (suc count) =
-    grant_post j (grant_to n rule standings j) ++ grants_from n rule standings (j + 1) count
+grants_from n rule standings j count = grants_over n rule standings (numbers_from j count)
 
 -- then the TAGs go out
 abbrev pub with_grants : Network → Rule → Coordinated → Coordinated

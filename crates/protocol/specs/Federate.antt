@@ -1,8 +1,7 @@
 -- A federate: one reactor of a network, which runs a tag once that is granted. What it does with a signal, and what it says by itself.
-use Rattle.std.specs.Prelude.{ℕ, ◌+◌, ℤ, Bool, true, false, not, ◌&&◌, nat_eq, if◌then◌else◌, List, [], ◌∷◌, ◌++◌, map, filter, slice_get, Option, None, Some, unwrap_or}
-use Rattle.tag.specs.LogicalTime.{LogicalTime, forever, is_before, is_at_most, is_same, sum_of}
+use Rattle.std.specs.Prelude.{ℕ, ◌+◌, ℤ, Bool, false, not, ◌&&◌, nat_eq, if◌then◌else◌, List, [], ◌∷◌, ◌++◌, map, filter, slice_get, Option, None, Some, unwrap_or}
+use Rattle.tag.specs.LogicalTime.{LogicalTime, forever, is_at_most, is_same, sum_of, is_past, is_reached}
 use Rattle.network.specs.Connection.{Connection}
-use Rattle.network.specs.Event.{Event}
 use Rattle.network.specs.Network.{Network, Scheduling, Effect}
 use Rattle.network.specs.Undivided as undivided
 use Rattle.network.specs.Undivided.{Row}
@@ -10,7 +9,7 @@ use Rattle.signal.specs.declared.signal.Signal.{Signal}
 use Rattle.signal.specs.declared.signal.Signal.TheVariants.{Net, Ltc, Tag, Msg}
 use Rattle.protocol.specs.declared.refusal.Refusal.TheVariants.{Late, OldGrant, WrongSignal}
 use Rattle.protocol.specs.Outcome.{Outcome, Refused, Nothing, Done}
-use Rattle.network.specs.Undone.{Held, put, put_all, look, first_tag, drop_up_to}
+use Rattle.network.specs.Undone.{Held, held_of, put, put_all, look, first_tag, drop_up_to}
 
 -- granted: up to which tag it may run. completed: the last tag that it ran. announced: the last NET, if no tag was run since
 pub record Federate : Type 0 where
@@ -26,10 +25,6 @@ pub record Stepped : Type 0 where
   pub after : Federate
   pub sent : List Signal
 
--- an external event as one to run
-abbrev pub held_of : Event → Held
-held_of e = record { tag = e.tag; slot = e.slot; value = e.value }
-
 -- at first its own external events are undone
 abbrev pub opening_federate : Network → ℕ → Federate
 opening_federate n j =
@@ -41,16 +36,6 @@ opening_federate n j =
       announced = None;
       rows = [];
     }
-
--- the tag is later than that one; none is before all
-abbrev pub is_past : Option LogicalTime → LogicalTime → Bool
-is_past None tag = true
-is_past (Some other) tag = is_before other tag
-
--- the tag is at or below that one
-abbrev pub is_reached : Option LogicalTime → LogicalTime → Bool
-is_reached None tag = false
-is_reached (Some other) tag = is_at_most tag other
 
 -- a TAG
 abbrev pub accept_grant : Network → Federate → LogicalTime → Outcome Stepped

@@ -1,11 +1,10 @@
 -- Which federate may be granted which tag: so that no message can still come to it at or below that tag.
 use Rattle.std.specs.Prelude.{◌≡◌, ℕ, zero, suc, ◌^◌, ◌⊎◌, Bool, true, ◌&&◌, ◌||◌, nat_eq, nat_lt, IsTrue, if◌then◌else◌, List, [], ◌∷◌, Contains, Option, None, Some}
 use Rattle.std.specs.List.{list_all}
-use Rattle.tag.specs.LogicalTime.{LogicalTime, IsLogicalTime, IsFinite, origin, forever, is_before, is_at_most, sum_of, successor_of, predecessor_of, lesser, greater}
+use Rattle.tag.specs.LogicalTime.{LogicalTime, IsLogicalTime, IsFinite, origin, forever, is_before, is_at_most, sum_of, successor_of, predecessor_of, lesser, greater, is_past}
 use Rattle.network.specs.Connection.{Connection, IsLeastDelay}
 use Rattle.network.specs.Network.{Network}
 use Rattle.network.specs.Tables.{Table}
-use Rattle.protocol.specs.Federate.{is_past}
 use Rattle.protocol.specs.Standing.{Standing}
 
 -- which tag to grant a federate, if any, where all stand so

@@ -13,7 +13,7 @@ use Rattle.schedule.specs.declared.step.Step.{Step}
 use Rattle.schedule.specs.declared.step.Step.TheVariants.{Deliver, Resend, Reconnect, Announce, Advance, Forget}
 use Rattle.schedule.specs.World.{Occurrence, occurrence_of, frames_in, frame_at, delivered, comes}
 use Rattle.schedule.specs.Federation.{Federation}
-use Rattle.schedule.proofs.Shown.{some_of}
+use Rattle.schedule.proofs.Courses.{some_of}
 use Rattle.recorder.specs.Placing.{direction_to, step_if, step_alone}
 
 -- an event at a node

@@ -2,8 +2,8 @@
 use Rattle.std.proofs.Common.{◌≡◌, ◌≢◌, ℕ, zero, suc, ◌+◌, ◌<◌, ◌≤◌, ◌⊎◌, inl, inr, max, Bool, true, false, IsTrue, List, [], ◌∷◌, ◌++◌, length, set, slice_get, refl, sym, ap, subst, ◌∙◌, arith, Option, None, Some, Result, Ok, Err, is_ok, if◌then◌else◌}
 use Rattle.std.specs.Prelude.{nat_eq, nat_lt, nat_le, ◌&&◌, not}
 use Rattle.std.specs.List.{AllByRecursion}
-use Rattle.std.proofs.lemmas.Bool.Decides.{nat_tests}
 use Rattle.std.proofs.lemmas.List.{append-nil, length-set}
+use Rattle.std.proofs.lemmas.Bool.{leb-true, eqb-true, eqb-false}
 use Rattle.order.proofs.Lists.{each_append}
 use Rattle.signal.specs.declared.signal.Signal.{Signal}
 use Rattle.signal.specs.declared.frame.Frame.{Frame}
@@ -32,14 +32,14 @@ use Rattle.delivery.specs.Link.{Side, says, hears, gets, side_after, Act, Gets, 
 use Rattle.delivery.proofs.Offers.{offers_open}
 use Rattle.schedule.specs.World.{frames_of}
 use Rattle.schedule.specs.Federation.{is_plain}
-use Rattle.schedule.proofs.Posting.{IsSeen, SeenIn, all_seen, to_itself, to_others, same_number, apart_numbers}
+use Rattle.schedule.proofs.Posting.{IsSeen, SeenIn, all_seen, to_itself, to_others}
 use Rattle.schedule.proofs.Course.{acted, IsQuiet, TakesNone, IsPlainAnswer, only, taking, Comes, Speaks, announces, advances, IsHandedOn, quiet, takes as takes_kind, notes, says as says_kind, declines, cannot, IsCourse}
 
-some_is : {X : Type 0} (x y : X) → Some x ≡ Some y → x ≡ y
-some_is x y same = cc
+pub some_of : {X : Type 0} (x y : X) → Some x ≡ Some y → x ≡ y
+some_of x y same = cc
 
 some_end : (ends : List Image) (q : ℕ) (e f : Image) → slice_get ends q ≡ Some e → slice_get ends q ≡ Some f → e ≡ f
-some_end ends q e f one other = some_is e f (sym one ∙ other)
+some_end ends q e f one other = some_of e f (sym one ∙ other)
 
 -- acts at one peer, seen at each side
 abbrev OwnSeen : List Image → List Image → ℕ → List Frame → List Frame → List Act → Type 0
@@ -53,12 +53,12 @@ one_seen ends after came q frames own others mine p s found = by_number (nat_eq 
     by_number : (b : Bool) → nat_eq p q ≡ b → IsSeen s.sent after (addressed q frames) p (acted s (came p) (if b then own else []))
     by_number true e =
         let P : ℕ → Type 0 = λ x. IsSeen s.sent after (addressed q frames) x (acted s (came x) own) in
-        let here = same_number p q e in
+        let here = eqb-true p q e in
         let seen = mine s (ap (λ x. slice_get ends x) (sym here) ∙ found) in
         subst P (sym here) (record { end = seen.0; frames = seen.1 ∙ ap (λ (x : List Frame). s.sent ++ x) (sym (to_itself q frames)) })
     by_number false e =
         record {
-          end = others p (apart_numbers p q e) ∙ found;
+          end = others p (eqb-false p q e) ∙ found;
           frames = sym (append-nil s.sent) ∙ ap (λ (x : List Frame). s.sent ++ x) (sym (to_others p q frames e));
         }
 
@@ -78,12 +78,12 @@ quiet_only hub s q e own found are p i there = by_number (nat_eq p q) refl
   where
     by_number : (b : Bool) → nat_eq p q ≡ b → AllByRecursion (IsQuiet hub i.incarnation) (if b then own else [])
     by_number true is =
-        let here : e ≡ i = some_end s q e i found (ap (λ x. slice_get s x) (sym (same_number p q is)) ∙ there) in
+        let here : e ≡ i = some_end s q e i found (ap (λ x. slice_get s x) (sym (eqb-true p q is)) ∙ there) in
         let P : Image → Type 0 = λ x. AllByRecursion (IsQuiet hub x.incarnation) own in
         subst P here are
     by_number false is = tt
 
-frames_with : (b : Bool) (frames : List Outgoing) → frames_of (answer_with b frames) ≡ frames
+pub frames_with : (b : Bool) (frames : List Outgoing) → frames_of (answer_with b frames) ≡ frames
 frames_with true frames = refl
 frames_with false [] = refl
 frames_with false (x ∷ xs) = refl
@@ -282,7 +282,7 @@ received_other : (ends : List Image) (q p : ℕ) (frame : Frame) (o : Option Ima
 received_other ends q p frame None other = refl
 received_other ends q p frame (Some e) other = get_set_other ends q p (after_frame e frame) other
 
-received_size : (ends : List Image) (q : ℕ) (frame : Frame) (o : Option Image) → length (received_at ends q frame o) ≡ length ends
+pub received_size : (ends : List Image) (q : ℕ) (frame : Frame) (o : Option Image) → length (received_at ends q frame o) ≡ length ends
 received_size ends q frame None = refl
 received_size ends q frame (Some e) = length-set ends q (after_frame e frame)
 
@@ -298,9 +298,9 @@ taken_seen s came place q e k n signal posts found at is room p t there = by_num
     by_number false other =
         let seen : SeenIn t.sent (acknowledging s q e (Data k n signal)) p t = record { end = there; frames = sym (append-nil t.sent) ∙ ap (λ (x : List Frame). t.sent ++ x) (sym (to_others p q (ack_of (after_frame e (Data k n signal)) ∷ []) other)) } in
         let all = all_seen t.sent (acknowledging s q e (Data k n signal)) posts p t room seen in
-        record { end = received_other (all_posted (acknowledging s q e (Data k n signal)) posts).ends q p (Data k n signal) (slice_get (all_posted (acknowledging s q e (Data k n signal)) posts).ends q) (apart_numbers p q other) ∙ all.end; frames = all.frames }
+        record { end = received_other (all_posted (acknowledging s q e (Data k n signal)) posts).ends q p (Data k n signal) (slice_get (all_posted (acknowledging s q e (Data k n signal)) posts).ends q) (eqb-false p q other) ∙ all.end; frames = all.frames }
     by_number true here =
-        let same : p ≡ q = same_number p q here in
+        let same : p ≡ q = eqb-true p q here in
         let P : ℕ → Type 0 = λ x. slice_get s.ends x ≡ Some t.end in
         let mine : e ≡ t.end = some_end s.ends q e t.end found (subst P same there) in
         let acked = says t (ack_of (after_frame t.end (Data k n signal)) ∷ []) in
@@ -401,7 +401,7 @@ turned_course core hub s came place q e (Hello f k n) fault found plain = by_str
     by_stranger true is =
         let stranger = both hub (nat_eq k e.incarnation) is in
         same_course core hub s (event.Frame q (Hello f k n)) came place (Declines (number_of fault) (addressed q (Refuse k 51 ∷ []))) q e (Refuse k 51 ∷ []) (TurnsAway k 51 ∷ []) found
-        (λ t there. (refl, refl)) refl plain ((stranger.0, apart_numbers k e.incarnation stranger.1), tt)
+        (λ t there. (refl, refl)) refl plain ((stranger.0, eqb-false k e.incarnation stranger.1), tt)
     by_stranger false is = still core hub s (event.Frame q (Hello f k n)) came place (Declines (number_of fault) []) refl plain
 turned_course core hub s came place q e (Data k n signal) fault found plain = still core hub s (event.Frame q (Data k n signal)) came place (Declines (number_of fault) []) refl plain
 turned_course core hub s came place q e (Ack k n) fault found plain = still core hub s (event.Frame q (Ack k n)) came place (Declines (number_of fault) []) refl plain
@@ -410,12 +410,9 @@ turned_course core hub s came place q e (Refuse k n) fault found plain = still c
 pub data_is : (e : Image) (k n : ℕ) (signal : Signal) (a : Arrival) → answer_of e (Data k n signal) ≡ Ok a → ((a ≡ arrival.Repeated) × (n ≤ e.taken)) ⊎ (a ≡ arrival.Signal)
 data_is e k n signal a is =
     elim (data_answer (nat_eq k e.incarnation) e.closed (nat_le n e.taken) (nat_eq n (e.taken + 1)) a is) [
-      | inl old ↦ inl (old.0, not_above n e.taken old.1)
+      | inl old ↦ inl (old.0, leb-true n e.taken old.1)
       | inr next ↦ inr next
     ]
-  where
-    not_above : (a b : ℕ) → nat_le a b ≡ true → a ≤ b
-    not_above a b h = grind (arith, nat_tests)
 
 -- a frame that its end doesn't refuse
 let_in_course : {View Row : Type 0} (core : Core View Row) (hub : Bool) (s : Station View) (came : ℕ → List Frame) (place q : ℕ) (e : Image) (frame : Frame) (arrived : Arrival) → slice_get s.ends q ≡ Some e → slice_get (came q) place ≡ Some frame → answer_of e frame ≡ Ok arrived → IsCourse core hub s (event.Frame q frame) came place (lets_in core s q e frame arrived)

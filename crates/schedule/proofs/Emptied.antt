@@ -1,9 +1,8 @@
 -- Where nobody forgot, every signal sent was taken and its acknowledgement came exactly where no end keeps a signal.
-use Rattle.std.proofs.Common.{◌≡◌, ℕ, ◌-◌, ◌<◌, ◌≤◌, inl, inr, Bool, true, false, List, [], ◌∷◌, length, drop, sym, ap, subst, ◌∙◌, arith, Option, None, Some, IfSome, ◌↔◌, if◌then◌else◌}
-use Rattle.std.specs.Prelude.{nat_eq, All}
+use Rattle.std.proofs.Common.{◌≡◌, ℕ, ◌-◌, ◌<◌, ◌≤◌, inl, inr, Bool, false, List, [], ◌∷◌, length, drop, sym, ap, subst, ◌∙◌, arith, Option, None, Some, IfSome, ◌↔◌, if◌then◌else◌}
+use Rattle.std.specs.Prelude.{All}
 use Rattle.std.specs.List.{list_any, AllByRecursion}
-use Rattle.std.proofs.lemmas.Bool.{cases_lt}
-use Rattle.std.proofs.lemmas.Bool.Decides.{nat_tests}
+use Rattle.std.proofs.lemmas.Bool.{cases_lt, eq-eqb}
 use Rattle.order.proofs.Lists.{each, from_each}
 use Rattle.network.specs.Tables.{IsLawfulWith}
 use Rattle.signal.specs.declared.frame.Frame.{Frame}
@@ -35,10 +34,7 @@ use Rattle.schedule.proofs.InOrder.{own_is}
 use Rattle.schedule.proofs.Rows.{Below, few_offered, none_left, own_number, kept_at, all_kept}
 
 own_acknowledged : (e : Image) → e.incarnation ≡ 1 → number_acknowledged 1 (Some e) ≡ e.acknowledged
-own_acknowledged e is = ap (λ (b : Bool). if b then e.acknowledged else 0) (one_is e.incarnation is)
-  where
-    one_is : (i : ℕ) → i ≡ 1 → nat_eq i 1 ≡ true
-    one_is i e = grind (arith, nat_tests)
+own_acknowledged e is = ap (λ (b : Bool). if b then e.acknowledged else 0) (eq-eqb e.incarnation 1 is)
 
 -- a direction, from one side to the other, as it stands in a world
 record IsDirection (w : Federation) (dir : Dir) (s r : Side) : Type 0 where

@@ -1,7 +1,7 @@
 -- What is taken of each direction of a world, in each incarnation, is a beginning of what was offered in it: whatever nodes there are.
 use Rattle.std.proofs.Common.{◌≡◌, ◌≢◌, ℕ, ◌+◌, ◌<◌, ◌≤◌, ◌⊎◌, inl, inr, Bool, true, false, List, [], ◌∷◌, ◌++◌, length, take, drop, set, slice_get, refl, sym, ap, subst, ◌∙◌, arith, Option, None, Some, if◌then◌else◌}
 use Rattle.std.specs.Prelude.{nat_eq, nat_lt, ◌&&◌}
-use Rattle.std.proofs.lemmas.Bool.{cases_lt}
+use Rattle.std.proofs.lemmas.Bool.{cases_lt, ne_eqb, eq-eqb, eqb-true, eqb-false}
 use Rattle.std.proofs.lemmas.Bool.Decides.{nat_tests}
 use Rattle.std.proofs.lemmas.List.{append-nil, append_assoc, take-append-drop}
 use Rattle.network.specs.Network.{with_one}
@@ -23,9 +23,10 @@ use Rattle.schedule.specs.declared.dir.Dir.TheVariants.{Up, Down}
 use Rattle.schedule.specs.declared.step.Step.{Step}
 use Rattle.schedule.specs.World.{World, frames_in, frames_of, Applied, after_coordinator, after_federate, forgotten, does, applied, after_steps, opened}
 use Rattle.schedule.specs.Taken.{own_end, receiver, number_taken, brought_by, newly_taken, taken_in, BeginsWith}
-use Rattle.schedule.proofs.Posting.{same_number, apart_numbers, frames_to}
+use Rattle.schedule.proofs.Posting.{frames_to}
 use Rattle.schedule.proofs.Course.{acted, Comes, IsCourse}
-use Rattle.schedule.proofs.Shown.{IsShown, ups_of, with_firsts, Brings, nowhere, at_hub, at_member, lost, happened, shown_at_hub, shown_at_member, shown_lost, shown_listed, opened_shown, at_own, at_other, same_or_not, some_of, got, none_beyond, nothing_beyond}
+use Rattle.schedule.proofs.Shown.{IsShown, ups_of, with_firsts, Brings, nowhere, at_hub, at_member, lost, happened, shown_at_hub, shown_at_member, shown_lost, shown_listed, opened_shown, at_own, at_other, same_or_not, got, none_beyond, nothing_beyond}
+use Rattle.schedule.proofs.Courses.{some_of}
 use Rattle.schedule.proofs.Site.{firsts_held, seconds_held}
 use Rattle.schedule.proofs.Taking.{Took, nothing_took, course_took, not_below}
 use Rattle.schedule.proofs.Quiet.{as_it_was}
@@ -146,17 +147,11 @@ changed {Hub = Hub} {Member = Member} hub member w count links step shown held =
 abbrev pub New : (incarnation : ℕ) → Option Image → Option Image → List Signal → List Signal
 New i before after brought = if nat_lt (number_taken i before) (number_taken i after) then brought else []
 
-same_is : (a b : ℕ) → a ≡ b → nat_eq a b ≡ true
-same_is a b e = grind (arith, nat_tests)
-
-other_is : (a b : ℕ) → (a ≡ b → ⊥) → nat_eq a b ≡ false
-other_is a b h = grind (arith, nat_tests)
-
 number_own : (i : ℕ) (e : Image) → e.incarnation ≡ i → number_taken i (Some e) ≡ e.taken
-number_own i e is = ap (λ (b : Bool). if b then e.taken else 0) (same_is e.incarnation i is)
+number_own i e is = ap (λ (b : Bool). if b then e.taken else 0) (eq-eqb e.incarnation i is)
 
 number_other : (i : ℕ) (e : Image) → e.incarnation ≢ i → number_taken i (Some e) ≡ 0
-number_other i e is = ap (λ (b : Bool). if b then e.taken else 0) (other_is e.incarnation i is)
+number_other i e is = ap (λ (b : Bool). if b then e.taken else 0) (ne_eqb e.incarnation i is)
 
 new_own : (i : ℕ) (s after : Side) (brought : List Signal) → s.end.incarnation ≡ i → Took s after brought → after.took ≡ s.took ++ New i (Some s.end) (Some after.end) brought
 new_own i s after brought is t =
@@ -242,8 +237,8 @@ or_not : (a b : ℕ) → (a ≡ b) ⊎ (a ≢ b)
 or_not a b = by_number (nat_eq a b) refl
   where
     by_number : (c : Bool) → nat_eq a b ≡ c → (a ≡ b) ⊎ (a ≢ b)
-    by_number true e = inl (same_number a b e)
-    by_number false e = inr (apart_numbers a b e)
+    by_number true e = inl (eqb-true a b e)
+    by_number false e = inr (eqb-false a b e)
 
 begins_as : (offered taken : List Signal) (k : ℕ) → taken ≡ take k offered → BeginsWith offered taken
 begins_as offered taken k is = (drop k offered, sym (take-append-drop k offered) ∙ ap (λ (x : List Signal). x ++ drop k offered) (sym is))

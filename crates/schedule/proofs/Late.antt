@@ -4,7 +4,7 @@ use Rattle.std.specs.Prelude.{nat_eq, nat_lt}
 use Rattle.std.specs.List.{AllByRecursion}
 use Rattle.std.proofs.lemmas.Bool.{cases_lt}
 use Rattle.std.proofs.lemmas.List.{reverse-append}
-use Rattle.tag.specs.LogicalTime.{LogicalTime, is_before, is_at_most}
+use Rattle.tag.specs.LogicalTime.{LogicalTime, is_before, is_at_most, is_past}
 use Rattle.tag.proofs.Order.{before_transitive}
 use Rattle.network.specs.Connection.{Connection}
 use Rattle.network.specs.Network.{Network}
@@ -26,7 +26,7 @@ use Rattle.reactor.specs.Federation.{network_of}
 use Rattle.protocol.specs.declared.refusal.Refusal.{Refusal}
 use Rattle.protocol.specs.declared.refusal.Refusal.TheVariants.{Late, WrongSignal}
 use Rattle.protocol.specs.Outcome.{Refused, Nothing, Done}
-use Rattle.protocol.specs.Federate.{Federate, Stepped, is_past, accept_message, federate_accepts}
+use Rattle.protocol.specs.Federate.{Federate, Stepped, accept_message, federate_accepts}
 use Rattle.protocol.specs.Machine.{Member, Move}
 use Rattle.laws.proofs.Eligibility.{lawful_is_wired}
 use Rattle.laws.proofs.SafeGrants.{widest_rule_is_safe}
@@ -54,6 +54,7 @@ use Rattle.schedule.proofs.Steps.{members_after}
 use Rattle.schedule.proofs.Worlds.{stands, step_goes}
 use Rattle.schedule.proofs.Taking.{acts_take_nothing, quiet_none, not_below}
 use Rattle.schedule.proofs.InOrder.{New, own_is, new_replaced, none_beyond_down, brings_as}
+use Rattle.laws.proofs.Tests.{both_left}
 
 -- what is past the newest tag is past all
 rows_before : (h : List Turn) (completed : Option LogicalTime) (tag : LogicalTime) → completed ≡ newest_tag h → IsRising h → is_past completed tag ≡ true → AllByRecursion (λ t. IsTrue (is_before t.tag tag)) h
@@ -81,14 +82,10 @@ both_passed true true r q m made e = refl
 both_passed true false r q m made e = cc
 both_passed false b r q m made e = cc
 
-first_of_both : (a b : Bool) → (a && b) ≡ true → a ≡ true
-first_of_both true b e = refl
-first_of_both false b e = cc
-
 message_past : (n : Network) (j : ℕ) (f : Federate) (o : Option Connection) (tag : LogicalTime) (v : _) (made : Stepped) → accept_message n j f o tag v ≡ Done made → is_past f.completed tag ≡ true
 message_past n j f None tag v made e = cc
 message_past n j f (Some c) tag v made e =
-    first_of_both (is_past f.completed tag) (is_past f.granted tag)
+    both_left (is_past f.completed tag) (is_past f.granted tag)
     (both_passed (nat_eq c.target j && is_at_most tag n.stop) (is_past f.completed tag && is_past f.granted tag) WrongSignal Late (record { after = record f { undone = put (record { tag = tag; slot = c.slot; value = v }) f.undone }; sent = [] }) made e)
 
 taken_later : (n : Network) (j : ℕ) (f : Federate) (signal : Signal) (made : Stepped) → IsReplayed n j f → federate_accepts n j f signal ≡ Done made → IsLaterThan f.rows signal

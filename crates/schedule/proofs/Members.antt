@@ -30,8 +30,8 @@ use Rattle.delivery.proofs.Acts.{forgets}
 use Rattle.schedule.specs.World.{after_federate, forgotten}
 use Rattle.schedule.specs.Federation.{Federation}
 use Rattle.schedule.proofs.Course.{acted, taking, Comes, IsHandedOn, IsCourse}
-use Rattle.schedule.proofs.Courses.{place_there}
-use Rattle.schedule.proofs.Shown.{shown_at_member, shown_lost, at_own, at_other, some_of}
+use Rattle.schedule.proofs.Courses.{place_there, some_of}
+use Rattle.schedule.proofs.Shown.{shown_at_member, shown_lost, at_own, at_other}
 use Rattle.schedule.proofs.Quiet.{offers_at}
 use Rattle.schedule.proofs.Site.{node_with, IsSite, keeps, loses, kept_linked, in_turn_is, takes_next}
 use Rattle.schedule.proofs.Moves.{done_of, refused_of, rule_of, sent_up, member_move}

@@ -1,7 +1,7 @@
 -- What both kinds of nodes do, as moves of the machine of queues.
 use Rattle.std.proofs.Common.{◌≡◌, ℕ, Bool, true, false, not, ◌&&◌, ◌||◌, List, [], ◌∷◌, map, slice_get, refl, sym, ap, subst, ◌∙◌, Option, None, Some, if◌then◌else◌}
 use Rattle.std.specs.Prelude.{nat_eq}
-use Rattle.tag.specs.LogicalTime.{LogicalTime, forever, is_at_most, is_same}
+use Rattle.tag.specs.LogicalTime.{LogicalTime, forever, is_at_most, is_same, is_past, is_reached}
 use Rattle.network.specs.Connection.{Connection}
 use Rattle.network.specs.Network.{Network}
 use Rattle.signal.specs.declared.signal.Signal.{Signal}
@@ -14,7 +14,7 @@ use Rattle.reactor.specs.Federation.{network_of}
 use Rattle.protocol.specs.declared.refusal.Refusal.{Refusal}
 use Rattle.protocol.specs.declared.refusal.Refusal.TheVariants.{Late, OldGrant, WrongSignal, NotYours, BelowGrant, NotRising, AfterStop}
 use Rattle.protocol.specs.Outcome.{Outcome, Refused, Nothing, Done, made_or, with_made}
-use Rattle.protocol.specs.Federate.{Federate, Stepped, is_past, is_reached, is_told, next_event, turn_at, accept_message, advance_to, federate_accepts, federate_announces, federate_advances}
+use Rattle.protocol.specs.Federate.{Federate, Stepped, is_told, next_event, turn_at, accept_message, advance_to, federate_accepts, federate_announces, federate_advances}
 use Rattle.protocol.specs.Standing.{Standing}
 use Rattle.protocol.specs.Grant.{Rule, grant_widest}
 use Rattle.protocol.specs.Coordinator.{Coordinated, route, coordinator_takes, with_grants, coordinator_accepts}
@@ -135,12 +135,9 @@ hub_accepts d programs inputs v standings q signal is stands =
     ap (with_made (hub_makes (network_of d programs inputs) v)) (sym (accepts_same (network_of d programs inputs) (rule_of d programs inputs) (standing_at v.standings) q signal)))
 
 -- what is sent to the coordinator
-all_to_it : (signals : List Signal) → sent_to 0 (map to_coordinator signals) ≡ signals
-all_to_it [] = refl
-all_to_it (s ∷ rest) = ap (λ (x : List Signal). s ∷ x) (all_to_it rest)
-
 pub sent_up : (signals : List Signal) → sent_to 0 (map to_coordinator signals) ≡ signals
-sent_up = all_to_it
+sent_up [] = refl
+sent_up (s ∷ rest) = ap (λ (x : List Signal). s ∷ x) (sent_up rest)
 
 -- moves
 pub moved_to : (n : Network) (rule : Rule) (moves : List Move) (move : Move) (after : ℕ → Member) → outcome_of n rule (after_moves n (λ k. rule) moves) move ≡ Done after → after_moves n (λ k. rule) (move ∷ moves) ≡ after

@@ -3,6 +3,7 @@ use Rattle.std.proofs.Common.{◌≡◌, ◌≢◌, ℕ, ◌+◌, ◌≤◌, Boo
 use Rattle.std.specs.Prelude.{nat_eq}
 use Rattle.std.proofs.lemmas.Bool.Decides.{nat_tests}
 use Rattle.std.proofs.lemmas.List.{append-nil, append_assoc}
+use Rattle.std.proofs.lemmas.Bool.{eqb-true, eqb-false, eq-eqb}
 use Rattle.signal.specs.declared.signal.Signal.{Signal}
 use Rattle.signal.specs.declared.frame.Frame.{Frame}
 use Rattle.signal.specs.declared.frame.Frame.TheVariants.{Data}
@@ -14,7 +15,7 @@ use Rattle.node.specs.declared.outgoing.Outgoing.{Outgoing}
 use Rattle.node.specs.Mail.{Mail, posted, offered_at, all_posted, framed, count_for, lacks, lacks_at, lacks_room}
 use Rattle.node.specs.Step.{addressed}
 use Rattle.node.proofs.Ends.{get_set_here, get_set_other, all_have}
-use Rattle.node.proofs.Posts.{posted_lacks}
+use Rattle.node.proofs.Posts.{posted_lacks, count_more}
 use Rattle.delivery.specs.Link.{Side, offers}
 use Rattle.delivery.proofs.Offers.{offers_open, offers_twice}
 
@@ -33,19 +34,10 @@ frames_to-append p (x ∷ xs) ys =
     ap (λ (l : List Frame). frame_if (nat_eq p x.peer) x.frame ++ l) (frames_to-append p xs ys) ∙
     sym (append_assoc (frame_if (nat_eq p x.peer) x.frame) (frames_to p xs) (frames_to p ys))
 
-pub same_number : (p q : ℕ) → nat_eq p q ≡ true → p ≡ q
-same_number p q e = grind (arith, nat_tests)
-
-pub itself : (p : ℕ) → nat_eq p p ≡ true
-itself p = grind (arith, nat_tests)
-
-pub apart_numbers : (p q : ℕ) → nat_eq p q ≡ false → p ≢ q
-apart_numbers p q e = λ same. (let bad : ⊥ = grind (arith, nat_tests) in bad)
-
 pub to_itself : (p : ℕ) (frames : List Frame) → frames_to p (addressed p frames) ≡ frames
 to_itself p [] = refl
 to_itself p (x ∷ xs) =
-    ap (λ (b : Bool). frame_if b x ++ frames_to p (addressed p xs)) (itself p) ∙ ap (λ (l : List Frame). x ∷ l) (to_itself p xs)
+    ap (λ (b : Bool). frame_if b x ++ frames_to p (addressed p xs)) (eq-eqb p p refl) ∙ ap (λ (l : List Frame). x ∷ l) (to_itself p xs)
 
 pub to_others : (p q : ℕ) (frames : List Frame) → nat_eq p q ≡ false → frames_to p (addressed q frames) ≡ []
 to_others p q [] e = refl
@@ -123,7 +115,7 @@ offered_elsewhere sent m p q s signal (Some other) e seen = by_offer (offer_of o
 
     by_offer : (r : Result Frame _) → SeenIn sent (if is_ok r then record { ends = set m.ends q (after_offer other signal); frames = m.frames ++ framed q r } else m) p s
     by_offer (Ok frame) = record {
-      end = get_set_other m.ends q p (after_offer other signal) (apart_numbers p q e) ∙ seen.end;
+      end = get_set_other m.ends q p (after_offer other signal) (eqb-false p q e) ∙ seen.end;
       frames = seen.frames ∙ ap (λ (x : List Frame). sent ++ x) (sym (frames_to-append p m.frames (framed q (Ok frame)) ∙ ap (λ (x : List Frame). frames_to p m.frames ++ x) (framed_elsewhere (Ok frame)) ∙ append-nil (frames_to p m.frames)));
     }
     by_offer (Err fault) = seen
@@ -135,7 +127,7 @@ signal_if false signal = []
 
 posted_seen : (sent : List Frame) (m : Mail) (post : Post) (p : ℕ) (s : Side) (b : Bool) → nat_eq p post.peer ≡ b → lacks_at post.peer 1 m.ends ≡ false → SeenIn sent m p s → SeenIn sent (posted m post) p (offers s (signal_if b post.signal))
 posted_seen sent m post p s true e room seen =
-    let here : post.peer ≡ p = sym (same_number p post.peer e) in
+    let here : post.peer ≡ p = sym (eqb-true p post.peer e) in
     let found : slice_get m.ends post.peer ≡ Some s.end = ap (λ q. slice_get m.ends q) here ∙ seen.end in
     let has : lacks s.end 1 ≡ false = rw found at room in
     let P : ℕ → Type 0 = λ q. SeenIn sent (offered_at m q post.signal (slice_get m.ends q)) p (offers s (post.signal ∷ [])) in
@@ -153,15 +145,12 @@ sent_first p s post rest false e =
     let is : sent_to p (post ∷ rest) ≡ sent_to p rest = grind (arith, e) in
     ap (λ (x : Side). offers x (sent_to p rest)) (offers_none s) ∙ ap (λ (x : List Signal). offers s x) (sym is)
 
-count_more : (p : ℕ) (post : Post) (rest : List Post) → count_for p (post ∷ rest) ≡ (if nat_eq post.peer p then 1 else 0) + count_for p rest
-count_more p post rest = grind arith
-
 own_room : (ends : List Image) (post : Post) (rest : List Post) (o : Option Image) → slice_get ends post.peer ≡ o → lacks_at post.peer (count_for post.peer (post ∷ rest)) ends ≡ false → lacks_at post.peer 1 ends ≡ false
 own_room ends post rest None is has = rw is refl
 own_room ends post rest (Some e) is has =
     let h : lacks e (count_for post.peer (post ∷ rest)) ≡ false = rw is at has in
     let c = count_more post.peer post rest in
-    let same = itself post.peer in
+    let same = eq-eqb post.peer post.peer refl in
     let least : 1 ≤ count_for post.peer (post ∷ rest) = grind (arith, c, same) in
     rw is (fewer e (count_for post.peer (post ∷ rest)) least h)
   where

@@ -1,10 +1,9 @@
 -- The rows of a federation's world are those of a run of the machine: a beginning of the undivided program's, and all of them where the world
 -- is finished or stuck.
 use Rattle.std.proofs.Common.{◌≡◌, ℕ, zero, suc, ◌+◌, ◌<◌, ◌≤◌, Bool, true, false, List, [], ◌∷◌, ◌++◌, length, drop, slice_get, refl, sym, ap, subst, ◌∙◌, arith, Option, None, Some, if◌then◌else◌}
-use Rattle.std.specs.Prelude.{nat_eq, nat_lt, not, ◌&&◌, ◌||◌, All}
+use Rattle.std.specs.Prelude.{nat_eq, not, ◌&&◌, ◌||◌, All}
 use Rattle.std.specs.List.{list_any, AllByRecursion}
-use Rattle.std.proofs.lemmas.Bool.{eqb-true}
-use Rattle.std.proofs.lemmas.Bool.Decides.{nat_tests}
+use Rattle.std.proofs.lemmas.Bool.{eqb-true, lt-ltb, or_parts, eq-eqb, or_from}
 use Rattle.std.proofs.lemmas.List.{length-append}
 use Rattle.order.proofs.Lists.{each}
 use Rattle.order.specs.Settled as order
@@ -59,6 +58,7 @@ use Rattle.schedule.proofs.Site.{node_with, IsSite, keeps, loses}
 use Rattle.schedule.proofs.Moves.{rule_of, nothing_of}
 use Rattle.schedule.proofs.Steps.{members_after}
 use Rattle.schedule.proofs.Worlds.{stands, steps_after}
+use Rattle.laws.proofs.Tests.{both_left, both_right}
 
 -- a federate that kept its state, as it stands in the world and in the machine
 pub record IsKeptAt (d : Draft) (programs : List Behaviour) (inputs : List Input) (w : Federation) (j : ℕ) (l : Link) (m : Member) : Type 0 where
@@ -112,20 +112,11 @@ none_forgot steps none j = ap not (none_of steps none)
     of_step (Advance k) e = refl
     of_step (Forget k) e = cc
 
-    neither : (a b : Bool) → (a || b) ≡ false → (a ≡ false) × (b ≡ false)
-    neither false false e = (refl, refl)
-    neither false true e = cc
-    neither true b e = cc
-
-    both_false : (a b : Bool) → a ≡ false → b ≡ false → (a || b) ≡ false
-    both_false true b e f = cc
-    both_false false b e f = f
-
     none_of : (steps : List Step) → list_any is_forget steps ≡ false → list_any (is_forget_of j) steps ≡ false
     none_of [] e = refl
     none_of (step ∷ rest) e =
-        let both = neither (is_forget step) (list_any is_forget rest) e in
-        both_false (is_forget_of j step) (list_any (is_forget_of j) rest) (of_step step both.0) (none_of rest both.1)
+        let both = or_parts (is_forget step) (list_any is_forget rest) e in
+        or_from (is_forget_of j step) (list_any (is_forget_of j) rest) (of_step step both.0) (none_of rest both.1)
 
 pub all_kept : (d : Draft) (programs : List Behaviour) (inputs : List Input) (steps : List Step) → list_any is_forget (world_after d programs inputs steps).steps ≡ false → (j : ℕ) → is_kept steps j ≡ true
 all_kept d programs inputs steps none j = none_forgot steps (ap (list_any is_forget) (sym (steps_after _ steps)) ∙ none) j
@@ -163,20 +154,11 @@ few_offered i most offered (frame ∷ rest) l h = few_offered i most (with_offer
   where
     by_next : (k n : ℕ) (signal : Signal) (b : Bool) → (nat_eq k i && nat_eq n (length offered + 1)) ≡ b → (k ≡ i → n ≤ most) → length (if b then offered ++ signal ∷ [] else offered) ≤ most
     by_next k n signal true e h =
-        let same : k ≡ i = eqb-true k i (first_of_both (nat_eq k i) (nat_eq n (length offered + 1)) e) in
-        let next : n ≡ length offered + 1 = eqb-true n (length offered + 1) (second_of_both (nat_eq k i) (nat_eq n (length offered + 1)) e) in
+        let same : k ≡ i = eqb-true k i (both_left (nat_eq k i) (nat_eq n (length offered + 1)) e) in
+        let next : n ≡ length offered + 1 = eqb-true n (length offered + 1) (both_right (nat_eq k i) (nat_eq n (length offered + 1)) e) in
         let longer = length-append offered (signal ∷ []) in
         let m = h same in
         omega arith
-      where
-        first_of_both : (a b : Bool) → (a && b) ≡ true → a ≡ true
-        first_of_both true b e = refl
-        first_of_both false b e = cc
-
-        second_of_both : (a b : Bool) → (a && b) ≡ true → b ≡ true
-        second_of_both true true e = refl
-        second_of_both true false e = cc
-        second_of_both false b e = cc
     by_next k n signal false e h = l
 
     one_more : (frame : Frame) → Below i most frame → length (with_offered i offered frame) ≤ most
@@ -193,10 +175,7 @@ none_left (suc k) (x ∷ xs) l = none_left k xs (omega arith)
 
 -- what an end took of its own incarnation
 pub own_number : (e : Image) → e.incarnation ≡ 1 → number_taken 1 (Some e) ≡ e.taken
-own_number e is = ap (λ (b : Bool). if b then e.taken else 0) (one_is e.incarnation is)
-  where
-    one_is : (i : ℕ) → i ≡ 1 → nat_eq i 1 ≡ true
-    one_is i e = grind (arith, nat_tests)
+own_number e is = ap (λ (b : Bool). if b then e.taken else 0) (eq-eqb e.incarnation 1 is)
 
 -- a station that says nothing had nothing to say
 silent_is : (s : Station FederateNode) (o : Outcome (Made FederateNode)) → outcome_of (acts s (ending_of (unsent s) o)).answer ≡ outcome.Nothing → o ≡ Nothing
@@ -232,11 +211,8 @@ queue_empty w dir most frames are is settled =
 -- a federate that has nothing to announce or to run
 event_of_member : (w : Federation) (j : ℕ) (s : Station FederateNode) (e : Event) → slice_get w.federates j ≡ Some s → j < length w.federates → (happens coordinator_core federate_core w (if_there w j (record { node = Federate j; event = e }))).outcome ≡ outcome_of (step_of federate_core false s e).answer
 event_of_member w j s e there below =
-    ap (λ (b : Bool). (happens coordinator_core federate_core w (if b then Some (record { node = Federate j; event = e }) else None)).outcome) (is_below j (length w.federates) below) ∙
+    ap (λ (b : Bool). (happens coordinator_core federate_core w (if b then Some (record { node = Federate j; event = e }) else None)).outcome) (lt-ltb j (length w.federates) below) ∙
     ap (λ (o : Option (Station FederateNode)). (at_federate federate_core w j e o).outcome) there
-  where
-    is_below : (a b : ℕ) → a < b → nat_lt a b ≡ true
-    is_below a b l = grind (arith, nat_tests)
 
 stuck_at : (d : Draft) (programs : List Behaviour) (inputs : List Input) (steps : List Step) (lawful : IsLawfulWith (network_of d programs inputs) (least_of d)) → IsStuck (world_after d programs inputs steps) → (j : ℕ) → j < federate_count d
     → runs.IsStuck (network_of d programs inputs) j (members_after d programs inputs (stands d programs inputs steps lawful).stands.moves j)

@@ -31,15 +31,15 @@ use Rattle.delivery.specs.Way.{offered_in}
 use Rattle.delivery.specs.Link.{Side, Link, Act, Gets, Offers, offers}
 use Rattle.schedule.specs.World.{after_coordinator, after_federate}
 use Rattle.schedule.specs.Federation.{Federation}
-use Rattle.schedule.proofs.Posting.{same_number, apart_numbers}
 use Rattle.schedule.proofs.Course.{acted, IsQuiet, taking, Comes, IsHandedOn, IsCourse}
-use Rattle.schedule.proofs.Courses.{place_there}
-use Rattle.schedule.proofs.Shown.{IsShown, ups_of, with_firsts, shown_at_hub, shown_at_member, at_own, at_other, same_or_not, some_of}
+use Rattle.schedule.proofs.Courses.{place_there, some_of}
+use Rattle.schedule.proofs.Shown.{IsShown, ups_of, with_firsts, shown_at_hub, shown_at_member, at_own, at_other, same_or_not}
 use Rattle.schedule.proofs.Quiet.{IsCalmAct, offers_at}
 use Rattle.delivery.proofs.Offers.{offers_open}
 use Rattle.laws.proofs.Safety.{standing_stays}
 use Rattle.node.proofs.Ends.{get_set_here, get_set_other}
 use Rattle.std.proofs.Math.Path.{fun_ext}
+use Rattle.std.proofs.lemmas.Bool.{eqb-true, eqb-false}
 use Rattle.schedule.proofs.Site.{node_with, IsSite, keeps, with_first, with_second, quiet_first, firsts_held, seconds_held, calm_acted, TakesNext, takes_next, acts_of, kept_linked}
 use Rattle.delivery.proofs.Carried.{linked_back}
 use Rattle.delivery.proofs.Forgotten.{AreOf}
@@ -143,13 +143,13 @@ site_after d programs inputs members q rest made j l v place signals acts are se
   where
     by_number : (b : Bool) → nat_eq j q ≡ b → IsSite d programs inputs j (record { first = acted l.first l.second.sent (if b then Gets place true ∷ Offers signals ∷ [] else Offers signals ∷ []); second = l.second }) (made_of members q rest made j) v
     by_number true e =
-        let here = same_number j q e in
+        let here = eqb-true j q e in
         let n = next here in
         let m_left = up_left members q rest j in
         taken_site d programs inputs j l (members j) (made_of members q rest made j) v place n.incarnation n.number n.signal signals site n.at n.in_turn
         (up_own members q rest j here ∙ n.left) (ap (λ (x : List Signal). x ++ sent_to j made.sent) m_left.0 ∙ ap (λ (x : List Signal). (members j).down ++ x) (sym sent)) m_left.1 m_left.2
     by_number false e =
-        let apart = apart_numbers j q e in
+        let apart = eqb-false j q e in
         let m_left = up_left members q rest j in
         offered_site d programs inputs j l (members j) (made_of members q rest made j) v signals site
         (up_other members q rest j apart) (ap (λ (x : List Signal). x ++ sent_to j made.sent) m_left.0 ∙ ap (λ (x : List Signal). (members j).down ++ x) (sym sent)) m_left.1 m_left.2

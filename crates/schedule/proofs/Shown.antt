@@ -4,7 +4,7 @@ use Rattle.std.specs.Prelude.{nat_eq, nat_lt}
 use Rattle.std.specs.List.{AllByRecursion, range_with_len}
 use Rattle.std.proofs.lemmas.List.FromFn.{length-map-range_with_len, get_or-map-range_with_len}
 use Rattle.std.proofs.lemmas.Option.{slice_get-get_or}
-use Rattle.std.proofs.lemmas.Bool.{cases_lt}
+use Rattle.std.proofs.lemmas.Bool.{cases_lt, ne_eqb, eqb-true, eqb-false, eq-eqb}
 use Rattle.std.proofs.lemmas.Bool.Decides.{nat_tests}
 use Rattle.std.proofs.lemmas.List.{append-nil, append_assoc, length-set}
 use Rattle.signal.specs.declared.frame.Frame.{Frame}
@@ -28,9 +28,9 @@ use Rattle.schedule.specs.declared.outcome.Outcome.TheVariants as outcome
 use Rattle.node.specs.declared.node_id.NodeId.TheVariants.{Federate}
 use Rattle.schedule.specs.World.{World, frames_in, frame_at, sends_again, greets, Occurrence, delivered, if_there, sent_out, frames_of, Applied, unchanged, after_coordinator, after_federate, at_federate, happens, blank_next, forgotten, has_next, forgets, does, opened}
 use Rattle.schedule.specs.Taken.{signal_in, brought_by}
-use Rattle.schedule.proofs.Posting.{frame_if, frames_to, same_number, apart_numbers, itself}
+use Rattle.schedule.proofs.Posting.{frame_if, frames_to}
 use Rattle.schedule.proofs.Course.{acted, Comes, IsCourse}
-use Rattle.schedule.proofs.Courses.{step_course}
+use Rattle.schedule.proofs.Courses.{step_course, some_of}
 
 -- federate j's link, as it stands in a world
 pub record IsAt {Hub Member : Type 0} (w : World Hub Member) (j : ℕ) (l : Link) : Type 0 where
@@ -76,10 +76,6 @@ pub data Happened {Hub Member HubRow Row : Type 0} (hub : Core Hub HubRow) (memb
   at_member : (j : ℕ) (s : Station Member) (e : Event) (place : ℕ) → j < count → slice_get w.federates j ≡ Some s → Comes s (λ p. (links j).first.sent) place e → IsCourse member false s e (λ p. (links j).first.sent) place (step_of member false s e) → Brings w step e → made ≡ after_federate w j (step_of member false s e) → Happened hub member w count links step made
   lost : (j : ℕ) (s : Station Member) → j < count → slice_get w.federates j ≡ Some s → step ≡ Forget j → made ≡ record { world = record w { federates = set w.federates j (forgotten member s) }; outcome = outcome.Done } → Happened hub member w count links step made
 
--- lists
-pub some_of : {X : Type 0} (x y : X) → Some x ≡ Some y → x ≡ y
-some_of x y same = cc
-
 pub got : {X : Type 0} (xs : List X) (k : ℕ) (x d : X) → slice_get xs k ≡ Some x → get_or xs k d ≡ x
 got [] k x d e = cc
 got (y ∷ xs) zero x d e = some_of y x e
@@ -103,12 +99,12 @@ sent_out_at lists (o ∷ outs) p xs found =
   where
     by_number : (b : Bool) → nat_eq p o.peer ≡ b → slice_get (set lists o.peer (get_or lists o.peer [] ++ o.frame ∷ [])) p ≡ Some (xs ++ frame_if b o.frame)
     by_number true e =
-        let same : o.peer ≡ p = sym (same_number p o.peer e) in
+        let same : o.peer ≡ p = sym (eqb-true p o.peer e) in
         let P : ℕ → Type 0 = λ x. slice_get (set lists x (get_or lists x [] ++ o.frame ∷ [])) p ≡ Some (xs ++ o.frame ∷ []) in
         subst P (sym same)
         (get_set_here lists p xs (get_or lists p [] ++ o.frame ∷ []) found ∙ ap (λ (x : List Frame). Some (x ++ o.frame ∷ [])) (got lists p xs [] found))
     by_number false e =
-        get_set_other lists o.peer p (get_or lists o.peer [] ++ o.frame ∷ []) (apart_numbers p o.peer e) ∙ found ∙ ap (λ (x : List Frame). Some x) (sym (append-nil xs))
+        get_set_other lists o.peer p (get_or lists o.peer [] ++ o.frame ∷ []) (eqb-false p o.peer e) ∙ found ∙ ap (λ (x : List Frame). Some x) (sym (append-nil xs))
 
 sent_out_length : (lists : List (List Frame)) (outs : List Outgoing) → length (sent_out lists outs) ≡ length lists
 sent_out_length lists [] = refl
@@ -154,20 +150,17 @@ shown_at_hub hub w count links e place made c shown =
 
 -- the link of a federate, and the others
 pub at_own : {X : Type 0} (links : ℕ → X) (j : ℕ) (l : X) → with_one links j l j ≡ l
-at_own links j l = ap (λ (b : Bool). if b then l else links j) (itself j)
+at_own links j l = ap (λ (b : Bool). if b then l else links j) (eq-eqb j j refl)
 
 pub at_other : {X : Type 0} (links : ℕ → X) (j k : ℕ) (l : X) → k ≢ j → with_one links j l k ≡ links k
-at_other links j k l o = ap (λ (b : Bool). if b then l else links k) (not_same k j o)
-  where
-    not_same : (a b : ℕ) → (a ≡ b → ⊥) → nat_eq a b ≡ false
-    not_same a b h = grind (arith, nat_tests)
+at_other links j k l o = ap (λ (b : Bool). if b then l else links k) (ne_eqb k j o)
 
 pub same_or_not : (j k : ℕ) → (k ≡ j) ⊎ (k ≢ j)
 same_or_not j k = by_number (nat_eq k j) refl
   where
     by_number : (b : Bool) → nat_eq k j ≡ b → (k ≡ j) ⊎ (k ≢ j)
-    by_number true e = inl (same_number k j e)
-    by_number false e = inr (apart_numbers k j e)
+    by_number true e = inl (eqb-true k j e)
+    by_number false e = inr (eqb-false k j e)
 
 -- a federate's station did something
 pub shown_at_member : {Hub Member Row : Type 0} (member : Core Member Row) (w : World Hub Member) (count : ℕ) (links : ℕ → Link) (j : ℕ) (s : Station Member) (e : Event) (place : ℕ) (made : Stepped Member) (c : IsCourse member false s e (λ p. (links j).first.sent) place made) → slice_get w.federates j ≡ Some s → j < count → IsShown w count links → IsShown (after_federate w j made).world count (with_second links j (acted (links j).second (links j).first.sent (c.acts 0)))

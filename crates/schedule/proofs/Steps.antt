@@ -1,5 +1,6 @@
 -- Each step of a federation's world goes on beside a run of the machine, by one move or none, and no node refuses anything.
 use Rattle.std.proofs.Common.{◌≡◌, ℕ, ◌<◌, true, false, List, [], ◌∷◌, set, slice_get, refl, sym, ap, subst, ◌∙◌, Some}
+use Rattle.std.proofs.lemmas.Bool.{eqb-false}
 use Rattle.network.specs.Network.{with_one}
 use Rattle.network.specs.Tables.{IsLawfulWith}
 use Rattle.network.specs.Undone.{first_tag}
@@ -28,7 +29,6 @@ use Rattle.schedule.specs.declared.step.Step.{Step}
 use Rattle.schedule.specs.declared.step.Step.TheVariants.{Forget}
 use Rattle.schedule.specs.declared.outcome.Outcome.TheVariants as outcome
 use Rattle.schedule.specs.World.{outcome_of as told_by, Applied, unchanged, after_coordinator, after_federate, forgotten, does}
-use Rattle.schedule.proofs.Posting.{apart_numbers}
 use Rattle.schedule.specs.Kept.{is_forget_of}
 use Rattle.schedule.specs.Federation.{Federation, IsPlain}
 use Rattle.schedule.proofs.Course.{acted, Comes, IsPlainAnswer, announces, advances, quiet, takes, notes, says, declines, cannot, IsCourse}
@@ -184,7 +184,7 @@ goes_lost d programs inputs w links moves step j s made below there is_step is r
       lost = subst Q (sym moved)
           (λ k other. (
           let S : Step → Type 0 = λ x. is_forget_of k x ≡ false in
-          let apart = apart_numbers j k (subst S is_step other) in
+          let apart = eqb-false j k (subst S is_step other) in
           ap (λ (m : Member). m.lost) (at_other members j k (record (members j) { lost = true }) (λ e. apart (sym e)))));
     })
 

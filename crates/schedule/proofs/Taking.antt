@@ -2,7 +2,7 @@
 use Rattle.std.proofs.Common.{◌≡◌, ℕ, suc, ◌+◌, ◌<◌, max, Bool, true, false, List, [], ◌∷◌, ◌++◌, slice_get, refl, sym, ap, subst, ◌∙◌, arith, Some, Ok, if◌then◌else◌}
 use Rattle.std.specs.Prelude.{nat_eq, nat_lt, nat_le}
 use Rattle.std.specs.List.{AllByRecursion}
-use Rattle.std.proofs.lemmas.Bool.{eqb-true}
+use Rattle.std.proofs.lemmas.Bool.{eqb-true, lt-ltb}
 use Rattle.std.proofs.lemmas.Bool.Decides.{nat_tests}
 use Rattle.std.proofs.lemmas.List.{append-nil}
 use Rattle.signal.specs.declared.signal.Signal.{Signal}
@@ -19,10 +19,8 @@ use Rattle.protocol.specs.Outcome as outcome
 use Rattle.protocol.specs.Machine.{sent_to}
 use Rattle.node.specs.Step.{Station, Stepped}
 use Rattle.delivery.specs.Link.{Side, side_after, Act, Gets, Offers, Resends, Greets, Closes, TurnsAway, offers, takes}
-use Rattle.schedule.proofs.Posting.{same_number}
 use Rattle.schedule.proofs.Course.{acted, IsQuiet, TakesNone, taking, Comes, IsHandedOn, quiet, takes as takes_kind, notes, says as says_kind, declines, cannot, IsCourse}
-use Rattle.schedule.proofs.Courses.{gets_frame}
-use Rattle.schedule.proofs.Shown.{some_of}
+use Rattle.schedule.proofs.Courses.{gets_frame, some_of}
 use Rattle.schedule.proofs.Quiet.{TookNothing, quiet_takes_nothing, as_it_was}
 use Rattle.schedule.proofs.Site.{in_turn_is}
 use Rattle.schedule.proofs.Runs.{comes_with}
@@ -34,9 +32,6 @@ pub record Took (s after : Side) (brought : List Signal) : Type 0 where
 
 pub not_below : (a b : ℕ) → b ≡ a → nat_lt a b ≡ false
 not_below a b e = grind (arith, nat_tests)
-
-is_below : (a b : ℕ) → a < b → nat_lt a b ≡ true
-is_below a b l = grind (arith, nat_tests)
 
 pub nothing_took : (s after : Side) (brought : List Signal) → TookNothing s after → Took s after brought
 nothing_took s after brought n =
@@ -91,7 +86,7 @@ gets_took s coming place k n signal signals brought at is brings =
     })
   where
     higher : (a b : ℕ) → b ≡ suc a → nat_lt a b ≡ true
-    higher a b e = is_below a b (omega arith)
+    higher a b e = lt-ltb a b (omega arith)
 
 -- what is handed on is taken, and nothing at other sides
 handed_took : {View Row : Type 0} (core : Core View Row) (s : Station View) (e : Event) (came : ℕ → List Frame) (place q : ℕ) (o : outcome.Outcome (Made View)) (signals brought : List Signal) (handed : IsHandedOn core s e q o) → Comes s came place e → ((q : ℕ) (frame : Frame) → e ≡ event.Frame q frame → brought ≡ carried_by frame) → (p : ℕ) (side : Side) → slice_get s.ends p ≡ Some side.end → Took side (acted side (came p) (taking q place p signals)) brought
@@ -100,7 +95,7 @@ handed_took core s e came place q o signals brought handed comes brings p side f
     by_number : (b : Bool) → nat_eq p q ≡ b → Took side (acted side (came p) (if b then Gets place true ∷ Offers signals ∷ [] else Offers signals ∷ [])) brought
     by_number false apart = nothing_took side (acted side (came p) (Offers signals ∷ [])) brought (acts_take_nothing side (came p) (Offers signals ∷ []) (tt, tt))
     by_number true own =
-        let here = same_number p q own in
+        let here = eqb-true p q own in
         let P : ℕ → Type 0 = λ x. slice_get s.ends x ≡ Some side.end in
         let same : handed.image ≡ side.end = some_of handed.image side.end (sym handed.found ∙ subst P here found) in
         let A : Image → Type 0 = λ x. answer_of x (Data handed.incarnation handed.number handed.signal) ≡ Ok arrival.Signal in

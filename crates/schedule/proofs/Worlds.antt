@@ -1,5 +1,5 @@
 -- The world of a federation after any steps stands beside a run of the machine of queues.
-use Rattle.std.proofs.Common.{◌≡◌, ℕ, zero, suc, Bool, true, false, List, [], ◌∷◌, ◌++◌, set, slice_get, refl, sym, ap, subst, ◌∙◌, Option, None, Some, if◌then◌else◌}
+use Rattle.std.proofs.Common.{◌≡◌, ℕ, Bool, true, false, List, [], ◌∷◌, ◌++◌, set, slice_get, refl, sym, ap, subst, ◌∙◌, Option, None, Some, if◌then◌else◌}
 use Rattle.std.specs.Prelude.{not, ◌||◌}
 use Rattle.std.specs.List.{list_any}
 use Rattle.std.proofs.Math.Path.{fun_ext}
@@ -14,9 +14,8 @@ use Rattle.plan.specs.Least.{least_of}
 use Rattle.program.specs.Behaviour.{Behaviour}
 use Rattle.reactor.specs.Federation.{network_of}
 use Rattle.protocol.specs.Standing.{opening_standing}
-use Rattle.protocol.specs.Standings.{standing_at, standings_listed}
 use Rattle.protocol.specs.Machine.{Member, Move, opening_member as first_member}
-use Rattle.laws.proofs.ListedStandings.{listed_length}
+use Rattle.laws.proofs.ListedStandings.{listed_length, opening_read}
 use Rattle.node.specs.Step.{Station}
 use Rattle.cores.specs.FederateCore.{FederateNode, federate_core}
 use Rattle.cores.specs.CoordinatorCore.{coordinator_core}
@@ -31,7 +30,8 @@ use Rattle.schedule.specs.declared.step.Step.TheVariants.{Deliver, Resend, Recon
 use Rattle.schedule.specs.World.{Occurrence, occurrence_of, unchanged, at_federate, at_node, happens, has_next, forgotten, forgets, does, after_steps}
 use Rattle.schedule.specs.Kept.{is_forget_of, is_kept}
 use Rattle.schedule.specs.Federation.{Federation, IsPlain, opening_world, opening_coordinator, opening_member, world_after, step_in}
-use Rattle.schedule.proofs.Shown.{shown_listed, opened_shown, made_at, some_of}
+use Rattle.schedule.proofs.Shown.{shown_listed, opened_shown, made_at}
+use Rattle.schedule.proofs.Courses.{some_of}
 use Rattle.schedule.proofs.Site.{IsSite, keeps}
 use Rattle.schedule.proofs.Runs.{IsRun}
 use Rattle.schedule.proofs.Steps.{members_after, Goes, goes}
@@ -80,11 +80,6 @@ all_go d programs inputs w links moves (step ∷ steps) lawful run =
           rest.lost j both.1 ∙ first.lost j both.0);
     }
 
-open_standings : (count j : ℕ) → standing_at (standings_listed count (λ k. opening_standing)) j ≡ opening_standing
-open_standings zero j = refl
-open_standings (suc count) zero = refl
-open_standings (suc count) (suc j) = open_standings count j
-
 abbrev pub open_link : ℕ → Link
 open_link j = opening_link j 1 LINK_ROOM
 
@@ -98,7 +93,7 @@ opening_run d programs inputs =
       shown = opened_shown (opening_coordinator d) count (opening_member d programs inputs) LINK_ROOM;
       draft = refl;
       size = listed_length count (λ j. opening_standing);
-      standings = fun_ext (λ j. open_standings count j);
+      standings = fun_ext (λ j. opening_read count j);
       site = λ j l s there. (
           let same : station j ≡ s = some_of (station j) s (sym (made_at station count j l) ∙ there) in
           let P : Station FederateNode → Type 0 = λ x. IsSite d programs inputs j (open_link j) (first_member (network_of d programs inputs) j) x.node in

@@ -25,10 +25,11 @@ use Rattle.protocol.specs.Refusals.{number_of}
 use Rattle.node.specs.Numbers.{closes}
 use Rattle.node.specs.Core.{Core, Made, Ending, Refuses, LacksRoom, Stays, Moves, ending_of}
 use Rattle.node.specs.Mail.{Mail, posted, offered_at, all_posted, framed, lacks_room}
-use Rattle.node.specs.Step.{Station, Stepped, refused, received_at, acknowledging, unsent, addressed, answer_with, step_of, frame_comes, comes, lets_in, takes, noted, acts, resends, greets, greeting, turned_away, returned, changes}
+use Rattle.node.specs.Step.{Station, Stepped, refused, acknowledging, unsent, addressed, step_of, frame_comes, comes, lets_in, takes, noted, acts, resends, greets, greeting, turned_away, returned, changes}
 use Rattle.node.proofs.Ends.{get_set_here, get_set_other}
 use Rattle.schedule.specs.World.{frames_of}
 use Rattle.stage.specs.Room.{count_to, most_of, most_to}
+use Rattle.schedule.proofs.Courses.{frames_with, received_size}
 
 -- no more frames go to a peer than it may be sent in a step
 abbrev pub IsBounded : List Image → List Outgoing → Type 0
@@ -179,10 +180,6 @@ acts_within s (Moves after mail) within = record { bounded = within.0; ends_stay
 by_itself : {View : Type 0} (s : Station View) (o : outcome.Outcome (Made View)) → IsWithin s.ends (acts s (ending_of (unsent s) o))
 by_itself s o = acts_within s (ending_of (unsent s) o) (ending_within s.ends [] o (λ p. let h = room_less (slice_get s.ends p) in omega arith))
 
-received_length : (ends : List Image) (peer : ℕ) (frame : Frame) (o : Option Image) → length (received_at ends peer frame o) ≡ length ends
-received_length ends peer frame None = refl
-received_length ends peer frame (Some e) = length-set ends peer (after_frame e frame)
-
 refused_within : {View : Type 0} (s : Station View) (peer : ℕ) (e : Image) (number : ℕ) (closing : Bool) → slice_get s.ends peer ≡ Some e →
     IsWithin s.ends (refused s peer e number closing)
 refused_within s peer e number true found = record {
@@ -197,17 +194,12 @@ takes_within s peer e frame (Refuses refusal) found within = refused_within s pe
 takes_within s peer e frame LacksRoom found within = record { bounded = no_frames s.ends; ends_stay = refl }
 takes_within s peer e frame Stays found within = record {
   bounded = to_one s.ends peer e (ack_of (after_frame e frame) ∷ []) found (omega arith);
-  ends_stay = received_length s.ends peer frame (slice_get s.ends peer);
+  ends_stay = received_size s.ends peer frame (slice_get s.ends peer);
 }
 takes_within s peer e frame (Moves after mail) found within = record {
   bounded = within.0;
-  ends_stay = received_length mail.ends peer frame (slice_get mail.ends peer) ∙ within.1;
+  ends_stay = received_size mail.ends peer frame (slice_get mail.ends peer) ∙ within.1;
 }
-
-answer_frames : (b : Bool) (outs : List Outgoing) → frames_of (answer_with b outs) ≡ outs
-answer_frames true outs = refl
-answer_frames false [] = refl
-answer_frames false (out ∷ outs) = refl
 
 resent_few : (e : Image) → length (resent_by e) ≤ length e.kept
 resent_few e = by_closed e.closed
@@ -227,7 +219,7 @@ returned_few e (Refuse i n) = omega arith
 
 noted_within : {View : Type 0} (s : Station View) (peer : ℕ) (e : Image) (frame : Frame) → slice_get s.ends peer ≡ Some e → IsWithin s.ends (noted s peer e frame)
 noted_within s peer e frame found = record {
-  bounded = λ p. rw (answer_frames (changes e frame) (addressed peer (returned (after_frame e frame) frame)))
+  bounded = λ p. rw (frames_with (changes e frame) (addressed peer (returned (after_frame e frame) frame)))
       (to_one s.ends peer e (returned (after_frame e frame) frame) found (returned_few e frame) p);
   ends_stay = length-set s.ends peer (after_frame e frame);
 }
@@ -263,7 +255,7 @@ frame_within core hub s peer frame (Some e) is = comes_within core hub s peer e 
 resends_within : {View : Type 0} (s : Station View) (peer : ℕ) (o : Option Image) → slice_get s.ends peer ≡ o → IsWithin s.ends (resends s peer o)
 resends_within s peer None is = record { bounded = no_frames s.ends; ends_stay = refl }
 resends_within s peer (Some e) is = record {
-  bounded = λ p. rw (answer_frames false (addressed peer (resent_by e)))
+  bounded = λ p. rw (frames_with false (addressed peer (resent_by e)))
       (to_one s.ends peer e (resent_by e) is (let few = resent_few e in omega arith) p);
   ends_stay = refl;
 }
@@ -275,7 +267,7 @@ greeting_within ends peer e (Some frame) found = to_one ends peer e (frame ∷ [
 greets_within : {View : Type 0} (s : Station View) (peer : ℕ) (o : Option Image) → slice_get s.ends peer ≡ o → IsWithin s.ends (greets s peer o)
 greets_within s peer None is = record { bounded = no_frames s.ends; ends_stay = refl }
 greets_within s peer (Some e) is = record {
-  bounded = λ p. rw (answer_frames false (greeting peer (hello_of e))) (greeting_within s.ends peer e (hello_of e) is p);
+  bounded = λ p. rw (frames_with false (greeting peer (hello_of e))) (greeting_within s.ends peer e (hello_of e) is p);
   ends_stay = refl;
 }
 

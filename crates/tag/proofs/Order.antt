@@ -1,5 +1,6 @@
 -- The order of tags: what its tests say of the numbers, and of the places.
-use Rattle.std.proofs.Common.{◌≡◌, ℕ, ◌^◌, ◌<◌, ◌≤◌, ◌⊎◌, false, IsTrue, ◌↔◌, refl, ap, arith}
+use Rattle.std.proofs.Common.{◌≡◌, ℕ, ◌^◌, ◌<◌, ◌≤◌, ◌⊎◌, Bool, true, false, IsTrue, ◌↔◌, refl, ap, arith}
+use Rattle.std.specs.Prelude.{if◌then◌else◌}
 use Rattle.std.proofs.lemmas.Bool.Decides.{nat_tests}
 use Rattle.tag.specs.LogicalTime.{LogicalTime, IsLogicalTime, IsFinite, is_before, is_at_most, is_same, place, origin, forever, lesser, predecessor_of}
 
@@ -36,6 +37,27 @@ at_most_then g h k p q = grind (arith, nat_tests)
 pub not_before : (g h : LogicalTime) → IsTrue (is_at_most h g) → is_before g h ≡ false
 not_before g h p = grind (arith, nat_tests)
 
+pub not_at_most : (g h : LogicalTime) → is_at_most g h ≡ false → IsTrue (is_before h g)
+not_at_most g h p = grind (arith, nat_tests)
+
+pub before_asymmetric : (g h : LogicalTime) → IsTrue (is_before h g) → is_before g h ≡ false
+before_asymmetric g h p = grind (arith, nat_tests)
+
+pub before_at_most : (g h : LogicalTime) → IsTrue (is_before g h) → IsTrue (is_at_most g h)
+before_at_most g h p = grind (arith, nat_tests)
+
+pub after_not_at_most : (g h : LogicalTime) → IsTrue (is_before h g) → is_at_most g h ≡ false
+after_not_at_most g h p = grind (arith, nat_tests)
+
+pub before_not_same : (g h : LogicalTime) → IsTrue (is_before g h) → is_same g h ≡ false
+before_not_same g h p = grind (arith, nat_tests)
+
+pub after_not_same : (g h : LogicalTime) → IsTrue (is_before h g) → is_same g h ≡ false
+after_not_same g h p = grind (arith, nat_tests)
+
+pub before_forever : (g : LogicalTime) → IsFinite g → IsTrue (is_before g forever)
+before_forever g p = let t = p.time in grind (arith, nat_tests)
+
 pub at_most_origin : (g : LogicalTime) → IsTrue (is_at_most g origin) → g ≡ origin
 at_most_origin g p = grind (arith, nat_tests)
 
@@ -68,6 +90,9 @@ at_most_places g h p q b = (place-at_most g h p.microstep q.microstep).0 b
 
 pub at_most_from_places : (g h : LogicalTime) → IsLogicalTime g → IsLogicalTime h → place g ≤ place h → IsTrue (is_at_most g h)
 at_most_from_places g h p q b = (place-at_most g h p.microstep q.microstep).1 b
+
+pub equal_places : (g h : LogicalTime) → IsLogicalTime g → IsLogicalTime h → place g ≡ place h → g ≡ h
+equal_places g h p q e = place_injective g h p.microstep q.microstep e
 
 -- FOREVER's place, which no other tag has, is the greatest
 abbrev pub top : ℕ
@@ -115,6 +140,20 @@ pub finite_up_to : (g stop : LogicalTime) → IsLogicalTime g → IsFinite stop 
 finite_up_to g stop p q h = record { time = grind (arith, nat_tests); microstep = p.microstep }
 
 -- ---- the lesser of two, and the predecessor
+
+-- what holds of both holds of the one that a test chooses
+pub either_of : (P : LogicalTime → Type 0) (g h : LogicalTime) (b : Bool) → P g → P h → P (if b then g else h)
+either_of P g h true p q = p
+either_of P g h false p q = q
+
+pub lesser_first : (g h : LogicalTime) → is_before h g ≡ false → lesser g h ≡ g
+lesser_first g h e = grind (arith, nat_tests)
+
+pub lesser_second : (g h : LogicalTime) → is_before g h ≡ false → lesser g h ≡ h
+lesser_second g h e = grind (arith, nat_tests)
+
+pub lesser_commutes : (g h : LogicalTime) → lesser g h ≡ lesser h g
+lesser_commutes g h = grind (arith, nat_tests)
 
 pub lesser_at_most_first : (g h : LogicalTime) → IsTrue (is_at_most (lesser g h) g)
 lesser_at_most_first g h = grind (arith, nat_tests)

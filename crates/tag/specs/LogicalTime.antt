@@ -1,5 +1,5 @@
 -- Logical time. A tag is a point of it, a delay is a length of it; both are a time and a microstep.
-use Rattle.std.specs.Prelude.{◌≡◌, ℕ, ◌+◌, ◌-◌, ◌*◌, ◌^◌, ◌<◌, ◌≤◌, Bool, if◌then◌else◌, nat_lt, nat_eq, ◌&&◌, ◌||◌, Option, None, Some}
+use Rattle.std.specs.Prelude.{◌≡◌, ℕ, ◌+◌, ◌-◌, ◌*◌, ◌^◌, ◌<◌, ◌≤◌, Bool, true, false, if◌then◌else◌, nat_lt, nat_eq, ◌&&◌, ◌||◌, Option, None, Some}
 
 -- a time in nanoseconds, then a microstep
 pub record LogicalTime : Type 0 where
@@ -31,6 +31,16 @@ is_before g h = nat_lt g.time h.time || (nat_eq g.time h.time && nat_lt g.micros
 -- earlier, or the same
 abbrev pub is_at_most : LogicalTime → LogicalTime → Bool
 is_at_most g h = nat_lt g.time h.time || (nat_eq g.time h.time && nat_lt g.microstep (h.microstep + 1))
+
+-- the tag is later than that one; none is before all
+abbrev pub is_past : Option LogicalTime → LogicalTime → Bool
+is_past None tag = true
+is_past (Some other) tag = is_before other tag
+
+-- the tag is at or below that one
+abbrev pub is_reached : Option LogicalTime → LogicalTime → Bool
+is_reached None tag = false
+is_reached (Some other) tag = is_at_most tag other
 
 -- whether both are one
 abbrev pub is_same : LogicalTime → LogicalTime → Bool

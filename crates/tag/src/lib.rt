@@ -16,5 +16,5 @@ pub use delay::Delay;
 pub use duration::{DurationFault, parse_duration};
 pub use finite_tag::FiniteTag;
 pub use sums::{plus, pred, succ, then};
-pub use tag::Tag;
+pub use tag::{Tag, greater, lesser};
 pub use time::Time;

@@ -1,4 +1,5 @@
 ghost use Rattle.std.specs.Prelude.{◌≡◌, ℕ, ◌<◌, ◌≤◌, ◌^◌, ◌↔◌, IsTrue, IsSome, IfSome, IfNone};
+ghost use Rattle.tag.specs.LogicalTime.{greater, lesser};
 
 use crate::time::Time;
 use std::fmt;
@@ -89,4 +90,18 @@ impl fmt::Display for Tag {
             None => write!(f, "FOREVER"),
         }
     }
+}
+
+/// The lesser of two tags.
+pub fn lesser(tag: Tag, other: Tag) -> Tag
+    ensures { result ≡ lesser tag other }
+{
+    if tag < other { tag } else { other }
+}
+
+/// The greater of two tags.
+pub fn greater(tag: Tag, other: Tag) -> Tag
+    ensures { result ≡ greater tag other }
+{
+    if tag < other { other } else { tag }
 }

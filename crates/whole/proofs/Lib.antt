@@ -12,8 +12,6 @@ pub mod Looks
 pub mod Filled
 -- connections
 pub mod Joined
--- lists of entries
-pub mod Listed
 -- how many turns there can be
 pub mod Few
 -- a schedule after a turn

@@ -4,8 +4,8 @@ use Rattle.std.specs.Prelude.{if◌then◌else◌}
 use Rattle.std.specs.List.{AllByRecursion}
 use Rattle.std.proofs.lemmas.Bool.{and_parts, or_left, and_from, false_from_ne_true, eq-eqb}
 use Rattle.std.proofs.lemmas.Bool.Decides.{nat_tests}
-use Rattle.tag.specs.LogicalTime.{LogicalTime, forever, is_before, is_same, IsFinite}
-use Rattle.tag.proofs.Order.{same_is_equal, same_itself, before_transitive, before_irreflexive}
+use Rattle.tag.specs.LogicalTime.{LogicalTime, forever, is_before, is_same}
+use Rattle.tag.proofs.Order.{same_is_equal, same_itself, before_transitive, before_irreflexive, before_forever}
 use Rattle.network.specs.Undone.{Held, look, is_held_before}
 use Rattle.order.proofs.Lists.{each_more}
 use Rattle.agenda.specs.Agenda.{Agenda, Rises, IsInTime, IsAgenda, least_in}
@@ -53,16 +53,13 @@ found_after_least [] r t slot v h = absurd (none_some v h)
 found_after_least (x ∷ rest) r t slot v h =
     found_later x.tag (x ∷ rest) (before_irreflexive x.tag, each_more (λ e. IsTrue (is_held_before x e)) (λ e. is_before e.tag x.tag ≡ false) (λ e k. not_sooner x e k) rest r.0) t slot v h
 
-finite_before : (g : LogicalTime) → IsFinite g → is_before g forever ≡ true
-finite_before g f = let t = f.time in grind (arith, nat_tests)
-
 -- where the least tag isn't before FOREVER, nothing is undone
 pub none_before_forever : (a : Agenda) → IsAgenda a → is_before (least_in a.undone) forever ≡ false → (t : LogicalTime) (slot : ℕ) → look a.undone t slot ≡ None
 none_before_forever a k h t slot = by_list a.undone k.in_time h
   where
     by_list : (u : List Held) → AllByRecursion (IsInTime a.stop) u → is_before (least_in u) forever ≡ false → look u t slot ≡ None
     by_list [] w h = refl
-    by_list (x ∷ rest) w h = let yes = finite_before x.tag w.0.finite in absurd cc
+    by_list (x ∷ rest) w h = let yes = before_forever x.tag w.0.finite in absurd cc
 
 -- where it isn't FOREVER, something is found there
 pub least_found : (u : List Held) → (least_in u ≡ forever → ⊥) → (slot : ℕ) × (v : ℤ) × (look u (least_in u) slot ≡ Some v)

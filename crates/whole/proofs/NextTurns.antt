@@ -49,7 +49,7 @@ not_itself a = grind (arith, nat_tests)
 pub same_some : {X : Type 0} (o : Option X) (x y : X) → o ≡ Some x → o ≡ Some y → x ≡ y
 same_some o x y p q = cc
 
-has_target-append : (f : ℕ) (xs ys : List (ℕ × List Connection)) → has_target f (xs ++ ys) ≡ (has_target f xs || has_target f ys)
+pub has_target-append : (f : ℕ) (xs ys : List (ℕ × List Connection)) → has_target f (xs ++ ys) ≡ (has_target f xs || has_target f ys)
 has_target-append f [] ys = refl
 has_target-append f (x ∷ xs) ys = by_test (nat_eq x.0 f) (has_target-append f xs ys)
   where

@@ -9,7 +9,7 @@ use Rattle.std.proofs.lemmas.List.Elements.{filter-append, filter_map-append}
 use Rattle.std.proofs.lemmas.Option.{slice_get-get_or, slice_get_within}
 use Rattle.tag.specs.LogicalTime.{LogicalTime, is_at_most}
 use Rattle.network.specs.Event.{Event}
-use Rattle.network.specs.Undone.{Held, look, put_all}
+use Rattle.network.specs.Undone.{Held, look, put_all, held_of}
 use Rattle.order.specs.Newest.{or_else}
 use Rattle.order.proofs.LookUps.{last_held, look_put_all}
 use Rattle.plan.specs.declared.draft.Draft.{Draft}
@@ -21,7 +21,7 @@ use Rattle.plan.specs.Numbering.{first_timer}
 use Rattle.plan.specs.External.{outside, firing_times, firings_from, startup_of, own_events, own_events_in, own_events_from, input_event, external_of, is_for, found_action, physical_slot}
 use Rattle.plan.specs.Federation.{Found, federate_count, stop_of}
 use Rattle.plan.proofs.Outside.{external_parts}
-use Rattle.agenda.specs.Agenda.{Agenda, IsAgenda, held_of, own_undone, in_time}
+use Rattle.agenda.specs.Agenda.{Agenda, IsAgenda, own_undone, in_time}
 use Rattle.agenda.proofs.Putting.{put_all-append}
 use Rattle.whole.specs.Schedule.{opening_undone}
 use Rattle.whole.specs.Opening.{IsOpenWith, AreOpenWith}

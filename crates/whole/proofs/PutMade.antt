@@ -10,8 +10,8 @@ use Rattle.network.specs.Connection.{Connection}
 use Rattle.network.specs.Event.{Event}
 use Rattle.network.specs.Network.{Scheduling}
 use Rattle.network.specs.Undivided.{message_of, carried_by, scheduled_from}
-use Rattle.network.specs.Undone.{Held}
-use Rattle.agenda.specs.Agenda.{held_of, in_time}
+use Rattle.network.specs.Undone.{Held, held_of}
+use Rattle.agenda.specs.Agenda.{in_time}
 use Rattle.reactor.specs.Entries.{value_at}
 use Rattle.whole.specs.Targets.{between}
 use Rattle.whole.specs.Made.{TurnMade, held_if, carried_over, deferred_by, put_to}
@@ -31,6 +31,10 @@ held-append stop a xs ys =
     ∙ (ap (map held_of) (filter-append mine (filter up_to xs) (filter up_to ys))
     ∙ map-append held_of (filter mine (filter up_to xs)) (filter mine (filter up_to ys)))
 
+none_if : (b : Bool) → (if b then no_held else no_held) ≡ no_held
+none_if true = refl
+none_if false = refl
+
 one_held : (stop tag : LogicalTime) (target slot : ℕ) (e : Event) (v : ℤ) (a : ℕ) → e.tag ≡ tag → e.reactor ≡ target → held_of e ≡ record { tag = tag; slot = slot; value = v } → (b : Bool) → is_at_most tag stop ≡ b →
     held_up_to stop a (e ∷ []) ≡ (if nat_eq target a then in_time stop (record { tag = tag; slot = slot; value = v } ∷ []) else [])
 one_held stop tag target slot e v a p q r true h =
@@ -46,11 +50,7 @@ one_held stop tag target slot e v a p q r true h =
 one_held stop tag target slot e v a p q r false h =
     let late : is_at_most e.tag stop ≡ false = ap (λ g. is_at_most g stop) p ∙ h in
     ap (λ b. map held_of (filter (λ x. nat_eq x.reactor a) (cond b (e ∷ []) []))) late
-    ∙ (sym (by_test (nat_eq target a)) ∙ sym (ap (λ b. if nat_eq target a then cond b (record { tag = tag; slot = slot; value = v } ∷ []) [] else []) h))
-  where
-    by_test : (b : Bool) → (if b then no_held else no_held) ≡ no_held
-    by_test true = refl
-    by_test false = refl
+    ∙ (sym (none_if (nat_eq target a)) ∙ sym (ap (λ b. if nat_eq target a then cond b (record { tag = tag; slot = slot; value = v } ∷ []) [] else []) h))
 
 -- what one connection carries
 carried_one : (t : TurnMade) (a : ℕ) (c : Connection) (o : Option ℤ) (b d : Bool) → nat_eq c.source t.federate ≡ b → nat_eq c.target a ≡ d →
@@ -78,10 +78,6 @@ if_append : {X : Type 0} (b : Bool) (xs ys : List X) → (if b then xs ++ ys els
 if_append true xs ys = refl
 if_append false xs ys = refl
 
-none_if : (b : Bool) → (if b then no_held else no_held) ≡ no_held
-none_if true = refl
-none_if false = refl
-
 deferred_all : (t : TurnMade) (a place : ℕ) (ss : List Scheduling) → (if nat_eq t.federate a then flat_map (deferred_by t) ss else []) ≡ held_up_to t.stop a (scheduled_from t.federate t.tag place ss)
 deferred_all t a place [] = none_if (nat_eq t.federate a)
 deferred_all t a place (s ∷ ss) =
@@ -90,7 +86,7 @@ deferred_all t a place (s ∷ ss) =
     ∙ ((λ i. sym (one_held t.stop (sum_of t.tag s.delay) t.federate s.slot e s.value a refl refl refl (is_at_most (sum_of t.tag s.delay) t.stop) refl) i ++ deferred_all t a (place + 1) ss i)
     ∙ sym (held-append t.stop a (e ∷ []) (scheduled_from t.federate t.tag (place + 1) ss)))
 
-eq_swaps : (a b : ℕ) → nat_eq a b ≡ nat_eq b a
+pub eq_swaps : (a b : ℕ) → nat_eq a b ≡ nat_eq b a
 eq_swaps a b = grind (arith, nat_tests)
 
 -- what is put to a federate

@@ -7,6 +7,7 @@ use Rattle.std.proofs.lemmas.Bool.{or_parts, cases_eq, ne_eqb, eq-eqb, cases_Boo
 use Rattle.std.proofs.lemmas.Bool.Decides.{nat_tests}
 use Rattle.std.proofs.lemmas.List.{length-map}
 use Rattle.std.proofs.lemmas.Option.{slice_get-get_or, slice_get-map, slice_get_within}
+use Rattle.std.proofs.Math.Bool.{or-false}
 use Rattle.tag.specs.LogicalTime.{LogicalTime, forever, is_before, is_same}
 use Rattle.network.specs.Connection.{Connection}
 use Rattle.network.specs.Undone.{Held, look, put_all, drop_up_to}
@@ -22,6 +23,8 @@ use Rattle.whole.specs.Made.{TurnMade, put_to, after_put, after_puts, after_turn
 use Rattle.whole.specs.Next.{is_earlier, IsFirstAt, renewed}
 use Rattle.whole.specs.Schedule.{Schedule, undone_of, list_or_none, IsDueFirst, IsDone, found_after, IsAfterTurn, next_on, IsAgendaUpTo, for_each, IsSchedule}
 use Rattle.whole.proofs.Looks.{found_after_least, none_before_forever, least_found, not_first}
+use Rattle.whole.proofs.NextTurns.{has_target-append}
+use Rattle.whole.proofs.PutMade.{eq_swaps}
 
 -- ---- targets
 
@@ -55,14 +58,6 @@ unshown n (t ∷ ts) w = (w.0, unshown n ts w.1)
 pub all_there : (n : ℕ) (ts : List Target) → AllByRecursion (λ (t : ℕ × List Connection). t.0 < n) (all_shown ts) → All (λ (t : Target). t.federate < n) ts
 all_there n ts w = from_each (λ (t : Target). t.federate < n) ts (unshown n ts w)
 
-has-append : (f : ℕ) (xs ys : List (ℕ × List Connection)) → has_target f (xs ++ ys) ≡ (has_target f xs || has_target f ys)
-has-append f [] ys = refl
-has-append f (x ∷ xs) ys = by_test (nat_eq x.0 f) (has-append f xs ys)
-  where
-    by_test : (b : Bool) → has_target f (xs ++ ys) ≡ (has_target f xs || has_target f ys) → (b || has_target f (xs ++ ys)) ≡ ((b || has_target f xs) || has_target f ys)
-    by_test true h = refl
-    by_test false h = h
-
 puts-append : (t : TurnMade) (f : ℕ) (a : Agenda) (xs ys : List (ℕ × List Connection)) → after_puts t (xs ++ ys) f a ≡ after_puts t ys f (after_puts t xs f a)
 puts-append t f a [] ys = refl
 puts-append t f a (x ∷ xs) ys = puts-append t f (if nat_eq x.0 f then after_put t x a else a) xs ys
@@ -88,16 +83,12 @@ has_not : (f : ℕ) (t : ℕ × List Connection) (b : Bool) → t.0 ≢ f → ha
 has_not f t true e = ap (λ c. c || false) (ne_eqb t.0 f e)
 has_not f t false e = refl
 
-or_false : (b : Bool) → (b || false) ≡ b
-or_false true = refl
-or_false false = refl
-
 -- a federate is among the targets just where it is one
 pub has_is : (cs : List Connection) (src count f : ℕ) → f < count → has_target f (targets_below cs src count) ≡ is_target cs src f
 has_is cs src zero f h = absurd (omega arith)
 has_is cs src (suc k) f h = elim (cases_eq f k) [
-  | inl e ↦ (has-append f (targets_below cs src k) (target_if cs src k) ∙ (ap (λ b. b || has_target f (target_if cs src k)) (not_beyond cs src k f (omega arith)) ∙ (has_if f (k, between src k cs) (is_target cs src k) (sym e) ∙ ap (is_target cs src) (sym e))))
-  | inr other ↦ (has-append f (targets_below cs src k) (target_if cs src k) ∙ (ap (λ b. has_target f (targets_below cs src k) || b) (has_not f (k, between src k cs) (is_target cs src k) (λ q. other (sym q))) ∙ (or_false (has_target f (targets_below cs src k)) ∙ has_is cs src k f (omega arith))))
+  | inl e ↦ (has_target-append f (targets_below cs src k) (target_if cs src k) ∙ (ap (λ b. b || has_target f (target_if cs src k)) (not_beyond cs src k f (omega arith)) ∙ (has_if f (k, between src k cs) (is_target cs src k) (sym e) ∙ ap (is_target cs src) (sym e))))
+  | inr other ↦ (has_target-append f (targets_below cs src k) (target_if cs src k) ∙ (ap (λ b. has_target f (targets_below cs src k) || b) (has_not f (k, between src k cs) (is_target cs src k) (λ q. other (sym q))) ∙ (or-false (has_target f (targets_below cs src k)) ∙ has_is cs src k f (omega arith))))
 ]
 
 puts_if : (t : TurnMade) (f : ℕ) (a : Agenda) (x : ℕ × List Connection) (b : Bool) → x.0 ≡ f → after_puts t (if b then x ∷ [] else []) f a ≡ (if b then after_put t x a else a)
@@ -153,9 +144,6 @@ found_by : (t : TurnMade) (u : List Held) (tag : LogicalTime) (slot : ℕ) (own 
 found_by t u tag slot false later e = refl
 found_by t u tag slot true true e = look_later t.tag tag slot u e
 found_by t u tag slot true false e = look_dropped t.tag tag slot u e
-
-eq_swaps : (a b : ℕ) → nat_eq a b ≡ nat_eq b a
-eq_swaps a b = grind (arith, nat_tests)
 
 undone_if : (b : Bool) (t : TurnMade) (a : Agenda) → (if b then dropped t.tag a else a).undone ≡ (if b then drop_up_to t.tag a.undone else a.undone)
 undone_if true t a = refl

@@ -15,7 +15,7 @@ use Rattle.network.specs.Event.{Event, listed, present_at}
 use Rattle.network.specs.Lawful.{IsLawful}
 use Rattle.network.specs.Network.{Network, Effect}
 use Rattle.network.specs.Undivided as undivided
-use Rattle.network.specs.Undivided.{Undivided, Row, first_of_turns, with_states, after_turn_at, after_turn_of, turn_of, undivided_after, made_by, carried_by, scheduled_from}
+use Rattle.network.specs.Undivided.{Undivided, Row, comes_before, first_of_turns, with_states, after_turn_at, after_turn_of, turn_of, undivided_after, made_by, carried_by, scheduled_from}
 use Rattle.network.specs.Undone.{Held, look, put_all}
 use Rattle.order.specs.Newest.{or_else}
 use Rattle.order.specs.Pending.{IsNext}
@@ -27,7 +27,7 @@ use Rattle.plan.specs.declared.slots.Slots.{Slots}
 use Rattle.plan.specs.declared.draft.Federate.{Federate}
 use Rattle.plan.specs.declared.draft.Draft.{Draft}
 use Rattle.plan.specs.declared.input.Input.{Input}
-use Rattle.plan.specs.Federation.{federate_count, connections_of, stop_of}
+use Rattle.plan.specs.Federation.{federate_count, connections_of, rank_of, stop_of}
 use Rattle.plan.specs.Numbering.{slot_count}
 use Rattle.plan.specs.External.{external_of}
 use Rattle.program.specs.Behaviour.{Behaviour}
@@ -41,10 +41,10 @@ use Rattle.whole.specs.Progress.{Progress, later_by}
 use Rattle.whole.specs.Kept.{states_of, states_in, programs_in, HoldsPending, IsAfterTurns, HasSlotsOf}
 use Rattle.whole.specs.Made.{TurnMade, put_to}
 use Rattle.whole.specs.Targets.{between}
-use Rattle.whole.specs.Schedule.{Schedule, undone_of, opening_undone, comes_first, IsDueFirst, IsDone, found_after, IsAfterTurn}
+use Rattle.whole.specs.Schedule.{Schedule, undone_of, opening_undone, IsDueFirst, IsDone, found_after, IsAfterTurn}
 use Rattle.whole.proofs.Few.{turns_are_few}
 use Rattle.whole.proofs.Joined.{carried-agrees}
-use Rattle.whole.proofs.Listed.{listed-agrees}
+use Rattle.agenda.proofs.Listed.{listed_value}
 use Rattle.whole.proofs.Looks.{all_found, none_some}
 use Rattle.whole.proofs.PutMade.{held_up_to, put_in_time}
 use Rattle.whole.proofs.Putting.{slice_get-set_same, slice_get-set_other}
@@ -133,7 +133,7 @@ module _ (d : Draft) (inputs : List Input) (reactors : List Reactor) (s : Schedu
       record {
         something = (due.something.0, due.something.1, sym (kept.pending f g due.something.0 there) ∙ due.something.2);
         first = λ other earlier slot value inside e.
-            subst (λ x. comes_first x other earlier f g ≡ false) kept.draft
+            subst (λ x. comes_before (rank_of x) other earlier f g ≡ false) kept.draft
             (due.first other earlier slot value (subst (λ x. other < federate_count x) (sym kept.draft) inside) (kept.pending other earlier slot inside ∙ e));
       }
 
@@ -194,7 +194,7 @@ module _ (d : Draft) (inputs : List Input) (reactors : List Reactor) (s : Schedu
     carried =
         ap (λ es. flat_map (carried_by t.federate t.tag (value_at es)) (connections_of d)) made.outputs
         ∙ carried-agrees d t.federate r.behaviour.slots t.tag (value_at (listed (length r.behaviour.slots.outputs) (effect_on r s t.federate t.tag).outputs)) (effect_on r s t.federate t.tag).outputs slots
-        (listed-agrees (length r.behaviour.slots.outputs) (effect_on r s t.federate t.tag).outputs)
+        (listed_value (length r.behaviour.slots.outputs) (effect_on r s t.federate t.tag).outputs)
 
     -- what is put to a federate is present there
     put_present : (a : ℕ) (tag : LogicalTime) (slot : ℕ) →

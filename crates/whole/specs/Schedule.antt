@@ -1,13 +1,14 @@
 -- What is undone of each federate, and when each is next.
-use Rattle.std.specs.Prelude.{◌≡◌, ℕ, ◌<◌, ℤ, Bool, false, ◌&&◌, ◌||◌, not, nat_eq, nat_lt, if◌then◌else◌, List, [], map, filter, length, slice_get, Option, None, Some}
-use Rattle.tag.specs.LogicalTime.{LogicalTime, is_before, is_same}
+use Rattle.std.specs.Prelude.{◌≡◌, ℕ, ◌<◌, ℤ, false, ◌&&◌, not, nat_eq, nat_lt, if◌then◌else◌, List, [], map, filter, length, slice_get, Option, None, Some}
+use Rattle.tag.specs.LogicalTime.{LogicalTime, is_before}
 use Rattle.network.specs.Connection.{Connection}
-use Rattle.network.specs.Undone.{Held, look, put_all}
+use Rattle.network.specs.Undivided.{comes_before}
+use Rattle.network.specs.Undone.{Held, look, put_all, held_of}
 use Rattle.plan.specs.declared.draft.Draft.{Draft}
 use Rattle.plan.specs.declared.input.Input.{Input}
 use Rattle.plan.specs.External.{external_of, is_for}
 use Rattle.plan.specs.Federation.{federate_count, connections_of, rank_of, stop_of}
-use Rattle.agenda.specs.Agenda.{Agenda, IsAgenda, held_of, in_time}
+use Rattle.agenda.specs.Agenda.{Agenda, IsAgenda, in_time}
 use Rattle.whole.specs.declared.nexts.Next.{Next}
 use Rattle.whole.specs.Targets.{between, targets_below}
 use Rattle.whole.specs.Made.{TurnMade, put_to, least_on}
@@ -30,16 +31,12 @@ undone_of s federate = list_or_none (slice_get s.undone federate)
 abbrev pub opening_undone : Draft → List Input → ℕ → List Held
 opening_undone d inputs federate = put_all (map held_of (filter (is_for federate) (external_of d inputs))) []
 
--- a turn is before another
-abbrev pub comes_first : Draft → ℕ → LogicalTime → ℕ → LogicalTime → Bool
-comes_first d federate tag other other_tag = is_before tag other_tag || (is_same tag other_tag && nat_lt (rank_of d federate) (rank_of d other))
-
 -- something is present for the federate at the tag, and nothing for an earlier turn
 pub record IsDueFirst (s : Schedule) (federate : ℕ) (tag : LogicalTime) : Type 0 where
   pub there : federate < federate_count s.draft
   pub something : (slot : ℕ) × (value : ℤ) × (look (undone_of s federate) tag slot ≡ Some value)
   pub first : (other : ℕ) (earlier : LogicalTime) (slot : ℕ) (value : ℤ) → other < federate_count s.draft → look (undone_of s other) earlier slot ≡ Some value →
-      comes_first s.draft other earlier federate tag ≡ false
+      comes_before (rank_of s.draft) other earlier federate tag ≡ false
 
 -- nothing is undone
 abbrev pub IsDone : Schedule → Type 0

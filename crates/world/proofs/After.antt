@@ -3,6 +3,7 @@ use Rattle.std.proofs.Common.{◌≡◌, Bool, List, [], ◌∷◌, ◌++◌, fa
 use Rattle.std.specs.Prelude.{◌||◌}
 use Rattle.std.specs.List.{list_any}
 use Rattle.std.proofs.lemmas.List.Folds.{list_any-append}
+use Rattle.std.proofs.Math.Bool.{or-false}
 use Rattle.plan.specs.declared.draft.Draft.{Draft}
 use Rattle.plan.specs.declared.input.Input.{Input}
 use Rattle.program.specs.Behaviour.{Behaviour}
@@ -34,10 +35,6 @@ stepped d programs inputs stations later step o is made =
       after = longer ∙ ap (world_after d programs inputs) (sym listed);
     }
 
-or_nothing : (b : Bool) → (b || false) ≡ b
-or_nothing Bool.true = refl
-or_nothing Bool.false = refl
-
 -- the world after a step is what its steps made
 pub made_after : (d : Draft) (programs : List Behaviour) (inputs : List Input) (stations later : Federation) (step : Step) (o : Outcome) (before now : Bool) →
     IsMade d programs inputs stations before → ◌≡◌ {A = Applied CoordinatorNode FederateNode} (record { world = later; outcome = o }) (step_in stations step) →
@@ -51,6 +48,6 @@ made_after d programs inputs stations later step o before now m made is =
       after = s.after;
       forgotten =
           is ∙ (ap (λ (b : Bool). b || is_forget step) m.forgotten ∙
-          (ap (λ (b : Bool). list_any is_forget stations.steps || b) (sym (or_nothing (is_forget step))) ∙
+          (ap (λ (b : Bool). list_any is_forget stations.steps || b) (sym (or-false (is_forget step))) ∙
           (sym (list_any-append is_forget stations.steps (step ∷ [])) ∙ ap (list_any is_forget) (sym s.listed))));
     }

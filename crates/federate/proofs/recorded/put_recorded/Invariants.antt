@@ -1,7 +1,6 @@
 use Rattle.std.proofs.Common.{◌≡◌, map, take}
-use Rattle.network.specs.Undone.{put_all}
+use Rattle.network.specs.Undone.{put_all, held_of}
 use Rattle.plan.specs.External.{input_events_to}
-use Rattle.protocol.specs.Federate.{held_of}
 use Rattle.federate.proofs.recorded.put_recorded.Given as goal
 
 abbrev pub invariant-loop-input : goal.invariant-loop-input

@@ -14,7 +14,7 @@ use Rattle.whole.specs.Kept.{programs_in, HasSlotsOf}
 use Rattle.whole.specs.Made.{TurnMade}
 use Rattle.whole.specs.Progress.{Progress, pending_in, later_by}
 use Rattle.whole.specs.Schedule.{undone_of}
-use Rattle.whole.proofs.Listed.{listed-agrees}
+use Rattle.agenda.proofs.Listed.{listed_value}
 use Rattle.whole.proofs.Turns.{IsTurnMade, done_is_done, undone_within, kept_turn, reactor_count, has_slots, slots-given, same-element, programs_in-set}
 use Rattle.whole.proofs.whole.Whole.turn.Goals as goal
 
@@ -69,7 +69,7 @@ invariant_of-self-2 c =
     c.in_ok-at.ensures (slots_of (slice_get d.federates f)) (undone_within d c.self.inside.inputs.now reactors s c.self.inside.gone c.self.inside.rows kept f there)
     ∙ ap (λ k. listed k present) count in
     let agrees : AgreesBelow (slot_count r.behaviour.slots) (value_at c.as_slice.result.now) present =
-    rw (c.as_slice.ensures.value, entries) (listed-agrees (slot_count r.behaviour.slots) present) in
+    rw (c.as_slice.ensures.value, entries) (listed_value (slot_count r.behaviour.slots) present) in
     let turn : c.run_in.new.room ≡ turn_of r present = c.in_ok-run_in.ensures.slots_alone present agrees in
     let t : TurnMade = record {
       federate = f;
