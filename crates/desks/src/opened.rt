@@ -1,8 +1,11 @@
-ghost use Rattle.std.specs.Prelude.{◌≡◌, ◌<◌, [], map, length, vec_len, IfOk};
+ghost use Rattle.std.specs.Prelude.{◌≡◌, ◌<◌, ◌≤◌, ◌^◌, [], map, length, vec_len, IfOk};
+ghost use Rattle.std.specs.List.{range_with_len};
 ghost use Rattle.node.specs.Step.{fresh};
 ghost use Rattle.plan.specs.Federation.{federate_count};
 ghost use Rattle.plan.specs.External.{AreInputsOf};
 ghost use Rattle.program.specs.Programs.{AreProgramsOf};
+ghost use Rattle.world.specs.Opened.{new_end, new_hub, new_member};
+ghost use Rattle.desks.specs.Opened.{unused, unused_members};
 
 use coordinator::Coordinator;
 use desk::{Desk, Memory};
@@ -11,27 +14,28 @@ use link::LinkEnd;
 use node::Station;
 use plan::{Inputs, Plan};
 use reactor::Programs;
+use schedule::LINK_ROOM;
 use std::alloc::Global;
-
-/// So many signals a link end keeps at most until they are acknowledged.
-pub const ROOM: usize = 4096;
 
 // The incarnation of a federate that has not lost its state.
 const FIRST: u32 = 1;
 
-/// The coordinator's desk.
+/// The coordinator's desk: its station is that of the plan's world before the first step.
 pub fn coordinator_desk(alloc: Global, plan: &Plan) -> Result<Desk<Coordinator<'_>>, Memory>
+    ensures opened { IfOk result (λ desk. desk ≡ unused (new_hub plan.now)) }
     ensures journal { IfOk result (λ desk. desk.journal ≡ []) }
     ensures ends { IfOk result (λ desk. length desk.station.ends ≡ federate_count plan.now) }
 {
+    // For the prover: a plan has few federates.
+    plan.known();
     let Ok(coordinator) = Coordinator::new(alloc, plan) else {
         return Err(Memory);
     };
-    let ends = fresh_ends(alloc, plan.federate_count())?;
+    let ends = new_ends(alloc, plan.federate_count())?;
     Ok(Desk::new(alloc, Station::new(alloc, coordinator, ends)))
 }
 
-/// The federates' desks, by number.
+/// The federates' desks, by number: their stations are those of the world before the first step.
 pub fn federate_desks<'a>(
     alloc: Global,
     plan: &'a Plan,
@@ -40,11 +44,11 @@ pub fn federate_desks<'a>(
 ) -> Result<Vec<Desk<Federate<'a>>>, Memory>
     requires programs { AreProgramsOf plan.now programs.now }
     requires inputs { AreInputsOf plan.now inputs.now }
-    ensures { IfOk result (λ desks. vec_len desks ≡ federate_count plan.now) }
+    ensures opened { IfOk result (λ desks. desks.items ≡ unused_members plan.now programs.now inputs.now (federate_count plan.now)) }
+    ensures each { IfOk result (λ desks. vec_len desks ≡ federate_count plan.now) }
 {
-    let count = plan.federate_count();
     let mut desks = Vec::new(alloc);
-    for number in 0..count {
+    for number in 0..plan.federate_count() {
         desks.push(federate_desk(alloc, plan, programs, inputs, number)?)?;
     }
     Ok(desks)
@@ -61,29 +65,37 @@ fn federate_desk<'a>(
     requires programs { AreProgramsOf plan.now programs.now }
     requires inputs { AreInputsOf plan.now inputs.now }
     requires there { number < federate_count plan.now }
-    ensures { IfOk result (λ desk. desk.journal ≡ []) }
+    ensures { IfOk result (λ desk. desk ≡ unused (new_member plan.now programs.now inputs.now number)) }
 {
+    // For the prover: a plan has few federates.
+    plan.known();
     let Ok(federate) = Federate::new(alloc, plan, programs, inputs, number) else {
         return Err(Memory);
     };
     let mut ends = Vec::with_capacity(alloc, 1)?;
-    ends.push(LinkEnd::new(alloc, number_of(number), FIRST, ROOM))?;
+    ends.push_reserved(new_end(alloc, number));
     Ok(Desk::new(alloc, Station::new(alloc, federate, ends)))
 }
 
 // Ends that have offered and taken nothing, by number.
-fn fresh_ends(alloc: Global, count: usize) -> Result<Vec<LinkEnd>, Memory>
+#[tactic(auto, using(crate::proofs::Unused::fresh_so))]
+fn new_ends(alloc: Global, count: usize) -> Result<Vec<LinkEnd>, Memory>
+    requires few { count ≤ 2 ^ 16 }
+    ensures ends { IfOk result (λ ends. map (λ e. e.image) ends.items ≡ map new_end (range_with_len 0 count)) }
     ensures fresh { IfOk result (λ ends. map fresh (map (λ e. e.image) ends.items) ≡ map (λ e. e.image) ends.items) }
     ensures each { IfOk result (λ ends. vec_len ends ≡ count) }
 {
     let mut ends = Vec::new(alloc);
     for number in 0..count {
-        ends.push(LinkEnd::new(alloc, number_of(number), FIRST, ROOM))?;
+        ends.push(new_end(alloc, number))?;
     }
     Ok(ends)
 }
 
-// A federate's number in frames. Plans have 64 federates at most.
-fn number_of(federate: usize) -> u16 {
-    u16::try_from(federate).unwrap_or(u16::MAX)
+// An end of a federate's link that has offered and taken nothing.
+fn new_end(alloc: Global, federate: usize) -> LinkEnd
+    requires { federate < 2 ^ 16 }
+    ensures { result.image ≡ new_end federate }
+{
+    LinkEnd::new(alloc, federate as u16, FIRST, LINK_ROOM)
 }

@@ -1,21 +1,23 @@
 -- What a search for the journals of a claim says of it.
-use Rattle.std.proofs.Common.{◌≡◌, ◌∙◌, ℕ, ◌<◌, List, [], sym, ap, subst}
+use Rattle.std.proofs.Common.{◌≡◌, ◌∙◌, ℕ, ◌<◌, Bool, true, List, [], sym, ap, subst}
+use Rattle.std.specs.Prelude.{◌↔◌}
 use Rattle.plan.specs.External.{AreInputsOf}
 use Rattle.plan.specs.Federation.{federate_count}
 use Rattle.plan.specs.Legal.{IsLegal}
 use Rattle.program.specs.Programs.{AreProgramsOf}
 use Rattle.node.specs.declared.event.Event.{Event}
+use Rattle.cores.specs.CoordinatorCore.{coordinator_core}
 use Rattle.schedule.specs.declared.step.Step.{Step}
 use Rattle.search.specs.Motion.{after_all}
 use Rattle.search.specs.Journals.{IsFound}
 use Rattle.search.specs.declared.found.Found.{Found}
 use Rattle.search.specs.declared.found.Found.TheVariants.{All as Whole, Stuck}
-use Rattle.world.specs.World.{WorldView}
+use Rattle.world.specs.World.{WorldView, stations_of}
 use Rattle.recorder.specs.declared.report.Report.{Report}
 use Rattle.recorder.specs.Reports.{AreComplete, all_journals}
 use Rattle.recorder.specs.Placing.{world_motion}
-use Rattle.recorder.specs.Audited.{Claim, world_of, claim_of, AgreesWith, HasReportedRows, HasSearched, IsFirstApart, IsMismatch, IsProvedBy}
-use Rattle.recorder.proofs.Proved.{after_world, proved}
+use Rattle.recorder.specs.Audited.{Claim, world_of, claim_of, AgreesWith, HasReportedRows, HasSearched, IsFirstApart, IsMismatch, IsProvedBy, IsFinishedBy}
+use Rattle.recorder.proofs.Proved.{after_world, coordinator_there, proved}
 
 -- what was searched for is this claim
 pub found_so : (c : Claim) (opening : WorldView) (journals : List (List Event)) (w : WorldView) (found : Found) →
@@ -43,9 +45,12 @@ complete_there c w found searched complete =
     let P : Claim → Type 0 = λ d. AreComplete (federate_count d.draft) d.reports in
     subst P (sym (same_claim c w found searched)) complete
 
--- and the search is one for what is claimed of that world's federation
-pub searched_there : (c : Claim) (w : WorldView) (found : Found) → HasSearched c w found → HasSearched (claim_of w c.reports c.coordinator) w found
-searched_there c w found searched = subst (λ (d : Claim). HasSearched d w found) (sym (same_claim c w found searched)) searched
+-- what is said of that world's federation, whatever the coordinator's journal is, is said of the claim
+pub told_of : (P : Claim → Type 0) (c : Claim) (w : WorldView) (found : Found) → HasSearched c w found →
+    ((coordinator : List Event) → HasSearched (claim_of w c.reports coordinator) w found → P (claim_of w c.reports coordinator)) → P c
+told_of P c w found searched judged =
+    let same = same_claim c w found searched in
+    subst P same (judged c.coordinator (subst (λ (d : Claim). HasSearched d w found) (sym same) searched))
 
 module _ (w : WorldView) (reports : List Report) (coordinator : List Event) where
   found_world : (steps : List Step) → w ≡ after_all world_motion (world_of (claim_of w reports coordinator) []) steps → w ≡ world_of (claim_of w reports coordinator) steps
@@ -66,3 +71,12 @@ module _ (w : WorldView) (reports : List Report) (coordinator : List Event) wher
   proved_so steps legal are given complete agrees is rows =
       proved (claim_of w reports coordinator) legal are given steps complete agrees
       (λ j below. subst (λ v. HasReportedRows v reports j) (found_world steps is) (rows j below))
+
+  -- and whether the coordinator is finished there is whether its journal gives a finished one
+  pub finished_so : (steps : List Step) (is_finished : Bool) → AgreesWith (claim_of w reports coordinator) steps →
+      w ≡ after_all world_motion (world_of (claim_of w reports coordinator) []) steps → is_finished ≡ coordinator_core.finished (stations_of w).coordinator.node →
+      (is_finished ≡ true) ↔ IsFinishedBy (claim_of w reports coordinator)
+  finished_so steps is_finished agrees is tells =
+      let same = tells ∙ ap (λ v. coordinator_core.finished (stations_of v).coordinator.node) (found_world steps is)
+      ∙ ap (λ s. coordinator_core.finished s.node) (coordinator_there (claim_of w reports coordinator) steps agrees) in
+      ((λ told. sym same ∙ told), (λ finished. same ∙ finished))

@@ -82,6 +82,13 @@ coordinator_replays w (step ∷ steps) none =
     ∙ ap (λ s. replayed.after_all coordinator_core true s (events_at world_motion Coordinator (with_step w step) steps)) one
     ∙ sym (replays_both coordinator_core true (stations_of w).coordinator (event_at Coordinator (occurrence_of (stations_of w) step)) (events_at world_motion Coordinator (with_step w step) steps))
 
+-- where steps agree with a claim's journals, the coordinator's station after them is the replay of its journal
+pub coordinator_there : (c : Claim) (steps : List Step) → AgreesWith c steps →
+    (stations_of (world_of c steps)).coordinator ≡ replayed.after_all coordinator_core true (opening_world c.draft c.programs c.inputs).coordinator c.coordinator
+coordinator_there c steps agrees =
+    ap (λ v. (stations_of v).coordinator) (sym (after_world (world_of c []) steps)) ∙ coordinator_replays (world_of c []) steps agrees.none_forgets
+    ∙ ap (replayed.after_all coordinator_core true (opening_world c.draft c.programs c.inputs).coordinator) (agrees.events Coordinator)
+
 module _ (c : Claim) (legal : IsLegal c.draft) (are : AreProgramsOf c.draft c.programs) (given : AreInputsOf c.draft c.inputs) where
   -- there are as many federates as the plan has
   pub sized : (steps : List Step) → length (stations_of (world_of c steps)).federates ≡ federate_count c.draft
@@ -101,8 +108,7 @@ module _ (c : Claim) (legal : IsLegal c.draft) (are : AreProgramsOf c.draft c.pr
             let P : List Row → Type 0 = λ x. (turns : ℕ) × BeginsWith (part j (whole (network_of c.draft c.programs c.inputs) turns)) x in
             subst P (sym (rows j below)) (rows_begin c.draft c.programs c.inputs steps j lawful below (all_kept c.draft c.programs c.inputs steps none j));
         whole_run = λ finished j below.
-            let there = ap (λ v. (stations_of v).coordinator) (sym (after_world (world_of c []) steps)) ∙ coordinator_replays (world_of c []) steps agrees.none_forgets
-            ∙ ap (replayed.after_all coordinator_core true (opening_world c.draft c.programs c.inputs).coordinator) (agrees.events Coordinator) in
+            let there = coordinator_there c steps agrees in
             let P : List Row → Type 0 = λ x. HasEveryRow (network_of c.draft c.programs c.inputs) j x in
             subst P (sym (rows j below))
             (finished_rows c.draft c.programs c.inputs steps j lawful (record { kept = none; finished = ap (λ s. coordinator_core.finished s.node) there ∙ finished }) below);

@@ -1,5 +1,5 @@
 -- What an audit answers.
-use Rattle.std.specs.Prelude.{◌≡◌, ℕ, ◌<◌, true, List, []}
+use Rattle.std.specs.Prelude.{◌≡◌, ◌↔◌, ℕ, ◌<◌, true, List, []}
 use Rattle.network.specs.Undivided.{whole, part}
 use Rattle.order.specs.Settled.{BeginsWith}
 use Rattle.laws.specs.Rows.{HasEveryRow}
@@ -16,6 +16,7 @@ use Rattle.schedule.specs.Federation.{opening_world, rows_in}
 use Rattle.search.specs.Journals.{Agrees, IsStuck, IsFound}
 use Rattle.search.specs.declared.found.Found.{Found}
 use Rattle.world.specs.World.{WorldView, stations_of}
+use Rattle.recorder.specs.declared.audited_run.AuditedRun.{AuditedRun}
 use Rattle.recorder.specs.declared.report.Report.{Report}
 use Rattle.recorder.specs.declared.unproved.Unproved.{Unproved}
 use Rattle.recorder.specs.declared.unproved.Unproved.TheVariants.{Stranger, Double, Missing, Stuck, Mismatch, Memory}
@@ -77,6 +78,11 @@ pub record IsProvedBy (c : Claim) (steps : List Step) : Type 0 where
   -- and where the coordinator's journal gives a finished one, none of them is missing
   pub whole_run : IsFinishedBy c → (j : ℕ) → j < federate_count c.draft →
       HasEveryRow (network_of c.draft c.programs c.inputs) j (reported_rows c.reports j)
+
+-- an audit ended well: its steps prove the reports, and it tells whether the coordinator's journal gives a finished one
+pub record HasEnded (c : Claim) (audited : AuditedRun) : Type 0 where
+  pub proved : IsProvedBy c audited.steps.items
+  pub finished : (audited.is_finished ≡ true) ↔ IsFinishedBy c
 
 -- these steps agree with all journals, and federate j is the first one whose rows there aren't those that it reports
 pub record IsMismatch (c : Claim) (steps : List Step) (j row : ℕ) : Type 0 where

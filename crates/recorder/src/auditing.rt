@@ -7,9 +7,10 @@ ghost use Rattle.schedule.specs.Federation.{rows_in};
 ghost use Rattle.world.specs.World.{stations_of};
 ghost use Rattle.recorder.specs.Reports.{how_many, reported_rows, AreComplete};
 ghost use Rattle.recorder.specs.Difference.{DifferAt};
-ghost use Rattle.recorder.specs.Audited.{HasReportedRows, IsFirstApart, IsProvedBy, IsUnproved, HasSearched, claim_of};
+ghost use Rattle.recorder.specs.Audited.{HasReportedRows, IsFirstApart, IsProvedBy, HasEnded, IsUnproved, HasSearched, claim_of};
 ghost use Rattle.node.specs.declared.event.Event.{Event};
 
+use crate::audited_run::AuditedRun;
 use crate::auditor::Auditor;
 use crate::complete::{refuse_incomplete, report_of};
 use crate::difference::first_difference;
@@ -41,48 +42,71 @@ pub fn audit(
     ensures proved { IfOk result (λ steps. IsProvedBy (record { draft = plan.now; programs = programs.now; inputs = inputs.now; reports = reports.now; coordinator = coordinator.now }) steps.items) }
     ensures unproved { IfErr result (IsUnproved (record { draft = plan.now; programs = programs.now; inputs = inputs.now; reports = reports.now; coordinator = coordinator.now })) }
 {
-    if let Err(fault) = refuse_incomplete(plan.federate_count(), reports) {
-        return Err(fault);
+    match audit_run(alloc, plan, programs, inputs, reports, coordinator) {
+        Ok(audited) => Ok(audited.steps),
+        Err(fault) => Err(fault),
     }
-    replay(alloc, plan, programs, inputs, reports, coordinator)
 }
 
-// The audit of complete reports.
-fn replay(
+/// The same audit, which also tells whether the coordinator's journal gives a finished one.
+pub fn audit_run(
     alloc: Global,
     plan: &Plan,
     programs: &Programs,
     inputs: &Inputs,
     reports: &[Report],
     coordinator: &[Event],
-) -> Result<Vec<Step>, Unproved>
+) -> Result<AuditedRun, Unproved>
     requires programs { AreProgramsOf plan.now programs.now }
     requires inputs { AreInputsOf plan.now inputs.now }
-    requires complete { AreComplete (federate_count plan.now) reports.now }
-    ensures proved { IfOk result (λ steps. IsProvedBy (record { draft = plan.now; programs = programs.now; inputs = inputs.now; reports = reports.now; coordinator = coordinator.now }) steps.items) }
+    ensures ended { IfOk result (HasEnded (record { draft = plan.now; programs = programs.now; inputs = inputs.now; reports = reports.now; coordinator = coordinator.now })) }
     ensures unproved { IfErr result (IsUnproved (record { draft = plan.now; programs = programs.now; inputs = inputs.now; reports = reports.now; coordinator = coordinator.now })) }
 {
+    if let Err(fault) = refuse_incomplete(plan.federate_count(), reports) {
+        return Err(fault);
+    }
     // For the prover: the plan is legal.
     plan.known();
+    let (auditor, found) = search_all(alloc, plan, programs, inputs, reports, coordinator)?;
+    judge(auditor.world(), reports, found)
+}
+
+// The world in which a search for all journals ended, and how.
+fn search_all<'a>(
+    alloc: Global,
+    plan: &'a Plan,
+    programs: &'a Programs,
+    inputs: &'a Inputs,
+    reports: &[Report],
+    coordinator: &[Event],
+) -> Result<(Auditor<'a>, Found), Unproved>
+    requires programs { AreProgramsOf plan.now programs.now }
+    requires inputs { AreInputsOf plan.now inputs.now }
+    ensures searched { IfOk result (λ ended. HasSearched (record { draft = plan.now; programs = programs.now; inputs = inputs.now; reports = reports.now; coordinator = coordinator.now }) ended.0 ended.1) }
+    ensures memory { IfErr result (λ fault. fault ≡ Unproved.Memory) }
+{
     let journals = all_journals(alloc, plan.federate_count(), reports, coordinator)?;
     let world = World::new(alloc, plan, programs, inputs)?;
     let mut auditor = Auditor::new(alloc, world)?;
     let found = search(alloc, &mut auditor, &journals)?;
-    judge(auditor.world(), reports, found)
+    Ok((auditor, found))
 }
 
 // What is to be said of complete reports, in the world in which a search for their journals ended, whatever the coordinator's is.
-fn judge(world: &World<'_>, reports: &[Report], found: Found) -> Result<Vec<Step>, Unproved>
+fn judge(world: &World<'_>, reports: &[Report], found: Found) -> Result<AuditedRun, Unproved>
     requires federation { IsLegal world.now.draft × AreProgramsOf world.now.draft world.now.programs × AreInputsOf world.now.draft world.now.inputs }
     requires complete { AreComplete (federate_count world.now.draft) reports.now }
-    ensures proved { IfOk result (λ steps. (coordinator : List Event) → HasSearched (claim_of world.now reports.now coordinator) world.now found → IsProvedBy (claim_of world.now reports.now coordinator) steps.items) }
+    ensures ended { IfOk result (λ audited. (coordinator : List Event) → HasSearched (claim_of world.now reports.now coordinator) world.now found → HasEnded (claim_of world.now reports.now coordinator) audited) }
     ensures unproved { IfErr result (λ fault. (coordinator : List Event) → HasSearched (claim_of world.now reports.now coordinator) world.now found → IsUnproved (claim_of world.now reports.now coordinator) fault) }
 {
     match found {
         Found::Stuck(node, event) => Err(Unproved::Stuck(node, event)),
         Found::All(steps) => match first_apart(world, reports) {
             Some((federate, row)) => Err(Unproved::Mismatch(federate, row)),
-            None => Ok(steps),
+            None => {
+                let is_finished = world.finished();
+                Ok(AuditedRun { steps, is_finished })
+            }
         },
     }
 }

@@ -15,8 +15,8 @@ pub(crate) fn count_of(reports: &[Report], federate: usize) -> usize
         .count()
 }
 
-// A federate's report; the first one, if there are several.
-pub(crate) fn report_of(reports: &[Report], federate: usize) -> Option<&Report>
+/// A federate's report; the first one, if there are several.
+pub fn report_of(reports: &[Report], federate: usize) -> Option<&Report>
     ensures { option_map (λ report. report.now) result ≡ report_of reports.now federate }
 {
     reports.iter().find(|report| report.federate == federate)

@@ -8,14 +8,16 @@
 //!                   |
 //!                   +-----> search       over an `Auditor`: a world that makes the steps
 //!                   +-----> compare      each federate's rows there with those that it reports
+//!     reports --> audit_run             the same, and whether the coordinator is finished
 //!
 //! Begin with `report`, then `audit`.
 #![tactic(auto)]
 
+pub mod audited_run;
 pub mod auditing;
 mod auditor;
 pub mod collector;
-mod complete;
+pub mod complete;
 mod cursors;
 mod difference;
 mod journals;
@@ -23,8 +25,10 @@ pub mod report;
 pub mod report_fault;
 pub mod unproved;
 
-pub use auditing::audit;
+pub use audited_run::AuditedRun;
+pub use auditing::{audit, audit_run};
 pub use collector::Collector;
+pub use complete::report_of;
 pub use report::Report;
 pub use report_fault::{Refused, ReportFault};
 pub use unproved::Unproved;

@@ -1,0 +1,7 @@
+use Rattle.std.proofs.lemmas.Result.{err_from_is_err_and}
+use Rattle.audited.proofs.printing.print_audited_run.Goals as goal
+
+pub returns-in_err-reports-clause-told : goal.returns-in_err-reports-clause-told
+returns-in_err-reports-clause-told g c =
+    let told = err_from_is_err_and c.from_residual-in_err-reports.result c.from_residual-in_err-reports.ensures.1 in
+    rw (told.1, told.2) (c.in_err-reports.ensures c.args.programs.now c.args.inputs.now)

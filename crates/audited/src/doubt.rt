@@ -1,0 +1,121 @@
+ghost use Rattle.std.specs.Prelude.{◌≡◌, IfOk};
+ghost use Rattle.printed.specs.PlanText.{federate_name};
+ghost use Rattle.audited.specs.Doubts.{node_name, doubt_of, number_of, IsDoubtOf};
+
+use node::NodeId;
+use plan::{Plan, Text};
+use recorder::Unproved;
+use std::alloc::{AllocError, Global};
+use std::fmt;
+
+/// Why an audit doesn't believe what a run's nodes reported, with the plan's names in place of numbers: see
+/// `recorder::Unproved`. Nothing is printed.
+#[derive(Debug, Drop)]
+pub enum Doubt {
+    /// A report is of a federate that isn't there.
+    Stranger,
+    /// A federate has two reports.
+    Double,
+    /// The federate of this name has no report.
+    Missing(Text),
+    /// No further event of any journal can be placed: this node's journal isn't used up, and this is its next event, counted from
+    /// 1. The node is `coordinator`, or a federate by its name.
+    Stuck { node: Text, event: usize },
+    /// The journals agree, but the rows of the federate of this name aren't what it computed: the first place, counted from 1, at
+    /// which they differ.
+    Mismatch { federate: Text, row: usize },
+    /// No memory for the audit, or for the name that is to be told. The same run may be made again.
+    Memory,
+}
+
+impl Doubt {
+    /// What an audit answers, with the plan's names. Without memory for a name it is `Memory`.
+    pub fn new(alloc: Global, plan: &Plan, unproved: Unproved) -> Doubt
+        ensures { IsDoubtOf plan.now unproved result }
+    {
+        match doubt_of(alloc, plan, unproved) {
+            Ok(doubt) => doubt,
+            Err(_) => Doubt::Memory,
+        }
+    }
+
+    /// The number by which it is told: the audit's.
+    pub fn number(&self) -> u16
+        ensures { result ≡ number_of self.now }
+    {
+        let unproved = match self {
+            Doubt::Stranger => Unproved::Stranger,
+            Doubt::Double => Unproved::Double,
+            Doubt::Missing(_) => Unproved::Missing(0),
+            Doubt::Stuck { node: _, event: _ } => Unproved::Stuck(NodeId::Coordinator, 0),
+            Doubt::Mismatch {
+                federate: _,
+                row: _,
+            } => Unproved::Mismatch(0, 0),
+            Doubt::Memory => Unproved::Memory,
+        };
+        unproved.number()
+    }
+}
+
+impl fmt::Display for Doubt {
+    ghost use Rattle.std.specs.Prelude.{Some};
+    ghost use Rattle.audited.specs.Doubts.{printed_doubt};
+
+    ghost output = { λ doubt. Some (printed_doubt doubt) };
+
+    fn fmt<W: fmt::Write>(&self, f: &mut fmt::Formatter<W>) -> fmt::Result {
+        let number = self.number();
+        match self {
+            Doubt::Stranger => write!(f, "{number} Stranger"),
+            Doubt::Double => write!(f, "{number} Double"),
+            Doubt::Missing(federate) => write!(f, "{number} Missing {}", federate.as_str()),
+            Doubt::Stuck { node, event } => write!(f, "{number} Stuck {} {event}", node.as_str()),
+            Doubt::Mismatch { federate, row } => {
+                write!(f, "{number} Mismatch {} {row}", federate.as_str())
+            }
+            Doubt::Memory => write!(f, "{number} Memory"),
+        }
+    }
+}
+
+// What an audit answers, with the plan's names.
+fn doubt_of(alloc: Global, plan: &Plan, unproved: Unproved) -> Result<Doubt, AllocError>
+    ensures { IfOk result (λ doubt. doubt ≡ doubt_of plan.now unproved) }
+{
+    let doubt = match unproved {
+        Unproved::Stranger => Doubt::Stranger,
+        Unproved::Double => Doubt::Double,
+        Unproved::Missing(federate) => Doubt::Missing(federate_name(alloc, plan, federate)?),
+        Unproved::Stuck(node, event) => Doubt::Stuck {
+            node: node_name(alloc, plan, node)?,
+            event,
+        },
+        Unproved::Mismatch(federate, row) => Doubt::Mismatch {
+            federate: federate_name(alloc, plan, federate)?,
+            row,
+        },
+        Unproved::Memory => Doubt::Memory,
+    };
+    Ok(doubt)
+}
+
+// A node's name.
+fn node_name(alloc: Global, plan: &Plan, node: NodeId) -> Result<Text, AllocError>
+    ensures { IfOk result (λ name. name ≡ node_name plan.now node) }
+{
+    match node {
+        NodeId::Coordinator => Ok(Text::new(String::from_str(alloc, "coordinator")?)),
+        NodeId::Federate(federate) => federate_name(alloc, plan, federate),
+    }
+}
+
+// A federate's name; empty where there is none.
+fn federate_name(alloc: Global, plan: &Plan, federate: usize) -> Result<Text, AllocError>
+    ensures { IfOk result (λ name. name ≡ federate_name plan.now federate) }
+{
+    match plan.federates().get(federate) {
+        Some(federate) => federate.name.clone(),
+        None => Ok(Text::new(String::new(alloc))),
+    }
+}

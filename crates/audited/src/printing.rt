@@ -1,0 +1,142 @@
+ghost use Rattle.std.specs.Prelude.{◌≡◌, ◌≢◌, List, OnOk, IfErr};
+ghost use Rattle.std.specs.Io.KnownBytes.{Appends};
+ghost use Rattle.plan.specs.declared.input.Input.{Input};
+ghost use Rattle.plan.specs.External.{AreInputsOf};
+ghost use Rattle.program.specs.Behaviour.{Behaviour};
+ghost use Rattle.program.specs.Programs.{AreProgramsOf};
+ghost use Rattle.printed.specs.RowText.{printed_rows};
+ghost use Rattle.recorder.specs.Reports.{reported_rows};
+ghost use Rattle.audited.specs.Printed.{PrintsAudited, IsAuditedFault, printed_reports};
+
+use crate::doubt::Doubt;
+use crate::fault::AuditedFault;
+use crate::reports::reports_of;
+use coordinator::Coordinator;
+use desks::{coordinator_desk, federate_desks};
+use federate::Federate;
+use node::{Event, Node};
+use plan::{Inputs, Plan};
+use printed::write_rows;
+use reactor::Programs;
+use recorder::{Report, audit_run, report_of};
+use std::alloc::Global;
+use std::io;
+use std::io::Write;
+use std::net::{Net, TcpListener, TcpStream};
+use std::sync::Wait;
+use std::thread::Threads;
+use std::time::Clock;
+use wires::{Gathered, Open, RunFault, run_over_tcp};
+
+/// Runs the federation in threads over TCP on loopback until the coordinator is finished or a runner has made so many turns,
+/// audits what its nodes wrote down, and prints each federate's rows, federate by federate. The caller flushes. That a run isn't
+/// finished is told before any doubt of the audit.
+pub fn print_audited_run<
+    R: Threads + Wait + Clock + Net<Stream = TcpStream, Listener = TcpListener> + Sync,
+    O: Write,
+>(
+    rt: &R,
+    alloc: Global,
+    plan: &Plan,
+    programs: &Programs,
+    inputs: &Inputs,
+    turns: u32,
+    out: &mut O,
+) -> Result<(), AuditedFault>
+    requires programs { AreProgramsOf plan.now programs.now }
+    requires inputs { AreInputsOf plan.now inputs.now }
+    ensures ok { OnOk result (PrintsAudited plan.now programs.now inputs.now (O.contents out.old) (O.contents out.new)) }
+    ensures told { IfErr result (IsAuditedFault plan.now programs.now inputs.now) }
+    ensures untouched { IfErr result (λ fault. fault ≢ AuditedFault.CannotWrite → O.contents out.new ≡ O.contents out.old) }
+{
+    let Gathered { hub, members } = run(rt, alloc, plan, programs, inputs, turns)?;
+    if !hub.station().node().finished() {
+        return Err(AuditedFault::NotFinished);
+    }
+    let reports = reports_of(alloc, plan, members)?;
+    print_audited(
+        alloc,
+        plan,
+        programs,
+        inputs,
+        reports.reports(),
+        hub.journal(),
+        out,
+    )
+}
+
+// Runs the federation: the desks of all its nodes, when all their workers have ended.
+fn run<'a, R: Threads + Wait + Clock + Net<Stream = TcpStream, Listener = TcpListener> + Sync>(
+    rt: &R,
+    alloc: Global,
+    plan: &'a Plan,
+    programs: &'a Programs,
+    inputs: &'a Inputs,
+    turns: u32,
+) -> Result<Gathered<Coordinator<'a>, Federate<'a>>, AuditedFault>
+    requires programs { AreProgramsOf plan.now programs.now }
+    requires inputs { AreInputsOf plan.now inputs.now }
+    ensures { IfErr result (IsAuditedFault plan.now programs.now inputs.now) }
+{
+    let Ok(hub) = coordinator_desk(alloc, plan) else {
+        return Err(AuditedFault::Memory);
+    };
+    let Ok(members) = federate_desks(alloc, plan, programs, inputs) else {
+        return Err(AuditedFault::Memory);
+    };
+    match run_over_tcp(rt, alloc, hub, members, &Open, turns) {
+        Ok(gathered) => Ok(gathered),
+        Err(RunFault::NotFinished) => Err(AuditedFault::NotFinished),
+        Err(RunFault::Memory) => Err(AuditedFault::Memory),
+    }
+}
+
+// Audits these reports with the coordinator's journal, and prints their rows where they are proved and the coordinator is
+// finished.
+fn print_audited<O: Write>(
+    alloc: Global,
+    plan: &Plan,
+    programs: &Programs,
+    inputs: &Inputs,
+    reports: &[Report],
+    coordinator: &[Event],
+    out: &mut O,
+) -> Result<(), AuditedFault>
+    requires programs { AreProgramsOf plan.now programs.now }
+    requires inputs { AreInputsOf plan.now inputs.now }
+    ensures ok { OnOk result (PrintsAudited plan.now programs.now inputs.now (O.contents out.old) (O.contents out.new)) }
+    ensures told { IfErr result (IsAuditedFault plan.now programs.now inputs.now) }
+    ensures untouched { IfErr result (λ fault. fault ≢ AuditedFault.CannotWrite → O.contents out.new ≡ O.contents out.old) }
+{
+    match audit_run(alloc, plan, programs, inputs, reports, coordinator) {
+        Ok(audited) if audited.is_finished => {}
+        Ok(_) => return Err(AuditedFault::NotFinished),
+        Err(fault) => return Err(AuditedFault::Unproved(Doubt::new(alloc, plan, fault))),
+    }
+    print_reports(out, plan, reports).map_err(|_| AuditedFault::CannotWrite)
+}
+
+// Prints the rows that each federate reports, federate by federate.
+fn print_reports<O: Write>(out: &mut O, plan: &Plan, reports: &[Report]) -> io::Result<()>
+    ensures { OnOk result (Appends (O.contents out.old) (O.contents out.new) (printed_reports plan.now reports.now)) }
+{
+    for federate in 0..plan.federate_count() {
+        print_report(out, plan, reports, federate)?;
+    }
+    Ok(())
+}
+
+// Prints the rows that a federate reports.
+fn print_report<O: Write>(
+    out: &mut O,
+    plan: &Plan,
+    reports: &[Report],
+    federate: usize,
+) -> io::Result<()>
+    ensures { OnOk result (Appends (O.contents out.old) (O.contents out.new) (printed_rows plan.now.federates (reported_rows reports.now federate))) }
+{
+    match report_of(reports, federate) {
+        Some(report) => write_rows(out, plan, &report.rows),
+        None => Ok(()),
+    }
+}

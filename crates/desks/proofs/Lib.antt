@@ -1,0 +1,3 @@
+-- Lemmas.
+-- desks to which nothing came, and their ends
+mod Unused

@@ -1,0 +1,2 @@
+-- Desks to which nothing came.
+pub mod Opened
