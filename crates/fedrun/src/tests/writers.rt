@@ -45,6 +45,8 @@ const WHOLE: &[&str] = &["whole", "fed.toml", "-", "4"];
 
 const REPLAY: &[&str] = &["replay", "fed.toml", "-", "in.toml", "--until-stuck", "9"];
 
+const CHECK: &[&str] = &["check", "fed.toml"];
+
 /// Whether a command whose rows can't be written tells so.
 fn tells_cannot_write<R: AllocGlobal, O: Write>(
     rt: &R,
@@ -62,7 +64,7 @@ fn tells_cannot_write<R: AllocGlobal, O: Write>(
 
 #[test]
 fn tells_that_it_cannot_write(rt: HostRuntime) {
-    for words in [WHOLE, REPLAY] {
+    for words in [WHOLE, REPLAY, CHECK] {
         for room in [0, 1, 40] {
             assert!(rt; tells_cannot_write(&rt, words, &mut Narrow { room }) == Some(true));
         }
