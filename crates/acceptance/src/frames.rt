@@ -292,10 +292,12 @@ fn are_fed_at_once(alloc: Global, count: usize) -> Option<bool> {
     Some(acknowledgements(&mut reader, count) == count && gives(&mut reader, &[]))
 }
 
-/// They are 1,048,577 bytes.
+/// They are 1,048,577 bytes. Where an allocation is refused the first time, there is memory the next time.
 #[test]
 fn a_megabyte_is_fed_at_once(rt: HostRuntime) {
-    assert!(rt; are_fed_at_once(rt.alloc(), 61_681) != Some(false));
+    let first = are_fed_at_once(rt.alloc(), 61_681);
+    let again = are_fed_at_once(rt.alloc(), 61_681);
+    assert!(rt; first.or(again) == Some(true));
 }
 
 /// Whether a Hello of this version is read.

@@ -23,10 +23,16 @@ fn delay(of: (u64, u32)) -> Delay {
     }
 }
 
+/// At 0 where the first number is no time.
+fn finite(of: (u64, u32)) -> FiniteTag {
+    FiniteTag::new(Time::new(of.0).unwrap_or(Time::zero()), of.1)
+}
+
 #[test]
 fn order_by_time_then_microstep(rt: HostRuntime) {
     assert!(rt; tag((0, u32::MAX)) < tag((1, 0)) && tag((LAST, u32::MAX)) < Tag::FOREVER);
     assert!(rt; delay((0, u32::MAX)) < delay((1, 0)) && delay((LAST, 0)) < Delay::FOREVER);
+    assert!(rt; finite((0, u32::MAX)) < finite((1, 0)) && finite((0, 1)) > finite((0, 0)));
 }
 
 /// A tag, a delay, and their sum.
