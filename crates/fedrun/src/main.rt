@@ -1,20 +1,14 @@
 //! The program `fedrun`: reads its words and files, and prints the rows of a federation.
 //!
-//! All it does is `command`, a function over words, files and writers; `main` hands it the machine's. Begin with `command`,
-//! then `specs/Printed` and `specs/Refused`; the crate `printed` says what a row and a plan look like.
+//! All it does is `commands::command`, a function over words, files and writers; `main` hands it the machine's.
 #![tactic(auto)]
 
-mod command;
-mod fault;
-#[cfg(test)]
-mod tests;
-
-use fault::Fault;
+use commands::Fault;
 use files::MachineFiles;
-use loadfed::LoadFault;
 use std::io::{BufWriter, ErrorKind, Stdout};
 use std::process::ExitCode;
 use std::{env, io};
+use words::WordsFault;
 
 /// So many bytes go to standard output at once.
 const OUT_BYTES: usize = 1 << 16;
@@ -29,38 +23,36 @@ fn status(rt: &HostRuntime) -> u8 {
     match given(rt) {
         Ok((words, mut out)) => {
             let mut files = MachineFiles::new(rt);
-            command::command(rt, words.as_slice(), &mut files, &mut out, &mut err)
+            commands::command(rt, words.as_slice(), &mut files, &mut out, &mut err)
         }
-        Err(fault) => command::refuse(&fault, &mut err).status,
+        Err(why) => commands::refuse(&Fault::of_words(why), &mut err).status,
     }
 }
 
 /// The machine's words, and its output through a buffer.
-fn given(rt: &HostRuntime) -> Result<(Vec<String>, BufWriter<Stdout>), Fault<'static>> {
+fn given(rt: &HostRuntime) -> Result<(Vec<String>, BufWriter<Stdout>), WordsFault> {
     let words = words_of(rt)?;
     match BufWriter::with_capacity(rt.alloc(), OUT_BYTES, rt.stdout()) {
         Ok(out) => Ok((words, out)),
-        Err(_) => Err(Fault::Load(LoadFault::Memory)),
+        Err(_) => Err(WordsFault::Memory),
     }
 }
 
 /// Words that are no text are no command.
-fn fault_of(error: &io::Error) -> Fault<'static> {
+fn fault_of(error: &io::Error) -> WordsFault {
     if error.kind() == ErrorKind::OutOfMemory {
-        Fault::Load(LoadFault::Memory)
+        WordsFault::Memory
     } else {
-        Fault::Usage
+        WordsFault::Usage
     }
 }
 
 /// The words after the program's name.
-fn words_of(rt: &HostRuntime) -> Result<Vec<String>, Fault<'static>> {
+fn words_of(rt: &HostRuntime) -> Result<Vec<String>, WordsFault> {
     let mut words = Vec::new(rt.alloc());
     let given = env::args(rt).map_err(|error| fault_of(&error))?;
     for word in given.skip(1) {
-        words
-            .push(word)
-            .map_err(|_| Fault::Load(LoadFault::Memory))?;
+        words.push(word).map_err(|_| WordsFault::Memory)?;
     }
     Ok(words)
 }

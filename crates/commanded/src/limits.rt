@@ -1,0 +1,85 @@
+//! Files of the longest length and one byte more, as many federates and reactions as there may be and one more, and want of
+//! memory for a file.
+use crate::federations::{CONNECTION, RECEIVER, SENDER};
+use crate::outcome::{given, joined, outcome_of};
+use crate::two_files::NoMemory;
+use commands::command;
+use std::alloc::Global;
+
+/// A text so many times.
+fn repeated(alloc: Global, text: &str, count: usize) -> Option<String> {
+    let mut file = String::with_capacity(alloc, count.checked_mul(text.len())?).ok()?;
+    for _ in 0..count {
+        file.push_str(text).ok()?;
+    }
+    Some(file)
+}
+
+/// What `whole` answers on a federation file and input file of parts, where no row is asked for.
+fn status(rt: &HostRuntime, federation: &[&str], inputs: &[&str]) -> Option<(u8, bool)> {
+    let words = ["whole", "fed.toml", "in.toml", "0"];
+    let outcome = outcome_of(rt, &words, federation, inputs)?;
+    let is_over = outcome.err.as_slice() == b"fedrun: 36 OverLimit\n".as_slice();
+    Some((outcome.status, is_over))
+}
+
+/// How a federation file with so many bytes is answered.
+fn federation_of(rt: &HostRuntime, length: usize) -> Option<(u8, bool)> {
+    let alloc = rt.alloc();
+    let counter = joined(alloc, &[SENDER, RECEIVER, CONNECTION])?;
+    let lines = repeated(alloc, "\n", length.checked_sub(counter.len())?)?;
+    status(rt, &[counter.as_str(), lines.as_str()], &[])
+}
+
+#[test]
+fn takes_a_federation_of_a_mebibyte(rt: HostRuntime) {
+    assert!(rt; federation_of(&rt, 1_048_576) == Some((0, false)));
+    assert!(rt; federation_of(&rt, 1_048_577) == Some((1, true)));
+}
+
+/// How an input file of so many bytes is answered.
+fn inputs_of(rt: &HostRuntime, length: usize) -> Option<(u8, bool)> {
+    let lines = repeated(rt.alloc(), "\n", length)?;
+    status(rt, &[SENDER, RECEIVER, CONNECTION], &[lines.as_str()])
+}
+
+#[test]
+fn takes_inputs_of_eight_mebibytes(rt: HostRuntime) {
+    assert!(rt; inputs_of(&rt, 1_048_577) == Some((0, false)));
+    assert!(rt; inputs_of(&rt, 8_388_608) == Some((0, false)));
+    assert!(rt; inputs_of(&rt, 8_388_609) == Some((1, true)));
+}
+
+const ONE: &str = "stop = \"0\"\n[[federate]]\nname = \"a\"\ninputs = [\"x\"]\n";
+
+/// How a federate with so many reactions is answered.
+fn reactions_of(rt: &HostRuntime, count: usize) -> Option<(u8, bool)> {
+    let reactions = repeated(
+        rt.alloc(),
+        "[[federate.reaction]]\ntriggers = [\"x\"]\n",
+        count,
+    )?;
+    status(rt, &[ONE, reactions.as_str()], &[])
+}
+
+#[test]
+fn takes_so_many_reactions(rt: HostRuntime) {
+    assert!(rt; reactions_of(&rt, 64) == Some((0, false)));
+    assert!(rt; reactions_of(&rt, 65) == Some((1, true)));
+}
+
+/// What is told where there is no memory for a file.
+fn told_of_no_memory(rt: &HostRuntime) -> Option<(u8, bool)> {
+    let alloc = rt.alloc();
+    let words = given(alloc, &["whole", "fed.toml", "in.toml", "0"])?;
+    let mut out = Vec::new(alloc);
+    let mut err = Vec::new(alloc);
+    let status = command(rt, words.as_slice(), &mut NoMemory, &mut out, &mut err);
+    let is_memory = err.as_slice() == b"fedrun: 37 Memory\n".as_slice();
+    Some((status, is_memory))
+}
+
+#[test]
+fn tells_want_of_memory(rt: HostRuntime) {
+    assert!(rt; told_of_no_memory(&rt) == Some((1, true)));
+}

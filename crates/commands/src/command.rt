@@ -1,0 +1,76 @@
+ghost use Rattle.std.specs.Prelude.{◌≡◌, ◌≢◌, ◌≤◌, Bool, IsTrue};
+ghost use Rattle.std.specs.Io.KnownBytes.{Appends};
+ghost use Rattle.commands.specs.Faults.{status_of, line_of};
+ghost use Rattle.commands.specs.Printed.{PrintsAnswer};
+ghost use Rattle.commands.specs.Refused.{TellsFault};
+
+use crate::fault::Fault;
+use crate::requests::perform;
+use files::Files;
+use std::alloc::Global;
+use std::io::Write;
+
+/// Does what the words ask for, over these files, and answers the exit status: 0 where it is done, 1 where what it was given
+/// is refused or can't be read, 2 where the words are no command, 3 where it couldn't finish. What it has to say of a
+/// failure is one line to `err`; whether that line can be written changes nothing else.
+pub fn command<R: AllocGlobal, F: Files, O: Write, E: Write>(
+    rt: &R,
+    words: &[String],
+    files: &mut F,
+    out: &mut O,
+    err: &mut E,
+) -> u8
+    ensures done { result ≡ 0 → PrintsAnswer (F.contents files.old) (O.contents out.old) (O.contents out.new) }
+    ensures quiet { result ≡ 0 → err.new ≡ err.old }
+    ensures told { result ≢ 0 → (is_told : Bool) × TellsFault (F.contents files.old) result is_told (O.contents out.old) (O.contents out.new) (E.contents err.old) (E.contents err.new) }
+    ensures untouched { result ≡ 1 → out.new ≡ out.old }
+    ensures unused { result ≡ 2 → out.new ≡ out.old }
+    ensures statuses { result ≤ 3 }
+{
+    answer(rt.alloc(), words, files, out, err).status
+}
+
+/// What a command answers.
+#[derive(Clone, Copy)]
+pub struct Answered {
+    /// The exit status.
+    pub status: u8,
+    /// Whether a fault was told, and its line could be written.
+    pub is_told: bool,
+}
+
+/// As `command`; the answer says too whether the line of its fault could be written.
+pub fn answer<F: Files, O: Write, E: Write>(
+    alloc: Global,
+    words: &[String],
+    files: &mut F,
+    out: &mut O,
+    err: &mut E,
+) -> Answered
+    ensures done { result.status ≡ 0 → PrintsAnswer (F.contents files.old) (O.contents out.old) (O.contents out.new) }
+    ensures quiet { result.status ≡ 0 → err.new ≡ err.old }
+    ensures told { result.status ≢ 0 → TellsFault (F.contents files.old) result.status result.is_told (O.contents out.old) (O.contents out.new) (E.contents err.old) (E.contents err.new) }
+    ensures untouched { result.status ≡ 1 → out.new ≡ out.old }
+    ensures unused { result.status ≡ 2 → out.new ≡ out.old }
+    ensures statuses { result.status ≤ 3 }
+{
+    match perform(alloc, words, files, out) {
+        Ok(()) => Answered {
+            status: 0,
+            is_told: false,
+        },
+        Err(fault) => refuse(&fault, err),
+    }
+}
+
+/// Tells a fault on one line, with its exit status.
+pub fn refuse<E: Write>(fault: &Fault<'_>, err: &mut E) -> Answered
+    ensures status { result.status ≡ status_of fault.now }
+    ensures line { IsTrue result.is_told → Appends (E.contents err.old) (E.contents err.new) (line_of fault.now) }
+{
+    let is_told = writeln!(err, "fedrun: {fault}").is_ok();
+    Answered {
+        status: fault.status(),
+        is_told,
+    }
+}

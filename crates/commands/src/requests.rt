@@ -1,0 +1,111 @@
+//! Each request: its files are read first, and then it prints.
+ghost use Rattle.std.specs.Prelude.{◌≡◌, ◌≢◌, IfErr, OnOk};
+ghost use Rattle.commands.specs.Faults.{status_of};
+ghost use Rattle.commands.specs.Printed.{PrintsFor, PrintsAnswer};
+ghost use Rattle.commands.specs.Refused.{IsWordsFault, IsFaultOf, Stands};
+
+use crate::fault::Fault;
+use crate::printing::{print_plan, print_replay, print_whole};
+use files::Files;
+use sources::{read_federation, read_schedule, read_sources};
+use std::alloc::Global;
+use std::io::Write;
+use words::{Request, read_words};
+
+/// Does what the words ask for.
+pub(crate) fn perform<'a, F: Files, O: Write>(
+    alloc: Global,
+    words: &'a [String],
+    files: &mut F,
+    out: &mut O,
+) -> Result<(), Fault<'a>>
+    ensures ok { OnOk result (PrintsAnswer (F.contents files.old) (O.contents out.old) (O.contents out.new)) }
+    ensures stands { IfErr result (Stands (F.contents files.old) (O.contents out.old) (O.contents out.new)) }
+    ensures untouched { IfErr result (λ fault. status_of fault ≢ 3 → out.new ≡ out.old) }
+{
+    match requested(alloc, words)? {
+        Request::Whole {
+            federation,
+            inputs,
+            turns,
+        } => whole(alloc, federation, inputs, turns, files, out),
+        Request::Check { federation } => check(alloc, federation, files, out),
+        Request::Replay {
+            federation,
+            inputs,
+            schedule,
+            until_stuck,
+        } => replay(alloc, federation, inputs, schedule, until_stuck, files, out),
+        Request::Run { .. } => Err(Fault::Usage),
+    }
+}
+
+/// What the words ask for.
+fn requested<'a>(alloc: Global, words: &'a [String]) -> Result<Request<'a>, Fault<'a>>
+    ensures { IfErr result IsWordsFault }
+{
+    match read_words(alloc, words) {
+        Ok(request) => Ok(request),
+        Err(why) => Err(Fault::of_words(why)),
+    }
+}
+
+/// Prints the rows of the undivided program after at most so many turns.
+fn whole<'a, F: Files, O: Write>(
+    alloc: Global,
+    federation: &'a str,
+    inputs: &'a str,
+    turns: u32,
+    files: &mut F,
+    out: &mut O,
+) -> Result<(), Fault<'a>>
+    ensures ok { OnOk result (PrintsFor (F.contents files.old) (Request.Whole federation.entry inputs.entry turns) (O.contents out.old) (O.contents out.new)) }
+    ensures stands { IfErr result (IsFaultOf (F.contents files.old) (O.contents out.old) (O.contents out.new) (Request.Whole federation.entry inputs.entry turns)) }
+    ensures untouched { IfErr result (λ fault. status_of fault ≢ 3 → out.new ≡ out.old) }
+{
+    match read_sources(alloc, federation, inputs, files) {
+        Ok(sources) => print_whole(alloc, &sources, turns, out),
+        Err(fault) => Err(Fault::Source(fault)),
+    }
+}
+
+/// Prints what a schedule's world refuses, and the rows after it.
+fn replay<'a, F: Files, O: Write>(
+    alloc: Global,
+    federation: &'a str,
+    inputs: &'a str,
+    schedule: &'a str,
+    until_stuck: Option<u32>,
+    files: &mut F,
+    out: &mut O,
+) -> Result<(), Fault<'a>>
+    ensures ok { OnOk result (PrintsFor (F.contents files.old) (Request.Replay federation.entry inputs.entry schedule.entry until_stuck) (O.contents out.old) (O.contents out.new)) }
+    ensures stands { IfErr result (IsFaultOf (F.contents files.old) (O.contents out.old) (O.contents out.new) (Request.Replay federation.entry inputs.entry schedule.entry until_stuck)) }
+    ensures untouched { IfErr result (λ fault. status_of fault ≢ 3 → out.new ≡ out.old) }
+{
+    let sources = match read_sources(alloc, federation, inputs, files) {
+        Ok(sources) => sources,
+        Err(fault) => return Err(Fault::Source(fault)),
+    };
+    match read_schedule(alloc, schedule, &sources.plan, files) {
+        Ok(script) => print_replay(alloc, &sources, &script, until_stuck, out),
+        Err(fault) => Err(Fault::Source(fault)),
+    }
+}
+
+/// Prints the plan.
+fn check<'a, F: Files, O: Write>(
+    alloc: Global,
+    federation: &'a str,
+    files: &mut F,
+    out: &mut O,
+) -> Result<(), Fault<'a>>
+    ensures ok { OnOk result (PrintsFor (F.contents files.old) (Request.Check federation.entry) (O.contents out.old) (O.contents out.new)) }
+    ensures stands { IfErr result (IsFaultOf (F.contents files.old) (O.contents out.old) (O.contents out.new) (Request.Check federation.entry)) }
+    ensures untouched { IfErr result (λ fault. status_of fault ≢ 3 → out.new ≡ out.old) }
+{
+    match read_federation(alloc, federation, files) {
+        Ok((plan, _programs)) => print_plan(alloc, &plan, out),
+        Err(fault) => Err(Fault::Source(fault)),
+    }
+}

@@ -1,9 +1,0 @@
--- What the program answers.
--- exit statuses, and how faults are told
-pub mod Faults
--- the federation and the recorded inputs in files
-pub mod Loaded
--- what is printed where all went well
-pub mod Printed
--- which fault stands where not
-pub mod Refused

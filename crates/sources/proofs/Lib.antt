@@ -1,0 +1,3 @@
+-- Lemmas.
+-- faults of files whose bytes are known
+pub mod KnownFiles
