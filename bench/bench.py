@@ -153,6 +153,7 @@ CASES = {
 # name: from the files of federation, inputs and schedule to the words, which cases are for it, and what is counted
 MODES = {
     "whole": (lambda fed, recorded, _: ["whole", fed, recorded, ALL_TURNS], list(CASES), "row"),
+    "run": (lambda fed, recorded, _: ["run", fed, recorded, "--turns", ALL_TURNS], ["few", "chain", "diamond", "ring"], "row"),
     "check": (lambda fed, recorded, _: ["check", fed], ["wide", "layers"], "row"),
     "replay": (lambda fed, recorded, rounds: ["replay", fed, recorded, rounds], ["few", "chain", "diamond", "ring"], "step"),
 }

@@ -72,6 +72,26 @@ fn replays(rt: HostRuntime) {
     }
 }
 
+/// Words of a run of `f` and `-`, and the turns of each runner.
+const RUNS: &[(&[&str], u32)] = &[
+    (&["run", "f", "-"], 1_000_000),
+    (&["run", "f", "-", "--turns", "0"], 0),
+    (&["run", "--turns=007", "f", "-"], 7),
+    (&["run", "f", "--turns", "4294967295", "-"], 4_294_967_295),
+];
+
+#[test]
+fn runs(rt: HostRuntime) {
+    for (words, turns) in RUNS {
+        let run = Request::Run {
+            federation: "f",
+            inputs: "-",
+            turns: *turns,
+        };
+        assert!(rt; ask(rt.alloc(), words, Ok(run)), "{words:?}");
+    }
+}
+
 /// Words that are no command.
 const REFUSED: &[&[&str]] = &[
     &[],
@@ -109,6 +129,13 @@ const REFUSED: &[&[&str]] = &[
     &["replay", "f", "-", "s", "--until", "1"],
     &["replay", "f", "-", "s", "--turns", "1"],
     &["--until-stuck", "1", "replay", "f", "-", "s"],
+    &["run"],
+    &["run", "f"],
+    &["run", "f", "-", "--turns"],
+    &["run", "f", "-", "--turns", "x"],
+    &["run", "f", "-", "--turns", "4294967296"],
+    &["run", "f", "-", "--turns", "1", "--turns", "1"],
+    &["run", "f", "-", "--until-stuck", "1"],
     &["replay", "--help"],
     &["replay", "-h"],
     &["-V"],

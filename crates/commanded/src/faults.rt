@@ -1,6 +1,7 @@
 //! What is told of files that are refused.
-use crate::federations::{BOTH_WAYS, CHAIN, CHAIN_INPUT, CONNECTION, RECEIVER, SENDER};
+use crate::federations::{BOTH_WAYS, CONNECTION};
 use crate::outcome::tells;
+use samples::{CHAIN, CHAIN_INPUT, COUNTER};
 
 const WHOLE: &[&str] = &["whole", "fed.toml", "-", "4"];
 
@@ -121,7 +122,7 @@ const CHANGED_COUNTERS: &[(&str, &str)] = &[
 #[test]
 fn refuses_changed_counters(rt: HostRuntime) {
     for (more, line) in CHANGED_COUNTERS {
-        let parts = [SENDER, RECEIVER, CONNECTION, *more];
+        let parts = [COUNTER, *more];
         assert!(rt; tells(&rt, WHOLE, &parts, &[], 1, line), "{more}");
     }
 }

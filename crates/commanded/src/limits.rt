@@ -1,10 +1,14 @@
 //! Files of the longest length and one byte more, as many federates and reactions as there may be and one more, and want of
 //! memory for a file.
-use crate::federations::{CONNECTION, RECEIVER, SENDER};
 use crate::outcome::{given, joined, outcome_of};
 use crate::two_files::NoMemory;
 use commands::command;
+use samples::COUNTER;
 use std::alloc::Global;
+use std::net::{Net, TcpListener, TcpStream};
+use std::sync::Wait;
+use std::thread::Threads;
+use std::time::Clock;
 
 /// A text so many times.
 fn repeated(alloc: Global, text: &str, count: usize) -> Option<String> {
@@ -16,7 +20,14 @@ fn repeated(alloc: Global, text: &str, count: usize) -> Option<String> {
 }
 
 /// What `whole` answers on a federation file and input file of parts, where no row is asked for.
-fn status(rt: &HostRuntime, federation: &[&str], inputs: &[&str]) -> Option<(u8, bool)> {
+fn status<
+    R: AllocGlobal
+        + Threads
+        + Wait
+        + Clock
+        + Net<Stream = TcpStream, Listener = TcpListener>
+        + Sync,
+>(rt: &R, federation: &[&str], inputs: &[&str]) -> Option<(u8, bool)> {
     let words = ["whole", "fed.toml", "in.toml", "0"];
     let outcome = outcome_of(rt, &words, federation, inputs)?;
     let is_over = outcome.err.as_slice() == b"fedrun: 36 OverLimit\n".as_slice();
@@ -24,9 +35,16 @@ fn status(rt: &HostRuntime, federation: &[&str], inputs: &[&str]) -> Option<(u8,
 }
 
 /// How a federation file with so many bytes is answered.
-fn federation_of(rt: &HostRuntime, length: usize) -> Option<(u8, bool)> {
+fn federation_of<
+    R: AllocGlobal
+        + Threads
+        + Wait
+        + Clock
+        + Net<Stream = TcpStream, Listener = TcpListener>
+        + Sync,
+>(rt: &R, length: usize) -> Option<(u8, bool)> {
     let alloc = rt.alloc();
-    let counter = joined(alloc, &[SENDER, RECEIVER, CONNECTION])?;
+    let counter = joined(alloc, &[COUNTER])?;
     let lines = repeated(alloc, "\n", length.checked_sub(counter.len())?)?;
     status(rt, &[counter.as_str(), lines.as_str()], &[])
 }
@@ -38,9 +56,16 @@ fn takes_a_federation_of_a_mebibyte(rt: HostRuntime) {
 }
 
 /// How an input file of so many bytes is answered.
-fn inputs_of(rt: &HostRuntime, length: usize) -> Option<(u8, bool)> {
+fn inputs_of<
+    R: AllocGlobal
+        + Threads
+        + Wait
+        + Clock
+        + Net<Stream = TcpStream, Listener = TcpListener>
+        + Sync,
+>(rt: &R, length: usize) -> Option<(u8, bool)> {
     let lines = repeated(rt.alloc(), "\n", length)?;
-    status(rt, &[SENDER, RECEIVER, CONNECTION], &[lines.as_str()])
+    status(rt, &[COUNTER], &[lines.as_str()])
 }
 
 #[test]
@@ -53,7 +78,14 @@ fn takes_inputs_of_eight_mebibytes(rt: HostRuntime) {
 const ONE: &str = "stop = \"0\"\n[[federate]]\nname = \"a\"\ninputs = [\"x\"]\n";
 
 /// How a federate with so many reactions is answered.
-fn reactions_of(rt: &HostRuntime, count: usize) -> Option<(u8, bool)> {
+fn reactions_of<
+    R: AllocGlobal
+        + Threads
+        + Wait
+        + Clock
+        + Net<Stream = TcpStream, Listener = TcpListener>
+        + Sync,
+>(rt: &R, count: usize) -> Option<(u8, bool)> {
     let reactions = repeated(
         rt.alloc(),
         "[[federate.reaction]]\ntriggers = [\"x\"]\n",
@@ -69,7 +101,14 @@ fn takes_so_many_reactions(rt: HostRuntime) {
 }
 
 /// What is told where there is no memory for a file.
-fn told_of_no_memory(rt: &HostRuntime) -> Option<(u8, bool)> {
+fn told_of_no_memory<
+    R: AllocGlobal
+        + Threads
+        + Wait
+        + Clock
+        + Net<Stream = TcpStream, Listener = TcpListener>
+        + Sync,
+>(rt: &R) -> Option<(u8, bool)> {
     let alloc = rt.alloc();
     let words = given(alloc, &["whole", "fed.toml", "in.toml", "0"])?;
     let mut out = Vec::new(alloc);

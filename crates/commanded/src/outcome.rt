@@ -2,6 +2,10 @@
 use crate::two_files::TwoFiles;
 use commands::command;
 use std::alloc::Global;
+use std::net::{Net, TcpListener, TcpStream};
+use std::sync::Wait;
+use std::thread::Threads;
+use std::time::Clock;
 
 /// What a command answered and wrote.
 #[derive(Drop)]
@@ -38,12 +42,14 @@ pub fn joined(alloc: Global, parts: &[&str]) -> Option<String> {
 }
 
 /// What the words give over two files, each of parts.
-pub fn outcome_of(
-    rt: &HostRuntime,
-    words: &[&str],
-    federation: &[&str],
-    inputs: &[&str],
-) -> Option<Outcome> {
+pub fn outcome_of<
+    R: AllocGlobal
+        + Threads
+        + Wait
+        + Clock
+        + Net<Stream = TcpStream, Listener = TcpListener>
+        + Sync,
+>(rt: &R, words: &[&str], federation: &[&str], inputs: &[&str]) -> Option<Outcome> {
     let alloc = rt.alloc();
     let words = given(alloc, words)?;
     let federation = joined(alloc, federation)?;
@@ -56,13 +62,14 @@ pub fn outcome_of(
 }
 
 /// Whether the words print this, and nothing else.
-pub fn prints(
-    rt: &HostRuntime,
-    words: &[&str],
-    federation: &[&str],
-    inputs: &[&str],
-    text: &str,
-) -> bool {
+pub fn prints<
+    R: AllocGlobal
+        + Threads
+        + Wait
+        + Clock
+        + Net<Stream = TcpStream, Listener = TcpListener>
+        + Sync,
+>(rt: &R, words: &[&str], federation: &[&str], inputs: &[&str], text: &str) -> bool {
     match outcome_of(rt, words, federation, inputs) {
         Some(outcome) => outcome.is(0, text, ""),
         None => false,
@@ -70,14 +77,14 @@ pub fn prints(
 }
 
 /// Whether the words print nothing, answer this status and tell this line.
-pub fn tells(
-    rt: &HostRuntime,
-    words: &[&str],
-    federation: &[&str],
-    inputs: &[&str],
-    status: u8,
-    line: &str,
-) -> bool {
+pub fn tells<
+    R: AllocGlobal
+        + Threads
+        + Wait
+        + Clock
+        + Net<Stream = TcpStream, Listener = TcpListener>
+        + Sync,
+>(rt: &R, words: &[&str], federation: &[&str], inputs: &[&str], status: u8, line: &str) -> bool {
     match outcome_of(rt, words, federation, inputs) {
         Some(outcome) => outcome.is(status, "", line),
         None => false,

@@ -1,15 +1,26 @@
 //! Replays: what is printed, what is told of schedules, and that nothing is printed where one is refused.
-use crate::federations::{CONNECTION, RECEIVER, SENDER};
 use crate::outcome::{Outcome, given, joined};
 use crate::two_files::TwoFiles;
 use commands::command;
+use samples::COUNTER;
 use std::alloc::Global;
+use std::net::{Net, TcpListener, TcpStream};
+use std::sync::Wait;
+use std::thread::Threads;
+use std::time::Clock;
 
 /// A replay of a schedule, over the counter.
-fn outcome(rt: &HostRuntime, words: &[&str], schedule: &str) -> Option<Outcome> {
+fn outcome<
+    R: AllocGlobal
+        + Threads
+        + Wait
+        + Clock
+        + Net<Stream = TcpStream, Listener = TcpListener>
+        + Sync,
+>(rt: &R, words: &[&str], schedule: &str) -> Option<Outcome> {
     let alloc = rt.alloc();
     let words = given(alloc, words)?;
-    let federation = joined(alloc, &[SENDER, RECEIVER, CONNECTION])?;
+    let federation = joined(alloc, &[COUNTER])?;
     let mut files = TwoFiles::of_schedule(alloc, federation.as_str(), schedule);
     let mut out = Vec::new(alloc);
     let mut err = Vec::new(alloc);
@@ -18,7 +29,14 @@ fn outcome(rt: &HostRuntime, words: &[&str], schedule: &str) -> Option<Outcome> 
 }
 
 /// Whether a replay answers this status, prints this and tells this.
-fn is_answered(rt: &HostRuntime, words: &[&str], schedule: &str, wanted: (u8, &str, &str)) -> bool {
+fn is_answered<
+    R: AllocGlobal
+        + Threads
+        + Wait
+        + Clock
+        + Net<Stream = TcpStream, Listener = TcpListener>
+        + Sync,
+>(rt: &R, words: &[&str], schedule: &str, wanted: (u8, &str, &str)) -> bool {
     match outcome(rt, words, schedule) {
         Some(outcome) => outcome.is(wanted.0, wanted.1, wanted.2),
         None => false,
@@ -98,7 +116,14 @@ fn refuses_schedules(rt: HostRuntime) {
 }
 
 /// How a schedule of so many bytes is answered.
-fn status_of_length(rt: &HostRuntime, length: usize) -> Option<(u8, bool)> {
+fn status_of_length<
+    R: AllocGlobal
+        + Threads
+        + Wait
+        + Clock
+        + Net<Stream = TcpStream, Listener = TcpListener>
+        + Sync,
+>(rt: &R, length: usize) -> Option<(u8, bool)> {
     let schedule = line_of(rt.alloc(), length)?;
     let outcome = outcome(rt, REPLAY, schedule.as_str())?;
     let is_over = outcome.err.as_slice() == b"fedrun: 36 OverLimit\n".as_slice();

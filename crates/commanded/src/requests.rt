@@ -1,6 +1,6 @@
 //! What the words ask for.
-use crate::federations::{CHAIN, CHAIN_INPUT, CONNECTION, RECEIVER, SENDER};
 use crate::outcome::{prints, tells};
+use samples::{CHAIN, CHAIN_INPUT, COUNTER, SENDER};
 
 /// Words that are no command: a few of those that the crate `acceptance` tries.
 const REFUSED: &[&[&str]] = &[
@@ -38,10 +38,7 @@ const TWO_TURNS: &[&[&str]] = &[
 #[test]
 fn takes_words(rt: HostRuntime) {
     for words in TWO_TURNS {
-        assert!(rt;
-            prints(&rt, words, &[SENDER, RECEIVER, CONNECTION], &[], TWO_ROWS),
-            "{words:?}"
-        );
+        assert!(rt; prints(&rt, words, &[COUNTER], &[], TWO_ROWS), "{words:?}");
     }
 }
 

@@ -1,9 +1,14 @@
 //! Rows and plans, by the words that ask for them.
-use crate::federations::{
-    BOTH_WAYS, CARRIED, CARRIED_INPUTS, CHAIN, CHAIN_INPUT, CONNECTION, LOOP, RECEIVER, REPLACED,
-    SENDER, STARTED_RECEIVER, THREE, TICKS,
-};
+use crate::federations::{BOTH_WAYS, THREE, TICKS};
 use crate::outcome::{joined, prints};
+use samples::{
+    CARRIED, CARRIED_INPUTS, CHAIN, CHAIN_INPUT, COUNTER, DELAYED_COUNTER, LOOP, REPLACED,
+    STARTED_COUNTER,
+};
+use std::net::{Net, TcpListener, TcpStream};
+use std::sync::Wait;
+use std::thread::Threads;
+use std::time::Clock;
 
 const COUNTER_ROWS: &[&str] = &[
     "src (0, 0) [t] -> [y=1]\n",
@@ -24,16 +29,17 @@ const TURNS: &[(&str, usize)] = &[
     ("4294967295", 6),
 ];
 
-fn prints_turns(rt: &HostRuntime, turns: &str, lines: usize) -> Option<bool> {
+fn prints_turns<
+    R: AllocGlobal
+        + Threads
+        + Wait
+        + Clock
+        + Net<Stream = TcpStream, Listener = TcpListener>
+        + Sync,
+>(rt: &R, turns: &str, lines: usize) -> Option<bool> {
     let rows = joined(rt.alloc(), COUNTER_ROWS.get(..lines)?)?;
     let words = ["whole", "fed.toml", "-", turns];
-    Some(prints(
-        rt,
-        &words,
-        &[SENDER, RECEIVER, CONNECTION],
-        &[],
-        rows.as_str(),
-    ))
+    Some(prints(rt, &words, &[COUNTER], &[], rows.as_str()))
 }
 
 #[test]
@@ -54,7 +60,14 @@ const MANY_TURNS: &[(&str, u32)] = &[
     ("4294967295", 700),
 ];
 
-fn prints_ticks(rt: &HostRuntime, turns: &str, ticks: u32) -> Option<bool> {
+fn prints_ticks<
+    R: AllocGlobal
+        + Threads
+        + Wait
+        + Clock
+        + Net<Stream = TcpStream, Listener = TcpListener>
+        + Sync,
+>(rt: &R, turns: &str, ticks: u32) -> Option<bool> {
     let mut rows = String::from_str(rt.alloc(), "a (0, 0) [startup] -> []\n").ok()?;
     for tick in 1..ticks {
         write!(rows, "a ({tick} us, 0) [tick=7] -> []\n").ok()?;
@@ -82,7 +95,7 @@ c (100 ms, 0) [w=9] -> [o=9]
 /// Federations, of parts, their input files, and all their rows.
 const ROWS: &[(&[&str], &str, &str)] = &[
     (
-        &[SENDER, RECEIVER, CONNECTION, "after = \"0\"\n"],
+        &[DELAYED_COUNTER],
         "",
         "src (0, 0) [t] -> [y=1]
 snk (0, 1) [x=1] -> [total=1]
@@ -92,7 +105,7 @@ src (20 ms, 0) [t] -> [y=3]
 ",
     ),
     (
-        &[SENDER, STARTED_RECEIVER, CONNECTION],
+        &[STARTED_COUNTER],
         "",
         "src (0, 0) [t] -> [y=1]
 snk (0, 0) [startup x=1] -> [total=1]

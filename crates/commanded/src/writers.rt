@@ -1,10 +1,14 @@
 //! Writers that refuse.
-use crate::federations::{CONNECTION, RECEIVER, SENDER};
 use crate::outcome::{given, joined};
 use crate::two_files::TwoFiles;
 use commands::command;
+use samples::COUNTER;
 use std::io;
 use std::io::Write;
+use std::net::{Net, TcpListener, TcpStream};
+use std::sync::Wait;
+use std::thread::Threads;
+use std::time::Clock;
 
 /// A writer that takes so many bytes, and then refuses.
 #[derive(Drop)]
@@ -50,10 +54,18 @@ const CHECK: &[&str] = &["check", "fed.toml"];
 const RUN: &[&str] = &["run", "fed.toml", "-"];
 
 /// Whether a command whose rows can't be written tells so.
-fn tells_cannot_write<O: Write>(rt: &HostRuntime, words: &[&str], out: &mut O) -> Option<bool> {
+fn tells_cannot_write<
+    R: AllocGlobal
+        + Threads
+        + Wait
+        + Clock
+        + Net<Stream = TcpStream, Listener = TcpListener>
+        + Sync,
+    O: Write,
+>(rt: &R, words: &[&str], out: &mut O) -> Option<bool> {
     let alloc = rt.alloc();
     let words = given(alloc, words)?;
-    let federation = joined(alloc, &[SENDER, RECEIVER, CONNECTION])?;
+    let federation = joined(alloc, &[COUNTER])?;
     let mut files = TwoFiles::new(alloc, federation.as_str(), "");
     let mut err = Vec::new(alloc);
     let status = command(rt, words.as_slice(), &mut files, out, &mut err);
@@ -71,7 +83,14 @@ fn tells_that_it_cannot_write(rt: HostRuntime) {
 }
 
 /// The status of a refused file, where its line can't be written.
-fn untold(rt: &HostRuntime) -> Option<u8> {
+fn untold<
+    R: AllocGlobal
+        + Threads
+        + Wait
+        + Clock
+        + Net<Stream = TcpStream, Listener = TcpListener>
+        + Sync,
+>(rt: &R) -> Option<u8> {
     let alloc = rt.alloc();
     let words = given(alloc, &["check", "fed.toml"])?;
     let mut files = TwoFiles::new(alloc, "", "");

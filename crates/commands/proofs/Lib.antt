@@ -1,5 +1,5 @@
 -- Lemmas.
--- what is printed of the sources that were read
-pub mod Given
 -- what a replay printed stays printed
 pub mod Replays
+-- what a run printed stays printed
+pub mod Runs

@@ -1,11 +1,13 @@
 -- The program's faults: the exit status that goes with each, and how it is told.
 use Rattle.std.specs.Prelude.{ℕ, List, ◌++◌, codes}
+use Rattle.std.specs.Fmt.{decimal}
 use Rattle.sources.specs.Faults as sources
 use Rattle.program.specs.Fault as program
 use Rattle.stage.specs.Numbers.{told_out_of_memory}
 use Rattle.printed.specs.Fault as printed
+use Rattle.audited.specs.Doubts.{printed_doubt}
 use Rattle.commands.specs.declared.fault.Fault.{Fault}
-use Rattle.commands.specs.declared.fault.Fault.TheVariants.{Usage, Source, CannotWrite, Turns, World, Print}
+use Rattle.commands.specs.declared.fault.Fault.TheVariants.{Usage, Source, CannotWrite, Turns, World, NotFinished, Unproved, Run, Print}
 
 -- the exit status of a fault: 2 for words that are no command, 1 for what isn't loaded, 3 for what stopped the program after that
 abbrev pub status_of : Fault → ℕ
@@ -20,6 +22,9 @@ printed_fault (Source fault) = sources.printed_fault fault
 printed_fault CannotWrite = codes "cannot write"
 printed_fault (Turns memory) = program.printed_memory
 printed_fault (World memory) = told_out_of_memory
+printed_fault NotFinished = codes "not finished"
+printed_fault (Unproved doubt) = printed_doubt doubt
+printed_fault (Run memory) = decimal 91 ++ codes " Memory"
 printed_fault (Print memory) = printed.printed_memory
 
 -- the line on standard error

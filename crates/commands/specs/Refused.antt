@@ -18,12 +18,15 @@ use Rattle.sources.specs.Refused.{IsFederationFault, IsScheduleFault, IsSourcesF
 use Rattle.replay.specs.declared.fault.ReplayFault.TheVariants as broken
 use Rattle.replay.specs.Replayed.{IsBrokenOff}
 use Rattle.undivided.specs.Printed.{PrintsFirstRows}
+use Rattle.audited.specs.Printed.{IsDoubted}
+use Rattle.audited.specs.declared.doubt.Doubt.{Doubt}
+use Rattle.desk.specs.declared.memory.Memory as run
 use Rattle.words.specs.declared.reading.WordsFault.{WordsFault}
 use Rattle.words.specs.declared.reading.WordsFault.TheVariants as words_fault
 use Rattle.words.specs.declared.request.Request.{Request}
-use Rattle.words.specs.declared.request.Request.TheVariants.{Whole, Check, Replay, Run}
+use Rattle.words.specs.declared.request.Request.TheVariants.{Whole, Check, Replay, Run as RunOf}
 use Rattle.commands.specs.declared.fault.Fault.{Fault}
-use Rattle.commands.specs.declared.fault.Fault.TheVariants.{Usage, Source, CannotWrite, Turns, World, Print}
+use Rattle.commands.specs.declared.fault.Fault.TheVariants.{Usage, Source, CannotWrite, Turns, World, NotFinished, Unproved, Run, Print}
 use Rattle.commands.specs.Faults.{status_of, line_of}
 
 -- how it is told why words give no request
@@ -39,6 +42,12 @@ IsWordsFault fault = (why : WordsFault) × (fault ≡ told_of_words why)
 abbrev pub IsSourceFault : (SourceFault → Type 0) → Fault → Type 0
 IsSourceFault Stands fault = (why : SourceFault) × (fault ≡ Source why) × Stands why
 
+-- a run isn't finished, reports of it can't be believed, or there was no memory for it
+abbrev pub IsUnprintedRun : Sources → Fault → Type 0
+IsUnprintedRun s fault =
+    (fault ≡ NotFinished)
+    ⊎ (((doubt : Doubt) × (fault ≡ Unproved doubt) × IsDoubted s.plan s.programs s.inputs doubt) ⊎ ((memory : run.Memory) × (fault ≡ Run memory)))
+
 -- why a replay breaks off, once all was loaded: it can't be written, or there was no memory for a step; then what was refused of those
 -- before it is written
 abbrev pub IsReplayFault : Sources → Option (List ℕ) → Option (List ℕ) → Fault → Type 0
@@ -50,6 +59,11 @@ IsReplayFault s before after fault =
 abbrev pub IsWholeFault : Sources → ℕ → Option (List ℕ) → Option (List ℕ) → Fault → Type 0
 IsWholeFault s most before after fault =
     ((memory : turns.Memory) × (fault ≡ Turns memory) × PrintsFirstRows s.plan s.programs s.inputs most before after) ⊎ (fault ≡ CannotWrite)
+
+-- why a run isn't printed, once all was loaded: it can't be written; or it isn't finished, an audit doesn't believe it, or there was no
+-- memory for it, and then nothing is written
+abbrev pub IsRunFault : Sources → Option (List ℕ) → Option (List ℕ) → Fault → Type 0
+IsRunFault s before after fault = (fault ≡ CannotWrite) ⊎ (IsUnprintedRun s fault × (after ≡ before))
 
 -- why the plan isn't printed, once it was loaded: it can't be written, or there was no memory for its text; then nothing is written
 abbrev pub IsPlanFault : Option (List ℕ) → Option (List ℕ) → Fault → Type 0
@@ -73,7 +87,9 @@ IsFaultOf contents before after (Replay federation inputs schedule until_stuck) 
     IsSourceFault (IsSourcesFault federation inputs contents) fault
     ⊎ HoldsOfSources (contents federation.now) (input_file contents inputs.now)
     (λ s. IsSourceFault (IsScheduleFault schedule contents) fault ⊎ IsReplayFault s before after fault)
-IsFaultOf contents before after (Run federation inputs turns) fault = ⊥
+IsFaultOf contents before after (RunOf federation inputs turns) fault =
+    IsSourceFault (IsSourcesFault federation inputs contents) fault
+    ⊎ HoldsOfSources (contents federation.now) (input_file contents inputs.now) (λ s. IsRunFault s before after fault)
 
 -- the fault is one of words, or stands against some request
 abbrev pub Stands : Contents → Option (List ℕ) → Option (List ℕ) → Fault → Type 0

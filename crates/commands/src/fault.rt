@@ -1,5 +1,6 @@
 ghost use Rattle.std.specs.Prelude.{◌≡◌};
 
+use audited::Doubt;
 use loadfed::LoadFault;
 use sources::SourceFault;
 use std::fmt;
@@ -20,6 +21,13 @@ pub enum Fault<'a> {
     Turns(reactor::Memory),
     /// No memory for a step of a replay. What was refused before it is printed. The same command may be given again, with fewer steps.
     World(world::Memory),
+    /// The coordinator of a run isn't finished: a runner had made its turns before, or there was no listener, or a thread couldn't
+    /// be started. Nothing was printed. The same command may be given again, with more turns.
+    NotFinished,
+    /// The audit doesn't believe what a run's nodes reported, and the inner doubt says why. Nothing was printed.
+    Unproved(Doubt),
+    /// No memory for a run's nodes, workers or reports. Nothing was printed. The same command may be given again.
+    Run(desk::Memory),
     /// No memory for the text of rows or of a plan. The same command may be given again.
     Print(printed::Memory),
 }
@@ -45,7 +53,13 @@ impl Fault<'_> {
         match self {
             Fault::Usage => 2,
             Fault::Source(_) => 1,
-            Fault::CannotWrite | Fault::Turns(_) | Fault::World(_) | Fault::Print(_) => 3,
+            Fault::CannotWrite
+            | Fault::Turns(_)
+            | Fault::World(_)
+            | Fault::NotFinished
+            | Fault::Unproved(_)
+            | Fault::Run(_)
+            | Fault::Print(_) => 3,
         }
     }
 }
@@ -70,6 +84,9 @@ impl fmt::Display for Fault<'_> {
             Fault::CannotWrite => write!(f, "cannot write"),
             Fault::Turns(memory) => write!(f, "{memory}"),
             Fault::World(memory) => write!(f, "{memory}"),
+            Fault::NotFinished => write!(f, "not finished"),
+            Fault::Unproved(doubt) => write!(f, "{doubt}"),
+            Fault::Run(memory) => write!(f, "{} Memory", memory.number()),
             Fault::Print(memory) => write!(f, "{memory}"),
         }
     }

@@ -6,10 +6,12 @@ ghost use Rattle.program.specs.Programs.{AreProgramsOf};
 ghost use Rattle.printed.specs.PlanText.{printed_plan};
 ghost use Rattle.undivided.specs.Printed.{PrintsRows};
 ghost use Rattle.replay.specs.Replayed.{IsReplayed};
+ghost use Rattle.audited.specs.Printed.{PrintsAudited};
 ghost use Rattle.commands.specs.Faults.{status_of};
-ghost use Rattle.commands.specs.Refused.{IsWholeFault, IsReplayFault, IsPlanFault};
+ghost use Rattle.commands.specs.Refused.{IsWholeFault, IsReplayFault, IsRunFault, IsPlanFault};
 
 use crate::fault::Fault;
+use audited::{AuditedFault, print_audited_run};
 use plan::Plan;
 use printed::plan_text;
 use replay::{ReplayFault, replay};
@@ -17,6 +19,10 @@ use script::Script;
 use sources::Sources;
 use std::alloc::Global;
 use std::io::Write;
+use std::net::{Net, TcpListener, TcpStream};
+use std::sync::Wait;
+use std::thread::Threads;
+use std::time::Clock;
 use undivided::{TurnsFault, print_turns};
 
 /// Prints the rows of the undivided program after at most so many turns.
@@ -32,12 +38,14 @@ pub(crate) fn print_whole<O: Write>(
     ensures stands { IfErr result (IsWholeFault sources.now turns (O.contents out.old) (O.contents out.new)) }
     ensures late { IfErr result (λ fault. status_of fault ≡ 3) }
 {
-    let Sources {
-        plan,
-        programs,
-        inputs,
-    } = sources;
-    match print_turns(alloc, plan, programs, inputs, turns, out) {
+    match print_turns(
+        alloc,
+        &sources.plan,
+        &sources.programs,
+        &sources.inputs,
+        turns,
+        out,
+    ) {
         Ok(()) => Ok(()),
         Err(TurnsFault::Memory(memory)) => Err(Fault::Turns(memory)),
         Err(TurnsFault::CannotWrite) => Err(Fault::CannotWrite),
@@ -58,18 +66,49 @@ pub(crate) fn print_replay<O: Write>(
     ensures stands { IfErr result (IsReplayFault sources.now (O.contents out.old) (O.contents out.new)) }
     ensures late { IfErr result (λ fault. status_of fault ≡ 3) }
 {
-    let Sources {
-        plan,
-        programs,
-        inputs,
-    } = sources;
-    match replay(alloc, out, plan, programs, inputs, script, until_stuck) {
+    match replay(
+        alloc,
+        out,
+        &sources.plan,
+        &sources.programs,
+        &sources.inputs,
+        script,
+        until_stuck,
+    ) {
         Ok(()) => flush(out),
         Err(ReplayFault::World(memory)) => {
             flush(out)?;
             Err(Fault::World(memory))
         }
         Err(ReplayFault::CannotWrite) => Err(Fault::CannotWrite),
+    }
+}
+
+/// Runs the federation in threads, audits the run, and prints the rows.
+pub(crate) fn print_run<
+    R: Threads + Wait + Clock + Net<Stream = TcpStream, Listener = TcpListener> + Sync,
+    O: Write,
+>(rt: &R, alloc: Global, sources: &Sources, turns: u32, out: &mut O) -> Result<(), Fault<'static>>
+    requires programs { AreProgramsOf sources.now.plan sources.now.programs }
+    requires inputs { AreInputsOf sources.now.plan sources.now.inputs }
+    ensures ok { OnOk result (PrintsAudited sources.now.plan sources.now.programs sources.now.inputs (O.contents out.old) (O.contents out.new)) }
+    ensures stands { IfErr result (IsRunFault sources.now (O.contents out.old) (O.contents out.new)) }
+    ensures late { IfErr result (λ fault. status_of fault ≡ 3) }
+{
+    match print_audited_run(
+        rt,
+        alloc,
+        &sources.plan,
+        &sources.programs,
+        &sources.inputs,
+        turns,
+        out,
+    ) {
+        Ok(()) => flush(out),
+        Err(AuditedFault::NotFinished) => Err(Fault::NotFinished),
+        Err(AuditedFault::Unproved(doubt)) => Err(Fault::Unproved(doubt)),
+        Err(AuditedFault::Memory) => Err(Fault::Run(desk::Memory)),
+        Err(AuditedFault::CannotWrite) => Err(Fault::CannotWrite),
     }
 }
 

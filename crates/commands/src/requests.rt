@@ -5,24 +5,34 @@ ghost use Rattle.commands.specs.Printed.{PrintsFor, PrintsAnswer};
 ghost use Rattle.commands.specs.Refused.{IsWordsFault, IsFaultOf, Stands};
 
 use crate::fault::Fault;
-use crate::printing::{print_plan, print_replay, print_whole};
+use crate::printing::{print_plan, print_replay, print_run, print_whole};
 use files::Files;
 use sources::{read_federation, read_schedule, read_sources};
 use std::alloc::Global;
 use std::io::Write;
+use std::net::{Net, TcpListener, TcpStream};
+use std::sync::Wait;
+use std::thread::Threads;
+use std::time::Clock;
 use words::{Request, read_words};
 
 /// Does what the words ask for.
-pub(crate) fn perform<'a, F: Files, O: Write>(
-    alloc: Global,
-    words: &'a [String],
-    files: &mut F,
-    out: &mut O,
-) -> Result<(), Fault<'a>>
+pub(crate) fn perform<
+    'a,
+    R: AllocGlobal
+        + Threads
+        + Wait
+        + Clock
+        + Net<Stream = TcpStream, Listener = TcpListener>
+        + Sync,
+    F: Files,
+    O: Write,
+>(rt: &R, words: &'a [String], files: &mut F, out: &mut O) -> Result<(), Fault<'a>>
     ensures ok { OnOk result (PrintsAnswer (F.contents files.old) (O.contents out.old) (O.contents out.new)) }
     ensures stands { IfErr result (Stands (F.contents files.old) (O.contents out.old) (O.contents out.new)) }
     ensures untouched { IfErr result (λ fault. status_of fault ≢ 3 → out.new ≡ out.old) }
 {
+    let alloc = rt.alloc();
     match requested(alloc, words)? {
         Request::Whole {
             federation,
@@ -36,7 +46,11 @@ pub(crate) fn perform<'a, F: Files, O: Write>(
             schedule,
             until_stuck,
         } => replay(alloc, federation, inputs, schedule, until_stuck, files, out),
-        Request::Run { .. } => Err(Fault::Usage),
+        Request::Run {
+            federation,
+            inputs,
+            turns,
+        } => run(rt, alloc, federation, inputs, turns, files, out),
     }
 }
 
@@ -65,6 +79,31 @@ fn whole<'a, F: Files, O: Write>(
 {
     match read_sources(alloc, federation, inputs, files) {
         Ok(sources) => print_whole(alloc, &sources, turns, out),
+        Err(fault) => Err(Fault::Source(fault)),
+    }
+}
+
+/// Runs the federation in threads, of which each makes so many turns at most, and prints the rows that the audit proved.
+fn run<
+    'a,
+    R: Threads + Wait + Clock + Net<Stream = TcpStream, Listener = TcpListener> + Sync,
+    F: Files,
+    O: Write,
+>(
+    rt: &R,
+    alloc: Global,
+    federation: &'a str,
+    inputs: &'a str,
+    turns: u32,
+    files: &mut F,
+    out: &mut O,
+) -> Result<(), Fault<'a>>
+    ensures ok { OnOk result (PrintsFor (F.contents files.old) (Request.Run federation.entry inputs.entry turns) (O.contents out.old) (O.contents out.new)) }
+    ensures stands { IfErr result (IsFaultOf (F.contents files.old) (O.contents out.old) (O.contents out.new) (Request.Run federation.entry inputs.entry turns)) }
+    ensures untouched { IfErr result (λ fault. status_of fault ≢ 3 → out.new ≡ out.old) }
+{
+    match read_sources(alloc, federation, inputs, files) {
+        Ok(sources) => print_run(rt, alloc, &sources, turns, out),
         Err(fault) => Err(Fault::Source(fault)),
     }
 }

@@ -3,7 +3,7 @@
 //! All it does is `commands::command`, a function over words, files and writers; `main` hands it the machine's.
 #![tactic(auto)]
 
-use commands::Fault;
+use commands::{Fault, command, refuse};
 use files::MachineFiles;
 use std::io::{BufWriter, ErrorKind, Stdout};
 use std::process::ExitCode;
@@ -14,19 +14,15 @@ use words::WordsFault;
 const OUT_BYTES: usize = 1 << 16;
 
 fn main(rt: HostRuntime) -> ExitCode {
-    ExitCode::from(status(&rt))
-}
-
-/// The exit status of the machine's words, over its files and streams.
-fn status(rt: &HostRuntime) -> u8 {
     let mut err = rt.stderr();
-    match given(rt) {
+    let status = match given(&rt) {
         Ok((words, mut out)) => {
-            let mut files = MachineFiles::new(rt);
-            commands::command(rt, words.as_slice(), &mut files, &mut out, &mut err)
+            let mut files = MachineFiles::new(&rt);
+            command(&rt, words.as_slice(), &mut files, &mut out, &mut err)
         }
-        Err(why) => commands::refuse(&Fault::of_words(why), &mut err).status,
-    }
+        Err(why) => refuse(&Fault::of_words(why), &mut err).status,
+    };
+    ExitCode::from(status)
 }
 
 /// The machine's words, and its output through a buffer.

@@ -44,6 +44,7 @@ fn requested<'a>(matches: &ArgMatches<'a>) -> Option<Request<'a>> {
 /// The subcommands, with their arguments and options.
 fn commands<'a>(alloc: Global) -> Result<Command<'a>, AllocError> {
     let replay = subcommand(alloc, "replay", &["FED", "IN", "SCHEDULE"])?;
+    let run = subcommand(alloc, "run", &["FED", "IN"])?;
     Command::new(alloc, "fedrun")
         .no_binary_name(true)
         .disable_help_flag(true)
@@ -51,7 +52,8 @@ fn commands<'a>(alloc: Global) -> Result<Command<'a>, AllocError> {
         .subcommand_required(true)
         .subcommand(subcommand(alloc, "whole", &["FED", "IN", "TURNS"])?)?
         .subcommand(subcommand(alloc, "check", &["FED"])?)?
-        .subcommand(replay.arg(option(alloc, "until-stuck"))?)
+        .subcommand(replay.arg(option(alloc, "until-stuck"))?)?
+        .subcommand(run.arg(option(alloc, "turns"))?)
 }
 
 /// A subcommand with arguments that have to be there.

@@ -7,19 +7,27 @@ ghost use Rattle.commands.specs.Refused.{TellsFault};
 use crate::fault::Fault;
 use crate::requests::perform;
 use files::Files;
-use std::alloc::Global;
 use std::io::Write;
+use std::net::{Net, TcpListener, TcpStream};
+use std::sync::Wait;
+use std::thread::Threads;
+use std::time::Clock;
 
 /// Does what the words ask for, over these files, and answers the exit status: 0 where it is done, 1 where what it was given
 /// is refused or can't be read, 2 where the words are no command, 3 where it couldn't finish. What it has to say of a
-/// failure is one line to `err`; whether that line can be written changes nothing else.
-pub fn command<R: AllocGlobal, F: Files, O: Write, E: Write>(
-    rt: &R,
-    words: &[String],
-    files: &mut F,
-    out: &mut O,
-    err: &mut E,
-) -> u8
+/// failure is one line to `err`; whether that line can be written changes nothing else. With 0, `run` printed the rows of
+/// reports that the audit proved, and whose coordinator is finished.
+pub fn command<
+    R: AllocGlobal
+        + Threads
+        + Wait
+        + Clock
+        + Net<Stream = TcpStream, Listener = TcpListener>
+        + Sync,
+    F: Files,
+    O: Write,
+    E: Write,
+>(rt: &R, words: &[String], files: &mut F, out: &mut O, err: &mut E) -> u8
     ensures done { result ≡ 0 → PrintsAnswer (F.contents files.old) (O.contents out.old) (O.contents out.new) }
     ensures quiet { result ≡ 0 → err.new ≡ err.old }
     ensures told { result ≢ 0 → (is_told : Bool) × TellsFault (F.contents files.old) result is_told (O.contents out.old) (O.contents out.new) (E.contents err.old) (E.contents err.new) }
@@ -27,7 +35,7 @@ pub fn command<R: AllocGlobal, F: Files, O: Write, E: Write>(
     ensures unused { result ≡ 2 → out.new ≡ out.old }
     ensures statuses { result ≤ 3 }
 {
-    answer(rt.alloc(), words, files, out, err).status
+    answer(rt, words, files, out, err).status
 }
 
 /// What a command answers.
@@ -40,13 +48,17 @@ pub struct Answered {
 }
 
 /// As `command`; the answer says too whether the line of its fault could be written.
-pub fn answer<F: Files, O: Write, E: Write>(
-    alloc: Global,
-    words: &[String],
-    files: &mut F,
-    out: &mut O,
-    err: &mut E,
-) -> Answered
+pub fn answer<
+    R: AllocGlobal
+        + Threads
+        + Wait
+        + Clock
+        + Net<Stream = TcpStream, Listener = TcpListener>
+        + Sync,
+    F: Files,
+    O: Write,
+    E: Write,
+>(rt: &R, words: &[String], files: &mut F, out: &mut O, err: &mut E) -> Answered
     ensures done { result.status ≡ 0 → PrintsAnswer (F.contents files.old) (O.contents out.old) (O.contents out.new) }
     ensures quiet { result.status ≡ 0 → err.new ≡ err.old }
     ensures told { result.status ≢ 0 → TellsFault (F.contents files.old) result.status result.is_told (O.contents out.old) (O.contents out.new) (E.contents err.old) (E.contents err.new) }
@@ -54,7 +66,7 @@ pub fn answer<F: Files, O: Write, E: Write>(
     ensures unused { result.status ≡ 2 → out.new ≡ out.old }
     ensures statuses { result.status ≤ 3 }
 {
-    match perform(alloc, words, files, out) {
+    match perform(rt, words, files, out) {
         Ok(()) => Answered {
             status: 0,
             is_told: false,

@@ -1,0 +1,23 @@
+-- What a run printed stays printed where a writer keeps its bytes.
+use Rattle.std.proofs.Common.{ℕ, List, Option}
+use Rattle.std.specs.Io.KnownBytes.{Keeps}
+use Rattle.std.proofs.KnownBytes.{Appends-kept}
+use Rattle.plan.specs.declared.draft.Draft.{Draft}
+use Rattle.plan.specs.declared.input.Input.{Input}
+use Rattle.reactor.specs.Behaviour.{Behaviour}
+use Rattle.audited.specs.Printed.{PrintsAudited}
+
+pub audited_kept :
+    (d : Draft) (programs : List Behaviour) (inputs : List Input) (before mid after : Option (List ℕ)) →
+    PrintsAudited d programs inputs before mid → Keeps mid after → PrintsAudited d programs inputs before after
+audited_kept d programs inputs before mid after audited kept =
+    record {
+      reports = audited.reports;
+      coordinator = audited.coordinator;
+      steps = audited.steps;
+      proved = audited.proved;
+      finished = audited.finished;
+      beginning = audited.beginning;
+      whole_part = audited.whole_part;
+      printed = Appends-kept before mid after _ audited.printed kept;
+    }
