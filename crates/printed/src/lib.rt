@@ -6,9 +6,11 @@
 
 pub mod memory;
 pub mod plans;
+pub mod put;
 pub mod rows;
 mod tags;
 
 pub use memory::Memory;
 pub use plans::plan_text;
+pub use put::CannotWrite;
 pub use rows::write_rows;

@@ -6,14 +6,14 @@ ghost use Rattle.plan.specs.Numbering.{timer_names};
 ghost use Rattle.program.specs.Resolution.{slot_names};
 ghost use Rattle.printed.specs.RowText.{name_at, printed_input, printed_output, printed_inputs, printed_outputs, spaced_tag, printed_turn, printed_line, printed_rows};
 
+use crate::put::{CannotWrite, put};
 use crate::tags::{write_tag, write_value};
 use plan::{Federate, Plan, Slots, Text, Timer};
 use reactor::{Entry, RowView, Rows};
-use std::io;
 use std::io::Write;
 
 /// Writes the rows of a plan's federates, one a line. Where the writer refuses, some of them may have been written.
-pub fn write_rows<W: Write>(out: &mut W, plan: &Plan, rows: &Rows) -> io::Result<()>
+pub fn write_rows<W: Write>(out: &mut W, plan: &Plan, rows: &Rows) -> Result<(), CannotWrite>
     ensures { OnOk result (Appends (W.contents out.old) (W.contents out.new) (printed_rows plan.now.federates rows.now)) }
 {
     for place in 0..rows.len() {
@@ -23,27 +23,39 @@ pub fn write_rows<W: Write>(out: &mut W, plan: &Plan, rows: &Rows) -> io::Result
 }
 
 /// Writes a row and the end of its line.
-fn write_line<W: Write>(out: &mut W, federates: &[Federate], row: &RowView<'_>) -> io::Result<()>
+fn write_line<W: Write>(
+    out: &mut W,
+    federates: &[Federate],
+    row: &RowView<'_>,
+) -> Result<(), CannotWrite>
     ensures { OnOk result (Appends (W.contents out.old) (W.contents out.new) (printed_line federates.now row.now)) }
 {
     match federates.get(row.federate()) {
         Some(federate) => write_turn(out, federate, row),
-        None => out.write_all(b"\n"),
+        None => put(out, b"\n"),
     }
 }
 
 /// Writes a row of this federate and the end of its line.
-fn write_turn<W: Write>(out: &mut W, federate: &Federate, row: &RowView<'_>) -> io::Result<()>
+fn write_turn<W: Write>(
+    out: &mut W,
+    federate: &Federate,
+    row: &RowView<'_>,
+) -> Result<(), CannotWrite>
     ensures { OnOk result (Appends (W.contents out.old) (W.contents out.new) (printed_turn federate.now row.now ++ codes "\n")) }
 {
     write_parts(out, federate, row)
 }
 
 /// Writes the parts of a row one after the other, each with what parts it from the next.
-fn write_parts<W: Write>(out: &mut W, federate: &Federate, row: &RowView<'_>) -> io::Result<()>
+fn write_parts<W: Write>(
+    out: &mut W,
+    federate: &Federate,
+    row: &RowView<'_>,
+) -> Result<(), CannotWrite>
     ensures { OnOk result (Appends (W.contents out.old) (W.contents out.new) (federate.now.name ++ (spaced_tag row.now.tag ++ (printed_inputs federate.now.slots row.now.inputs ++ printed_outputs federate.now.slots row.now.outputs)))) }
 {
-    out.write_all(federate.name.as_str().as_bytes())?;
+    put(out, federate.name.as_str().as_bytes())?;
     write_tag(out, row.tag())?;
     write_inputs(out, &federate.slots, row.inputs())?;
     write_outputs(out, &federate.slots, row.outputs())
@@ -51,69 +63,69 @@ fn write_parts<W: Write>(out: &mut W, federate: &Federate, row: &RowView<'_>) ->
 
 /// Writes the slots that were present, in brackets, and an arrow.
 #[tactic(auto, unfolding(crate::specs::RowText::printed_inputs))]
-fn write_inputs<W: Write>(out: &mut W, slots: &Slots, entries: &[Entry]) -> io::Result<()>
+fn write_inputs<W: Write>(out: &mut W, slots: &Slots, entries: &[Entry]) -> Result<(), CannotWrite>
     ensures { OnOk result (Appends (W.contents out.old) (W.contents out.new) (printed_inputs slots.now entries.now)) }
 {
     let Some((first, rest)) = entries.split_first() else {
-        return out.write_all(b"[] -> ");
+        return put(out, b"[] -> ");
     };
-    out.write_all(b"[")?;
+    put(out, b"[")?;
     write_input(out, slots, *first)?;
     for entry in rest {
         write_next_input(out, slots, *entry)?;
     }
-    out.write_all(b"] -> ")
+    put(out, b"] -> ")
 }
 
 /// Writes the outputs that were set, in brackets, and the end of the line.
 #[tactic(auto, unfolding(crate::specs::RowText::printed_outputs))]
-fn write_outputs<W: Write>(out: &mut W, slots: &Slots, entries: &[Entry]) -> io::Result<()>
+fn write_outputs<W: Write>(out: &mut W, slots: &Slots, entries: &[Entry]) -> Result<(), CannotWrite>
     ensures { OnOk result (Appends (W.contents out.old) (W.contents out.new) (printed_outputs slots.now entries.now)) }
 {
     let Some((first, rest)) = entries.split_first() else {
-        return out.write_all(b"[]\n");
+        return put(out, b"[]\n");
     };
-    out.write_all(b"[")?;
+    put(out, b"[")?;
     write_output(out, slots, *first)?;
     for entry in rest {
         write_next_output(out, slots, *entry)?;
     }
-    out.write_all(b"]\n")
+    put(out, b"]\n")
 }
 
 /// Writes a slot that was present.
 #[tactic(auto, unfolding(crate::specs::RowText::printed_input))]
-fn write_input<W: Write>(out: &mut W, slots: &Slots, entry: Entry) -> io::Result<()>
+fn write_input<W: Write>(out: &mut W, slots: &Slots, entry: Entry) -> Result<(), CannotWrite>
     ensures { OnOk result (Appends (W.contents out.old) (W.contents out.new) (printed_input slots.now entry)) }
 {
     let slot = entry.place();
     let name = slot_name(slots, slot);
     if slots.is_bare(slot) {
-        return out.write_all(name.as_bytes());
+        return put(out, name.as_bytes());
     }
     write_valued(out, name, entry.value())
 }
 
 /// Writes a further slot that was present.
-fn write_next_input<W: Write>(out: &mut W, slots: &Slots, entry: Entry) -> io::Result<()>
+fn write_next_input<W: Write>(out: &mut W, slots: &Slots, entry: Entry) -> Result<(), CannotWrite>
     ensures { OnOk result (Appends (W.contents out.old) (W.contents out.new) (codes " " ++ printed_input slots.now entry)) }
 {
-    out.write_all(b" ")?;
+    put(out, b" ")?;
     write_input(out, slots, entry)
 }
 
 /// Writes a name with a value.
-fn write_valued<W: Write>(out: &mut W, name: &str, value: i64) -> io::Result<()>
+fn write_valued<W: Write>(out: &mut W, name: &str, value: i64) -> Result<(), CannotWrite>
     ensures { OnOk result (Appends (W.contents out.old) (W.contents out.new) (name.now ++ (codes "=" ++ signed_decimal value))) }
 {
-    out.write_all(name.as_bytes())?;
-    out.write_all(b"=")?;
+    put(out, name.as_bytes())?;
+    put(out, b"=")?;
     write_value(out, value)
 }
 
 /// Writes an output that was set.
 #[tactic(auto, unfolding(crate::specs::RowText::printed_output))]
-fn write_output<W: Write>(out: &mut W, slots: &Slots, entry: Entry) -> io::Result<()>
+fn write_output<W: Write>(out: &mut W, slots: &Slots, entry: Entry) -> Result<(), CannotWrite>
     ensures { OnOk result (Appends (W.contents out.old) (W.contents out.new) (printed_output slots.now entry)) }
 {
     let name = name_of(slots.outputs.as_slice(), entry.place());
@@ -121,10 +133,10 @@ fn write_output<W: Write>(out: &mut W, slots: &Slots, entry: Entry) -> io::Resul
 }
 
 /// Writes a further output that was set.
-fn write_next_output<W: Write>(out: &mut W, slots: &Slots, entry: Entry) -> io::Result<()>
+fn write_next_output<W: Write>(out: &mut W, slots: &Slots, entry: Entry) -> Result<(), CannotWrite>
     ensures { OnOk result (Appends (W.contents out.old) (W.contents out.new) (codes " " ++ printed_output slots.now entry)) }
 {
-    out.write_all(b" ")?;
+    put(out, b" ")?;
     write_output(out, slots, entry)
 }
 

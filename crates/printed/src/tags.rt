@@ -5,71 +5,71 @@ ghost use Rattle.std.specs.Io.KnownBytes.{Appends};
 ghost use Rattle.tag.specs.Printed.{printed_time};
 ghost use Rattle.printed.specs.RowText.{spaced_tag};
 
+use crate::put::{CannotWrite, put};
 use itoa::Buffer;
-use std::io;
 use std::io::Write;
 use tag::{Tag, Time};
 
 /// Writes a tag between spaces.
 #[tactic(auto, unfolding(crate::specs::RowText::spaced_tag))]
-pub fn write_tag<W: Write>(out: &mut W, tag: Tag) -> io::Result<()>
+pub fn write_tag<W: Write>(out: &mut W, tag: Tag) -> Result<(), CannotWrite>
     ensures { OnOk result (Appends (W.contents out.old) (W.contents out.new) (spaced_tag tag)) }
 {
     let time = tag.time();
     match Time::new(time) {
         Some(_) => {
-            out.write_all(b" (")?;
+            put(out, b" (")?;
             write_time(out, time)?;
             write_microstep(out, tag.microstep())
         }
-        None => out.write_all(b" FOREVER "),
+        None => put(out, b" FOREVER "),
     }
 }
 
 /// Writes a microstep after its time, and the end of the tag.
-fn write_microstep<W: Write>(out: &mut W, microstep: u32) -> io::Result<()>
+fn write_microstep<W: Write>(out: &mut W, microstep: u32) -> Result<(), CannotWrite>
     ensures { OnOk result (Appends (W.contents out.old) (W.contents out.new) (codes ", " ++ (decimal microstep ++ codes ") "))) }
 {
     if microstep == 0 {
-        return out.write_all(b", 0) ");
+        return put(out, b", 0) ");
     }
-    out.write_all(b", ")?;
+    put(out, b", ")?;
     write_count(out, u64::from(microstep))?;
-    out.write_all(b") ")
+    put(out, b") ")
 }
 
 /// Writes a time in the greatest unit that divides it.
-fn write_time<W: Write>(out: &mut W, time: u64) -> io::Result<()>
+fn write_time<W: Write>(out: &mut W, time: u64) -> Result<(), CannotWrite>
     ensures { OnOk result (Appends (W.contents out.old) (W.contents out.new) (printed_time time)) }
 {
     if time == 0 {
-        out.write_all(b"0")
+        put(out, b"0")
     } else if time % 1_000_000_000 == 0 {
         write_count(out, time / 1_000_000_000)?;
-        out.write_all(b" s")
+        put(out, b" s")
     } else if time % 1_000_000 == 0 {
         write_count(out, time / 1_000_000)?;
-        out.write_all(b" ms")
+        put(out, b" ms")
     } else if time % 1_000 == 0 {
         write_count(out, time / 1_000)?;
-        out.write_all(b" us")
+        put(out, b" us")
     } else {
         write_count(out, time)?;
-        out.write_all(b" ns")
+        put(out, b" ns")
     }
 }
 
-fn write_count<W: Write>(out: &mut W, count: u64) -> io::Result<()>
+fn write_count<W: Write>(out: &mut W, count: u64) -> Result<(), CannotWrite>
     ensures { OnOk result (Appends (W.contents out.old) (W.contents out.new) (decimal count)) }
 {
     let mut buffer = Buffer::new();
-    out.write_all(buffer.format(count).as_bytes())
+    put(out, buffer.format(count).as_bytes())
 }
 
 /// Writes a value.
-pub fn write_value<W: Write>(out: &mut W, value: i64) -> io::Result<()>
+pub fn write_value<W: Write>(out: &mut W, value: i64) -> Result<(), CannotWrite>
     ensures { OnOk result (Appends (W.contents out.old) (W.contents out.new) (signed_decimal value)) }
 {
     let mut buffer = Buffer::new();
-    out.write_all(buffer.format(value).as_bytes())
+    put(out, buffer.format(value).as_bytes())
 }

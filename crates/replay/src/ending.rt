@@ -74,7 +74,10 @@ fn write_history<W: Write>(
         return out.write_all(b" forgotten\n");
     }
     match world.rows(federate) {
-        Some(rows) => write_rows(out, plan, rows),
+        Some(rows) => {
+            write_rows(out, plan, rows)?;
+            Ok(())
+        }
         None => Ok(()),
     }
 }

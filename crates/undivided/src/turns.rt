@@ -5,10 +5,9 @@ ghost use Rattle.whole.specs.Progress.{pending_in};
 ghost use Rattle.undivided.specs.Printed.{PrintsRows, PrintsFirstRows, IsPrinted, let_go_after};
 
 use plan::{Inputs, Plan};
-use printed::write_rows;
+use printed::{CannotWrite, write_rows};
 use reactor::Programs;
 use std::alloc::Global;
-use std::io;
 use std::io::Write;
 use whole::Whole;
 
@@ -59,7 +58,7 @@ fn print_in_batches<O: Write>(
     plan: &Plan,
     turns: u32,
     out: &mut O,
-) -> io::Result<Result<(), reactor::Memory>>
+) -> Result<Result<(), reactor::Memory>, CannotWrite>
     requires draft { program.old.draft ≡ plan.now }
     requires none_made { program.old.turns ≡ 0 }
     requires none_gone { program.old.gone ≡ 0 }
@@ -84,7 +83,7 @@ fn print_batch<O: Write>(
     plan: &Plan,
     most: u32,
     out: &mut O,
-) -> io::Result<Result<u32, reactor::Memory>>
+) -> Result<Result<u32, reactor::Memory>, CannotWrite>
     requires { program.old.draft ≡ plan.now }
     ensures printed { OnOk result ((before : Option (List ℕ)) → IsPrinted program.old before (O.contents out.old) → IsPrinted program.new before (O.contents out.new)) }
     ensures made { IfOk result (λ turned. IfOk turned (λ made. (program.new ≡ let_go_after made program.old) × (made ≤ most) × (made < most → pending_in program.new ≡ []))) }

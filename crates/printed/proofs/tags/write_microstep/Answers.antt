@@ -8,4 +8,4 @@ pub returns-then-microstep-eq0 : goal.returns-then-microstep-eq0
 returns-then-microstep-eq0 g c =
     let zero = c.if-microstep-eq0.true in
     let e : c.args.microstep ≡ 0 = omega arith in
-    subst (λ d. OnOk c.write_all.result (Appends (g.W.Write.contents c.args.out.now) (g.W.Write.contents c.write_all.new.self) (44 ∷ 32 ∷ (d ++ 41 ∷ 32 ∷ [])))) (sym (ap decimal e ∙ zero_is)) c.write_all.ensures.bytes
+    subst (λ d. OnOk c.put.result (Appends (g.W.Write.contents c.args.out.now) (g.W.Write.contents c.put.new.out) (44 ∷ 32 ∷ (d ++ 41 ∷ 32 ∷ [])))) (sym (ap decimal e ∙ zero_is)) c.put.ensures
