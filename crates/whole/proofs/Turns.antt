@@ -1,6 +1,6 @@
 -- What an undivided program keeps, at the beginning and over a turn.
-use Rattle.std.proofs.Common.{◌≡◌, ℕ, ◌+◌, ◌<◌, ◌^◌, ℤ, Bool, true, false, not, ◌&&◌, List, [], ◌∷◌, ◌++◌, length, map, set, get_or, slice_get, nat_eq, Option, None, Some, refl, ap, sym, subst, ◌∙◌, append_assoc, append-nil, arith, inl, inr, add-zero}
-use Rattle.std.specs.Prelude.{if◌then◌else◌}
+use Rattle.std.proofs.Common.{◌≡◌, ℕ, ◌+◌, ◌<◌, ◌^◌, ℤ, Bool, true, false, not, ◌&&◌, List, [], ◌∷◌, ◌++◌, length, map, set, get_or, slice_get, nat_eq, Option, None, Some, Result, Ok, Err, refl, ap, sym, subst, ◌∙◌, append_assoc, append-nil, arith, inl, inr, add-zero}
+use Rattle.std.specs.Prelude.{◌≢◌, OnErr, if◌then◌else◌}
 use Rattle.std.specs.List.{AllByRecursion, flat_map}
 use Rattle.std.specs.Option.{option_map}
 use Rattle.std.proofs.lemmas.Bool.{eq-eqb}
@@ -48,6 +48,11 @@ use Rattle.agenda.proofs.Listed.{listed_value}
 use Rattle.whole.proofs.Looks.{all_found, none_some}
 use Rattle.whole.proofs.PutMade.{held_up_to, put_in_time}
 use Rattle.whole.proofs.Putting.{slice_get-set_same, slice_get-set_other}
+
+-- what holds anyway holds on an error
+pub on_err : {A E P : Type 0} (r : Result A E) → P → OnErr r P
+on_err (Ok v) p = tt
+on_err (Err e) p = p
 
 first_of_none : (n : Network) (events : List Event) → first_of_turns n events ≡ None → events ≡ []
 first_of_none n [] is = refl
@@ -126,6 +131,12 @@ module _ (d : Draft) (inputs : List Input) (reactors : List Reactor) (s : Schedu
   -- where nothing is undone nothing is pending
   pub done_is_done : IsDone s → u.pending ≡ []
   done_is_done q = quiet_is_done n kept.lawful turns (λ j g slot h. sym (kept.pending j g slot h) ∙ q j g slot)
+
+  -- where a turn is due something is pending
+  pub due_is_pending : (f : ℕ) (g : LogicalTime) → IsDueFirst s f g → u.pending ≢ []
+  due_is_pending f g due none =
+      let there : f < federate_count d = subst (λ x. f < federate_count x) kept.draft due.there in
+      none_some due.something.1 (sym (ap (λ es. present_at es f g due.something.0) none) ∙ (sym (kept.pending f g due.something.0 there) ∙ due.something.2))
 
   is_next : (f : ℕ) (g : LogicalTime) → IsDueFirst s f g → IsNext n u.pending f g
   is_next f g due =
@@ -236,10 +247,7 @@ module _ (d : Draft) (inputs : List Input) (reactors : List Reactor) (s : Schedu
 
     few_turns : (o : Option Event) → first_of_turns n u.pending ≡ o → turns < 2 ^ 100
     few_turns (Some e) q = turns_are_few n kept.lawful turns e q
-    few_turns None q = absurd (nothing_present u.pending (first_of_none n u.pending q) due.something.0 due.something.1 (sym (kept.pending t.federate t.tag due.something.0 there) ∙ due.something.2))
-      where
-        nothing_present : (es : List Event) → es ≡ [] → (slot : ℕ) (v : ℤ) → present_at es t.federate t.tag slot ≡ Some v → ⊥
-        nothing_present es e slot v h = none_some v (sym (ap (λ l. present_at l t.federate t.tag slot) e) ∙ h)
+    few_turns None q = absurd (due_is_pending t.federate t.tag due (first_of_none n u.pending q))
 
     pub kept_turn : IsAfterTurns d inputs (set reactors t.federate next) after gone (rows ++ row ∷ [])
     kept_turn =

@@ -1,4 +1,4 @@
-ghost use Rattle.std.specs.Prelude.{◌≡◌, ℕ, ◌+◌, ◌<◌, ◌≤◌, [], IfOk, OnErr, MatchBool};
+ghost use Rattle.std.specs.Prelude.{◌≡◌, ◌≢◌, ℕ, ◌+◌, ◌<◌, ◌≤◌, [], IfOk, OnErr, MatchBool};
 ghost use Rattle.plan.specs.External.{AreInputsOf};
 ghost use Rattle.program.specs.Programs.{AreProgramsOf};
 
@@ -71,12 +71,14 @@ impl<'a> Whole<'a> {
         })
     }
 
-    /// Makes so many turns, or fewer where nothing is left, and answers how many. Where memory is refused, the turns before stay made.
+    /// Makes so many turns, or fewer where nothing is left, and answers how many. Where memory is refused, the turns before stay made,
+    /// and something is pending.
     pub fn turns(&mut self, n: u32) -> Result<u32, Memory>
         ensures made { IfOk result (λ made. self.new ≡ later_by made self.old) }
         ensures at_most { IfOk result (λ made. made ≤ n) }
         ensures fewer { IfOk result (λ made. made < n → pending_in self.new ≡ []) }
         ensures err { OnErr result ((made : ℕ) × (made < n) × (self.new ≡ later_by made self.old)) }
+        ensures pending { OnErr result (pending_in self.new ≢ []) }
     {
         for made in 0..n {
             if !self.turn()? {
@@ -102,10 +104,11 @@ impl<'a> Whole<'a> {
         self.rows.clear();
     }
 
-    /// One turn, if anything is pending. Where memory is refused, nothing changes.
+    /// One turn, if anything is pending. Where memory is refused, something is, and nothing changes.
     fn turn(&mut self) -> Result<bool, Memory>
         ensures made { IfOk result (λ more. MatchBool more (self.new ≡ later_by 1 self.old) ((self.new ≡ self.old) × (pending_in self.old ≡ []))) }
         ensures err { OnErr result (self.new ≡ self.old) }
+        ensures pending { OnErr result (pending_in self.old ≢ []) }
     {
         let Some(next) = self.schedule.first() else {
             return Ok(false);

@@ -1,5 +1,6 @@
 -- The first turn is made, and what is kept is kept.
 use Rattle.std.proofs.Common.{◌≡◌, ℕ, ℤ, ◌+◌, ◌<◌, List, [], Option, length, Some, refl, ap, sym, ◌∙◌, arith, subst, slice_set, slice_get}
+use Rattle.std.specs.Prelude.{◌≢◌}
 use Rattle.std.proofs.lemmas.List.{length-append}
 use Rattle.std.proofs.lemmas.Option.{slice_get-get_or}
 use Rattle.network.specs.Event.{listed}
@@ -15,7 +16,7 @@ use Rattle.whole.specs.Made.{TurnMade}
 use Rattle.whole.specs.Progress.{Progress, pending_in, later_by}
 use Rattle.whole.specs.Schedule.{undone_of}
 use Rattle.agenda.proofs.Listed.{listed_value}
-use Rattle.whole.proofs.Turns.{IsTurnMade, done_is_done, undone_within, kept_turn, reactor_count, has_slots, slots-given, same-element, programs_in-set}
+use Rattle.whole.proofs.Turns.{IsTurnMade, done_is_done, due_is_pending, on_err, undone_within, kept_turn, reactor_count, has_slots, slots-given, same-element, programs_in-set}
 use Rattle.whole.proofs.whole.Whole.turn.Goals as goal
 
 pub returns-in_default-clause-made : goal.returns-in_default-clause-made
@@ -25,6 +26,30 @@ returns-in_default-clause-made c =
       subst IsOver c.self.view_is
           (done_is_done c.self.inside.plan.now c.self.inside.inputs.now c.self.inside.reactors.items c.self.inside.schedule c.self.inside.gone c.self.inside.rows c.self.invariant c.in_default.ensures),
     )
+
+pub returns-in_err-at-clause-pending : goal.returns-in_err-at-clause-pending
+returns-in_err-at-clause-pending c =
+    let IsPending : Progress → Type 0 = λ p. pending_in p ≢ [] in
+    on_err c.from_residual.result
+    (subst IsPending c.self.view_is
+    (due_is_pending c.self.inside.plan.now c.self.inside.inputs.now c.self.inside.reactors.items c.self.inside.schedule c.self.inside.gone c.self.inside.rows c.self.invariant
+    c.in-Some.next.federate c.in-Some.next.tag c.in-Some.ensures))
+
+pub returns-in_err-run_in-clause-pending : goal.returns-in_err-run_in-clause-pending
+returns-in_err-run_in-clause-pending c =
+    let IsPending : Progress → Type 0 = λ p. pending_in p ≢ [] in
+    on_err c.from_residual-in_err-run_in.result
+    (subst IsPending c.self.view_is
+    (due_is_pending c.self.inside.plan.now c.self.inside.inputs.now c.self.inside.reactors.items c.self.inside.schedule c.self.inside.gone c.self.inside.rows c.self.invariant
+    c.in-Some.next.federate c.in-Some.next.tag c.in-Some.ensures))
+
+pub returns-in_err-put-clause-pending : goal.returns-in_err-put-clause-pending
+returns-in_err-put-clause-pending c =
+    let IsPending : Progress → Type 0 = λ p. pending_in p ≢ [] in
+    on_err c.from_residual-in_err-put.result
+    (subst IsPending c.self.view_is
+    (due_is_pending c.self.inside.plan.now c.self.inside.inputs.now c.self.inside.reactors.items c.self.inside.schedule c.self.inside.gone c.self.inside.rows c.self.invariant
+    c.in-Some.next.federate c.in-Some.next.tag c.in-Some.ensures))
 
 pub index-reactor-requires : goal.index-reactor-requires
 index-reactor-requires c =
