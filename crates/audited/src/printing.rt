@@ -16,11 +16,10 @@ use desks::{coordinator_desk, federate_desks};
 use federate::Federate;
 use node::{Event, Node};
 use plan::{Inputs, Plan};
-use printed::write_rows;
+use printed::{CannotWrite, write_rows};
 use reactor::Programs;
 use recorder::{Report, audit_run, report_of};
 use std::alloc::Global;
-use std::io;
 use std::io::Write;
 use std::net::{Net, TcpListener, TcpStream};
 use std::sync::Wait;
@@ -117,7 +116,7 @@ fn print_audited<O: Write>(
 }
 
 // Prints the rows that each federate reports, federate by federate.
-fn print_reports<O: Write>(out: &mut O, plan: &Plan, reports: &[Report]) -> io::Result<()>
+fn print_reports<O: Write>(out: &mut O, plan: &Plan, reports: &[Report]) -> Result<(), CannotWrite>
     ensures { OnOk result (Appends (O.contents out.old) (O.contents out.new) (printed_reports plan.now reports.now)) }
 {
     for federate in 0..plan.federate_count() {
@@ -132,7 +131,7 @@ fn print_report<O: Write>(
     plan: &Plan,
     reports: &[Report],
     federate: usize,
-) -> io::Result<()>
+) -> Result<(), CannotWrite>
     ensures { OnOk result (Appends (O.contents out.old) (O.contents out.new) (printed_rows plan.now.federates (reported_rows reports.now federate))) }
 {
     match report_of(reports, federate) {

@@ -179,13 +179,20 @@ fn first_wrong(station: &mut Station<Coordinator>, steps: &[Step]) -> Option<usi
     None
 }
 
-/// The same of a plan's fresh coordinator; nothing is wrong where there was no memory for it.
-fn first_wrong_of_fresh(alloc: Global, plan: &Plan, steps: &[Step]) -> Option<usize> {
-    let mut station = station(alloc, plan)?;
-    first_wrong(&mut station, steps)
+/// The same of the fresh coordinator of a federation of so many federates; None where there was no memory for it.
+fn wrong_of_fresh(
+    alloc: Global,
+    federates: usize,
+    wires: &[Wire],
+    stop: u64,
+    steps: &[Step],
+) -> Option<Option<usize>> {
+    let plan = planned(alloc, federates, wires, stop)?;
+    let mut station = station(alloc, &plan)?;
+    Some(first_wrong(&mut station, steps))
 }
 
-/// The same of a federation of so many federates.
+/// The same of that coordinator, made again where there was no memory for it; where there is none then, no step is right.
 fn first_wrong_of(
     alloc: Global,
     federates: usize,
@@ -193,8 +200,10 @@ fn first_wrong_of(
     stop: u64,
     steps: &[Step],
 ) -> Option<usize> {
-    let plan = planned(alloc, federates, wires, stop)?;
-    first_wrong_of_fresh(alloc, &plan, steps)
+    match wrong_of_fresh(alloc, federates, wires, stop, steps) {
+        Some(wrong) => wrong,
+        None => wrong_of_fresh(alloc, federates, wires, stop, steps).unwrap_or(Some(0)),
+    }
 }
 
 #[test]
