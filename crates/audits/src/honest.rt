@@ -15,7 +15,7 @@ struct Run {
     coordinator: Vec<Event>,
 }
 
-fn run(alloc: Global, federation: &Federation) -> Option<Run> {
+fn honest_run(alloc: Global, federation: &Federation) -> Option<Run> {
     let desks = played(alloc, federation)?;
     let (_, coordinator) = desks.hub.into_parts();
     let reports = reported(alloc, desks.members)?;
@@ -64,7 +64,7 @@ fn altered(alloc: Global, rows: &Rows, place: usize) -> Option<Rows> {
 /// What is told where a federate's row at a place is changed.
 fn told_of_change(alloc: Global, federate: usize, place: usize) -> Option<Result<bool, Unproved>> {
     let federation = loaded(alloc, COUNTER)?;
-    let mut run = run(alloc, &federation)?;
+    let mut run = honest_run(alloc, &federation)?;
     let report = run.reports.get_mut(federate)?;
     report.rows = altered(alloc, &report.rows, place)?;
     Some(audited(alloc, &federation, &run))
@@ -73,7 +73,7 @@ fn told_of_change(alloc: Global, federate: usize, place: usize) -> Option<Result
 /// Whether an honest run is believed, with three rows of each.
 fn is_believed(alloc: Global) -> Option<bool> {
     let federation = loaded(alloc, COUNTER)?;
-    let run = run(alloc, &federation)?;
+    let run = honest_run(alloc, &federation)?;
     Some(counts(&run) == Some((3, 3)) && audited(alloc, &federation, &run) == Ok(true))
 }
 
