@@ -127,7 +127,7 @@ fn are_put(alloc: Global, agenda: &mut Agenda) -> Option<bool> {
         if !are_put_at_once(alloc, agenda, *count, value, *is_back)? {
             return Some(false);
         }
-        value = 3 - value;
+        value = if value == 1 { 2 } else { 1 };
     }
     Some(true)
 }
@@ -168,20 +168,17 @@ const ROWS: usize = 31;
 
 /// What is present of counts that come so many us later.
 fn late(us: usize, delay: usize) -> Option<i64> {
-    if us < delay {
-        None
-    } else {
-        Some((us - delay) as i64 + 1)
-    }
+    i64::try_from(us.checked_sub(delay)?).ok()?.checked_add(1)
 }
 
 /// Whether this is its row at a time in us.
 fn is_row(row: &RowView<'_>, us: usize) -> bool {
-    row.tag().time() == us as u64 * 1000
+    row.tag().time() == (us as u64).wrapping_mul(1000)
         && value_at(row.inputs(), 1) == late(us, 20)
         && value_at(row.inputs(), 2) == Some(0)
         && value_at(row.inputs(), 3) == late(us, 15)
-        && row.outputs() == [Entry::new(0, us as i64 + 1)].as_slice()
+        && row.outputs().len() == 1
+        && value_at(row.outputs(), 0) == late(us, 0)
 }
 
 /// Whether these are the first of its rows, so many.
