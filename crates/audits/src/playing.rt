@@ -40,13 +40,14 @@ impl<'a> Desks<'a> {
 
     /// Hands an event in; the frames of the answer are to be handed in next.
     fn hand_in(&mut self, letter: Letter, next: &mut Vec<Letter>) -> Option<()> {
+        let sender = letter.node;
         let reply = self.handle(letter)?;
         let frames = match reply {
             Reply::Done(frames) | Reply::Refused(_, frames) => frames,
             Reply::Nothing => return Some(()),
         };
         for outgoing in frames.iter() {
-            next.push(addressed(letter.node, *outgoing)).ok()?;
+            next.push(addressed(sender, *outgoing)).ok()?;
         }
         Some(())
     }
