@@ -1,15 +1,11 @@
-//! Tests of audits: what an honest run, a changed row, a frame that was never sent, and reports too few or too many are told as,
-//! and that a run over TCP prints its rows. No program uses this crate.
+//! Tests of audits: what a frame that was never sent, and reports too few or too many are told as, and that a run over TCP prints
+//! its rows. No program uses this crate.
 #![tactic(auto)]
 
 #[cfg(test)]
 mod counted;
 #[cfg(test)]
 mod federations;
-#[cfg(test)]
-mod honest;
-#[cfg(test)]
-mod playing;
 #[cfg(test)]
 mod rows_printed;
 #[cfg(test)]
