@@ -22,6 +22,6 @@ pub mod slip;
 pub use desk::Desk;
 pub use memory::Memory;
 pub use share::Share;
-pub use shared::{Shared, gather};
+pub use shared::{Locked, Shared, gather};
 pub use shares_disagree::SharesDisagree;
 pub use slip::Slip;

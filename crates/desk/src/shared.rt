@@ -9,7 +9,7 @@ use crate::share::Share;
 use crate::shares_disagree::SharesDisagree;
 use crate::slip::Slip;
 use node::{Event, Node, Reply};
-use std::sync::{Mutex, Wait};
+use std::sync::{Mutex, MutexGuard, Wait};
 
 /// A desk under a lock, for the workers of one node. Whenever the lock is free, the station behind it is the replay of the
 /// journal beside it.
@@ -35,13 +35,53 @@ impl<N: Node> Shared<N> {
         ensures slip { OnOk result ((place : ℕ) × (share.new ≡ share.old ++ record { place = place; event = event } ∷ [])) }
         ensures as_before { OnErr result (share.new ≡ share.old) }
     {
-        share.slips.reserve(1)?;
-        enter(&mut self.desk.lock(rt), &mut share.slips, &event)
+        let mut locked = self.lock(rt);
+        let reply = locked.handle(share, event);
+        locked.release();
+        reply
+    }
+
+    /// Waits for the lock, and holds it, so that what the replies say can be handed on in the order of the station's steps.
+    pub fn lock<R: Wait>(&self, rt: &R) -> Locked<'_, N> {
+        Locked {
+            desk: self.desk.lock(rt),
+        }
     }
 
     /// Waits for the lock, and asks the node whether nothing is left to do, as far as it knows.
     pub fn finished<R: Wait>(&self, rt: &R) -> bool {
-        self.desk.lock(rt).station().node().finished()
+        let locked = self.lock(rt);
+        let is_finished = locked.finished();
+        locked.release();
+        is_finished
+    }
+}
+
+/// A desk whose lock is held, until it is released.
+pub struct Locked<'a, N: Node> {
+    desk: MutexGuard<'a, Desk<N>>,
+}
+
+impl<'a, N: Node> Locked<'a, N> {
+    /// Handles the event. The share gains the event's slip. Without memory neither share nor desk has changed, and the same
+    /// event may come again.
+    pub fn handle(&mut self, share: &mut Share, event: Event) -> Result<Reply, Memory>
+        ensures slip { OnOk result ((place : ℕ) × (share.new ≡ share.old ++ record { place = place; event = event } ∷ [])) }
+        ensures as_before { OnErr result (share.new ≡ share.old) }
+    {
+        share.slips.reserve(1)?;
+        enter(&mut self.desk, &mut share.slips, &event)
+    }
+
+    /// Asks the node whether nothing is left to do, as far as it knows.
+    pub fn finished(&self) -> bool {
+        self.desk.station().node().finished()
+    }
+
+    /// Gives the lock up.
+    pub fn release(self) {
+        let Locked { desk } = self;
+        drop(desk);
     }
 }
 

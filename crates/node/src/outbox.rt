@@ -92,6 +92,9 @@ impl Outbox {
         ensures ready { OnOk result (IsReady self.new posts.now) }
         ensures mail { self.new.mail ≡ self.old.mail }
     {
+        if posts.is_empty() {
+            return Ok(());
+        }
         reserve_ends(&mut self.ends, posts)?;
         self.reserve_places(posts.len())
     }
@@ -218,6 +221,9 @@ fn reserve_end(ends: &mut Vec<LinkEnd>, peer: usize, count: usize) -> Result<(),
     ensures none_lost { NoneLost (reserves ends.old.items) (reserves ends.new.items) }
     ensures images { images ends.new.items ≡ images ends.old.items }
 {
+    if count == 0 {
+        return Ok(());
+    }
     let Some(end) = ends.get_mut(peer) else {
         return Ok(());
     };

@@ -1,4 +1,4 @@
--- What a worker's share is after it handed in an event.
+-- What a worker's share is after it handed in an event, or several.
 use Rattle.std.specs.Prelude.{◌≡◌, ℕ, List, [], ◌∷◌, ◌++◌}
 use Rattle.node.specs.declared.event.Event.{Event}
 use Rattle.desk.specs.declared.slip.Slip.{Slip}
@@ -7,3 +7,9 @@ use Rattle.desk.specs.declared.slip.Slip.{Slip}
 pub data HandedIn (old : List Slip) (event : Event) (new : List Slip) : Type 0 where
   handled : (place : ℕ) → new ≡ old ++ record { place = place; event = event } ∷ [] → HandedIn old event new
   no_memory : new ≡ old → HandedIn old event new
+
+-- the events are handed in one after the other
+pub data AreHandedIn (old : List Slip) : List Event → List Slip → Type 0 where
+  none : AreHandedIn old [] old
+  one_more : {events : List Event} {share : List Slip} {event : Event} {new : List Slip} →
+      AreHandedIn old events share → HandedIn share event new → AreHandedIn old (events ++ event ∷ []) new

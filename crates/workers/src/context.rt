@@ -1,5 +1,5 @@
 ghost use Rattle.std.specs.Prelude.{◌≡◌, ℕ, None, ◌∷◌, ◌++◌, [], IfSome};
-ghost use Rattle.workers.specs.HandedIn.{HandedIn};
+ghost use Rattle.workers.specs.HandedIn.{AreHandedIn};
 
 use crate::gate::{Gate, Point};
 use crate::hints::{Hint, Hints};
@@ -7,9 +7,48 @@ use crate::order::Order;
 use crossbeam_channel::Sender;
 use desk::{Share, Shared};
 use node::{Event, Node, NodeId, Outgoing, Reply};
+use std::alloc::Global;
 use std::sync::Wait;
 use std::time::Clock;
 use transports::Ending;
+
+// What a desk says to several events: the frames of all its replies, and whether one of them did something.
+#[derive(Drop)]
+struct Said {
+    frames: Vec<Outgoing>,
+    has_done: bool,
+}
+
+impl Said {
+    // Nothing.
+    fn new(alloc: Global) -> Said {
+        Said {
+            frames: Vec::new(alloc),
+            has_done: false,
+        }
+    }
+
+    // Adds what a reply says. Frames for which there is no memory are lost, as on a line that loses frames.
+    fn add(&mut self, reply: Reply) {
+        match reply {
+            Reply::Done(frames) => {
+                self.has_done = true;
+                self.add_frames(frames);
+            }
+            Reply::Refused(_, frames) => self.add_frames(frames),
+            Reply::Nothing => {}
+        }
+    }
+
+    // Adds frames. The first ones are taken as they are.
+    fn add_frames(&mut self, frames: Vec<Outgoing>) {
+        if self.frames.is_empty() {
+            self.frames = frames;
+        } else {
+            let _ = self.frames.extend_from_slice(&frames);
+        }
+    }
+}
 
 /// What the workers of one node are lent.
 #[derive(Drop)]
@@ -39,21 +78,40 @@ impl<'a, N: Node, G: Gate, T: Drop, C: Drop> Context<'a, N, G, T, C> {
         Some(reply)
     }
 
-    /// Makes the event's step, and hands the frames of its reply to the writers. Whether it did something.
-    pub fn hand_in<R: Wait + Clock>(&self, rt: &R, share: &mut Share, event: Event) -> bool
-        ensures { HandedIn share.old event share.new }
+    /// Makes the events' steps one after the other, and hands the frames of the replies to the writers while the desk's lock is
+    /// held: so frames for one peer are written in the order of the steps, whoever hands in. The gate is passed for each event
+    /// before. Whether one of them did something.
+    pub fn hand_in<R: Wait + Clock>(
+        &self,
+        rt: &R,
+        alloc: Global,
+        share: &mut Share,
+        events: &[Event],
+    ) -> bool
+        ensures { AreHandedIn share.old events.now share.new }
     {
-        match self.step(rt, share, event) {
-            Some(Reply::Done(frames)) => {
-                self.send(rt, &frames);
-                true
-            }
-            Some(Reply::Refused(_, frames)) => {
-                self.send(rt, &frames);
-                false
-            }
-            Some(Reply::Nothing) | None => false,
+        for event in events {
+            self.gate.pass(rt, self.node, Point::of(event));
         }
+        let mut desk = self.shared.lock(rt);
+        let mut said = Said::new(alloc);
+        for event in events {
+            match desk.handle(share, *event) {
+                Ok(reply) => said.add(reply),
+                Err(_) => {}
+            }
+        }
+        let is_finished = !self.ending.is_set() && desk.finished();
+        let has_done = said.has_done;
+        self.send(rt, alloc, said.frames);
+        desk.release();
+        if has_done {
+            self.hint(rt, Hint::Done);
+        }
+        if is_finished {
+            self.end(rt);
+        }
+        has_done
     }
 
     /// Asks the node whether nothing is left to do: then the run is to end.
@@ -71,10 +129,20 @@ impl<'a, N: Node, G: Gate, T: Drop, C: Drop> Context<'a, N, G, T, C> {
         }
     }
 
-    /// Hands each frame to its peer's writer.
-    pub fn send<R: Wait>(&self, rt: &R, frames: &[Outgoing]) {
-        for outgoing in frames {
-            let _ = self.order(rt, outgoing.peer, Order::Frame(outgoing.frame));
+    /// Hands the frames to their peers' writers, to each its own in one order where there is memory to sort them.
+    pub fn send<R: Wait>(&self, rt: &R, alloc: Global, mut frames: Vec<Outgoing>) {
+        let Some(&Outgoing { peer, .. }) = frames.first() else {
+            return;
+        };
+        if frames.iter().all(|outgoing| outgoing.peer == peer) {
+            let _ = self.order(rt, peer, Order::Frames(frames));
+            return;
+        }
+        let _ = frames.sort_by_key(|outgoing| outgoing.peer);
+        for part in frames.chunk_by(|one, other| one.peer == other.peer) {
+            if let (Some(&Outgoing { peer, .. }), Ok(part)) = (part.first(), part.to_vec(alloc)) {
+                let _ = self.order(rt, peer, Order::Frames(part));
+            }
         }
     }
 

@@ -1,9 +1,9 @@
 //! The worker that reads what one peer sends to a node.
-ghost use Rattle.std.specs.Prelude.{◌≡◌, true, false, Ok, OnErr};
-ghost use Rattle.signal.specs.declared.frame.Frame.{Frame as IsFrame};
-ghost use Rattle.signal.specs.Stream.{GivesFrame};
-ghost use Rattle.node.specs.declared.event.Event.TheVariants as Events;
-ghost use Rattle.workers.specs.HandedIn.{HandedIn};
+ghost use Rattle.std.specs.Prelude.{◌≡◌, List, [], IfSome};
+ghost use Rattle.signal.specs.Stream.{Stream};
+ghost use Rattle.node.specs.declared.event.Event.{Event as IsEvent};
+ghost use Rattle.workers.specs.AreRead.{AreRead};
+ghost use Rattle.workers.specs.HandedIn.{AreHandedIn};
 
 use crate::context::Context;
 use crate::gate::Gate;
@@ -12,7 +12,7 @@ use crate::order::Order;
 use crossbeam_channel::Receiver;
 use desk::Share;
 use node::{Event, Node, Reply};
-use signal::{FrameFault, FrameReader};
+use signal::FrameReader;
 use std::alloc::Global;
 use std::sync::{Arc, Wait};
 use std::time::Clock;
@@ -20,6 +20,8 @@ use transports::{Arrived, Connection, Cut, Transport};
 
 // Bytes of one read.
 const ROOM: usize = 4096;
+// Events that are handed in at once, at most.
+const AT_ONCE: usize = 128;
 
 /// Reads a peer's connections one after the other, as they come, until no more come; its share. Each is greeted first.
 pub fn read<R: Wait + Clock, N: Node, G: Gate, T: Transport, C: Cut>(
@@ -84,8 +86,8 @@ pub(crate) fn read_connection<R: Wait + Clock, N: Node, G: Gate, T: Transport, C
         let has_begun = context.order(rt, peer, Order::Begin(outgoing, other, greeting));
         if has_begun && !context.ending.is_set() {
             let mut frames = FrameReader::new(alloc);
-            if take_in(rt, context, share, peer, &mut frames, &first).is_some() {
-                read_on(rt, context, share, peer, &mut incoming, &mut frames);
+            if take_in(rt, alloc, context, share, peer, &mut frames, &first).is_some() {
+                read_on(rt, alloc, context, share, peer, &mut incoming, &mut frames);
             }
         }
     }
@@ -95,6 +97,7 @@ pub(crate) fn read_connection<R: Wait + Clock, N: Node, G: Gate, T: Transport, C
 // Reads to the end of the connection.
 fn read_on<R: Wait + Clock, N: Node, G: Gate, T: Transport, C: Cut>(
     rt: &R,
+    alloc: Global,
     context: &Context<'_, N, G, T, C>,
     share: &mut Share,
     peer: usize,
@@ -102,7 +105,7 @@ fn read_on<R: Wait + Clock, N: Node, G: Gate, T: Transport, C: Cut>(
     frames: &mut FrameReader,
 ) {
     for _ in rt.forever() {
-        if read_once(rt, context, share, peer, incoming, frames).is_none() {
+        if read_once(rt, alloc, context, share, peer, incoming, frames).is_none() {
             break;
         }
     }
@@ -111,6 +114,7 @@ fn read_on<R: Wait + Clock, N: Node, G: Gate, T: Transport, C: Cut>(
 // Reads what comes next. None where the connection has ended.
 fn read_once<R: Wait + Clock, N: Node, G: Gate, T: Transport, C: Cut>(
     rt: &R,
+    alloc: Global,
     context: &Context<'_, N, G, T, C>,
     share: &mut Share,
     peer: usize,
@@ -122,12 +126,13 @@ fn read_once<R: Wait + Clock, N: Node, G: Gate, T: Transport, C: Cut>(
     if count == 0 {
         return None;
     }
-    take_in(rt, context, share, peer, frames, &room[..count])
+    take_in(rt, alloc, context, share, peer, frames, &room[..count])
 }
 
 // Hands in all whole frames that are there with these bytes. None where what comes next is no frame.
 fn take_in<R: Wait + Clock, N: Node, G: Gate, T: Transport, C: Cut>(
     rt: &R,
+    alloc: Global,
     context: &Context<'_, N, G, T, C>,
     share: &mut Share,
     peer: usize,
@@ -136,32 +141,44 @@ fn take_in<R: Wait + Clock, N: Node, G: Gate, T: Transport, C: Cut>(
 ) -> Option<()> {
     frames.feed(bytes).ok()?;
     for _ in rt.forever() {
-        if !take_next(rt, context, share, peer, frames).ok()? {
+        if !take_some(rt, alloc, context, share, peer, frames)? {
             return Some(());
         }
     }
     unreachable!()
 }
 
-// Hands in the next whole frame; whether there was one. Where there is none, and where what comes next is no frame, no event is
-// handed in.
-fn take_next<R: Wait + Clock, N: Node, G: Gate, T: Drop, C: Drop>(
+// Hands in whole frames, as many as are handed in at once; whether there may be more. What comes after them, and is no frame, is
+// no event: then none.
+fn take_some<R: Wait + Clock, N: Node, G: Gate, T: Drop, C: Drop>(
     rt: &R,
+    alloc: Global,
     context: &Context<'_, N, G, T, C>,
     share: &mut Share,
     peer: usize,
     frames: &mut FrameReader,
-) -> Result<bool, FrameFault>
-    ensures frame { result ≡ Ok true → (frame : IsFrame) × GivesFrame frames.old frame frames.new × HandedIn share.old (Events.Frame peer frame) share.new }
-    ensures none { result ≡ Ok false → share.new ≡ share.old }
-    ensures fault { OnErr result (share.new ≡ share.old) }
+) -> Option<bool>
+    ensures { (events : List IsEvent) × (stream : Stream) × AreRead peer frames.old events stream × AreHandedIn share.old events share.new × IfSome result (λ _. frames.new ≡ stream) }
 {
-    match frames.next()? {
-        Some(frame) => {
-            context.hand_in(rt, share, Event::Frame(peer, frame));
-            context.watch(rt);
-            Ok(true)
+    let mut events = Vec::new(alloc);
+    let next = collect(peer, frames, &mut events);
+    context.hand_in(rt, alloc, share, &events);
+    next
+}
+
+// Makes an event of each of the next whole frames; whether there may be more. None where what comes next is no frame, or there is
+// no memory for the event.
+fn collect(peer: usize, frames: &mut FrameReader, events: &mut Vec<Event>) -> Option<bool>
+    requires { events.old.items ≡ [] }
+    ensures { (stream : Stream) × AreRead peer frames.old events.new.items stream × IfSome result (λ _. frames.new ≡ stream) }
+{
+    for _ in 0..AT_ONCE {
+        events.reserve(1).ok()?;
+        match frames.next() {
+            Ok(Some(frame)) => events.push_reserved(Event::Frame(peer, frame)),
+            Ok(None) => return Some(false),
+            Err(_) => return None,
         }
-        None => Ok(false),
     }
+    Some(true)
 }

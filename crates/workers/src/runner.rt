@@ -26,7 +26,7 @@ pub fn run<R: Wait + Clock, N: Node, G: Gate, T: Drop, C: Drop>(
         if next == Next::End || context.ending.is_set() {
             break;
         }
-        next = go_on(rt, context, hints, &mut share, &mut pace, next);
+        next = go_on(rt, alloc, context, hints, &mut share, &mut pace, next);
     }
     context.end(rt);
     share
@@ -35,6 +35,7 @@ pub fn run<R: Wait + Clock, N: Node, G: Gate, T: Drop, C: Drop>(
 // Does what comes next; what comes then.
 fn go_on<R: Wait + Clock, N: Node, G: Gate, T: Drop, C: Drop>(
     rt: &R,
+    alloc: Global,
     context: &Context<'_, N, G, T, C>,
     hints: &Hints,
     share: &mut Share,
@@ -42,15 +43,14 @@ fn go_on<R: Wait + Clock, N: Node, G: Gate, T: Drop, C: Drop>(
     next: Next,
 ) -> Next {
     match next {
-        Next::Turn => take_turn(rt, context, hints, share, pace),
+        Next::Turn => take_turn(rt, alloc, context, hints, share, pace),
         Next::Wait => match hints.wait(rt) {
             Some(Hint::Done) => pace.after_wait(true),
             Some(Hint::NotConnected) => pace.after_turn(true),
             None => pace.after_wait(false),
         },
         Next::Repeat => {
-            context.hand_in(rt, share, Event::Hello(0));
-            context.hand_in(rt, share, Event::Resend(0));
+            context.hand_in(rt, alloc, share, &[Event::Hello(0), Event::Resend(0)]);
             pace.turn()
         }
         Next::End => Next::End,
@@ -60,6 +60,7 @@ fn go_on<R: Wait + Clock, N: Node, G: Gate, T: Drop, C: Drop>(
 // Makes a turn, which answers the hints that are waiting, where one is left; what comes then.
 fn take_turn<R: Wait + Clock, N: Node, G: Gate, T: Drop, C: Drop>(
     rt: &R,
+    alloc: Global,
     context: &Context<'_, N, G, T, C>,
     hints: &Hints,
     share: &mut Share,
@@ -71,7 +72,6 @@ fn take_turn<R: Wait + Clock, N: Node, G: Gate, T: Drop, C: Drop>(
     if pace.turn() == Next::End {
         return Next::End;
     }
-    let announced = context.hand_in(rt, share, Event::Announce);
-    let advanced = context.hand_in(rt, share, Event::Advance);
-    pace.after_turn(!announced && !advanced)
+    let has_done = context.hand_in(rt, alloc, share, &[Event::Announce, Event::Advance]);
+    pace.after_turn(!has_done)
 }

@@ -1,6 +1,6 @@
 //! The worker that writes what a node sends to one peer.
-ghost use Rattle.std.specs.Prelude.{◌≡◌, ◌++◌, [], OnOk, OnErr};
-ghost use Rattle.signal.specs.Frame.{frame_bytes};
+ghost use Rattle.std.specs.Prelude.{◌≡◌, OnOk, OnErr};
+ghost use Rattle.workers.specs.Waiting.{nothing, with_frame, covers, all_bytes};
 
 use crate::order::Order;
 use crossbeam_channel::{Receiver, RecvTimeoutError};
@@ -22,62 +22,86 @@ struct Side<T: Drop, C: Drop> {
     cut: Arc<C>,
 }
 
-/// A writer: the connection on which it writes, if there is one, and the bytes that it writes next.
+/// A writer: the connection on which it writes, if there is one, and what it writes next. Of Acks that a later one covers only
+/// the later one is written, behind all else.
 #[derive(Drop)]
 pub struct Writer<T: Drop, C: Drop> {
     side: Option<Side<T, C>>,
     bytes: Vec<u8>,
+    ack: Option<Frame>,
 }
 
 impl<T: Drop, C: Drop> Model for Writer<T, C> {
-    ghost use Rattle.std.specs.Prelude.{List, ℕ};
+    ghost use Rattle.workers.specs.Waiting as waiting;
 
-    ghost Value = { List ℕ };
+    ghost Value = { waiting.Waiting };
 
-    ghost view = { λ w. w.bytes.items };
+    ghost view = { λ w. record { bytes = w.bytes.items; ack = w.ack } };
 }
 
 impl<T: Transport, C: Cut> Writer<T, C> {
     /// It has no connection, and nothing to write.
     pub fn new(alloc: Global) -> Writer<T, C>
-        ensures { result ≡ [] }
+        ensures { result ≡ nothing }
     {
         Writer {
             side: None,
             bytes: Vec::new(alloc),
+            ack: None,
         }
     }
 
-    /// Puts a frame behind what is written next.
+    /// Puts a frame behind what is written next; an Ack in place of one that it covers.
     pub fn add(&mut self, frame: &Frame) -> Result<(), Memory>
-        ensures written { OnOk result (self.new ≡ self.old ++ frame_bytes frame.now) }
+        ensures waits { OnOk result (self.new ≡ with_frame self.old frame.now) }
         ensures as_before { OnErr result (self.new ≡ self.old) }
     {
-        write_frame(frame, &mut self.bytes)
+        if let Frame::Ack { .. } = frame {
+            if let Some(earlier) = &self.ack {
+                if !covers(frame, earlier) {
+                    write_frame(earlier, &mut self.bytes)?;
+                }
+            }
+            self.ack = Some(*frame);
+            Ok(())
+        } else {
+            write_frame(frame, &mut self.bytes)
+        }
     }
 
     /// Writes from now on on this connection. What was not yet sent is dropped.
     pub fn begin(&mut self, transport: T, cut: Arc<C>)
-        ensures { self.new ≡ [] }
+        ensures { self.new ≡ nothing }
     {
         self.side = Some(Side { transport, cut });
-        self.bytes.clear();
+        self.clear();
     }
 
-    /// Sends all that is to be written, at once. A connection that fails is cut.
+    /// Sends all that is to be written, at once. A connection that fails is cut. An Ack for which there is no memory is lost.
     pub fn flush<R: Wait>(&mut self, rt: &R)
-        ensures { self.new ≡ [] }
+        ensures { self.new ≡ nothing }
     {
+        if let Some(ack) = self.ack.take() {
+            let _ = write_frame(&ack, &mut self.bytes);
+        }
         let has_failed = match &mut self.side {
             Some(side) if !self.bytes.is_empty() => side.transport.send(rt, &self.bytes).is_err(),
             _ => false,
         };
-        self.bytes.clear();
+        self.clear();
         if has_failed {
             if let Some(side) = self.side.take() {
                 side.cut.cut(rt);
             }
         }
+    }
+
+    // Forgets what is to be written.
+    fn clear(&mut self)
+        ensures { self.new ≡ nothing }
+    {
+        self.bytes.clear();
+        self.ack = None;
     }
 
     /// Ends what it sends.
@@ -92,8 +116,10 @@ impl<T: Transport, C: Cut> Writer<T, C> {
     // Does what it is asked. A frame for which there is no memory is lost, as on a line that loses frames.
     fn obey(&mut self, order: Order<T, C>) {
         match order {
-            Order::Frame(frame) => {
-                let _ = self.add(&frame);
+            Order::Frames(frames) => {
+                for outgoing in &frames {
+                    let _ = self.add(&outgoing.frame);
+                }
             }
             Order::Begin(transport, cut, greeting) => {
                 self.begin(transport, cut);
@@ -113,6 +139,25 @@ impl<T: Transport, C: Cut> Writer<T, C> {
                 Err(_) => break,
             }
         }
+    }
+}
+
+// Whether an Ack needn't be sent where this one is.
+fn covers(frame: &Frame, ack: &Frame) -> bool
+    ensures { result ≡ covers frame.now ack.now }
+{
+    match (frame, ack) {
+        (
+            Frame::Ack {
+                incarnation,
+                last_taken,
+            },
+            Frame::Ack {
+                incarnation: other,
+                last_taken: earlier,
+            },
+        ) => incarnation == other && earlier <= last_taken,
+        _ => false,
     }
 }
 
