@@ -5,9 +5,9 @@ use Rattle.network.specs.Connection.{Connection}
 use Rattle.network.specs.Network.{Network}
 use Rattle.network.specs.Wiring.{IsWired, wiring}
 use Rattle.network.specs.Tables.{Table, IsLeastTable}
+use Rattle.paths.specs.Least.{least_within}
 use Rattle.plan.specs.declared.draft.Draft.{Draft}
 use Rattle.plan.specs.Federation.{federate_count, connections_of, stop_of}
-use Rattle.plan.specs.Least.{least_within}
 
 -- how many federates there are, the connections between them, and the last tag at which anything runs
 pub record Wires : Type 0 where

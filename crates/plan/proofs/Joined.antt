@@ -12,13 +12,13 @@ use Rattle.plan.specs.declared.draft.Federate.{Federate}
 use Rattle.plan.specs.declared.draft.PortName.{PortName}
 use Rattle.plan.specs.declared.draft.ConnectionDraft.{ConnectionDraft}
 use Rattle.plan.specs.declared.draft.Draft.{Draft}
-use Rattle.plan.specs.Naming.{place_of}
+use Rattle.names.specs.Naming.{place_of}
 use Rattle.plan.specs.Numbering.{first_input}
 use Rattle.plan.specs.Federation.{Found, federate_names, federate_number, place_in, found_in, found_output, found_input, delay_after, connection_of, connections_of}
 use Rattle.network.specs.Lawful.{EndApart}
 use Rattle.plan.specs.Faults.{ArePortsThere, EndsTwice, HasTwoSources}
-use Rattle.plan.proofs.Places.{slice_get-place_of}
-use Rattle.plan.proofs.Twice.{mapped_at}
+use Rattle.names.proofs.Places.{slice_get-place_of}
+use Rattle.names.proofs.Twice.{mapped_at}
 
 -- ---- what was found
 

@@ -1,5 +1,5 @@
 -- What comes to one federate from outside, and when a timer fires.
-use Rattle.std.proofs.Common.{◌≡◌, ℕ, zero, suc, ◌+◌, ◌-◌, ◌*◌, ◌/◌, ◌<◌, ◌≤◌, pos, Bool, true, false, List, [], ◌∷◌, ◌++◌, length, map, filter, append-nil, refl, ap, sym, ◌∙◌, arith, subst, Option, None, Some, nat_eq, nat_le, if◌then◌else◌, suc-mul, mul-le-mul_right, div-mul-le_self}
+use Rattle.std.proofs.Common.{◌≡◌, ℕ, zero, suc, ◌+◌, ◌-◌, ◌*◌, ◌/◌, ◌<◌, ◌≤◌, pos, Bool, true, false, List, [], ◌∷◌, ◌++◌, map, filter, append-nil, refl, sym, arith, subst, nat_eq, nat_le, if◌then◌else◌, suc-mul, mul-le-mul_right, div-mul-le_self}
 use Rattle.std.specs.Prelude.{slice_get, ◌↔◌, Contains}
 use Rattle.std.proofs.lemmas.Bool.Decides.{nat_tests}
 use Rattle.std.proofs.lemmas.List.Elements.{filter-append}
@@ -12,7 +12,7 @@ use Rattle.plan.specs.declared.draft.Federate.{Federate}
 use Rattle.plan.specs.declared.draft.Draft.{Draft}
 use Rattle.plan.specs.declared.input.Input.{Input}
 use Rattle.plan.specs.Numbering.{startup_slot, first_timer}
-use Rattle.plan.specs.External.{outside, times_from, firing_count, firing_times, firings_from, startup_of, own_events, own_events_from, own_events_in, is_for, input_events, input_events_to, external_of, external_to, FiresAt}
+use Rattle.plan.specs.External.{outside, times_from, firing_count, firing_times, firings_from, startup_of, own_events, own_events_from, own_events_in, is_for, external_of, external_to, FiresAt}
 
 -- ---- one federate's events
 

@@ -15,15 +15,17 @@ use Rattle.plan.specs.declared.draft.ConnectionDraft.{ConnectionDraft}
 use Rattle.plan.specs.declared.draft.Draft.{Draft}
 use Rattle.plan.specs.declared.fault.PlanFault.{PlanFault}
 use Rattle.plan.specs.declared.fault.PlanFault.TheVariants.{NoFederate, UnknownName, TwoSources, ZeroDelayCycle, OverLimit, BadTimer, Memory, RepeatedName}
-use Rattle.plan.specs.Naming.{AreDistinct}
+use Rattle.names.specs.Naming.{AreDistinct, StandsTwice}
 use Rattle.plan.specs.Numbering.{all_names, first_input}
-use Rattle.plan.specs.Federation.{Found, federate_names, found_input, found_output, connection_of, connections_of, federate_count, level_within, before_by}
-use Rattle.plan.specs.Least.{IsLeastTable}
-use Rattle.plan.specs.Legal.{IsLegal, HasNoImmediateCycle}
+use Rattle.plan.specs.Federation.{Found, federate_names, found_input, found_output, connection_of, connections_of, federate_count}
+use Rattle.paths.specs.Levels.{level_within, before_by}
+use Rattle.paths.specs.Least.{IsLeastTable}
+use Rattle.paths.specs.Cycles.{HasNoImmediateCycle}
+use Rattle.plan.specs.Legal.{IsLegal}
 use Rattle.plan.specs.Planned.{IsPlanned}
-use Rattle.plan.specs.Faults.{StandsIn, StandsTwice, HasTwoSources, IsUnknown, IsRepeated, IsWithinAllLimits, AreTimersInRange, HasDistinctNames, ArePortsThere, IsNamedCycle}
+use Rattle.plan.specs.Faults.{StandsIn, HasTwoSources, IsUnknown, IsRepeated, IsWithinAllLimits, AreTimersInRange, HasDistinctNames, ArePortsThere, IsNamedCycle}
 use Rattle.plan.proofs.Joined.{Joins, joins_at, length-connections_of, nowhere, joins_from_connection_of, found_in_parts, federate_number-lt}
-use Rattle.plan.proofs.Levels.{EndsBelow}
+use Rattle.paths.proofs.Levels.{EndsBelow}
 
 -- ---- ends of connections
 

@@ -3,24 +3,16 @@ use Rattle.std.specs.Prelude.{◌≡◌, ℕ, ◌<◌, ◌≤◌, ◌⊎◌, Lis
 use Rattle.std.specs.List.{flat_map}
 use Rattle.std.specs.Fmt.{decimal}
 use Rattle.network.specs.Connection.{Connection}
+use Rattle.paths.specs.Cycles.{HasNoCycleAt, IsCycleFrom}
 use Rattle.plan.specs.declared.draft.PortName.{PortName}
 use Rattle.plan.specs.declared.draft.Draft.{Draft}
 use Rattle.plan.specs.declared.fault.PlanFault.{PlanFault}
 use Rattle.plan.specs.declared.fault.PlanFault.TheVariants.{NoFederate, UnknownName, TwoSources, ZeroDelayCycle, OverLimit, BadTimer, Memory, RepeatedName}
 use Rattle.plan.specs.Limits.{most_federates, most_connections}
-use Rattle.plan.specs.Naming.{AreDistinct}
+use Rattle.names.specs.Naming.{AreDistinct, StandsTwice}
 use Rattle.plan.specs.Numbering.{all_names}
 use Rattle.plan.specs.Federation.{federate_names, found_output, found_input, connections_of}
 use Rattle.plan.specs.Legal.{IsWithinLimits, IsTimerInRange}
-use Rattle.plan.specs.Cycles.{HasNoCycleAt, IsCycleFrom}
-
--- an element stands at two places of a list
-pub record StandsTwice {X : Type 0} (xs : List X) (x : X) : Type 0 where
-  pub first : ℕ
-  pub later : ℕ
-  pub in_order : first < later
-  pub at_first : slice_get xs first ≡ Some x
-  pub at_later : slice_get xs later ≡ Some x
 
 -- a connection names this port, and it isn't there
 abbrev pub IsUnknown : Draft → PortName → Type 0

@@ -1,15 +1,16 @@
 -- A declared federation in numbers: which ports its connections join, and the levels and ranks of its federates.
-use Rattle.std.specs.Prelude.{◌≡◌, ℕ, zero, suc, ◌+◌, ◌≤◌, ◌<◌, max, Bool, ◌&&◌, ◌||◌, nat_eq, nat_lt, if◌then◌else◌, List, [], ◌∷◌, map, length, slice_get, Option, None, Some}
+use Rattle.std.specs.Prelude.{ℕ, ◌+◌, List, map, length, slice_get, Option, None, Some}
 use Rattle.std.specs.Option.{option_map, option_and_then}
 use Rattle.std.specs.List.{filter_map}
-use Rattle.tag.specs.LogicalTime.{LogicalTime, origin, delay_of, is_same}
-use Rattle.network.specs.Connection.{Connection, IsPath, total_of}
+use Rattle.tag.specs.LogicalTime.{LogicalTime, origin, delay_of}
+use Rattle.network.specs.Connection.{Connection}
+use Rattle.paths.specs.Levels.{level_within, before_by}
 use Rattle.plan.specs.declared.slots.Slots.{Slots}
 use Rattle.plan.specs.declared.draft.Federate.{Federate}
 use Rattle.plan.specs.declared.draft.PortName.{PortName}
 use Rattle.plan.specs.declared.draft.ConnectionDraft.{ConnectionDraft}
 use Rattle.plan.specs.declared.draft.Draft.{Draft}
-use Rattle.plan.specs.Naming.{place_of}
+use Rattle.names.specs.Naming.{place_of}
 use Rattle.plan.specs.Numbering.{first_input}
 
 -- the names of federates, in their order
@@ -77,35 +78,9 @@ federate_count d = length d.federates
 abbrev pub stop_of : Draft → LogicalTime
 stop_of d = record { time = d.stop; microstep = 0 }
 
--- the connection has no delay
-abbrev pub is_immediate : Connection → Bool
-is_immediate c = is_same c.delay origin
-
--- one more than the greatest `level` of a federate from which a connection without delay leads to j; 0 where none does
-abbrev pub above : (ℕ → ℕ) → ℕ → List Connection → ℕ
-above level j [] = 0
-above level j (c ∷ rest) =
-    if nat_eq c.target j && is_immediate c then max (level c.source + 1) (above level j rest) else above level j rest
-
--- the number of connections on the longest path without any delay that ends at j, among paths of at most so many connections
-abbrev pub level_within : List Connection → ℕ → ℕ → ℕ
-level_within connections zero j = 0
-level_within connections (suc most) j = above (level_within connections most) j connections
-
 -- a federate's level; in a legal federation no path without any delay has more connections than there are federates
 abbrev pub level_of : Draft → ℕ → ℕ
 level_of d j = level_within (connections_of d) (federate_count d) j
-
--- what a level is: some path without any delay that ends at j has so many connections (or it is 0), and none has more
-pub record IsLevel (connections : List Connection) (j level : ℕ) : Type 0 where
-  pub attained : 0 < level → (i : ℕ) × (path : List Connection) × IsPath connections i path j × (total_of path ≡ origin) × (length path ≡ level)
-  pub longest : (i : ℕ) (path : List Connection) → IsPath connections i path j → total_of path ≡ origin → length path ≤ level
-
--- how many of the first `count` federates come before i by (level, number)
-abbrev pub before_by : (ℕ → ℕ) → ℕ → ℕ → ℕ
-before_by level zero i = 0
-before_by level (suc count) i =
-    (if nat_lt (level count) (level i) || (nat_eq (level count) (level i) && nat_lt count i) then 1 else 0) + before_by level count i
 
 -- a federate's rank: its place by (level, number), from 0
 abbrev pub rank_of : Draft → ℕ → ℕ

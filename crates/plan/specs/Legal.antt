@@ -1,15 +1,14 @@
 -- Legal federations.
-use Rattle.std.specs.Prelude.{ℕ, ◌^◌, ◌<◌, ◌≤◌, List, length, All, AllPairs, IsSome, IfSome}
-use Rattle.network.specs.Connection.{Connection}
+use Rattle.std.specs.Prelude.{◌^◌, ◌<◌, ◌≤◌, length, All, AllPairs, IsSome, IfSome}
 use Rattle.network.specs.Lawful.{EndApart}
+use Rattle.paths.specs.Cycles.{HasNoImmediateCycle}
 use Rattle.plan.specs.declared.slots.Slots.{Slots}
 use Rattle.plan.specs.declared.slots.Timer.{Timer}
 use Rattle.plan.specs.declared.draft.Draft.{Draft}
 use Rattle.plan.specs.Limits.{most_federates, most_connections, most_slots}
-use Rattle.plan.specs.Naming.{AreDistinct}
+use Rattle.names.specs.Naming.{AreDistinct}
 use Rattle.plan.specs.Numbering.{all_names}
 use Rattle.plan.specs.Federation.{federate_names, found_output, found_input, connections_of}
-use Rattle.plan.specs.Cycles.{HasNoCycleAt}
 
 -- a federate has not too many of each kind of slot
 pub record IsWithinLimits (s : Slots) : Type 0 where
@@ -22,10 +21,6 @@ pub record IsWithinLimits (s : Slots) : Type 0 where
 -- a timer's times are below 2^62 ns
 abbrev pub IsTimerInRange : Timer → Type 0
 IsTimerInRange t = (t.offset < 2 ^ 62) × (t.period < 2 ^ 62)
-
--- no path from any federate to itself is without any delay
-abbrev pub HasNoImmediateCycle : List Connection → Type 0
-HasNoImmediateCycle connections = (federate : ℕ) → HasNoCycleAt connections federate
 
 -- a draft that is a federation: within its limits, with names and ports as they must be, and without a cycle of no delay
 pub record IsLegal (d : Draft) : Type 0 where

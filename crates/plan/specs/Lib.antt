@@ -7,8 +7,6 @@ pub mod Naming
 pub mod Numbering
 -- connections by number, and levels and ranks
 pub mod Federation
--- cycles without any delay, and the tree by which one is found
-pub mod Cycles
 -- least delays
 pub mod Least
 -- legal federations

@@ -2,9 +2,9 @@
 use Rattle.std.specs.Prelude.{◌≡◌, ℕ, ◌<◌, List, length, slice_index, Option}
 use Rattle.tag.specs.LogicalTime.{LogicalTime}
 use Rattle.network.specs.Connection.{Connection}
+use Rattle.paths.specs.Least.{IsLeastTable}
 use Rattle.plan.specs.declared.draft.Draft.{Draft}
 use Rattle.plan.specs.Federation.{connections_of, rank_of, federate_count}
-use Rattle.plan.specs.Least.{IsLeastTable}
 use Rattle.plan.specs.Legal.{IsLegal}
 
 -- a legal draft, with its connections by number, each federate's rank, and the least delays between any two federates

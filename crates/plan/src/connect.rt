@@ -2,11 +2,11 @@ ghost use Rattle.std.specs.Prelude.{◌≡◌, ◌<◌, ◌^◌, All, IfSome, If
 ghost use Rattle.plan.specs.Federation.{connections_of, delay_after};
 ghost use Rattle.plan.specs.Faults.{ArePortsThere, StandsIn};
 
-use crate::connection::Connection;
 use crate::draft::Draft;
 use crate::fault::PlanFault;
 use crate::lookup::{found_input, found_output};
 use crate::slots::Slots;
+use paths::Connection;
 use std::alloc::Global;
 use tag::{Delay, Time};
 

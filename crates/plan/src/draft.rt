@@ -1,8 +1,7 @@
 ghost use Rattle.std.specs.Prelude.{◌≡◌};
 
-use crate::named::Named;
 use crate::slots::Slots;
-use crate::text::Text;
+use names::{Named, Text};
 use std::marker::Model;
 use tag::Time;
 

@@ -4,7 +4,7 @@ ghost use Rattle.plan.specs.Faults.{number_of};
 ghost use Rattle.plan.specs.InputFaults.{input_number_of};
 
 use crate::draft::PortName;
-use crate::text::{Names, Text};
+use names::{Names, Text};
 use std::alloc::{AllocError, AllocFailed};
 use std::fmt;
 

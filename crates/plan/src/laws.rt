@@ -3,13 +3,15 @@ ghost use Rattle.std.specs.Prelude.{◌≡◌, ◌↔◌, ℕ, ◌<◌, List, Al
 ghost use Rattle.tag.specs.LogicalTime.{LogicalTime, origin, sum_of};
 ghost use Rattle.network.specs.Connection.{Connection, IsPath, total_of, IsLeastDelay, IsUnreachable};
 ghost use Rattle.network.specs.Tables.{IsWithin};
+ghost use Rattle.paths.specs.Levels.{IsLevel};
+ghost use Rattle.paths.specs.Least.{IsTotalWithin};
 ghost use Rattle.plan.specs.declared.draft.Draft.{Draft};
 ghost use Rattle.plan.specs.declared.input.Input.{Input};
 ghost use Rattle.plan.specs.declared.slots.Timer.{Timer};
 ghost use Rattle.plan.specs.External.{external_of, external_to, is_for, firing_times, FiresAt};
-ghost use Rattle.plan.specs.Federation.{IsLevel, connections_of, level_of, rank_of, federate_count};
+ghost use Rattle.plan.specs.Federation.{connections_of, level_of, rank_of, federate_count};
 ghost use Rattle.plan.specs.Limits.{most_federates};
-ghost use Rattle.plan.specs.Least.{least_of, IsTotalWithin};
+ghost use Rattle.plan.specs.Least.{least_of};
 ghost use Rattle.plan.specs.Legal.{IsLegal};
 
 /// A federate's level is the number of connections on the longest path without any delay that ends there.
@@ -25,7 +27,7 @@ pub fn ranks_rise()
 {}
 
 /// No two federates have one rank, and ranks are below the number of federates.
-#[tactic(auto, using(crate::proofs::Paths::ranks_differ))]
+#[tactic(auto, using(paths::proofs::Paths::ranks_differ))]
 pub fn ranks_are_places()
     ensures below { (d : Draft) (i : ℕ) → i < federate_count d → rank_of d i < federate_count d }
     ensures apart { (d : Draft) (i j : ℕ) → i < federate_count d → j < federate_count d → rank_of d i ≡ rank_of d j → i ≡ j }

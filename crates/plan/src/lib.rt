@@ -4,28 +4,24 @@
 #![tactic(auto)]
 
 mod connect;
-pub mod connection;
 mod cycle;
 pub mod draft;
 pub mod fault;
 pub mod input;
 pub mod laws;
-mod least;
+mod legal;
 mod limits;
 mod lookup;
-pub mod named;
 pub mod plan;
-mod ranks;
 mod repeated;
 pub mod slots;
 mod sources;
-pub mod text;
 
-pub use connection::Connection;
 pub use draft::{ConnectionDraft, Connections, Draft, Federate, Federates, PortName};
 pub use fault::{InputFault, PlanFault};
 pub use input::{Input, Inputs};
-pub use named::{Named, place_of};
+pub use names::{Named, Names, Text, named, place_of, text};
+pub use paths::connection;
+pub use paths::connection::Connection;
 pub use plan::Plan;
 pub use slots::{Slots, Timer, Timers};
-pub use text::{Names, Text};

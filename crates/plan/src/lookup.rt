@@ -4,8 +4,7 @@ ghost use Rattle.plan.specs.External.{found_action};
 
 use crate::draft::{Federate, PortName};
 use crate::input::Input;
-use crate::named::place_of;
-use crate::text::Text;
+use names::{Text, place_of};
 use std::marker::Model;
 
 /// Where a port or an action was found: the federate's number, and the place among its names of that kind.

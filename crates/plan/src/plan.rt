@@ -1,24 +1,19 @@
 ghost use Rattle.std.specs.Prelude.{◌≡◌, ◌<◌, length, OnOk, IfOk, IfErr, IfSome, MatchOption};
 ghost use Rattle.network.specs.Connection.{IsLeastDelay, IsUnreachable};
+ghost use Rattle.paths.specs.Least.{IsTotalWithin};
 ghost use Rattle.plan.specs.Federation.{connections_of, rank_of, stop_of, federate_count};
 ghost use Rattle.plan.specs.Limits.{most_federates};
-ghost use Rattle.plan.specs.Least.{least_of, IsTotalWithin};
+ghost use Rattle.plan.specs.Least.{least_of};
 ghost use Rattle.plan.specs.Faults.{IsWithinAllLimits, AreTimersInRange};
 ghost use Rattle.plan.specs.External.{found_action, physical_slot};
 ghost use Rattle.std.specs.Option.{option_map};
 
-use crate::connect::connect;
-use crate::connection::Connection;
-use crate::cycle::refuse_cycle;
 use crate::draft::{Draft, Federate};
 use crate::fault::PlanFault;
 use crate::input::Input;
-use crate::least::LeastDelays;
-use crate::limits::refuse_out_of_range;
+use crate::legal::legal_connections;
 use crate::lookup::found_action;
-use crate::ranks::ranks;
-use crate::repeated::refuse_repeated;
-use crate::sources::refuse_two_sources;
+use paths::{Connection, LeastDelays, ranks};
 use std::alloc::Global;
 use std::marker::Model;
 use tag::{Delay, Tag, Time};
@@ -69,12 +64,7 @@ impl Plan {
         ensures fault { IfErr result (StandsIn draft) }
         ensures memory { IfErr result (λ e. e ≡ PlanFault.Memory → (0 < length draft.federates) × IsWithinAllLimits draft × AreTimersInRange draft) }
     {
-        refuse_out_of_range(&draft)?;
-        refuse_repeated(alloc, &draft)?;
-        let connections = connect(alloc, &draft)?;
-        refuse_two_sources(&draft, connections.as_slice())?;
-        refuse_cycle(alloc, &draft, connections.as_slice())?;
-        let _nanoseconds = draft.stop.nanoseconds();
+        let connections = legal_connections(alloc, &draft)?;
         let count = draft.federates.as_slice().len();
         let ranks = ranks(alloc, connections.as_slice(), count)?;
         let delays = LeastDelays::new(alloc, connections.as_slice(), count)?;

@@ -1,43 +1,14 @@
-ghost use Rattle.std.specs.Prelude.{◌≡◌, ◌++◌, ◌↔◌, map, Any, IsTrue, IfOk, OnOk, IfErr, MatchOption};
-ghost use Rattle.plan.specs.Naming.{AreDistinct};
+ghost use Rattle.std.specs.Prelude.{◌≡◌, map, IfOk, OnOk, IfErr, MatchOption};
+ghost use Rattle.names.specs.Naming.{AreDistinct, StandsTwice};
 ghost use Rattle.plan.specs.Numbering.{all_names};
 ghost use Rattle.plan.specs.Federation.{federate_names};
-ghost use Rattle.plan.specs.Faults.{StandsTwice, StandsIn, HasDistinctNames};
+ghost use Rattle.plan.specs.Faults.{StandsIn, HasDistinctNames};
 
 use crate::draft::{Draft, Federate};
 use crate::fault::PlanFault;
-use crate::named::Named;
 use crate::slots::Slots;
-use crate::text::Text;
+use names::{Text, push_names, repeated};
 use std::alloc::{AllocError, Global};
-
-fn stands_in(names: &[&Text], name: &Text) -> bool
-    ensures { IsTrue result ↔ Any (λ n. n.now ≡ name.now) names.now }
-{
-    names.iter().any(|n| n.is_same(name))
-}
-
-/// A name that stands at two places.
-fn repeated(names: &[&Text]) -> Result<Option<Text>, AllocError>
-    ensures { IfOk result (λ r. MatchOption r (AreDistinct (map (λ n. n.now) names.now)) (StandsTwice (map (λ n. n.now) names.now))) }
-{
-    for (place, &name) in names.iter().enumerate() {
-        if stands_in(&names[..place], name) {
-            return Ok(Some(name.clone()?));
-        }
-    }
-    Ok(None)
-}
-
-/// Adds the names of these.
-fn push_names<'a, T: Named>(names: &mut Vec<&'a Text>, more: &'a [T]) -> Result<(), AllocError>
-    ensures { OnOk result (map (λ n. n.now) names.new.items ≡ map (λ n. n.now) names.old.items ++ map T.name_of more.now) }
-{
-    for named in more {
-        names.push(named.name())?;
-    }
-    Ok(())
-}
 
 fn names_of_federates<'a>(
     alloc: Global,
@@ -51,7 +22,7 @@ fn names_of_federates<'a>(
 }
 
 /// The names of all slots and outputs.
-#[tactic(auto, using(crate::proofs::Places::same_names))]
+#[tactic(auto, using(names::proofs::Places::same_names))]
 fn names_of_slots<'a>(alloc: Global, slots: &'a Slots) -> Result<Vec<&'a Text>, AllocError>
     ensures { IfOk result (λ v. map (λ n. n.now) v.items ≡ all_names slots.now) }
 {

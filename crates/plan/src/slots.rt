@@ -1,9 +1,8 @@
 ghost use Rattle.std.specs.Prelude.{◌≡◌, ◌<◌, ◌↔◌, IfSome, IsTrue, length};
-ghost use Rattle.plan.specs.Naming.{place_of};
+ghost use Rattle.names.specs.Naming.{place_of};
 ghost use Rattle.plan.specs.Numbering.{timer_names};
 
-use crate::named::{Named, place_of};
-use crate::text::{Names, Text};
+use names::{Named, Names, Text, place_of};
 use std::marker::Model;
 
 /// A timer: it fires at (offset, 0) and then each period; with period 0 once. Both in ns.

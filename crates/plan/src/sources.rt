@@ -4,9 +4,9 @@ ghost use Rattle.plan.specs.Limits.{most_connections};
 ghost use Rattle.network.specs.Lawful.{EndApart};
 ghost use Rattle.plan.specs.Faults.{ArePortsThere, EndsTwice, StandsIn};
 
-use crate::connection::Connection;
 use crate::draft::Draft;
 use crate::fault::PlanFault;
+use paths::Connection;
 
 fn ends_there(connections: &[Connection], last: Connection) -> bool
     ensures { IsTrue result ↔ Any (λ c. (c.target ≡ last.target) × (c.slot ≡ last.slot)) connections.now }

@@ -23,7 +23,7 @@ use Rattle.plan.specs.Federation.{connections_of, federate_count, rank_of, level
 use Rattle.plan.specs.External.{own_events_from, input_events, external_of, AreInputsOf}
 use Rattle.plan.specs.Legal.{IsLegal}
 use Rattle.plan.proofs.Legality.{rank_rises}
-use Rattle.plan.proofs.Paths.{before_by-lt, before_by-injective}
+use Rattle.paths.proofs.Paths.{before_by-lt, before_by-injective}
 use Rattle.program.specs.Behaviour.{Behaviour, IsWellFormed}
 use Rattle.program.specs.Programs.{AreProgramsOf}
 use Rattle.reactor.specs.Federation.{slots_of, ports_of, effect_by, network_of}

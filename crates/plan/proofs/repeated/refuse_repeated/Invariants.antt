@@ -1,6 +1,6 @@
 use Rattle.std.proofs.Common.{take}
 use Rattle.std.specs.Prelude.{All}
-use Rattle.plan.specs.Naming.{AreDistinct}
+use Rattle.names.specs.Naming.{AreDistinct}
 use Rattle.plan.specs.Numbering.{all_names}
 use Rattle.plan.proofs.repeated.refuse_repeated.Given as goal
 

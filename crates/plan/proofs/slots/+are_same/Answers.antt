@@ -1,5 +1,5 @@
 use Rattle.std.proofs.Common.{◌≡◌, arith}
-use Rattle.plan.proofs.First.{uncons}
+use Rattle.names.proofs.First.{uncons}
 use Rattle.plan.proofs.slots.+are_same.Goals as goal
 
 pub returns-then-is_same : goal.returns-then-is_same

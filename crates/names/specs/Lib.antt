@@ -1,0 +1,3 @@
+-- Names.
+-- names in a list
+pub mod Naming
