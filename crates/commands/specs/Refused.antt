@@ -8,7 +8,7 @@ use Rattle.program.specs.Behaviour.{Behaviour}
 use Rattle.reactor.specs.declared.memory.Memory as turns
 use Rattle.printed.specs.declared.memory.Memory as text
 use Rattle.stage.specs.declared.memory.Memory as steps
-use Rattle.loadfed.specs.declared.fault.LoadFault.TheVariants.{Memory}
+use Rattle.tables.specs.declared.fault.LoadFault.TheVariants.{Memory}
 use Rattle.files.specs.Contents.{Contents}
 use Rattle.sources.specs.declared.fault.SourceFault.{SourceFault}
 use Rattle.sources.specs.declared.fault.SourceFault.TheVariants.{Load}

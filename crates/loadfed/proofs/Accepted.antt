@@ -9,11 +9,12 @@ use Rattle.plan.specs.Legal.{IsLegal}
 use Rattle.program.specs.Behaviour.{Behaviour}
 use Rattle.program.specs.Spelled.{SpellsProgram}
 use Rattle.program.proofs.OneReading.{one_program}
-use Rattle.loadfed.specs.declared.fault.LoadFault.{LoadFault}
-use Rattle.loadfed.specs.declared.fault.LoadFault.TheVariants.{Memory}
+use Rattle.tables.specs.declared.fault.LoadFault.{LoadFault}
+use Rattle.tables.specs.declared.fault.LoadFault.TheVariants.{Memory}
 use Rattle.loadfed.specs.Shape.{ProgramDraft, SaysFederation}
 use Rattle.loadfed.specs.ShapeFaults.{HasShapeFault}
-use Rattle.loadfed.specs.Loaded.{IsDocument, SpellPrograms, SaysDraft, IsFederationFile, IsFaultAmong, HasLoadFault}
+use Rattle.tables.specs.Documents.{IsDocument}
+use Rattle.loadfed.specs.Loaded.{SpellPrograms, SaysDraft, IsFederationFile, IsFaultAmong, HasLoadFault}
 use Rattle.loadfed.proofs.OneReading.{one_draft, one_program_list}
 use Rattle.loadfed.proofs.NoFault.{no_shape_fault}
 

@@ -5,10 +5,11 @@ use Rattle.toml.specs.Data.{Members}
 use Rattle.plan.specs.declared.draft.Draft.{Draft}
 use Rattle.plan.specs.declared.input.Input.{Input}
 use Rattle.plan.specs.External.{AreInputsOf}
-use Rattle.loadfed.specs.declared.fault.LoadFault.{LoadFault}
-use Rattle.loadfed.specs.declared.fault.LoadFault.TheVariants.{Memory}
+use Rattle.tables.specs.declared.fault.LoadFault.{LoadFault}
+use Rattle.tables.specs.declared.fault.LoadFault.TheVariants.{Memory}
 use Rattle.loadfed.specs.InputShape.{SaysInput, SaysInputs, HasInputFault, HasInputsFault, SaysInputFile, IsFaultOfInputs, HasInputFileFault}
-use Rattle.loadfed.proofs.OneReading.{one_text, one_number, one_duration, one_microstep, one_each}
+use Rattle.tables.proofs.OneReading.{one_text, one_number, one_duration, one_microstep}
+use Rattle.loadfed.proofs.OneReading.{one_each}
 use Rattle.loadfed.proofs.NoFault.{none_unknown, none_in_tables}
 use Rattle.loadfed.proofs.Accepted.{one_document}
 

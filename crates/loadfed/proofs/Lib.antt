@@ -2,16 +2,11 @@
 pub mod Names
 -- programs of federates, one more
 pub mod Parsed
--- names parted by a dot
-pub mod Dots
 -- a table says one thing
 pub mod OneReading
 -- what is said has no fault
 pub mod NoFault
--- faults told upward
-pub mod Refusals
--- one reading of a key by another, and arrays of tables
-pub mod KeyReadings
+-- arrays of tables, and the parts of a federation
 pub mod TableReadings
 pub mod ShapeReadings
 -- a file is one federation at most, which meets no refusal

@@ -10,7 +10,7 @@ use Rattle.plan.specs.Numbering.{timer_names, all_names}
 use Rattle.program.specs.declared.reaction_draft.ReactionDraft.{ReactionDraft}
 use Rattle.program.specs.Tokens.{is_name}
 use Rattle.toml.specs.Data.{Members}
-use Rattle.loadfed.specs.Tables.{SaysEach}
+use Rattle.tables.specs.Tables.{SaysEach}
 use Rattle.loadfed.specs.Shape.{SaysTimer, SaysState, SaysReaction, ProgramDraft, SaysProgram, SaysSlots, SaysFederate, SaysFederates}
 use Rattle.loadfed.specs.Ready.{IsReady, AreReady}
 

@@ -1,7 +1,8 @@
 -- What a document says stands against each fault of its shape.
-use Rattle.std.proofs.Common.{◌≡◌, ℕ, ◌≤◌, zero, suc, List, [], ◌∷◌, map, length, Some, IsTrue, codes, refl, sym, ap, subst, inl, inr, ◌⊎◌, arith}
+use Rattle.std.proofs.Common.{◌≡◌, ℕ, ◌≤◌, zero, suc, List, [], ◌∷◌, map, length, Some, IsTrue, codes, sym, ap, subst, inl, inr, ◌⊎◌, arith}
 use Rattle.std.specs.Prelude.{slice_get}
 use Rattle.std.specs.List.{AllZip}
+use Rattle.std.proofs.lemmas.List.{length-map}
 use Rattle.std.proofs.lemmas.List.Elements.{All-contains}
 use Rattle.plan.specs.declared.slots.Slots.{Slots}
 use Rattle.plan.specs.declared.slots.Timer.{Timer}
@@ -11,27 +12,19 @@ use Rattle.plan.specs.declared.draft.Draft.{Draft}
 use Rattle.program.specs.declared.program.State.{State}
 use Rattle.program.specs.declared.reaction_draft.ReactionDraft.{ReactionDraft}
 use Rattle.toml.specs.Data.{Data, string, table, Members}
-use Rattle.loadfed.specs.declared.fault.LoadFault.{LoadFault}
-use Rattle.loadfed.specs.Tables.{keys_in, is_among, HasOnly, SaysArray, SaysTables, SaysEach}
+use Rattle.tables.specs.declared.fault.LoadFault.{LoadFault}
+use Rattle.tables.specs.Tables.{keys_in, is_among, HasOnly, SaysArray, SaysTables, SaysEach}
 use Rattle.loadfed.specs.Shape.{SaysTimer, SaysState, SaysReaction, ProgramDraft, SaysProgram, SaysSlots, SaysFederate, SaysConnection, SaysFederates, SaysFederation}
-use Rattle.loadfed.specs.ShapeFaults.{HasUnknownKey, HasTooMany, HasTablesFault, HasTimerFault, HasStateFault, HasReactionFault, HasStatesFault, HasReactionsFault, HasSlotsFault, HasFederateFault, HasConnectionFault, HasShapeFault}
-use Rattle.loadfed.proofs.OneReading.{one_array}
+use Rattle.tables.specs.TableFaults.{HasUnknownKey}
+use Rattle.loadfed.specs.ShapeFaults.{HasTooMany, HasTablesFault, HasTimerFault, HasStateFault, HasReactionFault, HasStatesFault, HasReactionsFault, HasSlotsFault, HasFederateFault, HasConnectionFault, HasShapeFault}
+use Rattle.tables.proofs.OneReading.{one_array}
+use Rattle.loadfed.proofs.OneReading.{zip_length}
 
 pub none_unknown : (known : List (List ℕ)) (m : Members) (fault : LoadFault) → HasOnly known m → HasUnknownKey known m fault → ⊥
 none_unknown known m fault only h =
     let yes : IsTrue (is_among known h.key) = All-contains (λ key. IsTrue (is_among known key)) (keys_in m) h.key only h.there in
     let no = h.unknown in
     cc
-
-map_length : {X Y : Type 0} (f : X → Y) (xs : List X) → length (map f xs) ≡ length xs
-map_length f [] = refl
-map_length f (x ∷ xs) = ap suc (map_length f xs)
-
-zip_length : {X : Type 0} (R : Members → X → Type 0) (ts : List Members) (xs : List X) → AllZip R ts xs → length ts ≡ length xs
-zip_length R [] [] h = refl
-zip_length R [] (x ∷ xs) h = absurd h
-zip_length R (t ∷ ts) [] h = absurd h
-zip_length R (t ∷ ts) (x ∷ xs) h = ap suc (zip_length R ts xs h.1)
 
 none_too_many : (key : List ℕ) (most : ℕ) (m : Members) (fault : LoadFault) (entries : List Data) → SaysArray key m entries → length entries ≤ most
     → HasTooMany key most m fault → ⊥
@@ -75,13 +68,13 @@ none_reaction fault m r s (inl h) = none_unknown _ m fault s.keys h
 none_reaction fault m r s (inr (inl h)) = h.nothing r.triggers s.triggers_are
 none_reaction fault m r s (inr (inr (inl h))) = h.nothing r.body s.body_is
 none_reaction fault m r s (inr (inr (inr h))) =
-    let few : length (map string r.body) ≤ 256 = subst (λ n. n ≤ 256) (sym (map_length string r.body)) s.few_lines in
+    let few : length (map string r.body) ≤ 256 = subst (λ n. n ≤ 256) (sym (length-map r.body string)) s.few_lines in
     none_too_many (codes "body") 256 m fault (map string r.body) s.body_is few h
 
 none_too_many_of : {X : Type 0} (R : Members → X → Type 0) (key : List ℕ) (most : ℕ) (m : Members) (fault : LoadFault) (xs : List X) → SaysEach R key m xs → length xs ≤ most
     → HasTooMany key most m fault → ⊥
 none_too_many_of R key most m fault xs says few h =
-    let tables : length (map table says.tables) ≡ length says.tables = map_length table says.tables in
+    let tables : length (map table says.tables) ≡ length says.tables = length-map says.tables table in
     let one_each : length says.tables ≡ length xs = zip_length R says.tables xs says.each in
     let small : length (map table says.tables) ≤ most = omega arith in
     none_too_many key most m fault (map table says.tables) says.there small h

@@ -13,11 +13,12 @@ use Rattle.program.specs.declared.fault.ProgramFault.{ProgramFault}
 use Rattle.program.specs.declared.fault.ProgramFault.TheVariants as program_fault
 use Rattle.program.specs.Behaviour.{Behaviour}
 use Rattle.program.specs.Spelled.{SpellsProgram, IsFaultOf}
-use Rattle.loadfed.specs.declared.fault.LoadFault.{LoadFault}
-use Rattle.loadfed.specs.declared.fault.LoadFault.TheVariants.{NotToml, Plan, Program, Memory}
-use Rattle.loadfed.specs.Numbers.{fault_of_plan}
+use Rattle.tables.specs.declared.fault.LoadFault.{LoadFault}
+use Rattle.tables.specs.declared.fault.LoadFault.TheVariants.{NotToml, Plan, Program, Memory}
+use Rattle.loadfed.specs.Told.{fault_of_plan}
 use Rattle.loadfed.specs.Shape.{ProgramDraft}
-use Rattle.loadfed.specs.Loaded.{IsDocument, most_bytes, IsPlanFault, IsProgramFault, IsFaultAmong, HasLoadFault}
+use Rattle.tables.specs.Documents.{IsDocument}
+use Rattle.loadfed.specs.Loaded.{most_bytes, IsPlanFault, IsProgramFault, IsFaultAmong, HasLoadFault}
 use Rattle.loadfed.specs.ShapeFaults.{HasShapeFault}
 
 stands : (d : Draft) (reason : PlanFault) → StandsIn d reason → reason ≢ plan_fault.Memory → (IsLegal d → reason ≡ plan_fault.Memory) → IsPlanFault d (Plan reason)

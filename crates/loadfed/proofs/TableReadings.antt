@@ -1,15 +1,16 @@
 -- Arrays of tables as they are read, entry by entry, and where a fault of one stands.
-use Rattle.std.proofs.Common.{◌≡◌, ◌⊎◌, inl, inr, ℕ, ◌<◌, ◌≤◌, ◌+◌, suc, List, [], ◌∷◌, ◌++◌, map, length, get_or, take, Some, refl, sym, ap, ◌∙◌, subst, arith}
+use Rattle.std.proofs.Common.{◌≡◌, ◌⊎◌, inl, inr, ℕ, ◌<◌, ◌≤◌, ◌+◌, List, [], ◌∷◌, ◌++◌, map, length, get_or, take, Some, refl, sym, ap, ◌∙◌, subst, arith}
 use Rattle.std.specs.List.{AllZip}
-use Rattle.std.proofs.lemmas.List.{take_all, map-append}
+use Rattle.std.proofs.lemmas.List.{take_all, length-map, map-append}
 use Rattle.toml.specs.Data.{Data, table, Members}
 use Rattle.toml.specs.View.{view}
 use Rattle.toml.specs.declared.value.Value.{Value}
-use Rattle.loadfed.specs.declared.fault.LoadFault.{LoadFault}
-use Rattle.loadfed.specs.declared.fault.LoadFault.TheVariants.{Memory, OverLimit}
-use Rattle.loadfed.specs.Tables.{SaysArray, SaysTables, SaysEach}
-use Rattle.loadfed.specs.ShapeFaults.{IsWrongAt, HasTooMany, HasTablesFault}
-use Rattle.loadfed.proofs.KeyReadings.{view_at, views_more, table_entry}
+use Rattle.tables.specs.declared.fault.LoadFault.{LoadFault}
+use Rattle.tables.specs.declared.fault.LoadFault.TheVariants.{Memory, OverLimit}
+use Rattle.tables.specs.Tables.{SaysArray, SaysTables, SaysEach}
+use Rattle.tables.specs.TableFaults.{IsWrongAt}
+use Rattle.loadfed.specs.ShapeFaults.{HasTooMany, HasTablesFault}
+use Rattle.tables.proofs.KeyReadings.{view_at, views_more, table_entry}
 
 -- these entries are tables, which say these
 pub record AreRead {X : Type 0} (Says : Members → X → Type 0) (entries : List Data) (xs : List X) : Type 0 where
@@ -82,14 +83,10 @@ inside_told Has key m values i v inner fault says low is this (inr h) = inr (inr
   inside = h;
 }))
 
-map_length : {X Y : Type 0} (f : X → Y) (xs : List X) → length (map f xs) ≡ length xs
-map_length f [] = refl
-map_length f (x ∷ xs) = ap suc (map_length f xs)
-
 pub many_told : (key : List ℕ) (most : ℕ) (m : Members) (values : List Value) → SaysArray key m (map view values) → most < length values
     → HasTooMany key most m OverLimit
 many_told key most m values says many =
-    let same = map_length view values in
+    let same = length-map values view in
     record { told = refl; entries = map view values; there = says; many = omega arith }
 
 pub texts_too_many : (key : List ℕ) (most : ℕ) (m : Members) (entries : List Data) → SaysArray key m entries → most < length entries → HasTooMany key most m OverLimit

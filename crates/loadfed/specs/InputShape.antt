@@ -5,11 +5,13 @@ use Rattle.plan.specs.declared.draft.Draft.{Draft}
 use Rattle.plan.specs.declared.input.Input.{Input}
 use Rattle.plan.specs.External.{found_action, AreApart}
 use Rattle.plan.specs.Limits.{most_inputs}
-use Rattle.loadfed.specs.declared.fault.LoadFault.{LoadFault}
-use Rattle.loadfed.specs.declared.fault.LoadFault.TheVariants.{UnknownAction, RepeatedInput, OverLimit}
-use Rattle.loadfed.specs.Tables.{HasOnly, SaysText, SaysNumber, SaysDuration, SaysMicrostep, SaysEach}
-use Rattle.loadfed.specs.ShapeFaults.{IsWrongAt, HasUnknownKey, HasTablesFault}
-use Rattle.loadfed.specs.Loaded.{IsDocument, IsTooLong, IsNoDocument, HasFileFault}
+use Rattle.tables.specs.declared.fault.LoadFault.{LoadFault}
+use Rattle.tables.specs.declared.fault.LoadFault.TheVariants.{UnknownAction, RepeatedInput, OverLimit}
+use Rattle.tables.specs.Tables.{HasOnly, SaysText, SaysNumber, SaysDuration, SaysMicrostep, SaysEach}
+use Rattle.tables.specs.TableFaults.{IsWrongAt, HasUnknownKey}
+use Rattle.loadfed.specs.ShapeFaults.{HasTablesFault}
+use Rattle.tables.specs.Documents.{IsDocument}
+use Rattle.loadfed.specs.Loaded.{IsTooLong, IsNoDocument, HasFileFault}
 
 -- the keys of an input file
 abbrev pub input_file_keys : List (List ℕ)

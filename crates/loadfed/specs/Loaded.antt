@@ -1,7 +1,6 @@
 -- What a federation file's bytes are, and what stands against them, stage by stage.
-use Rattle.std.specs.Prelude.{◌≡◌, ◌≢◌, ℕ, ◌<◌, ◌≤◌, ◌⊎◌, List, [], ◌∷◌, length, slice_get, Some, IsUtf8}
+use Rattle.std.specs.Prelude.{◌≡◌, ◌≢◌, ℕ, ◌<◌, ◌≤◌, ◌⊎◌, List, [], ◌∷◌, length, slice_get, Some}
 use Rattle.toml.specs.Data.{Members}
-use Rattle.toml.specs.Parse.{parse_document}
 use Rattle.plan.specs.declared.draft.Federate.{Federate}
 use Rattle.plan.specs.declared.draft.Draft.{Draft}
 use Rattle.plan.specs.declared.fault.PlanFault.{PlanFault}
@@ -12,15 +11,11 @@ use Rattle.program.specs.declared.fault.ProgramFault.{ProgramFault}
 use Rattle.program.specs.declared.fault.ProgramFault.TheVariants as program_fault
 use Rattle.program.specs.Behaviour.{Behaviour}
 use Rattle.program.specs.Spelled.{SpellsProgram, IsFaultOf}
-use Rattle.loadfed.specs.declared.fault.LoadFault.{LoadFault}
-use Rattle.loadfed.specs.declared.fault.LoadFault.TheVariants.{NotToml, Plan, Program, OverLimit}
+use Rattle.tables.specs.declared.fault.LoadFault.{LoadFault}
+use Rattle.tables.specs.declared.fault.LoadFault.TheVariants.{NotToml, Plan, Program, OverLimit}
+use Rattle.tables.specs.Documents.{IsDocument}
 use Rattle.loadfed.specs.Shape.{ProgramDraft, SaysFederation}
 use Rattle.loadfed.specs.ShapeFaults.{HasShapeFault}
-
--- the bytes are UTF-8, and as a TOML document this table
-pub record IsDocument (bytes : List ℕ) (file : Members) : Type 0 where
-  pub utf8 : IsUtf8 bytes
-  pub parsed : parse_document bytes ≡ Some file
 
 -- the most bytes of a federation file
 abbrev pub most_bytes : ℕ

@@ -1,5 +1,5 @@
 -- Faults of files, as a trait names them.
-use Rattle.loadfed.specs.declared.fault.LoadFault.{LoadFault}
+use Rattle.tables.specs.declared.fault.LoadFault.{LoadFault}
 
 -- a fault of a file
 abbrev pub Fault : Type 0

@@ -1,19 +1,17 @@
 -- What a federation file says, table by table.
-use Rattle.std.specs.Prelude.{◌≡◌, ◌≢◌, ℕ, ◌≤◌, Bool, List, [], ◌∷◌, ◌++◌, length, codes, IsTrue}
+use Rattle.std.specs.Prelude.{◌≡◌, ◌≢◌, ℕ, ◌≤◌, Bool, List, [], ◌∷◌, length, codes}
 use Rattle.std.specs.List.{AllZip, list_any}
 use Rattle.std.specs.Str.{bytes_eq}
 use Rattle.plan.specs.declared.slots.Slots.{Slots}
 use Rattle.plan.specs.declared.slots.Timer.{Timer}
 use Rattle.plan.specs.declared.draft.Federate.{Federate}
-use Rattle.plan.specs.declared.draft.PortName.{PortName}
 use Rattle.plan.specs.declared.draft.ConnectionDraft.{ConnectionDraft}
 use Rattle.plan.specs.declared.draft.Draft.{Draft}
 use Rattle.program.specs.declared.program.State.{State}
 use Rattle.program.specs.declared.reaction_draft.ReactionDraft.{ReactionDraft}
-use Rattle.program.specs.Tokens.{is_name}
 use Rattle.toml.specs.Data.{Members}
 use Rattle.program.specs.Limits.{most_states, most_reactions, most_lines}
-use Rattle.loadfed.specs.Tables.{HasOnly, SaysText, SaysNumber, SaysName, SaysDuration, MaySay, SaysDurationOrZero, SaysTexts, SaysNames, SaysTables, SaysEach}
+use Rattle.tables.specs.Tables.{HasOnly, SaysNumber, SaysName, SaysPort, SaysDuration, MaySay, SaysDurationOrZero, SaysTexts, SaysNames, SaysTables, SaysEach}
 
 -- the keys of a federation file
 abbrev pub file_keys : List (List ℕ)
@@ -105,12 +103,6 @@ pub record SaysFederate (members : Members) (f : Federate) : Type 0 where
   pub reactions : List ReactionDraft
   pub reactions_are : SaysEach SaysReaction (codes "reaction") members reactions
   pub slots_are : SaysSlots reactions members f.slots
-
--- `FEDERATE.PORT`, two names parted by one dot
-pub record SaysPort (key : List ℕ) (members : Members) (p : PortName) : Type 0 where
-  pub text_is : SaysText key members (p.federate ++ (codes "." ++ p.port))
-  pub federate_named : IsTrue (is_name p.federate)
-  pub port_named : IsTrue (is_name p.port)
 
 -- a connection, with a delay only where `after` says one
 pub record SaysConnection (members : Members) (c : ConnectionDraft) : Type 0 where

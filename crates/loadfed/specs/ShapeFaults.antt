@@ -1,23 +1,12 @@
 -- What is wrong with the shape of a federation file, and at which key.
-use Rattle.std.specs.Prelude.{◌≡◌, ℕ, ◌<◌, ◌⊎◌, false, List, length, slice_get, Contains, Some, codes}
+use Rattle.std.specs.Prelude.{◌≡◌, ℕ, ◌<◌, ◌⊎◌, List, length, slice_get, Some, codes}
 use Rattle.toml.specs.Data.{Data, table, Members}
 use Rattle.program.specs.Limits.{most_states, most_reactions, most_lines}
-use Rattle.loadfed.specs.declared.fault.LoadFault.{LoadFault}
-use Rattle.loadfed.specs.declared.fault.LoadFault.TheVariants.{WrongShape, OverLimit}
-use Rattle.loadfed.specs.Tables.{keys_in, is_among, SaysNumber, SaysName, SaysDuration, MaySay, SaysDurationOrZero, SaysArray, SaysTexts, SaysNames, SaysTables}
-use Rattle.loadfed.specs.Shape.{file_keys, federate_keys, timer_keys, state_keys, reaction_keys, connection_keys, SaysTriggers, SaysFederateName, SaysPort}
-
--- nothing that may stand at the key stands there: it is missing, of another kind, or not of its form
-pub record IsWrongAt {X : Type 0} (key : List ℕ) (Says : X → Type 0) (fault : LoadFault) : Type 0 where
-  pub told : fault ≡ WrongShape key
-  pub nothing : (x : X) → Says x → ⊥
-
--- the table has a key that is none of these
-pub record HasUnknownKey (known : List (List ℕ)) (members : Members) (fault : LoadFault) : Type 0 where
-  pub key : List ℕ
-  pub told : fault ≡ WrongShape key
-  pub there : Contains (keys_in members) key
-  pub unknown : is_among known key ≡ false
+use Rattle.tables.specs.declared.fault.LoadFault.{LoadFault}
+use Rattle.tables.specs.declared.fault.LoadFault.TheVariants.{OverLimit}
+use Rattle.tables.specs.Tables.{SaysNumber, SaysName, SaysDuration, MaySay, SaysDurationOrZero, SaysArray, SaysTexts, SaysNames, SaysTables, SaysPort}
+use Rattle.tables.specs.TableFaults.{IsWrongAt, HasUnknownKey}
+use Rattle.loadfed.specs.Shape.{file_keys, federate_keys, timer_keys, state_keys, reaction_keys, connection_keys, SaysTriggers, SaysFederateName}
 
 -- more entries than there may be
 pub record HasTooMany (key : List ℕ) (most : ℕ) (members : Members) (fault : LoadFault) : Type 0 where

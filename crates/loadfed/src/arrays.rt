@@ -1,18 +1,17 @@
 //! Arrays of tables.
 ghost use Rattle.std.specs.Prelude.{◌≡◌, ◌⊎◌, IfOk, IfErr};
-ghost use Rattle.loadfed.specs.Sections.{members_of};
-ghost use Rattle.loadfed.specs.Tables.{SaysEach};
+ghost use Rattle.tables.specs.Sections.{members_of};
+ghost use Rattle.tables.specs.Tables.{SaysEach};
 ghost use Rattle.loadfed.specs.ShapeFaults.{HasTablesFault};
 
-use crate::fault::LoadFault;
-use crate::section::Section;
 use std::alloc::Global;
+use tables::{LoadFault, Section};
 
 /// What a table of a file may say.
 pub trait FromTable: Sized + Drop {
     ghost use Rattle.std.specs.Prelude.{◌≡◌, ◌⊎◌, IfOk, IfErr};
     ghost use Rattle.toml.specs.Data.{Members};
-    ghost use Rattle.loadfed.specs.Sections.{members_of};
+    ghost use Rattle.tables.specs.Sections.{members_of};
     ghost use Rattle.loadfed.specs.Refused.{Fault};
 
     ghost says: { Members → Self → Type 0 };

@@ -6,16 +6,14 @@ ghost use Rattle.program.specs.Behaviour.{Behaviour};
 ghost use Rattle.program.specs.Programs.{AreProgramsOf};
 ghost use Rattle.program.specs.Spelled.{SpellsProgram, IsReadable};
 ghost use Rattle.loadfed.specs.Loaded.{most_bytes, SpellPrograms, IsFederationFile, IsPlanFault, IsProgramFault, IsFaultAmong, HasLoadFault};
-ghost use Rattle.loadfed.specs.Shape.{ProgramDraft};
 
-use crate::document::document;
-use crate::fault::LoadFault;
 use crate::federation_shape::{Shape, federation_shape};
 use crate::program_shape::ProgramShape;
-use crate::section::Section;
+use crate::told::{of_plan, of_program};
 use plan::{Draft, Federate, Plan};
 use reactor::{Program, Programs};
 use std::alloc::Global;
+use tables::{LoadFault, Section, document};
 
 /// The most bytes that a federation file has.
 pub const MOST_BYTES: usize = 1_048_576;
@@ -75,7 +73,7 @@ fn planned(alloc: Global, draft: Draft) -> Result<Plan, LoadFault>
 {
     match Plan::check(alloc, draft) {
         Ok(plan) => Ok(plan),
-        Err(fault) => Err(LoadFault::of_plan(fault)),
+        Err(fault) => Err(of_plan(fault)),
     }
 }
 
@@ -109,6 +107,6 @@ fn program(alloc: Global, federate: &Federate, shape: ProgramShape) -> Result<Pr
     let (states, reactions) = shape.into_parts();
     match Program::parse(alloc, &federate.slots, states, reactions.as_slice()) {
         Ok(program) => Ok(program),
-        Err(fault) => Err(LoadFault::of_program(&federate.name, fault)),
+        Err(fault) => Err(of_program(&federate.name, fault)),
     }
 }

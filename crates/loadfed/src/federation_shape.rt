@@ -1,16 +1,16 @@
 ghost use Rattle.std.specs.Prelude.{◌≡◌, ◌⊎◌, map, IfOk, IfErr, codes};
-ghost use Rattle.loadfed.specs.Sections.{members_of};
+ghost use Rattle.tables.specs.Sections.{members_of};
 ghost use Rattle.loadfed.specs.Shape.{SaysFederateName, SaysFederate, SaysProgram, SaysFederates, SaysFederation};
-ghost use Rattle.loadfed.specs.ShapeFaults.{IsWrongAt, HasFederateFault, HasTablesFault, HasShapeFault};
+ghost use Rattle.tables.specs.TableFaults.{IsWrongAt};
+ghost use Rattle.loadfed.specs.ShapeFaults.{HasFederateFault, HasTablesFault, HasShapeFault};
 
 use crate::arrays::{FromTable, read_each};
 use crate::connection_shape::connections_shape;
-use crate::fault::LoadFault;
 use crate::program_shape::ProgramShape;
-use crate::section::Section;
 use crate::slots_shape::slots_shape;
 use plan::{Draft, Federate, Federates, Text};
 use std::alloc::Global;
+use tables::{LoadFault, Section};
 
 /// What a file declares: a draft, and states and reactions of each of its federates, in their order.
 #[derive(Drop)]

@@ -1,17 +1,17 @@
 ghost use Rattle.std.specs.Prelude.{◌≡◌, ◌≤◌, ◌⊎◌, IfOk, IfErr, length, codes};
 ghost use Rattle.program.specs.Limits.{most_states, most_reactions, most_lines};
-ghost use Rattle.loadfed.specs.Sections.{members_of};
-ghost use Rattle.loadfed.specs.Tables.{SaysTexts, SaysEach};
+ghost use Rattle.tables.specs.Sections.{members_of};
+ghost use Rattle.tables.specs.Tables.{SaysTexts, SaysEach};
 ghost use Rattle.loadfed.specs.Shape.{SaysState, SaysTriggers, SaysReaction, SaysProgram};
-ghost use Rattle.loadfed.specs.ShapeFaults.{IsWrongAt, HasTooMany, HasStateFault, HasReactionFault, HasStatesFault, HasReactionsFault};
+ghost use Rattle.tables.specs.TableFaults.{IsWrongAt};
+ghost use Rattle.loadfed.specs.ShapeFaults.{HasTooMany, HasStateFault, HasReactionFault, HasStatesFault, HasReactionsFault};
 
 use crate::arrays::{FromTable, read_each};
-use crate::fault::LoadFault;
-use crate::section::Section;
 use plan::Names;
 use reactor::{ReactionDraft, State};
 use std::alloc::Global;
 use std::marker::Model;
+use tables::{LoadFault, Section};
 
 /// The most states that a federate has.
 const MOST_STATES: usize = 64;

@@ -1,15 +1,14 @@
 ghost use Rattle.std.specs.Prelude.{◌≡◌, ◌≤◌, ◌⊎◌, List, IfOk, IfErr, codes, length};
 ghost use Rattle.plan.specs.declared.input.Input.{Input};
 ghost use Rattle.plan.specs.External.{AreInputsOf};
-ghost use Rattle.loadfed.specs.Sections.{members_of};
+ghost use Rattle.tables.specs.Sections.{members_of};
 ghost use Rattle.loadfed.specs.InputShape.{most_input_bytes, SaysInput, SaysInputs, HasInputFault, HasInputsFault, SaysInputFile, IsFaultOfInputs, HasInputFileFault};
 
 use crate::arrays::{FromTable, read_each};
-use crate::document::document;
-use crate::fault::LoadFault;
-use crate::section::Section;
+use crate::told::of_inputs;
 use plan::{Input, Inputs, Plan};
 use std::alloc::Global;
+use tables::{LoadFault, Section, document};
 use tag::FiniteTag;
 
 /// The most bytes that an input file has.
@@ -52,7 +51,7 @@ fn checked(alloc: Global, plan: &Plan, inputs: Vec<Input>) -> Result<Inputs, Loa
 {
     match Inputs::check(alloc, plan, inputs) {
         Ok(inputs) => Ok(inputs),
-        Err(fault) => Err(LoadFault::of_inputs(fault)),
+        Err(fault) => Err(of_inputs(fault)),
     }
 }
 

@@ -1,14 +1,13 @@
 ghost use Rattle.std.specs.Prelude.{◌≡◌, ◌⊎◌, IfOk, IfErr, codes};
-ghost use Rattle.loadfed.specs.Sections.{members_of};
+ghost use Rattle.tables.specs.Sections.{members_of};
 ghost use Rattle.loadfed.specs.Shape.{SaysTimer, SaysSlots, has_startup, wants_startup};
 ghost use Rattle.loadfed.specs.ShapeFaults.{HasTimerFault, HasSlotsFault};
 
 use crate::arrays::{FromTable, read_each};
-use crate::fault::LoadFault;
-use crate::section::Section;
 use plan::{Slots, Text, Timer, Timers};
 use reactor::ReactionDraft;
 use std::alloc::Global;
+use tables::{LoadFault, Section};
 
 /// The slots in a federate's table; its startup is set where one of its reactions, which are these, wants it.
 pub fn slots_shape(

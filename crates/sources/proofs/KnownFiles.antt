@@ -1,8 +1,8 @@
 -- What holds of the bytes that were read holds of the file, where its bytes are known.
 use Rattle.std.proofs.Common.{◌≡◌, ◌⊎◌, ℕ, List, Option, None, Some, IfSome, inl, inr, ap, refl, subst}
 use Rattle.std.specs.Borrow.{Bor}
-use Rattle.loadfed.specs.declared.fault.LoadFault.{LoadFault}
-use Rattle.loadfed.specs.declared.fault.LoadFault.TheVariants.{Memory}
+use Rattle.tables.specs.declared.fault.LoadFault.{LoadFault}
+use Rattle.tables.specs.declared.fault.LoadFault.TheVariants.{Memory}
 use Rattle.sources.specs.declared.fault.SourceFault.TheVariants.{Load}
 use Rattle.files.specs.Contents.{AreBytesOf}
 use Rattle.sources.specs.Refused.{IsFileFault}

@@ -3,8 +3,8 @@ use Rattle.std.specs.Prelude.{◌≡◌, ℕ, ◌<◌, ◌⊎◌, List, length, 
 use Rattle.std.specs.Borrow.{Bor}
 use Rattle.plan.specs.declared.draft.Draft.{Draft}
 use Rattle.program.specs.Behaviour.{Behaviour}
-use Rattle.loadfed.specs.declared.fault.LoadFault.{LoadFault}
-use Rattle.loadfed.specs.declared.fault.LoadFault.TheVariants.{OverLimit, Memory}
+use Rattle.tables.specs.declared.fault.LoadFault.{LoadFault}
+use Rattle.tables.specs.declared.fault.LoadFault.TheVariants.{OverLimit, Memory}
 use Rattle.loadfed.specs.Loaded.{HasLoadFault}
 use Rattle.loadfed.specs.InputShape.{HasInputFileFault}
 use Rattle.script.specs.declared.fault.ScriptFault.{ScriptFault}

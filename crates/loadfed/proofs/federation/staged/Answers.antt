@@ -1,7 +1,7 @@
 use Rattle.std.proofs.Common.{◌≤◌, length, arith}
 use Rattle.std.proofs.lemmas.Result.{err_from_is_err_and}
 use Rattle.toml.specs.View.{table_view}
-use Rattle.loadfed.specs.Sections.{members_of}
+use Rattle.tables.specs.Sections.{members_of}
 use Rattle.loadfed.proofs.Names.{all_ready}
 use Rattle.loadfed.proofs.Planned.{table_told, shape_told}
 use Rattle.loadfed.proofs.federation.staged.Goals as goal

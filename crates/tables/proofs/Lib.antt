@@ -1,0 +1,10 @@
+-- names parted by a dot
+pub mod Dots
+-- a key says one thing
+pub mod OneReading
+-- faults told upward
+pub mod Refusals
+-- one reading of a key by another, and entries of arrays
+pub mod KeyReadings
+-- ports
+pub mod Ports
