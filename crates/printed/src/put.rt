@@ -16,6 +16,7 @@ impl From<CannotWrite> for io::Error {
 }
 
 /// Writes bytes.
+#[inline(always)]
 pub(crate) fn put<W: Write>(out: &mut W, bytes: &[u8]) -> Result<(), CannotWrite>
     ensures { OnOk result (Appends (W.contents out.old) (W.contents out.new) bytes.now) }
 {

@@ -1,23 +1,70 @@
 //! Rows as text, written as they are asked for: no memory is needed.
-ghost use Rattle.std.specs.Prelude.{◌≡◌, ◌++◌, OnOk, codes};
+ghost use Rattle.std.specs.Prelude.{◌≡◌, ◌≤◌, ◌++◌, OnOk, codes, length, slice_range};
 ghost use Rattle.std.specs.Fmt.{signed_decimal};
 ghost use Rattle.std.specs.Io.KnownBytes.{Appends};
 ghost use Rattle.plan.specs.Numbering.{timer_names};
 ghost use Rattle.program.specs.Resolution.{slot_names};
 ghost use Rattle.printed.specs.RowText.{name_at, printed_input, printed_output, printed_inputs, printed_outputs, spaced_tag, printed_turn, printed_line, printed_rows};
 
+use crate::fixed::FixedBytes;
 use crate::put::{CannotWrite, put};
 use crate::tags::{write_tag, write_value};
 use plan::{Federate, Plan, Slots, Text, Timer};
 use reactor::{Entry, RowView, Rows};
 use std::io::Write;
 
+/// How many rows are put together before they are written.
+const ROWS_AT_ONCE: usize = 128;
+
 /// Writes the rows of a plan's federates, one a line. Where the writer refuses, some of them may have been written.
 pub fn write_rows<W: Write>(out: &mut W, plan: &Plan, rows: &Rows) -> Result<(), CannotWrite>
     ensures { OnOk result (Appends (W.contents out.old) (W.contents out.new) (printed_rows plan.now.federates rows.now)) }
 {
-    for place in 0..rows.len() {
-        write_line(out, plan.federates(), &rows.row(place))?;
+    let mut room = FixedBytes::new();
+    let count = rows.len();
+    let mut first = 0;
+    while first < count {
+        let end = first + ROWS_AT_ONCE.min(count - first);
+        write_some(out, &mut room, plan.federates(), rows, first, end)?;
+        first = end;
+    }
+    Ok(())
+}
+
+/// Writes the rows from one place up to another, put together where there is room for that.
+fn write_some<W: Write>(
+    out: &mut W,
+    room: &mut FixedBytes,
+    federates: &[Federate],
+    rows: &Rows,
+    first: usize,
+    end: usize,
+) -> Result<(), CannotWrite>
+    requires in_order { first ≤ end }
+    requires there { end ≤ length rows.now }
+    ensures { OnOk result (Appends (W.contents out.old) (W.contents out.new) (printed_rows federates.now (slice_range rows.now first end))) }
+{
+    room.clear();
+    match write_lines(room, federates, rows, first, end) {
+        Ok(()) => put(out, room.as_slice()),
+        Err(_) => write_lines(out, federates, rows, first, end),
+    }
+}
+
+/// Writes the rows from one place up to another.
+fn write_lines<W: Write>(
+    out: &mut W,
+    federates: &[Federate],
+    rows: &Rows,
+    first: usize,
+    end: usize,
+) -> Result<(), CannotWrite>
+    requires in_order { first ≤ end }
+    requires there { end ≤ length rows.now }
+    ensures { OnOk result (Appends (W.contents out.old) (W.contents out.new) (printed_rows federates.now (slice_range rows.now first end))) }
+{
+    for place in first..end {
+        write_line(out, federates, &rows.row(place))?;
     }
     Ok(())
 }

@@ -1,0 +1,91 @@
+//! Bytes in room of a fixed size, so that a row's many small writes cost little.
+ghost use Rattle.std.specs.Prelude.{◌≡◌, ◌++◌, [], MatchBool};
+
+use std::io;
+use std::io::{ErrorKind, Write};
+use std::marker::Model;
+
+/// How many bytes there is room for.
+const ROOM: usize = 32768;
+
+/// Bytes, at most as many as there is room for. Contracts see the list of them.
+#[derive(Drop)]
+pub struct FixedBytes {
+    bytes: [u8; ROOM],
+    len: usize,
+}
+
+impl Model for FixedBytes {
+    ghost use Rattle.std.specs.Prelude.{ℕ, List, take, ◌≤◌};
+
+    ghost Value = { List ℕ };
+
+    ghost view = { λ f. take f.len f.bytes };
+
+    ghost invariant = { λ f. f.len ≤ 32768 };
+}
+
+impl FixedBytes {
+    /// None yet.
+    pub fn new() -> FixedBytes
+        ensures { result ≡ [] }
+    {
+        FixedBytes {
+            bytes: [0; ROOM],
+            len: 0,
+        }
+    }
+
+    pub fn as_slice(&self) -> &[u8]
+        ensures { result.now ≡ self.now }
+    {
+        &self.bytes[..self.len]
+    }
+
+    /// Lets go of all.
+    pub fn clear(&mut self)
+        ensures { self.new ≡ [] }
+    {
+        self.len = 0;
+    }
+
+    /// Adds bytes, if there is room for all of them.
+    #[inline(always)]
+    fn add(&mut self, bytes: &[u8]) -> bool
+        ensures { MatchBool result (self.new ≡ self.old ++ bytes.now) (self.new ≡ self.old) }
+    {
+        if bytes.len() > ROOM - self.len {
+            return false;
+        }
+        let end = self.len + bytes.len();
+        self.bytes[self.len..end].copy_from_slice(bytes);
+        self.len = end;
+        true
+    }
+}
+
+/// A write is taken whole, or refused where there is no room for it.
+impl Write for FixedBytes {
+    ghost use Rattle.std.specs.Prelude.{Some};
+
+    ghost contents = { λ f. Some f };
+
+    fn write(&mut self, buf: &[u8]) -> io::Result<usize> {
+        if self.add(buf) {
+            return Ok(buf.len());
+        }
+        Ok(0)
+    }
+
+    fn flush(&mut self) -> io::Result<()> {
+        Ok(())
+    }
+
+    #[inline(always)]
+    fn write_all(&mut self, buf: &[u8]) -> io::Result<()> {
+        if self.add(buf) {
+            return Ok(());
+        }
+        Err(io::Error::from(ErrorKind::WriteZero))
+    }
+}
