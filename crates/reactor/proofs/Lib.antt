@@ -4,6 +4,8 @@ pub mod Listing
 pub mod WorkingLemmas
 -- what is present, put into registers
 pub mod Registers
+-- literals behind others
+pub mod Literals
 -- steps do what their lines say
 pub mod Simulation
 -- steps stay within their room

@@ -85,22 +85,23 @@ impl TurnRoom {
         )
     }
 
-    /// The turn of these reactions on these states, with these inputs present at so many slots.
+    /// The turn of these reactions, with their literals, on these states, with these inputs present at so many slots.
     pub(crate) fn run(
         &mut self,
         states: &[i64],
         slots: usize,
         ports: usize,
         inputs: &[Entry],
+        literals: &[i64],
         reactions: &[ReactionSteps],
     ) -> Result<(), Memory>
         requires small { length states.now + slots + slots < 2 ^ 63 }
-        requires within { All (ReactionWithin (length states.now + slots + slots) ports) reactions.now }
-        ensures turn { OnOk result (IsTurnBy states.now slots ports (value_at inputs.now) reactions.now self.new) }
+        requires within { All (ReactionWithin (length states.now + slots + slots + length literals.now) ports) reactions.now }
+        ensures turn { OnOk result (IsTurnBy states.now slots ports (value_at inputs.now) literals.now reactions.now self.new) }
         ensures fits { OnOk result (length self.new.states ≡ length states.now) }
     {
         self.states = 0;
-        self.working.begin(states, slots, ports, inputs)?;
+        self.working.begin(states, slots, ports, inputs, literals)?;
         self.working.reactions(reactions)?;
         list_into(&mut self.outputs, self.working.outputs.as_slice())?;
         self.states = states.len();
