@@ -8,7 +8,7 @@ use Rattle.whole.specs.Next.{is_earlier, IsFirstAt, IsFirstAmong, AreFirsts}
 use Rattle.whole.proofs.NextTurns.{earlier_then, not_itself, same_some}
 use Rattle.whole.proofs.Putting.{slice_get-set_same, slice_get-set_other}
 
-here : (nexts : List Next) (place : ℕ) (x : Next) → place < length nexts → x ≡ get_or nexts place x → slice_get nexts place ≡ Some x
+pub here : (nexts : List Next) (place : ℕ) (x : Next) → place < length nexts → x ≡ get_or nexts place x → slice_get nexts place ≡ Some x
 here nexts place x there is = slice_get-get_or nexts place x there ∙ ap (λ n. Some n) (sym is)
 
 pub first_alone : (nexts : List Next) (low : ℕ) (x : Next) → low < length nexts → x ≡ get_or nexts low x → IsFirstAmong nexts low (low + 1) x
@@ -101,6 +101,57 @@ moved nexts f low high v x apart w = record {
   there = slice_get-set_other nexts f w.place v (apart w.place w.not_below w.below) ∙ w.there;
   first = λ other a from to at. w.first other a from to (sym (slice_get-set_other nexts f other v (apart other from to)) ∙ at);
 }
+
+-- one is replaced by another that is earlier than the first
+put_first : (nexts : List Next) (f low high : ℕ) (v x : Next) → f < length nexts → low ≤ f → f < high → is_earlier v x ≡ true → IsFirstAmong nexts low high x → IsFirstAmong (set nexts f v) low high v
+put_first nexts f low high v x there from to h w = record {
+  place = f;
+  not_below = from;
+  below = to;
+  there = slice_get-set_same nexts f v there;
+  first = λ other a above under at. elim (cases_eq other f) [
+    | inl e ↦ (
+        let mine : a ≡ v = same_some (slice_get (set nexts f v) f) a v (ap (slice_get (set nexts f v)) (sym e) ∙ at) (slice_get-set_same nexts f v there) in
+        ap (λ n. is_earlier n v) mine ∙ not_itself v)
+    | inr apart ↦ (
+        let not : is_earlier a x ≡ false = w.first other a above under (sym (slice_get-set_other nexts f other v apart) ∙ at) in
+        false_from_ne_true (is_earlier a v) (λ k. (let yes = earlier_then a v x k h in absurd cc)))
+  ];
+}
+
+-- one that is later than the first is replaced by another that is not earlier
+kept_first : (nexts : List Next) (f low high : ℕ) (u v x : Next) → f < length nexts → slice_get nexts f ≡ Some u → is_earlier v x ≡ false → is_earlier x u ≡ true →
+    IsFirstAmong nexts low high x → IsFirstAmong (set nexts f v) low high x
+kept_first nexts f low high u v x there was h k w =
+    let apart : w.place ≢ f = λ e. (
+    let same : x ≡ u = same_some (slice_get nexts f) x u (ap (slice_get nexts) (sym e) ∙ w.there) was in
+    let not : is_earlier x u ≡ false = ap (is_earlier x) (sym same) ∙ not_itself x in
+    absurd cc) in record {
+      place = w.place;
+      not_below = w.not_below;
+      below = w.below;
+      there = slice_get-set_other nexts f w.place v apart ∙ w.there;
+      first = λ other a above under at. elim (cases_eq other f) [
+        | inl e ↦ (
+            let mine : a ≡ v = same_some (slice_get (set nexts f v) f) a v (ap (slice_get (set nexts f v)) (sym e) ∙ at) (slice_get-set_same nexts f v there) in
+            ap (λ n. is_earlier n x) mine ∙ h)
+        | inr other_one ↦ w.first other a above under (sym (slice_get-set_other nexts f other v other_one) ∙ at)
+      ];
+    }
+
+-- the same in a block, where what stands there now is known by an equation
+pub earlier_in_block : (before nexts : List Next) (f block : ℕ) (v x : Next) → f < length before → f / 8 ≡ block → nexts ≡ set before f v → is_earlier v x ≡ true →
+    IsFirstAmong before (block * 8) (block * 8 + 8) x → IsFirstAmong nexts (block * 8) (block * 8 + 8) v
+earlier_in_block before nexts f block v x there in_it now h w =
+    let held = in_block f in
+    let low = held.0 in
+    let high = held.1 in
+    subst (λ ns. IsFirstAmong ns (block * 8) (block * 8 + 8) v) (sym now) (put_first before f (block * 8) (block * 8 + 8) v x there (omega arith) (omega arith) h w)
+
+pub same_in_block : (before nexts : List Next) (f block : ℕ) (u v x : Next) → f < length before → slice_get before f ≡ Some u → nexts ≡ set before f v →
+    is_earlier v x ≡ false → is_earlier x u ≡ true → IsFirstAmong before (block * 8) (block * 8 + 8) x → IsFirstAmong nexts (block * 8) (block * 8 + 8) x
+same_in_block before nexts f block u v x there was now h k w =
+    subst (λ ns. IsFirstAmong ns (block * 8) (block * 8 + 8) x) (sym now) (kept_first before f (block * 8) (block * 8 + 8) u v x there was h k w)
 
 -- one is replaced, and the first of its block with it
 pub set_firsts : (nexts firsts : List Next) (f block : ℕ) (v x : Next) → block ≡ f / 8 → block < length firsts → AreFirsts nexts firsts →

@@ -1,4 +1,4 @@
-ghost use Rattle.std.specs.Prelude.{◌≡◌, ℕ, ◌<◌, ◌≤◌, ◌+◌, ◌*◌, length, All, IfOk, true, Some, slice_get, slice_set};
+ghost use Rattle.std.specs.Prelude.{◌≡◌, ℕ, ◌<◌, ◌≤◌, ◌+◌, ◌*◌, ◌/◌, length, List, All, IfOk, true, Some, slice_get, slice_set};
 ghost use Rattle.std.specs.Option.{option_map};
 ghost use Rattle.whole.specs.declared.nexts.Next.{Next as NextOf};
 ghost use Rattle.whole.specs.Made.{has_target, least_on};
@@ -148,10 +148,26 @@ fn set_tag(nexts: &mut [Next], firsts: &mut [Next], federate: usize, tag: Tag)
     ensures length { length nexts.new ≡ length nexts.old }
     ensures as_many { length firsts.new ≡ length firsts.old }
 {
-    let next = nexts[federate];
-    nexts[federate] = Next { tag, ..next };
+    let was = nexts[federate];
+    let next = Next { tag, ..was };
+    nexts[federate] = next;
     let block = federate / BLOCK;
-    firsts[block] = first_of_block(nexts, block);
+    firsts[block] = first_after(nexts, block, &firsts[block], &was, &next);
+}
+
+/// The first of a block in which one is replaced by another; before that `first` was the first. The block is read only
+/// where the one that was replaced may have been the first.
+fn first_after(nexts: &[Next], block: usize, first: &Next, was: &Next, next: &Next) -> Next
+    requires { block * 8 < length nexts.now }
+    ensures { (before : List NextOf) (federate : ℕ) → federate < length before → federate / 8 ≡ block → slice_get before federate ≡ Some was.now → nexts.now ≡ slice_set before federate next.now → IsFirstAmong before (block * 8) (block * 8 + 8) first.now → IsFirstAmong nexts.now (block * 8) (block * 8 + 8) result }
+{
+    if is_earlier(next, first) {
+        *next
+    } else if is_earlier(first, was) {
+        *first
+    } else {
+        first_of_block(nexts, block)
+    }
 }
 
 /// Gives the targets of a turn the tags of their next events.
