@@ -15,8 +15,11 @@ use std::alloc::Global;
 use std::marker::Model;
 use world::World;
 
-/// How far from its cursor a frame is looked for by a guess.
-const REACH: usize = 64;
+/// How far ahead of its cursor a frame is looked for by a guess: past those that were sent and never came, as Acks that writers
+/// left out.
+const AHEAD: usize = 4096;
+/// How far behind its cursor a frame is looked for by a guess, since it may come again.
+const BEHIND: usize = 64;
 
 /// The world that an audit makes, step by step. Contracts see that world.
 #[derive(Drop)]
@@ -38,6 +41,7 @@ impl<'a> Machine for Auditor<'a> {
 
     fn place(&mut self, node: NodeId, event: Event, exact: bool) -> Result<Option<Step>, Memory> {
         let Some(step) = self.step_of(node, &event, exact) else {
+            self.miss(node, &event);
             return Ok(None);
         };
         self.make(step)?;
@@ -71,6 +75,18 @@ impl<'a> Auditor<'a> {
         step_of(&self.world, &self.cursors, node, event, exact)
     }
 
+    // Notes that the frame of an event wasn't there, of those that were sent by now.
+    fn miss(&mut self, node: NodeId, event: &Event)
+        ensures { self.new ≡ self.old }
+    {
+        let Event::Frame(peer, _) = event else {
+            return;
+        };
+        if let Some(dir) = direction_to(node, *peer) {
+            self.cursors.miss(dir, self.world.sent(dir));
+        }
+    }
+
     // Makes a step, and moves the cursor past the frame that it delivers.
     fn make(&mut self, step: Step) -> Result<(), Memory>
         ensures made { OnOk result (self.new ≡ with_step self.old step) }
@@ -81,7 +97,7 @@ impl<'a> Auditor<'a> {
             Err(_) => return Err(Memory),
         }
         if let Step::Deliver(dir, k) = step {
-            self.cursors.move_past(dir, k);
+            self.cursors.find(dir, k);
         }
         Ok(())
     }
@@ -119,21 +135,32 @@ fn delivery_of(
     let Some(dir) = direction_to(node, peer) else {
         return None;
     };
-    let Some(k) = place_of(world, cursors.at(dir), dir, frame, exact) else {
+    let Some(k) = place_of(world, cursors, dir, frame, exact) else {
         return None;
     };
     Some(Step::Deliver(dir, k))
 }
 
-// A place at which this frame stands in a direction: near the next one, or, where it looks exactly, anywhere.
-fn place_of(world: &World<'_>, next: usize, dir: Dir, frame: &Frame, exact: bool) -> Option<usize>
+// A place at which this frame stands in a direction: near the next one, unless it is known that it isn't there; or, where it
+// looks exactly, anywhere.
+fn place_of(
+    world: &World<'_>,
+    cursors: &Cursors,
+    dir: Dir,
+    frame: &Frame,
+    exact: bool,
+) -> Option<usize>
     ensures found { IfSome result (λ k. frame_at (frames_in (stations_of world.now) dir) k ≡ Some frame.now) }
     ensures none { result ≡ None → exact ≡ true → (k : ℕ) → frame_at (frames_in (stations_of world.now) dir) k ≢ Some frame.now }
 {
+    if !exact && cursors.has_missed(dir, world.sent(dir)) {
+        return None;
+    }
+    let next = cursors.next(dir);
     if let Some(k) = place_among(world, dir, frame, next, ahead_of(world, dir, next)) {
         return Some(k);
     }
-    if let Some(k) = place_among(world, dir, frame, next.saturating_sub(REACH), next) {
+    if let Some(k) = place_among(world, dir, frame, next.saturating_sub(BEHIND), next) {
         return Some(k);
     }
     if exact {
@@ -195,7 +222,7 @@ fn is_there(world: &World<'_>, federate: usize) -> bool
 // How far ahead of its cursor a frame is looked for by a guess: not past the last one.
 fn ahead_of(world: &World<'_>, dir: Dir, next: usize) -> usize {
     let end = world.sent(dir).saturating_add(1);
-    next.saturating_add(REACH).min(end)
+    next.saturating_add(AHEAD).min(end)
 }
 
 // A place at which the frame stands, among all.

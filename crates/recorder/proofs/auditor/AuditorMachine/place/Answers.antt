@@ -1,5 +1,4 @@
-use Rattle.std.proofs.Common.{refl}
 use Rattle.recorder.proofs.auditor.AuditorMachine.place.Goals as goal
 
 pub returns-in_default-clause-placed : goal.returns-in_default-clause-placed
-returns-in_default-clause-placed c = (refl, λ exact. c.step_of.ensures.none c.in_default.is exact)
+returns-in_default-clause-placed c = (c.miss.ensures, λ exact. c.step_of.ensures.none c.in_default.is exact)
