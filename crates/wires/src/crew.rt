@@ -5,15 +5,14 @@ use desk::{Desk, Shared, gather};
 use node::{Node, NodeId};
 use std::alloc::Global;
 use transports::Ending;
-use workers::{Context, Gate, Hints, Order};
+use workers::{Context, Gate, Hints, Outlet};
 
 /// A node, with the ends of the channels by which its workers talk.
 #[derive(Drop)]
 pub(crate) struct Crew<N: Node, T: Drop, C: Drop> {
     node: NodeId,
     shared: Shared<N>,
-    writers: Vec<Sender<Order<T, C>>>,
-    pub orders: Vec<Receiver<Order<T, C>>>,
+    pub writers: Vec<Outlet<T, C>>,
     pub runner: Option<Hints>,
 }
 
@@ -26,7 +25,10 @@ impl<N: Node, T: Drop, C: Drop> Crew<N, T, C> {
         peers: usize,
         has_runner: bool,
     ) -> Result<Crew<N, T, C>, RunFault> {
-        let (writers, orders) = channels(alloc, peers)?;
+        let mut writers = Vec::with_capacity(alloc, peers)?;
+        for _ in 0..peers {
+            writers.push(Outlet::new(alloc)?)?;
+        }
         let runner = if has_runner {
             Some(Hints::new(alloc)?)
         } else {
@@ -36,7 +38,6 @@ impl<N: Node, T: Drop, C: Drop> Crew<N, T, C> {
             node,
             shared: Shared::new(desk),
             writers,
-            orders,
             runner,
         })
     }

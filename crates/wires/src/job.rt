@@ -9,13 +9,13 @@ use std::thread;
 use std::thread::Threads;
 use std::time::Clock;
 use transports::{Arrived, Cut, Dial, Ending, Entrance, Transport};
-use workers::{Context, Gate, Hints, Order, read, read_dialed, runner, write};
+use workers::{Context, Gate, Hints, Outlet, read, read_dialed, runner, write};
 
 /// What one thread does.
 #[derive(Drop)]
 pub(crate) enum Job<'a, H: Node, M: Node, G: Gate, T: Drop, C: Drop, D: Drop, E: Drop> {
     /// Writes what a node sends to one peer.
-    Write(&'a Receiver<Order<T, C>>, &'a Ending),
+    Write(&'a Outlet<T, C>, &'a Ending),
     /// Runs a member for so many turns.
     Run(Context<'a, M, G, T, C>, &'a Hints, u32),
     /// Lets connections in.
@@ -43,8 +43,8 @@ impl<'a, H: Node, M: Node, G: Gate, T: Transport, C: Cut, D: Dial<T, C> + Drop, 
     for Job<'a, H, M, G, T, C, D, E> {
     fn work<R: Wait + Clock>(self, rt: &R, alloc: Global) -> Option<Left> {
         match self {
-            Job::Write(orders, ending) => {
-                write(rt, alloc, orders, ending);
+            Job::Write(outlet, ending) => {
+                write(rt, alloc, outlet, ending);
                 None
             }
             Job::LetIn(entrance, ending) => {

@@ -18,4 +18,4 @@ pub use transports::{
     Arrived, Broken, Connection, Cut, Dial, Ending, Entrance, Failures, Memory, MemoryCut,
     MemoryTransport, TcpCut, TcpDial, TcpEntrance, TcpTransport, Transport, pair,
 };
-pub use workers::{Context, Gate, Hint, Hints, Next, Open, Order, Pace, Point};
+pub use workers::{Context, Gate, Hint, Hints, Next, Open, Outlet, Pace, Point};

@@ -18,7 +18,7 @@ use transports::{
     Arrived, Cut, Dial, Ending, Entrance, TcpCut, TcpDial, TcpEntrance, TcpTransport, Transport,
     listen,
 };
-use workers::{Gate, Order};
+use workers::{Gate, Outlet};
 
 /// A node that is linked to the hub alone, and how it connects to it.
 #[derive(Drop)]
@@ -151,9 +151,9 @@ fn jobs_of<'a, H: Node, M: Node, G: Gate, T: Drop, C: Drop, D: Drop, E: Drop>(
     let mut jobs = Vec::new(alloc);
     let Ways { dials, entrance } = ways;
     jobs.push(Job::LetIn(entrance, lent.ending))?;
-    add_writers(&mut jobs, &lent.hub.orders, lent.ending)?;
+    add_writers(&mut jobs, &lent.hub.writers, lent.ending)?;
     for member in lent.members {
-        add_writers(&mut jobs, &member.crew.orders, lent.ending)?;
+        add_writers(&mut jobs, &member.crew.writers, lent.ending)?;
         add_runner(&mut jobs, lent, &member.crew)?;
     }
     add_readers(&mut jobs, lent, dials)?;
@@ -163,11 +163,11 @@ fn jobs_of<'a, H: Node, M: Node, G: Gate, T: Drop, C: Drop, D: Drop, E: Drop>(
 // Adds a node's writers.
 fn add_writers<'a, H: Node, M: Node, G: Gate, T: Drop, C: Drop, D: Drop, E: Drop>(
     jobs: &mut Vec<Job<'a, H, M, G, T, C, D, E>>,
-    orders: &'a [Receiver<Order<T, C>>],
+    writers: &'a [Outlet<T, C>],
     ending: &'a Ending,
 ) -> Result<(), RunFault> {
-    for order in orders {
-        jobs.push(Job::Write(order, ending))?;
+    for writer in writers {
+        jobs.push(Job::Write(writer, ending))?;
     }
     Ok(())
 }

@@ -3,8 +3,7 @@ ghost use Rattle.workers.specs.HandedIn.{AreHandedIn};
 
 use crate::gate::{Gate, Point};
 use crate::hints::{Hint, Hints};
-use crate::order::Order;
-use crossbeam_channel::Sender;
+use crate::outlet::Outlet;
 use desk::{Share, Shared};
 use node::{Event, Node, NodeId, Outgoing, Reply};
 use std::alloc::Global;
@@ -57,7 +56,7 @@ pub struct Context<'a, N: Node, G: Gate, T: Drop, C: Drop> {
     pub shared: &'a Shared<N>,
     pub gate: &'a G,
     /// To the writer of each peer, by the peer's number.
-    pub writers: &'a [Sender<Order<T, C>>],
+    pub writers: &'a [Outlet<T, C>],
     /// To the node's runner, if it has one.
     pub runner: Option<&'a Hints>,
     pub ending: &'a Ending,
@@ -103,7 +102,7 @@ impl<'a, N: Node, G: Gate, T: Drop, C: Drop> Context<'a, N, G, T, C> {
         }
         let is_finished = !self.ending.is_set() && desk.finished();
         let has_done = said.has_done;
-        self.send(rt, alloc, said.frames);
+        self.send(rt, said.frames);
         desk.release();
         if has_done {
             self.hint(rt, Hint::Done);
@@ -121,36 +120,23 @@ impl<'a, N: Node, G: Gate, T: Drop, C: Drop> Context<'a, N, G, T, C> {
         }
     }
 
-    /// The run is to end. The node's writers are told, so that they needn't see it by themselves.
+    /// The run is to end. The node's writers are woken, so that they needn't see it by themselves.
     pub fn end<R: Wait>(&self, rt: &R) {
         self.ending.set();
         for writer in self.writers {
-            let _ = writer.send(rt, Order::End);
+            writer.ring(rt);
         }
     }
 
-    /// Hands the frames to their peers' writers, to each its own in one order where there is memory to sort them.
-    pub fn send<R: Wait>(&self, rt: &R, alloc: Global, mut frames: Vec<Outgoing>) {
-        let Some(&Outgoing { peer, .. }) = frames.first() else {
-            return;
-        };
-        if frames.iter().all(|outgoing| outgoing.peer == peer) {
-            let _ = self.order(rt, peer, Order::Frames(frames));
-            return;
-        }
+    /// Hands the frames to their peers' writers, to each its own at once where there is memory to sort them.
+    pub fn send<R: Wait>(&self, rt: &R, mut frames: Vec<Outgoing>) {
         let _ = frames.sort_by_key(|outgoing| outgoing.peer);
         for part in frames.chunk_by(|one, other| one.peer == other.peer) {
-            if let (Some(&Outgoing { peer, .. }), Ok(part)) = (part.first(), part.to_vec(alloc)) {
-                let _ = self.order(rt, peer, Order::Frames(part));
+            if let Some(&Outgoing { peer, .. }) = part.first() {
+                if let Some(writer) = self.writers.get(peer) {
+                    writer.send(rt, part);
+                }
             }
-        }
-    }
-
-    /// Asks a peer's writer; whether it was asked. It isn't where there is no memory, or no such writer any more.
-    pub fn order<R: Wait>(&self, rt: &R, peer: usize, order: Order<T, C>) -> bool {
-        match self.writers.get(peer) {
-            Some(writer) => writer.send(rt, order).is_ok(),
-            None => false,
         }
     }
 

@@ -8,7 +8,7 @@
 //!         |  reads frames                                                                        v
 //!         +--> Context::hand_in: gate, then the node's desk                                 reader::read
 //!                   |            |                                                               |
-//!         Order::Frame    Hint::Done                                        Context::hand_in <---+
+//!            Outlet       Hint::Done                                        Context::hand_in <---+
 //!                   v            v                                               |
 //!            writer::write    runner::run                                  writer::write, one for each federate
 //!
@@ -21,17 +21,19 @@ pub mod dialed;
 pub mod gate;
 mod greeted;
 pub mod hints;
-pub mod order;
+pub mod outlet;
 pub mod pace;
 pub mod reader;
 pub mod runner;
+pub mod side;
 pub mod writer;
 
 pub use context::Context;
 pub use dialed::read_dialed;
 pub use gate::{Gate, Open, Point};
 pub use hints::{Hint, Hints};
-pub use order::Order;
+pub use outlet::Outlet;
 pub use pace::{Next, Pace};
 pub use reader::read;
+pub use side::Side;
 pub use writer::write;

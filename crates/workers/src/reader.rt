@@ -8,7 +8,7 @@ ghost use Rattle.workers.specs.HandedIn.{AreHandedIn};
 use crate::context::Context;
 use crate::gate::Gate;
 use crate::greeted::Greeted;
-use crate::order::Order;
+use crate::side::Side;
 use crossbeam_channel::Receiver;
 use desk::Share;
 use node::{Event, Node, Reply};
@@ -83,11 +83,17 @@ pub(crate) fn read_connection<R: Wait + Clock, N: Node, G: Gate, T: Transport, C
         cut,
     } = connection;
     if let Ok(other) = Arc::try_clone(&cut) {
-        let has_begun = context.order(rt, peer, Order::Begin(outgoing, other, greeting));
-        if has_begun && !context.ending.is_set() {
-            let mut frames = FrameReader::new(alloc);
-            if take_in(rt, alloc, context, share, peer, &mut frames, &first).is_some() {
-                read_on(rt, alloc, context, share, peer, &mut incoming, &mut frames);
+        if let Some(writer) = context.writers.get(peer) {
+            let side = Side {
+                transport: outgoing,
+                cut: other,
+            };
+            writer.begin(rt, side, greeting);
+            if !context.ending.is_set() {
+                let mut frames = FrameReader::new(alloc);
+                if take_in(rt, alloc, context, share, peer, &mut frames, &first).is_some() {
+                    read_on(rt, alloc, context, share, peer, &mut incoming, &mut frames);
+                }
             }
         }
     }

@@ -2,25 +2,16 @@
 ghost use Rattle.std.specs.Prelude.{◌≡◌, OnOk, OnErr};
 ghost use Rattle.workers.specs.Waiting.{nothing, with_frame, covers, all_bytes};
 
-use crate::order::Order;
-use crossbeam_channel::{Receiver, RecvTimeoutError};
+use crate::outlet::Outlet;
+use crate::side::Side;
 use node::Outgoing;
 use signal::{Frame, Memory, write_frame};
 use std::alloc::Global;
 use std::marker::Model;
-use std::sync::{Arc, Wait};
-use std::time::{Clock, Duration};
+use std::sync::Wait;
+use std::thread;
+use std::time::Clock;
 use transports::{Cut, Ending, Transport};
-
-// The longest wait until a writer sees by itself that the run is to end, in ms.
-const LONGEST_WAIT: u64 = 100;
-
-// The side of a connection on which a writer writes.
-#[derive(Drop)]
-struct Side<T: Drop, C: Drop> {
-    transport: T,
-    cut: Arc<C>,
-}
 
 /// A writer: the connection on which it writes, if there is one, and what it writes next. Of Acks that a later one covers only
 /// the later one is written, behind all else.
@@ -70,10 +61,10 @@ impl<T: Transport, C: Cut> Writer<T, C> {
     }
 
     /// Writes from now on on this connection. What was not yet sent is dropped.
-    pub fn begin(&mut self, transport: T, cut: Arc<C>)
+    pub fn begin(&mut self, side: Side<T, C>)
         ensures { self.new ≡ nothing }
     {
-        self.side = Some(Side { transport, cut });
+        self.side = Some(side);
         self.clear();
     }
 
@@ -113,31 +104,10 @@ impl<T: Transport, C: Cut> Writer<T, C> {
         }
     }
 
-    // Does what it is asked. A frame for which there is no memory is lost, as on a line that loses frames.
-    fn obey(&mut self, order: Order<T, C>) {
-        match order {
-            Order::Frames(frames) => {
-                for outgoing in &frames {
-                    let _ = self.add(&outgoing.frame);
-                }
-            }
-            Order::Begin(transport, cut, greeting) => {
-                self.begin(transport, cut);
-                for outgoing in &greeting {
-                    let _ = self.add(&outgoing.frame);
-                }
-            }
-            Order::End => {}
-        }
-    }
-
-    // Does all that it is asked by now.
-    fn obey_all<R: Wait>(&mut self, rt: &R, orders: &Receiver<Order<T, C>>) {
-        for _ in rt.forever() {
-            match orders.try_recv(rt) {
-                Ok(order) => self.obey(order),
-                Err(_) => break,
-            }
+    // Puts frames behind what is written next. A frame for which there is no memory is lost, as on a line that loses frames.
+    fn add_all(&mut self, frames: &[Outgoing]) {
+        for outgoing in frames {
+            let _ = self.add(&outgoing.frame);
         }
     }
 }
@@ -161,27 +131,29 @@ fn covers(frame: &Frame, ack: &Frame) -> bool
     }
 }
 
-/// Writes what is waiting, each time in one send, until the run is to end or nobody can ask any more. What was asked before the
-/// end is still written.
+/// Writes what is waiting, each time in one send, until the run is to end. What was asked before the end is still written.
 pub fn write<R: Wait + Clock, T: Transport, C: Cut>(
     rt: &R,
     alloc: Global,
-    orders: &Receiver<Order<T, C>>,
+    outlet: &Outlet<T, C>,
     ending: &Ending,
 ) {
     let mut writer = Writer::new(alloc);
+    let mut frames = Vec::new(alloc);
     for _ in rt.forever() {
         let is_last = ending.is_set();
-        writer.obey_all(rt, orders);
+        frames.clear();
+        if let Some(side) = outlet.take(rt, &mut frames) {
+            writer.begin(side);
+        }
+        writer.add_all(&frames);
         writer.flush(rt);
         if is_last {
             break;
         }
-        match orders.recv_timeout(rt, Duration::from_millis(LONGEST_WAIT)) {
-            Ok(order) => writer.obey(order),
-            Err(RecvTimeoutError::Timeout) => {}
-            Err(RecvTimeoutError::Disconnected) => break,
-        }
+        outlet.wait(rt);
+        // What is asked until others have run is written in the same send.
+        thread::yield_now();
     }
     writer.finish(rt);
 }
