@@ -1,9 +1,10 @@
-ghost use Rattle.std.specs.Prelude.{◌≡◌, ◌<◌, ◌&&◌, slice_get};
+ghost use Rattle.std.specs.Prelude.{◌≡◌, ◌<◌, ◌&&◌, slice_get, true};
 ghost use Rattle.tag.specs.LogicalTime.{forever, is_same};
 ghost use Rattle.signal.specs.declared.signal.Signal.TheVariants as signals;
 ghost use Rattle.protocol.specs.Standings.{standing_at, is_finished};
 ghost use Rattle.plan.specs.Federation.{connections_of};
 ghost use Rattle.grants.specs.Wires.{network_by};
+ghost use Rattle.grants.specs.Records.{changed_at, with_looks};
 ghost use Rattle.coordinator.specs.Steps.{IsSettled, IsStep};
 
 use crate::sending::{prepare, send};
@@ -82,8 +83,8 @@ impl State {
         let next = self.table.next(peer);
         let announced = self.table.announced(peer);
         let least = lesser_with(tag, self.table.least_transit(peer));
-        self.table.set_next(peer, least);
-        self.table.set_announced(peer, true);
+        note_next(&mut self.table, peer, least);
+        note_announced(&mut self.table, peer);
         self.posts.clear();
         if let Err(fault) = prepare(&mut self.posts, &self.table, peer, outbox) {
             self.table.set_announced(peer, announced);
@@ -168,7 +169,7 @@ impl State {
             signal,
         })?;
         let next = self.table.next(target);
-        self.table.set_next(target, lesser(next, tag.tag()));
+        note_next(&mut self.table, target, lesser(next, tag.tag()));
         if let Err(fault) = prepare(&mut self.posts, &self.table, target, outbox) {
             self.table.set_next(target, next);
             return Err(fault);
@@ -188,4 +189,24 @@ fn has_finished(table: &Table, federate: usize) -> bool
     ensures { result ≡ ((standing_at table.now.standings federate).announced && is_same (standing_at table.now.standings federate).next forever) }
 {
     table.announced(federate) && table.next(federate).is_forever()
+}
+
+/// Notes a federate's next tag. Where that stays, nobody is looked at.
+fn note_next(table: &mut Table, federate: usize, next: Tag)
+    requires { federate < table.old.wires.federates }
+    ensures { table.new ≡ with_looks (changed_at table.old federate (λ s. record s { next = next })) table.new.looks }
+{
+    if table.next(federate) != next {
+        table.set_next(federate, next);
+    }
+}
+
+/// Notes that a NET of a federate came. After its first there is nothing to note, and nobody is looked at.
+fn note_announced(table: &mut Table, federate: usize)
+    requires { federate < table.old.wires.federates }
+    ensures { table.new ≡ with_looks (changed_at table.old federate (λ s. record s { announced = true })) table.new.looks }
+{
+    if !table.announced(federate) {
+        table.set_announced(federate, true);
+    }
 }

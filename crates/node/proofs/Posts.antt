@@ -151,3 +151,51 @@ memory_more ends later old new posts n same before lost last p less e found uncl
   | inl earlier ↦ omega (arith, before p earlier e (rw (← same) found) unclosed, lost p)
   | inr is ↦ memory_last later new posts p n is last e found unclosed
 ]
+
+count_push : (p : ℕ) (posts : List Post) (post : Post) → count_for p (posts ++ post ∷ []) ≡ count_for p posts + (if nat_eq post.peer p then 1 else 0)
+count_push p [] post = grind arith
+count_push p (first ∷ posts) post = grind (arith, count_more p first posts, count_more p first (posts ++ post ∷ []), count_push p posts post)
+
+named_before : (p : ℕ) (posts : List Post) (post : Post) → 1 ≤ count_for p (posts ++ post ∷ []) → (1 ≤ count_for p posts) ⊎ (p ≡ post.peer)
+named_before p posts post named = grind (arith, count_push p posts post)
+
+-- the peers so far have room, and one more post's has
+pub room_named : (ends : List Image) (posts earlier : List Post) (post : Post) →
+    ((p : ℕ) → 1 ≤ count_for p earlier → lacks_at p (count_for p posts) ends ≡ false) → lacks_at post.peer (count_for post.peer posts) ends ≡ false →
+    (p : ℕ) → 1 ≤ count_for p (earlier ++ post ∷ []) → lacks_at p (count_for p posts) ends ≡ false
+room_named ends posts earlier post before last p named = elim (named_before p earlier post named) [ inl there ↦ before p there | inr is ↦ rw is last ]
+
+-- the peers so far have memory, and one more post's has
+pub memory_named : (ends later : List Image) (old new : List ℕ) (posts earlier : List Post) (post : Post) → later ≡ ends →
+    ((p : ℕ) → 1 ≤ count_for p earlier → HasMemory ends old p (count_for p posts)) → ((p : ℕ) → reserved_at old p ≤ reserved_at new p) →
+    HasMemory later new post.peer (count_for post.peer posts) →
+    (p : ℕ) → 1 ≤ count_for p (earlier ++ post ∷ []) → HasMemory later new p (count_for p posts)
+memory_named ends later old new posts earlier post same before lost last p named e found unclosed = elim (named_before p earlier post named) [
+  | inl there ↦ omega (arith, before p there e (rw (← same) found) unclosed, lost p)
+  | inr is ↦ memory_last later new posts p post.peer is last e found unclosed
+]
+
+none_needed : (o : Option Image) → peer_lacks o 0 ≡ false
+none_needed None = refl
+none_needed (Some e) = grind arith
+
+none_or_some : (n : ℕ) → (n ≡ 0) ⊎ (1 ≤ n)
+none_or_some zero = inl refl
+none_or_some (suc n) = inr (omega arith)
+
+room_unless : (ends : List Image) (posts : List Post) (p : ℕ) → (1 ≤ count_for p posts → lacks_at p (count_for p posts) ends ≡ false) →
+    lacks_at p (count_for p posts) ends ≡ false
+room_unless ends posts p has = elim (none_or_some (count_for p posts)) [ inl none ↦ rw none (none_needed (slice_get ends p)) | inr some ↦ has some ]
+
+-- room for the posts to each peer that a post names is room for all
+pub room_for_named : (ends : List Image) (posts : List Post) →
+    ((p : ℕ) → 1 ≤ count_for p posts → lacks_at p (count_for p posts) ends ≡ false) → lacks_room ends posts ≡ false
+room_for_named ends posts each = room_for_all ends posts (λ p. room_unless ends posts p (each p))
+
+-- and so it is with memory
+pub memory_for_named : (ends : List Image) (reserved : List ℕ) (posts : List Post) →
+    ((p : ℕ) → 1 ≤ count_for p posts → HasMemory ends reserved p (count_for p posts)) → (p : ℕ) → HasMemory ends reserved p (count_for p posts)
+memory_for_named ends reserved posts each p e found unclosed = elim (none_or_some (count_for p posts)) [
+  | inl none ↦ omega (arith, none)
+  | inr some ↦ each p some e found unclosed
+]

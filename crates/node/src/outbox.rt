@@ -239,8 +239,33 @@ fn reserve_end(ends: &mut Vec<LinkEnd>, peer: usize, count: usize) -> Result<(),
     Ok(())
 }
 
-// Room and memory at each end, for the posts to it.
+// Room and memory at each end, for the posts to it. Mostly there are few posts, and many ends at the coordinator.
 fn reserve_ends(ends: &mut Vec<LinkEnd>, posts: &[Post]) -> Result<(), NodeFault>
+    ensures answer { result ≢ Err Faults.Memory → result ≡ (if lacks_room (images ends.old.items) posts.now then Err Faults.NoRoom else Ok tt) }
+    ensures memory { OnOk result ((p : ℕ) → HasMemory (images ends.new.items) (reserves ends.new.items) p (count_for p posts.now)) }
+    ensures images { images ends.new.items ≡ images ends.old.items }
+{
+    if posts.len() < ends.len() {
+        reserve_by_post(ends, posts)
+    } else {
+        reserve_by_end(ends, posts)
+    }
+}
+
+// The same post by post. Where a peer comes again, nothing is left to reserve at its end.
+fn reserve_by_post(ends: &mut Vec<LinkEnd>, posts: &[Post]) -> Result<(), NodeFault>
+    ensures answer { result ≢ Err Faults.Memory → result ≡ (if lacks_room (images ends.old.items) posts.now then Err Faults.NoRoom else Ok tt) }
+    ensures memory { OnOk result ((p : ℕ) → HasMemory (images ends.new.items) (reserves ends.new.items) p (count_for p posts.now)) }
+    ensures images { images ends.new.items ≡ images ends.old.items }
+{
+    for post in posts {
+        reserve_end(ends, post.peer, count_for(posts, post.peer))?;
+    }
+    Ok(())
+}
+
+// The same end by end.
+fn reserve_by_end(ends: &mut Vec<LinkEnd>, posts: &[Post]) -> Result<(), NodeFault>
     ensures answer { result ≢ Err Faults.Memory → result ≡ (if lacks_room (images ends.old.items) posts.now then Err Faults.NoRoom else Ok tt) }
     ensures memory { OnOk result ((p : ℕ) → HasMemory (images ends.new.items) (reserves ends.new.items) p (count_for p posts.now)) }
     ensures images { images ends.new.items ≡ images ends.old.items }

@@ -21,30 +21,30 @@ returns-in-Err c =
     let r = c.args.self.now.table in
     let s = standing_at r.standings c.args.peer in
     let there : c.args.peer < c.args.self.now.table.wires.federates = omega arith in
-    let taken = net_passed r c.set_next.new.self c.set_announced.new.self c.args.peer c.args.tag c.lesser_with-least.result c.stop.result c.least_transit.result c.completed.result c.is_next_in_time.result c.is_past.result
+    let taken = net_passed r c.note_next.new.table c.note_announced.new.table c.args.peer c.args.tag c.lesser_with-least.result c.stop.result c.least_transit.result c.completed.result c.is_next_in_time.result c.is_past.result
     c.known.ensures c.requires.settled there c.stop.ensures c.is_next_in_time.ensures c.if-not-is_next_in_time.false c.completed.ensures c.is_past.ensures c.if-not-is_past.false c.least_transit.ensures.least
-    c.lesser_with-least.ensures c.set_next.ensures.value c.set_announced.ensures.value in
-    let back = net_back r c.set_announced.new.self c.set_announced-in-Err.new.self c.set_next-in-Err.new.self c.args.peer c.set_announced-in-Err.new.self.looks c.set_next-in-Err.new.self.looks
+    c.lesser_with-least.ensures c.note_next.ensures c.note_announced.ensures in
+    let back = net_back r c.note_announced.new.table c.set_announced.new.self c.set_next.new.self c.args.peer c.set_announced.new.self.looks c.set_next.new.self.looks
     c.announced-announced.result c.next-next.result (after_net s c.args.tag) c.known.ensures there taken.wires taken.standings refl c.announced-announced.ensures c.next-next.ensures
-    c.set_announced-in-Err.ensures.value c.set_next-in-Err.ensures.value in
-    failed_step r c.set_announced.new.self c.set_next-in-Err.new.self c.args.outbox.now.mail c.prepare.new.outbox.mail c.args.peer c.args.peer (Net c.args.tag)
+    c.set_announced.ensures.value c.set_next.ensures.value in
+    failed_step r c.note_announced.new.table c.set_next.new.self c.args.outbox.now.mail c.prepare.new.outbox.mail c.args.peer c.args.peer (Net c.args.tag)
     (noted (standing_at r.standings) c.args.peer (after_net s c.args.tag)) (after_net s c.args.tag) (after_net s c.args.tag) c.clear.new.self.items c.in-Err.fault taken c.clear.ensures.items
     back.0 back.1 c.prepare.ensures.mail c.in-Err.ensures.answer
 
 pub send-requires-clause-peers : goal.send-requires-clause-peers
 send-requires-clause-peers c =
-    peers_are_there c.set_announced.new.self c.args.peer c.set_announced.new.self.wires.federates [] c.as_slice.result.now tt
-    (c.as_slice.ensures.value ∙ (c.in_default.ensures.posts ∙ ap (λ xs. xs ++ grants_in c.set_announced.new.self (looked_at c.set_announced.new.self.wires c.args.peer)) c.clear.ensures.items)) refl
+    peers_are_there c.note_announced.new.table c.args.peer c.note_announced.new.table.wires.federates [] c.as_slice.result.now tt
+    (c.as_slice.ensures.value ∙ (c.in_default.ensures.posts ∙ ap (λ xs. xs ++ grants_in c.note_announced.new.table (looked_at c.note_announced.new.table.wires c.args.peer)) c.clear.ensures.items)) refl
 
 pub returns : goal.returns
 returns c =
     let r = c.args.self.now.table in
     let s = standing_at r.standings c.args.peer in
     let there : c.args.peer < c.args.self.now.table.wires.federates = omega arith in
-    let taken = net_passed r c.set_next.new.self c.set_announced.new.self c.args.peer c.args.tag c.lesser_with-least.result c.stop.result c.least_transit.result c.completed.result c.is_next_in_time.result c.is_past.result
+    let taken = net_passed r c.note_next.new.table c.note_announced.new.table c.args.peer c.args.tag c.lesser_with-least.result c.stop.result c.least_transit.result c.completed.result c.is_next_in_time.result c.is_past.result
     c.known.ensures c.requires.settled there c.stop.ensures c.is_next_in_time.ensures c.if-not-is_next_in_time.false c.completed.ensures c.is_past.ensures c.if-not-is_past.false c.least_transit.ensures.least
-    c.lesser_with-least.ensures c.set_next.ensures.value c.set_announced.ensures.value in
-    finished_step r c.set_announced.new.self c.set_announced.new.self c.send.new.table c.args.outbox.now.mail c.prepare.new.outbox.mail c.send.new.outbox.mail c.args.peer c.args.peer (Net c.args.tag)
+    c.lesser_with-least.ensures c.note_next.ensures c.note_announced.ensures in
+    finished_step r c.note_announced.new.table c.note_announced.new.table c.send.new.table c.args.outbox.now.mail c.prepare.new.outbox.mail c.send.new.outbox.mail c.args.peer c.args.peer (Net c.args.tag)
     (noted (standing_at r.standings) c.args.peer (after_net s c.args.tag)) (after_net s c.args.tag) (after_net s c.args.tag) c.clear.new.self.items c.as_slice.result.now taken c.clear.ensures.items nothing_first
     taken.wires taken.standings (c.as_slice.ensures.value ∙ c.in_default.ensures.posts) c.prepare.ensures.mail
     (ap (λ xs. lacks_room c.prepare.new.outbox.mail.ends xs) c.as_slice.ensures.value ∙ c.in_default.ensures.ready.room)

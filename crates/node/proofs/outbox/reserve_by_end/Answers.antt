@@ -5,7 +5,7 @@ use Rattle.node.specs.Mail.{count_for, lacks_at}
 use Rattle.node.specs.Box.{images, reserves}
 use Rattle.node.proofs.Ends.{room_for_all}
 use Rattle.node.proofs.Posts.{one_lacks, room_more, memory_more}
-use Rattle.node.proofs.outbox.reserve_ends.Goals as goal
+use Rattle.node.proofs.outbox.reserve_by_end.Goals as goal
 
 pub returns-in_err-reserve_end-clause-answer : goal.returns-in_err-reserve_end-clause-answer
 returns-in_err-reserve_end-clause-answer c =

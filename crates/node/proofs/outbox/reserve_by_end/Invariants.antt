@@ -1,7 +1,7 @@
 use Rattle.std.proofs.Common.{◌≡◌, ◌<◌, ℕ, false}
 use Rattle.node.specs.Mail.{count_for, lacks_at}
 use Rattle.node.specs.Box.{HasMemory, images, reserves}
-use Rattle.node.proofs.outbox.reserve_ends.Given as goal
+use Rattle.node.proofs.outbox.reserve_by_end.Given as goal
 
 -- the ends so far have room and memory
 abbrev pub invariant-loop-peer : goal.invariant-loop-peer
