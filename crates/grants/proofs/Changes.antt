@@ -1,6 +1,6 @@
 -- What a change of one standing leaves: who is eligible, and how many that are not so any more.
 use Rattle.std.proofs.Common.{◌≡◌, ℕ, ◌+◌, ◌<◌, ◌≤◌, Bool, true, false, List, [], ◌∷◌, length, refl, sym, ap, ◌∙◌, arith, length-set, inl, inr, Option, None, Some}
-use Rattle.std.specs.Prelude.{nat_eq, is_some, if◌then◌else◌, ◌||◌, slice_get, slice_index_or, slice_set, MatchOption}
+use Rattle.std.specs.Prelude.{nat_eq, is_some, if◌then◌else◌, slice_get, slice_index_or, slice_set, MatchOption}
 use Rattle.std.proofs.Math.Path.{fun_ext}
 use Rattle.std.proofs.lemmas.Bool.{cases_eq, eq-eqb, ne_eqb, eqb-false, or_parts}
 use Rattle.std.proofs.lemmas.List.{get_or-set_same, get_or-set_other}

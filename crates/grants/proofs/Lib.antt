@@ -2,6 +2,8 @@
 pub mod Transit
 -- Arrivals along lists of routes are the bounds.
 pub mod Arrivals
+-- A tag before the least arrival is before each of them.
+pub mod Passing
 -- Numbers that pass a test: listed, and counted.
 pub mod Numbered
 -- Who is eligible: by the bound, and whom a change leaves alone.

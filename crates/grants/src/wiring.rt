@@ -1,11 +1,12 @@
 ghost use Rattle.std.specs.Prelude.{◌≡◌, ◌<◌, IfOk, length};
 ghost use Rattle.plan.specs.Federation.{federate_count, connections_of};
+ghost use Rattle.tag.specs.LogicalTime.{is_before};
 ghost use Rattle.protocol.specs.Grant.{bound_of, is_eligible};
 ghost use Rattle.protocol.specs.Standings.{standing_at};
 ghost use Rattle.grants.specs.Wires.{AreWires, least_by, network_by, wires_of};
 ghost use Rattle.grants.specs.Routes.{looked_at, routed_below};
 
-use crate::bounds::{first_incoming, first_upstream, is_before};
+use crate::bounds::{first_incoming, first_upstream, passes_incoming, passes_upstream};
 use crate::memory::Memory;
 use crate::routes::Routes;
 use crate::standing::Standing;
@@ -92,6 +93,18 @@ impl Wiring {
         greater(by_paths, by_connections)
     }
 
+    /// Whether a tag is before the bound: nothing can still arrive at the federate then, over any path or over the connections
+    /// that end at it. It looks no further than it has to.
+    pub fn passes(&self, tag: Tag, standings: &[Standing], federate: usize) -> bool
+        requires count { length standings.now ≡ self.now.federates }
+        requires federate { federate < self.now.federates }
+        ensures { result ≡ is_before tag (bound_of (network_by self.now) (least_by self.now) (standing_at standings.now) federate) }
+    {
+        let routes = &self.routes[federate];
+        passes_incoming(tag, routes.incoming(), standings)
+            || passes_upstream(tag, routes.upstream(), standings)
+    }
+
     /// Whether a federate gets a grant: it has announced, and its next tag isn't granted yet, not later than stop, and before the
     /// bound.
     pub fn is_eligible(&self, standings: &[Standing], federate: usize) -> bool
@@ -100,8 +113,7 @@ impl Wiring {
         ensures { result ≡ is_eligible (network_by self.now) (least_by self.now) (standing_at standings.now) federate }
     {
         let standing = &standings[federate];
-        standing.is_waiting(self.stop)
-            && is_before(standing.next(), self.bound(standings, federate))
+        standing.is_waiting(self.stop) && self.passes(standing.next(), standings, federate)
     }
 }
 

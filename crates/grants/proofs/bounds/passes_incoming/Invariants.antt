@@ -1,0 +1,8 @@
+use Rattle.std.proofs.Common.{◌≡◌, take}
+use Rattle.tag.specs.LogicalTime.{is_before, forever}
+use Rattle.protocol.specs.Standings.{standing_at}
+use Rattle.grants.specs.Bounds.{first_incoming}
+use Rattle.grants.proofs.bounds.passes_incoming.Given as goal
+
+abbrev pub invariant-loop-connection : goal.invariant-loop-connection
+invariant-loop-connection l = is_before l.tag (first_incoming (standing_at l.standings) (take l.connection-index l.incoming)) ≡ is_before l.tag forever
