@@ -29,7 +29,7 @@ found_so c opening journals w found opened are searched =
 
 -- the world that is left is of the claim's federation
 pub same_claim : (c : Claim) (w : WorldView) (found : Found) → HasSearched c w found → claim_of w c.reports c.coordinator ≡ c
-same_claim c w (Whole steps) searched = ap (λ v. claim_of v c.reports c.coordinator) (searched.1 ∙ after_world (world_of c []) steps.items)
+same_claim c w Whole searched = ap (λ v. claim_of v c.reports c.coordinator) (searched.2 ∙ after_world (world_of c []) searched.0)
 same_claim c w (Stuck node event) searched = ap (λ v. claim_of v c.reports c.coordinator) (searched.2 ∙ after_world (world_of c []) searched.0)
 
 -- so its plan is legal, and its programs and inputs are the plan's
@@ -63,6 +63,10 @@ module _ (w : WorldView) (reports : List Report) (coordinator : List Event) wher
     agrees = agrees;
     apart = subst (λ v. IsFirstApart v reports j row) (found_world steps is) apart;
   }
+
+  -- the steps are those that are listed in that world
+  pub listed_there : (steps : List Step) → w ≡ after_all world_motion (world_of (claim_of w reports coordinator) []) steps → steps ≡ w.steps
+  listed_there steps is = sym (ap (λ v. v.steps) (found_world steps is))
 
   -- or no rows differ
   pub proved_so : (steps : List Step) → IsLegal w.draft → AreProgramsOf w.draft w.programs → AreInputsOf w.draft w.inputs → AreComplete (federate_count w.draft) reports →

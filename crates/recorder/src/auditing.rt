@@ -68,7 +68,7 @@ pub fn audit_run(
     // For the prover: the plan is legal.
     plan.known();
     let (auditor, found) = search_all(alloc, plan, programs, inputs, reports, coordinator)?;
-    judge(auditor.world(), reports, found)
+    judge(auditor.into_world(), reports, found)
 }
 
 // The world in which a search for all journals ended, and how.
@@ -93,18 +93,19 @@ fn search_all<'a>(
 }
 
 // What is to be said of complete reports, in the world in which a search for their journals ended, whatever the coordinator's is.
-fn judge(world: &World<'_>, reports: &[Report], found: Found) -> Result<AuditedRun, Unproved>
-    requires federation { IsLegal world.now.draft × AreProgramsOf world.now.draft world.now.programs × AreInputsOf world.now.draft world.now.inputs }
-    requires complete { AreComplete (federate_count world.now.draft) reports.now }
-    ensures ended { IfOk result (λ audited. (coordinator : List Event) → HasSearched (claim_of world.now reports.now coordinator) world.now found → HasEnded (claim_of world.now reports.now coordinator) audited) }
-    ensures unproved { IfErr result (λ fault. (coordinator : List Event) → HasSearched (claim_of world.now reports.now coordinator) world.now found → IsUnproved (claim_of world.now reports.now coordinator) fault) }
+fn judge(world: World<'_>, reports: &[Report], found: Found) -> Result<AuditedRun, Unproved>
+    requires federation { IsLegal world.draft × AreProgramsOf world.draft world.programs × AreInputsOf world.draft world.inputs }
+    requires complete { AreComplete (federate_count world.draft) reports.now }
+    ensures ended { IfOk result (λ audited. (coordinator : List Event) → HasSearched (claim_of world.entry reports.now coordinator) world.entry found → HasEnded (claim_of world.entry reports.now coordinator) audited) }
+    ensures unproved { IfErr result (λ fault. (coordinator : List Event) → HasSearched (claim_of world.entry reports.now coordinator) world.entry found → IsUnproved (claim_of world.entry reports.now coordinator) fault) }
 {
     match found {
         Found::Stuck(node, event) => Err(Unproved::Stuck(node, event)),
-        Found::All(steps) => match first_apart(world, reports) {
+        Found::All => match first_apart(&world, reports) {
             Some((federate, row)) => Err(Unproved::Mismatch(federate, row)),
             None => {
                 let is_finished = world.finished();
+                let steps = world.into_steps();
                 Ok(AuditedRun { steps, is_finished })
             }
         },

@@ -15,11 +15,13 @@ use std::alloc::Global;
 use std::marker::Model;
 use world::World;
 
-/// How far ahead of its cursor a frame is looked for by a guess: past those that were sent and never came, as Acks that writers
-/// left out.
-const AHEAD: usize = 4096;
-/// How far behind its cursor a frame is looked for by a guess, since it may come again.
+/// How far ahead of its cursor a frame is looked for first: past those that were sent and never came, as Acks that writers left
+/// out.
+const NEAR: usize = 64;
+/// How far behind its cursor it is looked for then, since it may come again, and writers write an Ack behind all else.
 const BEHIND: usize = 64;
+/// How far ahead a guess looks for it at last.
+const AHEAD: usize = 4096;
 
 /// The world that an audit makes, step by step. Contracts see that world.
 #[derive(Drop)]
@@ -60,11 +62,11 @@ impl<'a> Auditor<'a> {
         Ok(Auditor { world, cursors })
     }
 
-    /// That world.
-    pub(crate) fn world(&self) -> &World<'a>
-        ensures { result.now ≡ self.now }
+    /// That world, taken out.
+    pub(crate) fn into_world(self) -> World<'a>
+        ensures { result ≡ self.entry }
     {
-        &self.world
+        self.world
     }
 
     // The step that is this event at this node. With None no step is, where it looks exactly.
@@ -141,7 +143,7 @@ fn delivery_of(
     Some(Step::Deliver(dir, k))
 }
 
-// A place at which this frame stands in a direction: near the next one, unless it is known that it isn't there; or, where it
+// A place at which this frame stands in a direction: near the next one, where it wasn't looked for in vain before; or, where it
 // looks exactly, anywhere.
 fn place_of(
     world: &World<'_>,
@@ -153,14 +155,14 @@ fn place_of(
     ensures found { IfSome result (λ k. frame_at (frames_in (stations_of world.now) dir) k ≡ Some frame.now) }
     ensures none { result ≡ None → exact ≡ true → (k : ℕ) → frame_at (frames_in (stations_of world.now) dir) k ≢ Some frame.now }
 {
-    if !exact && cursors.has_missed(dir, world.sent(dir)) {
-        return None;
-    }
     let next = cursors.next(dir);
-    if let Some(k) = place_among(world, dir, frame, next, ahead_of(world, dir, next)) {
-        return Some(k);
+    let unseen = cursors.unseen(dir);
+    if unseen == next {
+        if let Some(k) = place_near(world, dir, frame, next) {
+            return Some(k);
+        }
     }
-    if let Some(k) = place_among(world, dir, frame, next.saturating_sub(BEHIND), next) {
+    if let Some(k) = place_among(world, dir, frame, unseen, ahead_of(world, dir, next, AHEAD)) {
         return Some(k);
     }
     if exact {
@@ -219,10 +221,20 @@ fn is_there(world: &World<'_>, federate: usize) -> bool
     world.rows(federate).is_some()
 }
 
-// How far ahead of its cursor a frame is looked for by a guess: not past the last one.
-fn ahead_of(world: &World<'_>, dir: Dir, next: usize) -> usize {
+// A place at which the frame stands, a little ahead of its cursor or behind it.
+fn place_near(world: &World<'_>, dir: Dir, frame: &Frame, next: usize) -> Option<usize>
+    ensures found { IfSome result (λ k. frame_at (frames_in (stations_of world.now) dir) k ≡ Some frame.now) }
+{
+    match place_among(world, dir, frame, next, ahead_of(world, dir, next, NEAR)) {
+        Some(k) => Some(k),
+        None => place_among(world, dir, frame, next.saturating_sub(BEHIND), next),
+    }
+}
+
+// So many places ahead of a cursor, but not past the last one.
+fn ahead_of(world: &World<'_>, dir: Dir, next: usize, count: usize) -> usize {
     let end = world.sent(dir).saturating_add(1);
-    next.saturating_add(AHEAD).min(end)
+    next.saturating_add(count).min(end)
 }
 
 // A place at which the frame stands, among all.

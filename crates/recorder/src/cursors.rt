@@ -1,8 +1,8 @@
 use schedule::Dir;
 use std::alloc::{AllocError, Global};
 
-/// Where frames are looked for first, direction by direction, and where it is known that the one that comes next isn't there. No
-/// answer rests on it, where the search is exact.
+/// Where frames are looked for first, direction by direction, and where the one that comes next was looked for in vain. No answer
+/// rests on it, where the search is exact.
 #[derive(Drop)]
 pub(crate) struct Cursors {
     up: Vec<Cursor>,
@@ -12,19 +12,16 @@ pub(crate) struct Cursors {
 // In one direction.
 #[derive(Clone, Copy)]
 struct Cursor {
-    // The place after the frame that was found last.
+    // The place after the last frame that was found.
     next: usize,
-    // How many frames had been sent when the one that was looked for since then wasn't there.
-    missed: Option<usize>,
+    // The place after those at which the next frame was looked for in vain.
+    unseen: usize,
 }
 
 impl Cursors {
     /// Each at the first frame, for so many federates.
     pub(crate) fn new(alloc: Global, count: usize) -> Result<Cursors, AllocError> {
-        let first = Cursor {
-            next: 1,
-            missed: None,
-        };
+        let first = Cursor { next: 1, unseen: 1 };
         let up = Vec::from_elem(alloc, first, count)?;
         let down = Vec::from_elem(alloc, first, count)?;
         Ok(Cursors { up, down })
@@ -38,25 +35,25 @@ impl Cursors {
         }
     }
 
-    /// Whether the next frame wasn't there when so many had been sent.
-    pub(crate) fn has_missed(&self, dir: Dir, sent: usize) -> bool {
+    /// The place from which on it wasn't looked for as yet: the same one where it wasn't looked for at all.
+    pub(crate) fn unseen(&self, dir: Dir) -> usize {
         match self.at(dir) {
-            Some(cursor) => cursor.missed == Some(sent),
-            None => false,
+            Some(cursor) => cursor.unseen,
+            None => 1,
         }
     }
 
     /// The frame at this place was found.
     pub(crate) fn find(&mut self, dir: Dir, k: usize) {
-        let next = k.saturating_add(1);
-        self.set(dir, Cursor { next, missed: None });
+        let next = k.saturating_add(1).max(self.next(dir));
+        self.set(dir, Cursor { next, unseen: next });
     }
 
-    /// The next frame isn't there, of so many that were sent.
+    /// The next frame isn't among so many that were sent.
     pub(crate) fn miss(&mut self, dir: Dir, sent: usize) {
         let next = self.next(dir);
-        let missed = Some(sent);
-        self.set(dir, Cursor { next, missed });
+        let unseen = sent.saturating_add(1).max(next);
+        self.set(dir, Cursor { next, unseen });
     }
 
     fn at(&self, dir: Dir) -> Option<&Cursor> {

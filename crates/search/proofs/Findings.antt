@@ -1,12 +1,13 @@
 -- What a search may answer, where it has read as far as it could.
-use Rattle.std.proofs.Common.{◌≡◌, ◌∙◌, ℕ, zero, suc, ◌+◌, ◌<◌, List, [], ◌∷◌, ◌++◌, length, get_or, drop, replicate, slice_get, Some, refl, sym, ap, arith}
+use Rattle.std.proofs.Common.{◌≡◌, ◌∙◌, ℕ, zero, suc, ◌+◌, ◌<◌, List, [], ◌∷◌, ◌++◌, length, get_or, drop, replicate, slice_get, None, Some, refl, sym, ap, arith}
 use Rattle.std.proofs.lemmas.List.{take-append-drop, take_all, length-take-le}
 use Rattle.node.specs.declared.event.Event.{Event}
 use Rattle.node.specs.declared.node_id.NodeId.{NodeId}
 use Rattle.node.specs.declared.node_id.NodeId.TheVariants.{Coordinator, Federate}
+use Rattle.schedule.specs.declared.step.Step.{Step}
 use Rattle.search.specs.Motion.{Motion}
-use Rattle.search.specs.Journals.{place_of, node_at, journal_of, events_at, IsStuck}
-use Rattle.search.specs.Reading.{Position, IsReading, IsBlocked, IsFirstUnread}
+use Rattle.search.specs.Journals.{place_of, node_at, journal_of, events_at, Agrees, IsStuck}
+use Rattle.search.specs.Reading.{Position, HasRead, IsReading, IsBlocked, IsFirstUnread}
 
 node_placed : (node : NodeId) → node_at (place_of node) ≡ node
 node_placed Coordinator = refl
@@ -25,21 +26,31 @@ none_of (suc count) (suc place) = none_of count place
 
 -- at first nothing is read
 pub nothing_read : {State : Type 0} (motion : Motion State) (opening : State) (journals : List (List Event)) (count : ℕ) (p : Position State) →
-    p.state ≡ opening → p.steps ≡ [] → p.read ≡ replicate count 0 → IsReading motion opening journals p
-nothing_read motion opening journals count p state steps read = record {
-  made = rw steps state;
-  none_forgets = rw steps refl;
-  within = λ place. rw read (rw (none_of count place) (omega arith));
-  events = λ node. rw steps (rw read (rw (none_of count (place_of node)) refl));
-}
+    p.state ≡ opening → p.read ≡ replicate count 0 → IsReading motion opening journals p
+nothing_read motion opening journals count p state read = (
+  [],
+  record {
+    made = state;
+    none_forgets = refl;
+    within = λ place. rw read (rw (none_of count place) (omega arith));
+    events = λ node. rw read (rw (none_of count (place_of node)) refl);
+  },
+)
 
-module _ {State : Type 0} (motion : Motion State) (opening : State) (journals : List (List Event)) (p : Position State) (reading : IsReading motion opening journals p) where
-  how_many : (node : NodeId) → length (events_at motion node opening p.steps) ≡ get_or p.read (place_of node) 0
+module _ {State : Type 0} (motion : Motion State) (opening : State) (journals : List (List Event)) (p : Position State) (steps : List Step) (reading : HasRead motion opening journals p steps) where
+  how_many : (node : NodeId) → length (events_at motion node opening steps) ≡ get_or p.read (place_of node) 0
   how_many node = ap length (reading.events node) ∙ length-take-le (get_or p.read (place_of node) 0) (journal_of journals node) (reading.within (place_of node))
+
+  -- all journals are read to their ends
+  pub all_there : IsFirstUnread journals p.read None → Agrees motion opening steps journals
+  all_there used = record {
+    none_forgets = reading.none_forgets;
+    events = λ node. reading.events node ∙ take_all (get_or p.read (place_of node) 0) (journal_of journals node) (used (place_of node));
+  }
 
   -- a journal isn't read to its end, and no step is a next event
   pub stuck_there : (node : NodeId) (event : ℕ) → length p.read ≡ length journals → ((place : ℕ) → place < length p.read → IsBlocked motion journals p place) →
-      IsFirstUnread journals p.read (Some (node, event)) → IsStuck motion opening p.steps journals node event
+      IsFirstUnread journals p.read (Some (node, event)) → IsStuck motion opening steps journals node event
   stuck_there node event sized blocked first = record {
     begins = record {
       none_forgets = reading.none_forgets;

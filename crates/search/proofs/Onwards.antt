@@ -11,7 +11,7 @@ use Rattle.schedule.specs.declared.step.Step.{Step}
 use Rattle.schedule.specs.declared.step.Step.TheVariants.{Forget}
 use Rattle.search.specs.Motion.{Motion, after_all, IsEvent}
 use Rattle.search.specs.Journals.{place_of, node_at, journal_of, event_at, events_at}
-use Rattle.search.specs.Reading.{Position, IsReading, IsBlocked, unread, GoesOn}
+use Rattle.search.specs.Reading.{Position, HasRead, IsBlocked, unread, GoesOn}
 use Rattle.search.proofs.Pushed.{after_push, events_push, no_forget, none_forgets_push}
 
 pub placed : (place : ℕ) → place_of (node_at place) ≡ place
@@ -40,7 +40,7 @@ module _ {State : Type 0} (motion : Motion State) (forgetting : (state : State) 
     (journals : List (List Event)) (p q : Position State) (place : ℕ) (e : Event) (step : Step)
     (there : place < length p.read) (next : slice_get (get_or journals place []) (get_or p.read place 0) ≡ Some e)
     (is : IsEvent motion p.state step (node_at place) e)
-    (state : q.state ≡ motion.after p.state step) (steps : q.steps ≡ p.steps ++ step ∷ []) (more : ℕ) (one : more ≡ get_or p.read place 0 + 1) (read : q.read ≡ set p.read place more) where
+    (state : q.state ≡ motion.after p.state step) (more : ℕ) (one : more ≡ get_or p.read place 0 + 1) (read : q.read ≡ set p.read place more) where
   read_within : ((k : ℕ) → get_or p.read k 0 ≤ length (get_or journals k [])) → (k : ℕ) → get_or (set p.read place more) k 0 ≤ length (get_or journals k [])
   read_within within k =
       let less = slice_get_within (get_or journals place []) (get_or p.read place 0) e next in
@@ -50,11 +50,11 @@ module _ {State : Type 0} (motion : Motion State) (forgetting : (state : State) 
       (λ (ne : k ≢ place). rw (get_or-set_other p.read place k more 0 ne) (within k))
       (cases_eq k place)
 
-  read_events : (opening : State) → IsReading motion opening journals p → (node : NodeId) →
-      events_at motion node opening (p.steps ++ step ∷ []) ≡ take (get_or (set p.read place more) (place_of node) 0) (journal_of journals node)
-  read_events opening reading node =
-      let pushed = events_push motion node opening p.steps step in
-      let at_that : motion.occurrence (after_all motion opening p.steps) step ≡ Some (record { node = node_at place; event = e }) =
+  read_events : (opening : State) (steps : List Step) → HasRead motion opening journals p steps → (node : NodeId) →
+      events_at motion node opening (steps ++ step ∷ []) ≡ take (get_or (set p.read place more) (place_of node) 0) (journal_of journals node)
+  read_events opening steps reading node =
+      let pushed = events_push motion node opening steps step in
+      let at_that : motion.occurrence (after_all motion opening steps) step ≡ Some (record { node = node_at place; event = e }) =
       ap (λ s. motion.occurrence s step) (sym reading.made) ∙ is in
       let here = placed place in
       let before = reading.events node in
@@ -64,25 +64,28 @@ module _ {State : Type 0} (motion : Motion State) (forgetting : (state : State) 
       let same : get_or (set p.read place more) place 0 ≡ more = get_or-set_same p.read place more 0 there in
       let taken : take more (get_or journals place []) ≡ take (get_or p.read place 0) (get_or journals place []) ++ e ∷ [] =
       ap (λ n. take n (get_or journals place [])) (one ∙ add-one (get_or p.read place 0)) ∙ take_next (get_or p.read place 0) (get_or journals place []) e next in
-      pushed ∙ ap (λ o. events_at motion node opening p.steps ++ event_at node o) at_that ∙ ap (λ r. events_at motion node opening p.steps ++ r) event
+      pushed ∙ ap (λ o. events_at motion node opening steps ++ event_at node o) at_that ∙ ap (λ r. events_at motion node opening steps ++ r) event
       ∙ ap (λ r. r ++ e ∷ []) before
       ∙ (rw eq (sym taken ∙ ap (λ n. take n (get_or journals place [])) (sym same))))
       (λ (ne : place_of node ≢ place).
       let event = event_elsewhere node (node_at place) e (grind arith) in
-      pushed ∙ ap (λ o. events_at motion node opening p.steps ++ event_at node o) at_that ∙ ap (λ r. events_at motion node opening p.steps ++ r) event
-      ∙ append-nil (events_at motion node opening p.steps) ∙ before
+      pushed ∙ ap (λ o. events_at motion node opening steps ++ event_at node o) at_that ∙ ap (λ r. events_at motion node opening steps ++ r) event
+      ∙ append-nil (events_at motion node opening steps) ∙ before
       ∙ ap (λ n. take n (journal_of journals node)) (sym (get_or-set_other p.read place (place_of node) more 0 ne)))
       (cases_eq (place_of node) place)
 
   -- a step that is the next event of a journal
   pub one_more : GoesOn motion journals p q true
   one_more = record {
-    reading = λ opening reading. record {
-      made = state ∙ ap (λ s. motion.after s step) reading.made ∙ sym (after_push motion opening p.steps step) ∙ ap (after_all motion opening) (sym steps);
-      none_forgets = rw steps (none_forgets_push p.steps step reading.none_forgets (no_forget motion forgetting p.state step (node_at place) e is));
-      within = λ k. rw read (read_within reading.within k);
-      events = λ node. rw steps (rw read (read_events opening reading node));
-    };
+    reading = λ opening before. (
+      before.0 ++ step ∷ [],
+      record {
+        made = state ∙ ap (λ s. motion.after s step) before.1.made ∙ sym (after_push motion opening before.0 step);
+        none_forgets = none_forgets_push before.0 step before.1.none_forgets (no_forget motion forgetting p.state step (node_at place) e is);
+        within = λ k. rw read (read_within before.1.within k);
+        events = λ node. rw read (read_events opening before.0 before.1 node);
+      },
+    );
     further = λ _. rw read (less_unread journals p.read place more e there next one);
     still = λ no. absurd (grind arith);
   }

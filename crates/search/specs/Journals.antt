@@ -58,6 +58,6 @@ pub record IsStuck {State : Type 0} (motion : Motion State) (opening : State) (s
 
 -- what a search may answer, and the state that it leaves
 abbrev pub IsFound : {State : Type 0} → Motion State → State → List (List Event) → State → Found → Type 0
-IsFound motion opening journals final (Whole steps) = Agrees motion opening steps.items journals × (final ≡ after_all motion opening steps.items)
+IsFound motion opening journals final Whole = (steps : List Step) × Agrees motion opening steps journals × (final ≡ after_all motion opening steps)
 IsFound motion opening journals final (Stuck node event) =
     (steps : List Step) × IsStuck motion opening steps journals node event × (final ≡ after_all motion opening steps)

@@ -8,18 +8,21 @@ use Rattle.schedule.specs.Kept.{is_forget}
 use Rattle.search.specs.Motion.{Motion, after_all, IsNoStep}
 use Rattle.search.specs.Journals.{place_of, node_at, journal_of, events_at}
 
--- the machine's state, the steps made, and how many events of each journal are read
+-- the machine's state, and how many events of each journal are read
 pub record Position (State : Type 0) : Type 0 where
   pub state : State
-  pub steps : List Step
   pub read : List ℕ
 
--- the steps are made, and each node's events are what is read of its journal
-pub record IsReading {State : Type 0} (motion : Motion State) (opening : State) (journals : List (List Event)) (p : Position State) : Type 0 where
-  pub made : p.state ≡ after_all motion opening p.steps
-  pub none_forgets : list_any is_forget p.steps ≡ false
+-- these steps are made, and each node's events are what is read of its journal
+pub record HasRead {State : Type 0} (motion : Motion State) (opening : State) (journals : List (List Event)) (p : Position State) (steps : List Step) : Type 0 where
+  pub made : p.state ≡ after_all motion opening steps
+  pub none_forgets : list_any is_forget steps ≡ false
   pub within : (place : ℕ) → get_or p.read place 0 ≤ length (get_or journals place [])
-  pub events : (node : NodeId) → events_at motion node opening p.steps ≡ take (get_or p.read (place_of node) 0) (journal_of journals node)
+  pub events : (node : NodeId) → events_at motion node opening steps ≡ take (get_or p.read (place_of node) 0) (journal_of journals node)
+
+-- some steps are made so
+abbrev pub IsReading : {State : Type 0} → Motion State → State → List (List Event) → Position State → Type 0
+IsReading motion opening journals p = (steps : List Step) × HasRead motion opening journals p steps
 
 -- how many events aren't read
 abbrev pub unread : List (List Event) → List ℕ → ℕ

@@ -1,7 +1,7 @@
 //! The search for a list of steps that agrees with what each node of a federation wrote down.
 //!
-//! Promise to the layer above: an Ok is a list of steps in which each node's events are its journal, or no further event of a
-//! journal can be placed (`specs/Journals`), whatever machine makes the steps.
+//! Promise to the layer above: with an Ok the machine made steps in which each node's events are its journal, or no further event
+//! of a journal can be placed (`specs/Journals`), whatever machine makes the steps. The search keeps no list of them.
 //!
 //!     search --> round            every node once, by the machine's guess; after a round that moved nothing, exactly
 //!                  |

@@ -6,7 +6,6 @@ ghost use Rattle.search.specs.Reading.{GoesOn, IsBlocked, IsFirstUnread, IsReadi
 use crate::machine::Machine;
 use crate::memory::Memory;
 use node::{Event, NodeId};
-use schedule::Step;
 use std::alloc::Global;
 
 // The node of a place among the journals.
@@ -45,22 +44,19 @@ fn read_one<M: Machine>(
     machine: &mut M,
     journals: &[&[Event]],
     read: &mut [usize],
-    steps: &mut Vec<Step>,
     place: usize,
     exact: bool,
 ) -> Result<bool, Memory>
     requires { place < length read.old }
-    ensures goes_on { IfOk result (λ moved. GoesOn M.motion (map (λ j. j.now) journals.now) (record { state = machine.old; steps = steps.old.items; read = read.old }) (record { state = machine.new; steps = steps.new.items; read = read.new }) moved) }
-    ensures blocked { IfOk result (λ moved. moved ≡ false → exact ≡ true → IsBlocked M.motion (map (λ j. j.now) journals.now) (record { state = machine.old; steps = steps.old.items; read = read.old }) place) }
+    ensures goes_on { IfOk result (λ moved. GoesOn M.motion (map (λ j. j.now) journals.now) (record { state = machine.old; read = read.old }) (record { state = machine.new; read = read.new }) moved) }
+    ensures blocked { IfOk result (λ moved. moved ≡ false → exact ≡ true → IsBlocked M.motion (map (λ j. j.now) journals.now) (record { state = machine.old; read = read.old }) place) }
 {
     let Some(event) = next_event(journals, read, place) else {
         return Ok(false);
     };
-    steps.reserve(1)?;
-    let Some(step) = machine.place(node_at(place), event, exact)? else {
+    let Some(_) = machine.place(node_at(place), event, exact)? else {
         return Ok(false);
     };
-    steps.push_reserved(step);
     read[place] += 1;
     Ok(true)
 }
@@ -70,16 +66,15 @@ fn read_on<M: Machine>(
     machine: &mut M,
     journals: &[&[Event]],
     read: &mut [usize],
-    steps: &mut Vec<Step>,
     place: usize,
     exact: bool,
 ) -> Result<bool, Memory>
     requires { place < length read.old }
-    ensures goes_on { IfOk result (λ moved. GoesOn M.motion (map (λ j. j.now) journals.now) (record { state = machine.old; steps = steps.old.items; read = read.old }) (record { state = machine.new; steps = steps.new.items; read = read.new }) moved) }
-    ensures blocked { IfOk result (λ moved. moved ≡ false → exact ≡ true → IsBlocked M.motion (map (λ j. j.now) journals.now) (record { state = machine.old; steps = steps.old.items; read = read.old }) place) }
+    ensures goes_on { IfOk result (λ moved. GoesOn M.motion (map (λ j. j.now) journals.now) (record { state = machine.old; read = read.old }) (record { state = machine.new; read = read.new }) moved) }
+    ensures blocked { IfOk result (λ moved. moved ≡ false → exact ≡ true → IsBlocked M.motion (map (λ j. j.now) journals.now) (record { state = machine.old; read = read.old }) place) }
 {
     let mut moved = false;
-    while read_one(machine, journals, read, steps, place, exact)? {
+    while read_one(machine, journals, read, place, exact)? {
         moved = true;
     }
     Ok(moved)
@@ -90,15 +85,14 @@ pub(crate) fn round<M: Machine>(
     machine: &mut M,
     journals: &[&[Event]],
     read: &mut [usize],
-    steps: &mut Vec<Step>,
     exact: bool,
 ) -> Result<bool, Memory>
-    ensures goes_on { IfOk result (λ moved. GoesOn M.motion (map (λ j. j.now) journals.now) (record { state = machine.old; steps = steps.old.items; read = read.old }) (record { state = machine.new; steps = steps.new.items; read = read.new }) moved) }
-    ensures blocked { IfOk result (λ moved. moved ≡ false → exact ≡ true → (place : ℕ) → place < length read.old → IsBlocked M.motion (map (λ j. j.now) journals.now) (record { state = machine.old; steps = steps.old.items; read = read.old }) place) }
+    ensures goes_on { IfOk result (λ moved. GoesOn M.motion (map (λ j. j.now) journals.now) (record { state = machine.old; read = read.old }) (record { state = machine.new; read = read.new }) moved) }
+    ensures blocked { IfOk result (λ moved. moved ≡ false → exact ≡ true → (place : ℕ) → place < length read.old → IsBlocked M.motion (map (λ j. j.now) journals.now) (record { state = machine.old; read = read.old }) place) }
 {
     let mut moved = false;
     for place in 0..read.len() {
-        if read_on(machine, journals, read, steps, place, exact)? {
+        if read_on(machine, journals, read, place, exact)? {
             moved = true;
         }
     }
@@ -123,14 +117,11 @@ pub(crate) fn read_all<M: Machine>(
     machine: &mut M,
     journals: &[&[Event]],
     read: &mut [usize],
-    steps: &mut Vec<Step>,
 ) -> Result<(), Memory>
-    ensures reading { OnOk result ((opening : M) → IsReading M.motion opening (map (λ j. j.now) journals.now) (record { state = machine.old; steps = steps.old.items; read = read.old }) → IsReading M.motion opening (map (λ j. j.now) journals.now) (record { state = machine.new; steps = steps.new.items; read = read.new })) }
-    ensures blocked { OnOk result ((place : ℕ) → place < length read.old → IsBlocked M.motion (map (λ j. j.now) journals.now) (record { state = machine.new; steps = steps.new.items; read = read.new }) place) }
+    ensures reading { OnOk result ((opening : M) → IsReading M.motion opening (map (λ j. j.now) journals.now) (record { state = machine.old; read = read.old }) → IsReading M.motion opening (map (λ j. j.now) journals.now) (record { state = machine.new; read = read.new })) }
+    ensures blocked { OnOk result ((place : ℕ) → place < length read.old → IsBlocked M.motion (map (λ j. j.now) journals.now) (record { state = machine.new; read = read.new }) place) }
 {
-    while round(machine, journals, read, steps, false)?
-        || round(machine, journals, read, steps, true)?
-    {}
+    while round(machine, journals, read, false)? || round(machine, journals, read, true)? {}
     Ok(())
 }
 

@@ -7,7 +7,6 @@ use crate::machine::Machine;
 use crate::memory::Memory;
 use crate::reading::{first_unread, none_read, read_all};
 use node::Event;
-use schedule::Step;
 use std::alloc::Global;
 
 /// Lets the machine make steps that agree with the journals: the coordinator's, then the federates' by number. For each event it
@@ -21,7 +20,7 @@ pub fn search<M: Machine>(
     ensures { IfOk result (λ found. IsFound M.motion machine.old (map (λ j. j.now) journals.now) machine.new found) }
 {
     let mut read = none_read(alloc, journals.len())?;
-    find(machine, journals, &mut read, Vec::new(alloc))
+    find(machine, journals, &mut read)
 }
 
 // The search, where nothing is read as yet.
@@ -29,15 +28,14 @@ fn find<M: Machine>(
     machine: &mut M,
     journals: &[&[Event]],
     read: &mut [usize],
-    mut steps: Vec<Step>,
 ) -> Result<Found, Memory>
     requires sized { length read.old ≡ length journals.now }
-    requires begun { IsReading M.motion machine.old (map (λ j. j.now) journals.now) (record { state = machine.old; steps = steps.items; read = read.old }) }
+    requires begun { IsReading M.motion machine.old (map (λ j. j.now) journals.now) (record { state = machine.old; read = read.old }) }
     ensures { IfOk result (λ found. IsFound M.motion machine.old (map (λ j. j.now) journals.now) machine.new found) }
 {
-    read_all(machine, journals, read, &mut steps)?;
+    read_all(machine, journals, read)?;
     match first_unread(journals, read) {
         Some((node, event)) => Ok(Found::Stuck(node, event)),
-        None => Ok(Found::All(steps)),
+        None => Ok(Found::All),
     }
 }

@@ -82,6 +82,13 @@ impl<H: Node, M: Blank> Stations<H, M> {
         &self.steps
     }
 
+    /// The same steps, taken out.
+    pub fn into_steps(self) -> Vec<Step>
+        ensures { result.items ≡ self.steps }
+    {
+        self.steps
+    }
+
     /// The coordinator's station.
     pub fn coordinator(&self) -> &Station<H>
         ensures { result.now ≡ self.now.coordinator }

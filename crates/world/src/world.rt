@@ -123,6 +123,13 @@ impl<'a> World<'a> {
         self.stations.steps()
     }
 
+    /// The same steps, taken out.
+    pub fn into_steps(self) -> Vec<Step>
+        ensures { result.items ≡ self.entry.steps }
+    {
+        self.stations.into_steps()
+    }
+
     /// How many federates there are.
     pub fn federate_count(&self) -> usize
         ensures { result ≡ federate_count self.now.draft }

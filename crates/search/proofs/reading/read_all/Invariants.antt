@@ -5,8 +5,8 @@ use Rattle.search.proofs.reading.read_all.Given as goal
 -- what was read so far
 abbrev pub invariant-loop-machine : goal.invariant-loop-machine
 invariant-loop-machine g l =
-    (opening : _) → IsReading g.M.Machine.motion opening (map (λ j. j.now) l.journals) (record { state = l.fn.machine; steps = l.fn.steps.items; read = l.fn.read }) →
-    IsReading g.M.Machine.motion opening (map (λ j. j.now) l.journals) (record { state = l.machine; steps = l.steps.items; read = l.read })
+    (opening : _) → IsReading g.M.Machine.motion opening (map (λ j. j.now) l.journals) (record { state = l.fn.machine; read = l.fn.read }) →
+    IsReading g.M.Machine.motion opening (map (λ j. j.now) l.journals) (record { state = l.machine; read = l.read })
 
 -- how much isn't read
 abbrev pub decreases-loop-machine : goal.decreases-loop-machine

@@ -5,8 +5,8 @@ use Rattle.search.proofs.reading.read_on.Given as goal
 -- what was read so far
 abbrev pub invariant-loop-moved : goal.invariant-loop-moved
 invariant-loop-moved g l =
-    GoesOn g.M.Machine.motion (map (λ j. j.now) l.journals) (record { state = l.fn.machine; steps = l.fn.steps.items; read = l.fn.read })
-    (record { state = l.machine; steps = l.steps.items; read = l.read }) l.moved
+    GoesOn g.M.Machine.motion (map (λ j. j.now) l.journals) (record { state = l.fn.machine; read = l.fn.read })
+    (record { state = l.machine; read = l.read }) l.moved
 
 -- how much isn't read
 abbrev pub decreases-loop-moved : goal.decreases-loop-moved
