@@ -66,7 +66,7 @@ room_of None = 0
 room_of (Some e) = room_left e
 
 -- an offer takes one of the places left
-offer_takes : (e : Image) (signal : Signal) → is_ok (offer_of e signal) ≡ true → room_left (after_offer e signal) + 1 ≡ room_left e
+pub offer_takes : (e : Image) (signal : Signal) → is_ok (offer_of e signal) ≡ true → room_left (after_offer e signal) + 1 ≡ room_left e
 offer_takes e signal ok = grind (arith, nat_tests, length_push e.kept signal)
 
 framed_one : (p q : ℕ) (r : Result Frame LinkFault) → count_to p (framed q r) ≤ (if nat_eq q p then 1 else 0)

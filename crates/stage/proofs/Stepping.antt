@@ -1,10 +1,12 @@
 -- What a step of one station makes of the world.
-use Rattle.std.proofs.Common.{◌≡◌, ◌≢◌, ℕ, zero, suc, ◌+◌, ◌<◌, ◌≤◌, Bool, true, false, List, [], ◌∷◌, ◌++◌, length, map, set, get_or, take, slice_get, None, Some, nat_eq, refl, sym, ap, ◌∙◌, arith}
+use Rattle.std.proofs.Common.{◌≡◌, ◌≢◌, ℕ, zero, suc, ◌+◌, ◌<◌, ◌≤◌, Bool, true, false, List, [], ◌∷◌, ◌++◌, length, map, set, get_or, take, slice_get, Option, None, Some, nat_eq, refl, sym, ap, ◌∙◌, arith}
+use Rattle.std.specs.Prelude.{◌-◌}
 use Rattle.std.proofs.lemmas.Bool.Decides.{nat_tests}
 use Rattle.std.proofs.lemmas.List.{take_more}
 use Rattle.std.proofs.lemmas.List.Elements.{All-get_or, All-set}
 use Rattle.std.proofs.lemmas.Option.{slice_get_past, slice_get_within, get_or_from_slice_get}
 use Rattle.signal.specs.declared.frame.Frame.{Frame}
+use Rattle.link.specs.Image.{Image}
 use Rattle.node.specs.declared.outgoing.Outgoing.{Outgoing}
 use Rattle.node.specs.declared.event.Event.{Event}
 use Rattle.node.specs.Core.{Core}
@@ -12,9 +14,40 @@ use Rattle.node.specs.Step.{Station, Stepped, Answer, step_of}
 use Rattle.schedule.specs.declared.step.Step.{Step}
 use Rattle.schedule.specs.declared.outcome.Outcome.{Outcome}
 use Rattle.schedule.specs.World.{World, Applied, frames_of, outcome_of, at_federate, listed, applied, after_steps}
-use Rattle.stage.specs.Room.{count_to, most_to, SentView, HasSpare, Fits}
+use Rattle.stage.specs.Room.{count_to, most_to, most_ever_to, SentView, spare_at, AllSpare, IsReserved, HasSpare, Fits}
 use Rattle.stage.specs.Made.{IsWorld, HaveOnePeer}
 use Rattle.stage.proofs.Bound.{within, IsBounded}
+use Rattle.stage.proofs.Rooms.{never_more}
+
+-- a step sends no more than any step to come may
+most_is_ever : (o : Option Image) → most_to o ≤ most_ever_to o
+most_is_ever None = omega arith
+most_is_ever (Some e) = omega arith
+
+-- where there is memory for the most, there is for the next step
+pub has_spare : (ends : List Image) (sent ready : List SentView) (most spare count : ℕ) → IsReserved ends sent most spare → most ≤ count → AllSpare count ready →
+    length ready ≡ length sent → HasSpare ends ready
+has_spare ends sent ready most spare count is enough memory same j there =
+    let next = most_is_ever (slice_get ends j) in
+    let ever = is.bounded j (omega arith) in
+    let here = memory j there in
+    omega arith
+
+-- after a step of the hub: as many places less as frames were sent
+pub reserved_after : {View Row : Type 0} (core : Core View Row) (hub : Bool) (s after : Station View) (e : Event) (answer : Answer) (sent ready later : List SentView)
+    (most spare count used : ℕ) → record { station = after; answer = answer } ≡ step_of core hub s e → IsReserved s.ends sent most spare → AllSpare count ready →
+    length ready ≡ length sent → length later ≡ length ready → ((j : ℕ) → spare_at ready j ≤ spare_at later j + used) → IsReserved after.ends later most (count - used)
+reserved_after core hub s after e answer sent ready later most spare count used is before memory same long few = record {
+  bounded = λ j there.
+      let ends : most_ever_to (slice_get after.ends j) ≡ most_ever_to (slice_get (step_of core hub s e).station.ends j) = ap (λ (r : Stepped _). most_ever_to (slice_get r.station.ends j)) is in
+      let here = before.bounded j (omega arith) in
+      let less = never_more core hub s e j in
+      omega arith;
+  memory = λ j there.
+      let here = memory j (omega arith) in
+      let taken = few j in
+      omega arith;
+}
 
 -- what the hub says fits in the memory reserved
 pub hub_fits : {View Row : Type 0} (core : Core View Row) (hub : Bool) (s after : Station View) (e : Event) (answer : Answer) (outs : List Outgoing) (sent : List SentView) →

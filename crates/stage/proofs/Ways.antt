@@ -1,12 +1,12 @@
 -- The frames of all directions: one of them longer, and the memory that is left.
-use Rattle.std.proofs.Common.{◌≡◌, ◌≢◌, ℕ, zero, suc, ◌+◌, ◌<◌, ◌≤◌, true, List, [], ◌∷◌, ◌++◌, length, map, set, get_or, slice_get, Some, if◌then◌else◌, nat_eq, refl, ap, arith}
+use Rattle.std.proofs.Common.{◌≡◌, ℕ, zero, suc, ◌+◌, ◌<◌, ◌≤◌, true, List, [], ◌∷◌, ◌++◌, length, map, set, get_or, slice_get, Some, if◌then◌else◌, nat_eq, refl, ap, arith}
 use Rattle.std.proofs.lemmas.Bool.Decides.{nat_tests}
 use Rattle.std.proofs.lemmas.List.{map-set, map-append, append_assoc, append-nil}
 use Rattle.std.proofs.lemmas.Option.{slice_get_read}
 use Rattle.signal.specs.declared.frame.Frame.{Frame}
 use Rattle.node.specs.declared.outgoing.Outgoing.{Outgoing}
 use Rattle.schedule.specs.World.{sent_out}
-use Rattle.stage.specs.Room.{count_to, SentView, frames_of_each, spare_at, Fits}
+use Rattle.stage.specs.Room.{count_to, SentView, frames_of_each, spare_at, NoneLost, Fits}
 
 -- what a look at a place tells
 pub found_at : {X : Type 0} (xs : List X) (i : ℕ) (x : X) → i < length xs → x ≡ get_or xs i x → slice_get xs i ≡ Some x
@@ -35,12 +35,12 @@ spare_here [] i x y found = grind arith
 spare_here (a ∷ xs) zero x y found = refl
 spare_here (a ∷ xs) (suc i) x y found = spare_here xs i x y found
 
-pub spare_other : (xs : List SentView) (i : ℕ) (y : SentView) (j : ℕ) → j ≢ i → spare_at (set xs i y) j ≡ spare_at xs j
-spare_other [] i y j other = refl
-spare_other (a ∷ xs) zero y zero other = absurd (other refl)
-spare_other (a ∷ xs) zero y (suc j) other = refl
-spare_other (a ∷ xs) (suc i) y zero other = refl
-spare_other (a ∷ xs) (suc i) y (suc j) other = spare_other xs i y j (λ e. other (ap suc e))
+pub spare_more : (xs : List SentView) (i : ℕ) (x y : SentView) → slice_get xs i ≡ Some x → x.spare ≤ y.spare → NoneLost xs (set xs i y)
+spare_more [] i x y found more j = omega arith
+spare_more (a ∷ xs) zero x y found more zero = grind (arith, more)
+spare_more (a ∷ xs) zero x y found more (suc j) = omega arith
+spare_more (a ∷ xs) (suc i) x y found more zero = omega arith
+spare_more (a ∷ xs) (suc i) x y found more (suc j) = spare_more xs i x y found more j
 
 pub spare_used : (xs : List SentView) (i : ℕ) (x y : SentView) → slice_get xs i ≡ Some x → y.spare + 1 ≡ x.spare →
     (j : ℕ) → spare_at xs j ≤ spare_at (set xs i y) j + (if nat_eq i j then 1 else 0)
@@ -74,6 +74,15 @@ fits_rest sent later out rest all is fits same used j within =
     let before = fits j (omega arith) in
     let count = ap (count_to j) is in
     let here = used j in
+    omega arith
+
+-- a frame more, and a place less at most
+pub used_then : (before sent later : List SentView) (i k : ℕ) → ((j : ℕ) → spare_at before j ≤ spare_at sent j + k) →
+    ((j : ℕ) → spare_at sent j ≤ spare_at later j + (if nat_eq i j then 1 else 0)) → (j : ℕ) → spare_at before j ≤ spare_at later j + (k + 1)
+used_then before sent later i k few used j =
+    let so_far = few j in
+    let here = used j in
+    let one : (if nat_eq i j then 1 else 0) ≤ 1 = grind arith in
     omega arith
 
 -- a list that is replaced twice

@@ -18,6 +18,15 @@ abbrev pub most_to : Option Image → ℕ
 most_to None = 0
 most_to (Some e) = most_of e
 
+-- and however many steps come, in each of them at most so many: an end's room stays, and what is kept stays within it
+abbrev pub most_ever_of : Image → ℕ
+most_ever_of e = max e.room (length e.kept) + 1
+
+-- and none to a peer that isn't there
+abbrev pub most_ever_to : Option Image → ℕ
+most_ever_to None = 0
+most_ever_to (Some e) = most_ever_of e
+
 -- all frames ever sent in a direction, and how many more take no memory
 pub record SentView : Type 0 where
   pub frames : List Frame
@@ -34,6 +43,20 @@ spare_at sent j = get_or (map (λ s. s.spare) sent) j 0
 -- in each direction that is there, what a step of a station with these ends sends at most takes no memory
 abbrev pub HasSpare : List Image → List SentView → Type 0
 HasSpare ends sent = (j : ℕ) → j < length sent → most_to (slice_get ends j) ≤ spare_at sent j
+
+-- in each direction that is there, so many more frames take no memory
+abbrev pub AllSpare : ℕ → List SentView → Type 0
+AllSpare count sent = (j : ℕ) → j < length sent → count ≤ spare_at sent j
+
+-- in no direction fewer frames take no memory than before
+abbrev pub NoneLost : List SentView → List SentView → Type 0
+NoneLost before after = (j : ℕ) → spare_at before j ≤ spare_at after j
+
+-- what is known of a station with these ends and of its directions: no step to come sends more frames in one of them than
+-- `most`, and so many more as `spare` take no memory in each
+pub record IsReserved (ends : List Image) (sent : List SentView) (most spare : ℕ) : Type 0 where
+  pub bounded : (j : ℕ) → j < length sent → most_ever_to (slice_get ends j) ≤ most
+  pub memory : AllSpare spare sent
 
 -- in each direction that is there, these frames take no memory
 abbrev pub Fits : List Outgoing → List SentView → Type 0

@@ -1,7 +1,7 @@
 //! The frames of all directions from or to the coordinator, by federate.
-ghost use Rattle.std.specs.Prelude.{◌≡◌, ◌≢◌, ℕ, ◌+◌, ◌<◌, ◌≤◌, ◌++◌, ◌∷◌, [], if◌then◌else◌, nat_eq, length, map, set, get_or, slice_get, replicate, OnOk, IfOk};
+ghost use Rattle.std.specs.Prelude.{◌≡◌, ℕ, ◌+◌, ◌<◌, ◌≤◌, ◌++◌, ◌∷◌, [], if◌then◌else◌, nat_eq, length, map, set, get_or, slice_get, replicate, OnOk, IfOk};
 ghost use Rattle.schedule.specs.World.{sent_out, frame_at};
-ghost use Rattle.stage.specs.Room.{most_to, frames_of_each, spare_at, HasSpare, Fits};
+ghost use Rattle.stage.specs.Room.{most_to, most_ever_to, frames_of_each, spare_at, AllSpare, NoneLost, Fits};
 
 use crate::memory::Memory;
 use crate::sent::Sent;
@@ -22,16 +22,58 @@ fn most_to<N: Node>(station: &Station<N>, peer: usize) -> Result<usize, Memory>
         .ok_or(Memory)
 }
 
-// Memory for all that the station may send in one step, to each peer.
-pub(crate) fn reserve_each<N: Node>(
-    sent: &mut Vec<Sent>,
-    station: &Station<N>,
-) -> Result<(), Memory>
-    ensures ready { OnOk result (HasSpare station.now.ends sent.new.items) }
-    ensures frames { frames_of_each sent.new.items ≡ frames_of_each sent.old.items }
+// How many frames a station sends to a peer at most in any step to come.
+fn most_ever_to<N: Node>(station: &Station<N>, peer: usize) -> Result<usize, Memory>
+    ensures { IfOk result (λ most. most ≡ most_ever_to (slice_get station.now.ends peer)) }
 {
-    for peer in 0..sent.len() {
-        reserve_at(sent, peer, most_to(station, peer)?)?;
+    let Some(end) = station.end(peer) else {
+        return Ok(0);
+    };
+    end.room().max(end.unacked()).checked_add(1).ok_or(Memory)
+}
+
+// How many frames a station sends to one of its first peers at most in any step to come.
+pub(crate) fn most_ever<N: Node>(station: &Station<N>, peers: usize) -> Result<usize, Memory>
+    ensures { IfOk result (λ most. (j : ℕ) → j < peers → most_ever_to (slice_get station.now.ends j) ≤ most) }
+{
+    let mut most = 0;
+    for peer in 0..peers {
+        most = most_ever_to(station, peer)?.max(most);
+    }
+    Ok(most)
+}
+
+// Memory for so many frames in each direction. Where there is less, it is taken twice over, so that it is seldom asked
+// for. The answer is for how many there is now.
+pub(crate) fn reserve_ahead(
+    sent: &mut Vec<Sent>,
+    most: usize,
+    spare: usize,
+) -> Result<usize, Memory>
+    requires { AllSpare spare sent.old.items }
+    ensures enough { IfOk result (λ count. most ≤ count) }
+    ensures memory { IfOk result (λ count. AllSpare count sent.new.items) }
+    ensures none_lost { NoneLost sent.old.items sent.new.items }
+    ensures frames { frames_of_each sent.new.items ≡ frames_of_each sent.old.items }
+    ensures len { length sent.new.items ≡ length sent.old.items }
+{
+    if most <= spare {
+        return Ok(spare);
+    }
+    let count = most.checked_add(most).ok_or(Memory)?;
+    reserve_each(sent, count)?;
+    Ok(count)
+}
+
+// Memory for so many frames in each direction.
+fn reserve_each(sent: &mut Vec<Sent>, count: usize) -> Result<(), Memory>
+    ensures memory { OnOk result (AllSpare count sent.new.items) }
+    ensures none_lost { NoneLost sent.old.items sent.new.items }
+    ensures frames { frames_of_each sent.new.items ≡ frames_of_each sent.old.items }
+    ensures len { length sent.new.items ≡ length sent.old.items }
+{
+    for place in 0..sent.len() {
+        reserve_at(sent, place, count)?;
     }
     Ok(())
 }
@@ -39,7 +81,7 @@ pub(crate) fn reserve_each<N: Node>(
 // Memory for so many frames in one direction.
 pub(crate) fn reserve_at(sent: &mut Vec<Sent>, place: usize, count: usize) -> Result<(), Memory>
     ensures spare { OnOk result (place < length sent.new.items → count ≤ spare_at sent.new.items place) }
-    ensures others { (j : ℕ) → j ≢ place → spare_at sent.new.items j ≡ spare_at sent.old.items j }
+    ensures none_lost { NoneLost sent.old.items sent.new.items }
     ensures frames { frames_of_each sent.new.items ≡ frames_of_each sent.old.items }
     ensures len { length sent.new.items ≡ length sent.old.items }
 {
@@ -77,7 +119,9 @@ fn append(sent: &mut Vec<Sent>, place: usize, frame: Frame)
 // Each frame in the direction of its peer.
 pub(crate) fn append_each(sent: &mut Vec<Sent>, outgoing: &[Outgoing])
     requires { Fits outgoing.now sent.old.items }
-    ensures { frames_of_each sent.new.items ≡ sent_out (frames_of_each sent.old.items) outgoing.now }
+    ensures frames { frames_of_each sent.new.items ≡ sent_out (frames_of_each sent.old.items) outgoing.now }
+    ensures few_used { (j : ℕ) → spare_at sent.old.items j ≤ spare_at sent.new.items j + length outgoing.now }
+    ensures len { length sent.new.items ≡ length sent.old.items }
 {
     for out in outgoing {
         append(sent, out.peer, out.frame);

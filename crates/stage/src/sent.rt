@@ -53,6 +53,7 @@ impl Sent {
     /// Sees that so many frames can be put without memory.
     pub(crate) fn reserve(&mut self, count: usize) -> Result<(), Memory>
         ensures spare { OnOk result (count ≤ self.new.spare) }
+        ensures none_lost { self.old.spare ≤ self.new.spare }
         ensures frames { self.new.frames ≡ self.old.frames }
     {
         self.frames.reserve(count)?;

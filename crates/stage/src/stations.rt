@@ -8,7 +8,7 @@ ghost use Rattle.stage.specs.Made.{HaveOnePeer, unused};
 
 use crate::blank::forgotten;
 use crate::directions::{
-    append_all, append_each, count, none_sent, nth, reserve_each, reserve_first,
+    append_all, append_each, count, most_ever, none_sent, nth, reserve_ahead, reserve_first,
 };
 use crate::memory::Memory;
 use crate::occurrence::{Occurrence, comes, federate_of, greets, sends_again};
@@ -30,12 +30,16 @@ pub struct Stations<H: Node, M: Blank> {
     federates: Vec<Station<M>>,
     up: Vec<Sent>,
     down: Vec<Sent>,
+    // No step of the coordinator sends more frames to one federate.
+    most: usize,
+    // So many more frames take no memory in each direction from the coordinator.
+    spare: usize,
     steps: Vec<Step>,
 }
 
 impl<H: Node, M: Blank> Model for Stations<H, M> {
     ghost use Rattle.schedule.specs.World as world;
-    ghost use Rattle.stage.specs.Room.{frames_of_each};
+    ghost use Rattle.stage.specs.Room.{frames_of_each, IsReserved};
     ghost use Rattle.stage.specs.Made.{IsWorld};
 
     ghost Value = { world.World H M };
@@ -48,7 +52,7 @@ impl<H: Node, M: Blank> Model for Stations<H, M> {
       steps = w.steps.items;
     } };
 
-    ghost invariant = { λ w. IsWorld H.HUB M.HUB w.federates.items };
+    ghost invariant = { λ w. IsWorld H.HUB M.HUB w.federates.items × IsReserved w.coordinator.ends w.down.items w.most w.spare };
 }
 
 impl<H: Node, M: Blank> Stations<H, M> {
@@ -65,12 +69,15 @@ impl<H: Node, M: Blank> Stations<H, M> {
     {
         let up = none_sent(alloc, federates.len())?;
         let down = none_sent(alloc, federates.len())?;
+        let most = most_ever(&coordinator, federates.len())?;
         Ok(Stations {
             alloc,
             coordinator,
             federates,
             up,
             down,
+            most,
+            spare: 0,
             steps: Vec::new(alloc),
         })
     }
@@ -226,9 +233,11 @@ impl<H: Node, M: Blank> Stations<H, M> {
         ensures as_before { OnErr result (self.new ≡ self.old) }
     {
         self.steps.reserve(1)?;
-        reserve_each(&mut self.down, &self.coordinator)?;
+        self.spare = reserve_ahead(&mut self.down, self.most, self.spare)?;
         let reply = self.coordinator.step(event)?;
-        append_each(&mut self.down, frames_of(&reply));
+        let frames = frames_of(&reply);
+        append_each(&mut self.down, frames);
+        self.spare = self.spare.saturating_sub(frames.len());
         self.steps.push_reserved(step);
         Ok(outcome_of(&reply))
     }

@@ -1,7 +1,7 @@
-use Rattle.std.proofs.Common.{◌≡◌, ◌+◌, ◌∷◌, ◌++◌, [], arith, take, drop, drop-cons}
+use Rattle.std.proofs.Common.{◌≡◌, ◌∙◌, ◌+◌, ◌∷◌, ◌++◌, [], arith, take, drop, drop-cons}
 use Rattle.std.proofs.lemmas.List.{take_more}
 use Rattle.stage.specs.Room.{frames_of_each}
-use Rattle.stage.proofs.Ways.{sent_out_push, fits_first, fits_rest}
+use Rattle.stage.proofs.Ways.{sent_out_push, fits_first, fits_rest, used_then}
 use Rattle.stage.proofs.directions.append_each.Goals as goal
 
 pub append-requires : goal.append-requires
@@ -22,4 +22,6 @@ loop-out-preserved c =
       put = rw (more, push, ← c.loop-out.invariant.put) c.append.ensures.frames;
       fits = fits_rest c.loop-out.sent.items c.append.new.sent.items c.out-item.result (drop (c.loop-out.out-index + 1) c.args.outgoing.now)
           (drop c.loop-out.out-index c.args.outgoing.now) cut c.loop-out.invariant.fits c.append.ensures.len c.append.ensures.one_used;
+      few_used = λ j. used_then c.args.sent.now.items c.loop-out.sent.items c.append.new.sent.items c.out-item.result.peer c.loop-out.out-index c.loop-out.invariant.few_used c.append.ensures.one_used j;
+      len = c.append.ensures.len ∙ c.loop-out.invariant.len;
     }

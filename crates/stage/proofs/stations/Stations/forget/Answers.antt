@@ -9,9 +9,11 @@ pub invariant_of-self-2 : goal.invariant_of-self-2
 invariant_of-self-2 g c =
     let found : slice_get c.self.inside.federates.items c.args.federate ≡ Some c.in-Some.station.now = grind (arith, found_at, c.in-Some.ensures) in
     let made : Some c.in-Some-2.blank ≡ (if has_next c.in-Some.station.now.ends then Some (forgotten g.M.Node.core c.in-Some.station.now) else None) =
-    grind (arith, c.in_ok-blank.ensures, c.in-Some-2.is) in
-    still_world g.M.Node.core g.H.Node.HUB g.M.Node.HUB c.self.inside.federates.items c.replace.new.federates.items c.args.federate c.in-Some.station.now c.in-Some-2.blank
-    c.self.invariant found made c.replace.ensures
+    grind (arith, c.in_ok-blank.ensures, c.in-Some-2.is) in (
+      still_world g.M.Node.core g.H.Node.HUB g.M.Node.HUB c.self.inside.federates.items c.replace.new.federates.items c.args.federate c.in-Some.station.now c.in-Some-2.blank
+          c.self.invariant.0 found made c.replace.ensures,
+      c.self.invariant.1,
+    )
 
 pub returns-clause-done : goal.returns-clause-done
 returns-clause-done g c =
