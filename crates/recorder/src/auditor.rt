@@ -15,14 +15,6 @@ use std::alloc::Global;
 use std::marker::Model;
 use world::World;
 
-/// How far ahead of its cursor a frame is looked for first: past those that were sent and never came, as Acks that writers left
-/// out.
-const NEAR: usize = 64;
-/// How far behind its cursor it is looked for then, since it may come again, and writers write an Ack behind all else.
-const BEHIND: usize = 64;
-/// How far ahead a guess looks for it at last.
-const AHEAD: usize = 4096;
-
 /// The world that an audit makes, step by step. Contracts see that world.
 #[derive(Drop)]
 pub(crate) struct Auditor<'a> {
@@ -47,6 +39,7 @@ impl<'a> Machine for Auditor<'a> {
             return Ok(None);
         };
         self.make(step)?;
+        self.note(step, &event);
         Ok(Some(step))
     }
 
@@ -81,27 +74,32 @@ impl<'a> Auditor<'a> {
     fn miss(&mut self, node: NodeId, event: &Event)
         ensures { self.new ≡ self.old }
     {
-        let Event::Frame(peer, _) = event else {
+        let Event::Frame(peer, frame) = event else {
             return;
         };
         if let Some(dir) = direction_to(node, *peer) {
-            self.cursors.miss(dir, self.world.sent(dir));
+            self.cursors.miss(dir, frame, self.world.sent(dir));
         }
     }
 
-    // Makes a step, and moves the cursor past the frame that it delivers.
+    // Notes where the frame of an event was, if this step delivered it.
+    fn note(&mut self, step: Step, event: &Event)
+        ensures { self.new ≡ self.old }
+    {
+        if let (Step::Deliver(dir, k), Event::Frame(_, frame)) = (step, event) {
+            self.cursors.find(dir, frame, k);
+        }
+    }
+
+    // Makes a step.
     fn make(&mut self, step: Step) -> Result<(), Memory>
         ensures made { OnOk result (self.new ≡ with_step self.old step) }
         ensures as_before { OnErr result (self.new ≡ self.old) }
     {
         match self.world.apply(step) {
-            Ok(_) => {}
-            Err(_) => return Err(Memory),
+            Ok(_) => Ok(()),
+            Err(_) => Err(Memory),
         }
-        if let Step::Deliver(dir, k) = step {
-            self.cursors.find(dir, k);
-        }
-        Ok(())
     }
 }
 
@@ -143,8 +141,8 @@ fn delivery_of(
     Some(Step::Deliver(dir, k))
 }
 
-// A place at which this frame stands in a direction: near the next one, where it wasn't looked for in vain before; or, where it
-// looks exactly, anywhere.
+// A place at which this frame stands in a direction: ahead, where it wasn't looked for in vain before; or, where it looks exactly,
+// anywhere.
 fn place_of(
     world: &World<'_>,
     cursors: &Cursors,
@@ -155,14 +153,8 @@ fn place_of(
     ensures found { IfSome result (λ k. frame_at (frames_in (stations_of world.now) dir) k ≡ Some frame.now) }
     ensures none { result ≡ None → exact ≡ true → (k : ℕ) → frame_at (frames_in (stations_of world.now) dir) k ≢ Some frame.now }
 {
-    let next = cursors.next(dir);
-    let unseen = cursors.unseen(dir);
-    if unseen == next {
-        if let Some(k) = place_near(world, dir, frame, next) {
-            return Some(k);
-        }
-    }
-    if let Some(k) = place_among(world, dir, frame, unseen, ahead_of(world, dir, next, AHEAD)) {
+    let end = world.sent(dir).saturating_add(1);
+    if let Some(k) = place_among(world, dir, frame, cursors.unseen(dir, frame), end) {
         return Some(k);
     }
     if exact {
@@ -219,22 +211,6 @@ fn is_there(world: &World<'_>, federate: usize) -> bool
     ensures { result ≡ nat_lt federate (length (stations_of world.now).federates) }
 {
     world.rows(federate).is_some()
-}
-
-// A place at which the frame stands, a little ahead of its cursor or behind it.
-fn place_near(world: &World<'_>, dir: Dir, frame: &Frame, next: usize) -> Option<usize>
-    ensures found { IfSome result (λ k. frame_at (frames_in (stations_of world.now) dir) k ≡ Some frame.now) }
-{
-    match place_among(world, dir, frame, next, ahead_of(world, dir, next, NEAR)) {
-        Some(k) => Some(k),
-        None => place_among(world, dir, frame, next.saturating_sub(BEHIND), next),
-    }
-}
-
-// So many places ahead of a cursor, but not past the last one.
-fn ahead_of(world: &World<'_>, dir: Dir, next: usize, count: usize) -> usize {
-    let end = world.sent(dir).saturating_add(1);
-    next.saturating_add(count).min(end)
 }
 
 // A place at which the frame stands, among all.

@@ -1,79 +1,97 @@
 use schedule::Dir;
+use signal::Frame;
 use std::alloc::{AllocError, Global};
 
-/// Where frames are looked for first, direction by direction, and where the one that comes next was looked for in vain. No answer
-/// rests on it, where the search is exact.
+/// Where the next frame is looked for, direction by direction, and where it was looked for in vain. A writer may leave Acks behind,
+/// and leave them out; so they are looked for by themselves. No answer rests on it, where the search is exact.
 #[derive(Drop)]
 pub(crate) struct Cursors {
-    up: Vec<Cursor>,
-    down: Vec<Cursor>,
+    up: Vec<Pair>,
+    down: Vec<Pair>,
 }
 
 // In one direction.
 #[derive(Clone, Copy)]
+struct Pair {
+    acks: Cursor,
+    others: Cursor,
+}
+
+// Of frames that come in the order in which they were sent.
+#[derive(Clone, Copy)]
 struct Cursor {
-    // The place after the last frame that was found.
+    // The place after the last one that was found.
     next: usize,
-    // The place after those at which the next frame was looked for in vain.
+    // The place after those at which the next one was looked for in vain.
     unseen: usize,
 }
 
 impl Cursors {
     /// Each at the first frame, for so many federates.
     pub(crate) fn new(alloc: Global, count: usize) -> Result<Cursors, AllocError> {
-        let first = Cursor { next: 1, unseen: 1 };
+        let first = Pair {
+            acks: Cursor::after(0),
+            others: Cursor::after(0),
+        };
         let up = Vec::from_elem(alloc, first, count)?;
         let down = Vec::from_elem(alloc, first, count)?;
         Ok(Cursors { up, down })
     }
 
-    /// The place at which the next frame is looked for first.
-    pub(crate) fn next(&self, dir: Dir) -> usize {
-        match self.at(dir) {
-            Some(cursor) => cursor.next,
-            None => 1,
-        }
+    /// The place from which on this frame is looked for, if it comes next in this direction.
+    pub(crate) fn unseen(&self, dir: Dir, frame: &Frame) -> usize {
+        self.at(dir, frame).unseen
     }
 
-    /// The place from which on it wasn't looked for as yet: the same one where it wasn't looked for at all.
-    pub(crate) fn unseen(&self, dir: Dir) -> usize {
-        match self.at(dir) {
-            Some(cursor) => cursor.unseen,
-            None => 1,
-        }
+    /// This frame was found at this place.
+    pub(crate) fn find(&mut self, dir: Dir, frame: &Frame, k: usize) {
+        let next = self.at(dir, frame).next;
+        self.set(dir, frame, Cursor::after(k.max(next.saturating_sub(1))));
     }
 
-    /// The frame at this place was found.
-    pub(crate) fn find(&mut self, dir: Dir, k: usize) {
-        let next = k.saturating_add(1).max(self.next(dir));
-        self.set(dir, Cursor { next, unseen: next });
-    }
-
-    /// The next frame isn't among so many that were sent.
-    pub(crate) fn miss(&mut self, dir: Dir, sent: usize) {
-        let next = self.next(dir);
+    /// This frame, which comes next, isn't among so many that were sent.
+    pub(crate) fn miss(&mut self, dir: Dir, frame: &Frame, sent: usize) {
+        let next = self.at(dir, frame).next;
         let unseen = sent.saturating_add(1).max(next);
-        self.set(dir, Cursor { next, unseen });
+        self.set(dir, frame, Cursor { next, unseen });
     }
 
-    fn at(&self, dir: Dir) -> Option<&Cursor> {
-        match dir {
+    // What holds of such frames in this direction.
+    fn at(&self, dir: Dir, frame: &Frame) -> Cursor {
+        let pair = match dir {
             Dir::Up(federate) => self.up.get(federate),
             Dir::Down(federate) => self.down.get(federate),
+        };
+        match (pair, frame) {
+            (Some(pair), Frame::Ack { .. }) => pair.acks,
+            (Some(pair), _) => pair.others,
+            (None, _) => Cursor::after(0),
         }
     }
 
-    fn set(&mut self, dir: Dir, cursor: Cursor) {
+    // Sets what holds of such frames in this direction.
+    fn set(&mut self, dir: Dir, frame: &Frame, cursor: Cursor) {
         match dir {
-            Dir::Up(federate) => set(&mut self.up, federate, cursor),
-            Dir::Down(federate) => set(&mut self.down, federate, cursor),
+            Dir::Up(federate) => set(&mut self.up, federate, frame, cursor),
+            Dir::Down(federate) => set(&mut self.down, federate, frame, cursor),
         }
     }
 }
 
-// Sets a federate's, if there is such a federate.
-fn set(cursors: &mut Vec<Cursor>, federate: usize, cursor: Cursor) {
-    if let Some(place) = cursors.get_mut(federate) {
-        *place = cursor;
+impl Cursor {
+    // After the frame at this place.
+    fn after(k: usize) -> Cursor {
+        let next = k.saturating_add(1);
+        Cursor { next, unseen: next }
+    }
+}
+
+// Sets what holds of such frames at this federate, if there is one.
+fn set(pairs: &mut Vec<Pair>, federate: usize, frame: &Frame, cursor: Cursor) {
+    if let Some(pair) = pairs.get_mut(federate) {
+        match frame {
+            Frame::Ack { .. } => pair.acks = cursor,
+            _ => pair.others = cursor,
+        }
     }
 }
