@@ -16,6 +16,7 @@ pub mod doubt;
 pub mod fault;
 pub mod printing;
 mod reports;
+mod watching;
 
 pub use doubt::Doubt;
 pub use fault::AuditedFault;

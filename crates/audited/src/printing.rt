@@ -1,4 +1,4 @@
-ghost use Rattle.std.specs.Prelude.{◌≡◌, ◌≢◌, List, OnOk, IfErr};
+ghost use Rattle.std.specs.Prelude.{◌≡◌, ◌≢◌, ◌⊎◌, [], List, OnOk, IfOk, IfErr};
 ghost use Rattle.std.specs.Io.KnownBytes.{Appends};
 ghost use Rattle.plan.specs.declared.input.Input.{Input};
 ghost use Rattle.plan.specs.External.{AreInputsOf};
@@ -11,6 +11,7 @@ ghost use Rattle.audited.specs.Printed.{PrintsAudited, IsAuditedFault, printed_r
 use crate::doubt::Doubt;
 use crate::fault::AuditedFault;
 use crate::reports::reports_of;
+use crate::watching::{gone_on, watch};
 use coordinator::Coordinator;
 use desks::{coordinator_desk, federate_desks};
 use federate::Federate;
@@ -18,14 +19,15 @@ use node::{Event, Node};
 use plan::{Inputs, Plan};
 use printed::{CannotWrite, write_rows};
 use reactor::Programs;
-use recorder::{Report, audit_run, report_of};
+use recorder::{BegunAudit, Report, report_of};
 use std::alloc::Global;
 use std::io::Write;
 use std::net::{Net, TcpListener, TcpStream};
 use std::sync::Wait;
+use std::thread;
 use std::thread::Threads;
 use std::time::Clock;
-use wires::{Gathered, Open, RunFault, run_over_tcp};
+use wires::{Gathered, Left, Nodes, Open, RunFault, run_over_tcp};
 
 /// Runs the federation in threads over TCP on loopback until the coordinator is finished or a runner has made so many turns,
 /// audits what its nodes wrote down, and prints each federate's rows, federate by federate. The caller flushes. That a run isn't
@@ -48,31 +50,39 @@ pub fn print_audited_run<
     ensures told { IfErr result (IsAuditedFault plan.now programs.now inputs.now) }
     ensures untouched { IfErr result (λ fault. fault ≢ AuditedFault.CannotWrite → O.contents out.new ≡ O.contents out.old) }
 {
-    let Gathered { hub, members } = run(rt, alloc, plan, programs, inputs, turns)?;
+    let nodes = nodes_of(alloc, plan, programs, inputs)?;
+    let opened = begun(alloc, plan, programs, inputs)?;
+    // What is made ahead is made beside the run; where there is no thread for it, after the run.
+    let (watched, left) = thread::join(
+        rt,
+        ||
+            ensures { result ≡ opened.entry }
+        { watch(rt, alloc, &nodes, opened) },
+        || run_over_tcp(rt, alloc, &nodes, &Open, turns),
+    );
+    // What is left of the steps is made while the desks are taken apart.
+    let (audit, all) = thread::join(
+        rt,
+        ||
+            ensures { result ≡ watched.entry }
+        { gone_on(alloc, watched) },
+        || gathered(alloc, nodes, left),
+    );
+    let Gathered { hub, members } = all?;
     if !hub.station().node().finished() {
         return Err(AuditedFault::NotFinished);
     }
     let reports = reports_of(alloc, plan, members)?;
-    print_audited(
-        alloc,
-        plan,
-        programs,
-        inputs,
-        reports.reports(),
-        hub.journal(),
-        out,
-    )
+    print_audited(alloc, plan, audit, reports.reports(), hub.journal(), out)
 }
 
-// Runs the federation: the desks of all its nodes, when all their workers have ended.
-fn run<'a, R: Threads + Wait + Clock + Net<Stream = TcpStream, Listener = TcpListener> + Sync>(
-    rt: &R,
+// The desks of all nodes of a federation, before their workers begin.
+fn nodes_of<'a>(
     alloc: Global,
     plan: &'a Plan,
     programs: &'a Programs,
     inputs: &'a Inputs,
-    turns: u32,
-) -> Result<Gathered<Coordinator<'a>, Federate<'a>>, AuditedFault>
+) -> Result<Nodes<Coordinator<'a>, Federate<'a>>, AuditedFault>
     requires programs { AreProgramsOf plan.now programs.now }
     requires inputs { AreInputsOf plan.now inputs.now }
     ensures { IfErr result (IsAuditedFault plan.now programs.now inputs.now) }
@@ -83,31 +93,65 @@ fn run<'a, R: Threads + Wait + Clock + Net<Stream = TcpStream, Listener = TcpLis
     let Ok(members) = federate_desks(alloc, plan, programs, inputs) else {
         return Err(AuditedFault::Memory);
     };
-    match run_over_tcp(rt, alloc, hub, members, &Open, turns) {
+    match Nodes::new(alloc, hub, members) {
+        Ok(nodes) => Ok(nodes),
+        Err(_) => Err(AuditedFault::Memory),
+    }
+}
+
+// An audit of a federation of whose run nothing is known.
+fn begun<'a>(
+    alloc: Global,
+    plan: &'a Plan,
+    programs: &'a Programs,
+    inputs: &'a Inputs,
+) -> Result<BegunAudit<'a>, AuditedFault>
+    requires programs { AreProgramsOf plan.now programs.now }
+    requires inputs { AreInputsOf plan.now inputs.now }
+    ensures begun { IfOk result (λ audit. audit ≡ record { draft = plan.now; programs = programs.now; inputs = inputs.now; steps = [] }) }
+    ensures told { IfErr result (IsAuditedFault plan.now programs.now inputs.now) }
+{
+    match BegunAudit::new(alloc, plan, programs, inputs) {
+        Ok(audit) => Ok(audit),
+        Err(_) => Err(AuditedFault::Memory),
+    }
+}
+
+// The desks of all nodes, when all their workers have ended.
+fn gathered<'a>(
+    alloc: Global,
+    nodes: Nodes<Coordinator<'a>, Federate<'a>>,
+    left: Result<Vec<Option<Left>>, RunFault>,
+) -> Result<Gathered<Coordinator<'a>, Federate<'a>>, AuditedFault>
+    ensures { IfErr result (λ fault. (fault ≡ AuditedFault.NotFinished) ⊎ (fault ≡ AuditedFault.Memory)) }
+{
+    let all = match left {
+        Ok(left) => nodes.gather(alloc, left),
+        Err(fault) => Err(fault),
+    };
+    match all {
         Ok(gathered) => Ok(gathered),
         Err(RunFault::NotFinished) => Err(AuditedFault::NotFinished),
         Err(RunFault::Memory) => Err(AuditedFault::Memory),
     }
 }
 
-// Audits these reports with the coordinator's journal, and prints their rows where they are proved and the coordinator is
-// finished.
+// Ends the audit with these reports and the coordinator's journal, and prints their rows where they are proved and the coordinator
+// is finished.
 fn print_audited<O: Write>(
     alloc: Global,
     plan: &Plan,
-    programs: &Programs,
-    inputs: &Inputs,
+    audit: BegunAudit<'_>,
     reports: &[Report],
     coordinator: &[Event],
     out: &mut O,
 ) -> Result<(), AuditedFault>
-    requires programs { AreProgramsOf plan.now programs.now }
-    requires inputs { AreInputsOf plan.now inputs.now }
-    ensures ok { OnOk result (PrintsAudited plan.now programs.now inputs.now (O.contents out.old) (O.contents out.new)) }
-    ensures told { IfErr result (IsAuditedFault plan.now programs.now inputs.now) }
+    requires plan { audit.draft ≡ plan.now }
+    ensures ok { OnOk result (PrintsAudited plan.now audit.entry.programs audit.entry.inputs (O.contents out.old) (O.contents out.new)) }
+    ensures told { IfErr result (IsAuditedFault plan.now audit.entry.programs audit.entry.inputs) }
     ensures untouched { IfErr result (λ fault. fault ≢ AuditedFault.CannotWrite → O.contents out.new ≡ O.contents out.old) }
 {
-    match audit_run(alloc, plan, programs, inputs, reports, coordinator) {
+    match audit.conclude(alloc, reports, coordinator) {
         Ok(audited) if audited.is_finished => {}
         Ok(_) => return Err(AuditedFault::NotFinished),
         Err(fault) => return Err(AuditedFault::Unproved(Doubt::new(alloc, plan, fault))),

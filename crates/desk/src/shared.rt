@@ -1,4 +1,5 @@
-ghost use Rattle.std.specs.Prelude.{◌≡◌, ◌<◌, ℕ, [], ◌∷◌, ◌++◌, length, vec_len, IfOk, OnOk, OnErr};
+ghost use Rattle.std.specs.Prelude.{◌≡◌, ◌<◌, ℕ, List, [], ◌∷◌, ◌++◌, length, take, drop, vec_len, IfOk, OnOk, OnErr};
+ghost use Rattle.node.specs.declared.event.Event.{Event as IsEvent};
 ghost use Rattle.std.specs.Vec.{vec_capacity};
 ghost use Rattle.node.specs.Step.{said, step_of};
 ghost use Rattle.desk.specs.Shares.{Agree};
@@ -48,6 +49,24 @@ impl<N: Node> Shared<N> {
         }
     }
 
+    /// Waits for the lock, and copies the journal's events from this place on behind those in the list, at most so many at once.
+    /// Without memory for them the list is as before.
+    pub fn copy_events<R: Wait>(
+        &self,
+        rt: &R,
+        place: usize,
+        most: usize,
+        events: &mut Vec<Event>,
+    ) -> Result<(), Memory>
+        ensures copied { OnOk result ((more : List IsEvent) × (events.new.items ≡ events.old.items ++ more)) }
+        ensures as_before { OnErr result (events.new.items ≡ events.old.items) }
+    {
+        let locked = self.lock(rt);
+        let result = copy_some(locked.desk.journal(), place, most, events);
+        locked.release();
+        result
+    }
+
     /// Waits for the lock, and asks the node whether nothing is left to do, as far as it knows.
     pub fn finished<R: Wait>(&self, rt: &R) -> bool {
         let locked = self.lock(rt);
@@ -91,6 +110,22 @@ pub fn gather<N: Node>(shared: Shared<N>, shares: Vec<Share>) -> Result<Desk<N>,
     ensures { IfOk result (λ desk. Agree desk.journal shares.items) }
 {
     shared.desk.into_inner().gather(shares)
+}
+
+// Copies a journal's events from this place on behind those in the list, at most so many.
+fn copy_some(
+    journal: &[Event],
+    place: usize,
+    most: usize,
+    events: &mut Vec<Event>,
+) -> Result<(), Memory>
+    ensures copied { OnOk result (events.new.items ≡ events.old.items ++ take most (drop place journal.now)) }
+    ensures as_before { OnErr result (events.new.items ≡ events.old.items) }
+{
+    let from = place.min(journal.len());
+    let count = most.min(journal.len() - from);
+    events.extend_from_slice(&journal[from..from + count])?;
+    Ok(())
 }
 
 // Handles the event at the locked desk, and adds its slip, for which there is room.

@@ -1,5 +1,7 @@
 -- Two lists that are the same up to a place.
 mod Differences
+-- Lists of events that are beginnings of journals.
+mod Beginnings
 -- Which step an event at a node can be.
 mod Placing
 -- What a list of steps that agrees with the journals, and gives the reported rows, proves.
@@ -8,3 +10,5 @@ mod Proved
 mod Found
 -- What a search for the journals of a claim says of it.
 mod Judged
+-- An audit that is begun goes on, and journals go on while it does.
+mod Ahead

@@ -72,7 +72,7 @@ pub fn audit_run(
 }
 
 // The world in which a search for all journals ended, and how.
-fn search_all<'a>(
+pub(crate) fn search_all<'a>(
     alloc: Global,
     plan: &'a Plan,
     programs: &'a Programs,
@@ -93,7 +93,11 @@ fn search_all<'a>(
 }
 
 // What is to be said of complete reports, in the world in which a search for their journals ended, whatever the coordinator's is.
-fn judge(world: World<'_>, reports: &[Report], found: Found) -> Result<AuditedRun, Unproved>
+pub(crate) fn judge(
+    world: World<'_>,
+    reports: &[Report],
+    found: Found,
+) -> Result<AuditedRun, Unproved>
     requires federation { IsLegal world.draft × AreProgramsOf world.draft world.programs × AreInputsOf world.draft world.inputs }
     requires complete { AreComplete (federate_count world.draft) reports.now }
     ensures ended { IfOk result (λ audited. (coordinator : List Event) → HasSearched (claim_of world.entry reports.now coordinator) world.entry found → HasEnded (claim_of world.entry reports.now coordinator) audited) }

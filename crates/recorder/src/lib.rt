@@ -10,23 +10,29 @@
 //!                   +-----> compare      each federate's rows there with those that it reports
 //!     reports --> audit_run             the same, and whether the coordinator is finished
 //!
-//! Begin with `report`, then `audit`.
+//!     journals as they grow --> BegunAudit::add, go_on      steps are made ahead, while nodes still write
+//!     reports --> BegunAudit::conclude                      the same as `audit_run`, where only what is left is read
+//!
+//! Begin with `report`, then `audit`; then `begun`.
 #![tactic(auto)]
 
 pub mod audited_run;
 pub mod auditing;
 mod auditor;
+pub mod begun;
 pub mod collector;
 pub mod complete;
 mod cursors;
 mod difference;
 mod journals;
+mod known;
 pub mod report;
 pub mod report_fault;
 pub mod unproved;
 
 pub use audited_run::AuditedRun;
 pub use auditing::{audit, audit_run};
+pub use begun::BegunAudit;
 pub use collector::Collector;
 pub use complete::report_of;
 pub use report::Report;

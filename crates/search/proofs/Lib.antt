@@ -2,5 +2,7 @@
 mod Pushed
 -- Reading goes on by one event, and by one journal.
 mod Onwards
+-- Journals that grew: what was read of them stays read.
+pub mod Grown
 -- What a search may answer, where it has read as far as it could.
-mod Findings
+pub mod Findings

@@ -1,5 +1,5 @@
 -- How far a search has read the journals.
-use Rattle.std.specs.Prelude.{◌≡◌, ℕ, ◌+◌, ◌-◌, ◌≤◌, ◌<◌, Bool, true, false, List, [], ◌∷◌, length, get_or, slice_get, take, Option, None, Some}
+use Rattle.std.specs.Prelude.{◌≡◌, ℕ, ◌+◌, ◌-◌, ◌≤◌, ◌<◌, Bool, true, false, List, [], ◌∷◌, ◌++◌, length, get_or, slice_get, take, Option, None, Some}
 use Rattle.std.specs.List.{list_any}
 use Rattle.node.specs.declared.event.Event.{Event}
 use Rattle.node.specs.declared.node_id.NodeId.{NodeId}
@@ -23,6 +23,10 @@ pub record HasRead {State : Type 0} (motion : Motion State) (opening : State) (j
 -- some steps are made so
 abbrev pub IsReading : {State : Type 0} → Motion State → State → List (List Event) → Position State → Type 0
 IsReading motion opening journals p = (steps : List Step) × HasRead motion opening journals p steps
+
+-- each of the longer journals has what the journal at its place has, and then perhaps more
+abbrev pub GrewTo : List (List Event) → List (List Event) → Type 0
+GrewTo journals longer = (place : ℕ) → (rest : List Event) × (get_or longer place [] ≡ get_or journals place [] ++ rest)
 
 -- how many events aren't read
 abbrev pub unread : List (List Event) → List ℕ → ℕ

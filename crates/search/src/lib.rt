@@ -1,18 +1,24 @@
 //! The search for a list of steps that agrees with what each node of a federation wrote down.
 //!
 //! Promise to the layer above: with an Ok the machine made steps in which each node's events are its journal, or no further event
-//! of a journal can be placed (`specs/Journals`), whatever machine makes the steps. The search keeps no list of them.
+//! of a journal can be placed (`specs/Journals`), whatever machine makes the steps. The search keeps no list of them. The journals
+//! may grow while a `Reading` reads ahead: what is said at the end is said of the whole journals (`growing`).
 //!
-//!     search --> round            every node once, by the machine's guess; after a round that moved nothing, exactly
-//!                  |
-//!                  +--> read_on            one journal, as far as it goes
-//!                          |
-//!                          +--> Machine::place   makes the step that is the next event, or says that it finds none
+//!     Reading::new --> read_ahead ...   rounds by guesses alone, until one moves nothing: while the journals still grow
+//!          |
+//!          +---------> finish           rounds by guesses; after one that moved nothing, exactly: when they are whole
+//!                        |
+//!                        +--> round     every node once
+//!                               |
+//!                               +--> read_on            one journal, as far as it goes
+//!                                       |
+//!                                       +--> Machine::place   makes the step that is the next event, or says that it finds none
 //!
-//! Begin with `machine`, then `search`.
+//! `search` is a `Reading` that is finished at once. Begin with `machine`, then `searching`.
 #![tactic(auto)]
 
 pub mod found;
+pub mod growing;
 pub mod machine;
 pub mod memory;
 mod reading;
@@ -21,4 +27,4 @@ pub mod searching;
 pub use found::Found;
 pub use machine::Machine;
 pub use memory::Memory;
-pub use searching::search;
+pub use searching::{Reading, search};

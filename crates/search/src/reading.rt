@@ -125,6 +125,18 @@ pub(crate) fn read_all<M: Machine>(
     Ok(())
 }
 
+// Reads all journals, as far as guesses go.
+pub(crate) fn read_by_guesses<M: Machine>(
+    machine: &mut M,
+    journals: &[&[Event]],
+    read: &mut [usize],
+) -> Result<(), Memory>
+    ensures reading { OnOk result ((opening : M) → IsReading M.motion opening (map (λ j. j.now) journals.now) (record { state = machine.old; read = read.old }) → IsReading M.motion opening (map (λ j. j.now) journals.now) (record { state = machine.new; read = read.new })) }
+{
+    while round(machine, journals, read, false)? {}
+    Ok(())
+}
+
 // Of no journal anything is read.
 pub(crate) fn none_read(alloc: Global, count: usize) -> Result<Vec<usize>, Memory>
     ensures { IfOk result (λ read. read.items ≡ replicate count 0) }

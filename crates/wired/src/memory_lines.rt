@@ -2,15 +2,14 @@
 use crate::federations::{Federation, desks_of};
 use coordinator::Coordinator;
 use crossbeam_channel::{Sender, unbounded};
-use desk::Desk;
 use federate::Federate;
 use std::alloc::Global;
 use std::sync::Wait;
 use std::thread::Threads;
 use std::time::Clock;
 use wires::{
-    Arrived, Connection, Cut, Dial, Ending, Entrance, Gate, Gathered, Member, MemoryCut,
-    MemoryTransport, Transport, pair, run,
+    Arrived, Connection, Cut, Dial, Ending, Entrance, Gate, Gathered, Line, MemoryCut,
+    MemoryTransport, Nodes, Transport, pair, run,
 };
 
 /// Makes one end of a connection something that the workers are given.
@@ -67,27 +66,22 @@ impl Entrance for NoEntrance {
     fn let_in<R: Wait + Clock>(self, _rt: &R, _alloc: Global, _ending: &Ending) {}
 }
 
-/// The members of a federation, each with its way to the coordinator.
-fn members<'a, T: Drop, W: Wrap<T> + Copy + Drop>(
+/// So many members' ways to the coordinator.
+fn lines<T: Drop, W: Wrap<T> + Copy + Drop>(
     alloc: Global,
-    desks: Vec<Desk<Federate<'a>>>,
+    count: usize,
     wrap: W,
-) -> Option<Vec<Member<Federate<'a>, MemoryDial<T, W>, T, MemoryCut>>> {
-    let mut members = Vec::with_capacity(alloc, desks.len()).ok()?;
-    for desk in desks {
+) -> Option<Vec<Line<MemoryDial<T, W>, T, MemoryCut>>> {
+    let mut lines = Vec::with_capacity(alloc, count).ok()?;
+    for _ in 0..count {
         let (sender, arrivals) = unbounded(alloc).ok()?;
         let dial = MemoryDial {
             arrivals: sender,
             wrap,
         };
-        let member = Member {
-            desk,
-            dial,
-            arrivals,
-        };
-        members.push(member).ok()?;
+        lines.push(Line { dial, arrivals }).ok()?;
     }
-    Some(members)
+    Some(lines)
 }
 
 /// The desks after a run over memory; None where there are none.
@@ -105,6 +99,8 @@ pub(crate) fn ran_in_memory<
     wrap: W,
 ) -> Option<Gathered<Coordinator<'a>, Federate<'a>>> {
     let (hub, desks) = desks_of(alloc, federation)?;
-    let members = members(alloc, desks, wrap)?;
-    run(rt, alloc, hub, members, NoEntrance, gate, 100_000).ok()
+    let lines = lines(alloc, desks.len(), wrap)?;
+    let nodes = Nodes::new(alloc, hub, desks).ok()?;
+    let left = run(rt, alloc, &nodes, lines, NoEntrance, gate, 100_000).ok()?;
+    nodes.gather(alloc, left).ok()
 }

@@ -10,7 +10,7 @@ use std::net::{Net, TcpListener, TcpStream};
 use std::sync::Wait;
 use std::thread::Threads;
 use std::time::Clock;
-use wires::{Gathered, Open, run_over_tcp};
+use wires::{Gathered, Nodes, Open, run_over_tcp};
 
 /// The desks after a run over TCP; None where there are none.
 fn ran<'a, R: Threads + Wait + Clock + Net<Stream = TcpStream, Listener = TcpListener> + Sync>(
@@ -20,7 +20,9 @@ fn ran<'a, R: Threads + Wait + Clock + Net<Stream = TcpStream, Listener = TcpLis
     turns: u32,
 ) -> Option<Gathered<Coordinator<'a>, Federate<'a>>> {
     let (hub, desks) = desks_of(alloc, federation)?;
-    run_over_tcp(rt, alloc, hub, desks, &Open, turns).ok()
+    let nodes = Nodes::new(alloc, hub, desks).ok()?;
+    let left = run_over_tcp(rt, alloc, &nodes, &Open, turns).ok()?;
+    nodes.gather(alloc, left).ok()
 }
 
 /// Whether the coordinator is finished.

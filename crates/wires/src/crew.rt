@@ -1,30 +1,29 @@
-use crate::job::Left;
 use crate::run_fault::RunFault;
 use crossbeam_channel::{Receiver, Sender, unbounded};
-use desk::{Desk, Shared, gather};
+use desk::Shared;
 use node::{Node, NodeId};
 use std::alloc::Global;
 use transports::Ending;
 use workers::{Context, Gate, Hints, Outlet};
 
-/// A node, with the ends of the channels by which its workers talk.
+/// A node's desk, and that by which its workers talk.
 #[derive(Drop)]
-pub(crate) struct Crew<N: Node, T: Drop, C: Drop> {
+pub(crate) struct Crew<'n, N: Node, T: Drop, C: Drop> {
     node: NodeId,
-    shared: Shared<N>,
+    shared: &'n Shared<N>,
     pub writers: Vec<Outlet<T, C>>,
     pub runner: Option<Hints>,
 }
 
-impl<N: Node, T: Drop, C: Drop> Crew<N, T, C> {
+impl<'n, N: Node, T: Drop, C: Drop> Crew<'n, N, T, C> {
     /// Of a node with so many peers.
     pub(crate) fn new(
         alloc: Global,
         node: NodeId,
-        desk: Desk<N>,
+        shared: &'n Shared<N>,
         peers: usize,
         has_runner: bool,
-    ) -> Result<Crew<N, T, C>, RunFault> {
+    ) -> Result<Crew<'n, N, T, C>, RunFault> {
         let mut writers = Vec::with_capacity(alloc, peers)?;
         for _ in 0..peers {
             writers.push(Outlet::new(alloc)?)?;
@@ -36,7 +35,7 @@ impl<N: Node, T: Drop, C: Drop> Crew<N, T, C> {
         };
         Ok(Crew {
             node,
-            shared: Shared::new(desk),
+            shared,
             writers,
             runner,
         })
@@ -50,30 +49,11 @@ impl<N: Node, T: Drop, C: Drop> Crew<N, T, C> {
     ) -> Context<'a, N, G, T, C> {
         Context {
             node: self.node,
-            shared: &self.shared,
+            shared: self.shared,
             gate,
             writers: &self.writers,
             runner: self.runner.as_ref(),
             ending,
-        }
-    }
-
-    /// Its desk, from what its workers left, which is taken.
-    pub(crate) fn gather(
-        self,
-        alloc: Global,
-        left: &mut [Option<Left>],
-    ) -> Result<Desk<N>, RunFault> {
-        let mut shares = Vec::new(alloc);
-        for place in left {
-            match place.take() {
-                Some(Left { node, share }) if node == self.node => shares.push(share)?,
-                other => *place = other,
-            }
-        }
-        match gather(self.shared, shares) {
-            Ok(desk) => Ok(desk),
-            Err(_) => Err(RunFault::NotFinished),
         }
     }
 }

@@ -32,9 +32,9 @@ pub(crate) trait Work: Drop {
     fn work<R: Wait + Clock>(self, rt: &R, alloc: Global) -> Option<Left>;
 }
 
-/// A share, and whose it is.
+/// What a worker left: its share, and whose it is.
 #[derive(Drop)]
-pub(crate) struct Left {
+pub struct Left {
     pub node: NodeId,
     pub share: Share,
 }

@@ -8,12 +8,15 @@
 #![tactic(auto)]
 
 mod crew;
-mod job;
+pub mod job;
+pub mod nodes;
 pub mod run_fault;
 pub mod running;
 
+pub use job::Left;
+pub use nodes::{Gathered, Nodes};
 pub use run_fault::RunFault;
-pub use running::{Gathered, Member, run, run_over_tcp};
+pub use running::{Line, run, run_over_tcp};
 pub use transports::{
     Arrived, Broken, Connection, Cut, Dial, Ending, Entrance, Failures, Memory, MemoryCut,
     MemoryTransport, TcpCut, TcpDial, TcpEntrance, TcpTransport, Transport, pair,

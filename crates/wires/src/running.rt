@@ -5,6 +5,7 @@
 //! do, then readers come to the end of what was sent.
 use crate::crew::{Crew, channels};
 use crate::job::{Job, Left, start};
+use crate::nodes::{Gathered, Nodes};
 use crate::run_fault::RunFault;
 use crossbeam_channel::Receiver;
 use desk::Desk;
@@ -20,26 +21,18 @@ use transports::{
 };
 use workers::{Gate, Outlet};
 
-/// A node that is linked to the hub alone, and how it connects to it.
+/// How a member connects to the hub.
 #[derive(Drop)]
-pub struct Member<M: Node, D: Drop, T: Drop, C: Drop> {
-    pub desk: Desk<M>,
+pub struct Line<D: Drop, T: Drop, C: Drop> {
     pub dial: D,
     /// Where the hub's ends of its connections come.
     pub arrivals: Receiver<Arrived<T, C>>,
 }
 
-/// The desks of a federation whose workers have all ended, the members' by number.
-#[derive(Drop)]
-pub struct Gathered<H: Node, M: Node> {
-    pub hub: Desk<H>,
-    pub members: Vec<Desk<M>>,
-}
-
 // A member's node, and where the hub's ends of its connections come.
 #[derive(Drop)]
-struct Linked<M: Node, T: Drop, C: Drop> {
-    crew: Crew<M, T, C>,
+struct Linked<'n, M: Node, T: Drop, C: Drop> {
+    crew: Crew<'n, M, T, C>,
     arrivals: Receiver<Arrived<T, C>>,
 }
 
@@ -52,16 +45,16 @@ struct Ways<D: Drop, E: Drop> {
 
 // What all jobs of a run are lent.
 #[derive(Drop)]
-struct Lent<'a, H: Node, M: Node, G: Gate, T: Drop, C: Drop> {
-    hub: &'a Crew<H, T, C>,
-    members: &'a [Linked<M, T, C>],
+struct Lent<'a, 'n, H: Node, M: Node, G: Gate, T: Drop, C: Drop> {
+    hub: &'a Crew<'n, H, T, C>,
+    members: &'a [Linked<'n, M, T, C>],
     gate: &'a G,
     ending: &'a Ending,
     turns: u32,
 }
 
-/// Runs a federation in threads, until the hub is finished or a member's runner has made so many turns. All workers have ended
-/// when it returns. Where a thread can't be started, the others end: `NotFinished`.
+/// Runs a federation in threads, until the hub is finished or a member's runner has made so many turns; what its workers left. All
+/// of them have ended when it returns, and the run is at its end. Where a thread can't be started, the others end: `NotFinished`.
 pub fn run<
     R: Threads + Wait + Clock + Sync,
     H: Node + Send,
@@ -74,42 +67,19 @@ pub fn run<
 >(
     rt: &R,
     alloc: Global,
-    hub: Desk<H>,
-    members: Vec<Member<M, D, T, C>>,
+    nodes: &Nodes<H, M>,
+    lines: Vec<Line<D, T, C>>,
     entrance: E,
     gate: &G,
     turns: u32,
-) -> Result<Gathered<H, M>, RunFault> {
-    let hub = Crew::new(alloc, NodeId::Coordinator, hub, members.len(), false)?;
-    let (members, dials) = split(alloc, members)?;
-    let ways = Ways { dials, entrance };
-    let mut left = run_all(rt, alloc, &hub, &members, ways, gate, turns)?;
-    gather_all(alloc, hub, members, &mut left)
+) -> Result<Vec<Option<Left>>, RunFault> {
+    let left = run_lines(rt, alloc, nodes, lines, entrance, gate, turns);
+    nodes.ending.set();
+    left
 }
 
-// The members, and how they connect to the hub.
-fn split<M: Node, T: Drop, C: Drop, D: Drop>(
-    alloc: Global,
-    members: Vec<Member<M, D, T, C>>,
-) -> Result<(Vec<Linked<M, T, C>>, Vec<D>), RunFault> {
-    let mut nodes = Vec::with_capacity(alloc, members.len())?;
-    let mut dials = Vec::with_capacity(alloc, members.len())?;
-    for (number, member) in members.into_iter().enumerate() {
-        let Member {
-            desk,
-            dial,
-            arrivals,
-        } = member;
-        dials.push(dial)?;
-        let crew = Crew::new(alloc, NodeId::Federate(number), desk, 1, true)?;
-        nodes.push(Linked { crew, arrivals })?;
-    }
-    Ok((nodes, dials))
-}
-
-// Runs all workers; what they left.
-fn run_all<
-    'a,
+// Runs a federation whose members have these lines.
+fn run_lines<
     R: Threads + Wait + Clock + Sync,
     H: Node + Send,
     M: Node + Send,
@@ -121,13 +91,57 @@ fn run_all<
 >(
     rt: &R,
     alloc: Global,
-    hub: &'a Crew<H, T, C>,
-    members: &'a [Linked<M, T, C>],
+    nodes: &Nodes<H, M>,
+    lines: Vec<Line<D, T, C>>,
+    entrance: E,
+    gate: &G,
+    turns: u32,
+) -> Result<Vec<Option<Left>>, RunFault> {
+    let hub = Crew::new(alloc, NodeId::Coordinator, &nodes.hub, lines.len(), false)?;
+    let (members, dials) = split(alloc, nodes, lines)?;
+    let ways = Ways { dials, entrance };
+    run_all(rt, alloc, &hub, &members, ways, gate, turns, &nodes.ending)
+}
+
+// The members, and how they connect to the hub.
+fn split<'n, H: Node, M: Node, T: Drop, C: Drop, D: Drop>(
+    alloc: Global,
+    nodes: &'n Nodes<H, M>,
+    lines: Vec<Line<D, T, C>>,
+) -> Result<(Vec<Linked<'n, M, T, C>>, Vec<D>), RunFault> {
+    let mut members = Vec::with_capacity(alloc, lines.len())?;
+    let mut dials = Vec::with_capacity(alloc, lines.len())?;
+    for (number, (line, shared)) in lines.into_iter().zip(&nodes.members).enumerate() {
+        let Line { dial, arrivals } = line;
+        dials.push(dial)?;
+        let crew = Crew::new(alloc, NodeId::Federate(number), shared, 1, true)?;
+        members.push(Linked { crew, arrivals })?;
+    }
+    Ok((members, dials))
+}
+
+// Runs all workers; what they left.
+fn run_all<
+    'a,
+    'n,
+    R: Threads + Wait + Clock + Sync,
+    H: Node + Send,
+    M: Node + Send,
+    G: Gate + Sync,
+    T: Transport + Send,
+    C: Cut + Send + Sync,
+    D: Dial<T, C> + Drop + Send,
+    E: Entrance + Send,
+>(
+    rt: &R,
+    alloc: Global,
+    hub: &'a Crew<'n, H, T, C>,
+    members: &'a [Linked<'n, M, T, C>],
     ways: Ways<D, E>,
     gate: &'a G,
     turns: u32,
+    ending: &'a Ending,
 ) -> Result<Vec<Option<Left>>, RunFault> {
-    let ending = Ending::new();
     if members.is_empty() {
         ending.set();
     }
@@ -135,17 +149,17 @@ fn run_all<
         hub,
         members,
         gate,
-        ending: &ending,
+        ending,
         turns,
     };
     let jobs = jobs_of(alloc, &lent, ways)?;
-    start(rt, alloc, jobs, &ending)
+    start(rt, alloc, jobs, ending)
 }
 
 // The jobs of a run, in the order in which they are started.
-fn jobs_of<'a, H: Node, M: Node, G: Gate, T: Drop, C: Drop, D: Drop, E: Drop>(
+fn jobs_of<'a, 'n, H: Node, M: Node, G: Gate, T: Drop, C: Drop, D: Drop, E: Drop>(
     alloc: Global,
-    lent: &Lent<'a, H, M, G, T, C>,
+    lent: &Lent<'a, 'n, H, M, G, T, C>,
     ways: Ways<D, E>,
 ) -> Result<Vec<Job<'a, H, M, G, T, C, D, E>>, RunFault> {
     let mut jobs = Vec::new(alloc);
@@ -173,10 +187,10 @@ fn add_writers<'a, H: Node, M: Node, G: Gate, T: Drop, C: Drop, D: Drop, E: Drop
 }
 
 // Adds a member's runner.
-fn add_runner<'a, H: Node, M: Node, G: Gate, T: Drop, C: Drop, D: Drop, E: Drop>(
+fn add_runner<'a, 'n, H: Node, M: Node, G: Gate, T: Drop, C: Drop, D: Drop, E: Drop>(
     jobs: &mut Vec<Job<'a, H, M, G, T, C, D, E>>,
-    lent: &Lent<'a, H, M, G, T, C>,
-    crew: &'a Crew<M, T, C>,
+    lent: &Lent<'a, 'n, H, M, G, T, C>,
+    crew: &'a Crew<'n, M, T, C>,
 ) -> Result<(), RunFault> {
     if let Some(hints) = &crew.runner {
         jobs.push(Job::Run(crew.context(lent.gate, lent.ending), hints, lent.turns))?;
@@ -185,9 +199,9 @@ fn add_runner<'a, H: Node, M: Node, G: Gate, T: Drop, C: Drop, D: Drop, E: Drop>
 }
 
 // Adds for each member the hub's reader, and after it the member's own.
-fn add_readers<'a, H: Node, M: Node, G: Gate, T: Drop, C: Drop, D: Drop, E: Drop>(
+fn add_readers<'a, 'n, H: Node, M: Node, G: Gate, T: Drop, C: Drop, D: Drop, E: Drop>(
     jobs: &mut Vec<Job<'a, H, M, G, T, C, D, E>>,
-    lent: &Lent<'a, H, M, G, T, C>,
+    lent: &Lent<'a, 'n, H, M, G, T, C>,
     dials: Vec<D>,
 ) -> Result<(), RunFault> {
     for (number, (member, dial)) in lent.members.iter().zip(dials).enumerate() {
@@ -199,21 +213,6 @@ fn add_readers<'a, H: Node, M: Node, G: Gate, T: Drop, C: Drop, D: Drop, E: Drop
     Ok(())
 }
 
-// The desks of all nodes, from what their workers left.
-fn gather_all<H: Node, M: Node, T: Drop, C: Drop>(
-    alloc: Global,
-    hub: Crew<H, T, C>,
-    nodes: Vec<Linked<M, T, C>>,
-    left: &mut [Option<Left>],
-) -> Result<Gathered<H, M>, RunFault> {
-    let hub = hub.gather(alloc, left)?;
-    let mut members = Vec::with_capacity(alloc, nodes.len())?;
-    for Linked { crew, .. } in nodes {
-        members.push(crew.gather(alloc, left)?)?;
-    }
-    Ok(Gathered { hub, members })
-}
-
 /// Runs a federation in threads over TCP on loopback, on a port that the system gives: see `run`.
 pub fn run_over_tcp<
     R: Threads + Wait + Clock + Net<Stream = TcpStream, Listener = TcpListener> + Sync,
@@ -223,41 +222,36 @@ pub fn run_over_tcp<
 >(
     rt: &R,
     alloc: Global,
-    hub: Desk<H>,
-    desks: Vec<Desk<M>>,
+    nodes: &Nodes<H, M>,
     gate: &G,
     turns: u32,
-) -> Result<Gathered<H, M>, RunFault> {
+) -> Result<Vec<Option<Left>>, RunFault> {
+    match open(rt, alloc, nodes.members.len()) {
+        Ok((lines, entrance)) => run(rt, alloc, nodes, lines, entrance, gate, turns),
+        Err(fault) => {
+            nodes.ending.set();
+            Err(fault)
+        }
+    }
+}
+
+// An entrance on a port that the system gives, and for each of so many members a line to it.
+fn open<'a, R: Net<Stream = TcpStream, Listener = TcpListener>>(
+    rt: &'a R,
+    alloc: Global,
+    count: usize,
+) -> Result<(Vec<Line<TcpDial<'a, R>, TcpTransport, TcpCut>>, TcpEntrance), RunFault> {
     let Ok(listener) = listen(rt) else {
         return Err(RunFault::NotFinished);
     };
     let Ok(address) = listener.local_addr() else {
         return Err(RunFault::NotFinished);
     };
-    let (readers, arrivals) = channels(alloc, desks.len())?;
-    let entrance = TcpEntrance { listener, readers };
-    let members = dialing(alloc, desks, arrivals, &TcpDial { net: rt, address })?;
-    run(rt, alloc, hub, members, entrance, gate, turns)
-}
-
-// The members, each with a way to the same address.
-fn dialing<'a, R: Net<Stream = TcpStream, Listener = TcpListener>, M: Node>(
-    alloc: Global,
-    desks: Vec<Desk<M>>,
-    arrivals: Vec<Receiver<Arrived<TcpTransport, TcpCut>>>,
-    dial: &TcpDial<'a, R>,
-) -> Result<Vec<Member<M, TcpDial<'a, R>, TcpTransport, TcpCut>>, RunFault> {
-    let mut members = Vec::with_capacity(alloc, desks.len())?;
-    for (desk, arrivals) in desks.into_iter().zip(arrivals) {
-        let dial = TcpDial {
-            net: dial.net,
-            address: dial.address,
-        };
-        members.push(Member {
-            desk,
-            dial,
-            arrivals,
-        })?;
+    let (readers, arrivals) = channels(alloc, count)?;
+    let mut lines = Vec::with_capacity(alloc, count)?;
+    for arrivals in arrivals {
+        let dial = TcpDial { net: rt, address };
+        lines.push(Line { dial, arrivals })?;
     }
-    Ok(members)
+    Ok((lines, TcpEntrance { listener, readers }))
 }

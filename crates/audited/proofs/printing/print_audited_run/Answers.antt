@@ -1,3 +1,4 @@
+use Rattle.std.proofs.Common.{◌∙◌, ap}
 use Rattle.std.proofs.lemmas.Result.{err_from_is_err_and}
 use Rattle.audited.proofs.printing.print_audited_run.Goals as goal
 
@@ -5,3 +6,6 @@ pub returns-in_err-reports-clause-told : goal.returns-in_err-reports-clause-told
 returns-in_err-reports-clause-told g c =
     let told = err_from_is_err_and c.from_residual-in_err-reports.result c.from_residual-in_err-reports.ensures.1 in
     rw (told.1, told.2) (c.in_err-reports.ensures c.args.programs.now c.args.inputs.now)
+
+pub print_audited-requires : goal.print_audited-requires
+print_audited-requires g c = record { plan = ap (λ w. w.draft) (c.join-audit.ensures.first ∙ c.join-watched.ensures.first ∙ c.in_ok-opened.ensures.begun) }

@@ -1,0 +1,117 @@
+-- An audit that is begun goes on, and journals go on while it does.
+use Rattle.std.proofs.Common.{◌≡◌, ◌∙◌, ℕ, zero, suc, ◌+◌, Bool, false, List, [], ◌∷◌, ◌++◌, length, map, set, get_or, replicate, refl, sym, ap, subst, append-nil, arith}
+use Rattle.std.specs.Prelude.{Result, Ok, Err, OnOk, OnErr, is_err}
+use Rattle.std.specs.Global.{Vec}
+use Rattle.std.proofs.lemmas.List.{length-map, length-replicate}
+use Rattle.std.proofs.lemmas.List.FromFn.{length-map-range_with_len}
+use Rattle.plan.specs.declared.draft.Draft.{Draft}
+use Rattle.plan.specs.declared.input.Input.{Input}
+use Rattle.plan.specs.External.{AreInputsOf}
+use Rattle.plan.specs.Federation.{federate_count}
+use Rattle.program.specs.Behaviour.{Behaviour}
+use Rattle.program.specs.Programs.{AreProgramsOf}
+use Rattle.node.specs.declared.event.Event.{Event}
+use Rattle.search.specs.Journals.{IsFound}
+use Rattle.search.specs.declared.found.Found.{Found}
+use Rattle.search.specs.Reading.{Position, IsReading, GrewTo}
+use Rattle.world.specs.World.{WorldView}
+use Rattle.recorder.specs.declared.report.Report.{Report}
+use Rattle.recorder.specs.Reports.{all_journals, journal_of, report_of}
+use Rattle.recorder.specs.Audited.{HasSearched, claim_of}
+use Rattle.recorder.specs.Begun.{opening_of, IsAhead, IsBegun}
+use Rattle.recorder.specs.Known.{events_of}
+use Rattle.recorder.specs.Placing.{world_motion}
+
+-- what is known is read on
+pub reads_on : {E : Type 0} (r : Result (Unit {0}) E) (known : List (Vec Event)) (journals : List (List Event)) (before after : WorldView) (read more : List ℕ) →
+    journals ≡ events_of known →
+    OnOk r ((opening : WorldView) → IsReading world_motion opening journals (record { state = before; read = read }) →
+    IsReading world_motion opening journals (record { state = after; read = more })) →
+    OnOk r (length more ≡ length read) →
+    OnOk r ((opening : WorldView) → IsAhead opening before read known → IsAhead opening after more known)
+reads_on (Ok u) known journals before after read more are reading sized = λ opening ahead. record {
+  sized = sized ∙ ahead.sized;
+  reading = subst (λ js. IsReading world_motion opening js (record { state = after; read = more })) are
+      (reading opening (subst (λ js. IsReading world_motion opening js (record { state = before; read = read })) (sym are) ahead.reading));
+}
+reads_on (Err e) known journals before after read more are reading sized = tt
+
+-- a journal that goes on with events, among others
+grown : (journals : List (List Event)) (place : ℕ) (events : List Event) → GrewTo journals (set journals place (get_or journals place [] ++ events))
+grown [] place events k = ([], refl)
+grown (journal ∷ journals) zero events zero = (events, refl)
+grown (journal ∷ journals) zero events (suc k) = ([], sym (append-nil (get_or journals k [])))
+grown (journal ∷ journals) (suc place) events zero = ([], sym (append-nil journal))
+grown (journal ∷ journals) (suc place) events (suc k) = grown journals place events k
+
+-- what is said where what is read of journals is read of longer ones
+abbrev pub StaysRead : Type 0
+StaysRead = (opening : WorldView) (journals longer : List (List Event)) (p : Position WorldView) → GrewTo journals longer →
+    IsReading world_motion opening journals p → IsReading world_motion opening longer p
+
+module _ (opening made : WorldView) (read : List ℕ) (known more : List (Vec Event)) (is_given_up : Bool) (begun : IsBegun opening made read known is_given_up) where
+  -- it is begun with more events of a journal, or with the same where there is no memory for them
+  pub begun_more : {E : Type 0} (r : Result (Unit {0}) E) (place : ℕ) (events : List Event) → StaysRead →
+      OnOk r (events_of more ≡ set (events_of known) place (get_or (events_of known) place [] ++ events)) → OnErr r (events_of more ≡ events_of known) →
+      IsBegun opening made read more is_given_up
+  begun_more (Ok u) place events stays added same = record {
+    programs = begun.programs;
+    inputs = begun.inputs;
+    ahead = λ going. record {
+      sized = (begun.ahead going).sized;
+      reading = stays opening (events_of known) (events_of more) (record { state = made; read = read })
+          (subst (λ js. GrewTo (events_of known) js) (sym added) (grown (events_of known) place events)) (begun.ahead going).reading;
+    };
+  }
+  begun_more (Err e) place events stays added same = record {
+    programs = begun.programs;
+    inputs = begun.inputs;
+    ahead = λ going. record {
+      sized = (begun.ahead going).sized;
+      reading = subst (λ js. IsReading world_motion opening js (record { state = made; read = read })) (sym same) (begun.ahead going).reading;
+    };
+  }
+
+  -- or after what is known was read on
+  pub begun_on : {E : Type 0} (r : Result (Unit {0}) E) (after : WorldView) (further : List ℕ) → is_given_up ≡ false → is_err r ≡ false →
+      OnOk r ((o : WorldView) → IsAhead o made read known → IsAhead o after further known) → IsBegun opening after further known is_given_up
+  begun_on (Ok u) after further going good on = record {
+    programs = begun.programs;
+    inputs = begun.inputs;
+    ahead = λ still. on opening (begun.ahead still);
+  }
+  begun_on (Err e) after further going good on = absurd (grind (arith, good))
+
+-- at the opening nothing is read
+pub begun_new : (opening made : WorldView) (read : List ℕ) (known : List (Vec Event)) (count : ℕ) → AreProgramsOf opening.draft opening.programs →
+    AreInputsOf opening.draft opening.inputs → made ≡ opening → read ≡ replicate (count + 1) 0 → count ≡ federate_count opening.draft →
+    ((o : WorldView) (journals : List (List Event)) (n : ℕ) → IsReading world_motion o journals (record { state = o; read = replicate n 0 })) →
+    IsBegun opening made read known false
+begun_new opening made read known count are given there none counted law = record {
+  programs = are;
+  inputs = given;
+  ahead = λ going. record {
+    sized = ap (length {A = ℕ}) none ∙ length-replicate (count + 1) 0 ∙ ap (λ n. n + 1) counted;
+    reading = rw (there, none) (law opening (events_of known) (count + 1));
+  };
+}
+
+-- there are as many journals as nodes
+pub journals_counted : {X : Type 0} (f : X → List Event) (journals : List X) (count : ℕ) (reports : List Report) (coordinator : List Event) →
+    map f journals ≡ all_journals count reports coordinator → length journals ≡ count + 1
+journals_counted f journals count reports coordinator are =
+    let mapped = length-map journals f in
+    let same : length (map f journals) ≡ length (all_journals count reports coordinator) = ap length are in
+    let federates = length-map-range_with_len (λ j. journal_of (report_of reports j)) 0 count in
+    omega arith
+
+-- where what is known is a beginning of all journals, and reading ends after what is read, the search has ended
+pub searched_on : (draft : Draft) (programs : List Behaviour) (inputs : List Input) (made w : WorldView) (read : List ℕ) (known : List (Vec Event)) (journals : List (List Event))
+    (reports : List Report) (coordinator : List Event) (found : Found) → StaysRead → IsAhead (opening_of draft programs inputs) made read known → GrewTo (events_of known) journals →
+    journals ≡ all_journals (federate_count draft) reports coordinator →
+    ((o : WorldView) → IsReading world_motion o journals (record { state = made; read = read }) → IsFound world_motion o journals w found) →
+    HasSearched (claim_of (opening_of draft programs inputs) reports coordinator) w found
+searched_on draft programs inputs made w read known journals reports coordinator found stays ahead grew are ends =
+    let opening = opening_of draft programs inputs in
+    subst (λ js. IsFound world_motion opening js w found) are
+    (ends opening (stays opening (events_of known) journals (record { state = made; read = read }) grew ahead.reading))

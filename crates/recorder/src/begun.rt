@@ -1,0 +1,201 @@
+ghost use Rattle.std.specs.Prelude.{◌≡◌, IfOk, IfErr, OnOk};
+ghost use Rattle.plan.specs.External.{AreInputsOf};
+ghost use Rattle.plan.specs.Federation.{federate_count};
+ghost use Rattle.plan.specs.Legal.{IsLegal};
+ghost use Rattle.program.specs.Programs.{AreProgramsOf};
+ghost use Rattle.world.specs.World.{WorldView};
+ghost use Rattle.recorder.specs.Audited.{HasEnded, HasSearched, IsUnproved, claim_of};
+ghost use Rattle.recorder.specs.Begun.{opening_of, IsAhead};
+ghost use Rattle.recorder.specs.declared.unproved.Unproved.TheVariants as Faults;
+
+use crate::audited_run::AuditedRun;
+use crate::auditing::{judge, search_all};
+use crate::auditor::Auditor;
+use crate::complete::refuse_incomplete;
+use crate::journals::all_journals;
+use crate::known::{add_to, are_beginnings, none_known, slices_of};
+use crate::report::Report;
+use crate::unproved::Unproved;
+use node::{Event, NodeId};
+use plan::{Inputs, Plan};
+use reactor::Programs;
+use search::growing::{longer_journals_are_read, nothing_is_read};
+use search::{Found, Memory, Reading};
+use std::alloc::{AllocError, Global};
+use std::marker::Model;
+use world::World;
+
+/// An audit that is begun while the nodes of a federation still write their journals. Contracts see the world of the federation
+/// that it is about, before the first step.
+#[derive(Drop)]
+pub struct BegunAudit<'a> {
+    plan: &'a Plan,
+    programs: &'a Programs,
+    inputs: &'a Inputs,
+    auditor: Auditor<'a>,
+    reading: Reading,
+    // What is known of the journals: the coordinator's, then the federates' by number.
+    known: Vec<Vec<Event>>,
+    // Whether steps were lost: then all of them are made again at the end.
+    is_given_up: bool,
+}
+
+impl<'a> Model for BegunAudit<'a> {
+    ghost use Rattle.world.specs.World.{WorldView};
+    ghost use Rattle.recorder.specs.Begun.{opening_of, IsBegun};
+
+    ghost Value = { WorldView };
+
+    ghost view = { λ a. opening_of a.plan.now a.programs.now a.inputs.now };
+
+    ghost invariant = { λ a. IsBegun (opening_of a.plan.now a.programs.now a.inputs.now) a.auditor a.reading a.known.items a.is_given_up };
+}
+
+impl<'a> BegunAudit<'a> {
+    /// Of no journal anything is known.
+    pub fn new(
+        alloc: Global,
+        plan: &'a Plan,
+        programs: &'a Programs,
+        inputs: &'a Inputs,
+    ) -> Result<BegunAudit<'a>, Unproved>
+        requires programs { AreProgramsOf plan.now programs.now }
+        requires inputs { AreInputsOf plan.now inputs.now }
+        ensures begun { IfOk result (λ audit. audit ≡ opening_of plan.now programs.now inputs.now) }
+        ensures memory { IfErr result (λ fault. fault ≡ Faults.Memory) }
+    {
+        // For the prover: there are few federates, and at the opening nothing is read.
+        plan.known();
+        nothing_is_read::<Auditor<'a>>();
+        let count = plan.federate_count() + 1;
+        let world = World::new(alloc, plan, programs, inputs)?;
+        let auditor = Auditor::new(alloc, world)?;
+        let reading = Reading::new(alloc, count)?;
+        let known = none_known(alloc, count)?;
+        Ok(BegunAudit {
+            plan,
+            programs,
+            inputs,
+            auditor,
+            reading,
+            known,
+            is_given_up: false,
+        })
+    }
+
+    /// How many events of a node are known.
+    pub fn known(&self, node: NodeId) -> usize {
+        match self.known.get(place_of(node)) {
+            Some(journal) => journal.len(),
+            None => 0,
+        }
+    }
+
+    /// A node's journal goes on with these events. Without memory they aren't known, and nothing is lost: they may come again.
+    pub fn add(&mut self, node: NodeId, events: &[Event]) -> Result<(), AllocError>
+        ensures { self.new ≡ self.old }
+    {
+        // For the prover: what is read stays read.
+        longer_journals_are_read::<Auditor<'a>>();
+        add_to(&mut self.known, place_of(node), events)
+    }
+
+    /// Makes steps for what is known, as far as guesses go. Without memory those steps are lost, and are made again at the end.
+    pub fn go_on(&mut self, alloc: Global)
+        ensures { self.new ≡ self.old }
+    {
+        if self.is_given_up {
+            return;
+        }
+        if read_known(alloc, &mut self.auditor, &mut self.reading, &self.known).is_err() {
+            self.is_given_up = true;
+        }
+    }
+
+    /// Now that all journals are there: what `audit_run` says of them. Only what wasn't read yet is read, unless what is known isn't
+    /// a beginning of them, or steps were lost.
+    pub fn conclude(
+        self,
+        alloc: Global,
+        reports: &[Report],
+        coordinator: &[Event],
+    ) -> Result<AuditedRun, Unproved>
+        ensures ended { IfOk result (HasEnded (claim_of self.entry reports.now coordinator.now)) }
+        ensures unproved { IfErr result (IsUnproved (claim_of self.entry reports.now coordinator.now)) }
+    {
+        if let Err(fault) = refuse_incomplete(self.federate_count(), reports) {
+            return Err(fault);
+        }
+        // For the prover: the plan is legal, and its programs and inputs are its own.
+        self.fits();
+        let (auditor, found) = self.search_on(alloc, reports, coordinator)?;
+        judge(auditor.into_world(), reports, found)
+    }
+
+    // How many federates there are.
+    fn federate_count(&self) -> usize
+        ensures { result ≡ federate_count self.now.draft }
+    {
+        self.plan.federate_count()
+    }
+
+    // For the prover: the plan is legal, and its programs and inputs are its own.
+    fn fits(&self)
+        ensures legal { IsLegal self.now.draft }
+        ensures programs { AreProgramsOf self.now.draft self.now.programs }
+        ensures inputs { AreInputsOf self.now.draft self.now.inputs }
+    {
+        self.plan.known();
+    }
+
+    // The world in which the search for all journals ended, and how: it goes on where it stands, or begins again.
+    fn search_on(
+        self,
+        alloc: Global,
+        reports: &[Report],
+        coordinator: &[Event],
+    ) -> Result<(Auditor<'a>, Found), Unproved>
+        ensures searched { IfOk result (λ ended. HasSearched (claim_of self.entry reports.now coordinator.now) ended.0 ended.1) }
+        ensures memory { IfErr result (λ fault. fault ≡ Faults.Memory) }
+    {
+        let journals = all_journals(alloc, self.plan.federate_count(), reports, coordinator)?;
+        if self.is_given_up || !are_beginnings(&self.known, &journals) {
+            // Before the second world is made, the first one goes.
+            drop(self.auditor);
+            return search_all(
+                alloc,
+                self.plan,
+                self.programs,
+                self.inputs,
+                reports,
+                coordinator,
+            );
+        }
+        // For the prover: what is read stays read.
+        longer_journals_are_read::<Auditor<'a>>();
+        let mut auditor = self.auditor;
+        let found = self.reading.finish(&mut auditor, &journals)?;
+        Ok((auditor, found))
+    }
+}
+
+// Reads what is known of the journals, as far as guesses go. Without memory nothing is told of the auditor's steps.
+fn read_known(
+    alloc: Global,
+    auditor: &mut Auditor<'_>,
+    reading: &mut Reading,
+    known: &[Vec<Event>],
+) -> Result<(), Memory>
+    ensures { OnOk result ((opening : WorldView) → IsAhead opening auditor.old reading.old known.now → IsAhead opening auditor.new reading.new known.now) }
+{
+    let journals = slices_of(alloc, known)?;
+    reading.read_ahead(auditor, &journals)
+}
+
+// A node's place among the journals.
+fn place_of(node: NodeId) -> usize {
+    match node {
+        NodeId::Coordinator => 0,
+        NodeId::Federate(federate) => federate.saturating_add(1),
+    }
+}
