@@ -1,13 +1,12 @@
 -- Slips that are taken off the ends of shares, as their journal is walked backwards.
-use Rattle.std.proofs.Common.{◌≡◌, ◌≢◌, ◌↔◌, ℕ, suc, zero, ◌+◌, ◌<◌, ◌≤◌, Bool, true, false, cond, nat_eq, List, [], ◌∷◌, ◌++◌, length, set, get_or, slice_get, Some, All, ⊎_elim, refl, sym, ap, ◌∙◌, arith}
+use Rattle.std.proofs.Common.{◌≡◌, ◌≢◌, ◌↔◌, ℕ, suc, zero, ◌+◌, ◌<◌, ◌≤◌, Bool, true, false, cond, nat_eq, List, [], ◌∷◌, ◌++◌, length, set, get_or, slice_get, Some, All, refl, sym, ap, ◌∙◌, arith}
 use Rattle.std.specs.List.{count_by, list_all}
 use Rattle.std.proofs.lemmas.List.{length_push, get_or_append_left}
 use Rattle.std.proofs.lemmas.List.Elements.{All-nil, All-cons, All-head, All-tail, All-append}
 use Rattle.std.proofs.lemmas.List.Quantifiers.{all_pairs_push}
 use Rattle.std.proofs.lemmas.List.Sums.{sum_by-append, sum_by-cons}
-use Rattle.std.proofs.lemmas.Bool.{cases_eq}
 use Rattle.std.proofs.lemmas.Bool.Decides.{nat_tests}
-use Rattle.std.proofs.lemmas.Option.{slice_get-get_or, slice_get_within}
+use Rattle.std.proofs.lemmas.Option.{slice_get_within}
 use Rattle.node.specs.declared.event.Event.{Event}
 use Rattle.desk.specs.declared.slip.Slip.{Slip}
 use Rattle.desk.specs.Shares.{all_slips, PlacesRise, IsTrueOf, is_for, Agree}
@@ -260,13 +259,7 @@ pub no_step_back : (journal : List Event) (slip : Slip) (shares : List (List Sli
 no_step_back journal slip shares other is =
     none_ends journal slip.event shares (λ k front there. other k front (there ∙ ap Some (sym (place_is front slip (length journal) is))))
 
--- shares up to one more don't end with a slip
-pub none_more : (shares : List (List Slip)) (slip : Slip) (k : ℕ) (share : List Slip) → k < length shares → ((front : List Slip) → get_or shares k share ≢ front ++ slip ∷ []) →
-    ((j : ℕ) → j < k → (front : List Slip) → slice_get shares j ≢ Some (front ++ slip ∷ [])) → (j : ℕ) → j < k + 1 → (front : List Slip) → slice_get shares j ≢ Some (front ++ slip ∷ [])
-none_more shares slip k share within here before j less front =
-    ⊎_elim (λ (same : j ≡ k). rw (same, slice_get-get_or shares k share within) (λ is. here front (grind arith)))
-    (λ (other : j ≢ k). before j (omega arith) front) (cases_eq j k)
-
+-- no share before a place that is past them all ends with a slip, so none does
 pub none_of_all : (shares : List (List Slip)) (slip : Slip) (k : ℕ) → length shares ≤ k →
     ((j : ℕ) → j < k → (front : List Slip) → slice_get shares j ≢ Some (front ++ slip ∷ [])) → (j : ℕ) (front : List Slip) → slice_get shares j ≢ Some (front ++ slip ∷ [])
 none_of_all shares slip k all before j front is =

@@ -1,6 +1,6 @@
 //! Whether shares are a journal: the journal is walked backwards, and each event's slip has to be the last of some share, where
 //! it is taken off.
-ghost use Rattle.std.specs.Prelude.{◌≡◌, ◌≢◌, ◌↔◌, ℕ, true, false, nat_eq, List, [], ◌∷◌, ◌++◌, length};
+ghost use Rattle.std.specs.Prelude.{◌≡◌, ◌≢◌, ◌↔◌, ℕ, true, false, IsSome, nat_eq, List, [], ◌∷◌, ◌++◌, length, slice_get};
 ghost use Rattle.std.specs.List.{list_all};
 ghost use Rattle.node.specs.declared.event.Event.{Event as IsEvent};
 ghost use Rattle.desk.specs.declared.slip.Slip.{Slip as IsSlip};
@@ -14,26 +14,32 @@ use node::Event;
 pub(crate) fn agree(journal: &[Event], shares: &mut [Share]) -> bool
     ensures { (result ≡ true) ↔ Agree journal.now shares.old }
 {
+    let mut near = 0;
     for place in (0..journal.len()).rev() {
         let event = journal[place];
-        if !take(shares, &Slip { place, event }) {
-            return false;
+        match take(shares, &Slip { place, event }, near) {
+            Some(share) => near = share,
+            None => return false,
         }
     }
     are_used_up(shares)
 }
 
-// Takes the slip off the share whose last one it is.
-fn take(shares: &mut [Share], slip: &Slip) -> bool
-    ensures taken { result ≡ true → (journal : List IsEvent) → length journal ≡ slip.now.place → Agree (journal ++ slip.now.event ∷ []) shares.old ↔ Agree journal shares.new }
-    ensures none { result ≡ false → (journal : List IsEvent) → length journal ≡ slip.now.place → ¬ Agree (journal ++ slip.now.event ∷ []) shares.old }
+// Takes the slip off a share whose last one it is, and tells which. The share at `near` is asked first, if there is
+// one: neighbouring events are mostly of one share.
+fn take(shares: &mut [Share], slip: &Slip, near: usize) -> Option<usize>
+    ensures taken { IsSome result → (journal : List IsEvent) → length journal ≡ slip.now.place → Agree (journal ++ slip.now.event ∷ []) shares.old ↔ Agree journal shares.new }
+    ensures none { result ≡ None → (journal : List IsEvent) → length journal ≡ slip.now.place → ¬ Agree (journal ++ slip.now.event ∷ []) shares.old }
 {
-    for place in 0..shares.len() {
-        if take_last(&mut shares[place], slip) {
-            return true;
+    if take_at(shares, near, slip) {
+        return Some(near);
+    }
+    for position in 0..shares.len() {
+        if take_at(shares, position, slip) {
+            return Some(position);
         }
     }
-    false
+    None
 }
 
 // Whether no share has a slip.
@@ -41,6 +47,15 @@ fn are_used_up(shares: &[Share]) -> bool
     ensures { result ≡ list_all (λ slips. nat_eq (length slips) 0) shares.now }
 {
     shares.iter().all(|share| share.slips().is_empty())
+}
+
+// Takes the slip off the share at this position, if there is one and the slip is its last.
+fn take_at(shares: &mut [Share], position: usize, slip: &Slip) -> bool
+    ensures taken { result ≡ true → (journal : List IsEvent) → length journal ≡ slip.now.place → Agree (journal ++ slip.now.event ∷ []) shares.old ↔ Agree journal shares.new }
+    ensures as_before { result ≡ false → shares.new ≡ shares.old }
+    ensures not_last { result ≡ false → (front : List IsSlip) → slice_get shares.old position ≢ Some (front ++ slip.now ∷ []) }
+{
+    position < shares.len() && take_last(&mut shares[position], slip)
 }
 
 // Takes the slip off the share, if it is its last one.
