@@ -65,6 +65,18 @@ no_grant r j not_so =
     none_if (nat_lt j r.wires.federates) (rule_by r.wires (standing_at r.standings) j)
     (ap (λ b. if b then Some (lesser (predecessor_of (bound_of (network_by r.wires) (least_by r.wires) (standing_at r.standings) j)) r.wires.stop) else None) not_so)
 
+-- where nobody is eligible, nobody is granted
+none_granted : (r : Records) (federates : List ℕ) → ((j : ℕ) → j < r.wires.federates → is_eligible_in r j ≡ false) →
+    All (λ j. j < r.wires.federates) federates → grants_in r federates ≡ []
+none_granted r [] nobody there = refl
+none_granted r (j ∷ rest) nobody there =
+    ap (λ o. grant_post j o ++ grants_in r rest) (no_grant r j (nobody j (there 0 0 (omega arith)))) ∙ none_granted r rest nobody (λ k d l. there (suc k) d (omega arith))
+
+pub nothing_pushed : (r : Records) (posts : List Post) (federates : List ℕ) → ((j : ℕ) → j < r.wires.federates → is_eligible_in r j ≡ false) →
+    All (λ j. j < r.wires.federates) federates → posts ≡ posts ++ grants_in r federates
+nothing_pushed r posts federates nobody there =
+    sym (ap (λ xs. posts ++ xs) (none_granted r federates nobody there) ∙ append-nil posts)
+
 pub one_grant : (r : Records) (j : ℕ) (tag : LogicalTime) → j < r.wires.federates → rule_by r.wires (standing_at r.standings) j ≡ Some tag →
     grant_to (network_by r.wires) (rule_by r.wires) (standing_at r.standings) j ≡ Some tag
 one_grant r j tag l is =

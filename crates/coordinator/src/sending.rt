@@ -35,6 +35,10 @@ fn push_grants(posts: &mut Vec<Post>, table: &Table, federates: &[usize]) -> Res
     ensures posts { OnOk result (posts.new.items ≡ posts.old.items ++ grants_in table.now federates.now) }
     ensures memory { result ≢ Err Faults.Memory → result ≡ Ok tt }
 {
+    // Nearly always nobody is eligible.
+    if !table.has_eligible() {
+        return Ok(());
+    }
     for &federate in federates {
         if table.eligible(federate) {
             let signal = Signal::Tag(table.grant(federate));

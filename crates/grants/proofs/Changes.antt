@@ -14,7 +14,8 @@ use Rattle.protocol.specs.Standings.{standing_at, standings_listed}
 use Rattle.grants.specs.Wires.{Wires, AreWires, least_by, network_by}
 use Rattle.grants.specs.Records.{is_eligible_by}
 use Rattle.grants.specs.Looks.{count_below, has_path, reached_from, differ}
-use Rattle.grants.specs.Routes.{may_change, looked_at}
+use Rattle.grants.specs.Routes.{connected_to, leads, listed_below, may_change, looked_at}
+use Rattle.grants.proofs.Leading.{leads_by, led}
 use Rattle.grants.specs.Kept.{IsKept, flags_after}
 use Rattle.grants.proofs.Numbered.{length_listed, count_weaker, count_one, count_either}
 use Rattle.grants.proofs.Eligible.{eligible_same}
@@ -110,6 +111,21 @@ alone_changes w standings i j mine are l next completed n =
       completed = λ k c e t. field_stays (λ (s : Standing). s.completed) standings i mine l completed c.source;
     })
 
+-- where what i completed alone changes, all stay to whom no connection leads from it
+pub completed_stays : (w : Wires) (standings : List Standing) (i j : ℕ) (completed : Option LogicalTime) → AreWires w → i < length standings → leads w.connections i j ≡ false →
+    is_eligible_by w (slice_set standings i (record (standing_at standings i) { completed = completed })) j ≡ is_eligible_by w standings j
+completed_stays w standings i j completed are l away =
+    let mine : Standing = record (standing_at standings i) { completed = completed } in
+    eligible_same (network_by w) (least_by w) j (standing_at standings) (standing_at (slice_set standings i mine)) are.wired are.least
+    (record {
+      announced = field_stays (λ (s : Standing). s.announced) standings i mine l refl j;
+      granted = field_stays (λ (s : Standing). s.granted) standings i mine l refl j;
+      next = field_stays (λ (s : Standing). s.next) standings i mine l refl j;
+      paths = λ k path. field_stays (λ (s : Standing). s.next) standings i mine l refl k;
+      completed = λ k c e t. ap (λ (s : Standing). s.completed) (other_standing standings i c.source mine
+          (λ same. (let leading : leads w.connections i j ≡ true = leads_by w.connections i j k c e same t in let bad : ⊥ = cc in bad)));
+    })
+
 -- where the tags in transit alone change, all stay
 pub none_changes : (w : Wires) (standings : List Standing) (i j : ℕ) (transit : List LogicalTime) → AreWires w → i < length standings →
     is_eligible_by w (slice_set standings i (record (standing_at standings i) { transit = transit })) j ≡ is_eligible_by w standings j
@@ -126,22 +142,24 @@ none_changes w standings i j transit are l =
 
 -- ---- the flags
 
-flag_by : (w : Wires) (standings : List Standing) (flags : List Bool) (i j : ℕ) (mine : Standing) → AreWires w → IsKept w standings flags → j < w.federates →
-    (b : Bool) → may_change w i j ≡ b →
-    slice_index_or (flags_after (is_eligible_by w (slice_set standings i mine)) (looked_at w i) flags) j false ≡ is_eligible_by w (slice_set standings i mine) j
-flag_by w standings flags i j mine are kept l true e =
+flag_by : (w : Wires) (standings : List Standing) (flags : List Bool) (i j : ℕ) (mine : Standing) (test : ℕ → Bool) → IsKept w standings flags → j < w.federates →
+    (test j ≡ false → is_eligible_by w (slice_set standings i mine) j ≡ is_eligible_by w standings j) → (b : Bool) → test j ≡ b →
+    slice_index_or (flags_after (is_eligible_by w (slice_set standings i mine)) (listed_below w.federates test) flags) j false ≡ is_eligible_by w (slice_set standings i mine) j
+flag_by w standings flags i j mine test kept l stays true e =
     let many = kept.flag_count in
-    set_flag_is w.federates (may_change w i) (is_eligible_by w (slice_set standings i mine)) flags j l (omega arith) e
-flag_by w standings flags i j mine are kept l false e =
-    other_flag_stays w.federates (may_change w i) (is_eligible_by w (slice_set standings i mine)) flags j e
-    ∙ kept.each j l ∙ sym (others_stay w standings i j mine are e)
+    set_flag_is w.federates test (is_eligible_by w (slice_set standings i mine)) flags j l (omega arith) e
+flag_by w standings flags i j mine test kept l stays false e =
+    other_flag_stays w.federates test (is_eligible_by w (slice_set standings i mine)) flags j e
+    ∙ kept.each j l ∙ sym (stays e)
 
-pub kept_by_looks : (w : Wires) (standings : List Standing) (flags : List Bool) (i : ℕ) (mine : Standing) → AreWires w → IsKept w standings flags →
-    IsKept w (slice_set standings i mine) (flags_after (is_eligible_by w (slice_set standings i mine)) (looked_at w i) flags)
-kept_by_looks w standings flags i mine are kept = record {
+-- after a look at each that passes a test, where those that don't pass it stay
+pub kept_by_looks : (w : Wires) (standings : List Standing) (flags : List Bool) (i : ℕ) (mine : Standing) (test : ℕ → Bool) → IsKept w standings flags →
+    ((j : ℕ) → test j ≡ false → is_eligible_by w (slice_set standings i mine) j ≡ is_eligible_by w standings j) →
+    IsKept w (slice_set standings i mine) (flags_after (is_eligible_by w (slice_set standings i mine)) (listed_below w.federates test) flags)
+kept_by_looks w standings flags i mine test kept stay = record {
   standing_count = length-set standings i mine ∙ kept.standing_count;
-  flag_count = flags_stay_as_many (is_eligible_by w (slice_set standings i mine)) (looked_at w i) flags ∙ kept.flag_count;
-  each = λ j l. flag_by w standings flags i j mine are kept l (may_change w i j) refl;
+  flag_count = flags_stay_as_many (is_eligible_by w (slice_set standings i mine)) (listed_below w.federates test) flags ∙ kept.flag_count;
+  each = λ j l. flag_by w standings flags i j mine test kept l (stay j) (test j) refl;
 }
 
 pub kept_by_one_look : (w : Wires) (standings : List Standing) (flags : List Bool) (i : ℕ) (mine : Standing) → AreWires w → IsKept w standings flags → i < w.federates →
@@ -189,12 +207,12 @@ changed_few : (count : ℕ) (before after test : ℕ → Bool) → ((j : ℕ) �
     count_below count (λ j. differ (before j) (after j)) ≤ count_below count test
 changed_few count before after test stay = count_weaker count (λ j. differ (before j) (after j)) test (λ j d. passes (before j) (after j) (test j) (stay j) d)
 
-pub changed_by_looks : (w : Wires) (standings : List Standing) (i : ℕ) (mine : Standing) → AreWires w →
-    count_below w.federates (λ j. differ (is_eligible_by w standings j) (is_eligible_by w (slice_set standings i mine) j)) ≤ length (looked_at w i)
-changed_by_looks w standings i mine are =
-    let listed = length_listed w.federates (may_change w i) in
-    let few = changed_few w.federates (is_eligible_by w standings) (is_eligible_by w (slice_set standings i mine)) (may_change w i)
-    (λ j away. others_stay w standings i j mine are away) in
+pub changed_by_looks : (w : Wires) (standings : List Standing) (i : ℕ) (mine : Standing) (test : ℕ → Bool) →
+    ((j : ℕ) → test j ≡ false → is_eligible_by w (slice_set standings i mine) j ≡ is_eligible_by w standings j) →
+    count_below w.federates (λ j. differ (is_eligible_by w standings j) (is_eligible_by w (slice_set standings i mine) j)) ≤ length (listed_below w.federates test)
+changed_by_looks w standings i mine test stay =
+    let listed = length_listed w.federates test in
+    let few = changed_few w.federates (is_eligible_by w standings) (is_eligible_by w (slice_set standings i mine)) test stay in
     omega arith
 
 pub changed_by_one_look : (w : Wires) (standings : List Standing) (i : ℕ) (mine : Standing) → AreWires w → i < length standings →
@@ -211,6 +229,16 @@ looked_at_few w i =
     let listed = length_listed w.federates (may_change w i) in
     let either = count_either w.federates (λ j. nat_eq j i) (has_path w i) in
     let one = count_one w.federates i in
+    omega arith
+
+connected_has_path : (w : Wires) (i j : ℕ) → AreWires w → leads w.connections i j ≡ true → has_path w i j ≡ true
+connected_has_path w i j are e =
+    led i j (has_path w i j) w.connections (λ k c x s t. ap (λ y. has_path w y j) (sym s) ∙ connected w j k c are x t) e
+
+pub connected_few : (w : Wires) (i : ℕ) → AreWires w → length (connected_to w i) ≤ 1 + reached_from w i
+connected_few w i are =
+    let listed = length_listed w.federates (leads w.connections i) in
+    let few = count_weaker w.federates (leads w.connections i) (has_path w i) (λ j e. connected_has_path w i j are e) in
     omega arith
 
 -- ---- paths

@@ -6,6 +6,8 @@ pub mod Arrivals
 pub mod Passing
 -- Numbers that pass a test: listed, and counted.
 pub mod Numbered
+-- Whether a connection leads from one federate to another.
+pub mod Leading
 -- Who is eligible: by the bound, and whom a change leaves alone.
 pub mod Eligible
 -- The wiring of a plan is sound.

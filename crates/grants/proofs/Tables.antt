@@ -1,6 +1,7 @@
 -- A table after each call, by what it keeps.
-use Rattle.std.proofs.Common.{◌≡◌, ℕ, ◌+◌, ◌<◌, ◌≤◌, Bool, true, false, IsTrue, List, length, get_or, replicate, sym, ap, subst, ◌∙◌, arith}
+use Rattle.std.proofs.Common.{◌≡◌, ℕ, zero, suc, ◌+◌, ◌<◌, ◌≤◌, Bool, true, false, IsTrue, List, [], ◌∷◌, inl, inr, refl, length, get_or, replicate, sym, ap, subst, ◌∙◌, arith, Option}
 use Rattle.std.specs.Prelude.{◌&&◌, All, slice_index_or, slice_set}
+use Rattle.std.proofs.lemmas.Bool.{cases_lt}
 use Rattle.std.proofs.lemmas.List.{get_or_read, get_or-replicate, length-replicate}
 use Rattle.tag.specs.LogicalTime.{LogicalTime, is_at_most, is_before, lesser, origin, predecessor_of, is_past}
 use Rattle.protocol.specs.Standing.{Standing, opening_standing}
@@ -13,11 +14,11 @@ use Rattle.laws.proofs.ListedStandings.{read_listed, listed_length}
 use Rattle.grants.specs.Wires.{Wires, AreWires, least_by, network_by}
 use Rattle.grants.specs.Records.{Records, is_eligible_by, is_eligible_in}
 use Rattle.grants.specs.Looks.{counted, changed_between, reached_from}
-use Rattle.grants.specs.Routes.{looked_at, may_change}
+use Rattle.grants.specs.Routes.{connected_to, leads, listed_below, looked_at, may_change}
 use Rattle.grants.specs.Kept.{IsKept, flags_after}
 use Rattle.grants.proofs.Numbered.{listed_are_below}
 use Rattle.grants.proofs.Eligible.{by_bound, silent_is_not_eligible, bound_after_origin}
-use Rattle.grants.proofs.Changes.{kept_by_looks, kept_by_one_look, kept_with_transit, changed_by_looks, changed_by_one_look, looked_at_few}
+use Rattle.grants.proofs.Changes.{completed_stays, connected_few, others_stay, kept_by_looks, kept_by_one_look, kept_with_transit, changed_by_looks, changed_by_one_look, looked_at_few}
 
 -- these are what the table is seen as
 abbrev pub records : Wires → List Standing → ℕ → Records
@@ -48,6 +49,26 @@ eligible_by_flag w standings looks j flag r is are e =
     let table = eligible_by_table (network_by w) (least_by w) (standing_at standings) j are.wired are.least in
     subst (λ x. (IsTrue flag → Eligible (network_by x.wires) (standing_at x.standings) j) × (Eligible (network_by x.wires) (standing_at x.standings) j → IsTrue flag)) is
     ((λ h. table.1 (sym e ∙ h)), (λ h. e ∙ table.0 h))
+
+-- a federate that isn't there has no flag
+flags_beyond : (flags : List Bool) (j : ℕ) → length flags ≤ j → slice_index_or flags j false ≡ false
+flags_beyond [] j l = refl
+flags_beyond (x ∷ rest) zero l = absurd (omega arith)
+flags_beyond (x ∷ rest) (suc j) l = flags_beyond rest j (omega arith)
+
+-- nobody is eligible where no flag is set, and so the other way round
+pub none_eligible : (w : Wires) (standings : List Standing) (flags : List Bool) (looks : ℕ) (somebody : Bool) (r : Records) → records w standings looks ≡ r → IsKept w standings flags →
+    (somebody ≡ false → (j : ℕ) → slice_index_or flags j false ≡ false) × (((j : ℕ) → slice_index_or flags j false ≡ false) → somebody ≡ false) →
+    (somebody ≡ false → (j : ℕ) → j < r.wires.federates → is_eligible_in r j ≡ false) × (((j : ℕ) → j < r.wires.federates → is_eligible_in r j ≡ false) → somebody ≡ false)
+none_eligible w standings flags looks somebody r is kept none =
+    subst (λ (x : Records). (somebody ≡ false → (j : ℕ) → j < x.wires.federates → is_eligible_in x j ≡ false) × (((j : ℕ) → j < x.wires.federates → is_eligible_in x j ≡ false) → somebody ≡ false)) is
+    ((λ so j l. sym (kept.each j l) ∙ none.0 so j), (λ h. none.1 (all_false h)))
+  where
+    all_false : ((j : ℕ) → j < w.federates → is_eligible_by w standings j ≡ false) → (j : ℕ) → slice_index_or flags j false ≡ false
+    all_false h j = elim (cases_lt j w.federates) [
+      | inl l ↦ kept.each j l ∙ h j l
+      | inr l ↦ flags_beyond flags j (let many = kept.flag_count in omega arith)
+    ]
 
 pub bound_is_late : (w : Wires) (standings : List Standing) (looks j : ℕ) (r : Records) → records w standings looks ≡ r → AreWires w → is_eligible_in r j ≡ true →
     is_before origin (bound_of (network_by w) (least_by w) (standing_at standings) j) ≡ true
@@ -92,31 +113,66 @@ waits_not w standings j s stop waiting are e t wait never =
 
 -- ---- changes after which each federate is looked at that may have changed
 
-pub all_there : (w : Wires) (i : ℕ) (federates : List ℕ) → federates ≡ looked_at w i → All (λ j. j < w.federates) federates
-all_there w i federates e = subst (λ fs. All (λ j. j < w.federates) fs) (sym e) (listed_are_below w.federates (may_change w i))
+pub all_there : (w : Wires) (test : ℕ → Bool) (federates : List ℕ) → federates ≡ listed_below w.federates test → All (λ j. j < w.federates) federates
+all_there w test federates e = subst (λ fs. All (λ j. j < w.federates) fs) (sym e) (listed_are_below w.federates test)
+
+kept_after_listed : (w : Wires) (standings after : List Standing) (flags flags_now : List Bool) (i : ℕ) (federates : List ℕ) (mine : Standing) (test : ℕ → Bool) →
+    IsKept w standings flags → ((j : ℕ) → test j ≡ false → is_eligible_by w (slice_set standings i mine) j ≡ is_eligible_by w standings j) →
+    after ≡ slice_set standings i mine → federates ≡ listed_below w.federates test → flags_now ≡ flags_after (is_eligible_by w after) federates flags →
+    IsKept w (slice_set standings i mine) flags_now
+kept_after_listed w standings after flags flags_now i federates mine test kept stay s f e =
+    subst (IsKept w (slice_set standings i mine))
+    (sym (e ∙ ap (λ ss. flags_after (is_eligible_by w ss) federates flags) s ∙ ap (λ fs. flags_after (is_eligible_by w (slice_set standings i mine)) fs flags) f))
+    (kept_by_looks w standings flags i mine test kept stay)
 
 pub kept_after_looks : (w : Wires) (standings after : List Standing) (flags flags_now : List Bool) (i : ℕ) (federates : List ℕ) (mine : Standing) → AreWires w →
     IsKept w standings flags → after ≡ slice_set standings i mine → federates ≡ looked_at w i → flags_now ≡ flags_after (is_eligible_by w after) federates flags →
     IsKept w (slice_set standings i mine) flags_now
 kept_after_looks w standings after flags flags_now i federates mine are kept s f e =
-    subst (IsKept w (slice_set standings i mine))
-    (sym (e ∙ ap (λ ss. flags_after (is_eligible_by w ss) federates flags) s ∙ ap (λ fs. flags_after (is_eligible_by w (slice_set standings i mine)) fs flags) f))
-    (kept_by_looks w standings flags i mine are kept)
+    kept_after_listed w standings after flags flags_now i federates mine (may_change w i) kept (λ j away. others_stay w standings i j mine are away) s f e
 
-pub few_looks : (w : Wires) (standings : List Standing) (looks now i : ℕ) (federates : List ℕ) (r : Records) → records w standings looks ≡ r → federates ≡ looked_at w i →
-    now ≡ counted looks (length federates) → now ≤ r.looks + 1 + reached_from r.wires i
-few_looks w standings looks now i federates r is f e =
-    let few = looked_at_few w i in
-    let many = ap length f in
+pub few_looks : (w : Wires) (standings : List Standing) (looks now i : ℕ) (federates : List ℕ) (r : Records) → records w standings looks ≡ r →
+    length federates ≤ 1 + reached_from w i → now ≡ counted looks (length federates) → now ≤ r.looks + 1 + reached_from r.wires i
+few_looks w standings looks now i federates r is few e =
     subst (λ (x : Records). now ≤ x.looks + 1 + reached_from x.wires i) is (omega arith)
+
+pub looked_at_are_few : (w : Wires) (i : ℕ) (federates : List ℕ) → federates ≡ looked_at w i → length federates ≤ 1 + reached_from w i
+looked_at_are_few w i federates f = let few = looked_at_few w i in let many = ap length f in omega arith
+
+pub connected_are_few : (w : Wires) (i : ℕ) (federates : List ℕ) → AreWires w → federates ≡ connected_to w i → length federates ≤ 1 + reached_from w i
+connected_are_few w i federates are f = let few = connected_few w i are in let many = ap length f in omega arith
+
+counts_listed : (w : Wires) (standings : List Standing) (looks now i : ℕ) (federates : List ℕ) (mine : Standing) (r : Records) (test : ℕ → Bool) → records w standings looks ≡ r →
+    ((j : ℕ) → test j ≡ false → is_eligible_by w (slice_set standings i mine) j ≡ is_eligible_by w standings j) → federates ≡ listed_below w.federates test →
+    now ≡ counted looks (length federates) → counted r.looks (changed_between r (records w (slice_set standings i mine) now)) ≤ now
+counts_listed w standings looks now i federates mine r test is stay f e =
+    let few = changed_by_looks w standings i mine test stay in
+    let many = ap length f in
+    subst (λ (x : Records). counted x.looks (changed_between x (records w (slice_set standings i mine) now)) ≤ now) is (omega arith)
 
 pub counts_looks : (w : Wires) (standings : List Standing) (looks now i : ℕ) (federates : List ℕ) (mine : Standing) (r : Records) → records w standings looks ≡ r →
     AreWires w → federates ≡ looked_at w i → now ≡ counted looks (length federates) →
     counted r.looks (changed_between r (records w (slice_set standings i mine) now)) ≤ now
 counts_looks w standings looks now i federates mine r is are f e =
-    let few = changed_by_looks w standings i mine are in
-    let many = ap length f in
-    subst (λ (x : Records). counted x.looks (changed_between x (records w (slice_set standings i mine) now)) ≤ now) is (omega arith)
+    counts_listed w standings looks now i federates mine r (may_change w i) is (λ j away. others_stay w standings i j mine are away) f e
+
+-- after a change of what federate i completed alone
+pub after_completed : (w : Wires) (standings after : List Standing) (flags flags_now : List Bool) (looks now i : ℕ) (federates : List ℕ) (old mine : Standing)
+    (completed : Option LogicalTime) (r : Records) → records w standings looks ≡ r → AreWires w → IsKept w standings flags → i < r.wires.federates → old ≡ get_or standings i old →
+    mine ≡ record old { completed = completed } → after ≡ slice_set standings i mine → federates ≡ connected_to w i → flags_now ≡ flags_after (is_eligible_by w after) federates flags →
+    now ≡ counted looks (length federates) →
+    IsKept w (slice_set standings i mine) flags_now × (counted r.looks (changed_between r (records w (slice_set standings i mine) now)) ≤ now)
+after_completed w standings after flags flags_now looks now i federates old mine completed r is are kept l here m s f e n =
+    let count = ap (λ (x : Records). x.wires.federates) is in
+    let there : i < w.federates = omega (arith, count, l) in
+    let within : i < length standings = omega (arith, there, kept.standing_count) in
+    let own = standing_is standings i old within here in
+    let alike : mine ≡ record (standing_at standings i) { completed = completed } = m ∙ ap (λ (x : Standing). record x { completed = completed }) own in
+    let stay : (j : ℕ) → leads w.connections i j ≡ false → is_eligible_by w (slice_set standings i mine) j ≡ is_eligible_by w standings j =
+    λ j away. ap (λ x. is_eligible_by w (slice_set standings i x) j) alike ∙ completed_stays w standings i j completed are within away in (
+      kept_after_listed w standings after flags flags_now i federates mine (leads w.connections i) kept stay s f e,
+      counts_listed w standings looks now i federates mine r (leads w.connections i) is stay f n,
+    )
 
 -- ---- changes after which the federate alone is looked at
 

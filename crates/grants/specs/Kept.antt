@@ -1,5 +1,5 @@
 -- What a table keeps: of each federate its standing, and whether it is eligible.
-use Rattle.std.specs.Prelude.{◌≡◌, ℕ, ◌<◌, Bool, false, List, length, slice_index_or, slice_set}
+use Rattle.std.specs.Prelude.{◌≡◌, ℕ, ◌+◌, ◌<◌, Bool, false, List, [], ◌∷◌, length, slice_index_or, slice_set, if◌then◌else◌}
 use Rattle.std.specs.List.{fold}
 use Rattle.protocol.specs.Standing.{Standing}
 use Rattle.grants.specs.Wires.{Wires}
@@ -10,6 +10,16 @@ pub record IsKept (w : Wires) (standings : List Standing) (flags : List Bool) : 
   pub standing_count : length standings ≡ w.federates
   pub flag_count : length flags ≡ w.federates
   pub each : (j : ℕ) → j < w.federates → slice_index_or flags j false ≡ is_eligible_by w standings j
+
+-- how many flags are set
+abbrev pub set_count : List Bool → ℕ
+set_count [] = 0
+set_count (flag ∷ flags) = (if flag then 1 else 0) + set_count flags
+
+-- a flag of each federate, and how often one was looked at
+pub record Looked : Type 0 where
+  pub eligible : List Bool
+  pub looks : ℕ
 
 -- the flags after a look at each of these federates
 abbrev pub flags_after : (ℕ → Bool) → List ℕ → List Bool → List Bool

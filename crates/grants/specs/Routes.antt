@@ -1,5 +1,5 @@
 -- Whom a federate hears from, and whom it reaches.
-use Rattle.std.specs.Prelude.{ℕ, zero, suc, Bool, ◌||◌, nat_eq, if◌then◌else◌, List, [], ◌∷◌, ◌++◌, filter, Option, None, Some}
+use Rattle.std.specs.Prelude.{ℕ, zero, suc, Bool, false, ◌&&◌, ◌||◌, nat_eq, if◌then◌else◌, List, [], ◌∷◌, ◌++◌, filter, Option, None, Some}
 use Rattle.tag.specs.LogicalTime.{LogicalTime}
 use Rattle.network.specs.Connection.{Connection}
 use Rattle.network.specs.Tables.{Table}
@@ -34,14 +34,28 @@ may_change w i j = nat_eq j i || has_path w i j
 abbrev pub looked_at : Wires → ℕ → List ℕ
 looked_at w i = listed_below w.federates (may_change w i)
 
+-- one of these connections leads from i to j
+abbrev pub leads : List Connection → ℕ → ℕ → Bool
+leads [] i j = false
+leads (c ∷ rest) i j = (nat_eq c.source i && nat_eq c.target j) || leads rest i j
+
+-- the connections that begin at i
+abbrev pub outgoing_of : List Connection → ℕ → List Connection
+outgoing_of connections i = filter (λ c. nat_eq c.source i) connections
+
+-- the federates to which a connection leads from i: what i completed bears on whether they are eligible, and on nobody else
+abbrev pub connected_to : Wires → ℕ → List ℕ
+connected_to w i = listed_below w.federates (leads w.connections i)
+
 -- one federate's routes
 pub record Routed : Type 0 where
   pub upstream : List Upstream
   pub incoming : List Connection
+  pub targets : List ℕ
   pub downstream : List ℕ
 
 abbrev pub routed : Wires → ℕ → Routed
-routed w j = record { upstream = upstream_of (least_by w) j w.federates; incoming = incoming_of w.connections j; downstream = looked_at w j }
+routed w j = record { upstream = upstream_of (least_by w) j w.federates; incoming = incoming_of w.connections j; targets = connected_to w j; downstream = looked_at w j }
 
 -- those of the first `count` federates
 abbrev pub routed_below : Wires → ℕ → List Routed

@@ -5,7 +5,9 @@
 //!
 //!     set_next(i) --> standings[i] --> Lookout::look at i, and at each federate that a path leads to from i
 //!                                          +--> Wiring::is_eligible --> Wiring::bound     counts one
+//!     set_completed(i) --> the same at each federate that a connection leads to from i
 //!     eligible(j) --> the flag that the last look set
+//!     has_eligible --> whether a flag is set: looks keep their count
 //!
 //! Begin with `specs/Records`, then `table`; who is looked at is in `specs/Routes`.
 #![tactic(auto)]

@@ -1,7 +1,8 @@
-ghost use Rattle.std.specs.Prelude.{◌≡◌, ◌<◌, IfOk};
+ghost use Rattle.std.specs.Prelude.{◌≡◌, ◌<◌, IfOk, nat_eq};
+ghost use Rattle.std.specs.List.{list_any};
 ghost use Rattle.plan.specs.Federation.{federate_count};
 ghost use Rattle.grants.specs.Wires.{least_by, wires_of};
-ghost use Rattle.grants.specs.Routes.{incoming_of, looked_at, routed, upstream_of};
+ghost use Rattle.grants.specs.Routes.{connected_to, incoming_of, looked_at, outgoing_of, routed, upstream_of};
 
 use crate::memory::Memory;
 use plan::{Connection, Plan};
@@ -22,6 +23,8 @@ pub struct Routes {
     upstream: Vec<Upstream>,
     /// The connections that end at it.
     incoming: Vec<Connection>,
+    /// Each federate that a connection leads to from it.
+    targets: Vec<usize>,
     /// Itself, and each federate that a path leads to from it.
     downstream: Vec<usize>,
 }
@@ -31,7 +34,7 @@ impl Model for Routes {
 
     ghost Value = { Routed };
 
-    ghost view = { λ r. record { upstream = r.upstream.items; incoming = r.incoming.items; downstream = r.downstream.items } };
+    ghost view = { λ r. record { upstream = r.upstream.items; incoming = r.incoming.items; targets = r.targets.items; downstream = r.downstream.items } };
 }
 
 impl Routes {
@@ -42,10 +45,12 @@ impl Routes {
     {
         let upstream = upstream_of(alloc, plan, federate)?;
         let incoming = incoming_of(alloc, plan.connections(), federate)?;
+        let targets = targets_of(alloc, plan, federate)?;
         let downstream = downstream_of(alloc, plan, federate)?;
         Ok(Routes {
             upstream,
             incoming,
+            targets,
             downstream,
         })
     }
@@ -60,6 +65,12 @@ impl Routes {
         ensures { result.now ≡ self.now.incoming }
     {
         self.incoming.as_slice()
+    }
+
+    pub fn targets(&self) -> &[usize]
+        ensures { result.now ≡ self.now.targets }
+    {
+        self.targets.as_slice()
     }
 
     pub fn downstream(&self) -> &[usize]
@@ -101,6 +112,46 @@ fn incoming_of(
         }
     }
     Ok(incoming)
+}
+
+/// The connections that begin at a federate.
+fn outgoing_of(
+    alloc: Global,
+    connections: &[Connection],
+    federate: usize,
+) -> Result<Vec<Connection>, Memory>
+    ensures { IfOk result (λ outgoing. outgoing.items ≡ outgoing_of connections.now federate) }
+{
+    let mut outgoing = Vec::new(alloc);
+    for connection in connections {
+        if connection.source() == federate {
+            outgoing.push(*connection)?;
+        }
+    }
+    Ok(outgoing)
+}
+
+/// The federates to which a connection leads from this one.
+fn targets_of(alloc: Global, plan: &Plan, federate: usize) -> Result<Vec<usize>, Memory>
+    ensures { IfOk result (λ targets. targets.items ≡ connected_to (wires_of plan.now) federate) }
+{
+    let outgoing = outgoing_of(alloc, plan.connections(), federate)?;
+    let mut targets = Vec::new(alloc);
+    for to in 0..plan.federate_count() {
+        if ends_at(outgoing.as_slice(), to) {
+            targets.push(to)?;
+        }
+    }
+    Ok(targets)
+}
+
+/// Whether one of these connections ends at a federate.
+fn ends_at(connections: &[Connection], federate: usize) -> bool
+    ensures { result ≡ list_any (λ c. nat_eq c.target federate) connections.now }
+{
+    connections
+        .iter()
+        .any(|connection| connection.target() == federate)
 }
 
 /// A federate, and those that a path leads to from it.

@@ -1,4 +1,4 @@
-ghost use Rattle.std.specs.Prelude.{◌≡◌, ◌↔◌, ◌+◌, ◌<◌, ◌≤◌, IfOk, OnOk, OnErr, IsTrue, Some, filter, slice_get};
+ghost use Rattle.std.specs.Prelude.{◌≡◌, ◌↔◌, ℕ, ◌+◌, ◌<◌, ◌≤◌, IfOk, OnOk, OnErr, IsTrue, Some, false, filter, slice_get};
 ghost use Rattle.tag.specs.LogicalTime.{LogicalTime, is_before, lesser, origin, predecessor_of};
 ghost use Rattle.protocol.specs.Standing.{least_with, opening_standing, with_tag};
 ghost use Rattle.protocol.specs.Standings.{standing_at, standings_listed};
@@ -36,7 +36,7 @@ impl Model for Table {
 
     ghost view = { λ t. record { wires = t.wiring; standings = t.standings.items; looks = t.lookout.looks } };
 
-    ghost invariant = { λ t. IsKept t.wiring t.standings.items t.lookout.eligible.items };
+    ghost invariant = { λ t. IsKept t.wiring t.standings.items t.lookout.eligible };
 }
 
 impl Table {
@@ -119,7 +119,7 @@ impl Table {
     pub fn looks(&self) -> u64
         ensures { result ≡ self.now.looks }
     {
-        self.lookout.looks
+        self.lookout.looks()
     }
 
     /// Whether a federate gets a grant.
@@ -130,7 +130,14 @@ impl Table {
     {
         // For the prover: the least delays are least over all paths.
         self.wiring.known();
-        self.lookout.eligible[federate]
+        self.lookout.is_eligible(federate)
+    }
+
+    /// Whether any federate gets a grant. It takes the same time however many there are.
+    pub fn has_eligible(&self) -> bool
+        ensures { result ≡ false ↔ ((federate : ℕ) → federate < self.now.wires.federates → is_eligible_in self.now federate ≡ false) }
+    {
+        self.lookout.has_eligible()
     }
 
     /// How far an eligible federate may be granted: the last tag before anything can still arrive at it, or stop if that is earlier.
@@ -171,7 +178,8 @@ impl Table {
             .look_at_each(&self.wiring, self.standings.as_slice(), federates);
     }
 
-    /// Sets the tag of a federate's last LTC. It looks at that federate, and at each that a path leads to from it.
+    /// Sets the tag of a federate's last LTC. It looks at each federate that a connection leads to from it: what it completed bears
+    /// on nobody else.
     pub fn set_completed(&mut self, federate: usize, completed: Option<FiniteTag>)
         requires { federate < self.old.wires.federates }
         ensures value { self.new ≡ with_looks (changed_at self.old federate (λ s. record s { completed = completed })) self.new.looks }
@@ -182,7 +190,7 @@ impl Table {
         self.wiring.known();
         let standing = &mut self.standings[federate];
         standing.set_completed(completed);
-        let federates = self.wiring.looked_at(federate);
+        let federates = self.wiring.connected_to(federate);
         self.lookout
             .look_at_each(&self.wiring, self.standings.as_slice(), federates);
     }

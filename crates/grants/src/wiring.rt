@@ -4,7 +4,7 @@ ghost use Rattle.tag.specs.LogicalTime.{is_before};
 ghost use Rattle.protocol.specs.Grant.{bound_of, is_eligible};
 ghost use Rattle.protocol.specs.Standings.{standing_at};
 ghost use Rattle.grants.specs.Wires.{AreWires, least_by, network_by, wires_of};
-ghost use Rattle.grants.specs.Routes.{looked_at, routed_below};
+ghost use Rattle.grants.specs.Routes.{connected_to, looked_at, routed_below};
 
 use crate::bounds::{first_incoming, first_upstream, passes_incoming, passes_upstream};
 use crate::memory::Memory;
@@ -78,6 +78,14 @@ impl Wiring {
         ensures { result.now ≡ looked_at self.now federate }
     {
         self.routes[federate].downstream()
+    }
+
+    /// The federates to which a connection leads from this one.
+    pub fn connected_to(&self, federate: usize) -> &[usize]
+        requires { federate < self.now.federates }
+        ensures { result.now ≡ connected_to self.now federate }
+    {
+        self.routes[federate].targets()
     }
 
     /// Before this tag nothing can still arrive at a federate. It goes over those from which a path leads to it, and over the

@@ -1,8 +1,12 @@
-use Rattle.std.proofs.Common.{get_or, sym, ap, ◌∙◌, Some, None}
+use Rattle.std.proofs.Common.{get_or, refl, sym, ap, ◌∙◌, Some, None}
 use Rattle.std.proofs.lemmas.List.{take_more, append-nil}
-use Rattle.coordinator.proofs.Sent.{pushed, no_grant, one_grant}
+use Rattle.coordinator.proofs.Sent.{nothing_pushed, pushed, no_grant, one_grant}
 use Rattle.coordinator.proofs.sending.push_grants.Goals.{then-eligible+in_ok-push, else-eligible}
 use Rattle.coordinator.proofs.sending.push_grants.Goals as goal
+
+pub returns-then-not-has_eligible-clause-posts : goal.returns-then-not-has_eligible-clause-posts
+returns-then-not-has_eligible-clause-posts c =
+    nothing_pushed c.args.table.now c.args.posts.now.items c.args.federates.now (c.if-not-has_eligible.ensures.0 refl) c.requires
 
 pub loop-federate-preserved : goal.loop-federate-preserved
 loop-federate-preserved c =

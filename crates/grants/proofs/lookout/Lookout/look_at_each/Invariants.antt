@@ -8,8 +8,8 @@ use Rattle.grants.proofs.lookout.Lookout.look_at_each.Given as goal
 
 abbrev pub invariant-loop-federate : goal.invariant-loop-federate
 invariant-loop-federate l = record {
-  flags : length l.self.eligible.items ≡ l.wiring.federates;
-  eligible : l.self.eligible.items ≡
-      flags_after (is_eligible (network_by l.wiring) (least_by l.wiring) (standing_at l.standings)) (take l.federate-index l.federates) l.initial.self.eligible.items;
+  flags : length l.self.eligible ≡ l.wiring.federates;
+  eligible : l.self.eligible ≡
+      flags_after (is_eligible (network_by l.wiring) (least_by l.wiring) (standing_at l.standings)) (take l.federate-index l.federates) l.initial.self.eligible;
   looks : l.self.looks ≡ counted l.initial.self.looks l.federate-index;
 }

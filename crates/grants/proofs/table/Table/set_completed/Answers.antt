@@ -1,24 +1,27 @@
-use Rattle.grants.proofs.Tables.{all_there, counts_looks, few_looks, kept_after_looks}
+use Rattle.grants.specs.Routes.{leads}
+use Rattle.grants.proofs.Tables.{after_completed, all_there, connected_are_few, few_looks}
 use Rattle.grants.proofs.table.Table.set_completed.Goals as goal
 
 pub look_at_each-requires-clause-federates : goal.look_at_each-requires-clause-federates
-look_at_each-requires-clause-federates c = all_there c.self.inside.wiring c.args.federate c.looked_at-federates.result.now c.looked_at-federates.ensures
+look_at_each-requires-clause-federates c =
+    all_there c.self.inside.wiring (leads c.self.inside.wiring.connections c.args.federate) c.connected_to-federates.result.now c.connected_to-federates.ensures
 
 pub invariant_of-self : goal.invariant_of-self
 invariant_of-self c =
     let t = c.self.inside in
-    kept_after_looks t.wiring t.standings.items c.as_slice.result.now t.lookout.eligible.items c.look_at_each.new.self.eligible.items c.args.federate
-    c.looked_at-federates.result.now c.set_completed.new.self c.known.ensures c.self.invariant c.as_slice.ensures.value c.looked_at-federates.ensures
-    c.look_at_each.ensures.eligible
+    (after_completed t.wiring t.standings.items c.as_slice.result.now t.lookout.eligible c.look_at_each.new.self.eligible t.lookout.looks c.look_at_each.new.self.looks c.args.federate
+    c.connected_to-federates.result.now c.index_mut-standing.result.now c.set_completed.new.self c.args.completed c.args.self.now c.self.view_is c.known.ensures c.self.invariant c.requires
+    c.index_mut-standing.ensures.value c.set_completed.ensures c.as_slice.ensures.value c.connected_to-federates.ensures c.look_at_each.ensures.eligible c.look_at_each.ensures.looks).0
 
 pub returns-clause-few_looks : goal.returns-clause-few_looks
 returns-clause-few_looks c =
     let t = c.self.inside in
-    few_looks t.wiring t.standings.items t.lookout.looks c.look_at_each.new.self.looks c.args.federate c.looked_at-federates.result.now c.args.self.now c.self.view_is
-    c.looked_at-federates.ensures c.look_at_each.ensures.looks
+    few_looks t.wiring t.standings.items t.lookout.looks c.look_at_each.new.self.looks c.args.federate c.connected_to-federates.result.now c.args.self.now c.self.view_is
+    (connected_are_few t.wiring c.args.federate c.connected_to-federates.result.now c.known.ensures c.connected_to-federates.ensures) c.look_at_each.ensures.looks
 
 pub returns-clause-looks : goal.returns-clause-looks
 returns-clause-looks c =
     let t = c.self.inside in
-    counts_looks t.wiring t.standings.items t.lookout.looks c.look_at_each.new.self.looks c.args.federate c.looked_at-federates.result.now c.set_completed.new.self c.args.self.now
-    c.self.view_is c.known.ensures c.looked_at-federates.ensures c.look_at_each.ensures.looks
+    (after_completed t.wiring t.standings.items c.as_slice.result.now t.lookout.eligible c.look_at_each.new.self.eligible t.lookout.looks c.look_at_each.new.self.looks c.args.federate
+    c.connected_to-federates.result.now c.index_mut-standing.result.now c.set_completed.new.self c.args.completed c.args.self.now c.self.view_is c.known.ensures c.self.invariant c.requires
+    c.index_mut-standing.ensures.value c.set_completed.ensures c.as_slice.ensures.value c.connected_to-federates.ensures c.look_at_each.ensures.eligible c.look_at_each.ensures.looks).1
