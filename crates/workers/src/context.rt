@@ -1,10 +1,12 @@
-ghost use Rattle.std.specs.Prelude.{◌≡◌, ℕ, None, ◌∷◌, ◌++◌, [], IfSome};
-ghost use Rattle.workers.specs.HandedIn.{AreHandedIn};
+ghost use Rattle.std.specs.Prelude.{◌≡◌, ℕ, None, ◌∷◌, ◌++◌, List, [], IfSome};
+ghost use Rattle.node.specs.declared.event.Event.TheVariants as Events;
+ghost use Rattle.desk.specs.declared.slip.Slip.{Slip};
+ghost use Rattle.workers.specs.HandedIn.{AreHandedIn, HandedIn, events_of_turns};
 
 use crate::gate::{Gate, Point};
 use crate::hints::{Hint, Hints};
 use crate::outlet::Outlet;
-use desk::{Share, Shared};
+use desk::{Locked, Share, Shared};
 use node::{Event, Node, NodeId, Outgoing, Reply};
 use std::alloc::Global;
 use std::sync::Wait;
@@ -27,15 +29,20 @@ impl Said {
         }
     }
 
-    // Adds what a reply says. Frames for which there is no memory are lost, as on a line that loses frames.
-    fn add(&mut self, reply: Reply) {
+    // Adds what a reply says; whether it did something. Frames for which there is no memory are lost, as on a line that loses
+    // frames.
+    fn add(&mut self, reply: Reply) -> bool {
         match reply {
             Reply::Done(frames) => {
                 self.has_done = true;
                 self.add_frames(frames);
+                true
             }
-            Reply::Refused(_, frames) => self.add_frames(frames),
-            Reply::Nothing => {}
+            Reply::Refused(_, frames) => {
+                self.add_frames(frames);
+                false
+            }
+            Reply::Nothing => false,
         }
     }
 
@@ -47,6 +54,15 @@ impl Said {
             let _ = self.frames.extend_from_slice(&frames);
         }
     }
+}
+
+/// Turns that were made.
+#[derive(Clone, Copy, Debug, PartialEq, Eq)]
+pub struct Turns {
+    /// How many.
+    pub made: u32,
+    /// Whether the last of them did nothing.
+    pub is_idle: bool,
 }
 
 /// What the workers of one node are lent.
@@ -95,22 +111,49 @@ impl<'a, N: Node, G: Gate, T: Drop, C: Drop> Context<'a, N, G, T, C> {
         let mut desk = self.shared.lock(rt);
         let mut said = Said::new(alloc);
         for event in events {
-            match desk.handle(share, *event) {
-                Ok(reply) => said.add(reply),
-                Err(_) => {}
-            }
+            enter(&mut desk, share, *event, &mut said);
         }
-        let is_finished = !self.ending.is_set() && desk.finished();
         let has_done = said.has_done;
-        self.send(rt, said.frames);
-        desk.release();
+        self.leave(rt, desk, said);
         if has_done {
             self.hint(rt, Hint::Done);
         }
+        has_done
+    }
+
+    /// Makes turns, an announcement and then an advance each, until one of them did nothing, at most so many but one at least. The
+    /// desk's lock is held over them, and the gate is passed once before. The runner makes them, so it gets no hint of them.
+    pub fn take_turns<R: Wait + Clock>(
+        &self,
+        rt: &R,
+        alloc: Global,
+        share: &mut Share,
+        most: u32,
+    ) -> Turns
+        ensures { (count : ℕ) × AreHandedIn share.old (events_of_turns count) share.new }
+    {
+        self.gate.pass(rt, self.node, Point::Announce);
+        self.gate.pass(rt, self.node, Point::Advance);
+        let mut desk = self.shared.lock(rt);
+        let mut said = Said::new(alloc);
+        let mut is_idle = turn_is_idle(&mut desk, share, &mut said);
+        let mut made = 1;
+        while made < most && !is_idle {
+            is_idle = turn_is_idle(&mut desk, share, &mut said);
+            made += 1;
+        }
+        self.leave(rt, desk, said);
+        Turns { made, is_idle }
+    }
+
+    // Hands on what was said, gives the lock up, and ends the run where the node is finished.
+    fn leave<R: Wait>(&self, rt: &R, desk: Locked<'_, N>, said: Said) {
+        let is_finished = !self.ending.is_set() && desk.finished();
+        self.send(rt, said.frames);
+        desk.release();
         if is_finished {
             self.end(rt);
         }
-        has_done
     }
 
     /// Asks the node whether nothing is left to do: then the run is to end.
@@ -130,7 +173,9 @@ impl<'a, N: Node, G: Gate, T: Drop, C: Drop> Context<'a, N, G, T, C> {
 
     /// Hands the frames to their peers' writers, to each its own at once where there is memory to sort them.
     pub fn send<R: Wait>(&self, rt: &R, mut frames: Vec<Outgoing>) {
-        let _ = frames.sort_by_key(|outgoing| outgoing.peer);
+        if self.writers.len() > 1 {
+            let _ = frames.sort_by_key(|outgoing| outgoing.peer);
+        }
         for part in frames.chunk_by(|one, other| one.peer == other.peer) {
             if let Some(&Outgoing { peer, .. }) = part.first() {
                 if let Some(writer) = self.writers.get(peer) {
@@ -146,4 +191,28 @@ impl<'a, N: Node, G: Gate, T: Drop, C: Drop> Context<'a, N, G, T, C> {
             runner.tell(rt, hint);
         }
     }
+}
+
+// Makes the event's step, and adds what is said. Whether it did something.
+fn enter<N: Node>(
+    desk: &mut Locked<'_, N>,
+    share: &mut Share,
+    event: Event,
+    said: &mut Said,
+) -> bool
+    ensures { HandedIn share.old event share.new }
+{
+    match desk.handle(share, event) {
+        Ok(reply) => said.add(reply),
+        Err(_) => false,
+    }
+}
+
+// Makes a turn, and adds what is said. Whether it did nothing.
+fn turn_is_idle<N: Node>(desk: &mut Locked<'_, N>, share: &mut Share, said: &mut Said) -> bool
+    ensures { (between : List Slip) × HandedIn share.old Events.Announce between × HandedIn between Events.Advance share.new }
+{
+    let has_announced = enter(desk, share, Event::Announce, said);
+    let has_advanced = enter(desk, share, Event::Advance, said);
+    !has_announced && !has_advanced
 }

@@ -30,7 +30,8 @@ impl Point {
     }
 }
 
-/// What each worker passes before each event, with no lock held: it may make the worker wait.
+/// What each worker passes before the events that it hands in at once, for each of them, with no lock held: it may make the worker
+/// wait. Before turns that are made at once it is passed for the first of them.
 pub trait Gate {
     /// A worker of this node is about to hand in an event of this kind.
     fn pass<R: Wait + Clock>(&self, rt: &R, node: NodeId, point: Point);

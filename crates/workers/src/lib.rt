@@ -10,7 +10,7 @@
 //!                   |            |                                                               |
 //!            Outlet       Hint::Done                                        Context::hand_in <---+
 //!                   v            v                                               |
-//!            writer::write    runner::run                                  writer::write, one for each federate
+//!            writer::write    runner::run --> Context::take_turns          writer::write, one for each federate
 //!
 //! All workers of a node are lent one `Context`. A run ends where `Ending` is set: runners stop and tell their writers, writers
 //! end what they send, readers come to the end of what was sent. Begin with `gate`, then `context`, then `reader`.
@@ -28,7 +28,7 @@ pub mod runner;
 pub mod side;
 pub mod writer;
 
-pub use context::Context;
+pub use context::{Context, Turns};
 pub use dialed::read_dialed;
 pub use gate::{Gate, Open, Point};
 pub use hints::{Hint, Hints};

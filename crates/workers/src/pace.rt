@@ -46,6 +46,13 @@ impl Pace {
         Pace { turns, waits: 0 }
     }
 
+    /// How many turns are left.
+    pub fn turns_left(&self) -> u32
+        ensures { result ≡ self.now.turns }
+    {
+        self.turns
+    }
+
     /// A turn, where one is left.
     pub fn turn(&self) -> Next
         ensures { result ≡ turn_of self.now.turns }

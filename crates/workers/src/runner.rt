@@ -1,7 +1,7 @@
 //! The worker that makes a node say and run what comes next.
 ghost use Rattle.std.specs.Prelude.{◌≡◌};
 
-use crate::context::Context;
+use crate::context::{Context, Turns};
 use crate::gate::Gate;
 use crate::hints::{Hint, Hints};
 use crate::pace::{Next, Pace};
@@ -10,6 +10,9 @@ use node::{Event, Node};
 use std::alloc::Global;
 use std::sync::Wait;
 use std::time::Clock;
+
+// How many turns are made at once, while the desk's lock is held.
+const AT_ONCE: u32 = 16;
 
 /// Runs a node for so many turns, or until the run is to end; its share. Where its turns are used up, the run is to end.
 pub fn run<R: Wait + Clock, N: Node, G: Gate, T: Drop, C: Drop>(
@@ -43,7 +46,7 @@ fn go_on<R: Wait + Clock, N: Node, G: Gate, T: Drop, C: Drop>(
     next: Next,
 ) -> Next {
     match next {
-        Next::Turn => take_turn(rt, alloc, context, hints, share, pace),
+        Next::Turn => take_turns(rt, alloc, context, hints, share, pace),
         Next::Wait => match hints.wait(rt) {
             Some(Hint::Done) => pace.after_wait(true),
             Some(Hint::NotConnected) => pace.after_turn(true),
@@ -57,8 +60,8 @@ fn go_on<R: Wait + Clock, N: Node, G: Gate, T: Drop, C: Drop>(
     }
 }
 
-// Makes a turn, which answers the hints that are waiting, where one is left; what comes then.
-fn take_turn<R: Wait + Clock, N: Node, G: Gate, T: Drop, C: Drop>(
+// Makes turns, which answer the hints that are waiting, where one is left; what comes then.
+fn take_turns<R: Wait + Clock, N: Node, G: Gate, T: Drop, C: Drop>(
     rt: &R,
     alloc: Global,
     context: &Context<'_, N, G, T, C>,
@@ -72,6 +75,10 @@ fn take_turn<R: Wait + Clock, N: Node, G: Gate, T: Drop, C: Drop>(
     if pace.turn() == Next::End {
         return Next::End;
     }
-    let has_done = context.hand_in(rt, alloc, share, &[Event::Announce, Event::Advance]);
-    pace.after_turn(!has_done)
+    let most = pace.turns_left().min(AT_ONCE);
+    let Turns { made, is_idle } = context.take_turns(rt, alloc, share, most);
+    for _ in 1..made {
+        pace.after_turn(false);
+    }
+    pace.after_turn(is_idle)
 }

@@ -1,7 +1,6 @@
 use Rattle.std.proofs.Common.{◌≡◌, ◌+◌, ◌∷◌, ◌++◌, [], arith, take, subst, sym}
 use Rattle.std.proofs.lemmas.List.{take_more}
-use Rattle.workers.specs.HandedIn.{AreHandedIn, HandedIn, handled, no_memory, none, one_more}
-use Rattle.workers.proofs.context.Context.hand_in.Goals.{in-Ok, in-Err}
+use Rattle.workers.specs.HandedIn.{AreHandedIn, none, one_more}
 use Rattle.workers.proofs.context.Context.hand_in.Goals as goal
 
 pub loop-event-2-init : goal.loop-event-2-init
@@ -12,9 +11,4 @@ loop-event-2-preserved g c =
     let item = c.event-item-in-loop-event-2.result in
     let more : take (c.loop-event-2.event-index + 1) c.args.events.now ≡ take c.loop-event-2.event-index c.args.events.now ++ item ∷ [] =
     grind (arith, take_more c.args.events.now c.loop-event-2.event-index item, c.event-item-in-loop-event-2.is) in
-    let this : HandedIn c.loop-event-2.share item c.handle.new.share =
-    elim c.match-handle.branch [
-      | in-Ok w ↦ handled w.in-Ok.ensures.slip.0 w.in-Ok.ensures.slip.1
-      | in-Err w ↦ no_memory w.in-Err.ensures.as_before
-    ] in
-    subst (λ events. AreHandedIn c.args.share.now events c.handle.new.share) (sym more) (one_more c.loop-event-2.invariant this)
+    subst (λ events. AreHandedIn c.args.share.now events c.enter.new.share) (sym more) (one_more c.loop-event-2.invariant c.enter.ensures)

@@ -1,0 +1,2 @@
+-- Turns that are handed in, one after the other.
+pub mod SeveralTurns

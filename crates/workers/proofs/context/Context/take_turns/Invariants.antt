@@ -1,0 +1,11 @@
+use Rattle.std.proofs.Common.{◌-◌}
+use Rattle.workers.specs.HandedIn.{AreHandedIn, events_of_turns}
+use Rattle.workers.proofs.context.Context.take_turns.Given as goal
+
+-- the turns so far are handed in
+abbrev pub invariant-loop-made : goal.invariant-loop-made
+invariant-loop-made g l = AreHandedIn l.fn.share (events_of_turns l.made) l.share
+
+-- so many turns may still be made
+abbrev pub decreases-loop-made : goal.decreases-loop-made
+decreases-loop-made g l = l.most - l.made
