@@ -5,8 +5,9 @@
 //!
 //!     print_audited_run --> desks            a desk for each node
 //!                       --> wires            all nodes in threads, over TCP on loopback
+//!                       --> watching         beside them the audit, as far as it comes
 //!                       --> reports          what each federate's desk says
-//!                       --> recorder         the audit of these reports
+//!                       --> recorder         the audit of these reports, to its end
 //!                       --> rows             the reported rows, federate by federate
 //!
 //! Begin with `printing`, then `doubt`.

@@ -160,8 +160,10 @@ impl<'a> BegunAudit<'a> {
     {
         let journals = all_journals(alloc, self.plan.federate_count(), reports, coordinator)?;
         if self.is_given_up || !are_beginnings(&self.known, &journals) {
-            // Before the second world is made, the first one goes.
+            // Before the second world is made, the first one goes, and what was made for it.
             drop(self.auditor);
+            drop(self.reading);
+            drop(self.known);
             return search_all(
                 alloc,
                 self.plan,

@@ -2,8 +2,8 @@ use schedule::Dir;
 use signal::Frame;
 use std::alloc::{AllocError, Global};
 
-/// Where the next frame is looked for, direction by direction, and where it was looked for in vain. A writer may leave Acks behind,
-/// and leave them out; so they are looked for by themselves. No answer rests on it, where the search is exact.
+/// Where the next frame is looked for, direction by direction, and where it was looked for in vain. A writer writes Acks after all
+/// else, and leaves some out; so they are looked for by themselves. No answer rests on it, where the search is exact.
 #[derive(Drop)]
 pub(crate) struct Cursors {
     up: Vec<Pair>,

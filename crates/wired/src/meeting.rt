@@ -41,6 +41,10 @@ impl Meeting {
 }
 
 impl Gate for Meeting {
+    fn turns_at_once(&self) -> u32 {
+        1
+    }
+
     fn pass<R: Wait + Clock>(&self, rt: &R, node: NodeId, point: Point) {
         if let (NodeId::Federate(number), Point::Advance) = (node, point) {
             if let Some(flag) = self.has_come.get(number) {

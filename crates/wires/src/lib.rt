@@ -1,10 +1,10 @@
 //! A federation in threads: all workers of all its nodes, each in a thread of its own, until the run is to end.
 //!
-//! Promise to the layer above: each desk that a run gives back has the journal that its workers' shares say, and so its station
-//! is the replay of it. Nothing is said of when a run ends.
+//! Promise to the layer above: each desk that `Nodes::gather` gives has the journal that its workers' shares say, and so its
+//! station is the replay of it. Nothing is said of when a run ends.
 //!
 //! What workers do is said by `workers`, what connections are by `transports`; what a caller of a run needs of both is here
-//! under the same names. Begin with `running`, then `job`.
+//! under the same names. Begin with `nodes`, then `running`, then `job`.
 #![tactic(auto)]
 
 mod crew;

@@ -5,7 +5,8 @@ use node::{Node, NodeId};
 use std::alloc::Global;
 use transports::Ending;
 
-/// The desks of a federation under their locks, the members' by number. While their workers run, others may look at them.
+/// The desks of a federation under their locks, the members' by number, for one run. While their workers run, others may look at
+/// them.
 #[derive(Drop)]
 pub struct Nodes<H: Node, M: Node> {
     pub hub: Shared<H>,

@@ -5,10 +5,9 @@
 //! do, then readers come to the end of what was sent.
 use crate::crew::{Crew, channels};
 use crate::job::{Job, Left, start};
-use crate::nodes::{Gathered, Nodes};
+use crate::nodes::Nodes;
 use crate::run_fault::RunFault;
 use crossbeam_channel::Receiver;
-use desk::Desk;
 use node::{Node, NodeId};
 use std::alloc::Global;
 use std::net::{Net, TcpListener, TcpStream};
@@ -21,7 +20,7 @@ use transports::{
 };
 use workers::{Gate, Outlet};
 
-/// How a member connects to the hub.
+/// How a member connects to the hub. A run has a line for each member, in their order.
 #[derive(Drop)]
 pub struct Line<D: Drop, T: Drop, C: Drop> {
     pub dial: D,

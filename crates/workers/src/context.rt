@@ -1,4 +1,4 @@
-ghost use Rattle.std.specs.Prelude.{◌≡◌, ℕ, None, ◌∷◌, ◌++◌, List, [], IfSome};
+ghost use Rattle.std.specs.Prelude.{◌≡◌, ℕ, ◌≤◌, None, ◌∷◌, ◌++◌, List, [], IfSome};
 ghost use Rattle.node.specs.declared.event.Event.TheVariants as Events;
 ghost use Rattle.desk.specs.declared.slip.Slip.{Slip};
 ghost use Rattle.workers.specs.HandedIn.{AreHandedIn, HandedIn, events_of_turns};
@@ -122,7 +122,8 @@ impl<'a, N: Node, G: Gate, T: Drop, C: Drop> Context<'a, N, G, T, C> {
     }
 
     /// Makes turns, an announcement and then an advance each, until one of them did nothing, at most so many but one at least. The
-    /// desk's lock is held over them, and the gate is passed once before. The runner makes them, so it gets no hint of them.
+    /// desk's lock is held over them, and the gate is passed for the first of them before. The runner makes them, so it gets no
+    /// hint of them.
     pub fn take_turns<R: Wait + Clock>(
         &self,
         rt: &R,
@@ -130,7 +131,9 @@ impl<'a, N: Node, G: Gate, T: Drop, C: Drop> Context<'a, N, G, T, C> {
         share: &mut Share,
         most: u32,
     ) -> Turns
-        ensures { (count : ℕ) × AreHandedIn share.old (events_of_turns count) share.new }
+        ensures handed_in { AreHandedIn share.old (events_of_turns result.made) share.new }
+        ensures one { 1 ≤ result.made }
+        ensures most { 1 ≤ most → result.made ≤ most }
     {
         self.gate.pass(rt, self.node, Point::Announce);
         self.gate.pass(rt, self.node, Point::Advance);

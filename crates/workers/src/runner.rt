@@ -11,9 +11,6 @@ use std::alloc::Global;
 use std::sync::Wait;
 use std::time::Clock;
 
-// How many turns are made at once, while the desk's lock is held.
-const AT_ONCE: u32 = 16;
-
 /// Runs a node for so many turns, or until the run is to end; its share. Where its turns are used up, the run is to end.
 pub fn run<R: Wait + Clock, N: Node, G: Gate, T: Drop, C: Drop>(
     rt: &R,
@@ -75,7 +72,7 @@ fn take_turns<R: Wait + Clock, N: Node, G: Gate, T: Drop, C: Drop>(
     if pace.turn() == Next::End {
         return Next::End;
     }
-    let most = pace.turns_left().min(AT_ONCE);
+    let most = pace.turns_left().min(context.gate.turns_at_once());
     let Turns { made, is_idle } = context.take_turns(rt, alloc, share, most);
     for _ in 1..made {
         pace.after_turn(false);

@@ -1,10 +1,10 @@
-use Rattle.std.proofs.Common.{◌-◌}
+use Rattle.std.proofs.Common.{◌-◌, ◌≤◌}
 use Rattle.workers.specs.HandedIn.{AreHandedIn, events_of_turns}
 use Rattle.workers.proofs.context.Context.take_turns.Given as goal
 
--- the turns so far are handed in
+-- the turns so far are handed in, at least one, and no more than may be made
 abbrev pub invariant-loop-made : goal.invariant-loop-made
-invariant-loop-made g l = AreHandedIn l.fn.share (events_of_turns l.made) l.share
+invariant-loop-made g l = AreHandedIn l.fn.share (events_of_turns l.made) l.share × (1 ≤ l.made) × (1 ≤ l.most → l.made ≤ l.most)
 
 -- so many turns may still be made
 abbrev pub decreases-loop-made : goal.decreases-loop-made
