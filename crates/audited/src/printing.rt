@@ -60,9 +60,6 @@ pub fn print_audited_run<
         { watch(rt, alloc, &nodes, opened) },
         || run_over_tcp(rt, alloc, &nodes, &Open, turns),
     );
-    if left.is_ok() && !nodes.hub.finished(rt) {
-        return Err(AuditedFault::NotFinished);
-    }
     // What is left of the steps is made while the desks are taken apart.
     let (audit, all) = thread::join(
         rt,
