@@ -15,7 +15,7 @@ use Rattle.grants.specs.Wires.{Wires, AreWires, least_by, network_by}
 use Rattle.grants.specs.Records.{is_eligible_by}
 use Rattle.grants.specs.Looks.{count_below, has_path, reached_from, differ}
 use Rattle.grants.specs.Routes.{connected_to, leads, listed_below, may_change, looked_at}
-use Rattle.grants.proofs.Leading.{leads_by, led}
+use Rattle.grants.proofs.Leading.{leads_by}
 use Rattle.grants.specs.Kept.{IsKept, flags_after}
 use Rattle.grants.proofs.Numbered.{length_listed, count_weaker, count_one, count_either}
 use Rattle.grants.proofs.Eligible.{eligible_same}
@@ -229,16 +229,6 @@ looked_at_few w i =
     let listed = length_listed w.federates (may_change w i) in
     let either = count_either w.federates (λ j. nat_eq j i) (has_path w i) in
     let one = count_one w.federates i in
-    omega arith
-
-connected_has_path : (w : Wires) (i j : ℕ) → AreWires w → leads w.connections i j ≡ true → has_path w i j ≡ true
-connected_has_path w i j are e =
-    led i j (has_path w i j) w.connections (λ k c x s t. ap (λ y. has_path w y j) (sym s) ∙ connected w j k c are x t) e
-
-pub connected_few : (w : Wires) (i : ℕ) → AreWires w → length (connected_to w i) ≤ 1 + reached_from w i
-connected_few w i are =
-    let listed = length_listed w.federates (leads w.connections i) in
-    let few = count_weaker w.federates (leads w.connections i) (has_path w i) (λ j e. connected_has_path w i j are e) in
     omega arith
 
 -- ---- paths

@@ -2,7 +2,7 @@
 use Rattle.std.proofs.Common.{◌≡◌, ℕ, zero, suc, ◌+◌, Bool, true, false, List, [], ◌∷◌, ◌++◌, refl, ap, ◌∙◌, arith, Some}
 use Rattle.std.specs.Prelude.{nat_eq, ◌&&◌, ◌||◌, if◌then◌else◌, slice_get}
 use Rattle.std.specs.List.{list_any}
-use Rattle.std.proofs.lemmas.Bool.{eq-eqb, eqb-true}
+use Rattle.std.proofs.lemmas.Bool.{eq-eqb}
 use Rattle.network.specs.Connection.{Connection}
 use Rattle.grants.specs.Routes.{leads, listed_below, outgoing_of}
 
@@ -21,19 +21,6 @@ leads_by (d ∷ rest) i j zero c e s t =
     let is : d ≡ c = cc in
     both (nat_eq d.source i) (nat_eq d.target j) (leads rest i j) (eq-eqb d.source i (ap (λ (x : Connection). x.source) is ∙ s)) (eq-eqb d.target j (ap (λ (x : Connection). x.target) is ∙ t))
 leads_by (d ∷ rest) i j (suc k) c e s t = later (nat_eq d.source i && nat_eq d.target j) (leads rest i j) (leads_by rest i j k c e s t)
-
-led_one : (a b r has : Bool) → (a ≡ true → b ≡ true → has ≡ true) → (r ≡ true → has ≡ true) → ((a && b) || r) ≡ true → has ≡ true
-led_one true true r has here there e = here refl refl
-led_one true false r has here there e = there e
-led_one false b r has here there e = there e
-
--- what holds of each connection from i to j holds where one leads there
-pub led : (i j : ℕ) (has : Bool) (connections : List Connection) →
-    ((k : ℕ) (c : Connection) → slice_get connections k ≡ Some c → c.source ≡ i → c.target ≡ j → has ≡ true) → leads connections i j ≡ true → has ≡ true
-led i j has [] h e = cc
-led i j has (d ∷ rest) h e =
-    led_one (nat_eq d.source i) (nat_eq d.target j) (leads rest i j) has (λ a b. h 0 d refl (eqb-true d.source i a) (eqb-true d.target j b))
-    (led i j has rest (λ k c x s t. h (suc k) c x s t)) e
 
 among : (a : Bool) (d : Connection) (out rest : List Connection) (i j : ℕ) → list_any (λ c. nat_eq c.target j) out ≡ leads rest i j →
     list_any (λ c. nat_eq c.target j) (if a then d ∷ out else out) ≡ ((a && nat_eq d.target j) || leads rest i j)

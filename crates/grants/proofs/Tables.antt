@@ -18,7 +18,7 @@ use Rattle.grants.specs.Routes.{connected_to, leads, listed_below, looked_at, ma
 use Rattle.grants.specs.Kept.{IsKept, flags_after}
 use Rattle.grants.proofs.Numbered.{listed_are_below}
 use Rattle.grants.proofs.Eligible.{by_bound, silent_is_not_eligible, bound_after_origin}
-use Rattle.grants.proofs.Changes.{completed_stays, connected_few, others_stay, kept_by_looks, kept_by_one_look, kept_with_transit, changed_by_looks, changed_by_one_look, looked_at_few}
+use Rattle.grants.proofs.Changes.{completed_stays, others_stay, kept_by_looks, kept_by_one_look, kept_with_transit, changed_by_looks, changed_by_one_look, looked_at_few}
 
 -- these are what the table is seen as
 abbrev pub records : Wires → List Standing → ℕ → Records
@@ -139,8 +139,12 @@ few_looks w standings looks now i federates r is few e =
 pub looked_at_are_few : (w : Wires) (i : ℕ) (federates : List ℕ) → federates ≡ looked_at w i → length federates ≤ 1 + reached_from w i
 looked_at_are_few w i federates f = let few = looked_at_few w i in let many = ap length f in omega arith
 
-pub connected_are_few : (w : Wires) (i : ℕ) (federates : List ℕ) → AreWires w → federates ≡ connected_to w i → length federates ≤ 1 + reached_from w i
-connected_are_few w i federates are f = let few = connected_few w i are in let many = ap length f in omega arith
+-- only those are looked at to which a connection leads
+pub connected_looks : (w : Wires) (standings : List Standing) (looks now i : ℕ) (federates : List ℕ) (r : Records) → records w standings looks ≡ r →
+    federates ≡ connected_to w i → now ≡ counted looks (length federates) → now ≤ r.looks + length (connected_to r.wires i)
+connected_looks w standings looks now i federates r is f e =
+    let many = ap length f in
+    subst (λ (x : Records). now ≤ x.looks + length (connected_to x.wires i)) is (omega arith)
 
 counts_listed : (w : Wires) (standings : List Standing) (looks now i : ℕ) (federates : List ℕ) (mine : Standing) (r : Records) (test : ℕ → Bool) → records w standings looks ≡ r →
     ((j : ℕ) → test j ≡ false → is_eligible_by w (slice_set standings i mine) j ≡ is_eligible_by w standings j) → federates ≡ listed_below w.federates test →

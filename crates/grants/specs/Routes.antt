@@ -26,7 +26,7 @@ abbrev pub listed_below : ℕ → (ℕ → Bool) → List ℕ
 listed_below zero test = []
 listed_below (suc count) test = listed_below count test ++ (if test count then count ∷ [] else [])
 
--- a change of federate i's next tag, or of what it completed, may make it eligible, or a federate to which a path leads from it
+-- a change of federate i's next tag may make it eligible, or a federate to which a path leads from it
 abbrev pub may_change : Wires → ℕ → ℕ → Bool
 may_change w i j = nat_eq j i || has_path w i j
 

@@ -1,4 +1,4 @@
-ghost use Rattle.std.specs.Prelude.{◌≡◌, ◌↔◌, ℕ, ◌+◌, ◌<◌, ◌≤◌, IfOk, OnOk, OnErr, IsTrue, Some, false, filter, slice_get};
+ghost use Rattle.std.specs.Prelude.{◌≡◌, ◌↔◌, ℕ, ◌+◌, ◌<◌, ◌≤◌, IfOk, OnOk, OnErr, IsTrue, Some, false, filter, length, slice_get};
 ghost use Rattle.tag.specs.LogicalTime.{LogicalTime, is_before, lesser, origin, predecessor_of};
 ghost use Rattle.protocol.specs.Standing.{least_with, opening_standing, with_tag};
 ghost use Rattle.protocol.specs.Standings.{standing_at, standings_listed};
@@ -8,7 +8,7 @@ ghost use Rattle.grants.specs.Transit.{lesser_with};
 ghost use Rattle.grants.specs.Wires.{least_by, network_by};
 ghost use Rattle.grants.specs.Records.{AreRecords, changed_at, is_eligible_in, opening_records, with_looks};
 ghost use Rattle.grants.specs.Looks.{changed_between, counted, reached_from};
-ghost use Rattle.grants.specs.Routes.{looked_at};
+ghost use Rattle.grants.specs.Routes.{connected_to, looked_at};
 
 use crate::lookout::Lookout;
 use crate::memory::Memory;
@@ -153,8 +153,8 @@ impl Table {
         last_before(bound, self.wiring.stop())
     }
 
-    /// The federates that a change of this one's next tag, or of what it completed, may make eligible, in order: itself, and each
-    /// that a path leads to from it.
+    /// The federates that a change of this one's next tag may make eligible, in order: itself, and each that a path leads to from
+    /// it.
     pub fn affected_by(&self, federate: usize) -> &[usize]
         requires { federate < self.now.wires.federates }
         ensures { result.now ≡ looked_at self.now.wires federate }
@@ -183,7 +183,7 @@ impl Table {
     pub fn set_completed(&mut self, federate: usize, completed: Option<FiniteTag>)
         requires { federate < self.old.wires.federates }
         ensures value { self.new ≡ with_looks (changed_at self.old federate (λ s. record s { completed = completed })) self.new.looks }
-        ensures few_looks { self.new.looks ≤ self.old.looks + 1 + reached_from self.old.wires federate }
+        ensures few_looks { self.new.looks ≤ self.old.looks + length (connected_to self.old.wires federate) }
         ensures looks { counted self.old.looks (changed_between self.old self.new) ≤ self.new.looks }
     {
         // For the prover: the least delays are least over all paths.

@@ -72,7 +72,7 @@ impl Wiring {
         self.stop
     }
 
-    /// The federates that a change of this one's next tag, or of what it completed, may make eligible.
+    /// The federates that a change of this one's next tag may make eligible.
     pub fn looked_at(&self, federate: usize) -> &[usize]
         requires { federate < self.now.federates }
         ensures { result.now ≡ looked_at self.now federate }

@@ -1,5 +1,5 @@
 use Rattle.grants.specs.Routes.{leads}
-use Rattle.grants.proofs.Tables.{after_completed, all_there, connected_are_few, few_looks}
+use Rattle.grants.proofs.Tables.{after_completed, all_there, connected_looks}
 use Rattle.grants.proofs.table.Table.set_completed.Goals as goal
 
 pub look_at_each-requires-clause-federates : goal.look_at_each-requires-clause-federates
@@ -16,8 +16,8 @@ invariant_of-self c =
 pub returns-clause-few_looks : goal.returns-clause-few_looks
 returns-clause-few_looks c =
     let t = c.self.inside in
-    few_looks t.wiring t.standings.items t.lookout.looks c.look_at_each.new.self.looks c.args.federate c.connected_to-federates.result.now c.args.self.now c.self.view_is
-    (connected_are_few t.wiring c.args.federate c.connected_to-federates.result.now c.known.ensures c.connected_to-federates.ensures) c.look_at_each.ensures.looks
+    connected_looks t.wiring t.standings.items t.lookout.looks c.look_at_each.new.self.looks c.args.federate c.connected_to-federates.result.now c.args.self.now c.self.view_is
+    c.connected_to-federates.ensures c.look_at_each.ensures.looks
 
 pub returns-clause-looks : goal.returns-clause-looks
 returns-clause-looks c =
