@@ -52,28 +52,61 @@ pub fn print_audited_run<
 {
     let nodes = nodes_of(alloc, plan, programs, inputs)?;
     let opened = begun(alloc, plan, programs, inputs)?;
-    // What is made ahead is made beside the run; where there is no thread for it, after the run.
-    let (watched, left) = thread::join(
-        rt,
-        ||
-            ensures { result ≡ opened.entry }
-        { watch(rt, alloc, &nodes, opened) },
-        || run_over_tcp(rt, alloc, &nodes, &Open, turns),
-    );
-    // What is left of the steps is made while the desks are taken apart.
-    let (audit, all) = thread::join(
-        rt,
-        ||
-            ensures { result ≡ watched.entry }
-        { gone_on(alloc, watched) },
-        || gathered(alloc, nodes, left),
-    );
+    let (watched, left) = run_watched(rt, alloc, &nodes, opened, turns);
+    let (audit, all) = take_apart(rt, alloc, nodes, left, watched);
     let Gathered { hub, members } = all?;
     if !hub.station().node().finished() {
         return Err(AuditedFault::NotFinished);
     }
     let reports = reports_of(alloc, plan, members)?;
     print_audited(alloc, plan, audit, reports.reports(), hub.journal(), out)
+}
+
+// Runs the nodes, and makes steps of the audit beside the run; where there is no thread for that, after it.
+fn run_watched<
+    'a,
+    R: Threads + Wait + Clock + Net<Stream = TcpStream, Listener = TcpListener> + Sync,
+>(
+    rt: &R,
+    alloc: Global,
+    nodes: &Nodes<Coordinator<'a>, Federate<'a>>,
+    audit: BegunAudit<'a>,
+    turns: u32,
+) -> (BegunAudit<'a>, Result<Vec<Option<Left>>, RunFault>)
+    ensures { result.0 ≡ audit.entry }
+{
+    thread::join(
+        rt,
+        ||
+            ensures { result ≡ audit.entry }
+        { watch(rt, alloc, nodes, audit) },
+        || run_over_tcp(rt, alloc, nodes, &Open, turns),
+    )
+}
+
+// Takes the desks apart, and makes what is left of the audit's steps beside that.
+fn take_apart<'a, R: Threads + Sync>(
+    rt: &R,
+    alloc: Global,
+    nodes: Nodes<Coordinator<'a>, Federate<'a>>,
+    left: Result<Vec<Option<Left>>, RunFault>,
+    audit: BegunAudit<'a>,
+) -> (
+    BegunAudit<'a>,
+    Result<Gathered<Coordinator<'a>, Federate<'a>>, AuditedFault>,
+)
+    ensures audit { result.0 ≡ audit.entry }
+    ensures fault { IfErr result.1 (λ fault. (fault ≡ AuditedFault.NotFinished) ⊎ (fault ≡ AuditedFault.Memory)) }
+{
+    thread::join(
+        rt,
+        ||
+            ensures { result ≡ audit.entry }
+        { gone_on(alloc, audit) },
+        ||
+            ensures { IfErr result (λ fault. (fault ≡ AuditedFault.NotFinished) ⊎ (fault ≡ AuditedFault.Memory)) }
+        { gathered(alloc, nodes, left) },
+    )
 }
 
 // The desks of all nodes of a federation, before their workers begin.

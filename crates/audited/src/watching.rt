@@ -29,6 +29,9 @@ pub(crate) fn watch<'a, R: Wait + Clock>(
 {
     let mut events = Vec::new(alloc);
     for _ in rt.forever() {
+        if audit.is_given_up() {
+            break;
+        }
         let is_ending = nodes.ending.is_set();
         let is_new = look(rt, nodes, &mut audit, &mut events);
         if is_new && !is_ending {

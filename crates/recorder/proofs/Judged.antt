@@ -9,35 +9,19 @@ use Rattle.node.specs.declared.event.Event.{Event}
 use Rattle.cores.specs.CoordinatorCore.{coordinator_core}
 use Rattle.schedule.specs.declared.step.Step.{Step}
 use Rattle.search.specs.Motion.{after_all}
-use Rattle.search.specs.Journals.{IsFound}
 use Rattle.search.specs.declared.found.Found.{Found}
 use Rattle.search.specs.declared.found.Found.TheVariants.{All as Whole, Stuck}
 use Rattle.world.specs.World.{WorldView, stations_of}
 use Rattle.recorder.specs.declared.report.Report.{Report}
-use Rattle.recorder.specs.Reports.{AreComplete, all_journals}
+use Rattle.recorder.specs.Reports.{AreComplete}
 use Rattle.recorder.specs.Placing.{world_motion}
 use Rattle.recorder.specs.Audited.{Claim, world_of, claim_of, AgreesWith, HasReportedRows, HasSearched, IsFirstApart, IsMismatch, IsProvedBy, IsFinishedBy}
 use Rattle.recorder.proofs.Proved.{after_world, coordinator_there, proved}
-
--- what was searched for is this claim
-pub found_so : (c : Claim) (opening : WorldView) (journals : List (List Event)) (w : WorldView) (found : Found) →
-    opening ≡ world_of c [] → journals ≡ all_journals (federate_count c.draft) c.reports c.coordinator →
-    IsFound world_motion opening journals w found → HasSearched c w found
-found_so c opening journals w found opened are searched =
-    let here : IsFound world_motion (world_of c []) journals w found = subst (λ o. IsFound world_motion o journals w found) opened searched in
-    subst (λ js. IsFound world_motion (world_of c []) js w found) are here
 
 -- the world that is left is of the claim's federation
 pub same_claim : (c : Claim) (w : WorldView) (found : Found) → HasSearched c w found → claim_of w c.reports c.coordinator ≡ c
 same_claim c w Whole searched = ap (λ v. claim_of v c.reports c.coordinator) (searched.2 ∙ after_world (world_of c []) searched.0)
 same_claim c w (Stuck node event) searched = ap (λ v. claim_of v c.reports c.coordinator) (searched.2 ∙ after_world (world_of c []) searched.0)
-
--- so its plan is legal, and its programs and inputs are the plan's
-pub fits : (c : Claim) (w : WorldView) (found : Found) → HasSearched c w found → IsLegal c.draft → AreProgramsOf c.draft c.programs → AreInputsOf c.draft c.inputs →
-    IsLegal w.draft × AreProgramsOf w.draft w.programs × AreInputsOf w.draft w.inputs
-fits c w found searched legal are given =
-    let P : Claim → Type 0 = λ d. IsLegal d.draft × AreProgramsOf d.draft d.programs × AreInputsOf d.draft d.inputs in
-    subst P (sym (same_claim c w found searched)) (legal, are, given)
 
 pub complete_there : (c : Claim) (w : WorldView) (found : Found) → HasSearched c w found → AreComplete (federate_count c.draft) c.reports →
     AreComplete (federate_count w.draft) c.reports

@@ -1,13 +1,20 @@
-ghost use Rattle.std.specs.Prelude.{◌≡◌, ◌≢◌, ◌↔◌, ℕ, ◌<◌, ◌≤◌, [], true, None, Some, length, nat_lt, IfOk, IfSome, OnOk, OnErr};
+ghost use Rattle.std.specs.Prelude.{◌≡◌, ◌≢◌, ◌↔◌, ℕ, ◌<◌, ◌≤◌, [], true, None, Some, length, nat_lt, IfOk, IfSome, IfErr, OnOk, OnErr};
 ghost use Rattle.std.proofs.Common.{refl};
 ghost use Rattle.node.specs.declared.event.Event.TheVariants as Events;
+ghost use Rattle.plan.specs.External.{AreInputsOf};
+ghost use Rattle.program.specs.Programs.{AreProgramsOf};
 ghost use Rattle.schedule.specs.World.{frames_in, frame_at};
 ghost use Rattle.search.specs.Motion.{IsEvent, IsNoStep};
 ghost use Rattle.world.specs.World.{stations_of, with_step};
+ghost use Rattle.recorder.specs.Begun.{opening_of};
+ghost use Rattle.recorder.specs.declared.unproved.Unproved.TheVariants as Faults;
 ghost use Rattle.recorder.specs.Placing.{world_motion, direction_to, step_alone};
 
 use crate::cursors::Cursors;
+use crate::unproved::Unproved;
 use node::{Event, NodeId};
+use plan::{Inputs, Plan};
+use reactor::Programs;
 use schedule::{Dir, Step};
 use search::{Machine, Memory};
 use signal::Frame;
@@ -47,11 +54,20 @@ impl<'a> Machine for Auditor<'a> {
 }
 
 impl<'a> Auditor<'a> {
-    /// Over a world.
-    pub(crate) fn new(alloc: Global, world: World<'a>) -> Result<Auditor<'a>, Memory>
-        ensures { IfOk result (λ auditor. auditor ≡ world.entry) }
+    /// Of a federation, before the first step.
+    pub(crate) fn new(
+        alloc: Global,
+        plan: &'a Plan,
+        programs: &'a Programs,
+        inputs: &'a Inputs,
+    ) -> Result<Auditor<'a>, Unproved>
+        requires programs { AreProgramsOf plan.now programs.now }
+        requires inputs { AreInputsOf plan.now inputs.now }
+        ensures opening { IfOk result (λ auditor. auditor ≡ opening_of plan.now programs.now inputs.now) }
+        ensures memory { IfErr result (λ fault. fault ≡ Faults.Memory) }
     {
-        let cursors = Cursors::new(alloc, world.federate_count())?;
+        let cursors = Cursors::new(alloc, plan.federate_count())?;
+        let world = World::new(alloc, plan, programs, inputs)?;
         Ok(Auditor { world, cursors })
     }
 

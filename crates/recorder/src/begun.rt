@@ -1,18 +1,21 @@
-ghost use Rattle.std.specs.Prelude.{◌≡◌, IfOk, IfErr, OnOk};
+ghost use Rattle.std.specs.Prelude.{◌≡◌, map, IfOk, IfErr};
 ghost use Rattle.plan.specs.External.{AreInputsOf};
 ghost use Rattle.plan.specs.Federation.{federate_count};
 ghost use Rattle.plan.specs.Legal.{IsLegal};
 ghost use Rattle.program.specs.Programs.{AreProgramsOf};
+ghost use Rattle.search.specs.Journals.{IsFound};
 ghost use Rattle.world.specs.World.{WorldView};
+ghost use Rattle.recorder.specs.Placing.{world_motion};
+ghost use Rattle.recorder.specs.Reports.{AreComplete};
 ghost use Rattle.recorder.specs.Audited.{HasEnded, HasSearched, IsUnproved, claim_of};
-ghost use Rattle.recorder.specs.Begun.{opening_of, IsAhead};
+ghost use Rattle.recorder.specs.Begun.{opening_of};
 ghost use Rattle.recorder.specs.declared.unproved.Unproved.TheVariants as Faults;
 
 use crate::audited_run::AuditedRun;
-use crate::auditing::{judge, search_all};
 use crate::auditor::Auditor;
 use crate::complete::refuse_incomplete;
 use crate::journals::all_journals;
+use crate::judging::judge;
 use crate::known::{add_to, are_beginnings, none_known, slices_of};
 use crate::report::Report;
 use crate::unproved::Unproved;
@@ -20,10 +23,9 @@ use node::{Event, NodeId};
 use plan::{Inputs, Plan};
 use reactor::Programs;
 use search::growing::{longer_journals_are_read, nothing_is_read};
-use search::{Found, Memory, Reading};
+use search::{Found, Reading, search};
 use std::alloc::{AllocError, Global};
 use std::marker::Model;
-use world::World;
 
 /// An audit that is begun while the nodes of a federation still write their journals. Contracts see the world of the federation
 /// that it is about, before the first step.
@@ -68,10 +70,9 @@ impl<'a> BegunAudit<'a> {
         plan.known();
         nothing_is_read::<Auditor<'a>>();
         let count = plan.federate_count() + 1;
-        let world = World::new(alloc, plan, programs, inputs)?;
-        let auditor = Auditor::new(alloc, world)?;
         let reading = Reading::new(alloc, count)?;
         let known = none_known(alloc, count)?;
+        let auditor = Auditor::new(alloc, plan, programs, inputs)?;
         Ok(BegunAudit {
             plan,
             programs,
@@ -81,6 +82,11 @@ impl<'a> BegunAudit<'a> {
             known,
             is_given_up: false,
         })
+    }
+
+    /// Whether steps were lost: then nothing more that is added is of use.
+    pub fn is_given_up(&self) -> bool {
+        self.is_given_up
     }
 
     /// How many events of a node are known.
@@ -107,7 +113,14 @@ impl<'a> BegunAudit<'a> {
         if self.is_given_up {
             return;
         }
-        if read_known(alloc, &mut self.auditor, &mut self.reading, &self.known).is_err() {
+        let Ok(journals) = slices_of(alloc, &self.known) else {
+            return;
+        };
+        if self
+            .reading
+            .read_ahead(&mut self.auditor, &journals)
+            .is_err()
+        {
             self.is_given_up = true;
         }
     }
@@ -126,6 +139,20 @@ impl<'a> BegunAudit<'a> {
         if let Err(fault) = refuse_incomplete(self.federate_count(), reports) {
             return Err(fault);
         }
+        self.conclude_complete(alloc, reports, coordinator)
+    }
+
+    // What it says of complete reports.
+    pub(crate) fn conclude_complete(
+        self,
+        alloc: Global,
+        reports: &[Report],
+        coordinator: &[Event],
+    ) -> Result<AuditedRun, Unproved>
+        requires complete { AreComplete (federate_count self.draft) reports.now }
+        ensures ended { IfOk result (HasEnded (claim_of self.entry reports.now coordinator.now)) }
+        ensures unproved { IfErr result (IsUnproved (claim_of self.entry reports.now coordinator.now)) }
+    {
         // For the prover: the plan is legal, and its programs and inputs are its own.
         self.fits();
         let (auditor, found) = self.search_on(alloc, reports, coordinator)?;
@@ -160,18 +187,7 @@ impl<'a> BegunAudit<'a> {
     {
         let journals = all_journals(alloc, self.plan.federate_count(), reports, coordinator)?;
         if self.is_given_up || !are_beginnings(&self.known, &journals) {
-            // Before the second world is made, the first one goes, and what was made for it.
-            drop(self.auditor);
-            drop(self.reading);
-            drop(self.known);
-            return search_all(
-                alloc,
-                self.plan,
-                self.programs,
-                self.inputs,
-                reports,
-                coordinator,
-            );
+            return self.search_anew(alloc, &journals);
         }
         // For the prover: what is read stays read.
         longer_journals_are_read::<Auditor<'a>>();
@@ -179,19 +195,22 @@ impl<'a> BegunAudit<'a> {
         let found = self.reading.finish(&mut auditor, &journals)?;
         Ok((auditor, found))
     }
-}
 
-// Reads what is known of the journals, as far as guesses go. Without memory nothing is told of the auditor's steps.
-fn read_known(
-    alloc: Global,
-    auditor: &mut Auditor<'_>,
-    reading: &mut Reading,
-    known: &[Vec<Event>],
-) -> Result<(), Memory>
-    ensures { OnOk result ((opening : WorldView) → IsAhead opening auditor.old reading.old known.now → IsAhead opening auditor.new reading.new known.now) }
-{
-    let journals = slices_of(alloc, known)?;
-    reading.read_ahead(auditor, &journals)
+    // The same of a second world. Before it is made, the first one goes, and all that was made for it.
+    fn search_anew(
+        self,
+        alloc: Global,
+        journals: &[&[Event]],
+    ) -> Result<(Auditor<'a>, Found), Unproved>
+        ensures searched { IfOk result (λ ended. IsFound world_motion self.entry (map (λ j. j.now) journals.now) ended.0 ended.1) }
+        ensures memory { IfErr result (λ fault. fault ≡ Faults.Memory) }
+    {
+        let (plan, programs, inputs) = (self.plan, self.programs, self.inputs);
+        drop(self);
+        let mut auditor = Auditor::new(alloc, plan, programs, inputs)?;
+        let found = search(alloc, &mut auditor, journals)?;
+        Ok((auditor, found))
+    }
 }
 
 // A node's place among the journals.

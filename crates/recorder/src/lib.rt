@@ -25,6 +25,7 @@ pub mod complete;
 mod cursors;
 mod difference;
 mod journals;
+mod judging;
 mod known;
 pub mod report;
 pub mod report_fault;

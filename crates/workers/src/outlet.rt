@@ -117,11 +117,15 @@ impl<T: Drop, C: Drop> Outlet<T, C> {
         }
     }
 
-    /// All that the writer is asked, in exchange for room without frames. What it is asked from now on rings again.
+    /// The writer looks: what it is asked, or told, from now on rings again.
+    pub(crate) fn look(&self) {
+        self.is_rung.store(false, Ordering::SeqCst);
+    }
+
+    /// All that the writer is asked, in exchange for room without frames.
     pub(crate) fn take<R: Wait>(&self, rt: &R, frames: &mut Vec<Outgoing>) -> Option<Side<T, C>>
         requires { frames.old.items ≡ [] }
     {
-        self.is_rung.store(false, Ordering::SeqCst);
         let mut waiting = self.waiting.lock(rt);
         waiting.take(frames)
     }

@@ -141,6 +141,8 @@ pub fn write<R: Wait + Clock, T: Transport, C: Cut>(
     let mut writer = Writer::new(alloc);
     let mut frames = Vec::new(alloc);
     for _ in rt.forever() {
+        // Before it sees whether the run is to end: else the bell for the end may be the one that it has heard already.
+        outlet.look();
         let is_last = ending.is_set();
         frames.clear();
         if let Some(side) = outlet.take(rt, &mut frames) {

@@ -8,4 +8,4 @@ returns-in_err-reports-clause-told g c =
     rw (told.1, told.2) (c.in_err-reports.ensures c.args.programs.now c.args.inputs.now)
 
 pub print_audited-requires : goal.print_audited-requires
-print_audited-requires g c = record { plan = ap (λ w. w.draft) (c.join-audit.ensures.first ∙ c.join-watched.ensures.first ∙ c.in_ok-opened.ensures.begun) }
+print_audited-requires g c = record { plan = ap (λ w. w.draft) (c.take_apart-audit.ensures.audit ∙ c.run_watched-watched.ensures ∙ c.in_ok-opened.ensures.begun) }

@@ -2,7 +2,7 @@ use Rattle.std.proofs.Common.{◌∙◌, [], sym, subst}
 use Rattle.recorder.specs.Audited.{claim_of, HasSearched, IsProvedBy}
 use Rattle.recorder.proofs.Proved.{sized}
 use Rattle.recorder.proofs.Judged.{listed_there, apart_so, proved_so, finished_so}
-use Rattle.recorder.proofs.auditing.judge.Goals as goal
+use Rattle.recorder.proofs.judging.judge.Goals as goal
 
 pub first_apart-requires-clause-sized : goal.first_apart-requires-clause-sized
 first_apart-requires-clause-sized c =

@@ -2,7 +2,7 @@ use Rattle.std.proofs.Common.{◌∙◌, sym, ap, arith}
 use Rattle.std.specs.Prelude.{option_map}
 use Rattle.world.specs.World.{stations_of}
 use Rattle.recorder.proofs.Found.{is_found, something_stands}
-use Rattle.recorder.proofs.auditing.difference_at.Goals as goal
+use Rattle.recorder.proofs.judging.difference_at.Goals as goal
 
 pub returns-in_default : goal.returns-in_default
 returns-in_default c =

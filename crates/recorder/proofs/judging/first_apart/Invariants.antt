@@ -1,6 +1,6 @@
 use Rattle.std.proofs.Common.{ℕ, ◌<◌}
 use Rattle.recorder.specs.Audited.{HasReportedRows}
-use Rattle.recorder.proofs.auditing.first_apart.Given as goal
+use Rattle.recorder.proofs.judging.first_apart.Given as goal
 
 -- the federates so far have the rows that they report
 abbrev pub invariant-loop-federate : goal.invariant-loop-federate
