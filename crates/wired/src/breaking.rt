@@ -1,4 +1,4 @@
-//! Connections that break in the midst of a run: the federates connect again, and the rows are the same.
+//! Each federate's connection breaks once in its midst: it connects again, and the rows are the same.
 ghost use Rattle.std.specs.Prelude.{◌≡◌};
 
 use crate::federations::{Federation, loaded};
@@ -12,26 +12,35 @@ use std::thread::Threads;
 use std::time::Clock;
 use wires::{Broken, Failures, MemoryTransport, Open, Transport};
 
-// Of all calls, so many and no more may fail: each one of so many.
-const EVERY: u64 = 7;
+// How many calls go well over a member's connection before one fails. Both of its ends have made one to read by then, and one to
+// greet; a run takes four more at least.
+const GOING_WELL: u64 = 6;
 
-const LAST: u64 = 70;
-
-/// The calls over all connections of a run so far.
+/// The calls so far over a member's connections.
 #[derive(Drop)]
 struct Calls {
     count: AtomicU64,
 }
 
 impl Calls {
+    fn new() -> Calls {
+        Calls {
+            count: AtomicU64::new(0),
+        }
+    }
+
     /// Whether the next call fails.
     fn next_fails(&self) -> bool {
-        let before = self.count.fetch_add(1, Ordering::SeqCst);
-        before < LAST && before % EVERY == EVERY - 1
+        self.count.fetch_add(1, Ordering::SeqCst) == GOING_WELL
+    }
+
+    /// Whether a call has failed.
+    fn has_failed(&self) -> bool {
+        self.count.load(Ordering::SeqCst) > GOING_WELL
     }
 }
 
-/// A connection that breaks at times. Half of what is sent then is still handed over.
+/// One end of a connection that breaks once. Half of what is sent then is still handed over.
 #[derive(Drop)]
 struct Breaking<'a> {
     inner: MemoryTransport,
@@ -68,32 +77,34 @@ impl<'a> Transport for Breaking<'a> {
     }
 }
 
+/// The calls of two members.
 #[derive(Clone, Copy)]
 struct Breaks<'a> {
-    calls: &'a Calls,
+    first: &'a Calls,
+    second: &'a Calls,
 }
 
 impl<'a> Wrap<Breaking<'a>> for Breaks<'a> {
-    fn wrap(&self, end: MemoryTransport) -> Breaking<'a> {
+    fn wrap(&self, member: usize, end: MemoryTransport) -> Breaking<'a> {
         Breaking {
             inner: end,
-            calls: self.calls,
+            calls: if member == 0 { self.first } else { self.second },
             failures: Failures::new(),
         }
     }
 }
 
-/// Whether a run has its rows, though all calls that may fail did.
+/// Whether a run of two federates has its rows, though the connection of each broke.
 fn mends<R: Threads + Wait + Clock + Sync>(
     rt: &R,
     alloc: Global,
     federation: &Federation,
-    calls: &Calls,
+    first: &Calls,
+    second: &Calls,
 ) -> bool {
-    match ran_in_memory(rt, alloc, federation, &Open, Breaks { calls }) {
+    match ran_in_memory(rt, alloc, federation, &Open, Breaks { first, second }) {
         Some(gathered) => {
-            calls.count.load(Ordering::SeqCst) >= 2 * EVERY
-                && has_all_rows(alloc, federation, &gathered)
+            first.has_failed() && second.has_failed() && has_all_rows(alloc, federation, &gathered)
         }
         None => false,
     }
@@ -101,11 +112,9 @@ fn mends<R: Threads + Wait + Clock + Sync>(
 
 #[test]
 fn breaks_mend(rt: HostRuntime) {
-    let calls = Calls {
-        count: AtomicU64::new(0),
-    };
+    let (first, second) = (Calls::new(), Calls::new());
     let mended = match loaded(rt.alloc(), COUNTER, "") {
-        Some(federation) => mends(&rt, rt.alloc(), &federation, &calls),
+        Some(federation) => mends(&rt, rt.alloc(), &federation, &first, &second),
         None => false,
     };
     assert!(rt; mended);

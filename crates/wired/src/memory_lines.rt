@@ -12,9 +12,9 @@ use wires::{
     MemoryTransport, Nodes, Transport, pair, run,
 };
 
-/// Makes one end of a connection something that the workers are given.
+/// Makes one end of a member's connection something that the workers are given.
 pub(crate) trait Wrap<T: Drop> {
-    fn wrap(&self, end: MemoryTransport) -> T;
+    fn wrap(&self, member: usize, end: MemoryTransport) -> T;
 }
 
 /// Leaves it as it is.
@@ -22,7 +22,7 @@ pub(crate) trait Wrap<T: Drop> {
 pub(crate) struct Plain;
 
 impl Wrap<MemoryTransport> for Plain {
-    fn wrap(&self, end: MemoryTransport) -> MemoryTransport {
+    fn wrap(&self, _member: usize, end: MemoryTransport) -> MemoryTransport {
         end
     }
 }
@@ -30,18 +30,20 @@ impl Wrap<MemoryTransport> for Plain {
 /// Makes a federate's connections, and hands their other ends to the coordinator's reader.
 #[derive(Drop)]
 pub(crate) struct MemoryDial<T: Drop, W: Drop> {
+    member: usize,
     arrivals: Sender<Arrived<T, MemoryCut>>,
     wrap: W,
 }
 
-/// A connection with ends of another kind.
+/// A member's connection with ends of another kind.
 fn wrapped<T: Drop, W: Wrap<T>>(
     wrap: &W,
+    member: usize,
     connection: Connection<MemoryTransport, MemoryCut>,
 ) -> Connection<T, MemoryCut> {
     Connection {
-        incoming: wrap.wrap(connection.incoming),
-        outgoing: wrap.wrap(connection.outgoing),
+        incoming: wrap.wrap(member, connection.incoming),
+        outgoing: wrap.wrap(member, connection.outgoing),
         cut: connection.cut,
     }
 }
@@ -50,11 +52,11 @@ impl<T: Drop, W: Wrap<T> + Drop> Dial<T, MemoryCut> for MemoryDial<T, W> {
     fn dial<R: Wait>(&self, rt: &R, alloc: Global) -> Option<Connection<T, MemoryCut>> {
         let (near, far) = pair(alloc).ok()?;
         let arrived = Arrived {
-            connection: wrapped(&self.wrap, far),
+            connection: wrapped(&self.wrap, self.member, far),
             first: Vec::new(alloc),
         };
         self.arrivals.send(rt, arrived).ok()?;
-        Some(wrapped(&self.wrap, near))
+        Some(wrapped(&self.wrap, self.member, near))
     }
 }
 
@@ -73,9 +75,10 @@ fn lines<T: Drop, W: Wrap<T> + Copy + Drop>(
     wrap: W,
 ) -> Option<Vec<Line<MemoryDial<T, W>, T, MemoryCut>>> {
     let mut lines = Vec::with_capacity(alloc, count).ok()?;
-    for _ in 0..count {
+    for member in 0..count {
         let (sender, arrivals) = unbounded(alloc).ok()?;
         let dial = MemoryDial {
+            member,
             arrivals: sender,
             wrap,
         };
