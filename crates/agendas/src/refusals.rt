@@ -4,7 +4,7 @@ ghost use Rattle.std.specs.Prelude.{◌<◌, length};
 ghost use Rattle.plan.specs.External.{AreInputsOf};
 ghost use Rattle.program.specs.Programs.{AreProgramsOf};
 
-use crate::opened::{first_agenda, loaded, one_action};
+use crate::opened::{first_agenda, is_right, loaded, one_action};
 use crate::puts::{event, tag};
 use agenda::{Agenda, Held, Put};
 use loadfed::load_inputs;
@@ -220,6 +220,7 @@ fn busy_goes_on(alloc: Global) -> Option<bool> {
 
 #[test]
 fn refused_turns_change_nothing(rt: HostRuntime) -> Result<(), Fail> {
+    assert!(rt; is_right(rt.alloc(), BUSY));
     assert!(rt; busy_goes_on(rt.alloc()) != Some(false));
     Ok(())
 }

@@ -7,6 +7,8 @@ mod faults;
 #[cfg(test)]
 mod federations;
 #[cfg(test)]
+mod firings;
+#[cfg(test)]
 mod limits;
 #[cfg(test)]
 mod outcome;

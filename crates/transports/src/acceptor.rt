@@ -7,7 +7,7 @@ use crate::ending::Ending;
 use crate::stranger::{Said, Stranger};
 use crate::tcp::{TcpCut, TcpTransport, accept};
 use crossbeam_channel::Sender;
-use std::alloc::Global;
+use std::alloc::{AllocError, Global};
 use std::net::TcpListener;
 use std::sync::{Arc, Wait};
 use std::thread;
@@ -27,20 +27,37 @@ pub trait Entrance: Drop {
 /// read to the end a second after the run is to end is ended.
 #[derive(Drop)]
 pub struct TcpEntrance {
-    pub listener: TcpListener,
-    /// To the reader of each federate, by its number.
-    pub readers: Vec<Sender<Arrived<TcpTransport, TcpCut>>>,
+    listener: TcpListener,
+    // To the reader of each federate, by its number.
+    readers: Vec<Sender<Arrived<TcpTransport, TcpCut>>>,
+    // The connection of each federate, while it has one.
+    current: Vec<Option<Arc<TcpCut>>>,
+}
+
+impl TcpEntrance {
+    /// What comes to this listener (see `listen`) goes to these readers, of each federate by its number.
+    pub fn new(
+        alloc: Global,
+        listener: TcpListener,
+        readers: Vec<Sender<Arrived<TcpTransport, TcpCut>>>,
+    ) -> Result<TcpEntrance, AllocError> {
+        let mut current = Vec::new(alloc);
+        current.resize_with(readers.len(), || None)?;
+        Ok(TcpEntrance {
+            listener,
+            readers,
+            current,
+        })
+    }
 }
 
 impl Entrance for TcpEntrance {
     fn let_in<R: Wait + Clock>(self, rt: &R, alloc: Global, ending: &Ending) {
-        let TcpEntrance { listener, readers } = self;
-        let mut current = Vec::new(alloc);
-        if current.resize_with(readers.len(), || None).is_err()
-            || listener.set_nonblocking(true).is_err()
-        {
-            ending.set();
-        }
+        let TcpEntrance {
+            listener,
+            readers,
+            mut current,
+        } = self;
         let mut strangers = Vec::new(alloc);
         for _ in rt.forever() {
             if ending.is_set() {

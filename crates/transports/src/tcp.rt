@@ -71,11 +71,13 @@ impl Cut for TcpCut {
     }
 }
 
-/// A listener on 127.0.0.1, on a port that the system gives.
+/// A listener on 127.0.0.1, on a port that the system gives. Who asks it for a connection doesn't wait for one.
 pub fn listen<R: Net<Stream = TcpStream, Listener = TcpListener>>(
     rt: &R,
 ) -> io::Result<TcpListener> {
-    TcpListener::bind(rt, SocketAddr::from(([127, 0, 0, 1], 0)))
+    let listener = TcpListener::bind(rt, SocketAddr::from(([127, 0, 0, 1], 0)))?;
+    listener.set_nonblocking(true)?;
+    Ok(listener)
 }
 
 /// A new connection to a listener.
@@ -87,7 +89,7 @@ pub fn connect<R: Net<Stream = TcpStream>>(
     connection(alloc, TcpStream::connect(rt, address)?)
 }
 
-/// The next connection that comes to a listener. It waits for one.
+/// The next connection that came to a listener.
 pub fn accept(
     alloc: Global,
     listener: &TcpListener,

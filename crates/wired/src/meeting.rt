@@ -41,8 +41,8 @@ impl Meeting {
 }
 
 impl Gate for Meeting {
-    fn turns_at_once(&self) -> u32 {
-        1
+    fn is_open(&self) -> bool {
+        false
     }
 
     fn pass<R: Wait + Clock>(&self, rt: &R, node: NodeId, point: Point) {

@@ -92,7 +92,12 @@ pub(crate) fn start<'a, R: Threads + Wait + Clock + Sync, J: Work + Send + 'a>(
             let mut left = Vec::with_capacity(alloc, jobs.len())?;
             for job in jobs {
                 match scope.spawn(move || job.work(rt, alloc)) {
-                    Ok(thread) => threads.push(thread)?,
+                    Ok(thread) => {
+                        if threads.push(thread).is_err() {
+                            ending.set();
+                            return Err(RunFault::Memory);
+                        }
+                    }
                     Err(_) => {
                         ending.set();
                         return Err(RunFault::NotFinished);

@@ -252,5 +252,5 @@ fn open<'a, R: Net<Stream = TcpStream, Listener = TcpListener>>(
         let dial = TcpDial { net: rt, address };
         lines.push(Line { dial, arrivals })?;
     }
-    Ok((lines, TcpEntrance { listener, readers }))
+    Ok((lines, TcpEntrance::new(alloc, listener, readers)?))
 }

@@ -94,8 +94,8 @@ impl<'a, N: Node, G: Gate, T: Drop, C: Drop> Context<'a, N, G, T, C> {
     }
 
     /// Makes the events' steps one after the other, and hands the frames of the replies to the writers while the desk's lock is
-    /// held: so frames for one peer are written in the order of the steps, whoever hands in. The gate is passed for each event
-    /// before. Whether one of them did something.
+    /// held: so frames for one peer are written in the order of the steps, whoever hands in. Where the gate is open the lock is
+    /// held over all of them, and else the gate is passed before each. Whether one of them did something.
     pub fn hand_in<R: Wait + Clock>(
         &self,
         rt: &R,
@@ -105,25 +105,20 @@ impl<'a, N: Node, G: Gate, T: Drop, C: Drop> Context<'a, N, G, T, C> {
     ) -> bool
         ensures { AreHandedIn share.old events.now share.new }
     {
-        for event in events {
-            self.gate.pass(rt, self.node, Point::of(event));
-        }
-        let mut desk = self.shared.lock(rt);
-        let mut said = Said::new(alloc);
-        for event in events {
-            enter(&mut desk, share, *event, &mut said);
-        }
-        let has_done = said.has_done;
-        self.leave(rt, desk, said);
+        let has_done = if self.gate.is_open() {
+            self.make_all(rt, alloc, share, events)
+        } else {
+            self.make_each(rt, alloc, share, events)
+        };
         if has_done {
             self.hint(rt, Hint::Done);
         }
         has_done
     }
 
-    /// Makes turns, an announcement and then an advance each, until one of them did nothing, at most so many but one at least. The
-    /// desk's lock is held over them, and the gate is passed for the first of them before. The runner makes them, so it gets no
-    /// hint of them.
+    /// Makes turns, an announcement and then an advance each, until one of them did nothing, at most so many but one at least.
+    /// Where the gate is open the desk's lock is held over them; else one turn is made, and the gate is passed before each of its
+    /// events. The runner makes them, so it gets no hint of them.
     pub fn take_turns<R: Wait + Clock>(
         &self,
         rt: &R,
@@ -135,8 +130,66 @@ impl<'a, N: Node, G: Gate, T: Drop, C: Drop> Context<'a, N, G, T, C> {
         ensures one { 1 ≤ result.made }
         ensures most { 1 ≤ most → result.made ≤ most }
     {
-        self.gate.pass(rt, self.node, Point::Announce);
-        self.gate.pass(rt, self.node, Point::Advance);
+        if self.gate.is_open() {
+            self.make_turns(rt, alloc, share, most)
+        } else {
+            let has_done = self.make_each(rt, alloc, share, &[Event::Announce, Event::Advance]);
+            Turns {
+                made: 1,
+                is_idle: !has_done,
+            }
+        }
+    }
+
+    // Makes the events' steps, each behind the gate. Whether one of them did something.
+    fn make_each<R: Wait + Clock>(
+        &self,
+        rt: &R,
+        alloc: Global,
+        share: &mut Share,
+        events: &[Event],
+    ) -> bool
+        ensures { AreHandedIn share.old events.now share.new }
+    {
+        let mut has_done = false;
+        for event in events {
+            self.gate.pass(rt, self.node, Point::of(event));
+            has_done |= self.make(rt, alloc, share, *event);
+        }
+        has_done
+    }
+
+    // Makes the event's step. Whether it did something.
+    fn make<R: Wait>(&self, rt: &R, alloc: Global, share: &mut Share, event: Event) -> bool
+        ensures { HandedIn share.old event share.new }
+    {
+        let mut desk = self.shared.lock(rt);
+        let mut said = Said::new(alloc);
+        let has_done = enter(&mut desk, share, event, &mut said);
+        self.leave(rt, desk, said);
+        has_done
+    }
+
+    // Makes the events' steps under one lock. Whether one of them did something.
+    fn make_all<R: Wait>(&self, rt: &R, alloc: Global, share: &mut Share, events: &[Event]) -> bool
+        ensures { AreHandedIn share.old events.now share.new }
+    {
+        let mut desk = self.shared.lock(rt);
+        let mut said = Said::new(alloc);
+        for event in events {
+            enter(&mut desk, share, *event, &mut said);
+        }
+        let has_done = said.has_done;
+        self.leave(rt, desk, said);
+        has_done
+    }
+
+    // Makes turns under one lock.
+    fn make_turns<R: Wait>(&self, rt: &R, alloc: Global, share: &mut Share, most: u32) -> Turns
+        ensures handed_in { AreHandedIn share.old (events_of_turns result.made) share.new }
+        ensures one { 1 ≤ result.made }
+        ensures most { 1 ≤ most → result.made ≤ most }
+    {
         let mut desk = self.shared.lock(rt);
         let mut said = Said::new(alloc);
         let mut is_idle = turn_is_idle(&mut desk, share, &mut said);

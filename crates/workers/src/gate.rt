@@ -30,26 +30,22 @@ impl Point {
     }
 }
 
-/// What each worker passes before each event, with no lock held: it may make the worker wait. Of several turns that are made at
-/// once it is passed for the first.
+/// What each worker passes before each event, with no lock held: it may make the worker wait.
 pub trait Gate {
-    /// How many turns a runner may make at once: 1, if the gate is to be passed for each.
-    fn turns_at_once(&self) -> u32;
+    /// Whether it makes nobody wait. Then it isn't passed, and a worker may hand in several events while it holds a lock.
+    fn is_open(&self) -> bool;
 
     /// A worker of this node is about to hand in an event of this kind.
     fn pass<R: Wait + Clock>(&self, rt: &R, node: NodeId, point: Point);
 }
-
-// As many as take no longer than a lock, a bell and a hint for each would.
-const TURNS_AT_ONCE: u32 = 16;
 
 /// A gate that lets all pass.
 #[derive(Clone, Copy, Debug, PartialEq, Eq)]
 pub struct Open;
 
 impl Gate for Open {
-    fn turns_at_once(&self) -> u32 {
-        TURNS_AT_ONCE
+    fn is_open(&self) -> bool {
+        true
     }
 
     fn pass<R: Wait + Clock>(&self, _rt: &R, _node: NodeId, _point: Point) {}

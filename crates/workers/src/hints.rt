@@ -16,6 +16,15 @@ pub enum Hint {
     NotConnected,
 }
 
+/// The hints that were waiting.
+#[derive(Clone, Copy, Debug, PartialEq, Eq)]
+pub(crate) struct Waited {
+    /// Whether something was done.
+    pub has_done: bool,
+    /// How many attempts to connect failed.
+    pub failed: u32,
+}
+
 /// The hints of a node's workers to its runner. However much is done, a `Done` that waits is not told again.
 #[derive(Drop)]
 pub struct Hints {
@@ -50,18 +59,21 @@ impl Hints {
             .ok()
     }
 
-    /// Takes all hints that are waiting, before a turn that answers them; how many attempts to connect failed. What is done
-    /// before it ends is seen by that turn, and of what is done after it there is a hint again.
-    pub fn take_waiting<R: Wait>(&self, rt: &R) -> u32 {
-        let mut failed: u32 = 0;
+    /// Takes all hints that are waiting, before a turn that answers them. What is done before it ends is seen by that turn, and of
+    /// what is done after it there is a hint again.
+    pub(crate) fn take_waiting<R: Wait>(&self, rt: &R) -> Waited {
+        let mut waited = Waited {
+            has_done: false,
+            failed: 0,
+        };
         for _ in rt.forever() {
             match self.receiver.try_recv(rt) {
-                Ok(Hint::Done) => {}
-                Ok(Hint::NotConnected) => failed = failed.saturating_add(1),
+                Ok(Hint::Done) => waited.has_done = true,
+                Ok(Hint::NotConnected) => waited.failed = waited.failed.saturating_add(1),
                 Err(_) => break,
             }
         }
         self.is_done_told.store(false, Ordering::SeqCst);
-        failed
+        waited
     }
 }

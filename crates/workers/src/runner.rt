@@ -3,13 +3,16 @@ ghost use Rattle.std.specs.Prelude.{◌≡◌};
 
 use crate::context::{Context, Turns};
 use crate::gate::Gate;
-use crate::hints::{Hint, Hints};
+use crate::hints::{Hint, Hints, Waited};
 use crate::pace::{Next, Pace};
 use desk::Share;
 use node::{Event, Node};
 use std::alloc::Global;
 use std::sync::Wait;
 use std::time::Clock;
+
+// As many as take no longer than a lock, a bell and a hint for each would.
+const TURNS_AT_ONCE: u32 = 16;
 
 /// Runs a node for so many turns, or until the run is to end; its share. Where its turns are used up, the run is to end.
 pub fn run<R: Wait + Clock, N: Node, G: Gate, T: Drop, C: Drop>(
@@ -66,13 +69,17 @@ fn take_turns<R: Wait + Clock, N: Node, G: Gate, T: Drop, C: Drop>(
     share: &mut Share,
     pace: &mut Pace,
 ) -> Next {
-    for _ in 0..hints.take_waiting(rt) {
+    let Waited { has_done, failed } = hints.take_waiting(rt);
+    if has_done {
+        pace.after_wait(true);
+    }
+    for _ in 0..failed {
         pace.after_turn(true);
     }
     if pace.turn() == Next::End {
         return Next::End;
     }
-    let most = pace.turns_left().min(context.gate.turns_at_once());
+    let most = pace.turns_left().min(TURNS_AT_ONCE);
     let Turns { made, is_idle } = context.take_turns(rt, alloc, share, most);
     for _ in 1..made {
         pace.after_turn(false);

@@ -1,7 +1,7 @@
 use Rattle.std.proofs.Common.{arith}
 use Rattle.workers.specs.HandedIn.{none}
 use Rattle.workers.proofs.SeveralTurns.{one_more_turn}
-use Rattle.workers.proofs.context.Context.take_turns.Goals as goal
+use Rattle.workers.proofs.context.Context.make_turns.Goals as goal
 
 pub loop-made-init : goal.loop-made-init
 loop-made-init g c =
