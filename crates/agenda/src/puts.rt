@@ -63,6 +63,7 @@ fn put_one(puts: &mut Puts, undos: &mut Vec<Undo>, event: Held) -> Result<(), Me
     ensures err { OnErr result (puts.new.entries ≡ puts.old.entries) }
     ensures not_noted { OnErr result (undos.new.items ≡ undos.old.items) }
 {
+    // For the prover: the tag is finite.
     event.tag().known();
     let was = puts.insert(key_of(event), event.value())?;
     let key = key_of(event);
@@ -118,6 +119,7 @@ fn set_one(puts: &mut Puts, key: Key, value: i64)
 pub fn in_order(puts: &Puts)
     ensures { Rises (held_in puts.now.entries) }
 {
+    // For the prover: `len` hands out the order of the entries.
     let _count = puts.len();
 }
 

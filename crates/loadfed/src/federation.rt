@@ -58,6 +58,7 @@ fn loaded(alloc: Global, shape: Shape) -> Result<(Plan, Programs), LoadFault>
 {
     let Shape { draft, programs } = shape;
     let plan = planned(alloc, draft)?;
+    // For the prover: the plan is legal.
     plan.known();
     let programs = parsed(alloc, &plan, programs)?;
     match Programs::new(&plan, programs) {
@@ -83,6 +84,7 @@ fn parsed(alloc: Global, plan: &Plan, shapes: Vec<ProgramShape>) -> Result<Vec<P
     ensures ok { IfOk result (λ programs. SpellPrograms plan.now.federates shapes.items programs.items) }
     ensures refused { IfErr result (λ fault. (fault ≡ LoadFault.Memory) ⊎ IsFaultAmong plan.now.federates shapes.items fault) }
 {
+    // For the prover: the plan is legal.
     plan.known();
     let federates = plan.federates();
     let mut programs = Vec::new(alloc);

@@ -77,6 +77,12 @@ StandsIn d BadTimer = ¬ AreTimersInRange d
 StandsIn d Memory = Unit {0}
 StandsIn d (RepeatedName name) = IsRepeated d name
 
+-- a cycle without any delay that is in the draft, or want of memory
+abbrev pub IsCycleRefusal : Draft → PlanFault → Type 0
+IsCycleRefusal d (ZeroDelayCycle names) = IsNamedCycle d names
+IsCycleRefusal d Memory = Unit {0}
+IsCycleRefusal d _ = ⊥
+
 -- the refusal's number
 abbrev pub number_of : PlanFault → ℕ
 number_of NoFederate = 10

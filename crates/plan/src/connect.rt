@@ -17,6 +17,7 @@ fn delay_after(after: Option<Time>) -> Delay
     match after {
         None => Delay::none(),
         Some(time) => {
+            // For the prover: the time is below 2^62 ns.
             let _nanoseconds = time.nanoseconds();
             Delay::after(time)
         }

@@ -1,7 +1,7 @@
 ghost use Rattle.std.specs.Prelude.{◌≡◌, ◌<◌, map, length, slice_get, All, IfOk, OnOk, IfErr};
 ghost use Rattle.paths.specs.Cycles.{HasNoImmediateCycle};
 ghost use Rattle.plan.specs.Federation.{connections_of, federate_names};
-ghost use Rattle.plan.specs.Faults.{StandsIn};
+ghost use Rattle.plan.specs.Faults.{IsCycleRefusal};
 
 use crate::draft::{Draft, Federate};
 use crate::fault::PlanFault;
@@ -33,7 +33,7 @@ pub(crate) fn refuse_cycle(
 ) -> Result<(), PlanFault>
     requires { connections.now ≡ connections_of draft.now }
     ensures ok { OnOk result (HasNoImmediateCycle connections.now) }
-    ensures fault { IfErr result (StandsIn draft.now) }
+    ensures fault { IfErr result (IsCycleRefusal draft.now) }
 {
     let federates = draft.federates.as_slice();
     match lowest_cycle(alloc, connections, federates.len())? {

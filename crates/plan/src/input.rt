@@ -66,6 +66,7 @@ impl Inputs {
         if inputs.len() > MOST_INPUTS {
             return Err(InputFault::OverLimit);
         }
+        // For the prover: their tags are finite.
         know_tags(inputs.as_slice());
         Ok(Inputs { inputs })
     }
@@ -97,7 +98,7 @@ impl<T: Drop> From<AllocFailed<T>> for InputFault {
     }
 }
 
-/// No recorded input is at FOREVER.
+/// For the prover: no recorded input is at FOREVER.
 fn know_tags(inputs: &[Input])
     ensures { All (λ i. IsFinite i.tag) inputs.now }
 {

@@ -25,6 +25,7 @@ pub(crate) fn legal_connections(alloc: Global, draft: &Draft) -> Result<Vec<Conn
     let connections = connect(alloc, draft)?;
     refuse_two_sources(draft, connections.as_slice())?;
     refuse_cycle(alloc, draft, connections.as_slice())?;
+    // For the prover: the stop time is below 2^62 ns.
     let _nanoseconds = draft.stop.nanoseconds();
     Ok(connections)
 }

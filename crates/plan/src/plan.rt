@@ -80,6 +80,7 @@ impl Plan {
     pub fn known(&self)
         ensures { IsLegal self.now }
     {
+        // For the prover: the plan keeps it.
         let _ = &self.draft;
     }
 
@@ -121,6 +122,7 @@ impl Plan {
         ensures { result ≡ option_map (λ found. (found.federate, physical_slot self.now.federates found)) (found_action self.now.federates input.now) }
     {
         let found = found_action(self.federates(), input)?;
+        // For the prover: slots are few, so their numbers are small.
         self.known();
         let slots = &self.federates()[found.federate].slots;
         Some((found.federate, slots.first_physical() + found.place))

@@ -1,4 +1,4 @@
--- decimal digits, one after another
+-- the test of digits
 pub mod Numerals
 -- a line's tokens, one after another
 pub mod Splitting

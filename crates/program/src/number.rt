@@ -1,10 +1,11 @@
-ghost use Rattle.std.specs.Prelude.{◌≡◌, ◌<◌, ◌^◌, ◌≤◌, ◌*◌, ◌+◌, length, IsTrue, SomeIff, neg_ℤ, pos, FitsSigned};
+ghost use Rattle.std.specs.Prelude.{◌≡◌, ◌<◌, ◌^◌, IsTrue, SomeIff, neg_ℤ, pos, FitsSigned};
 ghost use Rattle.std.specs.Int.{w64};
 ghost use Rattle.std.specs.Char.{is_ascii_digit};
 ghost use Rattle.std.specs.List.{list_all};
-ghost use Rattle.std.specs.Str.{all_ascii_digits};
 ghost use Rattle.std.specs.Str.Parse.{digits_value};
 ghost use Rattle.program.specs.Tokens.{is_numeral, number_in, IsWholeNumber};
+
+use tag::digits_value;
 
 /// The whole number that a token spells: digits, perhaps after a `-`, within 64 bits.
 pub(crate) fn number(token: &[u8]) -> Option<i64>
@@ -49,19 +50,4 @@ fn are_digits(text: &[u8]) -> bool
     ensures { result ≡ list_all is_ascii_digit text.now }
 {
     text.iter().all(|c| c.is_ascii_digit())
-}
-
-/// None for 2^64 or more.
-#[tactic(auto, using(crate::proofs::Numerals::digit_in_range, crate::proofs::Numerals::next_digit, crate::proofs::Numerals::front_at_most))]
-fn digits_value(digits: &[u8]) -> Option<u64>
-    requires { IsTrue (all_ascii_digits digits.now) }
-    ensures { SomeIff result (digits_value 10 digits.now < 2 ^ 64) (digits_value 10 digits.now) }
-{
-    let mut number = 0u64;
-    for digit in digits {
-        number = number
-            .checked_mul(10)?
-            .checked_add(u64::from(*digit - b'0'))?;
-    }
-    Some(number)
 }

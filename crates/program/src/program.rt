@@ -182,6 +182,7 @@ impl Program {
     pub fn known(&self)
         ensures { IsWellFormed self.now }
     {
+        // For the prover: the program keeps it.
         let _ = &self.slots;
     }
 }

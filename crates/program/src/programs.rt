@@ -48,6 +48,7 @@ fn have_slots(federates: &[Federate], programs: &[Program]) -> bool
     match federates {
         [federate, federates @ ..] => match programs {
             [program, programs @ ..] => {
+                // For the prover: the program is well formed.
                 program.known();
                 federate.slots.is_same(program.slots()) && have_slots(federates, programs)
             }

@@ -6,6 +6,7 @@ ghost use Rattle.std.specs.Str.Parse.{digits_value};
 ghost use Rattle.tag.specs.Duration.{IsUnit, HasParts, Spells};
 ghost use Rattle.tag.specs.declared.duration.DurationFault.TheVariants.{BadDuration, TooLong};
 
+use crate::decimal::digits_value;
 use crate::time::Time;
 use std::fmt;
 
@@ -110,21 +111,6 @@ fn value(digits: &[u8], unit: u64) -> Option<u64>
     requires some_unit { 0 < unit }
     ensures { SomeIff result (digits_value 10 digits.now * unit < 2 ^ 62) (digits_value 10 digits.now * unit) }
 {
-    let value = number(digits)?.checked_mul(unit)?;
+    let value = digits_value(digits)?.checked_mul(unit)?;
     Some(Time::new(value)?.nanoseconds())
-}
-
-/// None for 2^64 or more.
-#[tactic(auto, using(crate::proofs::Numerals::digit_in_range, crate::proofs::Numerals::next_digit))]
-fn number(digits: &[u8]) -> Option<u64>
-    requires { IsTrue (all_ascii_digits digits.now) }
-    ensures { SomeIff result (digits_value 10 digits.now < 2 ^ 64) (digits_value 10 digits.now) }
-{
-    let mut number = 0u64;
-    for digit in digits {
-        number = number
-            .checked_mul(10)?
-            .checked_add(u64::from(*digit - b'0'))?;
-    }
-    Some(number)
 }

@@ -31,6 +31,7 @@ impl FiniteTag {
     pub fn new(time: Time, microstep: u32) -> FiniteTag
         ensures { result ≡ record { time = time; microstep = microstep } }
     {
+        // For the prover: the time is below 2^62 ns.
         let _nanoseconds = time.nanoseconds();
         FiniteTag { time, microstep }
     }
@@ -77,6 +78,7 @@ impl fmt::Display for FiniteTag {
     fn fmt<W: fmt::Write>(&self, f: &mut fmt::Formatter<W>) -> fmt::Result {
         let time = self.time;
         let microstep = self.microstep;
+        // For the prover: the time is below 2^62 ns.
         let _nanoseconds = time.nanoseconds();
         write!(f, "({time}, {microstep})")
     }

@@ -9,6 +9,7 @@ use crate::time::Time;
 pub fn plus(tag: Tag, delay: Delay) -> Tag
     ensures { result ≡ sum_of tag delay }
 {
+    // For the prover: a tag is at most FOREVER.
     tag.known();
     match sum(tag.time(), tag.microstep(), delay) {
         Some((time, microstep)) => Tag::new(time, microstep),
@@ -20,6 +21,7 @@ pub fn plus(tag: Tag, delay: Delay) -> Tag
 pub fn then(first: Delay, second: Delay) -> Delay
     ensures { result ≡ sum_of first second }
 {
+    // For the prover: a delay is at most FOREVER.
     first.known();
     match sum(first.time(), first.microstep(), second) {
         Some((time, microstep)) => Delay::new(time, microstep),
@@ -38,6 +40,7 @@ pub fn succ(tag: Tag) -> Tag
 pub fn pred(tag: Tag) -> Option<Tag>
     ensures { result ≡ tag_before tag }
 {
+    // For the prover: a tag is at most FOREVER.
     tag.known();
     let (time, microstep) = match tag.microstep().checked_sub(1) {
         Some(microstep) => (tag.time(), microstep),
@@ -51,6 +54,7 @@ fn sum(time: u64, microstep: u32, delay: Delay) -> Option<(Time, u32)>
     requires { IsLogicalTime (record { time = time; microstep = microstep }) }
     ensures { let g : LogicalTime = record { time = time; microstep = microstep } in MatchOption result (sum_of g delay ≡ forever) (λ s. record { time = s.0; microstep = s.1 } ≡ sum_of g delay) }
 {
+    // For the prover: a delay is at most FOREVER.
     delay.known();
     let (time, microstep) = if delay.time() > 0 {
         (time + delay.time(), delay.microstep())

@@ -15,6 +15,7 @@ use tag::FiniteTag;
 pub fn opening_agendas(alloc: Global, plan: &Plan) -> Result<Vec<Agenda>, Memory>
     ensures { IfOk result (λ agendas. AreOpenWith plan.now [] agendas.items) }
 {
+    // For the prover: the plan is legal.
     plan.known();
     let stop = FiniteTag::new(plan.stop_time(), 0);
     let mut agendas = Vec::new(alloc);
@@ -23,6 +24,7 @@ pub fn opening_agendas(alloc: Global, plan: &Plan) -> Result<Vec<Agenda>, Memory
             Ok(agenda) => agenda,
             Err(_) => return Err(Memory),
         };
+        // For the prover: what is undone is in order, up to stop.
         agenda.known();
         agendas.push(agenda)?;
     }
@@ -64,6 +66,7 @@ fn put_input(
     let agenda = &mut agendas[federate];
     match agenda.put_all(events.as_slice()) {
         Ok(_put) => {
+            // For the prover: what is undone is in order, up to stop.
             agenda.known();
             Ok(())
         }
