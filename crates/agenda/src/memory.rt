@@ -1,8 +1,34 @@
-use std::alloc::{AllocError, AllocFailed};
+ghost use Rattle.std.specs.Prelude.{◌≡◌};
 
-/// No memory was to be had.
+use std::alloc::{AllocError, AllocFailed};
+use std::fmt;
+
+/// No memory was to be had for what is undone. It is told as want of memory for a turn.
 #[derive(Clone, Copy, Debug, PartialEq, Eq)]
 pub struct Memory;
+
+impl Memory {
+    ghost use Rattle.program.specs.Fault.{fault_number};
+    ghost use Rattle.program.specs.declared.fault.ProgramFault.TheVariants as ProgramFaults;
+
+    /// The number by which it is told.
+    pub const fn number(self) -> u16
+        ensures { result ≡ fault_number ProgramFaults.Memory }
+    {
+        reactor::Memory.number()
+    }
+}
+
+impl fmt::Display for Memory {
+    ghost use Rattle.std.specs.Prelude.{Some};
+    ghost use Rattle.program.specs.Fault.{printed_memory};
+
+    ghost output = { λ _. Some printed_memory };
+
+    fn fmt<W: fmt::Write>(&self, f: &mut fmt::Formatter<W>) -> fmt::Result {
+        write!(f, "{}", reactor::Memory)
+    }
+}
 
 impl From<AllocError> for Memory {
     fn from(_error: AllocError) -> Memory {

@@ -86,8 +86,8 @@ impl fmt::Display for Fault<'_> {
             Fault::World(memory) => write!(f, "{memory}"),
             Fault::NotFinished => write!(f, "not finished"),
             Fault::Unproved(doubt) => write!(f, "{doubt}"),
-            Fault::Run(memory) => write!(f, "{} Memory", memory.number()),
-            Fault::Print(memory) => write!(f, "{memory}"),
+            Fault::Run(memory) => write!(f, "{memory}"),
+            Fault::Print(_) => write!(f, "{}", desk::Memory),
         }
     }
 }

@@ -1,3 +1,5 @@
+-- How a desk's refusals are told.
+pub mod Fault
 -- A station with the journal of its events, and the station that a journal gives.
 pub mod Replay
 -- When the slips of several workers are a journal.

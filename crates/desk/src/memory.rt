@@ -1,19 +1,35 @@
 ghost use Rattle.std.specs.Prelude.{◌≡◌};
 
 use std::alloc::{AllocError, AllocFailed};
+use std::fmt;
 
 /// No memory was to be had for an event: the desk and the share are as before.
 #[derive(Clone, Copy, Debug, PartialEq, Eq)]
 pub struct Memory;
 
 impl Memory {
+    ghost use Rattle.desk.specs.Fault.{memory_number};
+
     /// The number by which it is told.
     pub const fn number(self) -> u16
-        ensures { result ≡ 91 }
+        ensures { result ≡ memory_number }
     {
         91
     }
 }
+
+impl fmt::Display for Memory {
+    ghost use Rattle.std.specs.Prelude.{Some};
+    ghost use Rattle.desk.specs.Fault.{memory_text};
+
+    ghost output = { λ _. Some memory_text };
+
+    fn fmt<W: fmt::Write>(&self, f: &mut fmt::Formatter<W>) -> fmt::Result {
+        write!(f, "{} Memory", self.number())
+    }
+}
+
+impl std::error::Error for Memory {}
 
 impl From<AllocError> for Memory {
     fn from(_: AllocError) -> Memory {

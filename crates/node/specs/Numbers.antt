@@ -1,7 +1,8 @@
--- The numbers of a station's own refusals, and which refusals close a link.
-use Rattle.std.specs.Prelude.{ℕ, Bool, true, false}
+-- A station's own refusals: their numbers, and how they are told; and which refusals close a link.
+use Rattle.std.specs.Prelude.{ℕ, Bool, true, false, List, codes}
+use Rattle.signal.specs.Fault.{told}
 use Rattle.protocol.specs.declared.refusal.Refusal.{Refusal}
-use Rattle.protocol.specs.Refusals.{number_of}
+use Rattle.protocol.specs.Refusals.{number_of, text_of}
 use Rattle.node.specs.declared.fault.NodeFault.{NodeFault}
 use Rattle.node.specs.declared.fault.NodeFault.TheVariants as fault
 use Rattle.protocol.specs.declared.refusal.Refusal.TheVariants.{Late, OldGrant, WrongSignal, NotYours, BelowGrant, NotRising, AfterStop, NotForCoordinator}
@@ -19,6 +20,16 @@ abbrev pub fault_number : NodeFault → ℕ
 fault_number (fault.Refused refusal) = number_of refusal
 fault_number fault.NoRoom = no_room
 fault_number fault.Memory = out_of_memory
+
+-- what is printed where a step has no memory
+abbrev pub memory_text : List ℕ
+memory_text = told out_of_memory (codes "Memory")
+
+-- what is printed of a node's fault; of a signal that isn't taken, why
+abbrev pub fault_text : NodeFault → List ℕ
+fault_text (fault.Refused refusal) = text_of refusal
+fault_text fault.NoRoom = told no_room (codes "NoRoom")
+fault_text fault.Memory = memory_text
 
 -- whether a signal so refused closes the link that it came by: those that the coordinator refuses
 abbrev pub closes : Refusal → Bool

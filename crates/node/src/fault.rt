@@ -3,19 +3,17 @@ ghost use Rattle.std.specs.Prelude.{◌≡◌};
 use crate::memory::Memory;
 use protocol::Refusal;
 use std::alloc::{AllocError, AllocFailed};
-use thiserror::Error;
+use std::fmt;
 
 /// Why a node doesn't do what it was asked. The node is as it was before.
-#[derive(Clone, Copy, Debug, PartialEq, Eq, Error)]
+#[derive(Clone, Copy, Debug, PartialEq, Eq)]
 pub enum NodeFault {
     /// The node doesn't take the signal.
-    #[error("the signal is refused")]
     Refused(Refusal),
     /// The node would do it, but its signals for a peer don't fit in that link. Once that peer has acknowledged
     /// some, the same call succeeds.
-    #[error("a link has no room")]
     NoRoom,
-    #[error("out of memory")]
+    /// No memory was to be had. The same call may succeed later.
     Memory,
 }
 
@@ -33,6 +31,23 @@ impl NodeFault {
         }
     }
 }
+
+impl fmt::Display for NodeFault {
+    ghost use Rattle.std.specs.Prelude.{Some};
+    ghost use Rattle.node.specs.Numbers.{fault_text};
+
+    ghost output = { λ fault. Some (fault_text fault) };
+
+    fn fmt<W: fmt::Write>(&self, f: &mut fmt::Formatter<W>) -> fmt::Result {
+        match self {
+            NodeFault::Refused(refusal) => write!(f, "{refusal}"),
+            NodeFault::NoRoom => write!(f, "{} NoRoom", self.number()),
+            NodeFault::Memory => write!(f, "{}", Memory),
+        }
+    }
+}
+
+impl std::error::Error for NodeFault {}
 
 impl From<AllocError> for NodeFault {
     ghost use Rattle.std.specs.Prelude.{◌≡◌};

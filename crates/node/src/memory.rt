@@ -1,6 +1,7 @@
 ghost use Rattle.std.specs.Prelude.{◌≡◌};
 
 use std::alloc::{AllocError, AllocFailed};
+use std::fmt;
 
 /// No memory was to be had for a step: the station is as before.
 #[derive(Clone, Copy, Debug, PartialEq, Eq)]
@@ -16,6 +17,19 @@ impl Memory {
         66
     }
 }
+
+impl fmt::Display for Memory {
+    ghost use Rattle.std.specs.Prelude.{Some};
+    ghost use Rattle.node.specs.Numbers.{memory_text};
+
+    ghost output = { λ _. Some memory_text };
+
+    fn fmt<W: fmt::Write>(&self, f: &mut fmt::Formatter<W>) -> fmt::Result {
+        write!(f, "{} Memory", self.number())
+    }
+}
+
+impl std::error::Error for Memory {}
 
 impl From<AllocError> for Memory {
     fn from(_: AllocError) -> Memory {

@@ -3,5 +3,3 @@
 pub mod RowText
 -- a plan as text
 pub mod PlanText
--- how want of memory is told
-pub mod Fault

@@ -1,5 +1,5 @@
 -- The two sides of a federation, step by step on signals, and the machine that both make with the queues between them.
--- the numbers of the refusals
+-- the refusals: their numbers, and how they are told
 pub mod Refusals
 -- how a step ends
 pub mod Outcome

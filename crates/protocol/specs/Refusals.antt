@@ -1,5 +1,6 @@
--- The numbers of the refusals.
-use Rattle.std.specs.Prelude.{ℕ}
+-- The refusals: their numbers, and how they are told.
+use Rattle.std.specs.Prelude.{ℕ, List, codes}
+use Rattle.signal.specs.Fault.{told}
 use Rattle.protocol.specs.declared.refusal.Refusal.{Refusal}
 use Rattle.protocol.specs.declared.refusal.Refusal.TheVariants.{Late, OldGrant, WrongSignal, NotYours, BelowGrant, NotRising, AfterStop, NotForCoordinator}
 
@@ -13,3 +14,18 @@ number_of BelowGrant = 71
 number_of NotRising = 72
 number_of AfterStop = 73
 number_of NotForCoordinator = 75
+
+-- the name by which a refusal is told: a federate's wrong signal and the coordinator's have one name
+abbrev pub name_of : Refusal → List ℕ
+name_of Late = codes "Late"
+name_of OldGrant = codes "OldGrant"
+name_of WrongSignal = codes "WrongSignal"
+name_of NotYours = codes "NotYours"
+name_of BelowGrant = codes "BelowGrant"
+name_of NotRising = codes "NotRising"
+name_of AfterStop = codes "AfterStop"
+name_of NotForCoordinator = codes "WrongSignal"
+
+-- what is printed of a refusal
+abbrev pub text_of : Refusal → List ℕ
+text_of refusal = told (number_of refusal) (name_of refusal)

@@ -1,5 +1,7 @@
 ghost use Rattle.std.specs.Prelude.{◌≡◌};
 
+use std::fmt;
+
 /// Why a signal isn't taken. Whoever refuses it is as before.
 #[derive(Clone, Copy, Debug, PartialEq, Eq)]
 pub enum Refusal {
@@ -41,3 +43,26 @@ impl Refusal {
         }
     }
 }
+
+impl fmt::Display for Refusal {
+    ghost use Rattle.std.specs.Prelude.{Some};
+    ghost use Rattle.protocol.specs.Refusals.{text_of};
+
+    ghost output = { λ refusal. Some (text_of refusal) };
+
+    fn fmt<W: fmt::Write>(&self, f: &mut fmt::Formatter<W>) -> fmt::Result {
+        let number = self.number();
+        match self {
+            Refusal::Late => write!(f, "{number} Late"),
+            Refusal::OldGrant => write!(f, "{number} OldGrant"),
+            Refusal::WrongSignal => write!(f, "{number} WrongSignal"),
+            Refusal::NotYours => write!(f, "{number} NotYours"),
+            Refusal::BelowGrant => write!(f, "{number} BelowGrant"),
+            Refusal::NotRising => write!(f, "{number} NotRising"),
+            Refusal::AfterStop => write!(f, "{number} AfterStop"),
+            Refusal::NotForCoordinator => write!(f, "{number} WrongSignal"),
+        }
+    }
+}
+
+impl std::error::Error for Refusal {}

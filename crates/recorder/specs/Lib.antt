@@ -2,7 +2,7 @@
 pub mod Reports
 -- The first place at which two lists of rows differ.
 pub mod Difference
--- The numbers by which refusals are told.
+-- The numbers by which refusals are told, and how a report that isn't taken is told.
 pub mod Numbers
 -- What is known of journals while their nodes still write them.
 pub mod Known

@@ -2,6 +2,8 @@ ghost use Rattle.std.specs.Prelude.{◌≡◌};
 ghost use Rattle.recorder.specs.Numbers.{number_of_report_fault};
 
 use crate::report::Report;
+use crate::unproved::Unproved;
+use std::fmt;
 
 /// Why a report isn't taken. They are tested in this order.
 #[derive(Clone, Copy, Debug, PartialEq, Eq)]
@@ -20,12 +22,30 @@ impl ReportFault {
         ensures { result ≡ number_of_report_fault self }
     {
         match self {
-            ReportFault::Stranger => 80,
-            ReportFault::Double => 81,
-            ReportFault::Memory => 85,
+            ReportFault::Stranger => Unproved::Stranger.number(),
+            ReportFault::Double => Unproved::Double.number(),
+            ReportFault::Memory => Unproved::Memory.number(),
         }
     }
 }
+
+impl fmt::Display for ReportFault {
+    ghost use Rattle.std.specs.Prelude.{Some};
+    ghost use Rattle.recorder.specs.Numbers.{text_of_report_fault};
+
+    ghost output = { λ fault. Some (text_of_report_fault fault) };
+
+    fn fmt<W: fmt::Write>(&self, f: &mut fmt::Formatter<W>) -> fmt::Result {
+        let number = self.number();
+        match self {
+            ReportFault::Stranger => write!(f, "{number} Stranger"),
+            ReportFault::Double => write!(f, "{number} Double"),
+            ReportFault::Memory => write!(f, "{number} Memory"),
+        }
+    }
+}
+
+impl std::error::Error for ReportFault {}
 
 /// A report that isn't taken, handed back.
 #[derive(Debug, Drop)]

@@ -36,7 +36,7 @@ impl Unproved {
             Unproved::Stuck(_, _) => 82,
             Unproved::Mismatch(_, _) => 83,
             Unproved::Missing(_) => 84,
-            Unproved::Memory => 85,
+            Unproved::Memory => search::Memory.number(),
         }
     }
 }

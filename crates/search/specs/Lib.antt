@@ -1,3 +1,5 @@
+-- How a search's want of memory is told.
+pub mod Fault
 -- How a machine moves, and what it answers when an event is to be placed.
 pub mod Motion
 -- When a list of steps agrees with journals, and when no further event can be placed.

@@ -1,19 +1,35 @@
 ghost use Rattle.std.specs.Prelude.{◌≡◌};
 
 use std::alloc::{AllocError, AllocFailed};
+use std::fmt;
 
 /// No memory was to be had, for the search or its machine: the machine stands after some steps.
 #[derive(Clone, Copy, Debug, PartialEq, Eq)]
 pub struct Memory;
 
 impl Memory {
+    ghost use Rattle.search.specs.Fault.{memory_number};
+
     /// The number by which it is told.
     pub const fn number(self) -> u16
-        ensures { result ≡ 85 }
+        ensures { result ≡ memory_number }
     {
         85
     }
 }
+
+impl fmt::Display for Memory {
+    ghost use Rattle.std.specs.Prelude.{Some};
+    ghost use Rattle.search.specs.Fault.{memory_text};
+
+    ghost output = { λ _. Some memory_text };
+
+    fn fmt<W: fmt::Write>(&self, f: &mut fmt::Formatter<W>) -> fmt::Result {
+        write!(f, "{} Memory", self.number())
+    }
+}
+
+impl std::error::Error for Memory {}
 
 impl From<AllocError> for Memory {
     fn from(_: AllocError) -> Memory {

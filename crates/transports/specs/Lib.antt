@@ -1,3 +1,5 @@
+-- How a connection's refusals are told.
+pub mod Fault
 -- Bytes on their way in one direction.
 pub mod Pipe
 -- Who a connection is, by its first frame.

@@ -7,7 +7,8 @@
 //!
 //!     Dial::dial ---- connects ----> Entrance::let_in: Stranger::listen, until its Hello is there ----> its federate's reader
 //!
-//! Begin with `transport`, then `connection`, then `tcp` and `in_memory`; `specs/Pipe` and `specs/Greeter` are its definitions.
+//! Begin with `transport`, then `connection`, then `tcp` and `in_memory`; `specs/Pipe`, `specs/Greeter` and `specs/Fault` are its
+//! definitions.
 #![tactic(auto)]
 
 pub mod acceptor;

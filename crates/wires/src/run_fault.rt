@@ -1,17 +1,32 @@
 ghost use Rattle.std.specs.Prelude.{◌≡◌};
 
 use std::alloc::{AllocError, AllocFailed};
-use thiserror::Error;
+use std::fmt;
 
 /// Why a run gives no desks.
-#[derive(Clone, Copy, Debug, PartialEq, Eq, Error)]
+#[derive(Clone, Copy, Debug, PartialEq, Eq)]
 pub enum RunFault {
     /// There was no listener, or a thread couldn't be started, or a node's workers don't agree with its journal.
-    #[error("not finished")]
     NotFinished,
-    #[error("out of memory")]
+    /// No memory was to be had for nodes or workers. The same run may be made again.
     Memory,
 }
+
+impl fmt::Display for RunFault {
+    ghost use Rattle.std.specs.Prelude.{Some};
+    ghost use Rattle.wires.specs.Fault.{text_of};
+
+    ghost output = { λ fault. Some (text_of fault) };
+
+    fn fmt<W: fmt::Write>(&self, f: &mut fmt::Formatter<W>) -> fmt::Result {
+        match self {
+            RunFault::NotFinished => write!(f, "not finished"),
+            RunFault::Memory => write!(f, "{}", desk::Memory),
+        }
+    }
+}
+
+impl std::error::Error for RunFault {}
 
 impl From<AllocError> for RunFault {
     fn from(_: AllocError) -> RunFault {
