@@ -2,8 +2,7 @@
 use Rattle.std.proofs.Common.{◌≡◌, ◌≢◌, ℕ, zero, suc, ◌+◌, ◌<◌, ◌≤◌, ℤ, ◌++◌, Option, None, Some, List, refl, ◌∙◌, arith, eq-eqb, inl, inr}
 use Rattle.std.proofs.lemmas.Bool.{ne_eqb}
 use Rattle.std.proofs.Math.Nat.{eq-or-lt_of_le}
-use Rattle.network.specs.Event.{Entry, entry_at, listed_from, listed}
-use Rattle.reactor.specs.Entries.{value_at}
+use Rattle.network.specs.Event.{Entry, entry_at, listed_from, listed, value_at}
 
 skips : (first place : ℕ) (v : Option ℤ) (rest : List Entry) → first ≢ place → value_at (entry_at first v ++ rest) place ≡ value_at rest place
 skips first place None rest apart = refl

@@ -8,9 +8,8 @@ use Rattle.std.proofs.lemmas.List.{map-append, take_more}
 use Rattle.std.proofs.lemmas.List.Elements.{filter-append}
 use Rattle.tag.specs.LogicalTime.{LogicalTime, is_before, is_at_most, is_same}
 use Rattle.tag.proofs.Order.{not_at_most, after_not_same}
-use Rattle.network.specs.Event.{Entry}
+use Rattle.network.specs.Event.{Entry, value_at}
 use Rattle.network.specs.Undone.{Held, look}
-use Rattle.reactor.specs.Entries.{value_at}
 use Rattle.agenda.specs.declared.key.Key.{Key}
 use Rattle.agenda.specs.declared.firings.Firings.{Firings}
 use Rattle.agenda.specs.Agenda.{present_in}

@@ -1,11 +1,10 @@
 ghost use Rattle.std.specs.Prelude.{◌≡◌, ℕ, ◌<◌, All, IfOk, OnOk, OnErr};
 ghost use Rattle.std.specs.List.{AllByRecursion};
 ghost use Rattle.tag.specs.LogicalTime.{origin};
-ghost use Rattle.network.specs.Event.{listed};
+ghost use Rattle.network.specs.Event.{listed, value_at};
 ghost use Rattle.network.specs.Undone.{put_all, look, drop_up_to};
 ghost use Rattle.agenda.specs.Kept.{held_in, startup_in};
 ghost use Rattle.plan.specs.Legal.{IsTimerInRange, IsWithinLimits};
-ghost use Rattle.reactor.specs.Entries.{value_at};
 
 use crate::firings::Firings;
 use crate::held::Held;

@@ -2,7 +2,7 @@ ghost use Rattle.std.specs.Prelude.{◌≡◌, ◌+◌, ◌<◌, ◌^◌, All, I
 ghost use Rattle.std.specs.List.{AllByRecursion};
 ghost use Rattle.network.specs.Undone.{drop_up_to};
 ghost use Rattle.plan.specs.External.{firing_count};
-ghost use Rattle.plan.specs.Legal.{IsTimerInRange, IsWithinLimits};
+ghost use Rattle.plan.specs.Legal.{IsTimerInRange};
 ghost use Rattle.plan.specs.Numbering.{first_timer};
 ghost use Rattle.agenda.specs.Kept.{all_firings, first_firing, timers_from, IsTimer};
 
@@ -14,11 +14,10 @@ use tag::{Tag, Time, lesser};
 
 /// The timers of a federate, before any firing.
 pub fn timers_of(alloc: Global, slots: &Slots, stop: Time) -> Result<Vec<Firings>, Memory>
-    requires limits { IsWithinLimits slots.now }
     ensures { IfOk result (λ timers. timers.items ≡ timers_from stop (first_timer slots.now) slots.now.timers) }
 {
     let stop = stop.nanoseconds();
-    let first = 1 + slots.inputs.as_slice().len();
+    let first = slots.first_timer();
     let mut timers = Vec::new(alloc);
     for (place, timer) in slots.timers.as_slice().iter().enumerate() {
         timers.push(Firings {

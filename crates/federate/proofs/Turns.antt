@@ -7,7 +7,7 @@ use Rattle.tag.specs.LogicalTime.{LogicalTime, IsFinite, is_at_most, is_before, 
 use Rattle.tag.proofs.Order.{finite_is_logical, finite_is_not_forever}
 use Rattle.tag.proofs.SumLaws.{sum_later}
 use Rattle.network.specs.Connection.{Connection}
-use Rattle.network.specs.Event.{Entry, listed}
+use Rattle.network.specs.Event.{Entry, listed, value_at}
 use Rattle.network.specs.Network.{Network, Scheduling, Effect}
 use Rattle.network.specs.Undivided.{Row}
 use Rattle.network.specs.Undone.{Held, put_all, look, first_tag, drop_up_to}
@@ -24,7 +24,6 @@ use Rattle.plan.specs.declared.input.Input.{Input}
 use Rattle.plan.specs.Federation.{connections_of, stop_of}
 use Rattle.plan.specs.Numbering.{slot_count}
 use Rattle.program.specs.Behaviour.{Behaviour, IsWellFormed}
-use Rattle.reactor.specs.Entries.{value_at}
 use Rattle.reactor.specs.Federation.{network_of, slots_of, ports_of, effect_by}
 use Rattle.reactor.specs.Turn.{Reactor, Turn}
 use Rattle.reactor.proofs.LawfulNetwork.{gives_lawful}

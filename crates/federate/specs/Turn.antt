@@ -1,7 +1,7 @@
 -- What a turn of a federate makes, before anything changes; and which tag is due.
 use Rattle.std.specs.Prelude.{◌≡◌, if◌then◌else◌, List, [], ◌∷◌, ◌++◌, map, filter, length, Option, None, Some}
 use Rattle.tag.specs.LogicalTime.{LogicalTime, is_at_most, is_reached}
-use Rattle.network.specs.Event.{listed}
+use Rattle.network.specs.Event.{listed, value_at}
 use Rattle.network.specs.Network.{Effect}
 use Rattle.network.specs.Undone.{Held, look, first_tag}
 use Rattle.signal.specs.declared.signal.Signal.TheVariants.{Ltc}
@@ -10,7 +10,6 @@ use Rattle.plan.specs.declared.draft.Draft.{Draft}
 use Rattle.plan.specs.Federation.{stop_of}
 use Rattle.plan.specs.Numbering.{slot_count}
 use Rattle.reactor.specs.Effect as reactor
-use Rattle.reactor.specs.Entries.{value_at}
 use Rattle.reactor.specs.Federation.{network_of}
 use Rattle.reactor.specs.Turn.{Reactor, turn_of}
 use Rattle.cores.specs.FederateCore.{to_coordinator}

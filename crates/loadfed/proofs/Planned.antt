@@ -18,7 +18,8 @@ use Rattle.tables.specs.declared.fault.LoadFault.TheVariants.{NotToml, Plan, Pro
 use Rattle.loadfed.specs.Told.{fault_of_plan}
 use Rattle.loadfed.specs.Shape.{ProgramDraft}
 use Rattle.tables.specs.Documents.{IsDocument}
-use Rattle.loadfed.specs.Loaded.{most_bytes, IsPlanFault, IsProgramFault, IsFaultAmong, HasLoadFault}
+use Rattle.loadfed.specs.declared.federation.TheConstants.{MOST_BYTES}
+use Rattle.loadfed.specs.Loaded.{IsPlanFault, IsProgramFault, IsFaultAmong, HasLoadFault}
 use Rattle.loadfed.specs.ShapeFaults.{HasShapeFault}
 
 stands : (d : Draft) (reason : PlanFault) → StandsIn d reason → reason ≢ plan_fault.Memory → (IsLegal d → reason ≡ plan_fault.Memory) → IsPlanFault d (Plan reason)
@@ -62,12 +63,12 @@ pub among_legal : (d e : Draft) (ps : List ProgramDraft) (fault : LoadFault) →
 among_legal d e ps fault same legal (inl memory) = inl memory
 among_legal d e ps fault same legal (inr h) = inr (inr (legal, subst (λ x. IsFaultAmong x.federates ps fault) same h))
 
-pub table_told : (bytes : List ℕ) (fault : LoadFault) → length bytes ≤ most_bytes → (fault ≡ Memory) ⊎ ((fault ≡ NotToml) × ((file : Members) → ¬ (IsDocument bytes file)))
+pub table_told : (bytes : List ℕ) (fault : LoadFault) → length bytes ≤ MOST_BYTES → (fault ≡ Memory) ⊎ ((fault ≡ NotToml) × ((file : Members) → ¬ (IsDocument bytes file)))
     → (fault ≡ Memory) ⊎ HasLoadFault bytes fault
 table_told bytes fault few (inl memory) = inl memory
 table_told bytes fault few (inr h) = inr (inr (inl (record { few = few; told = h.0; none = h.1 })))
 
-pub shape_told : (bytes : List ℕ) (m file : Members) (fault : LoadFault) → m ≡ file → length bytes ≤ most_bytes → IsDocument bytes file → (fault ≡ Memory) ⊎ HasShapeFault m fault
+pub shape_told : (bytes : List ℕ) (m file : Members) (fault : LoadFault) → m ≡ file → length bytes ≤ MOST_BYTES → IsDocument bytes file → (fault ≡ Memory) ⊎ HasShapeFault m fault
     → (fault ≡ Memory) ⊎ HasLoadFault bytes fault
 shape_told bytes m file fault same few document (inl memory) = inl memory
 shape_told bytes m file fault same few document (inr h) =

@@ -4,13 +4,14 @@ use Rattle.toml.specs.Data.{Members}
 use Rattle.plan.specs.declared.draft.Draft.{Draft}
 use Rattle.plan.specs.declared.input.Input.{Input}
 use Rattle.plan.specs.External.{found_action, AreApart}
-use Rattle.plan.specs.Limits.{most_inputs}
+use Rattle.plan.specs.declared.input.TheConstants.{MOST_INPUTS}
 use Rattle.tables.specs.declared.fault.LoadFault.{LoadFault}
 use Rattle.tables.specs.declared.fault.LoadFault.TheVariants.{UnknownAction, RepeatedInput, OverLimit}
 use Rattle.tables.specs.Tables.{HasOnly, SaysText, SaysNumber, SaysDuration, SaysMicrostep, SaysEach}
 use Rattle.tables.specs.TableFaults.{IsWrongAt, HasUnknownKey}
 use Rattle.loadfed.specs.ShapeFaults.{HasTablesFault}
 use Rattle.tables.specs.Documents.{IsDocument}
+use Rattle.loadfed.specs.declared.recorded.TheConstants.{MOST_INPUT_BYTES}
 use Rattle.loadfed.specs.Loaded.{IsTooLong, IsNoDocument, HasFileFault}
 
 -- the keys of an input file
@@ -49,13 +50,9 @@ HasInputFault members fault =
 abbrev pub HasInputsFault : Members → LoadFault → Type 0
 HasInputsFault members fault = HasUnknownKey input_file_keys members fault ⊎ HasTablesFault HasInputFault (codes "input") members fault
 
--- the most bytes of an input file
-abbrev pub most_input_bytes : ℕ
-most_input_bytes = 8388608
-
 -- a file that isn't too long records these inputs
 pub record SaysInputFile (bytes : List ℕ) (inputs : List Input) : Type 0 where
-  pub few : length bytes ≤ most_input_bytes
+  pub few : length bytes ≤ MOST_INPUT_BYTES
   pub file : Members
   pub document : IsDocument bytes file
   pub says : SaysInputs file inputs
@@ -80,7 +77,7 @@ pub record AreTooManyInputs (d : Draft) (inputs : List Input) (fault : LoadFault
   pub told : fault ≡ OverLimit
   pub known : AreKnown d inputs
   pub apart : AllPairs AreApart inputs
-  pub many : ¬ (length inputs ≤ most_inputs)
+  pub many : ¬ (length inputs ≤ MOST_INPUTS)
 
 -- what stands against recorded inputs, the first that does: an unknown action, a repeated input, too many of them
 abbrev pub IsFaultOfInputs : Draft → List Input → LoadFault → Type 0
@@ -96,6 +93,6 @@ pub record HasRecordedFault (d : Draft) (bytes : List ℕ) (fault : LoadFault) :
 -- the stages, in their order; each says that those before it found no fault
 abbrev pub HasInputFileFault : Draft → List ℕ → LoadFault → Type 0
 HasInputFileFault d bytes fault =
-    IsTooLong most_input_bytes bytes fault
-    ⊎ (IsNoDocument most_input_bytes bytes fault
-    ⊎ (HasFileFault HasInputsFault most_input_bytes bytes fault ⊎ HasRecordedFault d bytes fault))
+    IsTooLong MOST_INPUT_BYTES bytes fault
+    ⊎ (IsNoDocument MOST_INPUT_BYTES bytes fault
+    ⊎ (HasFileFault HasInputsFault MOST_INPUT_BYTES bytes fault ⊎ HasRecordedFault d bytes fault))

@@ -14,12 +14,9 @@ use Rattle.program.specs.Spelled.{SpellsProgram, IsFaultOf}
 use Rattle.tables.specs.declared.fault.LoadFault.{LoadFault}
 use Rattle.tables.specs.declared.fault.LoadFault.TheVariants.{NotToml, Plan, Program, OverLimit}
 use Rattle.tables.specs.Documents.{IsDocument}
+use Rattle.loadfed.specs.declared.federation.TheConstants.{MOST_BYTES}
 use Rattle.loadfed.specs.Shape.{ProgramDraft, SaysFederation}
 use Rattle.loadfed.specs.ShapeFaults.{HasShapeFault}
-
--- the most bytes of a federation file
-abbrev pub most_bytes : ℕ
-most_bytes = 1048576
 
 -- each program is what its federate's states and reactions spell
 abbrev pub SpellPrograms : List Federate → List ProgramDraft → List Behaviour → Type 0
@@ -30,7 +27,7 @@ SpellPrograms _ _ _ = ⊥
 
 -- a file that isn't too long declares this draft, and these programs
 pub record SaysDraft (bytes : List ℕ) (d : Draft) (drafts : List ProgramDraft) : Type 0 where
-  pub few : length bytes ≤ most_bytes
+  pub few : length bytes ≤ MOST_BYTES
   pub file : Members
   pub document : IsDocument bytes file
   pub says : SaysFederation file d drafts
@@ -103,6 +100,6 @@ pub record HasProgramFault (bytes : List ℕ) (fault : LoadFault) : Type 0 where
 -- the stages, in their order; each says that those before it found no fault
 abbrev pub HasLoadFault : List ℕ → LoadFault → Type 0
 HasLoadFault bytes fault =
-    IsTooLong most_bytes bytes fault
-    ⊎ (IsNoDocument most_bytes bytes fault
-    ⊎ (HasFileFault HasShapeFault most_bytes bytes fault ⊎ (HasPlanFault bytes fault ⊎ HasProgramFault bytes fault)))
+    IsTooLong MOST_BYTES bytes fault
+    ⊎ (IsNoDocument MOST_BYTES bytes fault
+    ⊎ (HasFileFault HasShapeFault MOST_BYTES bytes fault ⊎ (HasPlanFault bytes fault ⊎ HasProgramFault bytes fault)))

@@ -10,7 +10,7 @@ use Rattle.plan.specs.declared.draft.Draft.{Draft}
 use Rattle.program.specs.declared.program.State.{State}
 use Rattle.program.specs.declared.reaction_draft.ReactionDraft.{ReactionDraft}
 use Rattle.toml.specs.Data.{Members}
-use Rattle.program.specs.Limits.{most_states, most_reactions, most_lines}
+use Rattle.program.specs.declared.limits.TheConstants.{MOST_STATES, MOST_REACTIONS, MOST_LINES}
 use Rattle.tables.specs.Tables.{HasOnly, SaysNumber, SaysName, SaysPort, SaysDuration, MaySay, SaysDurationOrZero, SaysTexts, SaysNames, SaysTables, SaysEach}
 
 -- the keys of a federation file
@@ -61,7 +61,7 @@ pub record SaysReaction (members : Members) (r : ReactionDraft) : Type 0 where
   pub keys : HasOnly reaction_keys members
   pub triggers_are : SaysTriggers members r.triggers
   pub body_is : SaysTexts (codes "body") members r.body
-  pub few_lines : length r.body ≤ most_lines
+  pub few_lines : length r.body ≤ MOST_LINES
 
 -- the states and reactions that a federate's table declares
 pub record ProgramDraft : Type 0 where
@@ -72,8 +72,8 @@ pub record ProgramDraft : Type 0 where
 pub record SaysProgram (members : Members) (p : ProgramDraft) : Type 0 where
   pub states_are : SaysEach SaysState (codes "state") members p.states
   pub reactions_are : SaysEach SaysReaction (codes "reaction") members p.reactions
-  pub few_states : length p.states ≤ most_states
-  pub few_reactions : length p.reactions ≤ most_reactions
+  pub few_states : length p.states ≤ MOST_STATES
+  pub few_reactions : length p.reactions ≤ MOST_REACTIONS
 
 -- one of these triggers is `startup`
 abbrev pub has_startup : List (List ℕ) → Bool

@@ -1,7 +1,7 @@
 -- What is wrong with the shape of a federation file, and at which key.
 use Rattle.std.specs.Prelude.{◌≡◌, ℕ, ◌<◌, ◌⊎◌, List, length, slice_get, Some, codes}
 use Rattle.toml.specs.Data.{Data, table, Members}
-use Rattle.program.specs.Limits.{most_states, most_reactions, most_lines}
+use Rattle.program.specs.declared.limits.TheConstants.{MOST_STATES, MOST_REACTIONS, MOST_LINES}
 use Rattle.tables.specs.declared.fault.LoadFault.{LoadFault}
 use Rattle.tables.specs.declared.fault.LoadFault.TheVariants.{OverLimit}
 use Rattle.tables.specs.Tables.{SaysNumber, SaysName, SaysDuration, MaySay, SaysDurationOrZero, SaysArray, SaysTexts, SaysNames, SaysTables, SaysPort}
@@ -49,17 +49,17 @@ HasReactionFault members fault =
     HasUnknownKey reaction_keys members fault
     ⊎ (IsWrongAt (codes "triggers") (SaysTriggers members) fault
     ⊎ (IsWrongAt (codes "body") (SaysTexts (codes "body") members) fault
-    ⊎ HasTooMany (codes "body") most_lines members fault))
+    ⊎ HasTooMany (codes "body") MOST_LINES members fault))
 
 -- in the states of a federate: too many, or one of them
 abbrev pub HasStatesFault : Members → LoadFault → Type 0
 HasStatesFault members fault =
-    HasTooMany (codes "state") most_states members fault ⊎ HasTablesFault HasStateFault (codes "state") members fault
+    HasTooMany (codes "state") MOST_STATES members fault ⊎ HasTablesFault HasStateFault (codes "state") members fault
 
 -- in the reactions of a federate: too many, or one of them
 abbrev pub HasReactionsFault : Members → LoadFault → Type 0
 HasReactionsFault members fault =
-    HasTooMany (codes "reaction") most_reactions members fault ⊎ HasTablesFault HasReactionFault (codes "reaction") members fault
+    HasTooMany (codes "reaction") MOST_REACTIONS members fault ⊎ HasTablesFault HasReactionFault (codes "reaction") members fault
 
 -- no array of names stands at the key
 abbrev pub HasNamesFault : List ℕ → Members → LoadFault → Type 0

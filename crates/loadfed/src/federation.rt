@@ -5,7 +5,8 @@ ghost use Rattle.plan.specs.Legal.{IsLegal};
 ghost use Rattle.program.specs.Behaviour.{Behaviour};
 ghost use Rattle.program.specs.Programs.{AreProgramsOf};
 ghost use Rattle.program.specs.Spelled.{SpellsProgram, IsReadable};
-ghost use Rattle.loadfed.specs.Loaded.{most_bytes, SpellPrograms, IsFederationFile, IsPlanFault, IsProgramFault, IsFaultAmong, HasLoadFault};
+ghost use Rattle.loadfed.specs.declared.federation.TheConstants.{MOST_BYTES};
+ghost use Rattle.loadfed.specs.Loaded.{SpellPrograms, IsFederationFile, IsPlanFault, IsProgramFault, IsFaultAmong, HasLoadFault};
 
 use crate::federation_shape::{Shape, federation_shape};
 use crate::program_shape::ProgramShape;
@@ -28,7 +29,7 @@ pub fn load(alloc: Global, bytes: &[u8]) -> Result<(Plan, Programs), LoadFault>
     ensures refused { IfErr result (λ fault. (fault ≡ LoadFault.Memory) ⊎ HasLoadFault bytes.now fault) }
 
     // Of a file over its limit it is never told.
-    ensures memory { IfErr result (λ fault. fault ≡ LoadFault.Memory → length bytes.now ≤ most_bytes) }
+    ensures memory { IfErr result (λ fault. fault ≡ LoadFault.Memory → length bytes.now ≤ MOST_BYTES) }
 {
     staged(alloc, bytes)
 }
@@ -37,7 +38,7 @@ fn staged(alloc: Global, bytes: &[u8]) -> Result<(Plan, Programs), LoadFault>
     ensures ok { IfOk result (λ loaded. IsFederationFile bytes.now loaded.0 loaded.1) }
     ensures programs { IfOk result (λ loaded. AreProgramsOf loaded.0 loaded.1) }
     ensures refused { IfErr result (λ fault. (fault ≡ LoadFault.Memory) ⊎ HasLoadFault bytes.now fault) }
-    ensures memory { IfErr result (λ fault. fault ≡ LoadFault.Memory → length bytes.now ≤ most_bytes) }
+    ensures memory { IfErr result (λ fault. fault ≡ LoadFault.Memory → length bytes.now ≤ MOST_BYTES) }
 {
     if bytes.len() > MOST_BYTES {
         return Err(LoadFault::OverLimit);

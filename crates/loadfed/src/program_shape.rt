@@ -1,5 +1,5 @@
 ghost use Rattle.std.specs.Prelude.{◌≡◌, ◌≤◌, ◌⊎◌, IfOk, IfErr, length, codes};
-ghost use Rattle.program.specs.Limits.{most_states, most_reactions, most_lines};
+ghost use Rattle.program.specs.declared.limits.TheConstants.{MOST_STATES, MOST_REACTIONS, MOST_LINES};
 ghost use Rattle.tables.specs.Sections.{members_of};
 ghost use Rattle.tables.specs.Tables.{SaysTexts, SaysEach};
 ghost use Rattle.loadfed.specs.Shape.{SaysState, SaysTriggers, SaysReaction, SaysProgram};
@@ -8,19 +8,11 @@ ghost use Rattle.loadfed.specs.ShapeFaults.{HasTooMany, HasStateFault, HasReacti
 
 use crate::arrays::{FromTable, read_each};
 use plan::Names;
+use program::limits::{MOST_LINES, MOST_REACTIONS, MOST_STATES};
 use reactor::{ReactionDraft, State};
 use std::alloc::Global;
 use std::marker::Model;
 use tables::{LoadFault, Section};
-
-/// The most states that a federate has.
-const MOST_STATES: usize = 64;
-
-/// The most reactions that a federate has.
-const MOST_REACTIONS: usize = 64;
-
-/// The most lines that a reaction has.
-const MOST_LINES: usize = 256;
 
 /// A federate's states and reactions as a file has them.
 #[derive(Drop)]
@@ -65,7 +57,7 @@ impl ProgramShape {
 
 fn states(alloc: Global, federate: &Section<'_>) -> Result<Vec<State>, LoadFault>
     ensures ok { IfOk result (λ states. SaysEach SaysState (codes "state") (members_of federate.now) states.items) }
-    ensures few { IfOk result (λ states. length states.items ≤ most_states) }
+    ensures few { IfOk result (λ states. length states.items ≤ MOST_STATES) }
     ensures refused { IfErr result (λ fault. (fault ≡ LoadFault.Memory) ⊎ HasStatesFault (members_of federate.now) fault) }
 {
     let values = federate.array("state")?;
@@ -90,7 +82,7 @@ impl FromTable for State {
 
 fn reactions(alloc: Global, federate: &Section<'_>) -> Result<Vec<ReactionDraft>, LoadFault>
     ensures ok { IfOk result (λ reactions. SaysEach SaysReaction (codes "reaction") (members_of federate.now) reactions.items) }
-    ensures few { IfOk result (λ reactions. length reactions.items ≤ most_reactions) }
+    ensures few { IfOk result (λ reactions. length reactions.items ≤ MOST_REACTIONS) }
     ensures refused { IfErr result (λ fault. (fault ≡ LoadFault.Memory) ⊎ HasReactionsFault (members_of federate.now) fault) }
 {
     let values = federate.array("reaction")?;
@@ -129,8 +121,8 @@ fn triggers(alloc: Global, section: &Section<'_>) -> Result<Names, LoadFault>
 /// The lines in a reaction's table.
 fn body(section: &Section<'_>) -> Result<Names, LoadFault>
     ensures ok { IfOk result (SaysTexts (codes "body") (members_of section.now)) }
-    ensures few { IfOk result (λ body. length body ≤ most_lines) }
-    ensures refused { IfErr result (λ fault. (fault ≡ LoadFault.Memory) ⊎ (IsWrongAt (codes "body") (SaysTexts (codes "body") (members_of section.now)) fault ⊎ HasTooMany (codes "body") most_lines (members_of section.now) fault)) }
+    ensures few { IfOk result (λ body. length body ≤ MOST_LINES) }
+    ensures refused { IfErr result (λ fault. (fault ≡ LoadFault.Memory) ⊎ (IsWrongAt (codes "body") (SaysTexts (codes "body") (members_of section.now)) fault ⊎ HasTooMany (codes "body") MOST_LINES (members_of section.now) fault)) }
 {
     let body = section.texts("body")?;
     if body.as_slice().len() > MOST_LINES {

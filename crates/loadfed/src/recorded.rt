@@ -2,7 +2,8 @@ ghost use Rattle.std.specs.Prelude.{◌≡◌, ◌≤◌, ◌⊎◌, List, IfOk,
 ghost use Rattle.plan.specs.declared.input.Input.{Input};
 ghost use Rattle.plan.specs.External.{AreInputsOf};
 ghost use Rattle.tables.specs.Sections.{members_of};
-ghost use Rattle.loadfed.specs.InputShape.{most_input_bytes, SaysInput, SaysInputs, HasInputFault, HasInputsFault, SaysInputFile, IsFaultOfInputs, HasInputFileFault};
+ghost use Rattle.loadfed.specs.declared.recorded.TheConstants.{MOST_INPUT_BYTES};
+ghost use Rattle.loadfed.specs.InputShape.{SaysInput, SaysInputs, HasInputFault, HasInputsFault, SaysInputFile, IsFaultOfInputs, HasInputFileFault};
 
 use crate::arrays::{FromTable, read_each};
 use crate::told::of_inputs;
@@ -25,7 +26,7 @@ pub fn load_inputs(alloc: Global, bytes: &[u8], plan: &Plan) -> Result<Inputs, L
     ensures refused { IfErr result (λ fault. (fault ≡ LoadFault.Memory) ⊎ HasInputFileFault plan.now bytes.now fault) }
 
     // Of a file over its limit it is never told.
-    ensures memory { IfErr result (λ fault. fault ≡ LoadFault.Memory → length bytes.now ≤ most_input_bytes) }
+    ensures memory { IfErr result (λ fault. fault ≡ LoadFault.Memory → length bytes.now ≤ MOST_INPUT_BYTES) }
 {
     staged(alloc, bytes, plan)
 }
@@ -34,7 +35,7 @@ fn staged(alloc: Global, bytes: &[u8], plan: &Plan) -> Result<Inputs, LoadFault>
     ensures ok { IfOk result (SaysInputFile bytes.now) }
     ensures known { IfOk result (AreInputsOf plan.now) }
     ensures refused { IfErr result (λ fault. (fault ≡ LoadFault.Memory) ⊎ HasInputFileFault plan.now bytes.now fault) }
-    ensures memory { IfErr result (λ fault. fault ≡ LoadFault.Memory → length bytes.now ≤ most_input_bytes) }
+    ensures memory { IfErr result (λ fault. fault ≡ LoadFault.Memory → length bytes.now ≤ MOST_INPUT_BYTES) }
 {
     if bytes.len() > MOST_INPUT_BYTES {
         return Err(LoadFault::OverLimit);

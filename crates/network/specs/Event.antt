@@ -1,5 +1,5 @@
 -- Events, and which of several events for one slot at one tag is present there.
-use Rattle.std.specs.Prelude.{ℕ, zero, suc, ◌+◌, ℤ, Bool, ◌&&◌, ◌||◌, nat_eq, nat_lt, if◌then◌else◌, List, [], ◌∷◌, ◌++◌, filter, Option, None, Some}
+use Rattle.std.specs.Prelude.{ℕ, zero, suc, ◌+◌, ℤ, Bool, ◌&&◌, ◌||◌, nat_eq, nat_lt, if◌then◌else◌, List, [], ◌∷◌, ◌++◌, filter, find, Option, None, Some}
 use Rattle.std.specs.Option.{option_map}
 use Rattle.tag.specs.LogicalTime.{LogicalTime, origin, is_before, is_same}
 
@@ -62,3 +62,7 @@ listed_from first (suc count) value_at = entry_at first (value_at first) ++ list
 -- what is there at the first `count` places, in order
 abbrev pub listed : ℕ → (ℕ → Option ℤ) → List Entry
 listed count value_at = listed_from 0 count value_at
+
+-- the value of the first entry at a place
+abbrev pub value_at : List Entry → ℕ → Option ℤ
+value_at entries place = option_map (λ e. e.value) (find (λ e. nat_eq e.place place) entries)

@@ -2,6 +2,7 @@
 use Rattle.std.specs.Prelude.{◌≡◌, ◌≢◌, ℕ, ◌<◌, ◌≤◌, ℤ, List, All, AllPairs, IsTrue, Option}
 use Rattle.tag.specs.LogicalTime.{IsFinite, origin, is_at_most}
 use Rattle.tag.specs.Total.{IsPlainDelay}
+use Rattle.network.specs.declared.limits.TheConstants.{MOST_REACTORS}
 use Rattle.network.specs.Connection.{Connection}
 use Rattle.network.specs.Event.{Event}
 use Rattle.network.specs.Network.{Network, Scheduling}
@@ -39,7 +40,7 @@ pub record IsOwn (n : Network) (reactor : ℕ) (s : Scheduling) : Type 0 where
 
 pub record IsLawful (n : Network) : Type 0 where
   pub some_reactor : 0 < n.reactors
-  pub few_reactors : n.reactors ≤ 64
+  pub few_reactors : n.reactors ≤ MOST_REACTORS
   pub stop : IsFinite n.stop
   pub connected : All (IsConnected n) n.connections
   -- each port has one source, and no external events

@@ -1,8 +1,10 @@
-//! Networks of reactors, and the undivided program that they are: definitions, with no code.
+//! Networks of reactors, and the undivided program that they are: definitions, with no code but a limit.
 //!
 //! Promise to the layer above: words to cite, and what holds of walks and paths (`proofs`). Begin with `specs/Network`, then
 //! `specs/Undivided`.
 #![tactic(auto)]
+
+pub mod limits;
 
 ghost use Rattle.std.specs.Prelude.{◌≡◌, ◌≤◌, ℕ, List, IsTrue, length};
 ghost use Rattle.tag.specs.LogicalTime.{is_at_most};

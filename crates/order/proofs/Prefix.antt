@@ -6,23 +6,21 @@ use Rattle.std.proofs.lemmas.List.Elements.{filter-append}
 use Rattle.network.specs.Event.{Event}
 use Rattle.network.specs.Network.{Network}
 use Rattle.network.specs.Undivided.{Undivided, Row, first_of_turns, row_at, after_turn_of, turn_of, undivided_after, whole, part}
+use Rattle.order.specs.Settled.{BeginsWith}
 
-abbrev pub IsBeginning : {X : Type 0} → List X → List X → Type 0
-IsBeginning {X} xs ys = (rest : List X) × (ys ≡ xs ++ rest)
-
-beginning_more : {X : Type 0} (xs ys zs : List X) → IsBeginning xs ys → IsBeginning ys zs → IsBeginning xs zs
+beginning_more : {X : Type 0} (xs ys zs : List X) → BeginsWith ys xs → BeginsWith zs ys → BeginsWith zs xs
 beginning_more xs ys zs p q = (p.0 ++ q.0, q.1 ∙ (ap (λ l. l ++ q.0) p.1 ∙ append_assoc xs p.0 q.0))
 
-one_more : (n : Network) (u : Undivided) (o : Option Event) → IsBeginning u.rows (after_turn_of n u o).rows
+one_more : (n : Network) (u : Undivided) (o : Option Event) → BeginsWith (after_turn_of n u o).rows u.rows
 one_more n u None = ([], sym (append-nil u.rows))
 one_more n u (Some e) = (row_at n u e.reactor e.tag ∷ [], refl)
 
-more_turns : (n : Network) (turns more : ℕ) → IsBeginning (whole n turns) (whole n (more + turns))
+more_turns : (n : Network) (turns more : ℕ) → BeginsWith (whole n (more + turns)) (whole n turns)
 more_turns n turns zero = let e : zero + turns ≡ turns = omega arith in ([], rw e (sym (append-nil (whole n turns))))
 more_turns n turns (suc more) =
     let e : suc more + turns ≡ suc (more + turns) = omega arith in
     let u : Undivided = undivided_after n (more + turns) in
-    let both : IsBeginning (whole n turns) (whole n (suc (more + turns))) = beginning_more (whole n turns) (whole n (more + turns)) (whole n (suc (more + turns))) (more_turns n turns more) (one_more n u (first_of_turns n u.pending)) in
+    let both : BeginsWith (whole n (suc (more + turns))) (whole n turns) = beginning_more (whole n turns) (whole n (more + turns)) (whole n (suc (more + turns))) (more_turns n turns more) (one_more n u (first_of_turns n u.pending)) in
     rw e both
 
 pub whole_begins : (n : Network) (turns later : ℕ) → turns ≤ later → (rest : List Row) × (whole n later ≡ whole n turns ++ rest)

@@ -8,11 +8,11 @@ use Rattle.std.proofs.lemmas.Bool.Decides.{nat_tests}
 use Rattle.std.proofs.lemmas.List.{map-append, reverse-append}
 use Rattle.std.proofs.lemmas.List.Elements.{filter-append}
 use Rattle.tag.specs.LogicalTime.{LogicalTime}
-use Rattle.network.specs.Event.{Event, Entry, entry_at, listed_from, listed, latest, present_at}
+use Rattle.network.specs.Event.{Event, Entry, entry_at, listed_from, listed, latest, present_at, value_at}
 use Rattle.network.specs.Network.{Network}
 use Rattle.network.specs.Undivided.{Row, part}
 use Rattle.network.specs.Lawful.{IsExternal}
-use Rattle.order.specs.History.{Turn, with_turn, value_at, turn_of_row, trace_of}
+use Rattle.order.specs.History.{Turn, with_turn, turn_of_row, trace_of}
 use Rattle.order.proofs.Lists.{each_more, none_kept}
 use Rattle.order.proofs.Agree.{is_for}
 use Rattle.order.proofs.Maker.{is_for_parts}

@@ -14,7 +14,7 @@ use Rattle.network.specs.Event.{Event, latest, present_at}
 use Rattle.network.specs.Network.{Network}
 use Rattle.network.specs.Undivided.{Undivided, Row, opening_of, first_of_turns, row_at, after_turn_at, after_turn_of, undivided_after, whole, part}
 use Rattle.network.specs.Lawful.{IsLawful, IsExternal}
-use Rattle.order.specs.Settled.{is_ahead_of, is_settled}
+use Rattle.order.specs.Settled.{BeginsWith, is_ahead_of, is_settled}
 use Rattle.order.specs.History.{Turn, with_turn, rows_of, row_after, back_to, turn_of_row, trace_of, has_turn_at, up_to}
 use Rattle.order.specs.Sees.{events_of}
 use Rattle.order.specs.Consistent.{IsInTime, IsCalledFor, IsConsistent, Where}
@@ -26,7 +26,7 @@ use Rattle.order.proofs.Meet.{IsRising}
 use Rattle.order.proofs.Agree.{is_for, agree}
 use Rattle.order.proofs.Maker.{is_for_parts, events_for}
 use Rattle.order.proofs.ReadBack.{trace_grows, listing_reads, nothing_beyond}
-use Rattle.order.proofs.Prefix.{IsBeginning, part_begins}
+use Rattle.order.proofs.Prefix.{part_begins}
 use Rattle.order.proofs.Traced.{Traced, traced_turn, value_of}
 
 -- some number bounds what the trace has
@@ -160,17 +160,17 @@ whole_agrees n L turns other reactor tag =
 pub part_is_replayed : (n : Network) → IsLawful n → (turns reactor : ℕ) → part reactor (whole n turns) ≡ rows_of n reactor (trace_of (whole n turns) reactor)
 part_is_replayed n L turns reactor = (known n L turns).1.rows reactor
 
-begin_step : (n : Network) (j : ℕ) (R : LogicalTime → Bool) (x : Turn) (xs : List Turn) (b : Bool) → IsBeginning (rows_of n j (back_to R xs)) (rows_of n j xs) → IsBeginning (rows_of n j (cond b (x ∷ xs) (back_to R xs))) (rows_of n j (x ∷ xs))
+begin_step : (n : Network) (j : ℕ) (R : LogicalTime → Bool) (x : Turn) (xs : List Turn) (b : Bool) → BeginsWith (rows_of n j xs) (rows_of n j (back_to R xs)) → BeginsWith (rows_of n j (x ∷ xs)) (rows_of n j (cond b (x ∷ xs) (back_to R xs)))
 begin_step n j R x xs true h = ([], sym (append-nil (rows_of n j (x ∷ xs))))
 begin_step n j R x xs false h =
     (h.0 ++ row_after n j xs x ∷ [], ap (λ (l : List Row). l ++ row_after n j xs x ∷ []) h.1 ∙ append_assoc (rows_of n j (back_to R xs)) h.0 (row_after n j xs x ∷ []))
 
-rows_begin : (n : Network) (j : ℕ) (R : LogicalTime → Bool) (h : List Turn) → IsBeginning (rows_of n j (back_to R h)) (rows_of n j h)
+rows_begin : (n : Network) (j : ℕ) (R : LogicalTime → Bool) (h : List Turn) → BeginsWith (rows_of n j h) (rows_of n j (back_to R h))
 rows_begin n j R [] = ([], refl)
 rows_begin n j R (x ∷ xs) = begin_step n j R x xs (R x.tag) (rows_begin n j R xs)
 
 -- the rows of a consistent trace are a beginning of the undivided program's
-pub rows_are_a_beginning : (n : Network) → IsLawful n → (trace : ℕ → List Turn) (Settled : ℕ → LogicalTime → Type 0) → IsConsistent n trace Settled → (reactor : ℕ) (tag : LogicalTime) (turns : ℕ) → IsInTime n reactor tag → Settled reactor tag → place tag * 64 + 64 ≤ turns → IsBeginning (rows_of n reactor (up_to tag (trace reactor))) (part reactor (whole n turns))
+pub rows_are_a_beginning : (n : Network) → IsLawful n → (trace : ℕ → List Turn) (Settled : ℕ → LogicalTime → Type 0) → IsConsistent n trace Settled → (reactor : ℕ) (tag : LogicalTime) (turns : ℕ) → IsInTime n reactor tag → Settled reactor tag → place tag * 64 + 64 ≤ turns → BeginsWith (part reactor (whole n turns)) (rows_of n reactor (up_to tag (trace reactor)))
 rows_are_a_beginning n L trace Settled c reactor tag turns w s enough =
     let same = agrees_with_whole n L trace Settled c reactor tag turns w s enough in
     let begins = rows_begin n reactor (λ other. is_at_most other tag) (trace_of (whole n turns) reactor) in
@@ -185,7 +185,7 @@ all_up_to_stop n trace Settled c reactor h =
     up_to_all n.stop (trace reactor) (each_more (IsCalledFor n trace reactor) (λ x. IsTrue (is_at_most x.tag n.stop)) (λ x w. w.place.in_time) (trace reactor) (each (IsCalledFor n trace reactor) (trace reactor) (c.called_for reactor h)))
 
 -- what is settled up to stop has every turn of the undivided program
-pub has_every_row : (n : Network) → IsLawful n → (trace : ℕ → List Turn) (Settled : ℕ → LogicalTime → Type 0) → IsConsistent n trace Settled → (reactor : ℕ) → reactor < n.reactors → Settled reactor n.stop → (turns : ℕ) → IsBeginning (part reactor (whole n turns)) (rows_of n reactor (trace reactor))
+pub has_every_row : (n : Network) → IsLawful n → (trace : ℕ → List Turn) (Settled : ℕ → LogicalTime → Type 0) → IsConsistent n trace Settled → (reactor : ℕ) → reactor < n.reactors → Settled reactor n.stop → (turns : ℕ) → BeginsWith (rows_of n reactor (trace reactor)) (part reactor (whole n turns))
 has_every_row n L trace Settled c reactor h s turns =
     let far : ℕ = place n.stop * 64 + 64 + turns in
     let w : IsInTime n reactor n.stop = record { reactor = h; finite = L.stop; in_time = at_most_reflexive n.stop } in

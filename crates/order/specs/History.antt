@@ -1,7 +1,7 @@
 -- Histories: the turns that a reactor took, newest first, and what replaying them gives.
-use Rattle.std.specs.Prelude.{ℕ, ℤ, Bool, false, ◌||◌, nat_eq, if◌then◌else◌, List, [], ◌∷◌, ◌++◌, map, reverse, AllPairs, IsTrue, Option, None, Some}
+use Rattle.std.specs.Prelude.{ℕ, ℤ, Bool, false, ◌||◌, nat_eq, if◌then◌else◌, List, [], ◌∷◌, ◌++◌, map, reverse, AllPairs, IsTrue, Option}
 use Rattle.tag.specs.LogicalTime.{LogicalTime, is_before, is_at_most, is_same}
-use Rattle.network.specs.Event.{Entry}
+use Rattle.network.specs.Event.{value_at}
 use Rattle.network.specs.Network.{Network, Effect}
 use Rattle.network.specs.Undivided.{Row, row_of_turn, part}
 
@@ -13,11 +13,6 @@ pub record Turn : Type 0 where
 -- the tags of a history rise: each turn is later than all before it
 abbrev pub HasRisingTags : List Turn → Type 0
 HasRisingTags history = AllPairs (λ later earlier. IsTrue (is_before earlier.tag later.tag)) history
-
--- the value that entries have at a place
-abbrev pub value_at : List Entry → ℕ → Option ℤ
-value_at [] place = None
-value_at (e ∷ rest) place = if nat_eq e.place place then Some e.value else value_at rest place
 
 -- the turn of a row
 abbrev pub turn_of_row : Row → Turn

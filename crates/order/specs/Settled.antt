@@ -1,6 +1,7 @@
 -- The order of turns, beginnings of their rows, and what is settled in the undivided program.
 use Rattle.std.specs.Prelude.{◌≡◌, ℕ, ◌+◌, ◌*◌, ◌≤◌, Bool, true, List, ◌++◌, Option, None, Some}
 use Rattle.tag.specs.LogicalTime.{LogicalTime, place}
+use Rattle.network.specs.declared.limits.TheConstants.{MOST_REACTORS}
 use Rattle.network.specs.Event.{Event}
 use Rattle.network.specs.Network.{Network}
 use Rattle.network.specs.Undivided.{Undivided, Row, comes_before, first_of_turns}
@@ -9,9 +10,9 @@ use Rattle.network.specs.Undivided.{Undivided, Row, comes_before, first_of_turns
 abbrev pub is_row_before : Network → Row → Row → Bool
 is_row_before n a b = comes_before n.rank a.reactor a.tag b.reactor b.tag
 
--- rows that begin with these
-abbrev pub BeginsWith : List Row → List Row → Type 0
-BeginsWith rows beginning = (rest : List Row) × (rows ≡ beginning ++ rest)
+-- a list that begins with these
+abbrev pub BeginsWith : {X : Type 0} → List X → List X → Type 0
+BeginsWith {X} all beginning = (rest : List X) × (all ≡ beginning ++ rest)
 
 -- a turn is before that of an event, if there is one
 abbrev pub is_ahead_of : Network → ℕ → LogicalTime → Option Event → Bool
@@ -22,6 +23,6 @@ is_ahead_of n reactor tag (Some e) = comes_before n.rank reactor tag e.reactor e
 abbrev pub is_settled : Network → Undivided → ℕ → LogicalTime → Bool
 is_settled n u reactor tag = is_ahead_of n reactor tag (first_of_turns n u.pending)
 
--- so many turns are enough for a tag: 64 for each tag up to it
+-- so many turns are enough for a tag: as many for each tag up to it as there are reactors at most
 abbrev pub IsEnough : LogicalTime → ℕ → Type 0
-IsEnough tag turns = place tag * 64 + 64 ≤ turns
+IsEnough tag turns = place tag * MOST_REACTORS + MOST_REACTORS ≤ turns

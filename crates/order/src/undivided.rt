@@ -16,7 +16,7 @@ pub fn each_turn_is_later()
     ensures rows { (n : Network) → IsLawful n → (turns : ℕ) → AllPairs (λ a b. IsTrue (is_row_before n a b)) (whole n turns) }
 {}
 
-/// Every reactor is settled at every tag after enough turns: 64 for each tag up to it.
+/// Every reactor is settled at every tag after enough turns: `MOST_REACTORS` for each tag up to it.
 pub fn everything_gets_settled()
     ensures { (n : Network) → IsLawful n → (turns reactor : ℕ) (tag : LogicalTime) → IsEnough tag turns → IsTrue (is_settled n (undivided_after n turns) reactor tag) }
 {}

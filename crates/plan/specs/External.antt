@@ -10,7 +10,7 @@ use Rattle.plan.specs.declared.slots.Timer.{Timer}
 use Rattle.plan.specs.declared.draft.Federate.{Federate}
 use Rattle.plan.specs.declared.draft.Draft.{Draft}
 use Rattle.plan.specs.declared.input.Input.{Input}
-use Rattle.plan.specs.Limits.{most_inputs}
+use Rattle.plan.specs.declared.input.TheConstants.{MOST_INPUTS}
 use Rattle.plan.specs.Numbering.{startup_slot, first_timer, first_physical}
 use Rattle.plan.specs.Federation.{Found, found_in, stop_of}
 
@@ -105,5 +105,5 @@ AreApart a b = a.federate ≡ b.federate → a.action ≡ b.action → a.tag ≡
 pub record AreInputsOf (d : Draft) (inputs : List Input) : Type 0 where
   pub known : All (λ i. IsSome (found_action d.federates i)) inputs
   pub apart : AllPairs AreApart inputs
-  pub few : length inputs ≤ most_inputs
+  pub few : length inputs ≤ MOST_INPUTS
   pub finite : All (λ i. IsFinite i.tag) inputs

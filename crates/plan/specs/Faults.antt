@@ -8,7 +8,7 @@ use Rattle.plan.specs.declared.draft.PortName.{PortName}
 use Rattle.plan.specs.declared.draft.Draft.{Draft}
 use Rattle.plan.specs.declared.fault.PlanFault.{PlanFault}
 use Rattle.plan.specs.declared.fault.PlanFault.TheVariants.{NoFederate, UnknownName, TwoSources, ZeroDelayCycle, OverLimit, BadTimer, Memory, RepeatedName}
-use Rattle.plan.specs.Limits.{most_federates, most_connections}
+use Rattle.plan.specs.declared.limits.TheConstants.{MOST_FEDERATES, MOST_CONNECTIONS}
 use Rattle.names.specs.Naming.{AreDistinct, StandsTwice}
 use Rattle.plan.specs.Numbering.{all_names}
 use Rattle.plan.specs.Federation.{federate_names, found_output, found_input, connections_of}
@@ -50,8 +50,8 @@ pub record EndsTwice (connections : List Connection) (later : ℕ) : Type 0 wher
 
 -- all limits hold
 pub record IsWithinAllLimits (d : Draft) : Type 0 where
-  pub federates : length d.federates ≤ most_federates
-  pub connections : length d.connections ≤ most_connections
+  pub federates : length d.federates ≤ MOST_FEDERATES
+  pub connections : length d.connections ≤ MOST_CONNECTIONS
   pub slots : All (λ f. IsWithinLimits f.slots) d.federates
 
 -- all timers are in range

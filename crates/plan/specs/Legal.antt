@@ -5,18 +5,18 @@ use Rattle.paths.specs.Cycles.{HasNoImmediateCycle}
 use Rattle.plan.specs.declared.slots.Slots.{Slots}
 use Rattle.plan.specs.declared.slots.Timer.{Timer}
 use Rattle.plan.specs.declared.draft.Draft.{Draft}
-use Rattle.plan.specs.Limits.{most_federates, most_connections, most_slots}
+use Rattle.plan.specs.declared.limits.TheConstants.{MOST_FEDERATES, MOST_CONNECTIONS, MOST_SLOTS}
 use Rattle.names.specs.Naming.{AreDistinct}
 use Rattle.plan.specs.Numbering.{all_names}
 use Rattle.plan.specs.Federation.{federate_names, found_output, found_input, connections_of}
 
 -- a federate has not too many of each kind of slot
 pub record IsWithinLimits (s : Slots) : Type 0 where
-  pub inputs : length s.inputs ≤ most_slots
-  pub outputs : length s.outputs ≤ most_slots
-  pub timers : length s.timers ≤ most_slots
-  pub actions : length s.actions ≤ most_slots
-  pub physical : length s.physical ≤ most_slots
+  pub inputs : length s.inputs ≤ MOST_SLOTS
+  pub outputs : length s.outputs ≤ MOST_SLOTS
+  pub timers : length s.timers ≤ MOST_SLOTS
+  pub actions : length s.actions ≤ MOST_SLOTS
+  pub physical : length s.physical ≤ MOST_SLOTS
 
 -- a timer's times are below 2^62 ns
 abbrev pub IsTimerInRange : Timer → Type 0
@@ -26,8 +26,8 @@ IsTimerInRange t = (t.offset < 2 ^ 62) × (t.period < 2 ^ 62)
 pub record IsLegal (d : Draft) : Type 0 where
   -- there is a federate, and there are not too many federates and connections
   pub some_federate : 0 < length d.federates
-  pub few_federates : length d.federates ≤ most_federates
-  pub few_connections : length d.connections ≤ most_connections
+  pub few_federates : length d.federates ≤ MOST_FEDERATES
+  pub few_connections : length d.connections ≤ MOST_CONNECTIONS
   pub few_slots : All (λ f. IsWithinLimits f.slots) d.federates
   -- no two federates, and no two slots of one federate, have one name
   pub federates_apart : AreDistinct (federate_names d.federates)

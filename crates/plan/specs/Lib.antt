@@ -1,6 +1,4 @@
 -- Federations: what is declared, what is legal, and what it means in numbers.
--- how much a federation may have
-pub mod Limits
 -- names in a list
 pub mod Naming
 -- a federate's slots by number

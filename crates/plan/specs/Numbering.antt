@@ -14,7 +14,7 @@ first_input = 1
 
 -- the slot of the first timer
 abbrev pub first_timer : Slots → ℕ
-first_timer s = 1 + length s.inputs
+first_timer s = first_input + length s.inputs
 
 -- the slot of the first action
 abbrev pub first_action : Slots → ℕ

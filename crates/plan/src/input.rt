@@ -1,7 +1,7 @@
 ghost use Rattle.std.specs.Prelude.{◌≡◌, ◌≢◌, ◌<◌, ◌≤◌, ◌↔◌, ◌⊎◌, map, length, All, AllPairs, Any, IsSome, IsTrue, Some, OnOk, IfOk, IfErr, Err};
 ghost use Rattle.tag.specs.LogicalTime.{IsFinite};
 ghost use Rattle.plan.specs.External.{found_action, AreApart};
-ghost use Rattle.plan.specs.Limits.{most_inputs};
+ghost use Rattle.plan.specs.declared.input.TheConstants.{MOST_INPUTS};
 ghost use Rattle.plan.specs.Occurrences.{occurrence_of};
 
 use crate::draft::Federate;
@@ -14,7 +14,8 @@ use std::alloc::{AllocError, AllocFailed, Global};
 use std::marker::Model;
 use tag::FiniteTag;
 
-const MOST_INPUTS: usize = 65_536;
+/// Of a federation.
+pub const MOST_INPUTS: usize = 65_536;
 
 /// A recorded input: a physical action of a federate, both by name, with the tag at which it is present and its value there.
 #[derive(Drop)]
@@ -54,7 +55,7 @@ impl Inputs {
         ensures accepts { AreInputsOf plan.now inputs.items → IfErr result (λ e. e ≡ InputFault.Memory) }
         ensures unknown { result ≡ Err InputFault.UnknownAction → ¬ (All (λ i. IsSome (found_action plan.now.federates i)) inputs.items) }
         ensures repeated { result ≡ Err InputFault.RepeatedInput → All (λ i. IsSome (found_action plan.now.federates i)) inputs.items × ¬ (AllPairs AreApart inputs.items) }
-        ensures over { result ≡ Err InputFault.OverLimit → All (λ i. IsSome (found_action plan.now.federates i)) inputs.items × AllPairs AreApart inputs.items × ¬ (length inputs.items ≤ most_inputs) }
+        ensures over { result ≡ Err InputFault.OverLimit → All (λ i. IsSome (found_action plan.now.federates i)) inputs.items × AllPairs AreApart inputs.items × ¬ (length inputs.items ≤ MOST_INPUTS) }
 
         // Where no input's action is there, nothing has to be kept.
         ensures memory { result ≡ Err InputFault.Memory → Any (λ i. IsSome (found_action plan.now.federates i)) inputs.items }

@@ -10,7 +10,7 @@ ghost use Rattle.plan.specs.declared.input.Input.{Input};
 ghost use Rattle.plan.specs.declared.slots.Timer.{Timer};
 ghost use Rattle.plan.specs.External.{external_of, external_to, is_for, firing_times, FiresAt};
 ghost use Rattle.plan.specs.Federation.{connections_of, level_of, rank_of, federate_count};
-ghost use Rattle.plan.specs.Limits.{most_federates};
+ghost use Rattle.plan.specs.declared.limits.TheConstants.{MOST_FEDERATES};
 ghost use Rattle.plan.specs.Least.{least_of};
 ghost use Rattle.plan.specs.Legal.{IsLegal};
 
@@ -37,7 +37,7 @@ pub fn ranks_are_places()
 #[tactic(auto, using(crate::proofs::LeastLaws::least_delays))]
 pub fn least_delays_are_least()
     ensures least { (d : Draft) (i j : ℕ) → IsLegal d → MatchOption (least_of d i j) (IsUnreachable (connections_of d) i j) (IsLeastDelay (connections_of d) i j) }
-    ensures few { (d : Draft) (i j : ℕ) → IsLegal d → IfSome (least_of d i j) (IsTotalWithin (connections_of d) most_federates i j) }
+    ensures few { (d : Draft) (i j : ℕ) → IsLegal d → IfSome (least_of d i j) (IsTotalWithin (connections_of d) MOST_FEDERATES i j) }
 {}
 
 /// Over one connection the least delay is at most its own; and where a connection leads to a path, the least delay from its

@@ -10,7 +10,7 @@ pub mod fault;
 pub mod input;
 pub mod laws;
 mod legal;
-mod limits;
+pub mod limits;
 mod lookup;
 pub mod plan;
 mod repeated;

@@ -5,14 +5,16 @@ ghost use Rattle.plan.specs.Faults.{IsWithinAllLimits, AreTimersInRange, StandsI
 use crate::draft::{Draft, Federate};
 use crate::fault::PlanFault;
 use crate::slots::{Slots, Timer};
+use network::limits::MOST_REACTORS;
+use tag::Time;
 
-const MOST_FEDERATES: usize = 64;
+/// Each is a reactor of the network.
+pub const MOST_FEDERATES: usize = MOST_REACTORS;
 
-const MOST_CONNECTIONS: usize = 1024;
+pub const MOST_CONNECTIONS: usize = 1024;
+
 /// Of each kind, for each federate.
-const MOST_SLOTS: usize = 32;
-/// In ns; no time reaches it.
-const END_OF_TIME: u64 = 1 << 62;
+pub const MOST_SLOTS: usize = 32;
 
 fn is_within_limits(slots: &Slots) -> bool
     ensures { IsTrue result ↔ IsWithinLimits slots.now }
@@ -43,7 +45,7 @@ fn is_within_all_limits(draft: &Draft) -> bool
 fn is_in_range(timer: &Timer) -> bool
     ensures { IsTrue result ↔ IsTimerInRange timer.now }
 {
-    timer.offset < END_OF_TIME && timer.period < END_OF_TIME
+    Time::new(timer.offset).is_some() && Time::new(timer.period).is_some()
 }
 
 fn are_in_range(timers: &[Timer]) -> bool

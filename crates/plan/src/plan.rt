@@ -2,7 +2,7 @@ ghost use Rattle.std.specs.Prelude.{◌≡◌, ◌<◌, length, OnOk, IfOk, IfEr
 ghost use Rattle.network.specs.Connection.{IsLeastDelay, IsUnreachable};
 ghost use Rattle.paths.specs.Least.{IsTotalWithin};
 ghost use Rattle.plan.specs.Federation.{connections_of, rank_of, stop_of, federate_count};
-ghost use Rattle.plan.specs.Limits.{most_federates};
+ghost use Rattle.plan.specs.declared.limits.TheConstants.{MOST_FEDERATES};
 ghost use Rattle.plan.specs.Least.{least_of};
 ghost use Rattle.plan.specs.Faults.{IsWithinAllLimits, AreTimersInRange};
 ghost use Rattle.plan.specs.External.{found_action, physical_slot};
@@ -112,7 +112,7 @@ impl Plan {
         requires to { to < federate_count self.now }
         ensures value { result ≡ least_of self.now from to }
         ensures least { MatchOption result (IsUnreachable (connections_of self.now) from to) (IsLeastDelay (connections_of self.now) from to) }
-        ensures few { IfSome result (IsTotalWithin (connections_of self.now) most_federates from to) }
+        ensures few { IfSome result (IsTotalWithin (connections_of self.now) MOST_FEDERATES from to) }
     {
         self.delays.delay(from, to)
     }
@@ -122,8 +122,6 @@ impl Plan {
         ensures { result ≡ option_map (λ found. (found.federate, physical_slot self.now.federates found)) (found_action self.now.federates input.now) }
     {
         let found = found_action(self.federates(), input)?;
-        // For the prover: slots are few, so their numbers are small.
-        self.known();
         let slots = &self.federates()[found.federate].slots;
         Some((found.federate, slots.first_physical() + found.place))
     }

@@ -1,4 +1,4 @@
-ghost use Rattle.std.specs.Prelude.{◌≡◌, ◌<◌, ◌↔◌, IfSome, IsTrue, length};
+ghost use Rattle.std.specs.Prelude.{◌≡◌, ◌<◌, ◌^◌, ◌↔◌, IfSome, IsTrue, length};
 ghost use Rattle.names.specs.Naming.{place_of};
 ghost use Rattle.plan.specs.Numbering.{timer_names};
 
@@ -98,7 +98,6 @@ pub struct Slots {
 }
 
 impl Slots {
-    ghost use Rattle.plan.specs.Legal.{IsWithinLimits};
     ghost use Rattle.plan.specs.Numbering.{first_timer, first_action, first_physical, slot_count, is_bare};
 
     /// The slot of startup.
@@ -107,26 +106,28 @@ impl Slots {
     /// The slot of the first input.
     pub const FIRST_INPUT: usize = 1;
 
+    // For the prover: no slice has 2^59 names, so `small` says that sums of slots fit.
+
     /// The slot of the first timer.
     pub fn first_timer(&self) -> usize
-        requires { IsWithinLimits self.now }
-        ensures { result ≡ first_timer self.now }
+        ensures value { result ≡ first_timer self.now }
+        ensures small { result < 2 ^ 60 }
     {
         Slots::FIRST_INPUT + self.inputs.as_slice().len()
     }
 
     /// The slot of the first action.
     pub fn first_action(&self) -> usize
-        requires { IsWithinLimits self.now }
-        ensures { result ≡ first_action self.now }
+        ensures value { result ≡ first_action self.now }
+        ensures small { result < 2 ^ 61 }
     {
         self.first_timer() + self.timers.as_slice().len()
     }
 
     /// The slot of the first physical action.
     pub fn first_physical(&self) -> usize
-        requires { IsWithinLimits self.now }
-        ensures { result ≡ first_physical self.now }
+        ensures value { result ≡ first_physical self.now }
+        ensures small { result < 2 ^ 62 }
     {
         self.first_action() + self.actions.as_slice().len()
     }
@@ -145,7 +146,6 @@ impl Slots {
 
     /// How many slots there are, startup among them.
     pub fn slot_count(&self) -> usize
-        requires { IsWithinLimits self.now }
         ensures { result ≡ slot_count self.now }
     {
         self.first_physical() + self.physical.as_slice().len()
@@ -155,8 +155,6 @@ impl Slots {
     pub fn is_bare(&self, slot: usize) -> bool
         ensures { result ≡ is_bare self.now slot }
     {
-        let inputs = self.inputs.as_slice().len();
-        let timers = self.timers.as_slice().len();
-        slot == Slots::STARTUP || (inputs < slot && slot - inputs <= timers)
+        slot == Slots::STARTUP || (self.first_timer() <= slot && slot < self.first_action())
     }
 }

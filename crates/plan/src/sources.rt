@@ -1,6 +1,6 @@
 ghost use Rattle.std.specs.Prelude.{◌≡◌, ◌≤◌, ◌↔◌, length, AllPairs, Any, IsTrue, MatchOption, OnOk, IfErr};
 ghost use Rattle.plan.specs.Federation.{connections_of};
-ghost use Rattle.plan.specs.Limits.{most_connections};
+ghost use Rattle.plan.specs.declared.limits.TheConstants.{MOST_CONNECTIONS};
 ghost use Rattle.network.specs.Lawful.{EndApart};
 ghost use Rattle.plan.specs.Faults.{ArePortsThere, EndsTwice, StandsIn};
 
@@ -32,7 +32,7 @@ fn second_source(connections: &[Connection]) -> Option<usize>
 pub(crate) fn refuse_two_sources(draft: &Draft, connections: &[Connection]) -> Result<(), PlanFault>
     requires value { connections.now ≡ connections_of draft.now }
     requires there { ArePortsThere draft.now }
-    requires few { length draft.now.connections ≤ most_connections }
+    requires few { length draft.now.connections ≤ MOST_CONNECTIONS }
     ensures ok { OnOk result (AllPairs EndApart connections.now) }
     ensures fault { IfErr result (StandsIn draft.now) }
 {

@@ -1,6 +1,4 @@
 -- The programs of reactors.
--- how much a program may have
-pub mod Limits
 -- what a reactor has and does
 pub mod Behaviour
 -- tokens, names and whole numbers

@@ -5,7 +5,7 @@ use Rattle.plan.specs.declared.slots.Slots.{Slots}
 use Rattle.plan.specs.Naming.{AreDistinct}
 use Rattle.plan.specs.Numbering.{all_names}
 use Rattle.plan.specs.Legal.{IsWithinLimits}
-use Rattle.program.specs.Limits.{most_states, most_reactions, most_lines}
+use Rattle.program.specs.declared.limits.TheConstants.{MOST_STATES, MOST_REACTIONS, MOST_LINES}
 use Rattle.program.specs.declared.program.Line.{Line}
 use Rattle.program.specs.declared.program.Reaction.{Reaction}
 use Rattle.program.specs.declared.program.State as StateOf
@@ -76,9 +76,9 @@ IsFaultOf s states drafts fault =
 -- what is asked before a program is read: limits, names, and no two slots of one name
 pub record IsReadable (s : Slots) (states : List StateOf.State) (drafts : List ReactionDraft) : Type 0 where
   pub few_slots : IsWithinLimits s
-  pub few_states : length states ≤ most_states
-  pub few_reactions : length drafts ≤ most_reactions
-  pub few_lines : All (λ d. length d.body ≤ most_lines) drafts
+  pub few_states : length states ≤ MOST_STATES
+  pub few_reactions : length drafts ≤ MOST_REACTIONS
+  pub few_lines : All (λ d. length d.body ≤ MOST_LINES) drafts
   pub slots_named : All (λ x. IsTrue (is_name x)) (all_names s)
   pub states_named : All (λ x. IsTrue (is_name x)) (state_names states)
   pub slots_apart : AreDistinct (all_names s)

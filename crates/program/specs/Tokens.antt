@@ -5,7 +5,7 @@ use Rattle.std.specs.Int.{w64}
 use Rattle.std.specs.List.{slice_split, list_all, list_any}
 use Rattle.std.specs.Str.{bytes_eq, all_ascii_digits}
 use Rattle.std.specs.Str.Parse.{digits_value}
-use Rattle.program.specs.Limits.{longest_name}
+use Rattle.program.specs.declared.limits.TheConstants.{LONGEST_NAME}
 
 -- a space
 abbrev pub is_space : ℕ → Bool
@@ -57,7 +57,7 @@ is_reserved text = list_any (bytes_eq text) form_words || list_any (bytes_eq tex
 abbrev pub is_name : List ℕ → Bool
 is_name [] = false
 is_name (first ∷ rest) =
-    is_name_start first && list_all is_name_character rest && nat_lt (length rest) longest_name
+    is_name_start first && list_all is_name_character rest && nat_lt (length rest) LONGEST_NAME
     && not (is_reserved (first ∷ rest))
 
 -- the token begins with `-`

@@ -6,6 +6,7 @@
 
 pub mod fault;
 pub mod laws;
+pub mod limits;
 mod number;
 pub mod parse;
 mod places;

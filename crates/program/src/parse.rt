@@ -4,7 +4,7 @@ ghost use Rattle.plan.specs.Legal.{IsWithinLimits};
 ghost use Rattle.plan.specs.Naming.{AreDistinct};
 ghost use Rattle.program.specs.Behaviour.{Behaviour};
 ghost use Rattle.program.specs.Resolution.{trigger_slot, state_names};
-ghost use Rattle.program.specs.Limits.{most_lines, most_reactions};
+ghost use Rattle.program.specs.declared.limits.TheConstants.{MOST_LINES, MOST_REACTIONS};
 ghost use Rattle.program.specs.Spelled.{SpellsReaction, SpellsProgram, IsTriggerFault, IsLineFault, IsReactionFault, IsFaultOf, IsReadable};
 ghost use Rattle.program.specs.declared.fault.ProgramFault.TheVariants.{Memory};
 
@@ -64,8 +64,8 @@ fn parse_reactions(
     drafts: &[ReactionDraft],
 ) -> Result<Vec<Reaction>, ProgramFault>
     requires limits { IsWithinLimits slots.now }
-    requires few { length drafts.now ≤ most_reactions }
-    requires few_lines { All (λ d. length d.body ≤ most_lines) drafts.now }
+    requires few { length drafts.now ≤ MOST_REACTIONS }
+    requires few_lines { All (λ d. length d.body ≤ MOST_LINES) drafts.now }
     ensures spelled { IfOk result (λ reactions. AllZip (SpellsReaction slots.now states.now) reactions.items drafts.now) }
     ensures refused { IfErr result (λ fault. (fault ≡ Memory) ⊎ IsReactionFault slots.now states.now drafts.now fault) }
 {
@@ -85,7 +85,7 @@ fn parse_reaction(
     draft: &ReactionDraft,
 ) -> Result<Reaction, ProgramFault>
     requires limits { IsWithinLimits slots.now }
-    requires few_lines { length draft.now.body ≤ most_lines }
+    requires few_lines { length draft.now.body ≤ MOST_LINES }
     ensures spelled { IfOk result (λ reaction. SpellsReaction slots.now states.now reaction draft.now) }
     ensures refused { IfErr result (λ fault. (fault ≡ Memory) ⊎ (IsTriggerFault slots.now number draft.now.triggers fault ⊎ IsLineFault slots.now states.now number draft.now.body fault)) }
 {

@@ -1,7 +1,7 @@
 ghost use Rattle.std.specs.Prelude.{◌≡◌, ◌≤◌, ◌⊎◌, length, IfOk, IfErr};
 ghost use Rattle.std.specs.List.{AllZip};
 ghost use Rattle.plan.specs.Legal.{IsWithinLimits};
-ghost use Rattle.program.specs.Limits.{most_lines};
+ghost use Rattle.program.specs.declared.limits.TheConstants.{MOST_LINES};
 ghost use Rattle.program.specs.Spelled.{SpellsLineOf, IsLineFault};
 ghost use Rattle.program.specs.declared.fault.ProgramFault.TheVariants.{Memory};
 
@@ -27,7 +27,7 @@ pub(crate) fn body(
     texts: &[Text],
 ) -> Result<Vec<Line>, ProgramFault>
     requires limits { IsWithinLimits slots.now }
-    requires few { length texts.now ≤ most_lines }
+    requires few { length texts.now ≤ MOST_LINES }
     ensures spelled { IfOk result (λ lines. AllZip (SpellsLineOf slots.now states.now) lines.items texts.now) }
     ensures refused { IfErr result (λ fault. (fault ≡ Memory) ⊎ IsLineFault slots.now states.now number texts.now fault) }
 {

@@ -4,10 +4,9 @@ ghost use Rattle.std.specs.Str.{bytes_eq};
 ghost use Rattle.program.specs.Tokens.{is_space, is_word_character, tokens_of, is_name_start, is_name_character, is_name, is_reserved, form_words, place_words};
 ghost use Rattle.program.specs.Reading.{IsFirstToken, AreFirstTokens};
 
-/// In characters, which are bytes.
-const LONGEST_NAME: usize = 32;
+use crate::limits::LONGEST_NAME;
 
-/// Whether the text is a name: 1 to 32 letters, digits and `_`, of which the first is no digit, and no reserved word.
+/// Whether the text is a name: 1 to `LONGEST_NAME` letters, digits and `_`, of which the first is no digit, and no reserved word.
 pub fn is_name(text: &[u8]) -> bool
     ensures { result ≡ is_name text.now }
 {

@@ -1,5 +1,5 @@
 ghost use Rattle.std.specs.Prelude.{◌≡◌};
-ghost use Rattle.reactor.specs.Entries.{value_at};
+ghost use Rattle.network.specs.Event.{value_at};
 
 use std::marker::Model;
 

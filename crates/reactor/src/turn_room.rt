@@ -1,6 +1,6 @@
 ghost use Rattle.std.specs.Prelude.{◌≡◌, ◌+◌, ◌<◌, ◌^◌, All, IfOk, OnOk, length, []};
-ghost use Rattle.network.specs.Event.{listed};
-ghost use Rattle.reactor.specs.Entries.{value_at, value_in};
+ghost use Rattle.network.specs.Event.{listed, value_at};
+ghost use Rattle.reactor.specs.Entries.{value_in};
 
 use crate::entry::{Entries, Entry};
 use crate::memory::Memory;

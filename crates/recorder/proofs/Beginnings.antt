@@ -4,13 +4,14 @@ use Rattle.std.specs.Prelude.{slice_get, Result, Ok, Err, OnOk, OnErr, is_ok, if
 use Rattle.std.specs.Global.{Vec}
 use Rattle.std.proofs.lemmas.List.{map-set}
 use Rattle.std.proofs.lemmas.Bool.{cases_lt}
+use Rattle.order.specs.Settled.{BeginsWith}
 use Rattle.node.specs.declared.event.Event.{Event}
 use Rattle.search.specs.Reading.{GrewTo}
-use Rattle.recorder.specs.Known.{events_of, IsBeginning}
+use Rattle.recorder.specs.Known.{events_of}
 
 -- a list whose events are those of another at each place is a beginning of it
 pub begins_so : (events journal : List Event) → length events ≤ length journal →
-    ((k : ℕ) → k < length events → slice_get events k ≡ slice_get journal k) → IsBeginning events journal
+    ((k : ℕ) → k < length events → slice_get events k ≡ slice_get journal k) → BeginsWith journal events
 begins_so [] journal len same = (journal, refl)
 begins_so (e ∷ events) [] len same = absurd (omega arith)
 begins_so (e ∷ events) (f ∷ journal) len same =
@@ -31,7 +32,7 @@ none_past f (x ∷ xs) (suc k) past = none_past f xs k (omega arith)
 
 -- where the journals of all that is known begin so, so do all
 pub all_begin : (known : List (Vec Event)) (journals : List (List Event)) (n : ℕ) → length known ≤ n →
-    ((k : ℕ) → k < n → IsBeginning (get_or (events_of known) k []) (get_or journals k [])) → GrewTo (events_of known) journals
+    ((k : ℕ) → k < n → BeginsWith (get_or journals k []) (get_or (events_of known) k [])) → GrewTo (events_of known) journals
 all_begin known journals n all so place =
     ⊎_elim
     (λ (less : place < n). so place less)

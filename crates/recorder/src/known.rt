@@ -1,7 +1,8 @@
 //! What is known of journals while their nodes still write them.
 ghost use Rattle.std.specs.Prelude.{◌≡◌, ◌↔◌, ◌++◌, [], length, map, set, get_or, true, IsTrue, IfOk, OnOk, OnErr};
 ghost use Rattle.search.specs.Reading.{GrewTo};
-ghost use Rattle.recorder.specs.Known.{events_of, IsBeginning};
+ghost use Rattle.order.specs.Settled.{BeginsWith};
+ghost use Rattle.recorder.specs.Known.{events_of};
 
 use node::Event;
 use std::alloc::{AllocError, Global};
@@ -58,7 +59,7 @@ pub(crate) fn are_beginnings(known: &[Vec<Event>], journals: &[&[Event]]) -> boo
 
 // Whether these events are a beginning of a journal.
 fn is_beginning(events: &[Event], journal: &[Event]) -> bool
-    ensures { IsTrue result ↔ IsBeginning events.now journal.now }
+    ensures { IsTrue result ↔ BeginsWith journal.now events.now }
 {
     if events.len() > journal.len() {
         return false;

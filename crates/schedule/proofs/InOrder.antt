@@ -22,7 +22,8 @@ use Rattle.schedule.specs.declared.dir.Dir.{Dir}
 use Rattle.schedule.specs.declared.dir.Dir.TheVariants.{Up, Down}
 use Rattle.schedule.specs.declared.step.Step.{Step}
 use Rattle.schedule.specs.World.{World, frames_in, frames_of, Applied, after_coordinator, after_federate, forgotten, does, applied, after_steps, opened}
-use Rattle.schedule.specs.Taken.{own_end, receiver, number_taken, brought_by, newly_taken, taken_in, BeginsWith}
+use Rattle.order.specs.Settled.{BeginsWith}
+use Rattle.schedule.specs.Taken.{own_end, receiver, number_taken, brought_by, newly_taken, taken_in}
 use Rattle.schedule.proofs.Posting.{frames_to}
 use Rattle.schedule.proofs.Course.{acted, Comes, IsCourse}
 use Rattle.schedule.proofs.Shown.{IsShown, ups_of, with_firsts, Brings, nowhere, at_hub, at_member, lost, happened, shown_at_hub, shown_at_member, shown_lost, shown_listed, opened_shown, at_own, at_other, same_or_not, got, none_beyond, nothing_beyond}

@@ -1,7 +1,8 @@
 -- What was taken of each direction, read off the steps that were made.
-use Rattle.std.specs.Prelude.{◌≡◌, ℕ, nat_eq, nat_lt, if◌then◌else◌, List, [], ◌∷◌, ◌++◌, slice_get, Option, None, Some}
+use Rattle.std.specs.Prelude.{ℕ, nat_eq, nat_lt, if◌then◌else◌, List, [], ◌∷◌, ◌++◌, slice_get, Option, None, Some}
 use Rattle.signal.specs.declared.signal.Signal.{Signal}
 use Rattle.signal.specs.declared.frame.Frame.{Frame}
+use Rattle.order.specs.Settled.{BeginsWith}
 use Rattle.link.specs.Image.{Image}
 use Rattle.link.specs.Taken.{carried_by}
 use Rattle.delivery.specs.Way.{offered_in}
@@ -63,10 +64,6 @@ taken_in hub member w dir incarnation [] = []
 taken_in hub member w dir incarnation (step ∷ steps) =
     newly_taken w (applied hub member w step).world dir incarnation step ++
     taken_in hub member (applied hub member w step).world dir incarnation steps
-
--- signals that begin with these
-abbrev pub BeginsWith : List Signal → List Signal → Type 0
-BeginsWith signals beginning = (rest : List Signal) × (signals ≡ beginning ++ rest)
 
 -- of each direction, in each incarnation, what these steps make taken is a beginning of what was offered
 abbrev pub TakesInOrder : {Hub Member HubRow Row : Type 0} → Core Hub HubRow → Core Member Row → World Hub Member → List Step → Type 0

@@ -10,12 +10,9 @@ use Rattle.schedule.specs.World.{federate_of}
 use Rattle.script.specs.declared.command.Command.{Command}
 use Rattle.script.specs.declared.command.Command.TheVariants.{Make, Skip, Round}
 use Rattle.script.specs.declared.script.Line.{Line}
+use Rattle.script.specs.declared.script.TheConstants.{MOST_BYTES}
 use Rattle.script.specs.declared.fault.ScriptFault.{ScriptFault}
 use Rattle.script.specs.declared.fault.ScriptFault.TheVariants as fault
-
--- the most bytes that a file has
-abbrev pub most_bytes : ℕ
-most_bytes = 1048576
 
 -- a byte that ends no line: any but a line feed
 abbrev pub is_within_line : ℕ → Bool
@@ -80,6 +77,6 @@ pub record IsScriptOf (d : Draft) (file : List ℕ) (s : Script) : Type 0 where
 
 -- what is told of a file; a line that is told is one of its lines
 abbrev pub IsFaultOf : List ℕ → ScriptFault → Type 0
-IsFaultOf file fault.OverLimit = most_bytes < length file
+IsFaultOf file fault.OverLimit = MOST_BYTES < length file
 IsFaultOf file (fault.Line number) = (0 < number) × (number ≤ line_count file)
-IsFaultOf file fault.Memory = length file ≤ most_bytes
+IsFaultOf file fault.Memory = length file ≤ MOST_BYTES

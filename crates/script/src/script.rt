@@ -1,6 +1,7 @@
 ghost use Rattle.std.specs.Prelude.{◌≡◌, ◌≢◌, ◌<◌, ◌≤◌, ◌↔◌, ◌+◌, ◌∷◌, [], length, IfOk, IfErr, IfSome, MatchOption, Err};
 ghost use Rattle.std.specs.List.{prefix_len};
-ghost use Rattle.script.specs.Scripts.{most_bytes, is_within_line, lines_of, line_count, IsScriptOf, IsFaultOf};
+ghost use Rattle.script.specs.declared.script.TheConstants.{MOST_BYTES};
+ghost use Rattle.script.specs.Scripts.{is_within_line, lines_of, line_count, IsScriptOf, IsFaultOf};
 
 use crate::command::Command;
 use crate::fault::ScriptFault;
@@ -54,7 +55,7 @@ impl Script {
 /// command, or want of memory.
 pub fn read_script(alloc: Global, bytes: &[u8], plan: &Plan) -> Result<Script, ScriptFault>
     ensures ok { IfOk result (IsScriptOf plan.now bytes.now) }
-    ensures over { (result ≡ Err ScriptFault.OverLimit) ↔ (most_bytes < length bytes.now) }
+    ensures over { (result ≡ Err ScriptFault.OverLimit) ↔ (MOST_BYTES < length bytes.now) }
     ensures refused { IfErr result (IsFaultOf bytes.now) }
 {
     if bytes.len() > MOST_BYTES {
@@ -65,7 +66,7 @@ pub fn read_script(alloc: Global, bytes: &[u8], plan: &Plan) -> Result<Script, S
 
 #[tactic(auto, using(crate::proofs::Lines::asked_nothing, crate::proofs::Lines::asked_something))]
 fn read_lines(alloc: Global, bytes: &[u8], plan: &Plan) -> Result<Script, ScriptFault>
-    requires { length bytes.now ≤ most_bytes }
+    requires { length bytes.now ≤ MOST_BYTES }
     ensures ok { IfOk result (IsScriptOf plan.now bytes.now) }
     ensures refused { IfErr result (λ fault. IsFaultOf bytes.now fault × (fault ≢ ScriptFault.OverLimit)) }
 {

@@ -8,7 +8,8 @@ use Rattle.tables.specs.declared.fault.LoadFault.TheVariants.{OverLimit, Memory}
 use Rattle.loadfed.specs.Loaded.{HasLoadFault}
 use Rattle.loadfed.specs.InputShape.{HasInputFileFault}
 use Rattle.script.specs.declared.fault.ScriptFault.{ScriptFault}
-use Rattle.script.specs.Scripts.{most_bytes, IsFaultOf as IsScriptFault}
+use Rattle.script.specs.declared.script.TheConstants.{MOST_BYTES}
+use Rattle.script.specs.Scripts.{IsFaultOf as IsScriptFault}
 use Rattle.files.specs.declared.named.FileFault.{FileFault}
 use Rattle.files.specs.declared.named.FileFault.TheVariants as file_fault
 use Rattle.files.specs.Contents.{Contents}
@@ -49,5 +50,5 @@ IsSourcesFault federation inputs contents fault = IsFederationFault federation c
 -- why the schedule file isn't taken
 abbrev pub IsScheduleFault : Bor (List ℕ) → Contents → SourceFault → Type 0
 IsScheduleFault name contents fault =
-    IsFileFault (λ bytes why. (why ≡ OverLimit) × (most_bytes < length bytes)) name (contents name.now) fault
+    IsFileFault (λ bytes why. (why ≡ OverLimit) × (MOST_BYTES < length bytes)) name (contents name.now) fault
     ⊎ ((why : ScriptFault) × (fault ≡ Schedule why) × IfSome (contents name.now) (λ bytes. IsScriptFault bytes why))

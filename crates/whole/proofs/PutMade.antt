@@ -7,12 +7,11 @@ use Rattle.std.proofs.lemmas.List.{map-append}
 use Rattle.std.proofs.lemmas.List.Elements.{filter-append}
 use Rattle.tag.specs.LogicalTime.{LogicalTime, is_at_most, sum_of}
 use Rattle.network.specs.Connection.{Connection}
-use Rattle.network.specs.Event.{Event}
+use Rattle.network.specs.Event.{Event, value_at}
 use Rattle.network.specs.Network.{Scheduling}
 use Rattle.network.specs.Undivided.{message_of, carried_by, scheduled_from}
 use Rattle.network.specs.Undone.{Held, held_of}
 use Rattle.agenda.specs.Agenda.{in_time}
-use Rattle.reactor.specs.Entries.{value_at}
 use Rattle.whole.specs.Targets.{between}
 use Rattle.whole.specs.Made.{TurnMade, held_if, carried_over, deferred_by, put_to}
 

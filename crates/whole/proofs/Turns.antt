@@ -11,7 +11,7 @@ use Rattle.std.proofs.Math.Path.{fun_ext}
 use Rattle.std.proofs.Math.Seq.{map-set_same}
 use Rattle.tag.specs.LogicalTime.{LogicalTime, is_before}
 use Rattle.tag.proofs.Order.{before_irreflexive}
-use Rattle.network.specs.Event.{Event, listed, present_at}
+use Rattle.network.specs.Event.{Event, listed, present_at, value_at}
 use Rattle.network.specs.Lawful.{IsLawful}
 use Rattle.network.specs.Network.{Network, Effect}
 use Rattle.network.specs.Undivided as undivided
@@ -31,7 +31,6 @@ use Rattle.plan.specs.Federation.{federate_count, connections_of, rank_of, stop_
 use Rattle.plan.specs.Numbering.{slot_count}
 use Rattle.plan.specs.External.{external_of}
 use Rattle.program.specs.Behaviour.{Behaviour}
-use Rattle.reactor.specs.Entries.{value_at}
 use Rattle.reactor.specs.Federation.{network_of, slots_of, ports_of, effect_by, opening_by}
 use Rattle.program.specs.Programs.{HaveProgramsOf, HaveSlotsOf}
 use Rattle.reactor.specs.Effect.{opening_states, effect_of}

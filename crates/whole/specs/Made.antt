@@ -3,11 +3,10 @@ use Rattle.std.specs.Prelude.{ℕ, ℤ, Bool, false, ◌||◌, nat_eq, if◌then
 use Rattle.std.specs.List.{flat_map}
 use Rattle.tag.specs.LogicalTime.{LogicalTime, forever, sum_of}
 use Rattle.network.specs.Connection.{Connection}
-use Rattle.network.specs.Event.{Entry}
+use Rattle.network.specs.Event.{Entry, value_at}
 use Rattle.network.specs.Network.{Scheduling}
 use Rattle.network.specs.Undone.{Held, put_all, drop_up_to}
 use Rattle.agenda.specs.Agenda.{Agenda, in_time, least_in}
-use Rattle.reactor.specs.Entries.{value_at}
 
 -- a turn that was run, up to which tag its events are kept, what was present, and what it made
 pub record TurnMade : Type 0 where

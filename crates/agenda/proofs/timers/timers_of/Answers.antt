@@ -1,4 +1,4 @@
-use Rattle.std.proofs.Common.{◌∙◌, sym, ap, ◌++◌, ◌∷◌, [], ◌+◌, length, take}
+use Rattle.std.proofs.Common.{◌∙◌, sym, ap, ◌++◌, ◌∷◌, [], ◌+◌, take}
 use Rattle.agenda.specs.Kept.{timers_from}
 use Rattle.agenda.proofs.TimerLists.{timers_more}
 use Rattle.agenda.proofs.timers.timers_of.Goals as goal
@@ -7,16 +7,16 @@ pub loop-place-preserved : goal.loop-place-preserved
 loop-place-preserved c =
     c.in_ok-push.ensures.items
     ∙ ap (λ ts. ts ++ record {
-      slot = 1 + length c.as_slice.result.now + c.loop-place.place;
+      slot = c.first_timer-first.result + c.loop-place.place;
       next = c.timer-item.result.offset;
       period = c.timer-item.result.period;
       left = c.firing_count.result;
     } ∷ []) c.loop-place.invariant
-    ∙ ap (λ n. timers_from c.nanoseconds-stop.result (1 + length c.as_slice.result.now) (take c.loop-place.place c.args.slots.now.timers) ++ record {
-      slot = 1 + length c.as_slice.result.now + c.loop-place.place;
+    ∙ ap (λ n. timers_from c.nanoseconds-stop.result c.first_timer-first.result (take c.loop-place.place c.args.slots.now.timers) ++ record {
+      slot = c.first_timer-first.result + c.loop-place.place;
       next = c.timer-item.result.offset;
       period = c.timer-item.result.period;
       left = n;
     } ∷ []) c.firing_count.ensures
-    ∙ sym (timers_more c.nanoseconds-stop.result (1 + length c.as_slice.result.now) c.args.slots.now.timers c.loop-place.place c.timer-item.result
+    ∙ sym (timers_more c.nanoseconds-stop.result c.first_timer-first.result c.args.slots.now.timers c.loop-place.place c.timer-item.result
     (rw (← c.as_slice-timer-items.ensures) c.loop-place-test.true) (rw (← c.as_slice-timer-items.ensures) c.timer-item.is))

@@ -1,5 +1,5 @@
 use Rattle.std.proofs.Common.{◌≡◌, ◌++◌, [], map, take}
-use Rattle.reactor.specs.Entries.{value_at}
+use Rattle.network.specs.Event.{value_at}
 use Rattle.reactor.specs.Federation.{network_of}
 use Rattle.cores.specs.FederateCore.{to_coordinator}
 use Rattle.federate.specs.Outlets.{messages_by}

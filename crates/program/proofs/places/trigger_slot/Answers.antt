@@ -14,7 +14,7 @@ returns-in-Some-place_of c =
     let i : None ≡ place_of c.args.slots.now.inputs c.args.name.now = cc (c.in_default.ensures.value) in
     let t : Some c.in-Some-place_of.place ≡ place_of (timer_names c.args.slots.now.timers) c.args.name.now = cc (c.in-Some-place_of.ensures.value) in
     let found = slot_timer c.args.slots.now c.args.name.now c.eq.result (cc) c.if-eq.false i c.in-Some-place_of.place t in
-    rw c.first_timer.ensures found
+    rw c.first_timer.ensures.value found
 
 pub returns-in-Some-place_of-2 : goal.returns-in-Some-place_of-2
 returns-in-Some-place_of-2 c =
@@ -22,7 +22,7 @@ returns-in-Some-place_of-2 c =
     let t : None ≡ place_of (timer_names c.args.slots.now.timers) c.args.name.now = cc (c.in_default-place_of.ensures.value) in
     let a : Some c.in-Some-place_of-2.place ≡ place_of c.args.slots.now.actions c.args.name.now = cc (c.in-Some-place_of-2.ensures.value) in
     let found = slot_action c.args.slots.now c.args.name.now c.eq.result (cc) c.if-eq.false i t c.in-Some-place_of-2.place a in
-    rw c.first_action.ensures found
+    rw c.first_action.ensures.value found
 
 pub returns-in-Some-place_of-3 : goal.returns-in-Some-place_of-3
 returns-in-Some-place_of-3 c =
@@ -31,7 +31,7 @@ returns-in-Some-place_of-3 c =
     let a : None ≡ place_of c.args.slots.now.actions c.args.name.now = cc (c.in_default-place_of-2.ensures.value) in
     let p : Some c.in-Some-place_of-3.place ≡ place_of c.args.slots.now.physical c.args.name.now = cc (c.in-Some-place_of-3.ensures.value) in
     let found = slot_physical c.args.slots.now c.args.name.now c.eq.result (cc) c.if-eq.false i t a c.in-Some-place_of-3.place p in
-    rw c.first_physical.ensures found
+    rw c.first_physical.ensures.value found
 
 pub returns : goal.returns
 returns c =

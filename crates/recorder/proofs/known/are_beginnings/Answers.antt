@@ -1,11 +1,12 @@
 use Rattle.std.proofs.Common.{arith, map, get_or, [], below_more}
-use Rattle.recorder.specs.Known.{events_of, IsBeginning}
+use Rattle.order.specs.Settled.{BeginsWith}
+use Rattle.recorder.specs.Known.{events_of}
 use Rattle.recorder.proofs.Beginnings.{mapped_at, all_begin}
 use Rattle.recorder.proofs.known.are_beginnings.Goals as goal
 
 pub loop-place-preserved : goal.loop-place-preserved
 loop-place-preserved c =
-    below_more (λ k. IsBeginning (get_or (events_of c.args.known.now) k []) (get_or (map (λ j. j.now) c.args.journals.now) k [])) c.loop-place.place
+    below_more (λ k. BeginsWith (get_or (map (λ j. j.now) c.args.journals.now) k []) (get_or (events_of c.args.known.now) k [])) c.loop-place.place
     c.loop-place.invariant
     (let some = c.if-known-journals.false in
     let known = mapped_at (λ j. j.items) c.args.known.now c.loop-place.place c.index-known-place.result c.loop-place-test.true c.index-known-place.is in

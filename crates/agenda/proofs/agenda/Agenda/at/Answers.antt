@@ -1,5 +1,5 @@
 use Rattle.std.proofs.Common.{ap, subst, ◌∙◌}
-use Rattle.reactor.specs.Entries.{value_at}
+use Rattle.network.specs.Event.{value_at}
 use Rattle.agenda.specs.Agenda.{Agenda, present_in, Rises}
 use Rattle.agenda.specs.Kept.{held_in, all_firings}
 use Rattle.agenda.specs.Present.{set_entries}

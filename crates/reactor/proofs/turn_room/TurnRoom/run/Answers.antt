@@ -1,6 +1,6 @@
 use Rattle.std.proofs.Common.{◌≡◌, ◌+◌, ◌∙◌, length, ap, None}
 use Rattle.std.proofs.lemmas.List.{length-replicate}
-use Rattle.reactor.specs.Entries.{value_at}
+use Rattle.network.specs.Event.{value_at}
 use Rattle.reactor.proofs.Registers.{operands_length}
 use Rattle.reactor.proofs.turn_room.TurnRoom.run.Goals as goal
 

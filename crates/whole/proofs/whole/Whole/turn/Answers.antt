@@ -3,12 +3,12 @@ use Rattle.std.proofs.Common.{◌≡◌, ℕ, ℤ, ◌+◌, ◌<◌, List, [], O
 use Rattle.std.specs.Prelude.{◌≢◌}
 use Rattle.std.proofs.lemmas.List.{length-append}
 use Rattle.std.proofs.lemmas.Option.{slice_get-get_or}
-use Rattle.network.specs.Event.{listed}
+use Rattle.network.specs.Event.{listed, value_at}
 use Rattle.network.specs.Undone.{look}
 use Rattle.plan.specs.Federation.{federate_count}
 use Rattle.plan.specs.Numbering.{slot_count}
 use Rattle.program.specs.Behaviour.{Behaviour}
-use Rattle.reactor.specs.Entries.{value_at, AgreesBelow}
+use Rattle.reactor.specs.Entries.{AgreesBelow}
 use Rattle.reactor.specs.Federation.{slots_of}
 use Rattle.reactor.specs.Turn.{Reactor, turn_of}
 use Rattle.whole.specs.Kept.{programs_in, HasSlotsOf}
