@@ -39,6 +39,9 @@ const ROWS: &[(&str, &str, &str)] = &[
 fn timers_fire(rt: HostRuntime) {
     for (federation, turns, rows) in ROWS {
         let words = ["whole", "fed.toml", "-", *turns];
-        assert!(rt; prints(&rt, &words, &[*federation], &[], rows), "{federation}");
+        assert!(rt;
+            prints(&rt, &words, &[*federation], &[], rows),
+            "{federation}"
+        );
     }
 }
