@@ -1,5 +1,5 @@
 -- What is printed of a run that an audit proved, and what stands where nothing is.
-use Rattle.std.specs.Prelude.{ℕ, ◌<◌, List, Option}
+use Rattle.std.specs.Prelude.{◌≡◌, ◌⊎◌, ℕ, ◌<◌, List, Option}
 use Rattle.std.specs.Io.KnownBytes.{Appends}
 use Rattle.network.specs.Undivided.{whole, part}
 use Rattle.order.specs.Settled.{BeginsWith}
@@ -71,3 +71,11 @@ IsAuditedFault d programs inputs (fault.Unproved doubt) = IsDoubted d programs i
 IsAuditedFault d programs inputs fault.NotFinished = Unit {0}
 IsAuditedFault d programs inputs fault.Memory = Unit {0}
 IsAuditedFault d programs inputs fault.CannotWrite = Unit {0}
+
+-- what is told of a run whose nodes give nothing to audit
+abbrev pub IsOfTheRun : AuditedFault → Type 0
+IsOfTheRun told = (told ≡ fault.NotFinished) ⊎ (told ≡ fault.Memory)
+
+-- what is told of a plan's federation, whatever its programs and inputs are
+abbrev pub IsFaultOfPlan : Draft → AuditedFault → Type 0
+IsFaultOfPlan d told = (programs : List Behaviour) (inputs : List Input) → IsAuditedFault d programs inputs told

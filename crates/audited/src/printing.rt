@@ -1,4 +1,4 @@
-ghost use Rattle.std.specs.Prelude.{◌≡◌, ◌≢◌, ◌⊎◌, [], List, OnOk, IfOk, IfErr};
+ghost use Rattle.std.specs.Prelude.{◌≡◌, ◌≢◌, [], List, OnOk, IfOk, IfErr};
 ghost use Rattle.std.specs.Io.KnownBytes.{Appends};
 ghost use Rattle.plan.specs.declared.input.Input.{Input};
 ghost use Rattle.plan.specs.External.{AreInputsOf};
@@ -6,11 +6,11 @@ ghost use Rattle.program.specs.Behaviour.{Behaviour};
 ghost use Rattle.program.specs.Programs.{AreProgramsOf};
 ghost use Rattle.printed.specs.RowText.{printed_rows};
 ghost use Rattle.recorder.specs.Reports.{reported_rows};
-ghost use Rattle.audited.specs.Printed.{PrintsAudited, IsAuditedFault, printed_reports};
+ghost use Rattle.audited.specs.Printed.{PrintsAudited, IsAuditedFault, IsFaultOfPlan, printed_reports};
 
 use crate::doubt::Doubt;
 use crate::fault::AuditedFault;
-use crate::reports::reports_of;
+use crate::reports::{Said, said_by};
 use crate::watching::{gone_on, watch};
 use coordinator::Coordinator;
 use desks::{coordinator_desk, federate_desks};
@@ -27,7 +27,7 @@ use std::sync::Wait;
 use std::thread;
 use std::thread::Threads;
 use std::time::Clock;
-use wires::{Gathered, Left, Nodes, Open, RunFault, run_over_tcp};
+use wires::{Left, Nodes, Open, RunFault, run_over_tcp};
 
 /// Runs the federation in threads over TCP on loopback until the coordinator is finished or a runner has made so many turns,
 /// audits what its nodes wrote down, and prints each federate's rows, federate by federate. The caller flushes. That a run isn't
@@ -53,23 +53,28 @@ pub fn print_audited_run<
     let nodes = nodes_of(alloc, plan, programs, inputs)?;
     let opened = begun(alloc, plan, programs, inputs)?;
     let (watched, left) = run_watched(rt, alloc, &nodes, opened, turns);
-    let (audit, all) = take_apart(rt, alloc, nodes, left, watched);
-    let Gathered { hub, members } = all?;
-    if !hub.station().node().finished() {
-        return Err(AuditedFault::NotFinished);
-    }
-    let reports = reports_of(alloc, plan, members)?;
-    print_audited(alloc, plan, audit, reports.reports(), hub.journal(), out)
+    let (audit, said) = take_apart(rt, alloc, plan, nodes, left, watched);
+    let said = said?;
+    print_audited(
+        alloc,
+        plan,
+        audit,
+        said.reports.reports(),
+        &said.coordinator,
+        out,
+    )
 }
 
 // Runs the nodes, and makes steps of the audit beside the run; where there is no thread for that, after it.
 fn run_watched<
     'a,
     R: Threads + Wait + Clock + Net<Stream = TcpStream, Listener = TcpListener> + Sync,
+    H: Node + Send,
+    M: Node + Send,
 >(
     rt: &R,
     alloc: Global,
-    nodes: &Nodes<Coordinator<'a>, Federate<'a>>,
+    nodes: &Nodes<H, M>,
     audit: BegunAudit<'a>,
     turns: u32,
 ) -> (BegunAudit<'a>, Result<Vec<Option<Left>>, RunFault>)
@@ -88,15 +93,13 @@ fn run_watched<
 fn take_apart<'a, R: Threads + Sync>(
     rt: &R,
     alloc: Global,
+    plan: &'a Plan,
     nodes: Nodes<Coordinator<'a>, Federate<'a>>,
     left: Result<Vec<Option<Left>>, RunFault>,
     audit: BegunAudit<'a>,
-) -> (
-    BegunAudit<'a>,
-    Result<Gathered<Coordinator<'a>, Federate<'a>>, AuditedFault>,
-)
+) -> (BegunAudit<'a>, Result<Said<'a>, AuditedFault>)
     ensures audit { result.0 ≡ audit.entry }
-    ensures fault { IfErr result.1 (λ fault. (fault ≡ AuditedFault.NotFinished) ⊎ (fault ≡ AuditedFault.Memory)) }
+    ensures told { IfErr result.1 (IsFaultOfPlan plan.now) }
 {
     thread::join(
         rt,
@@ -104,8 +107,8 @@ fn take_apart<'a, R: Threads + Sync>(
             ensures { result ≡ audit.entry }
         { gone_on(alloc, audit) },
         ||
-            ensures { IfErr result (λ fault. (fault ≡ AuditedFault.NotFinished) ⊎ (fault ≡ AuditedFault.Memory)) }
-        { gathered(alloc, nodes, left) },
+            ensures { IfErr result (IsFaultOfPlan plan.entry.now) }
+        { said_by(alloc, plan, nodes, left) },
     )
 }
 
@@ -147,25 +150,6 @@ fn begun<'a>(
     match BegunAudit::new(alloc, plan, programs, inputs) {
         Ok(audit) => Ok(audit),
         Err(_) => Err(AuditedFault::Memory),
-    }
-}
-
-// The desks of all nodes, when all their workers have ended.
-fn gathered<'a>(
-    alloc: Global,
-    nodes: Nodes<Coordinator<'a>, Federate<'a>>,
-    left: Result<Vec<Option<Left>>, RunFault>,
-) -> Result<Gathered<Coordinator<'a>, Federate<'a>>, AuditedFault>
-    ensures { IfErr result (λ fault. (fault ≡ AuditedFault.NotFinished) ⊎ (fault ≡ AuditedFault.Memory)) }
-{
-    let all = match left {
-        Ok(left) => nodes.gather(alloc, left),
-        Err(fault) => Err(fault),
-    };
-    match all {
-        Ok(gathered) => Ok(gathered),
-        Err(RunFault::NotFinished) => Err(AuditedFault::NotFinished),
-        Err(RunFault::Memory) => Err(AuditedFault::Memory),
     }
 }
 

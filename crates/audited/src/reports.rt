@@ -1,27 +1,92 @@
-//! What the desks of a run's federates say.
+//! What the desks of a finished run's nodes say.
 ghost use Rattle.std.specs.Prelude.{◌≡◌, List, IfErr, IfOk, OnOk};
 ghost use Rattle.plan.specs.Federation.{federate_count};
 ghost use Rattle.plan.specs.declared.draft.Draft.{Draft};
 ghost use Rattle.plan.specs.declared.input.Input.{Input};
 ghost use Rattle.program.specs.Behaviour.{Behaviour};
 ghost use Rattle.recorder.specs.Reports.{AreKnown, IsRefusedFor};
-ghost use Rattle.audited.specs.Printed.{IsAuditedFault, fault_of};
+ghost use Rattle.audited.specs.Printed.{IsAuditedFault, IsFaultOfPlan, IsOfTheRun, fault_of};
 
 use crate::doubt::Doubt;
 use crate::fault::AuditedFault;
+use coordinator::Coordinator;
 use desk::Desk;
 use federate::Federate;
+use node::{Event, Node};
 use plan::Plan;
 use recorder::{Collector, Report, ReportFault};
 use std::alloc::Global;
+use wires::{Gathered, Left, Nodes, RunFault};
 
-/// What each federate reports, by number.
-pub(crate) fn reports_of<'a>(
+/// What the nodes of a finished run say.
+#[derive(Drop)]
+pub(crate) struct Said<'a> {
+    /// What each federate reports.
+    pub reports: Collector<'a>,
+    /// The coordinator's journal.
+    pub coordinator: Vec<Event>,
+}
+
+/// What all nodes say, when all their workers have ended, from what these left. That a run isn't finished is told before anything
+/// of a report.
+pub(crate) fn said_by<'a>(
+    alloc: Global,
+    plan: &'a Plan,
+    nodes: Nodes<Coordinator<'_>, Federate<'_>>,
+    left: Result<Vec<Option<Left>>, RunFault>,
+) -> Result<Said<'a>, AuditedFault>
+    ensures { IfErr result (IsFaultOfPlan plan.now) }
+{
+    let (coordinator, desks) = gathered(alloc, nodes, left)?;
+    let reports = reports_of(alloc, plan, desks)?;
+    Ok(Said {
+        reports,
+        coordinator,
+    })
+}
+
+// The hub's journal and the members' desks, when all their workers have ended, of a run that is finished.
+fn gathered<H: Node, M: Node>(
+    alloc: Global,
+    nodes: Nodes<H, M>,
+    left: Result<Vec<Option<Left>>, RunFault>,
+) -> Result<(Vec<Event>, Vec<Desk<M>>), AuditedFault>
+    ensures { IfErr result IsOfTheRun }
+{
+    let all = match left {
+        Ok(left) => nodes.gather(alloc, left),
+        Err(fault) => Err(fault),
+    };
+    match all {
+        Ok(gathered) => finished(gathered),
+        Err(RunFault::NotFinished) => Err(AuditedFault::NotFinished),
+        Err(RunFault::Memory) => Err(AuditedFault::Memory),
+    }
+}
+
+// The same, where the hub is finished.
+fn finished<H: Node, M: Node>(
+    gathered: Gathered<H, M>,
+) -> Result<(Vec<Event>, Vec<Desk<M>>), AuditedFault>
+    ensures { IfErr result IsOfTheRun }
+{
+    let Gathered { hub, members } = gathered;
+    let is_finished = hub.station().node().finished();
+    let (_, journal) = hub.into_parts();
+    if is_finished {
+        Ok((journal, members))
+    } else {
+        Err(AuditedFault::NotFinished)
+    }
+}
+
+// What each federate reports.
+fn reports_of<'a>(
     alloc: Global,
     plan: &'a Plan,
     desks: Vec<Desk<Federate<'_>>>,
 ) -> Result<Collector<'a>, AuditedFault>
-    ensures { IfErr result (λ fault. (programs : List Behaviour) (inputs : List Input) → IsAuditedFault plan.now programs inputs fault) }
+    ensures { IfErr result (IsFaultOfPlan plan.now) }
 {
     let mut reports = Collector::new(alloc, plan);
     for (federate, desk) in desks.into_iter().enumerate() {

@@ -1,9 +1,7 @@
 //! What is done beside the threads of a run: what its nodes write down is read, and steps are made for it ahead.
 ghost use Rattle.std.specs.Prelude.{◌≡◌};
 
-use coordinator::Coordinator;
 use desk::Shared;
-use federate::Federate;
 use node::{Event, Node, NodeId};
 use recorder::BegunAudit;
 use std::alloc::Global;
@@ -19,10 +17,10 @@ const PAUSE: u64 = 1;
 
 // Reads what the nodes write down, and makes steps for it; when the run is to end, it only reads what is left. Nothing rests on
 // how much of it is read.
-pub(crate) fn watch<'a, R: Wait + Clock>(
+pub(crate) fn watch<'a, R: Wait + Clock, H: Node, M: Node>(
     rt: &R,
     alloc: Global,
-    nodes: &Nodes<Coordinator<'a>, Federate<'a>>,
+    nodes: &Nodes<H, M>,
     mut audit: BegunAudit<'a>,
 ) -> BegunAudit<'a>
     ensures { result ≡ audit.entry }
@@ -54,10 +52,10 @@ pub(crate) fn gone_on<'a>(alloc: Global, mut audit: BegunAudit<'a>) -> BegunAudi
 }
 
 // Takes in what the nodes wrote down since; whether that is anything.
-fn look<'a, R: Wait>(
+fn look<R: Wait, H: Node, M: Node>(
     rt: &R,
-    nodes: &Nodes<Coordinator<'a>, Federate<'a>>,
-    audit: &mut BegunAudit<'a>,
+    nodes: &Nodes<H, M>,
+    audit: &mut BegunAudit<'_>,
     events: &mut Vec<Event>,
 ) -> bool
     ensures { audit.new ≡ audit.old }

@@ -2,10 +2,10 @@ use Rattle.std.proofs.Common.{◌∙◌, ap}
 use Rattle.std.proofs.lemmas.Result.{err_from_is_err_and}
 use Rattle.audited.proofs.printing.print_audited_run.Goals as goal
 
-pub returns-in_err-reports-clause-told : goal.returns-in_err-reports-clause-told
-returns-in_err-reports-clause-told g c =
-    let told = err_from_is_err_and c.from_residual-in_err-reports.result c.from_residual-in_err-reports.ensures.1 in
-    rw (told.1, told.2) (c.in_err-reports.ensures c.args.programs.now c.args.inputs.now)
+pub returns-in_err-said-clause-told : goal.returns-in_err-said-clause-told
+returns-in_err-said-clause-told g c =
+    let told = err_from_is_err_and c.from_residual-in_err-said.result c.from_residual-in_err-said.ensures.1 in
+    rw (told.1, told.2) ((rw c.in_err-said.was at c.take_apart-audit.ensures.told) c.args.programs.now c.args.inputs.now)
 
 pub print_audited-requires : goal.print_audited-requires
 print_audited-requires g c = record { plan = ap (λ w. w.draft) (c.take_apart-audit.ensures.audit ∙ c.run_watched-watched.ensures ∙ c.in_ok-opened.ensures.begun) }
