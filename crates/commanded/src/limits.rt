@@ -1,5 +1,4 @@
-//! Files of the longest length and one byte more, as many federates and reactions as there may be and one more, and want of
-//! memory for a file.
+//! Files of the longest length and one byte more, and want of memory for a file.
 use crate::outcome::{given, joined, outcome_of};
 use crate::two_files::NoMemory;
 use commands::command;
@@ -73,31 +72,6 @@ fn takes_inputs_of_eight_mebibytes(rt: HostRuntime) {
     assert!(rt; inputs_of(&rt, 1_048_577) == Some((0, false)));
     assert!(rt; inputs_of(&rt, 8_388_608) == Some((0, false)));
     assert!(rt; inputs_of(&rt, 8_388_609) == Some((1, true)));
-}
-
-const ONE: &str = "stop = \"0\"\n[[federate]]\nname = \"a\"\ninputs = [\"x\"]\n";
-
-/// How a federate with so many reactions is answered.
-fn reactions_of<
-    R: AllocGlobal
-        + Threads
-        + Wait
-        + Clock
-        + Net<Stream = TcpStream, Listener = TcpListener>
-        + Sync,
->(rt: &R, count: usize) -> Option<(u8, bool)> {
-    let reactions = repeated(
-        rt.alloc(),
-        "[[federate.reaction]]\ntriggers = [\"x\"]\n",
-        count,
-    )?;
-    status(rt, &[ONE, reactions.as_str()], &[])
-}
-
-#[test]
-fn takes_so_many_reactions(rt: HostRuntime) {
-    assert!(rt; reactions_of(&rt, 64) == Some((0, false)));
-    assert!(rt; reactions_of(&rt, 65) == Some((1, true)));
 }
 
 /// What is told where there is no memory for a file.
