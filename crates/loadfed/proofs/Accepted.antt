@@ -1,8 +1,7 @@
 -- A file is one federation at most, and meets no refusal but want of memory.
-use Rattle.std.proofs.Common.{◌≡◌, ◌⊎◌, inl, inr, ℕ, zero, suc, Result, Ok, Err, List, [], ◌∷◌, Some, None, refl, sym, ap, ◌∙◌, subst, arith}
-use Rattle.std.specs.Prelude.{slice_get, IsUtf8, IfErr}
+use Rattle.std.proofs.Common.{◌≡◌, ℕ, zero, suc, Result, Ok, Err, List, [], ◌∷◌, Some, refl, sym, ap, ◌∙◌, subst, arith}
+use Rattle.std.specs.Prelude.{slice_get, IfErr}
 use Rattle.toml.specs.Data.{Members}
-use Rattle.toml.specs.Parse.{parse_document}
 use Rattle.plan.specs.declared.draft.Federate.{Federate}
 use Rattle.plan.specs.declared.draft.Draft.{Draft}
 use Rattle.plan.specs.Legal.{IsLegal}
@@ -14,15 +13,12 @@ use Rattle.tables.specs.declared.fault.LoadFault.TheVariants.{Memory}
 use Rattle.loadfed.specs.Shape.{ProgramDraft, SaysFederation}
 use Rattle.loadfed.specs.ShapeFaults.{HasShapeFault}
 use Rattle.tables.specs.Documents.{IsDocument}
-use Rattle.loadfed.specs.Loaded.{SpellPrograms, SaysDraft, IsFederationFile, IsFaultAmong, HasLoadFault}
+use Rattle.loadfed.specs.Loaded.{SpellPrograms, SaysDraft, IsFederationFile, IsFaultAmong, HasLoadFault, out_of_memory, too_long, no_document, wrong_shape, illegal_plan, no_program, IsLoading}
 use Rattle.loadfed.proofs.OneReading.{one_draft, one_program_list}
 use Rattle.loadfed.proofs.NoFault.{no_shape_fault}
 
 pub one_document : (bytes : List ℕ) (m n : Members) → IsDocument bytes m → IsDocument bytes n → m ≡ n
 one_document bytes m n h k = let e : Some m ≡ Some n = sym h.parsed ∙ k.parsed in cc
-
-pub no_document : (bytes : List ℕ) → (IsUtf8 bytes → parse_document bytes ≡ None) → (file : Members) → IsDocument bytes file → ⊥
-no_document bytes none file h = let e : Some file ≡ None = sym h.parsed ∙ none h.utf8 in cc
 
 same_file : (bytes : List ℕ) (d e : Draft) (ps qs : List ProgramDraft) (h : SaysDraft bytes d ps) (k : SaysDraft bytes e qs) → SaysFederation h.file e qs
 same_file bytes d e ps qs h k = subst (λ m. SaysFederation m e qs) (one_document bytes k.file h.file k.document h.document) k.says
@@ -77,28 +73,26 @@ none_among fs ps bs fault h k =
     let z = spelled_at fs ps bs k.place k.federate k.program h k.federate_is k.program_is in
     k.refused.unspelled z.0 z.1
 
-no_load_fault : (bytes : List ℕ) (d : Draft) (bs : List Behaviour) (fault : LoadFault) → IsFederationFile bytes d bs → HasLoadFault bytes fault → ⊥
-no_load_fault bytes d bs fault file (inl h) =
+-- what stands against a federation file is want of memory
+only_memory : (bytes : List ℕ) (d : Draft) (bs : List Behaviour) (fault : LoadFault) → IsFederationFile bytes d bs → HasLoadFault bytes fault → fault ≡ Memory
+only_memory bytes d bs fault file (out_of_memory memory few) = memory
+only_memory bytes d bs fault file (too_long h) =
     let few = file.declared.few in
     let long = h.long in
-    omega arith
-no_load_fault bytes d bs fault file (inr (inl h)) = h.none file.declared.file file.declared.document
-no_load_fault bytes d bs fault file (inr (inr (inl h))) =
+    let no : ⊥ = omega arith in
+    absurd no
+only_memory bytes d bs fault file (no_document h) = absurd (h.none file.declared.file file.declared.document)
+only_memory bytes d bs fault file (wrong_shape h) =
     let same = one_document bytes h.file file.declared.file h.document file.declared.document in
-    no_shape_fault fault file.declared.file d file.drafts file.declared.says (subst (λ m. HasShapeFault m fault) same h.wrong)
-no_load_fault bytes d bs fault file (inr (inr (inr (inl h)))) =
+    absurd (no_shape_fault fault file.declared.file d file.drafts file.declared.says (subst (λ m. HasShapeFault m fault) same h.wrong))
+only_memory bytes d bs fault file (illegal_plan h) =
     let same = same_draft bytes d h.draft file.drafts h.drafts file.declared h.declared in
-    h.refused.illegal (subst IsLegal same file.legal)
-no_load_fault bytes d bs fault file (inr (inr (inr (inr h)))) =
+    absurd (h.refused.illegal (subst IsLegal same file.legal))
+only_memory bytes d bs fault file (no_program h) =
     let spelled = spelled_too bytes d h.draft file.drafts h.drafts bs file.declared h.declared file.spelled in
-    none_among h.draft.federates h.drafts bs fault spelled h.among
+    absurd (none_among h.draft.federates h.drafts bs fault spelled h.among)
 
-pub accepted : (bytes : List ℕ) (fault : LoadFault) → (fault ≡ Memory) ⊎ HasLoadFault bytes fault → (d : Draft) (bs : List Behaviour) → IsFederationFile bytes d bs
-    → fault ≡ Memory
-accepted bytes fault (inl memory) d bs file = memory
-accepted bytes fault (inr h) d bs file = absurd (no_load_fault bytes d bs fault file h)
-
-pub accepted_all : {X : Type 0} (bytes : List ℕ) (r : Result X LoadFault) → IfErr r (λ fault. (fault ≡ Memory) ⊎ HasLoadFault bytes fault) → (d : Draft) (bs : List Behaviour)
-    → IsFederationFile bytes d bs → IfErr r (λ fault. fault ≡ Memory)
-accepted_all bytes (Ok x) h d bs file = tt
-accepted_all bytes (Err fault) h d bs file = accepted bytes fault h d bs file
+pub accepted : (bytes : List ℕ) (r : Result (Draft × List Behaviour) LoadFault) → IsLoading bytes r → (d : Draft) (bs : List Behaviour) → IsFederationFile bytes d bs
+    → IfErr r (λ fault. fault ≡ Memory)
+accepted bytes (Ok x) h d bs file = tt
+accepted bytes (Err fault) h d bs file = only_memory bytes d bs fault file h

@@ -1,13 +1,19 @@
 -- An input file says one list of inputs, and what it says meets no refusal.
-use Rattle.std.specs.Prelude.{IfErr}
-use Rattle.std.proofs.Common.{Result, Ok, Err, ◌≡◌, ◌⊎◌, inl, inr, ℕ, ℤ, List, codes, ap, ◌∙◌, subst, arith}
+use Rattle.std.specs.Prelude.{◌≤◌, length, AllPairs, IfOk, IfErr}
+use Rattle.std.proofs.Common.{Result, Ok, Err, ◌≡◌, ◌⊎◌, inl, inr, ℕ, ℤ, List, codes, ap, ◌∙◌, refl, sym, subst, arith}
 use Rattle.toml.specs.Data.{Members}
 use Rattle.plan.specs.declared.draft.Draft.{Draft}
 use Rattle.plan.specs.declared.input.Input.{Input}
-use Rattle.plan.specs.External.{AreInputsOf}
+use Rattle.plan.specs.declared.input.TheConstants.{MOST_INPUTS}
+use Rattle.plan.specs.declared.fault.InputFault.{InputFault}
+use Rattle.plan.specs.declared.fault.InputFault.TheVariants as input_fault
+use Rattle.plan.specs.External.{AreApart, AreInputsOf}
 use Rattle.tables.specs.declared.fault.LoadFault.{LoadFault}
-use Rattle.tables.specs.declared.fault.LoadFault.TheVariants.{Memory}
-use Rattle.loadfed.specs.InputShape.{SaysInput, SaysInputs, HasInputFault, HasInputsFault, SaysInputFile, IsFaultOfInputs, HasInputFileFault}
+use Rattle.tables.specs.declared.fault.LoadFault.TheVariants.{NotToml, Memory}
+use Rattle.tables.specs.Documents.{IsDocument}
+use Rattle.loadfed.specs.Told.{fault_of_inputs}
+use Rattle.loadfed.specs.declared.recorded.TheConstants.{MOST_INPUT_BYTES}
+use Rattle.loadfed.specs.InputShape.{SaysInput, SaysInputs, HasInputFault, HasInputsFault, SaysInputFile, AreKnown, IsFaultOfInputs, unknown_action, repeated_input, too_many, HasInputFileFault, out_of_memory, too_long, no_document, wrong_shape, no_inputs, IsInputLoading}
 use Rattle.tables.proofs.OneReading.{one_text, one_number, one_duration, one_microstep}
 use Rattle.loadfed.proofs.OneReading.{one_each}
 use Rattle.loadfed.proofs.NoFault.{none_unknown, none_in_tables}
@@ -43,28 +49,63 @@ same_inputs bytes is js h k =
     one_each SaysInput one_input (codes "input") h.file is js h.says.inputs_are says.inputs_are
 
 none_of_inputs : (d : Draft) (is : List Input) (fault : LoadFault) → AreInputsOf d is → IsFaultOfInputs d is fault → ⊥
-none_of_inputs d is fault a (inl h) = h.unknown a.known
-none_of_inputs d is fault a (inr (inl h)) = h.repeated a.apart
-none_of_inputs d is fault a (inr (inr h)) = h.many a.few
+none_of_inputs d is fault a (unknown_action told unknown) = unknown a.known
+none_of_inputs d is fault a (repeated_input told known repeated) = repeated a.apart
+none_of_inputs d is fault a (too_many told known apart many) = many a.few
 
-no_input_file_fault : (d : Draft) (bytes : List ℕ) (is : List Input) (fault : LoadFault) → SaysInputFile bytes is → AreInputsOf d is → HasInputFileFault d bytes fault → ⊥
-no_input_file_fault d bytes is fault file all (inl h) =
+-- what stands against an input file of the federation is want of memory
+only_memory : (d : Draft) (bytes : List ℕ) (is : List Input) (fault : LoadFault) → SaysInputFile bytes is → AreInputsOf d is → HasInputFileFault d bytes fault → fault ≡ Memory
+only_memory d bytes is fault file all (out_of_memory memory few) = memory
+only_memory d bytes is fault file all (too_long h) =
     let few = file.few in
     let long = h.long in
-    omega arith
-no_input_file_fault d bytes is fault file all (inr (inl h)) = h.none file.file file.document
-no_input_file_fault d bytes is fault file all (inr (inr (inl h))) =
+    let no : ⊥ = omega arith in
+    absurd no
+only_memory d bytes is fault file all (no_document h) = absurd (h.none file.file file.document)
+only_memory d bytes is fault file all (wrong_shape h) =
     let same = one_document bytes h.file file.file h.document file.document in
-    none_inputs fault file.file is file.says (subst (λ m. HasInputsFault m fault) same h.wrong)
-no_input_file_fault d bytes is fault file all (inr (inr (inr h))) =
-    none_of_inputs d is fault all (subst (λ x. IsFaultOfInputs d x fault) (same_inputs bytes h.inputs is h.declared file) h.refused)
+    absurd (none_inputs fault file.file is file.says (subst (λ m. HasInputsFault m fault) same h.wrong))
+only_memory d bytes is fault file all (no_inputs h) =
+    absurd (none_of_inputs d is fault all (subst (λ x. IsFaultOfInputs d x fault) (same_inputs bytes h.inputs is h.declared file) h.refused))
 
-pub inputs_accepted : (d : Draft) (bytes : List ℕ) (fault : LoadFault) → (fault ≡ Memory) ⊎ HasInputFileFault d bytes fault → (is : List Input) → SaysInputFile bytes is → AreInputsOf d is
-    → fault ≡ Memory
-inputs_accepted d bytes fault (inl memory) is file all = memory
-inputs_accepted d bytes fault (inr h) is file all = absurd (no_input_file_fault d bytes is fault file all h)
+pub inputs_accepted : (d : Draft) (bytes : List ℕ) (r : Result (List Input) LoadFault) → IsInputLoading d bytes r → (is : List Input) → SaysInputFile bytes is → AreInputsOf d is
+    → IfErr r (λ fault. fault ≡ Memory)
+inputs_accepted d bytes (Ok x) h is file all = tt
+inputs_accepted d bytes (Err fault) h is file all = only_memory d bytes is fault file all h
 
-pub inputs_accepted_all : {X : Type 0} (d : Draft) (bytes : List ℕ) (r : Result X LoadFault) → IfErr r (λ fault. (fault ≡ Memory) ⊎ HasInputFileFault d bytes fault) → (is : List Input)
-    → SaysInputFile bytes is → AreInputsOf d is → IfErr r (λ fault. fault ≡ Memory)
-inputs_accepted_all d bytes (Ok x) h is file all = tt
-inputs_accepted_all d bytes (Err fault) h is file all = inputs_accepted d bytes fault h is file all
+-- a fault of recorded inputs, which isn't want of memory, stands against them
+pub inputs_told : (d : Draft) (is : List Input) (reason : InputFault) → (reason ≡ input_fault.UnknownAction → ¬ (AreKnown d is))
+    → (reason ≡ input_fault.RepeatedInput → AreKnown d is × ¬ (AllPairs AreApart is))
+    → (reason ≡ input_fault.OverLimit → AreKnown d is × AllPairs AreApart is × ¬ (length is ≤ MOST_INPUTS))
+    → (fault_of_inputs reason ≡ Memory) ⊎ IsFaultOfInputs d is (fault_of_inputs reason)
+inputs_told d is input_fault.UnknownAction unknown repeated over = inr (unknown_action refl (unknown refl))
+inputs_told d is input_fault.RepeatedInput unknown repeated over = let h = repeated refl in inr (repeated_input refl h.0 h.1)
+inputs_told d is input_fault.OverLimit unknown repeated over = let h = over refl in inr (too_many refl h.0 h.1 h.2)
+inputs_told d is input_fault.Memory unknown repeated over = inl refl
+
+-- an input file that isn't too long, and is no document
+pub input_table_told : (d : Draft) (bytes : List ℕ) (fault : LoadFault) → length bytes ≤ MOST_INPUT_BYTES
+    → (fault ≡ Memory) ⊎ ((fault ≡ NotToml) × ((file : Members) → ¬ (IsDocument bytes file))) → HasInputFileFault d bytes fault
+input_table_told d bytes fault few (inl memory) = out_of_memory memory few
+input_table_told d bytes fault few (inr h) = no_document (record { few = few; told = h.0; none = h.1 })
+
+pub input_shape_told : (d : Draft) (bytes : List ℕ) (m file : Members) (fault : LoadFault) → m ≡ file → length bytes ≤ MOST_INPUT_BYTES → IsDocument bytes file
+    → (fault ≡ Memory) ⊎ HasInputsFault m fault → HasInputFileFault d bytes fault
+input_shape_told d bytes m file fault same few document (inl memory) = out_of_memory memory few
+input_shape_told d bytes m file fault same few document (inr h) =
+    wrong_shape (record { few = few; file = file; document = document; wrong = subst (λ x. HasInputsFault x fault) same h })
+
+-- what a document's inputs are loaded as
+pub checked_told : (d : Draft) (bytes : List ℕ) (m file : Members) (is : List Input) (r : Result (List Input) LoadFault)
+    → m ≡ file → length bytes ≤ MOST_INPUT_BYTES → IsDocument bytes file → SaysInputs m is
+    → IfOk r (λ checked. checked ≡ is) → IfOk r (AreInputsOf d) → IfErr r (λ fault. (fault ≡ Memory) ⊎ IsFaultOfInputs d is fault) → IsInputLoading d bytes r
+checked_told d bytes m file is (Ok checked) same few document says checks known refused =
+    let declared : SaysInputFile bytes is = record { few = few; file = file; document = document; says = subst (λ x. SaysInputs x is) same says } in
+    (subst (SaysInputFile bytes) (sym checks) declared, known)
+checked_told d bytes m file is (Err fault) same few document says checks known (inl memory) = out_of_memory memory few
+checked_told d bytes m file is (Err fault) same few document says checks known (inr h) =
+    no_inputs (record {
+      inputs = is;
+      declared = record { few = few; file = file; document = document; says = subst (λ x. SaysInputs x is) same says };
+      refused = h;
+    })

@@ -1,6 +1,6 @@
 -- How faults of the plan and of programs are told.
-use Rattle.std.proofs.Common.{◌≡◌, ◌⊎◌, inl, inr, ℕ, ◌≤◌, length, Some, subst, List, refl}
-use Rattle.std.specs.Prelude.{◌≢◌, slice_get}
+use Rattle.std.proofs.Common.{◌≡◌, ◌⊎◌, inl, inr, ℕ, ◌≤◌, length, Some, subst, sym, List, Result, Ok, Err, refl}
+use Rattle.std.specs.Prelude.{◌≢◌, slice_get, IfOk, OnOk, IfErr}
 use Rattle.toml.specs.Data.{Members}
 use Rattle.plan.specs.Legal.{IsLegal}
 use Rattle.plan.specs.declared.draft.Federate.{Federate}
@@ -12,14 +12,15 @@ use Rattle.plan.specs.Legal.{IsLegal}
 use Rattle.program.specs.declared.fault.ProgramFault.{ProgramFault}
 use Rattle.program.specs.declared.fault.ProgramFault.TheVariants as program_fault
 use Rattle.program.specs.Behaviour.{Behaviour}
+use Rattle.program.specs.Programs.{AreProgramsOf}
 use Rattle.program.specs.Spelled.{SpellsProgram, IsFaultOf}
 use Rattle.tables.specs.declared.fault.LoadFault.{LoadFault}
 use Rattle.tables.specs.declared.fault.LoadFault.TheVariants.{NotToml, Plan, Program, Memory}
 use Rattle.loadfed.specs.Told.{fault_of_plan}
-use Rattle.loadfed.specs.Shape.{ProgramDraft}
+use Rattle.loadfed.specs.Shape.{ProgramDraft, SaysFederation}
 use Rattle.tables.specs.Documents.{IsDocument}
 use Rattle.loadfed.specs.declared.federation.TheConstants.{MOST_BYTES}
-use Rattle.loadfed.specs.Loaded.{IsPlanFault, IsProgramFault, IsFaultAmong, HasLoadFault}
+use Rattle.loadfed.specs.Loaded.{SpellPrograms, SaysDraft, IsFederationFile, IsPlanFault, IsProgramFault, IsFaultAmong, HasLoadFault, out_of_memory, no_document, wrong_shape, illegal_plan, no_program, IsLoading}
 use Rattle.loadfed.specs.ShapeFaults.{HasShapeFault}
 
 stands : (d : Draft) (reason : PlanFault) → StandsIn d reason → reason ≢ plan_fault.Memory → (IsLegal d → reason ≡ plan_fault.Memory) → IsPlanFault d (Plan reason)
@@ -63,13 +64,30 @@ pub among_legal : (d e : Draft) (ps : List ProgramDraft) (fault : LoadFault) →
 among_legal d e ps fault same legal (inl memory) = inl memory
 among_legal d e ps fault same legal (inr h) = inr (inr (legal, subst (λ x. IsFaultAmong x.federates ps fault) same h))
 
+-- a file that isn't too long, and is no document
 pub table_told : (bytes : List ℕ) (fault : LoadFault) → length bytes ≤ MOST_BYTES → (fault ≡ Memory) ⊎ ((fault ≡ NotToml) × ((file : Members) → ¬ (IsDocument bytes file)))
-    → (fault ≡ Memory) ⊎ HasLoadFault bytes fault
-table_told bytes fault few (inl memory) = inl memory
-table_told bytes fault few (inr h) = inr (inr (inl (record { few = few; told = h.0; none = h.1 })))
+    → HasLoadFault bytes fault
+table_told bytes fault few (inl memory) = out_of_memory memory few
+table_told bytes fault few (inr h) = no_document (record { few = few; told = h.0; none = h.1 })
 
 pub shape_told : (bytes : List ℕ) (m file : Members) (fault : LoadFault) → m ≡ file → length bytes ≤ MOST_BYTES → IsDocument bytes file → (fault ≡ Memory) ⊎ HasShapeFault m fault
-    → (fault ≡ Memory) ⊎ HasLoadFault bytes fault
-shape_told bytes m file fault same few document (inl memory) = inl memory
+    → HasLoadFault bytes fault
+shape_told bytes m file fault same few document (inl memory) = out_of_memory memory few
 shape_told bytes m file fault same few document (inr h) =
-    inr (inr (inr (inl (record { few = few; file = file; document = document; wrong = subst (λ x. HasShapeFault x fault) same h }))))
+    wrong_shape (record { few = few; file = file; document = document; wrong = subst (λ x. HasShapeFault x fault) same h })
+
+-- what a document's draft is loaded as
+pub loaded_told : (bytes : List ℕ) (m file : Members) (d : Draft) (drafts : List ProgramDraft) (r : Result (Draft × List Behaviour) LoadFault)
+    → m ≡ file → length bytes ≤ MOST_BYTES → IsDocument bytes file → SaysFederation m d drafts
+    → IfOk r (λ loaded. loaded.0 ≡ d) → OnOk r (IsLegal d) → IfOk r (λ loaded. SpellPrograms d.federates drafts loaded.1) → IfOk r (λ loaded. AreProgramsOf loaded.0 loaded.1)
+    → IfErr r (λ fault. (fault ≡ Memory) ⊎ (IsPlanFault d fault ⊎ (IsLegal d × IsFaultAmong d.federates drafts fault))) → IsLoading bytes r
+loaded_told bytes m file d drafts (Ok loaded) same few document says plan legal spelled programs refused =
+    let declared : SaysDraft bytes d drafts = record { few = few; file = file; document = document; says = subst (λ x. SaysFederation x d drafts) same says } in
+    (subst (λ x. IsFederationFile bytes x loaded.1) (sym plan) (record { drafts = drafts; declared = declared; legal = legal; spelled = spelled }), programs)
+loaded_told bytes m file d drafts (Err fault) same few document says plan legal spelled programs (inl memory) = out_of_memory memory few
+loaded_told bytes m file d drafts (Err fault) same few document says plan legal spelled programs (inr (inl h)) =
+    let declared : SaysDraft bytes d drafts = record { few = few; file = file; document = document; says = subst (λ x. SaysFederation x d drafts) same says } in
+    illegal_plan (record { draft = d; drafts = drafts; declared = declared; refused = h })
+loaded_told bytes m file d drafts (Err fault) same few document says plan legal spelled programs (inr (inr h)) =
+    let declared : SaysDraft bytes d drafts = record { few = few; file = file; document = document; says = subst (λ x. SaysFederation x d drafts) same says } in
+    no_program (record { draft = d; drafts = drafts; declared = declared; legal = h.0; among = h.1 })

@@ -16,10 +16,6 @@ texts_of_triggers m ts h = (ts, h.0)
 pub no_triggers : (m : Members) (ts : List (List ℕ)) → SaysTexts (codes "triggers") m ts → ts ≡ [] → (us : List (List ℕ)) → SaysTriggers m us → ⊥
 no_triggers m ts says empty us h = h.1 (one_texts (codes "triggers") m us ts h.0 says ∙ empty)
 
-pub none_left : {A : Type 0} (xs : List A) → length xs ≡ 0 → xs ≡ []
-none_left [] e = refl
-none_left (x ∷ xs) e = absurd (omega arith)
-
 pub name_of_federate : (m : Members) (name : List ℕ) → SaysFederateName m name → (n : List ℕ) × SaysName (codes "name") m n
 name_of_federate m name h = (name, h.0)
 

@@ -1,12 +1,12 @@
 -- What an input file says, and what stands against it, stage by stage.
-use Rattle.std.specs.Prelude.{◌≡◌, ℕ, ◌≤◌, ◌⊎◌, List, [], ◌∷◌, length, codes, All, AllPairs, IsSome}
+use Rattle.std.specs.Prelude.{◌≡◌, ℕ, ◌≤◌, ◌⊎◌, List, [], ◌∷◌, length, codes, All, AllPairs, IsSome, Result, MatchResult}
 use Rattle.toml.specs.Data.{Members}
 use Rattle.plan.specs.declared.draft.Draft.{Draft}
 use Rattle.plan.specs.declared.input.Input.{Input}
-use Rattle.plan.specs.External.{found_action, AreApart}
+use Rattle.plan.specs.External.{found_action, AreApart, AreInputsOf}
 use Rattle.plan.specs.declared.input.TheConstants.{MOST_INPUTS}
 use Rattle.tables.specs.declared.fault.LoadFault.{LoadFault}
-use Rattle.tables.specs.declared.fault.LoadFault.TheVariants.{UnknownAction, RepeatedInput, OverLimit}
+use Rattle.tables.specs.declared.fault.LoadFault.TheVariants.{UnknownAction, RepeatedInput, OverLimit, Memory}
 use Rattle.tables.specs.Tables.{HasOnly, SaysText, SaysNumber, SaysDuration, SaysMicrostep, SaysEach}
 use Rattle.tables.specs.TableFaults.{IsWrongAt, HasUnknownKey}
 use Rattle.loadfed.specs.ShapeFaults.{HasTablesFault}
@@ -61,28 +61,14 @@ pub record SaysInputFile (bytes : List ℕ) (inputs : List Input) : Type 0 where
 abbrev pub AreKnown : Draft → List Input → Type 0
 AreKnown d inputs = All (λ i. IsSome (found_action d.federates i)) inputs
 
--- an input is for an action that isn't there
-pub record IsUnknownAction (d : Draft) (inputs : List Input) (fault : LoadFault) : Type 0 where
-  pub told : fault ≡ UnknownAction
-  pub unknown : ¬ (AreKnown d inputs)
-
--- all actions are there, and one of them has two inputs at one tag
-pub record IsRepeatedInput (d : Draft) (inputs : List Input) (fault : LoadFault) : Type 0 where
-  pub told : fault ≡ RepeatedInput
-  pub known : AreKnown d inputs
-  pub repeated : ¬ (AllPairs AreApart inputs)
-
--- all actions are there, none has two inputs at one tag, and there are more inputs than there may be
-pub record AreTooManyInputs (d : Draft) (inputs : List Input) (fault : LoadFault) : Type 0 where
-  pub told : fault ≡ OverLimit
-  pub known : AreKnown d inputs
-  pub apart : AllPairs AreApart inputs
-  pub many : ¬ (length inputs ≤ MOST_INPUTS)
-
--- what stands against recorded inputs, the first that does: an unknown action, a repeated input, too many of them
-abbrev pub IsFaultOfInputs : Draft → List Input → LoadFault → Type 0
-IsFaultOfInputs d inputs fault =
-    IsUnknownAction d inputs fault ⊎ (IsRepeatedInput d inputs fault ⊎ AreTooManyInputs d inputs fault)
+-- what stands against recorded inputs; each says that those before it don't
+pub data IsFaultOfInputs (d : Draft) (inputs : List Input) (fault : LoadFault) : Type 0 where
+  -- an input is for an action that isn't there
+  unknown_action : fault ≡ UnknownAction → ¬ (AreKnown d inputs) → IsFaultOfInputs d inputs fault
+  -- one action has two inputs at one tag
+  repeated_input : fault ≡ RepeatedInput → AreKnown d inputs → ¬ (AllPairs AreApart inputs) → IsFaultOfInputs d inputs fault
+  -- there are more inputs than there may be
+  too_many : fault ≡ OverLimit → AreKnown d inputs → AllPairs AreApart inputs → ¬ (length inputs ≤ MOST_INPUTS) → IsFaultOfInputs d inputs fault
 
 -- the recorded inputs aren't inputs of the federation
 pub record HasRecordedFault (d : Draft) (bytes : List ℕ) (fault : LoadFault) : Type 0 where
@@ -90,9 +76,19 @@ pub record HasRecordedFault (d : Draft) (bytes : List ℕ) (fault : LoadFault) :
   pub declared : SaysInputFile bytes inputs
   pub refused : IsFaultOfInputs d inputs fault
 
--- the stages, in their order; each says that those before it found no fault
-abbrev pub HasInputFileFault : Draft → List ℕ → LoadFault → Type 0
-HasInputFileFault d bytes fault =
-    IsTooLong MOST_INPUT_BYTES bytes fault
-    ⊎ (IsNoDocument MOST_INPUT_BYTES bytes fault
-    ⊎ (HasFileFault HasInputsFault MOST_INPUT_BYTES bytes fault ⊎ HasRecordedFault d bytes fault))
+-- what stands against an input file; each stage says that those before it found no fault
+pub data HasInputFileFault (d : Draft) (bytes : List ℕ) (fault : LoadFault) : Type 0 where
+  -- there was no memory for a file that isn't too long
+  out_of_memory : fault ≡ Memory → length bytes ≤ MOST_INPUT_BYTES → HasInputFileFault d bytes fault
+  -- it has more bytes than it may have
+  too_long : IsTooLong MOST_INPUT_BYTES bytes fault → HasInputFileFault d bytes fault
+  -- it is no TOML document
+  no_document : IsNoDocument MOST_INPUT_BYTES bytes fault → HasInputFileFault d bytes fault
+  -- its tables don't record inputs
+  wrong_shape : HasFileFault HasInputsFault MOST_INPUT_BYTES bytes fault → HasInputFileFault d bytes fault
+  -- the inputs that it records aren't inputs of the federation
+  no_inputs : HasRecordedFault d bytes fault → HasInputFileFault d bytes fault
+
+-- what loading an input file answers: the inputs of the federation that it records, or why it records none
+abbrev pub IsInputLoading : Draft → List ℕ → Result (List Input) LoadFault → Type 0
+IsInputLoading d bytes result = MatchResult result (λ inputs. SaysInputFile bytes inputs × AreInputsOf d inputs) (HasInputFileFault d bytes)

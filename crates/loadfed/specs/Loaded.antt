@@ -1,5 +1,5 @@
 -- What a federation file's bytes are, and what stands against them, stage by stage.
-use Rattle.std.specs.Prelude.{◌≡◌, ◌≢◌, ℕ, ◌<◌, ◌≤◌, ◌⊎◌, List, [], ◌∷◌, length, slice_get, Some}
+use Rattle.std.specs.Prelude.{◌≡◌, ◌≢◌, ℕ, ◌<◌, ◌≤◌, List, [], ◌∷◌, length, slice_get, Some, Result, MatchResult}
 use Rattle.toml.specs.Data.{Members}
 use Rattle.plan.specs.declared.draft.Federate.{Federate}
 use Rattle.plan.specs.declared.draft.Draft.{Draft}
@@ -10,9 +10,10 @@ use Rattle.plan.specs.Faults.{StandsIn}
 use Rattle.program.specs.declared.fault.ProgramFault.{ProgramFault}
 use Rattle.program.specs.declared.fault.ProgramFault.TheVariants as program_fault
 use Rattle.program.specs.Behaviour.{Behaviour}
+use Rattle.program.specs.Programs.{AreProgramsOf}
 use Rattle.program.specs.Spelled.{SpellsProgram, IsFaultOf}
 use Rattle.tables.specs.declared.fault.LoadFault.{LoadFault}
-use Rattle.tables.specs.declared.fault.LoadFault.TheVariants.{NotToml, Plan, Program, OverLimit}
+use Rattle.tables.specs.declared.fault.LoadFault.TheVariants.{NotToml, Plan, Program, OverLimit, Memory}
 use Rattle.tables.specs.Documents.{IsDocument}
 use Rattle.loadfed.specs.declared.federation.TheConstants.{MOST_BYTES}
 use Rattle.loadfed.specs.Shape.{ProgramDraft, SaysFederation}
@@ -97,9 +98,22 @@ pub record HasProgramFault (bytes : List ℕ) (fault : LoadFault) : Type 0 where
   pub legal : IsLegal draft
   pub among : IsFaultAmong draft.federates drafts fault
 
--- the stages, in their order; each says that those before it found no fault
-abbrev pub HasLoadFault : List ℕ → LoadFault → Type 0
-HasLoadFault bytes fault =
-    IsTooLong MOST_BYTES bytes fault
-    ⊎ (IsNoDocument MOST_BYTES bytes fault
-    ⊎ (HasFileFault HasShapeFault MOST_BYTES bytes fault ⊎ (HasPlanFault bytes fault ⊎ HasProgramFault bytes fault)))
+-- what stands against a federation file; each stage says that those before it found no fault
+pub data HasLoadFault (bytes : List ℕ) (fault : LoadFault) : Type 0 where
+  -- there was no memory for a file that isn't too long
+  out_of_memory : fault ≡ Memory → length bytes ≤ MOST_BYTES → HasLoadFault bytes fault
+  -- it has more bytes than it may have
+  too_long : IsTooLong MOST_BYTES bytes fault → HasLoadFault bytes fault
+  -- it is no TOML document
+  no_document : IsNoDocument MOST_BYTES bytes fault → HasLoadFault bytes fault
+  -- its tables don't declare a federation
+  wrong_shape : HasFileFault HasShapeFault MOST_BYTES bytes fault → HasLoadFault bytes fault
+  -- the federation that it declares isn't legal
+  illegal_plan : HasPlanFault bytes fault → HasLoadFault bytes fault
+  -- the federation is legal, and what one of its federates declares is no program
+  no_program : HasProgramFault bytes fault → HasLoadFault bytes fault
+
+-- what loading a federation file answers: the federation that it is, with its programs, or why it is none
+abbrev pub IsLoading : List ℕ → Result (Draft × List Behaviour) LoadFault → Type 0
+IsLoading bytes result =
+    MatchResult result (λ loaded. IsFederationFile bytes loaded.0 loaded.1 × AreProgramsOf loaded.0 loaded.1) (HasLoadFault bytes)

@@ -1,12 +1,11 @@
-ghost use Rattle.std.specs.Prelude.{◌≡◌, ◌≤◌, ◌⊎◌, List, IfOk, IfErr, OnOk, vec_len, length};
+ghost use Rattle.std.specs.Prelude.{◌≡◌, ◌⊎◌, List, IfOk, IfErr, OnOk};
 ghost use Rattle.loadfed.specs.Ready.{AreReady};
 ghost use Rattle.plan.specs.declared.draft.Draft.{Draft};
 ghost use Rattle.plan.specs.Legal.{IsLegal};
 ghost use Rattle.program.specs.Behaviour.{Behaviour};
 ghost use Rattle.program.specs.Programs.{AreProgramsOf};
 ghost use Rattle.program.specs.Spelled.{SpellsProgram, IsReadable};
-ghost use Rattle.loadfed.specs.declared.federation.TheConstants.{MOST_BYTES};
-ghost use Rattle.loadfed.specs.Loaded.{SpellPrograms, IsFederationFile, IsPlanFault, IsProgramFault, IsFaultAmong, HasLoadFault};
+ghost use Rattle.loadfed.specs.Loaded.{SpellPrograms, IsFederationFile, IsPlanFault, IsProgramFault, IsFaultAmong, IsLoading};
 
 use crate::federation_shape::{Shape, federation_shape};
 use crate::program_shape::ProgramShape;
@@ -21,24 +20,16 @@ pub const MOST_BYTES: usize = 1_048_576;
 
 /// The federation that a file's bytes spell. The first stage that has a fault answers: size, TOML, shape, plan, programs.
 pub fn load(alloc: Global, bytes: &[u8]) -> Result<(Plan, Programs), LoadFault>
-    ensures ok { IfOk result (λ loaded. IsFederationFile bytes.now loaded.0 loaded.1) }
-    ensures programs { IfOk result (λ loaded. AreProgramsOf loaded.0 loaded.1) }
+    ensures outcome { IsLoading bytes.now result }
 
     // Of a file that is a federation want of memory alone is told.
     ensures accepts { (d : Draft) (programs : List Behaviour) → IsFederationFile bytes.now d programs → IfErr result (λ fault. fault ≡ LoadFault.Memory) }
-    ensures refused { IfErr result (λ fault. (fault ≡ LoadFault.Memory) ⊎ HasLoadFault bytes.now fault) }
-
-    // Of a file over its limit it is never told.
-    ensures memory { IfErr result (λ fault. fault ≡ LoadFault.Memory → length bytes.now ≤ MOST_BYTES) }
 {
     staged(alloc, bytes)
 }
 
 fn staged(alloc: Global, bytes: &[u8]) -> Result<(Plan, Programs), LoadFault>
-    ensures ok { IfOk result (λ loaded. IsFederationFile bytes.now loaded.0 loaded.1) }
-    ensures programs { IfOk result (λ loaded. AreProgramsOf loaded.0 loaded.1) }
-    ensures refused { IfErr result (λ fault. (fault ≡ LoadFault.Memory) ⊎ HasLoadFault bytes.now fault) }
-    ensures memory { IfErr result (λ fault. fault ≡ LoadFault.Memory → length bytes.now ≤ MOST_BYTES) }
+    ensures { IsLoading bytes.now result }
 {
     if bytes.len() > MOST_BYTES {
         return Err(LoadFault::OverLimit);

@@ -1,9 +1,8 @@
-ghost use Rattle.std.specs.Prelude.{◌≡◌, ◌≤◌, ◌⊎◌, List, IfOk, IfErr, codes, length};
+ghost use Rattle.std.specs.Prelude.{◌≡◌, ◌⊎◌, List, IfOk, IfErr, codes};
 ghost use Rattle.plan.specs.declared.input.Input.{Input};
 ghost use Rattle.plan.specs.External.{AreInputsOf};
 ghost use Rattle.tables.specs.Sections.{members_of};
-ghost use Rattle.loadfed.specs.declared.recorded.TheConstants.{MOST_INPUT_BYTES};
-ghost use Rattle.loadfed.specs.InputShape.{SaysInput, SaysInputs, HasInputFault, HasInputsFault, SaysInputFile, IsFaultOfInputs, HasInputFileFault};
+ghost use Rattle.loadfed.specs.InputShape.{SaysInput, SaysInputs, HasInputFault, HasInputsFault, SaysInputFile, IsFaultOfInputs, IsInputLoading};
 
 use crate::arrays::{FromTable, read_each};
 use crate::told::of_inputs;
@@ -18,24 +17,16 @@ pub const MOST_INPUT_BYTES: usize = 8_388_608;
 /// The inputs of this plan that a file's bytes record. The first stage that has a fault answers: size, TOML, shape, then an
 /// unknown action, a repeated input, and too many of them.
 pub fn load_inputs(alloc: Global, bytes: &[u8], plan: &Plan) -> Result<Inputs, LoadFault>
-    ensures ok { IfOk result (SaysInputFile bytes.now) }
-    ensures known { IfOk result (AreInputsOf plan.now) }
+    ensures outcome { IsInputLoading plan.now bytes.now result }
 
     // Of a file that records inputs of the plan want of memory alone is told.
     ensures accepts { (inputs : List Input) → SaysInputFile bytes.now inputs → AreInputsOf plan.now inputs → IfErr result (λ fault. fault ≡ LoadFault.Memory) }
-    ensures refused { IfErr result (λ fault. (fault ≡ LoadFault.Memory) ⊎ HasInputFileFault plan.now bytes.now fault) }
-
-    // Of a file over its limit it is never told.
-    ensures memory { IfErr result (λ fault. fault ≡ LoadFault.Memory → length bytes.now ≤ MOST_INPUT_BYTES) }
 {
     staged(alloc, bytes, plan)
 }
 
 fn staged(alloc: Global, bytes: &[u8], plan: &Plan) -> Result<Inputs, LoadFault>
-    ensures ok { IfOk result (SaysInputFile bytes.now) }
-    ensures known { IfOk result (AreInputsOf plan.now) }
-    ensures refused { IfErr result (λ fault. (fault ≡ LoadFault.Memory) ⊎ HasInputFileFault plan.now bytes.now fault) }
-    ensures memory { IfErr result (λ fault. fault ≡ LoadFault.Memory → length bytes.now ≤ MOST_INPUT_BYTES) }
+    ensures { IsInputLoading plan.now bytes.now result }
 {
     if bytes.len() > MOST_INPUT_BYTES {
         return Err(LoadFault::OverLimit);

@@ -1,6 +1,5 @@
-use Rattle.loadfed.proofs.Accepted.{accepted_all}
+use Rattle.loadfed.proofs.Accepted.{accepted}
 use Rattle.loadfed.proofs.federation.load.Goals as goal
 
 pub returns-clause-accepts : goal.returns-clause-accepts
-returns-clause-accepts c =
-    accepted_all c.args.bytes.now c.staged.result c.staged.ensures.refused
+returns-clause-accepts c = accepted c.args.bytes.now c.staged.result c.staged.ensures

@@ -2,7 +2,7 @@ use Rattle.std.proofs.Common.{◌≡◌, ◌∷◌, [], ◌++◌, List, map, len
 use Rattle.std.specs.Vec.Iter.{into_iter_items}
 use Rattle.std.proofs.lemmas.List.{map-append}
 use Rattle.loadfed.specs.declared.federation_shape.FederateShape.{FederateShape}
-use Rattle.loadfed.proofs.ShapeReadings.{none_left}
+use Rattle.std.proofs.lemmas.List.{nil_from_length}
 use Rattle.loadfed.proofs.federation_shape.parted.Goals as goal
 
 pub loop-shape-preserved : goal.loop-shape-preserved
@@ -25,7 +25,7 @@ pub returns-clause-ok : goal.returns-clause-ok
 returns-clause-ok c =
     let at = c.loop-shape in
     let none = c.in-None.ensures.steps in
-    let empty : into_iter_items at.shape-iterator ≡ [] = none_left _ (sym at.invariant.3 ∙ none.0) in
+    let empty : into_iter_items at.shape-iterator ≡ [] = nil_from_length _ (sym at.invariant.3 ∙ none.0) in
     let all : at.yielded ≡ c.args.shapes.items
     = sym (append-nil at.yielded) ∙ sym (ap (λ xs. at.yielded ++ xs) empty) ∙ sym at.invariant.2 in (
       c.new.ensures ∙ sym at.invariant.0 ∙ ap (map (λ (s : FederateShape). s.federate)) all,

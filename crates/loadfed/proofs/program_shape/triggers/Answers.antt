@@ -3,7 +3,8 @@ use Rattle.std.proofs.lemmas.Bool.Decides.{nat_tests}
 use Rattle.std.proofs.lemmas.Result.{err_from_is_err_and}
 use Rattle.tables.specs.Sections.{members_of}
 use Rattle.tables.proofs.Refusals.{weaker, told}
-use Rattle.loadfed.proofs.ShapeReadings.{texts_of_triggers, no_triggers, none_left}
+use Rattle.std.proofs.lemmas.List.{nil_from_length}
+use Rattle.loadfed.proofs.ShapeReadings.{texts_of_triggers, no_triggers}
 use Rattle.loadfed.proofs.program_shape.triggers.Goals as goal
 
 pub returns-in_err-triggers-clause-refused : goal.returns-in_err-triggers-clause-refused
@@ -16,4 +17,4 @@ returns-then-is_empty-clause-refused c =
     let test = sym c.is_empty.ensures ∙ c.if-is_empty.true in
     let none : length c.as_slice.result.now ≡ 0 = grind (arith, nat_tests) in
     told _ _ _ (no_triggers (members_of c.args.section.now) c.in_ok-triggers.triggers c.in_ok-triggers.ensures.ok
-    (none_left c.in_ok-triggers.triggers (rw c.as_slice.ensures at none))) c.wrong_shape.ensures
+    (nil_from_length c.in_ok-triggers.triggers (rw c.as_slice.ensures at none))) c.wrong_shape.ensures
