@@ -1,20 +1,20 @@
 -- Which fault stands where nothing more is printed: in the words, in the files of the request, or after all was loaded. What a
 -- writer holds before and after is said of faults that come after that.
-use Rattle.std.specs.Prelude.{◌≡◌, ℕ, IsTrue, Bool, ◌⊎◌, List, Option}
+use Rattle.std.specs.Prelude.{◌≡◌, ℕ, ◌⊎◌, List, [], ◌∷◌, ◌++◌, Option}
 use Rattle.std.specs.Borrow.{Bor}
-use Rattle.std.specs.Io.KnownBytes.{Appends}
 use Rattle.plan.specs.declared.draft.Draft.{Draft}
 use Rattle.program.specs.Behaviour.{Behaviour}
 use Rattle.reactor.specs.declared.memory.Memory as turns
 use Rattle.printed.specs.declared.memory.Memory as text
 use Rattle.stage.specs.declared.memory.Memory as steps
 use Rattle.tables.specs.declared.fault.LoadFault.TheVariants.{Memory}
+use Rattle.files.specs.Answers.{Answer, given}
 use Rattle.files.specs.Contents.{Contents}
 use Rattle.sources.specs.declared.fault.SourceFault.{SourceFault}
 use Rattle.sources.specs.declared.fault.SourceFault.TheVariants.{Load}
 use Rattle.sources.specs.declared.reading.Sources.{Sources}
 use Rattle.sources.specs.Loaded.{input_file, IsFederation, HoldsOfSources}
-use Rattle.sources.specs.Refused.{IsFederationFault, IsScheduleFault, IsSourcesFault}
+use Rattle.sources.specs.Refused.{asked_sources, IsFederationFault, IsScheduleFault, IsSourcesFault}
 use Rattle.replay.specs.declared.fault.ReplayFault.TheVariants as broken
 use Rattle.replay.specs.Replayed.{IsBrokenOff}
 use Rattle.undivided.specs.Printed.{PrintsFirstRows}
@@ -76,28 +76,34 @@ pub record IsPrintFault (federation before after : Option (List ℕ)) (fault : F
   pub federation_is : IsFederation federation draft programs
   pub later : IsPlanFault before after fault
 
--- why a request isn't done: the federation file's fault comes first, then the input file's, then the schedule's
-abbrev pub IsFaultOf : Contents → Option (List ℕ) → Option (List ℕ) → Request → Fault → Type 0
-IsFaultOf contents before after (Whole federation inputs turns) fault =
-    IsSourceFault (IsSourcesFault federation inputs contents) fault
-    ⊎ HoldsOfSources (contents federation.now) (input_file contents inputs.now) (λ s. IsWholeFault s turns before after fault)
-IsFaultOf contents before after (Check federation) fault =
-    IsSourceFault (IsFederationFault federation contents) fault ⊎ IsPrintFault (contents federation.now) before after fault
-IsFaultOf contents before after (Replay federation inputs schedule until_stuck) fault =
-    IsSourceFault (IsSourcesFault federation inputs contents) fault
+-- why a request isn't done, and what was answered about files till then: the federation file's fault comes first, then the input
+-- file's, then the schedule's
+abbrev pub IsFaultOf : Contents → (List Answer → Type 0) → Option (List ℕ) → Option (List ℕ) → Request → Fault → Type 0
+IsFaultOf contents answered before after (Whole federation inputs turns) fault =
+    IsSourceFault (IsSourcesFault federation inputs contents answered) fault
+    ⊎ (answered (asked_sources federation.now inputs.now)
+    × HoldsOfSources (contents federation.now) (input_file contents inputs.now) (λ s. IsWholeFault s turns before after fault))
+IsFaultOf contents answered before after (Check federation) fault =
+    IsSourceFault (IsFederationFault federation contents answered) fault
+    ⊎ (answered (given federation.now ∷ []) × IsPrintFault (contents federation.now) before after fault)
+IsFaultOf contents answered before after (Replay federation inputs schedule until_stuck) fault =
+    IsSourceFault (IsSourcesFault federation inputs contents answered) fault
     ⊎ HoldsOfSources (contents federation.now) (input_file contents inputs.now)
-    (λ s. IsSourceFault (IsScheduleFault schedule contents) fault ⊎ IsReplayFault s before after fault)
-IsFaultOf contents before after (RunOf federation inputs turns) fault =
-    IsSourceFault (IsSourcesFault federation inputs contents) fault
-    ⊎ HoldsOfSources (contents federation.now) (input_file contents inputs.now) (λ s. IsRunFault s before after fault)
+    (λ s. IsSourceFault (IsScheduleFault schedule contents (λ later. answered (asked_sources federation.now inputs.now ++ later))) fault
+    ⊎ (answered (asked_sources federation.now inputs.now ++ given schedule.now ∷ []) × IsReplayFault s before after fault))
+IsFaultOf contents answered before after (RunOf federation inputs turns) fault =
+    IsSourceFault (IsSourcesFault federation inputs contents answered) fault
+    ⊎ (answered (asked_sources federation.now inputs.now)
+    × HoldsOfSources (contents federation.now) (input_file contents inputs.now) (λ s. IsRunFault s before after fault))
 
--- the fault is one of words, or stands against some request
-abbrev pub Stands : Contents → Option (List ℕ) → Option (List ℕ) → Fault → Type 0
-Stands contents before after fault = IsWordsFault fault ⊎ ((request : Request) × IsFaultOf contents before after request fault)
+-- the fault is one of words, and no file was asked for, or it stands against some request
+abbrev pub Stands : Contents → (List Answer → Type 0) → Option (List ℕ) → Option (List ℕ) → Fault → Type 0
+Stands contents answered before after fault =
+    (IsWordsFault fault × answered []) ⊎ ((request : Request) × IsFaultOf contents answered before after request fault)
 
--- the exit status is that of a fault that stands, with what was written; where its line could be written, a writer's bytes grew by it
-pub record TellsFault (contents : Contents) (status : ℕ) (is_told : Bool) (out_before out_after before after : Option (List ℕ)) : Type 0 where
+-- the exit status is that of a fault that stands, with what was answered and written; of its line and no other this holds
+pub record TellsFault (contents : Contents) (answered : List Answer → Type 0) (status : ℕ) (before after : Option (List ℕ)) (IsTold : List ℕ → Type 0) : Type 0 where
   pub fault : Fault
-  pub stands : Stands contents out_before out_after fault
+  pub stands : Stands contents answered before after fault
   pub status_is : status ≡ status_of fault
-  pub line : IsTrue is_told → Appends before after (line_of fault)
+  pub line : IsTold (line_of fault)

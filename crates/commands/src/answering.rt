@@ -1,10 +1,11 @@
-ghost use Rattle.std.specs.Prelude.{◌≡◌, ◌≢◌, ◌≤◌, Bool, IsTrue};
-ghost use Rattle.std.specs.Io.KnownBytes.{Appends};
+ghost use Rattle.std.specs.Prelude.{◌≡◌, ◌≢◌, ◌≤◌};
+ghost use Rattle.telling.specs.Pieces.{AppendsBeginning, AppendsTold};
+ghost use Rattle.files.specs.Answers.{Answers};
 ghost use Rattle.commands.specs.Faults.{status_of, line_of};
 ghost use Rattle.commands.specs.Printed.{PrintsAnswer};
 ghost use Rattle.commands.specs.Refused.{TellsFault};
 
-use crate::fault::Fault;
+use crate::fault::{Fault, Line};
 use crate::requests::perform;
 use files::Files;
 use std::io::Write;
@@ -12,11 +13,13 @@ use std::net::{Net, TcpListener, TcpStream};
 use std::sync::Wait;
 use std::thread::Threads;
 use std::time::Clock;
+use telling::tell;
 
 /// Does what the words ask for, over these files, and answers the exit status: 0 where it is done, 1 where what it was given
 /// is refused or can't be read, 2 where the words are no command, 3 where it couldn't finish. What it has to say of a
-/// failure is one line to `err`; whether that line can be written changes nothing else. With 0, `run` printed the rows of
-/// reports that the audit proved, and whose coordinator is finished.
+/// failure is one line to `err`: what `err` gains is a beginning of that line, and all of it unless `err` refuses bytes; what
+/// it refuses changes nothing else. With 0, `run` printed the rows of reports that the audit proved, and whose coordinator is
+/// finished.
 pub fn command<
     R: AllocGlobal
         + Threads
@@ -30,7 +33,7 @@ pub fn command<
 >(rt: &R, words: &[String], files: &mut F, out: &mut O, err: &mut E) -> u8
     ensures done { result ≡ 0 → PrintsAnswer (F.contents files.old) (O.contents out.old) (O.contents out.new) }
     ensures quiet { result ≡ 0 → err.new ≡ err.old }
-    ensures told { result ≢ 0 → (is_told : Bool) × TellsFault (F.contents files.old) result is_told (O.contents out.old) (O.contents out.new) (E.contents err.old) (E.contents err.new) }
+    ensures told { result ≢ 0 → TellsFault (F.contents files.old) (Answers (F.answers files.old) (F.answers files.new)) result (O.contents out.old) (O.contents out.new) (AppendsBeginning (E.contents err.old) (E.contents err.new)) }
     ensures untouched { result ≡ 1 → out.new ≡ out.old }
     ensures unused { result ≡ 2 → out.new ≡ out.old }
     ensures statuses { result ≤ 3 }
@@ -61,7 +64,7 @@ pub fn answer<
 >(rt: &R, words: &[String], files: &mut F, out: &mut O, err: &mut E) -> Answered
     ensures done { result.status ≡ 0 → PrintsAnswer (F.contents files.old) (O.contents out.old) (O.contents out.new) }
     ensures quiet { result.status ≡ 0 → err.new ≡ err.old }
-    ensures told { result.status ≢ 0 → TellsFault (F.contents files.old) result.status result.is_told (O.contents out.old) (O.contents out.new) (E.contents err.old) (E.contents err.new) }
+    ensures told { result.status ≢ 0 → TellsFault (F.contents files.old) (Answers (F.answers files.old) (F.answers files.new)) result.status (O.contents out.old) (O.contents out.new) (AppendsTold result.is_told (E.contents err.old) (E.contents err.new)) }
     ensures untouched { result.status ≡ 1 → out.new ≡ out.old }
     ensures unused { result.status ≡ 2 → out.new ≡ out.old }
     ensures statuses { result.status ≤ 3 }
@@ -78,9 +81,9 @@ pub fn answer<
 /// Tells a fault on one line, with its exit status.
 pub fn refuse<E: Write>(fault: &Fault<'_>, err: &mut E) -> Answered
     ensures status { result.status ≡ status_of fault.now }
-    ensures line { IsTrue result.is_told → Appends (E.contents err.old) (E.contents err.new) (line_of fault.now) }
+    ensures line { AppendsTold result.is_told (E.contents err.old) (E.contents err.new) (line_of fault.now) }
 {
-    let is_told = writeln!(err, "fedrun: {fault}").is_ok();
+    let is_told = tell(err, &Line(fault));
     Answered {
         status: fault.status(),
         is_told,

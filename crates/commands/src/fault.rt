@@ -91,3 +91,19 @@ impl fmt::Display for Fault<'_> {
         }
     }
 }
+
+/// The line that tells a fault.
+#[derive(Drop)]
+pub(crate) struct Line<'a, 'b>(pub &'a Fault<'b>);
+
+impl fmt::Display for Line<'_, '_> {
+    ghost use Rattle.std.specs.Prelude.{Some};
+    ghost use Rattle.commands.specs.Faults.{line_of};
+
+    ghost output = { λ line. Some (line_of line.0.now) };
+
+    fn fmt<W: fmt::Write>(&self, f: &mut fmt::Formatter<W>) -> fmt::Result {
+        let fault = self.0;
+        write!(f, "fedrun: {fault}\n")
+    }
+}

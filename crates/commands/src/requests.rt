@@ -1,5 +1,6 @@
 //! Each request: its files are read first, and then it prints.
 ghost use Rattle.std.specs.Prelude.{◌≡◌, ◌≢◌, IfErr, OnOk};
+ghost use Rattle.files.specs.Answers.{Answers};
 ghost use Rattle.commands.specs.Faults.{status_of};
 ghost use Rattle.commands.specs.Printed.{PrintsFor, PrintsAnswer};
 ghost use Rattle.commands.specs.Refused.{IsWordsFault, IsFaultOf, Stands};
@@ -17,6 +18,7 @@ use std::time::Clock;
 use words::{Request, read_words};
 
 /// Does what the words ask for.
+#[tactic(auto, using(files::proofs::InTurn::none_answered))]
 pub(crate) fn perform<
     'a,
     R: AllocGlobal
@@ -29,7 +31,7 @@ pub(crate) fn perform<
     O: Write,
 >(rt: &R, words: &'a [String], files: &mut F, out: &mut O) -> Result<(), Fault<'a>>
     ensures ok { OnOk result (PrintsAnswer (F.contents files.old) (O.contents out.old) (O.contents out.new)) }
-    ensures stands { IfErr result (Stands (F.contents files.old) (O.contents out.old) (O.contents out.new)) }
+    ensures stands { IfErr result (Stands (F.contents files.old) (Answers (F.answers files.old) (F.answers files.new)) (O.contents out.old) (O.contents out.new)) }
     ensures untouched { IfErr result (λ fault. status_of fault ≢ 3 → out.new ≡ out.old) }
 {
     let alloc = rt.alloc();
@@ -74,7 +76,7 @@ fn whole<'a, F: Files, O: Write>(
     out: &mut O,
 ) -> Result<(), Fault<'a>>
     ensures ok { OnOk result (PrintsFor (F.contents files.old) (Request.Whole federation.entry inputs.entry turns) (O.contents out.old) (O.contents out.new)) }
-    ensures stands { IfErr result (IsFaultOf (F.contents files.old) (O.contents out.old) (O.contents out.new) (Request.Whole federation.entry inputs.entry turns)) }
+    ensures stands { IfErr result (IsFaultOf (F.contents files.old) (Answers (F.answers files.old) (F.answers files.new)) (O.contents out.old) (O.contents out.new) (Request.Whole federation.entry inputs.entry turns)) }
     ensures untouched { IfErr result (λ fault. status_of fault ≢ 3 → out.new ≡ out.old) }
 {
     match read_sources(alloc, federation, inputs, files) {
@@ -99,7 +101,7 @@ fn run<
     out: &mut O,
 ) -> Result<(), Fault<'a>>
     ensures ok { OnOk result (PrintsFor (F.contents files.old) (Request.Run federation.entry inputs.entry turns) (O.contents out.old) (O.contents out.new)) }
-    ensures stands { IfErr result (IsFaultOf (F.contents files.old) (O.contents out.old) (O.contents out.new) (Request.Run federation.entry inputs.entry turns)) }
+    ensures stands { IfErr result (IsFaultOf (F.contents files.old) (Answers (F.answers files.old) (F.answers files.new)) (O.contents out.old) (O.contents out.new) (Request.Run federation.entry inputs.entry turns)) }
     ensures untouched { IfErr result (λ fault. status_of fault ≢ 3 → out.new ≡ out.old) }
 {
     match read_sources(alloc, federation, inputs, files) {
@@ -109,6 +111,7 @@ fn run<
 }
 
 /// Prints what a schedule's world refuses, and the rows after it.
+#[tactic(auto, using(files::proofs::InTurn::answered_in_turn))]
 fn replay<'a, F: Files, O: Write>(
     alloc: Global,
     federation: &'a str,
@@ -119,7 +122,7 @@ fn replay<'a, F: Files, O: Write>(
     out: &mut O,
 ) -> Result<(), Fault<'a>>
     ensures ok { OnOk result (PrintsFor (F.contents files.old) (Request.Replay federation.entry inputs.entry schedule.entry until_stuck) (O.contents out.old) (O.contents out.new)) }
-    ensures stands { IfErr result (IsFaultOf (F.contents files.old) (O.contents out.old) (O.contents out.new) (Request.Replay federation.entry inputs.entry schedule.entry until_stuck)) }
+    ensures stands { IfErr result (IsFaultOf (F.contents files.old) (Answers (F.answers files.old) (F.answers files.new)) (O.contents out.old) (O.contents out.new) (Request.Replay federation.entry inputs.entry schedule.entry until_stuck)) }
     ensures untouched { IfErr result (λ fault. status_of fault ≢ 3 → out.new ≡ out.old) }
 {
     let sources = match read_sources(alloc, federation, inputs, files) {
@@ -140,7 +143,7 @@ fn check<'a, F: Files, O: Write>(
     out: &mut O,
 ) -> Result<(), Fault<'a>>
     ensures ok { OnOk result (PrintsFor (F.contents files.old) (Request.Check federation.entry) (O.contents out.old) (O.contents out.new)) }
-    ensures stands { IfErr result (IsFaultOf (F.contents files.old) (O.contents out.old) (O.contents out.new) (Request.Check federation.entry)) }
+    ensures stands { IfErr result (IsFaultOf (F.contents files.old) (Answers (F.answers files.old) (F.answers files.new)) (O.contents out.old) (O.contents out.new) (Request.Check federation.entry)) }
     ensures untouched { IfErr result (λ fault. status_of fault ≢ 3 → out.new ≡ out.old) }
 {
     match read_federation(alloc, federation, files) {

@@ -1,8 +1,8 @@
-ghost use Rattle.std.specs.Prelude.{◌≡◌, ◌<◌, ◌≤◌, length, IfOk, IfErr, IfSome, vec_len};
+ghost use Rattle.std.specs.Prelude.{◌≡◌, ◌≤◌, [], ◌∷◌, OnOk, IfOk, IfErr, vec_len};
+ghost use Rattle.files.specs.Answers.{Answers, given};
 ghost use Rattle.files.specs.Contents.{AreBytesOf};
-ghost use Rattle.files.specs.declared.named.FileFault.{FileFault as FileFaultOf};
 ghost use Rattle.sources.specs.Loaded.{input_file, IsFederation, RecordsInputs, AreSources};
-ghost use Rattle.sources.specs.Refused.{IsFederationFault, IsInputFault, IsScheduleFault, IsSourcesFault, told_of_file};
+ghost use Rattle.sources.specs.Refused.{asked_inputs, asked_sources, IsUnread, IsFederationFault, IsInputFault, IsScheduleFault, IsSourcesFault, told_of_file};
 
 use crate::fault::SourceFault;
 use files::{FileFault, Files};
@@ -28,7 +28,8 @@ pub fn read_sources<'a, F: Files>(
     files: &mut F,
 ) -> Result<Sources, SourceFault<'a>>
     ensures ok { IfOk result (AreSources (F.contents files.old federation.entry.now) (input_file (F.contents files.old) inputs.entry.now)) }
-    ensures err { IfErr result (IsSourcesFault federation.entry inputs.entry (F.contents files.old)) }
+    ensures asked { OnOk result (Answers (F.answers files.old) (F.answers files.new) (asked_sources federation.entry.now inputs.entry.now)) }
+    ensures err { IfErr result (IsSourcesFault federation.entry inputs.entry (F.contents files.old) (Answers (F.answers files.old) (F.answers files.new))) }
     ensures same { F.contents files.new ≡ F.contents files.old }
 {
     let (plan, programs) = read_federation(alloc, federation, files)?;
@@ -47,7 +48,8 @@ pub fn read_federation<'a, F: Files>(
     files: &mut F,
 ) -> Result<(Plan, Programs), SourceFault<'a>>
     ensures ok { IfOk result (λ read. IsFederation (F.contents files.old name.entry.now) read.0 read.1) }
-    ensures err { IfErr result (IsFederationFault name.entry (F.contents files.old)) }
+    ensures asked { OnOk result (Answers (F.answers files.old) (F.answers files.new) (given name.entry.now ∷ [])) }
+    ensures err { IfErr result (IsFederationFault name.entry (F.contents files.old) (Answers (F.answers files.old) (F.answers files.new))) }
     ensures same { F.contents files.new ≡ F.contents files.old }
 {
     let bytes = bytes_of(name, files, MOST_BYTES)?;
@@ -65,7 +67,8 @@ fn read_inputs<'a, F: Files>(
     files: &mut F,
 ) -> Result<Inputs, SourceFault<'a>>
     ensures ok { IfOk result (RecordsInputs (input_file (F.contents files.old) name.entry.now) plan.now) }
-    ensures err { IfErr result (IsInputFault plan.now name.entry (F.contents files.old)) }
+    ensures asked { OnOk result (Answers (F.answers files.old) (F.answers files.new) (asked_inputs name.entry.now)) }
+    ensures err { IfErr result (IsInputFault plan.now name.entry (F.contents files.old) (Answers (F.answers files.old) (F.answers files.new))) }
     ensures same { F.contents files.new ≡ F.contents files.old }
 {
     let bytes = if name == "-" {
@@ -86,7 +89,8 @@ pub fn read_schedule<'a, F: Files>(
     plan: &Plan,
     files: &mut F,
 ) -> Result<Script, SourceFault<'a>>
-    ensures err { IfErr result (IsScheduleFault name.entry (F.contents files.old)) }
+    ensures asked { OnOk result (Answers (F.answers files.old) (F.answers files.new) (given name.entry.now ∷ [])) }
+    ensures err { IfErr result (IsScheduleFault name.entry (F.contents files.old) (Answers (F.answers files.old) (F.answers files.new))) }
     ensures same { F.contents files.new ≡ F.contents files.old }
 {
     let bytes = bytes_of(name, files, MOST_SCHEDULE_BYTES)?;
@@ -104,8 +108,8 @@ fn bytes_of<'a, F: Files>(
 ) -> Result<Vec<u8>, SourceFault<'a>>
     ensures ok { IfOk result (λ bytes. AreBytesOf (F.contents files.old name.entry.now) bytes.items) }
     ensures few { IfOk result (λ bytes. vec_len bytes ≤ most) }
-    ensures err { IfErr result (λ fault. (why : FileFaultOf) × (fault ≡ told_of_file name.entry why)) }
-    ensures over { result ≡ Err (SourceFault.Load LoadFault.OverLimit) → IfSome (F.contents files.old name.entry.now) (λ bytes. most < length bytes) }
+    ensures asked { OnOk result (Answers (F.answers files.old) (F.answers files.new) (given name.entry.now ∷ [])) }
+    ensures err { IfErr result (IsUnread most name.entry (F.contents files.old name.entry.now) (Answers (F.answers files.old) (F.answers files.new))) }
     ensures same { F.contents files.new ≡ F.contents files.old }
 {
     match files.bytes(name, most) {

@@ -1,16 +1,25 @@
-use Rattle.std.proofs.Common.{refl, inl, inr, subst}
-use Rattle.sources.specs.Refused.{IsScheduleFault}
+use Rattle.std.proofs.Common.{◌++◌, refl, inl, inr, subst}
+use Rattle.files.specs.Answers.{Answers}
+use Rattle.files.proofs.InTurn.{answered_in_turn}
+use Rattle.sources.specs.Refused.{asked_sources, IsScheduleFault}
+use Rattle.sources.proofs.InTurn.{schedule_fault_after}
 use Rattle.commands.proofs.requests.replay.Goals as goal
 
 pub returns-clause-stands : goal.returns-clause-stands
 returns-clause-stands g c =
     let fault = c.in-Err-read_schedule.fault in
+    let asked = asked_sources c.args.federation.now c.args.inputs.now in
+    let before = g.F.Files.answers c.args.files.now in
+    let mid = g.F.Files.answers c.read_sources.new.files in
+    let after = g.F.Files.answers c.read_schedule.new.files in
     inr (record {
       sources = c.in-Ok.sources;
       sources_are = c.in-Ok.ensures.ok;
       holds = inl (
         fault,
         refl,
-        subst (λ contents. IsScheduleFault c.args.schedule contents fault) c.in-Ok.ensures.same c.in-Err-read_schedule.ensures.err,
+        subst (λ contents. IsScheduleFault c.args.schedule contents (λ later. Answers before after (asked ++ later)) fault) c.in-Ok.ensures.same
+            (schedule_fault_after (λ later come. answered_in_turn before mid after asked later c.in-Ok.ensures.asked come) c.args.schedule
+            (g.F.Files.contents c.read_sources.new.files) fault c.in-Err-read_schedule.ensures.err),
       );
     })

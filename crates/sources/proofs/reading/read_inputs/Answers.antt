@@ -1,13 +1,17 @@
 use Rattle.std.proofs.Common.{rules}
 use Rattle.loadfed.specs.InputShape.{HasInputFileFault}
 use Rattle.files.specs.Contents.{AreBytesOf}
+use Rattle.files.specs.Answers.{Answers}
+use Rattle.files.proofs.InTurn.{none_answered}
 use Rattle.sources.specs.Loaded.{input_file}
-use Rattle.sources.proofs.KnownFiles.{refused_file}
+use Rattle.sources.specs.Refused.{asked_inputs, input_unloaded}
+use Rattle.sources.proofs.KnownFiles.{unloaded_file}
 use Rattle.sources.proofs.reading.read_inputs.Goals as goal
 
 pub returns-clause-err : goal.returns-clause-err
 returns-clause-err g c =
     let known = input_file (g.F.Files.contents c.args.files.now) c.args.name.now in
     let are : AreBytesOf known c.if-eq.bytes.items = search rules in
-    refused_file (HasInputFileFault c.args.plan.now) c.args.name known c.if-eq.bytes.items c.as_slice.result.now c.in-Err.fault
-    are c.as_slice.ensures.value c.in-Err.ensures.refused
+    let asked : Answers (g.F.Files.answers c.args.files.now) (g.F.Files.answers c.if-eq.files) (asked_inputs c.args.name.now) = search (rules, none_answered) in
+    input_unloaded asked (unloaded_file (HasInputFileFault c.args.plan.now) known c.if-eq.bytes.items c.as_slice.result.now c.in-Err.fault
+    are c.as_slice.ensures.value c.in-Err.ensures.outcome)

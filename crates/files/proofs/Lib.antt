@@ -1,0 +1,3 @@
+-- Lemmas.
+-- answers one after the other
+pub mod InTurn

@@ -1,0 +1,3 @@
+-- Lemmas.
+-- pieces of texts
+pub mod Cut
