@@ -4,8 +4,7 @@ use Rattle.std.specs.List.{AllByRecursion}
 use Rattle.std.proofs.lemmas.Bool.Decides.{nat_tests}
 use Rattle.tag.specs.LogicalTime.{LogicalTime, is_before}
 use Rattle.tag.proofs.Order.{not_at_most}
-use Rattle.network.specs.Undone.{Held, drop_up_to}
-use Rattle.agenda.specs.Agenda.{Rises}
+use Rattle.network.specs.Undone.{Held, drop_up_to, Rises}
 use Rattle.agenda.specs.Kept.{has_due}
 use Rattle.agenda.proofs.Order.{held_cmp}
 use Rattle.agenda.proofs.Putting.{Ordered, Above, ordered}

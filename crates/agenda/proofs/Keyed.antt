@@ -5,11 +5,11 @@ use Rattle.std.specs.List.Sorted.{IsStrictlySortedBy}
 use Rattle.std.specs.BTreeMap.{insert_entry, is_at}
 use Rattle.std.specs.Map.{keys_of, remove_entry, lookup}
 use Rattle.tag.specs.LogicalTime.{LogicalTime, is_at_most}
-use Rattle.network.specs.Undone.{Held, put}
+use Rattle.network.specs.Undone.{Held, put, Rises}
 use Rattle.agenda.specs.contracts.key.KeyOrd.TheImpl as key_ord
 use Rattle.agenda.specs.declared.key.Key.{Key}
 use Rattle.agenda.specs.declared.undo.Undo.{Undo}
-use Rattle.agenda.specs.Agenda.{Rises, least_in}
+use Rattle.agenda.specs.Agenda.{least_in}
 use Rattle.agenda.specs.Kept.{held_at, held_in, undo_to, undo_all, has_due}
 use Rattle.agenda.proofs.Order.{held_cmp}
 use Rattle.agenda.proofs.Putting.{rises, ordered}

@@ -6,8 +6,8 @@ use Rattle.std.specs.Option.{option_map}
 use Rattle.std.proofs.lemmas.Bool.Decides.{nat_tests}
 use Rattle.tag.specs.LogicalTime.{LogicalTime, is_same}
 use Rattle.network.specs.Event.{Entry, entry_at, listed_from, listed, value_at}
-use Rattle.network.specs.Undone.{Held, look}
-use Rattle.agenda.specs.Agenda.{present_in, Rises}
+use Rattle.network.specs.Undone.{Held, look, Rises}
+use Rattle.agenda.specs.Agenda.{present_in}
 use Rattle.agenda.specs.Present.{entry_of}
 use Rattle.agenda.proofs.Order.{held_cmp}
 use Rattle.agenda.proofs.Putting.{Above, Ordered, ordered}

@@ -5,8 +5,8 @@ use Rattle.std.specs.Ordering.{match_ordering, ordering_reverse}
 use Rattle.std.proofs.lemmas.List.Elements.{filter_more}
 use Rattle.std.proofs.lemmas.Cmp.{tied_back, alike_right}
 use Rattle.tag.specs.LogicalTime.{LogicalTime, is_at_most}
-use Rattle.network.specs.Undone.{Held, is_held_before, put, put_all}
-use Rattle.agenda.specs.Agenda.{Rises, in_time}
+use Rattle.network.specs.Undone.{Held, is_held_before, put, put_all, Rises}
+use Rattle.agenda.specs.Agenda.{in_time}
 use Rattle.agenda.proofs.Order.{held_cmp, held_total, put_by, less_is, is_less}
 
 pub put_less : (e x : Held) (rest : List Held) → held_cmp e x ≡ Less → put e (x ∷ rest) ≡ e ∷ x ∷ rest

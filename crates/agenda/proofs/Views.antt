@@ -3,10 +3,10 @@ use Rattle.std.proofs.Common.{◌≡◌, false, List, [], ◌∷◌, refl, sym, 
 use Rattle.std.specs.List.{AllByRecursion}
 use Rattle.tag.specs.LogicalTime.{LogicalTime, forever, lesser, is_before}
 use Rattle.tag.proofs.Order.{lesser_first, lesser_second}
-use Rattle.network.specs.Undone.{Held, put_all, drop_up_to}
+use Rattle.network.specs.Undone.{Held, put_all, drop_up_to, Rises}
 use Rattle.plan.specs.External.{times_from}
 use Rattle.agenda.specs.declared.firings.Firings.{Firings}
-use Rattle.agenda.specs.Agenda.{Rises, IsInTime, least_in}
+use Rattle.agenda.specs.Agenda.{IsInTime, least_in}
 use Rattle.agenda.specs.Kept.{all_firings, first_firing, firings_of, undone_of, IsTimer, IsFit}
 use Rattle.agenda.proofs.Putting.{Ordered, ordered, rises, ordered_put_all, put_all_among}
 use Rattle.agenda.proofs.Filtered.{all_put_all, kept_put_all}

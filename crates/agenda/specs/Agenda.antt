@@ -3,7 +3,7 @@ use Rattle.std.specs.Prelude.{IsTrue, List, [], ◌∷◌, map, filter}
 use Rattle.std.specs.List.{AllByRecursion}
 use Rattle.tag.specs.LogicalTime.{LogicalTime, forever, is_at_most, is_same, IsFinite}
 use Rattle.network.specs.Event.{Entry}
-use Rattle.network.specs.Undone.{Held, held_of, is_held_before, put_all}
+use Rattle.network.specs.Undone.{Held, held_of, Rises, put_all}
 use Rattle.plan.specs.declared.slots.Slots.{Slots}
 use Rattle.plan.specs.External.{own_events}
 
@@ -29,11 +29,6 @@ present_in undone tag = map (λ e. record { place = e.slot; value = e.value }) (
 abbrev pub least_in : List Held → LogicalTime
 least_in [] = forever
 least_in (e ∷ rest) = e.tag
-
--- each is before all that follow: by tag, then by slot
-abbrev pub Rises : List Held → Type 0
-Rises [] = Unit {0}
-Rises (e ∷ rest) = AllByRecursion (λ x. IsTrue (is_held_before e x)) rest × Rises rest
 
 -- the tag is finite and not later than stop
 pub record IsInTime (stop : LogicalTime) (e : Held) : Type 0 where

@@ -2,8 +2,8 @@ ghost use Rattle.std.specs.Prelude.{◌≡◌, ◌+◌, ◌<◌, OnOk, OnErr, So
 ghost use Rattle.std.specs.List.{AllByRecursion};
 ghost use Rattle.std.specs.Vec.{vec_len, vec_capacity};
 ghost use Rattle.tag.specs.LogicalTime.{LogicalTime, is_at_most};
-ghost use Rattle.network.specs.Undone.{put, put_all, drop_up_to};
-ghost use Rattle.agenda.specs.Agenda.{in_time, least_in, Rises};
+ghost use Rattle.network.specs.Undone.{put, put_all, drop_up_to, Rises};
+ghost use Rattle.agenda.specs.Agenda.{in_time, least_in};
 ghost use Rattle.agenda.specs.Kept.{held_in, undo_all, undo_to, has_due, IsFit};
 
 use crate::held::Held;

@@ -13,6 +13,7 @@ use Rattle.protocol.specs.Standing.{Standing}
 use Rattle.protocol.specs.Grant.{after_completed, all_below, is_before_arrival, passes_paths, passes_connection, passes_connections, is_eligible}
 use Rattle.protocol.specs.Coordinator.{with_standing}
 use Rattle.laws.proofs.Eligibility.{contains_at, path_begins}
+use Rattle.laws.proofs.Settled.{eligible_so}
 use Rattle.grants.specs.Wires.{Wires, AreWires, network_by, least_by}
 use Rattle.grants.specs.Looks.{has_path}
 use Rattle.grants.specs.Routes.{may_change}
@@ -52,10 +53,6 @@ other_same : (f : ℕ → Standing) (i : ℕ) (s : Standing) (j : ℕ) → j ≢
 other_same f i s j apart =
     let e : nat_eq j i ≡ false = grind (arith, nat_tests) in
     ap (λ (b : Bool). if b then s else f j) e
-
--- the parts of the test, for one standing
-abbrev eligible_so : Network → Standing → (LogicalTime → Bool) → Bool
-eligible_so n s passes = s.announced && is_past s.granted s.next && is_at_most s.next n.stop && passes s.next
 
 -- another's eligibility doesn't change, where nothing leads to it
 pub eligible_same : (n : Network) (table : Table) (f : ℕ → Standing) (i : ℕ) (s : Standing) (j : ℕ) → ((k : ℕ) (c : Connection) → slice_get n.connections k ≡ Some c → IsApart i j c) → j ≢ i → table i j ≡ None →

@@ -3,5 +3,5 @@
 pub mod Sending
 -- what is kept between steps, and what a step comes to
 pub mod Steps
--- the numbers of the coordinator's own refusals
-pub mod Numbers
+-- how the coordinator's want of memory is told
+pub mod Fault

@@ -1,5 +1,5 @@
--- The number of a federate's own refusal of memory.
-pub mod Numbers
+-- How a federate's want of memory is told.
+pub mod Fault
 -- The connections by which a federate sends.
 pub mod Outlets
 -- What a turn makes.

@@ -2,21 +2,35 @@ ghost use Rattle.std.specs.Prelude.{◌≡◌};
 
 use node::NodeFault;
 use std::alloc::{AllocError, AllocFailed};
+use std::fmt;
 
 /// No memory was to be had: what was lent is as it was.
 #[derive(Clone, Copy, Debug, PartialEq, Eq)]
 pub struct Memory;
 
 impl Memory {
-    ghost use Rattle.federate.specs.Numbers.{out_of_memory};
+    ghost use Rattle.federate.specs.Fault.{memory_number};
 
     /// The number by which it is told.
-    pub fn number(self) -> u16
-        ensures { result ≡ out_of_memory }
+    pub const fn number(self) -> u16
+        ensures { result ≡ memory_number }
     {
         64
     }
 }
+
+impl fmt::Display for Memory {
+    ghost use Rattle.std.specs.Prelude.{Some};
+    ghost use Rattle.federate.specs.Fault.{memory_text};
+
+    ghost output = { λ _. Some memory_text };
+
+    fn fmt<W: fmt::Write>(&self, f: &mut fmt::Formatter<W>) -> fmt::Result {
+        write!(f, "{} Memory", self.number())
+    }
+}
+
+impl std::error::Error for Memory {}
 
 impl From<AllocError> for Memory {
     fn from(_error: AllocError) -> Memory {

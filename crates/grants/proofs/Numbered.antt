@@ -40,14 +40,10 @@ pub count_weaker : (count : ℕ) (p q : ℕ → Bool) → ((j : ℕ) → p j ≡
 count_weaker zero p q h = omega arith
 count_weaker (suc count) p q h = let rest = count_weaker count p q h in let here = weaker_one (p count) (q count) (h count) in omega arith
 
--- one number
-not_same : (j i : ℕ) → j < i → nat_eq j i ≡ false
-not_same j i l = grind (arith, nat_tests)
-
 count_none : (count i : ℕ) → count ≤ i → count_below count (λ j. nat_eq j i) ≡ 0
 count_none zero i l = refl
 count_none (suc count) i l =
-    ap (λ b. count_below count (λ j. nat_eq j i) + (if b then 1 else 0)) (not_same count i (omega arith))
+    ap (λ b. count_below count (λ j. nat_eq j i) + (if b then 1 else 0)) (ne_eqb count i (λ same. absurd (omega arith)))
     ∙ ap (λ n. n + 0) (count_none count i (omega arith))
 
 next_one : (n : ℕ) (b : Bool) → n ≡ 0 → n + (if b then 1 else 0) ≤ 1

@@ -15,10 +15,6 @@ fails_first tag g h p = grind (arith, nat_tests)
 fails_second : (tag g h : LogicalTime) → is_before tag h ≡ false → is_before tag (lesser g h) ≡ false
 fails_second tag g h p = grind (arith, nat_tests)
 
--- it is before the greater, where it is before one of both
-pub passes_greater : (tag g h : LogicalTime) → is_before tag h ≡ true → is_before tag (greater g h) ≡ true
-passes_greater tag g h p = grind (arith, nat_tests)
-
 pub passes_other : (tag g h : LogicalTime) → is_before tag h ≡ false → is_before tag (greater g h) ≡ is_before tag g
 passes_other tag g h p = grind (arith, nat_tests)
 

@@ -1,6 +1,6 @@
 -- What a coordinator's table holds, who is eligible by it, and how often it looks at a federate.
--- the numbers of the table's own refusals
-pub mod Numbers
+-- how the table's want of memory is told
+pub mod Fault
 -- the tags of messages on their way
 pub mod Transit
 -- the wiring of a federation, as data

@@ -1,7 +1,7 @@
 -- The tags of messages on their way.
 use Rattle.std.specs.Prelude.{◌≡◌, Bool, true, false, List, [], ◌∷◌, Option, None, Some}
-use Rattle.std.specs.List.{AllByRecursion}
 use Rattle.tag.specs.LogicalTime.{LogicalTime, is_at_most, is_before, lesser}
+use Rattle.network.specs.Items.{AllPairsByRecursion}
 
 -- the lesser of a tag and of another, if there is one
 abbrev pub lesser_with : LogicalTime → Option LogicalTime → LogicalTime
@@ -15,5 +15,4 @@ has_up_to tag (x ∷ rest) = is_at_most x tag
 
 -- each tag is before all that follow
 abbrev pub Rises : List LogicalTime → Type 0
-Rises [] = Unit {0}
-Rises (g ∷ rest) = AllByRecursion (λ h. is_before g h ≡ true) rest × Rises rest
+Rises tags = AllPairsByRecursion (λ g h. is_before g h ≡ true) tags

@@ -28,7 +28,8 @@ use Rattle.laws.proofs.Tags.{IsOptional, above}
 use Rattle.laws.proofs.Eligibility.{contains_at}
 use Rattle.laws.proofs.Safety.{moves_sound}
 use Rattle.laws.proofs.Pending.{completes_nothing_early}
-use Rattle.laws.proofs.Replay.{IsTaken, rising_pairs, moves_replay}
+use Rattle.order.proofs.Meet.{rising_tags}
+use Rattle.laws.proofs.Replay.{IsTaken, moves_replay}
 use Rattle.laws.proofs.Tests.{both_left, both_right}
 use Rattle.laws.proofs.Waiting.{leads_to, brought_over, last_message, waiting}
 use Rattle.laws.proofs.Histories.{IsTraced}
@@ -144,7 +145,7 @@ histories_are_consistent n table rules lawful facts safe moves =
     let replayed = moves_replay n table rules moves lawful facts safe in
     let w = traced_by_histories n (after_moves n rules moves) (moves_traced n table rules moves lawful facts safe) in
     record {
-      rising = λ j h. rising_pairs (histories_of (after_moves n rules moves) j) (replayed j).rising;
+      rising = λ j h. rising_tags (histories_of (after_moves n rules moves) j) (replayed j).rising;
       called_for = λ j h. from_each (IsCalledFor n (histories_of (after_moves n rules moves)) j) (histories_of (after_moves n rules moves) j) (w.called j h);
       settled = λ j h. from_each (λ x. IsSettled n (after_moves n rules moves) j x.tag) (histories_of (after_moves n rules moves) j)
           (each_more (IsTaken n (after_moves n rules moves j).federate.completed) (λ x. IsSettled n (after_moves n rules moves) j x.tag)

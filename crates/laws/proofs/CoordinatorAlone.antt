@@ -1,17 +1,19 @@
 -- What the coordinator knows stays tags, whatever signals come; and what it sends to each federate is in order.
 use Rattle.std.proofs.Common.{◌≡◌, ℕ, Bool, true, false, cond, IsTrue, List, [], ◌∷◌, ◌++◌, refl, sym, ap, subst, ◌∙◌, arith, Option, None, Some, ℤ}
-use Rattle.std.specs.Prelude.{slice_get, map, nat_eq, nat_lt, if◌then◌else◌, not, ◌&&◌, ◌||◌, AllPairs}
+use Rattle.std.specs.Prelude.{slice_get, map, nat_eq, nat_lt, if◌then◌else◌, not, ◌&&◌, ◌||◌}
 use Rattle.std.specs.List.{AllByRecursion}
 use Rattle.std.proofs.lemmas.Bool.Decides.{nat_tests}
 use Rattle.std.proofs.lemmas.List.Elements.{All-filter}
-use Rattle.std.proofs.lemmas.List.Kept.{AllPairs-cons, AllPairs-filter}
+use Rattle.std.proofs.lemmas.List.Kept.{AllPairs-filter}
 use Rattle.std.proofs.lemmas.Bool.{eqb-true}
 use Rattle.tag.specs.LogicalTime.{LogicalTime, IsLogicalTime, IsFinite, is_before, is_at_most, is_same, forever, is_past}
 use Rattle.tag.proofs.Order.{finite_is_logical, origin_is_logical, before_transitive}
 use Rattle.network.specs.Connection.{Connection}
 use Rattle.network.specs.Network.{Network}
 use Rattle.network.specs.Tables.{Table}
-use Rattle.order.proofs.Lists.{each, from_each, each_more, first_pair, later_pairs}
+use Rattle.network.specs.Items.{AllPairsByRecursion}
+use Rattle.network.proofs.Items.{each_pair, from_each_pair}
+use Rattle.order.proofs.Lists.{each, from_each, each_more}
 use Rattle.signal.specs.Signal.{IsSignal}
 use Rattle.signal.specs.declared.signal.Signal.{Signal}
 use Rattle.signal.specs.declared.signal.Signal.TheVariants.{Net, Ltc, Tag, Msg}
@@ -34,16 +36,7 @@ abbrev IsBefore : LogicalTime → LogicalTime → Type 0
 IsBefore g h = IsTrue (is_before g h)
 
 abbrev IsRising : List LogicalTime → Type 0
-IsRising [] = Unit {0}
-IsRising (x ∷ rest) = AllByRecursion (IsBefore x) rest × IsRising rest
-
-rising_pairs : (tags : List LogicalTime) → IsRising tags → AllPairs IsBefore tags
-rising_pairs [] r = λ i j d a b. absurd (omega arith)
-rising_pairs (x ∷ rest) r = AllPairs-cons IsBefore x rest (from_each (IsBefore x) rest r.0) (rising_pairs rest r.1)
-
-pairs_rising : (tags : List LogicalTime) → AllPairs IsBefore tags → IsRising tags
-pairs_rising [] a = tt
-pairs_rising (x ∷ rest) a = (each (IsBefore x) rest (first_pair IsBefore x rest a), pairs_rising rest (later_pairs IsBefore x rest a))
+IsRising tags = AllPairsByRecursion IsBefore tags
 
 before_else : (g h : LogicalTime) → is_before g h ≡ false → is_same g h ≡ false → is_before h g ≡ true
 before_else g h p q = grind (arith, nat_tests)
@@ -74,7 +67,7 @@ least_is_tag g (x ∷ rest) p a = lesser_is_tag x (least_with g rest) (finite_is
 -- what is known of one federate
 pub opening_is_standing : IsStanding opening_standing
 opening_is_standing =
-    record { completed = tt; granted = tt; next = origin_is_logical; transit = from_each IsFinite [] tt; rising = rising_pairs [] tt }
+    record { completed = tt; granted = tt; next = origin_is_logical; transit = from_each IsFinite [] tt; rising = from_each_pair IsBefore [] tt }
 
 message_stands : (s : Standing) (g : LogicalTime) → IsFinite g → IsStanding s → IsStanding (after_message s g)
 message_stands s g p k =
@@ -83,7 +76,7 @@ message_stands s g p k =
       granted = k.granted;
       next = lesser_is_tag s.next g k.next (finite_is_logical g p);
       transit = from_each IsFinite (with_tag g s.transit) (with_each IsFinite g s.transit p (each IsFinite s.transit k.transit));
-      rising = rising_pairs (with_tag g s.transit) (with_rises g s.transit (pairs_rising s.transit k.rising));
+      rising = from_each_pair IsBefore (with_tag g s.transit) (with_rises g s.transit (each_pair IsBefore s.transit k.rising));
     }
 
 net_stands : (s : Standing) (g : LogicalTime) → IsLogicalTime g → IsStanding s → IsStanding (after_net s g)

@@ -2,7 +2,7 @@
 use Rattle.std.proofs.Common.{◌≡◌, ℕ, zero, suc, ◌+◌, ◌*◌, ◌<◌, ◌≤◌, false, List, [], ◌∷◌, ◌++◌, length, refl, sym, ap, subst, ◌∙◌, arith, length-append, Option, None, Some, ℤ}
 use Rattle.std.specs.Prelude.{slice_get, Contains}
 use Rattle.std.specs.List.{list_any}
-use Rattle.std.proofs.lemmas.List.{append-nil}
+use Rattle.std.proofs.lemmas.List.{append-nil, nil_from_length}
 use Rattle.std.proofs.lemmas.List.Folds.{list_any_at}
 use Rattle.tag.specs.LogicalTime.{LogicalTime, place}
 use Rattle.network.specs.Connection.{Connection, IsWalk}
@@ -73,16 +73,12 @@ nothing_pending n lawful members kept quiet k j s path there (up i number c valu
 pub every_row : (n : Network) → IsLawful n → (members : ℕ → Member) (S : ℕ → LogicalTime → Type 0) → IsConsistent n (histories_of members) S → (j : ℕ) → j < n.reactors → IsReplayed n j (members j).federate → S j n.stop → HasEveryRow n j (members j).federate.rows
 every_row n L members S c j there r settled turns = rw r.rows (has_every_row n L (histories_of members) S c j there settled turns)
 
-no_more : {X : Type 0} (xs : List X) → length xs ≡ 0 → xs ≡ []
-no_more [] e = refl
-no_more (x ∷ xs) e = absurd (omega arith)
-
 -- rows that begin with each other are the same
 begin_each_other : (xs ys : List Row) → BeginsWith xs ys → BeginsWith ys xs → xs ≡ ys
 begin_each_other xs ys a b =
     let first : length xs ≡ length ys + length a.0 = ap length a.1 ∙ length-append ys a.0 in
     let second : length ys ≡ length xs + length b.0 = ap length b.1 ∙ length-append xs b.0 in
-    let none : a.0 ≡ [] = no_more a.0 (omega arith) in
+    let none : a.0 ≡ [] = nil_from_length a.0 (omega arith) in
     a.1 ∙ (ap (λ (l : List Row). ys ++ l) none ∙ append-nil ys)
 
 -- and after enough turns just these

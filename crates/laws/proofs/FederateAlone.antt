@@ -1,11 +1,11 @@
 -- A federate keeps what it keeps by itself, whatever signals come; and what it sends is in order.
 use Rattle.std.proofs.Common.{◌≡◌, ℕ, ◌+◌, ◌<◌, Bool, true, false, cond, IsTrue, List, [], ◌∷◌, ◌++◌, refl, sym, ap, subst, arith, inl, inr, Option, None, Some, IfSome, ℤ}
-use Rattle.std.specs.Prelude.{slice_get, filter, map, nat_eq, nat_lt, if◌then◌else◌, not, ◌&&◌, All, AllPairs}
+use Rattle.std.specs.Prelude.{slice_get, filter, map, nat_eq, nat_lt, if◌then◌else◌, not, ◌&&◌, All}
 use Rattle.std.specs.List.{AllByRecursion, last_or}
 use Rattle.std.specs.Option.{option_map}
 use Rattle.std.proofs.lemmas.Bool.{eqb-true}
 use Rattle.std.proofs.lemmas.Bool.Decides.{nat_tests}
-use Rattle.std.proofs.lemmas.List.Kept.{AllPairs-cons, AllPairs-filter}
+use Rattle.std.proofs.lemmas.List.Kept.{AllPairs-filter}
 use Rattle.tag.specs.LogicalTime.{LogicalTime, IsLogicalTime, IsFinite, is_before, is_at_most, is_same, sum_of, is_past, is_reached}
 use Rattle.tag.proofs.Order.{at_most_then, before_at_most, before_then, finite_is_logical, finite_is_not_forever, finite_up_to}
 use Rattle.tag.proofs.SumLaws.{sum_at_least_first, sum_is_logical, sum_later}
@@ -15,9 +15,10 @@ use Rattle.network.specs.Event.{Event}
 use Rattle.network.specs.Network.{Network, Scheduling}
 use Rattle.network.specs.Undivided.{Row}
 use Rattle.network.specs.Lawful.{IsLawful, IsConnected, IsExternal, IsOwn}
-use Rattle.network.specs.Undone.{Held, is_held_before, is_for_same, put, put_all, look, first_tag, drop_up_to, held_of}
+use Rattle.network.specs.Undone.{Held, is_held_before, Rises, is_for_same, put, put_all, look, first_tag, drop_up_to, held_of}
 use Rattle.network.proofs.Lawful.{contained_is}
-use Rattle.order.proofs.Lists.{each, from_each, each_more, each_filter, first_pair, later_pairs}
+use Rattle.network.proofs.Items.{each_pair, from_each_pair}
+use Rattle.order.proofs.Lists.{each, from_each, each_more, each_filter}
 use Rattle.signal.specs.Signal.{IsSignal}
 use Rattle.signal.specs.declared.signal.Signal.{Signal}
 use Rattle.signal.specs.declared.signal.Signal.TheVariants.{Net, Ltc, Tag, Msg}
@@ -70,28 +71,16 @@ held_else d e p q = grind (arith, nat_tests)
 abbrev IsBefore : Held → Held → Type 0
 IsBefore d e = IsTrue (is_held_before d e)
 
-abbrev IsRising : List Held → Type 0
-IsRising [] = Unit {0}
-IsRising (x ∷ rest) = AllByRecursion (IsBefore x) rest × IsRising rest
-
-rising_pairs : (u : List Held) → IsRising u → AllPairs IsBefore u
-rising_pairs [] r = λ i j d a b. absurd (omega arith)
-rising_pairs (x ∷ rest) r = AllPairs-cons IsBefore x rest (from_each (IsBefore x) rest r.0) (rising_pairs rest r.1)
-
-pairs_rising : (u : List Held) → AllPairs IsBefore u → IsRising u
-pairs_rising [] a = tt
-pairs_rising (x ∷ rest) a = (each (IsBefore x) rest (first_pair IsBefore x rest a), pairs_rising rest (later_pairs IsBefore x rest a))
-
-rises_if : (e x : Held) (rest : List Held) (b c : Bool) → is_held_before e x ≡ b → is_for_same e x ≡ c → IsRising (x ∷ rest) → IsRising (put e rest) → IsRising (if b then e ∷ x ∷ rest else (if c then e ∷ rest else x ∷ put e rest))
+rises_if : (e x : Held) (rest : List Held) (b c : Bool) → is_held_before e x ≡ b → is_for_same e x ≡ c → Rises (x ∷ rest) → Rises (put e rest) → Rises (if b then e ∷ x ∷ rest else (if c then e ∷ rest else x ∷ put e rest))
 rises_if e x rest true c p q r m = ((p, each_more (IsBefore x) (IsBefore e) (λ y h. held_then e x y p h) rest r.0), r)
 rises_if e x rest false true p q r m = (each_more (IsBefore x) (IsBefore e) (λ y h. same_then e x y q h) rest r.0, r.1)
 rises_if e x rest false false p q r m = (put_each (IsBefore x) e rest (held_else e x p q) r.0, m)
 
-put_rises : (e : Held) (u : List Held) → IsRising u → IsRising (put e u)
+put_rises : (e : Held) (u : List Held) → Rises u → Rises (put e u)
 put_rises e [] r = (tt, tt)
 put_rises e (x ∷ rest) r = rises_if e x rest (is_held_before e x) (is_for_same e x) refl refl r (put_rises e rest r.1)
 
-put_all_rises : (es u : List Held) → IsRising u → IsRising (put_all es u)
+put_all_rises : (es u : List Held) → Rises u → Rises (put_all es u)
 put_all_rises [] u r = r
 put_all_rises (e ∷ rest) u r = put_all_rises rest (put e u) (put_rises e u r)
 
@@ -115,7 +104,7 @@ opening_is_federate n j lawful =
     record {
       undone = from_each (IsStillToRun n j None) (opening_federate n j).undone
           (put_all_each (IsStillToRun n j None) events [] (opening_undone n j n.external lawful.external) tt);
-      rising = rising_pairs (opening_federate n j).undone (put_all_rises events [] tt);
+      rising = from_each_pair IsBefore (opening_federate n j).undone (put_all_rises events [] tt);
       completed = tt;
       granted = tt;
       last_row = refl;
@@ -149,7 +138,7 @@ message_leaves n j f number (Some c) g v lawful finite e k =
             slot = subst P (eqb-true c.target j (both_left (nat_eq c.target j) (is_at_most g n.stop) t)) connected.slot;
           })
           (each (IsStillToRun n j f.completed) f.undone k.undone));
-      rising = rising_pairs (put more f.undone) (put_rises more f.undone (pairs_rising f.undone k.rising));
+      rising = from_each_pair IsBefore (put more f.undone) (put_rises more f.undone (each_pair IsBefore f.undone k.rising));
       completed = k.completed;
       granted = k.granted;
       last_row = k.last_row;
@@ -226,7 +215,7 @@ turn_leaves n j f g lawful first reached k =
           (map (scheduled_at g) (effect_of n j f g).schedulings) own)
           (each_filter (IsStillToRun n j f.completed) (IsStillToRun n j (Some g)) (λ e. is_before g e.tag)
           (λ e t h. record { finite = h.finite; later = t; in_time = h.in_time; slot = h.slot }) f.undone undone));
-      rising = rising_pairs (put_all more left) (put_all_rises more left (pairs_rising left (AllPairs-filter IsBefore (λ e. is_before g e.tag) f.undone k.rising)));
+      rising = from_each_pair IsBefore (put_all more left) (put_all_rises more left (each_pair IsBefore left (AllPairs-filter IsBefore (λ e. is_before g e.tag) f.undone k.rising)));
       completed = (least.0, reached);
       granted = k.granted;
       last_row = ap (option_map (λ row. row.tag)) (last_of None f.rows _);

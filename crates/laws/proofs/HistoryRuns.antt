@@ -14,7 +14,8 @@ use Rattle.network.specs.Tables.{Table, IsTable}
 use Rattle.order.specs.History.{Turn, history_of}
 use Rattle.order.specs.Newest.{or_else}
 use Rattle.order.specs.Sees.{sees}
-use Rattle.order.proofs.Lists.{each, each_more, none_kept, first_pair, later_pairs}
+use Rattle.network.proofs.Items.{first_pair, later_pairs}
+use Rattle.order.proofs.Lists.{each, each_more, none_kept}
 use Rattle.order.proofs.Agree.{is_for}
 use Rattle.order.proofs.Maker.{maker, source_or, is_for_parts, events_for}
 use Rattle.order.proofs.Newest.{PortFacts, port_facts, latest_value}

@@ -10,7 +10,7 @@ use Rattle.network.specs.Examples.{at}
 use Rattle.network.specs.Lawful.{IsLawful, IsConnected, EndApart, IsExternal, FallApart, IsOwn}
 use Rattle.tag.specs.Total.{no_delay, some_delay}
 use Rattle.network.specs.Tables.{IsLeastTable, IsTable, IsWithin, IsAttained}
-use Rattle.order.proofs.Lists.{no_pairs}
+use Rattle.network.proofs.Items.{no_pairs}
 use Rattle.laws.specs.Ring.{ring, ring_table}
 use Rattle.laws.specs.WeakerRules.{two_microsteps, one_tag, both_ends, line_table}
 use Rattle.laws.proofs.FixedPoints.{fixed_point_is_least}

@@ -10,7 +10,8 @@ use Rattle.network.specs.Connection.{Connection}
 use Rattle.network.specs.Network.{Network, Scheduling, Effect}
 use Rattle.network.specs.Lawful.{IsLawful, IsOwn, EndApart}
 use Rattle.order.specs.Newest.{or_else, carried_to, last_in_list}
-use Rattle.order.proofs.Lists.{Among, each, each_more, each_both, each_among, first_pair, later_pairs}
+use Rattle.network.proofs.Items.{first_pair, later_pairs}
+use Rattle.order.proofs.Lists.{Among, each, each_more, each_both, each_among}
 use Rattle.order.proofs.Newest.{PortFacts, port_facts}
 use Rattle.signal.specs.declared.signal.Signal.{Signal}
 use Rattle.signal.specs.declared.signal.Signal.TheVariants.{Net, Ltc, Tag, Msg}

@@ -4,7 +4,6 @@ use Rattle.std.specs.Prelude.{slice_get, filter, map, reverse, nat_eq, if◌then
 use Rattle.std.specs.List.{AllByRecursion}
 use Rattle.std.proofs.lemmas.Bool.Decides.{nat_tests}
 use Rattle.std.proofs.lemmas.List.{map-append, reverse-append}
-use Rattle.std.proofs.lemmas.List.Kept.{AllPairs-cons}
 use Rattle.std.proofs.lemmas.Bool.{eqb-true}
 use Rattle.tag.specs.LogicalTime.{LogicalTime, IsFinite, is_before, is_at_most, is_same, place, is_past, is_reached}
 use Rattle.tag.proofs.Order.{at_most_from_places, before_from_places, finite_by_place, finite_is_logical, place_of_finite}
@@ -132,10 +131,6 @@ pub record IsReplayed (n : Network) (j : ℕ) (f : Federate) : Type 0 where
   pub newest : f.completed ≡ newest_tag (history_of f.rows)
   pub taken : AllByRecursion (IsTaken n f.completed) (history_of f.rows)
   pub rising : IsRising (history_of f.rows)
-
-pub rising_pairs : (h : List Turn) → IsRising h → HasRisingTags h
-rising_pairs [] r = λ i j d a b. absurd (omega arith)
-rising_pairs (x ∷ xs) r = AllPairs-cons (λ later earlier. IsTrue (is_before earlier.tag later.tag)) x xs (from_each (λ y. IsTrue (is_before y.tag x.tag)) xs r.0) (rising_pairs xs r.1)
 
 -- the least undone tag is run
 pub turn_replays : (n : Network) (j : ℕ) (f : Federate) (g : LogicalTime) → IsLawful n → IsUndone n.stop (above f.completed) f.undone → first_tag f.undone ≡ Some g → IsReplayed n j f → IsReplayed n j (turn_at n j f g).after

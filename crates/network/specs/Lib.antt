@@ -1,4 +1,6 @@
 -- Reactors that are connected, what they should do, and in which order.
+-- lists, item by item
+pub mod Items
 -- connections and paths of them
 pub mod Connection
 -- events, and which of several at one slot is present

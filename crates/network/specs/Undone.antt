@@ -1,7 +1,8 @@
 -- The events that one reactor has still to run: a list that strictly rises by tag and slot, with one value for a slot at a tag.
-use Rattle.std.specs.Prelude.{ℕ, ℤ, Bool, ◌&&◌, ◌||◌, nat_eq, nat_lt, if◌then◌else◌, List, [], ◌∷◌, filter, Option, None, Some}
+use Rattle.std.specs.Prelude.{ℕ, ℤ, Bool, IsTrue, ◌&&◌, ◌||◌, nat_eq, nat_lt, if◌then◌else◌, List, [], ◌∷◌, filter, Option, None, Some}
 use Rattle.tag.specs.LogicalTime.{LogicalTime, is_before, is_same}
 use Rattle.network.specs.Event.{Event}
+use Rattle.network.specs.Items.{AllPairsByRecursion}
 
 -- something that will be present at a slot
 pub record Held : Type 0 where
@@ -16,6 +17,10 @@ held_of e = record { tag = e.tag; slot = e.slot; value = e.value }
 -- by tag, then by slot
 abbrev pub is_held_before : Held → Held → Bool
 is_held_before a b = is_before a.tag b.tag || (is_same a.tag b.tag && nat_lt a.slot b.slot)
+
+-- each is before all that follow
+abbrev pub Rises : List Held → Type 0
+Rises undone = AllPairsByRecursion (λ d e. IsTrue (is_held_before d e)) undone
 
 -- for one slot at one tag
 abbrev pub is_for_same : Held → Held → Bool

@@ -1,6 +1,6 @@
 -- Where two consistent traces both are settled they have the same history: by tags and ranks, from the first on.
 use Rattle.std.proofs.Common.{◌≡◌, ℕ, zero, suc, ◌+◌, ◌<◌, ◌≤◌, List, [], ◌∷◌, ◌++◌, Bool, true, false, cond, ◌&&◌, IsTrue, refl, sym, ap, ◌∙◌, ◌⊎◌, inl, inr, arith}
-use Rattle.std.specs.Prelude.{nat_eq, filter, AllPairs}
+use Rattle.std.specs.Prelude.{nat_eq, filter}
 use Rattle.std.specs.Option.{option_map}
 use Rattle.std.specs.List.{AllByRecursion}
 use Rattle.std.proofs.lemmas.Bool.{and_left}
@@ -15,9 +15,9 @@ use Rattle.network.specs.Lawful.{IsLawful}
 use Rattle.order.specs.History.{Turn, states_after, effect_after, back_to, up_to}
 use Rattle.order.specs.Sees.{made_in, made_by_first, events_of, sees, SeesSomething}
 use Rattle.order.specs.Consistent.{IsInTime, IsCalledFor, IsConsistent}
-use Rattle.order.proofs.Lists.{each, each_more, each_among, none_kept, first_pair, later_pairs}
+use Rattle.order.proofs.Lists.{each, each_more, each_among, none_kept}
 use Rattle.order.proofs.Keys.{key}
-use Rattle.order.proofs.Meet.{IsRising, WithTurn, WithoutTurn, meet, split}
+use Rattle.order.proofs.Meet.{rising_from, WithTurn, WithoutTurn, meet, split}
 use Rattle.order.proofs.Reaches.{reaches, made_not_at, Backward, reached_before}
 
 -- the event is for this slot of this reactor at this tag
@@ -36,13 +36,6 @@ made_back_step n L i j t slot x xs false p e h =
 made_back : (n : Network) → IsLawful n → (i j : ℕ) (t : LogicalTime) (slot : ℕ) (h : List Turn) → AllByRecursion (λ turn. IsFinite turn.tag) h → filter (is_for j t slot) (made_in n i h) ≡ filter (is_for j t slot) (made_in n i (back_to (reaches n i j t) h))
 made_back n L i j t slot [] a = refl
 made_back n L i j t slot (x ∷ xs) a = made_back_step n L i j t slot x xs (reaches n i j t x.tag) a.0 refl (made_back n L i j t slot xs a.1)
-
-pub rising_from : (h : List Turn) → AllPairs (λ later earlier. IsTrue (is_before earlier.tag later.tag)) h → IsRising h
-rising_from [] a = tt
-rising_from (x ∷ xs) a = (
-  each (λ y. IsTrue (is_before y.tag x.tag)) xs (first_pair (λ later earlier. IsTrue (is_before earlier.tag later.tag)) x xs a),
-  rising_from xs (later_pairs (λ later earlier. IsTrue (is_before earlier.tag later.tag)) x xs a),
-)
 
 same_turns : (x y : Turn) → x.tag ≡ y.tag → x.present ≡ y.present → x ≡ y
 same_turns x y p q = λ i. record { tag = p i; present = q i }

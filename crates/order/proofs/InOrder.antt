@@ -12,7 +12,8 @@ use Rattle.network.specs.Lawful.{IsLawful, IsOwn, EndApart, FallApart}
 use Rattle.network.specs.Undone.{Held, held_of}
 use Rattle.order.specs.Newest.{or_else}
 use Rattle.order.specs.Pending.{Replaces, AreInOrder}
-use Rattle.order.proofs.Lists.{each, each_more, each_both, each_append, each_filter, first_pair, later_pairs}
+use Rattle.network.proofs.Items.{first_pair, later_pairs}
+use Rattle.order.proofs.Lists.{each, each_more, each_both, each_append, each_filter}
 use Rattle.order.proofs.LookUps.{last_held, or_nothing}
 use Rattle.order.proofs.Agree.{is_for}
 use Rattle.order.proofs.Newest.{latest_value, latest_value_after, IsFrom, all_scheduled_from, same_turn_later}

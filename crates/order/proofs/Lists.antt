@@ -1,20 +1,12 @@
 -- Lists, element by element: what holds of each, and what a filter keeps.
+pub use Rattle.network.proofs.Items.{each, from_each}
 use Rattle.std.proofs.Common.{◌≡◌, suc, List, [], ◌∷◌, ◌++◌, Bool, true, false, cond, refl, ap, ◌∙◌, arith, All, ◌⊎◌, inl, inr}
-use Rattle.std.specs.List.{AllByRecursion, filter, AllPairs}
-use Rattle.std.proofs.lemmas.List.Elements.{All-cons}
+use Rattle.std.specs.List.{AllByRecursion, filter}
 
 -- the element is one of these
 abbrev pub Among : {X : Type 0} → X → List X → Type 0
 Among x [] = ⊥
 Among x (y ∷ ys) = (y ≡ x) ⊎ Among x ys
-
-pub each : {X : Type 0} (P : X → Type 0) (xs : List X) → All P xs → AllByRecursion P xs
-each P [] a = tt
-each P (x ∷ xs) a = (a 0 x (omega arith), each P xs (λ k d h. a (suc k) d (omega arith)))
-
-pub from_each : {X : Type 0} (P : X → Type 0) (xs : List X) → AllByRecursion P xs → All P xs
-from_each P [] a = λ k d h. absurd (omega arith)
-from_each P (x ∷ xs) a = All-cons P x xs a.0 (from_each P xs a.1)
 
 pub each_more : {X : Type 0} (P Q : X → Type 0) → ((x : X) → P x → Q x) → (xs : List X) → AllByRecursion P xs → AllByRecursion Q xs
 each_more P Q f [] a = tt
@@ -48,12 +40,6 @@ pub none_kept : {X : Type 0} (p : X → Bool) (xs : List X) → AllByRecursion (
 none_kept p [] a = refl
 none_kept p (x ∷ xs) a = rw a.0 (none_kept p xs a.1)
 
-pub first_pair : {X : Type 0} (R : X → X → Type 0) (x : X) (xs : List X) → AllPairs R (x ∷ xs) → All (R x) xs
-first_pair R x xs a = λ k d h. a 0 (suc k) d (omega arith) (omega arith)
-
-pub later_pairs : {X : Type 0} (R : X → X → Type 0) (x : X) (xs : List X) → AllPairs R (x ∷ xs) → AllPairs R xs
-later_pairs R x xs a = λ i j d h k. a (suc i) (suc j) d (omega arith) (omega arith)
-
 among_step : {X : Type 0} (p : X → Bool) (x y : X) (ys : List X) (b : Bool) → p y ≡ b → p x ≡ true → (y ≡ x) ⊎ Among x ys → (Among x ys → Among x (filter p ys)) → Among x (cond b (y ∷ filter p ys) (filter p ys))
 among_step p x y ys true e h m f = elim m [ inl q ↦ inl q | inr q ↦ inr (f q) ]
 among_step p x y ys false e h m f = elim m [ inl q ↦ (let other : p y ≡ true = ap p q ∙ h in cc) | inr q ↦ f q ]
@@ -76,6 +62,3 @@ filter_twice p r h (y ∷ ys) = twice_step p r y ys (p y) (r y) refl refl (h y) 
 pub all_among : {X : Type 0} (xs : List X) → AllByRecursion (λ x. Among x xs) xs
 all_among [] = tt
 all_among (x ∷ xs) = (inl refl, each_more (λ y. Among y xs) (λ y. Among y (x ∷ xs)) (λ y m. inr m) xs (all_among xs))
-
-pub no_pairs : {X : Type 0} (R : X → X → Type 0) → AllPairs R []
-no_pairs R = λ i j d a b. absurd (omega arith)

@@ -14,7 +14,8 @@ use Rattle.network.specs.Undivided.{message_of, carried_by, scheduled_from, made
 use Rattle.network.specs.Lawful.{IsLawful, IsConnected, IsOwn, EndApart}
 use Rattle.order.specs.History.{Turn, states_after, effect_after}
 use Rattle.order.specs.Sees.{made_in, made_by_first, events_of}
-use Rattle.order.proofs.Lists.{each, each_more, each_both, each_append, each_filter, none_kept, first_pair, later_pairs}
+use Rattle.network.proofs.Items.{first_pair, later_pairs}
+use Rattle.order.proofs.Lists.{each, each_more, each_both, each_append, each_filter, none_kept}
 use Rattle.order.proofs.Agree.{is_for}
 
 -- where the connection to a slot begins

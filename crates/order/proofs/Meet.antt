@@ -4,7 +4,9 @@ use Rattle.std.specs.List.{AllByRecursion}
 use Rattle.std.proofs.lemmas.Bool.Decides.{nat_tests}
 use Rattle.tag.specs.LogicalTime.{LogicalTime, is_before, is_at_most, is_same}
 use Rattle.tag.proofs.Order.{at_most_reflexive, one_of_three, before_transitive, before_irreflexive, before_asymmetric, before_at_most, before_not_same, after_not_at_most, after_not_same, same_itself}
-use Rattle.order.specs.History.{Turn, back_to, up_to, has_turn_at}
+use Rattle.network.specs.Items.{AllPairsByRecursion}
+use Rattle.network.proofs.Items.{each_pair, from_each_pair}
+use Rattle.order.specs.History.{Turn, HasRisingTags, back_to, up_to, has_turn_at}
 use Rattle.order.proofs.Lists.{Among, each_more}
 
 -- the newest turn of a history is not later than a tag
@@ -57,8 +59,13 @@ meet R P h k a b same = meet_step R P h k (back_to R h) (back_to R k) refl refl 
 
 -- a history whose tags rise, newest first
 abbrev pub IsRising : List Turn → Type 0
-IsRising [] = Unit {0}
-IsRising (x ∷ xs) = AllByRecursion (λ y. IsTrue (is_before y.tag x.tag)) xs × IsRising xs
+IsRising h = AllPairsByRecursion (λ later earlier. IsTrue (is_before earlier.tag later.tag)) h
+
+pub rising_from : (h : List Turn) → HasRisingTags h → IsRising h
+rising_from h apart = each_pair (λ later earlier. IsTrue (is_before earlier.tag later.tag)) h apart
+
+pub rising_tags : (h : List Turn) → IsRising h → HasRisingTags h
+rising_tags h rising = from_each_pair (λ later earlier. IsTrue (is_before earlier.tag later.tag)) h rising
 
 -- a history up to a tag is what is before the tag, and the turn at the tag, if there is one
 pub record WithTurn (t : LogicalTime) (h : List Turn) : Type 0 where

@@ -17,9 +17,10 @@ use Rattle.network.specs.Lawful.{IsLawful, IsConnected, IsExternal, IsOwn, EndAp
 use Rattle.order.specs.History.{Turn, HasRisingTags, states_after, effect_after}
 use Rattle.order.specs.Sees.{made_in, sees}
 use Rattle.order.specs.Newest.{or_else, carried_to, last_carried, scheduled_to, last_in_list, last_scheduled}
-use Rattle.order.proofs.Lists.{Among, all_among, each, from_each, each_more, each_both, each_append, each_filter, each_among, none_kept, first_pair, later_pairs, filter_twice}
-use Rattle.order.proofs.Agree.{is_for, rising_from}
-use Rattle.order.proofs.Meet.{IsRising}
+use Rattle.network.proofs.Items.{first_pair, later_pairs}
+use Rattle.order.proofs.Lists.{Among, all_among, each, from_each, each_more, each_both, each_append, each_filter, each_among, none_kept, filter_twice}
+use Rattle.order.proofs.Agree.{is_for}
+use Rattle.order.proofs.Meet.{IsRising, rising_from}
 use Rattle.order.proofs.Maker.{maker, source_or, FoundIn, all_found, none_found, is_for_parts, events_for}
 
 -- the value of the latest of these events

@@ -17,7 +17,8 @@ use Rattle.order.specs.Newest.{or_else}
 use Rattle.order.proofs.Lists.{Among, each, each_more, each_filter, each_among, all_among, none_kept}
 use Rattle.order.proofs.Keys.{key}
 use Rattle.order.proofs.Rising.{event_key, IsLater, made_later}
-use Rattle.order.proofs.Agree.{is_for, rising_from}
+use Rattle.order.proofs.Agree.{is_for}
+use Rattle.order.proofs.Meet.{rising_from}
 use Rattle.order.proofs.Maker.{maker, is_for_parts, not_made, events_for}
 use Rattle.order.proofs.Newest.{latest_value, newest_counts, none_made_outside}
 use Rattle.order.proofs.ReadBack.{in_trace}

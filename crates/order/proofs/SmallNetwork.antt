@@ -8,7 +8,8 @@ use Rattle.network.specs.Event.{Event, outside}
 use Rattle.network.specs.Lawful.{IsLawful, IsConnected, IsExternal, FallApart, IsOwn}
 use Rattle.network.specs.Examples.{gateway, at}
 use Rattle.order.specs.Consistent.{IsConsistent, Where}
-use Rattle.order.proofs.Lists.{from_each, no_pairs}
+use Rattle.network.proofs.Items.{no_pairs}
+use Rattle.order.proofs.Lists.{from_each}
 
 -- the events for the gateway itself come at two times
 two_times : (a b : LogicalTime) → a.time ≡ 0 → b.time ≡ 1 → a ≡ b → ⊥

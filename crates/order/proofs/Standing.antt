@@ -11,7 +11,8 @@ use Rattle.network.specs.Network.{Network}
 use Rattle.network.specs.Undivided.{Undivided, Row, is_turn_before, earlier_of, first_of_turns, made_by, effect_at, row_at, after_turn_at, after_turn_of, undivided_after, whole}
 use Rattle.network.specs.Lawful.{IsLawful, IsExternal}
 use Rattle.order.specs.Settled.{is_row_before, is_ahead_of, is_settled}
-use Rattle.order.proofs.Lists.{Among, each, from_each, each_more, each_append, each_among, each_filter, each_both, each_of_none, no_pairs}
+use Rattle.network.proofs.Items.{no_pairs}
+use Rattle.order.proofs.Lists.{Among, each, from_each, each_more, each_append, each_among, each_filter, each_both, each_of_none}
 use Rattle.order.proofs.Keys.{key, low_rank, key-before, key_injective}
 use Rattle.order.proofs.Rising.{event_key, IsLater, made_later}
 

@@ -1,12 +1,11 @@
 -- The undivided program's trace is consistent, after any number of turns.
 use Rattle.std.proofs.Common.{◌≡◌, ℕ, zero, suc, ◌+◌, ◌*◌, ◌<◌, ◌≤◌, List, [], ◌∷◌, ◌++◌, Bool, true, false, cond, ◌&&◌, ◌||◌, IsTrue, refl, sym, ap, subst, ◌∙◌, inl, inr, ℤ, arith, append_assoc}
-use Rattle.std.specs.Prelude.{nat_lt, Option, None, Some, filter, AllPairs}
+use Rattle.std.specs.Prelude.{nat_lt, Option, None, Some, filter}
 use Rattle.std.specs.Option.{option_map}
 use Rattle.std.specs.List.{AllByRecursion}
 use Rattle.std.proofs.lemmas.Bool.{true_from_ne_false}
 use Rattle.std.proofs.lemmas.Bool.Decides.{nat_tests}
 use Rattle.std.proofs.lemmas.List.{append-nil}
-use Rattle.std.proofs.lemmas.List.Kept.{AllPairs-cons}
 use Rattle.tag.specs.LogicalTime.{LogicalTime, IsFinite, is_before, is_at_most, is_same, sum_of, place}
 use Rattle.tag.proofs.Order.{same_is_equal, at_most_reflexive}
 use Rattle.network.specs.Connection.{Connection}
@@ -22,7 +21,7 @@ use Rattle.order.proofs.Lists.{Among, each, from_each, each_more, each_both, eac
 use Rattle.order.proofs.Keys.{key, key-before}
 use Rattle.order.proofs.Rising.{event_key, Lawfully, connections_lawful, connection_key, sum_is_finite}
 use Rattle.order.proofs.Standing.{settled_in_time, FirstIs, IsDue, first_standing, all_sound, due_least, reached}
-use Rattle.order.proofs.Meet.{IsRising}
+use Rattle.order.proofs.Meet.{rising_tags}
 use Rattle.order.proofs.Agree.{is_for, agree}
 use Rattle.order.proofs.Maker.{is_for_parts, events_for}
 use Rattle.order.proofs.ReadBack.{trace_grows, listing_reads, nothing_beyond}
@@ -117,10 +116,6 @@ settled_along n L es s p c w below (Some e) f k =
     let less = (key-before n L c.target e.reactor (sum_of s c.delay) e.tag w.connected.target f.sound.reactor q f.sound.tag).0 k in
     (key-before n L c.source e.reactor s e.tag w.connected.source f.sound.reactor p f.sound.tag).1 (omega arith)
 
-pairs_from : (h : List Turn) → IsRising h → AllPairs (λ later earlier. IsTrue (is_before earlier.tag later.tag)) h
-pairs_from [] r = λ i j d a b. absurd (omega arith)
-pairs_from (x ∷ xs) r = AllPairs-cons (λ later earlier. IsTrue (is_before earlier.tag later.tag)) x xs (from_each (λ y. IsTrue (is_before y.tag x.tag)) xs r.0) (pairs_from xs r.1)
-
 pub whole_is_consistent : (n : Network) → IsLawful n → (turns : ℕ) → IsConsistent n (trace_of (whole n turns)) (Where (is_settled n (undivided_after n turns)))
 whole_is_consistent n L turns =
     let k = known n L turns in
@@ -130,7 +125,7 @@ whole_is_consistent n L turns =
     let o : Option Event = first_of_turns n u.pending in
     let f = first_standing n L u k.0 k.1.standing in
     record {
-      rising = λ j h. pairs_from (T j) (k.1.rising j h);
+      rising = λ j h. rising_tags (T j) (k.1.rising j h);
       called_for = λ j h. from_each (IsCalledFor n T j) (T j) (k.1.called j h);
       settled = λ j h. from_each (λ x. IsTrue (is_ahead_of n j x.tag o)) (T j)
           (each_more (λ x. IsCalledFor n T j x × (key n j x.tag < k.0)) (λ x. IsTrue (is_ahead_of n j x.tag o))

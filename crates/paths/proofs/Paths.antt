@@ -4,6 +4,7 @@ use Rattle.std.specs.Prelude.{Contains, ◌&&◌, ◌||◌, nat_eq, nat_lt, if�
 use Rattle.std.proofs.lemmas.Bool.Decides.{nat_tests, leb_tells, eqb_tells}
 use Rattle.std.proofs.lemmas.Bool.{eqb-true}
 use Rattle.tag.specs.LogicalTime.{origin, is_same, logical_time}
+use Rattle.tag.proofs.Parts.{and_true}
 use Rattle.network.specs.Connection.{Connection, IsPath}
 use Rattle.network.proofs.Walks.{AreImmediate}
 use Rattle.paths.specs.Levels.{is_immediate, above, level_within, before_by}
@@ -132,11 +133,6 @@ pub record ComesBy (f : ℕ → ℕ) (j : ℕ) (cs : List Connection) : Type 0 w
   pub immediate : is_immediate last ≡ true
   pub level : above f j cs ≡ f last.source + 1
 
-both_true : (t u : Bool) → (t && u) ≡ true → (t ≡ true) × (u ≡ true)
-both_true true true e = (refl, refl)
-both_true true false e = absurd (let h : ⊥ = cc in h)
-both_true false u e = absurd (let h : ⊥ = cc in h)
-
 comes_by : (f : ℕ → ℕ) (j : ℕ) (cs : List Connection) → 0 < above f j cs → ComesBy f j cs
 comes_by f j [] some = absurd (omega arith)
 comes_by f j (b ∷ cs) some = chosen (nat_eq b.target j && is_immediate b) refl (comes_by f j cs)
@@ -155,7 +151,7 @@ comes_by f j (b ∷ cs) some = chosen (nat_eq b.target j && is_immediate b) refl
 
     first : (nat_eq b.target j && is_immediate b) ≡ true → above f j (b ∷ cs) ≡ f b.source + 1 → ComesBy f j (b ∷ cs)
     first e level =
-        let both : (nat_eq b.target j ≡ true) × (is_immediate b ≡ true) = both_true (nat_eq b.target j) (is_immediate b) e in
+        let both : (nat_eq b.target j ≡ true) × (is_immediate b ≡ true) = and_true (nat_eq b.target j) (is_immediate b) e in
         record {
           last = b;
           contained = (0, omega arith, refl);

@@ -45,6 +45,20 @@ pub found_in_parts : (names_of : Slots → List (List ℕ)) (fs : List Federate)
 found_in_parts names_of fs a b r e =
     found_parts (federate_number fs a) (λ number. place_in names_of (slice_get fs number) b) r e
 
+-- a name of a federate that is there
+abbrev pub IsThere : (Slots → List (List ℕ)) → List Federate → Found → Type 0
+IsThere names_of fs found = (f : Federate) × (slice_get fs found.federate ≡ Some f) × (found.place < length (names_of f.slots))
+
+placed : (names_of : Slots → List (List ℕ)) (o : Option Federate) (b : List ℕ) (k : ℕ) → place_in names_of o b ≡ Some k
+    → (f : Federate) × (o ≡ Some f) × (k < length (names_of f.slots))
+placed names_of None b k e = cc
+placed names_of (Some f) b k e = (f, refl, slice_get_within (names_of f.slots) k b (slice_get-place_of (names_of f.slots) b k e))
+
+-- what is found is there
+pub found_at : (names_of : Slots → List (List ℕ)) (fs : List Federate) (a b : List ℕ) (r : Found) → found_in names_of fs a b ≡ Some r
+    → IsThere names_of fs r
+found_at names_of fs a b r e = placed names_of (slice_get fs r.federate) b r.place (found_in_parts names_of fs a b r e).1
+
 -- a number that is found is a federate's
 pub federate_number-lt : (fs : List Federate) (a : List ℕ) (i : ℕ) → federate_number fs a ≡ Some i → i < length fs
 federate_number-lt fs a i e =
@@ -86,6 +100,7 @@ pub record Joins (fs : List Federate) (c : ConnectionDraft) (x : Connection) : T
   pub from_is : found_output fs c.from ≡ Some from
   pub to_is : found_input fs c.to ≡ Some to
   pub source : x.source ≡ from.federate
+  pub port : x.port ≡ from.place
   pub target : x.target ≡ to.federate
   pub slot : x.slot ≡ first_input + to.place
   pub delay : x.delay ≡ delay_after c.after
@@ -119,6 +134,7 @@ joined fs c x (Some from) (Some to) from_is to_is e =
       from_is = from_is;
       to_is = to_is;
       source = sym (ap (λ (z : Connection). z.source) whole);
+      port = sym (ap (λ (z : Connection). z.port) whole);
       target = sym (ap (λ (z : Connection). z.target) whole);
       slot = sym (ap (λ (z : Connection). z.slot) whole);
       delay = sym (ap (λ (z : Connection). z.delay) whole);

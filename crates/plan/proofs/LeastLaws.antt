@@ -1,12 +1,11 @@
 -- Least delays of legal drafts.
 use Rattle.std.proofs.Common.{◌≡◌, ℕ, ◌<◌, ◌≤◌, ◌^◌, List, [], ◌∷◌, length, refl, sym, ◌∙◌, subst, arith, get_or}
 use Rattle.std.specs.Prelude.{All, IfSome, MatchOption, Option, None, Some}
-use Rattle.std.specs.List.{filter_map, cons_option}
-use Rattle.std.proofs.lemmas.List.Elements.{All-nil, All-cons, All-head, All-tail}
 use Rattle.tag.specs.LogicalTime.{LogicalTime, sum_of}
 use Rattle.tag.specs.Total.{IsPlainDelay, no_delay, some_delay}
 use Rattle.network.specs.Connection.{Connection, IsLeastDelay, IsUnreachable}
 use Rattle.network.specs.Tables.{IsWithin}
+use Rattle.network.proofs.Items.{All-filter_map}
 use Rattle.network.proofs.Tables.{each_contained}
 use Rattle.plan.specs.declared.draft.ConnectionDraft.{ConnectionDraft}
 use Rattle.plan.specs.declared.draft.Draft.{Draft}
@@ -20,25 +19,17 @@ use Rattle.paths.proofs.LeastTotals.{attained, least_is, within_direct, within_o
 
 -- ---- delays of connections
 
-each_numbered : {X Y : Type 0} (Q : X → Type 0) (P : Y → Type 0) (h : X → Option Y) (xs : List X) → All Q xs
-    → ((x : X) (y : Y) → Q x → h x ≡ Some y → P y) → All P (filter_map h xs)
-each_numbered Q P h [] given each = All-nil P
-each_numbered {Y = Y} Q P h (x ∷ xs) given each = whatever (h x) refl (each_numbered Q P h xs (All-tail Q x xs given) each)
-  where
-    whatever : (o : Option Y) → h x ≡ o → All P (filter_map h xs) → All P (cons_option o (filter_map h xs))
-    whatever None is rest = rest
-    whatever (Some y) is rest = All-cons P y (filter_map h xs) (each x y (All-head Q x xs given) is) rest
-
 pub plain_after : (after : Option ℕ) → IfSome after (λ t. t < 2 ^ 62) → IsPlainDelay (delay_after after)
 plain_after None below = no_delay
 plain_after (Some time) below = some_delay (time, below, refl)
 
 pub connection_delays : (d : Draft) → IsLegal d → All (λ c. IsPlainDelay c.delay) (connections_of d)
 connection_delays d legal =
-    each_numbered (λ (c : ConnectionDraft). IfSome c.after (λ t. t < 2 ^ 62)) (λ (c : Connection). IsPlainDelay c.delay) (connection_of d.federates) d.connections legal.delays
+    All-filter_map (λ (c : ConnectionDraft). IfSome c.after (λ t. t < 2 ^ 62)) (λ (c : Connection). IsPlainDelay c.delay) (connection_of d.federates) d.connections
     (λ c x below is.
     let joins : Joins d.federates c x = joins_from_connection_of d.federates c x is in
     subst (λ g. IsPlainDelay g) (sym joins.delay) (plain_after c.after below))
+    legal.delays
 
 -- ---- least delays
 

@@ -1,14 +1,13 @@
 -- Drafts that were checked.
 use Rattle.std.proofs.Common.{◌≡◌, ℕ, suc, zero, ◌+◌, ◌<◌, List, [], ◌∷◌, length, refl, ap, sym, ◌∙◌, arith, subst, map, get_or, inl, inr, ◌^◌}
 use Rattle.std.specs.Prelude.{All, AllPairs, IsSome, IfSome, Option, None, Some, Result, Ok, Err, IfErr, slice_get, slice_index}
-use Rattle.std.specs.List.{filter_map, cons_option}
-use Rattle.std.proofs.lemmas.List.Elements.{All-nil, All-cons}
 use Rattle.std.proofs.lemmas.Option.{slice_get_within, get_or_from_slice_get}
 use Rattle.std.proofs.lemmas.Slice.Eq.{bytes_eq-Decides}
 use Rattle.std.proofs.lemmas.Map.Made.{AllPairs-from_IsDistinct}
 use Rattle.tag.specs.LogicalTime.{LogicalTime}
 use Rattle.network.specs.Connection.{Connection}
 use Rattle.network.specs.Lawful.{EndApart}
+use Rattle.network.proofs.Items.{All-filter_map}
 use Rattle.plan.specs.declared.draft.Federate.{Federate}
 use Rattle.plan.specs.declared.draft.PortName.{PortName}
 use Rattle.plan.specs.declared.draft.ConnectionDraft.{ConnectionDraft}
@@ -24,35 +23,26 @@ use Rattle.paths.specs.Cycles.{HasNoImmediateCycle}
 use Rattle.plan.specs.Legal.{IsLegal}
 use Rattle.plan.specs.Planned.{IsPlanned}
 use Rattle.plan.specs.Faults.{StandsIn, HasTwoSources, IsUnknown, IsRepeated, IsWithinAllLimits, AreTimersInRange, HasDistinctNames, ArePortsThere, IsNamedCycle}
-use Rattle.plan.proofs.Joined.{Joins, joins_at, length-connections_of, nowhere, joins_from_connection_of, found_in_parts, federate_number-lt}
+use Rattle.plan.proofs.Joined.{Joins, joins_at, length-connections_of, nowhere, joins_from_connection_of, found_at}
 use Rattle.paths.proofs.Levels.{EndsBelow}
 
 -- ---- ends of connections
 
-All-filter_map : {X Y : Type 0} (P : Y → Type 0) (h : X → Option Y) (xs : List X)
-    → ((x : X) (y : Y) → h x ≡ Some y → P y) → All P (filter_map h xs)
-All-filter_map P h [] each = All-nil P
-All-filter_map {Y = Y} P h (x ∷ xs) each = whatever (h x) refl (All-filter_map P h xs each)
-  where
-    whatever : (o : Option Y) → h x ≡ o → All P (filter_map h xs) → All P (cons_option o (filter_map h xs))
-    whatever None is rest = rest
-    whatever (Some y) is rest = All-cons P y (filter_map h xs) (each x y is) rest
-
 -- both ends of each connection are federates
 pub ends_below : (d : Draft) → EndsBelow (federate_count d) (connections_of d)
 ends_below d =
-    All-filter_map (λ (c : Connection). (c.source < federate_count d) × (c.target < federate_count d)) (connection_of d.federates) d.connections
-    (λ c x is.
+    All-filter_map (λ (c : ConnectionDraft). Unit {0}) (λ (c : Connection). (c.source < federate_count d) × (c.target < federate_count d))
+    (connection_of d.federates) d.connections
+    (λ c x any is.
     let joins : Joins d.federates c x = joins_from_connection_of d.federates c x is in
-    let from : joins.from.federate < length d.federates
-    = federate_number-lt d.federates c.from.federate joins.from.federate
-    (found_in_parts (λ s. s.outputs) d.federates c.from.federate c.from.port joins.from joins.from_is).0 in
-    let to : joins.to.federate < length d.federates
-    = federate_number-lt d.federates c.to.federate joins.to.federate
-    (found_in_parts (λ s. s.inputs) d.federates c.to.federate c.to.port joins.to joins.to_is).0 in
+    let from = found_at (λ s. s.outputs) d.federates c.from.federate c.from.port joins.from joins.from_is in
+    let to = found_at (λ s. s.inputs) d.federates c.to.federate c.to.port joins.to joins.to_is in
+    let from_below : joins.from.federate < length d.federates = slice_get_within d.federates joins.from.federate from.0 from.1 in
+    let to_below : joins.to.federate < length d.federates = slice_get_within d.federates joins.to.federate to.0 to.1 in
     let source : x.source ≡ joins.from.federate = joins.source in
     let target : x.target ≡ joins.to.federate = joins.target in
     (omega arith, omega arith))
+    (λ k e below. tt)
 
 -- ---- what the steps of a check show
 

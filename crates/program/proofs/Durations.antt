@@ -13,7 +13,7 @@ use Rattle.tag.specs.Duration.{IsUnit, Spells}
 use Rattle.program.specs.Tokens.{is_word_character, tokens_of}
 use Rattle.program.specs.Grammar.{SpellsDuration}
 use Rattle.program.specs.Reading.{IsTimed, AreFirstTokens}
-use Rattle.program.proofs.Splitting.{and_true}
+use Rattle.tag.proofs.Parts.{and_true}
 use Rattle.program.proofs.FirstTokens.{first_by_itself, tokens_after_spaces, single_token}
 
 -- digits and names of units are words

@@ -3,19 +3,12 @@ use Rattle.std.proofs.Common.{◌≡◌, ◌≢◌, ℕ, zero, suc, ◌+◌, ◌
 use Rattle.std.specs.List.{prefix_len, list_all}
 use Rattle.std.proofs.lemmas.List.{take-append-drop, append_assoc, append-nil}
 use Rattle.std.proofs.Math.Seq.{take-append_seam, drop-append_seam}
+use Rattle.tag.proofs.Parts.{passing_front, spaces_front}
 use Rattle.program.specs.Tokens.{is_space, is_word_character, tokens_of}
 use Rattle.program.specs.Reading.{begins_with_word, IsTokenBefore, IsFirstToken, AreFirstTokens}
-use Rattle.program.proofs.Splitting.{is_space_is, stops, passing_front, space_skipped, colon_first, word_token, word_length, word_some, front_some}
+use Rattle.program.proofs.Splitting.{stops, space_skipped, colon_first, word_token, word_length, word_some, front_some}
 
 -- spaces in front
-spaces_step : (x : ℕ) (xs : List ℕ) (b : Bool) → is_space x ≡ b → take (prefix_len is_space xs) xs ≡ replicate (prefix_len is_space xs) 32 → take (cond b (1 + prefix_len is_space xs) 0) (x ∷ xs) ≡ replicate (cond b (1 + prefix_len is_space xs) 0) 32
-spaces_step x xs true e h = rw one-add (ap (λ y. y ∷ take (prefix_len is_space xs) xs) (is_space_is x e) ∙ ap (λ ys. 32 ∷ ys) h)
-spaces_step x xs false e h = refl
-
-spaces_front : (xs : List ℕ) → take (prefix_len is_space xs) xs ≡ replicate (prefix_len is_space xs) 32
-spaces_front [] = refl
-spaces_front (x ∷ xs) = spaces_step x xs (is_space x) refl (spaces_front xs)
-
 pub tokens_after_spaces : (n : ℕ) (text : List ℕ) → tokens_of (replicate n 32 ++ text) ≡ tokens_of text
 tokens_after_spaces zero text = refl
 tokens_after_spaces (suc n) text = space_skipped 32 (replicate n 32 ++ text) refl ∙ tokens_after_spaces n text

@@ -10,7 +10,7 @@ use Rattle.program.specs.declared.fault.LineFault.{LineFault}
 use Rattle.program.specs.Grammar.{WrittenOperand, WrittenStatement, WrittenLine, SpellsOperand, SpellsStatement, SpellsGuarded, SpellsLine}
 use Rattle.program.specs.Resolution.{operand_of, statement_of, line_of}
 use Rattle.program.specs.Reading.{IsReading, made_of, made_of_both}
-use Rattle.program.proofs.Readings.{Wraps, wrapped, Joins, joined}
+use Rattle.program.proofs.Readings.{Wraps, wrapped, Joins, joined, mapped_first}
 use Rattle.program.proofs.OneReading.{unguarded}
 
 -- without a condition
@@ -66,10 +66,6 @@ guarded (Some a) w tokens h = record {
   operand = h.3;
   statement = h.4;
 }
-
-mapped_first : {A B C : Type 0} (f : A → B) (g : B → Option C) (o : Option A) → option_and_then (λ x. g (f x)) o ≡ option_and_then g (option_map f o)
-mapped_first f g None = refl
-mapped_first f g (Some x) = refl
 
 abbrev with_condition : Option Operand → Statement → Line
 with_condition c st = record { condition = c; statement = st }

@@ -16,6 +16,10 @@ use Rattle.program.specs.Grammar.{WrittenOperand, WrittenNumber, StateNamed, Val
 use Rattle.program.specs.Resolution.{operand_slot, state_names, value_at_slot, operand_of}
 use Rattle.program.specs.Reading.{IsReading, name_read, made_of, made_of_both, pair_of}
 
+pub mapped_first : {A B C : Type 0} (f : A → B) (g : B → Option C) (o : Option A) → option_and_then (λ x. g (f x)) o ≡ option_and_then g (option_map f o)
+mapped_first f g None = refl
+mapped_first f g (Some x) = refl
+
 -- a whole is written where its part is, and means what is made of the part's meaning
 pub record Wraps {A C V W : Type 0} (whole : V → W) (part : V → Type 0) (written : W → Type 0) (part_meaning : V → Option A) (meaning : W → Option C) (f : A → C) : Type 0 where
   pub intro : (v : V) → part v → written (whole v)
@@ -120,10 +124,6 @@ no_number_in x h = let d : IsTrue (is_numeral (digits_in (codes "in." ++ x))) = 
 
 pub no_number_has : (x : List ℕ) → IsWholeNumber (codes "has." ++ x) → ⊥
 no_number_has x h = let d : IsTrue (is_numeral (digits_in (codes "has." ++ x))) = h.digits in cc
-
-and_true : (a b : Bool) → (a && b) ≡ true → (a ≡ true) × (b ≡ true)
-and_true true b h = (refl, h)
-and_true false b h = cc
 
 name_begins : (c : ℕ) → is_name_start c ≡ true → (has_minus (c ∷ []) ≡ false) × (is_ascii_digit c ≡ false)
 name_begins c h = (grind (arith, nat_tests), grind (arith, nat_tests))

@@ -3,6 +3,7 @@ use Rattle.std.proofs.Common.{◌≡◌, ℕ, ◌+◌, ◌<◌, ◌≤◌, ◌�
 use Rattle.std.specs.List.{prefix_len, list_all, slice_split, onto_first}
 use Rattle.std.proofs.lemmas.List.{take-append-drop}
 use Rattle.std.proofs.lemmas.Bool.Decides.{nat_tests}
+use Rattle.tag.proofs.Parts.{and_true, passing_front}
 use Rattle.program.specs.Tokens.{is_space, is_colon, is_word_character, spaced, is_some_text, tokens_of}
 
 pub is_space_is : (c : ℕ) → is_space c ≡ true → c ≡ 32
@@ -31,18 +32,6 @@ stops_step p x xs false e y ys h d = let same : x ≡ y = cc in cc
 pub stops : (p : ℕ → Bool) (xs : List ℕ) (y : ℕ) (ys : List ℕ) → drop (prefix_len p xs) xs ≡ y ∷ ys → p y ≡ false
 stops p [] y ys d = cc
 stops p (x ∷ xs) y ys d = stops_step p x xs (p x) refl y ys (stops p xs y ys) d
-
-passing_step : (p : ℕ → Bool) (x : ℕ) (xs : List ℕ) (b : Bool) → p x ≡ b → list_all p (take (prefix_len p xs) xs) ≡ true → list_all p (take (cond b (1 + prefix_len p xs) 0) (x ∷ xs)) ≡ true
-passing_step p x xs true e h = rw (one-add, e) h
-passing_step p x xs false e h = refl
-
-pub passing_front : (p : ℕ → Bool) (xs : List ℕ) → list_all p (take (prefix_len p xs) xs) ≡ true
-passing_front p [] = refl
-passing_front p (x ∷ xs) = passing_step p x xs (p x) refl (passing_front p xs)
-
-pub and_true : (a b : Bool) → (a && b) ≡ true → (a ≡ true) × (b ≡ true)
-and_true true b h = (refl, h)
-and_true false b h = cc
 
 not_true : (a : Bool) → not a ≡ true → a ≡ false
 not_true true h = cc

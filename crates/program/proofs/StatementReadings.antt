@@ -16,7 +16,7 @@ use Rattle.program.specs.Tokens.{tokens_of, is_name}
 use Rattle.program.specs.Grammar.{WrittenOperand, WrittenExpression, Alone, Combined, WrittenStatement, AssignTo, OutputTo, ScheduleAfter, operator_token, SpellsOperand, SpellsExpression, SpellsDuration, SpellsStatement}
 use Rattle.program.specs.Resolution.{state_names, operand_of, expression_of, statement_of}
 use Rattle.program.specs.Reading.{IsReading, IsTimed, name_read, made_of, made_of_both}
-use Rattle.program.proofs.Readings.{Wraps, wrapped, Joins, joined, IsNamed, named, dotted_out, not_dotted}
+use Rattle.program.proofs.Readings.{Wraps, wrapped, Joins, joined, IsNamed, named, dotted_out, not_dotted, mapped_first}
 use Rattle.program.proofs.OneReading.{name_and_other, no_equals, duration_one}
 
 -- expressions
@@ -177,10 +177,6 @@ no_scheduling text action rest e none w h =
 -- the slot of an action
 abbrev pub slot_in : Slots → List ℕ → Option ℕ
 slot_in s c = option_map (λ place. first_action s + place) (place_of s.actions c)
-
-mapped_first : {A B C : Type 0} (f : A → B) (g : B → Option C) (o : Option A) → option_and_then (λ x. g (f x)) o ≡ option_and_then g (option_map f o)
-mapped_first f g None = refl
-mapped_first f g (Some x) = refl
 
 schedule_joins : (s : Slots) (states : List StateOf.State) (text action rest value : List ℕ) (time : ℕ) → tokens_of text ≡ action ∷ tokens_of rest → IsTimed rest time value
     → Joins (λ c a. ScheduleAfter c time a) (IsNamed is_name action) (λ w. SpellsOperand w value) (λ w. SpellsStatement w (codes "schedule" ∷ tokens_of text))

@@ -15,11 +15,6 @@ pub all_zip_grow : {A B : Type 0} (R : A → B → Type 0) (xs : List A) (ys : L
     → AllZip R xs (take i ys) → R x y → AllZip R (xs ++ x ∷ []) (take (i + 1) ys)
 all_zip_grow R xs ys i x y h e a r = rw add-one (grow R xs ys i x y h e a r)
 
-pub slice_get-here : {A : Type 0} (ys : List A) (i : ℕ) (y : A) → i < length ys → y ≡ get_or ys i y → slice_get ys i ≡ Some y
-slice_get-here [] i y h e = absurd (omega arith)
-slice_get-here (z ∷ ys) zero y h e = ap (λ v. Some v) (sym e)
-slice_get-here (z ∷ ys) (suc i) y h e = slice_get-here ys i y (omega arith) e
-
 pub all_zip_lengths : {A B : Type 0} (R : A → B → Type 0) (xs : List A) (ys : List B) → AllZip R xs ys → length xs ≡ length ys
 all_zip_lengths R [] [] h = refl
 all_zip_lengths R [] (y ∷ ys) h = absurd h

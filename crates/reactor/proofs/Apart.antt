@@ -18,10 +18,10 @@ use Rattle.plan.specs.Numbering.{startup_slot, first_timer, first_action, first_
 use Rattle.plan.specs.Federation.{Found, place_in, federate_names, federate_number, stop_of}
 use Rattle.plan.specs.External.{outside, times_from, firing_count, firing_times, firings_from, startup_of, own_events, own_events_from, found_action, slot_in, physical_slot, input_event, input_events, external_of, AreApart, AreInputsOf}
 use Rattle.plan.specs.Legal.{IsLegal}
-use Rattle.plan.proofs.Joined.{found_in_parts}
-use Rattle.plan.proofs.Places.{slice_get-place_of}
-use Rattle.reactor.proofs.Pairs.{across, AllPairs-nil, AllPairs-append, AllPairs-map, AllPairs-filter_map}
-use Rattle.reactor.proofs.Wiring.{found_at, same_federate}
+use Rattle.plan.proofs.Joined.{found_in_parts, found_at, same_name}
+use Rattle.network.proofs.Items.{no_pairs}
+use Rattle.reactor.proofs.Pairs.{across, AllPairs-append, AllPairs-map, AllPairs-filter_map}
+use Rattle.reactor.proofs.Wiring.{same_federate}
 use Rattle.reactor.proofs.Outside.{IsOutside, IsOwnSlot, IsInputSlot, own_events_outside, inputs_outside, input_parts}
 
 -- ---- firings of one timer
@@ -32,9 +32,9 @@ times_low low time period (suc count) start =
     All-cons (λ t. low ≤ t) time (times_from (time + period) period count) start (times_low low (time + period) period count (omega arith))
 
 times_rise : (time period count : ℕ) → (0 < period) ⊎ (count ≤ 1) → AllPairs (λ a b. a < b) (times_from time period count)
-times_rise time period zero goes = AllPairs-nil (λ a b. a < b)
+times_rise time period zero goes = no_pairs (λ a b. a < b)
 times_rise time period (suc zero) (inr few) =
-    AllPairs-cons (λ a b. a < b) time [] (All-nil (λ b. time < b)) (AllPairs-nil (λ a b. a < b))
+    AllPairs-cons (λ a b. a < b) time [] (All-nil (λ b. time < b)) (no_pairs (λ a b. a < b))
 times_rise time period (suc (suc count)) (inr few) = absurd (omega arith)
 times_rise time period (suc count) (inl some) =
     AllPairs-cons (λ a b. a < b) time (times_from (time + period) period count)
@@ -73,7 +73,7 @@ firings_are_from stop number slot (t ∷ ts) =
     (firings_from stop number (slot + 1) ts) (firings_are_from stop number (slot + 1) ts))
 
 firings_apart : (stop number slot : ℕ) (ts : List Timer) → AllPairs FallApart (firings_from stop number slot ts)
-firings_apart stop number slot [] = AllPairs-nil FallApart
+firings_apart stop number slot [] = no_pairs FallApart
 firings_apart stop number slot (t ∷ ts) =
     AllPairs-append FallApart (map (firing number slot) (firing_times stop t)) (firings_from stop number (slot + 1) ts)
     (AllPairs-map (λ a b. a < b) FallApart (firing number slot) (firing_times stop t)
@@ -107,8 +107,8 @@ startup_apart number s = chosen s.startup
     chosen : (b : Bool) → AllPairs FallApart (if b then outside origin number startup_slot (pos 0) ∷ [] else [])
     chosen true =
         AllPairs-cons FallApart (outside origin number startup_slot (pos 0)) [] (All-nil (FallApart (outside origin number startup_slot (pos 0))))
-        (AllPairs-nil FallApart)
-    chosen false = AllPairs-nil FallApart
+        (no_pairs FallApart)
+    chosen false = no_pairs FallApart
 
 own_events_are : (stop number : ℕ) (f : Federate) → All (λ e. e.reactor ≡ number) (own_events stop number f.slots)
 own_events_are stop number f =
@@ -143,7 +143,7 @@ all_are_from stop number (f ∷ fs) =
     (own_events_from stop (number + 1) fs) (all_are_from stop (number + 1) fs))
 
 all_apart : (stop number : ℕ) (fs : List Federate) → AllPairs FallApart (own_events_from stop number fs)
-all_apart stop number [] = AllPairs-nil FallApart
+all_apart stop number [] = no_pairs FallApart
 all_apart stop number (f ∷ fs) =
     AllPairs-append FallApart (own_events stop number f.slots) (own_events_from stop (number + 1) fs)
     (own_events_apart stop number f) (all_apart stop (number + 1) fs)
@@ -152,12 +152,6 @@ all_apart stop number (f ∷ fs) =
     (own_events_are stop number f) (all_are_from stop (number + 1) fs))
 
 -- ---- recorded inputs
-
-same_name : (names : List (List ℕ)) (a b : List ℕ) (k : ℕ) → place_of names a ≡ Some k → place_of names b ≡ Some k → a ≡ b
-same_name names a b k at_a at_b =
-    let here : slice_get names k ≡ Some a = slice_get-place_of names a k at_a in
-    let there : slice_get names k ≡ Some b = slice_get-place_of names b k at_b in
-    cc
 
 abbrev physical_names : Slots → List (List ℕ)
 physical_names s = s.physical

@@ -17,8 +17,8 @@ use Rattle.plan.specs.Federation.{Found, stop_of}
 use Rattle.plan.specs.External.{outside, times_from, firing_count, firing_times, firings_from, startup_of, own_events, own_events_from, found_action, slot_in, physical_slot, input_event, input_events, AreInputsOf}
 use Rattle.plan.specs.Legal.{IsLegal}
 use Rattle.plan.proofs.Outside.{firing_in_time}
-use Rattle.reactor.proofs.Pairs.{All-filter_map}
-use Rattle.reactor.proofs.Wiring.{found_at}
+use Rattle.network.proofs.Items.{All-filter_map}
+use Rattle.plan.proofs.Joined.{found_at}
 
 -- the slots of a startup and of timers
 abbrev pub IsOwnSlot : Slots → ℕ → Type 0

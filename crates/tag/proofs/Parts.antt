@@ -9,10 +9,10 @@ use Rattle.std.proofs.lemmas.Bool.Decides.{nat_tests}
 use Rattle.std.proofs.Math.Seq.{take-append_seam, drop-append_seam}
 use Rattle.tag.specs.Duration.{IsUnit, HasParts}
 
-abbrev is_space : ℕ → Bool
+abbrev pub is_space : ℕ → Bool
 is_space b = b == 32
 
-and_true : (a b : Bool) → (a && b) ≡ true → (a ≡ true) × (b ≡ true)
+pub and_true : (a b : Bool) → (a && b) ≡ true → (a ≡ true) × (b ≡ true)
 and_true true b h = (refl, h)
 and_true false b h = cc
 
@@ -21,15 +21,16 @@ passing_step : (p : ℕ → Bool) (x : ℕ) (xs : List ℕ) (b : Bool) → p x �
 passing_step p x xs true e h = rw (one-add, e) h
 passing_step p x xs false e h = refl
 
-passing_front : (p : ℕ → Bool) (xs : List ℕ) → list_all p (take (prefix_len p xs) xs) ≡ true
+pub passing_front : (p : ℕ → Bool) (xs : List ℕ) → list_all p (take (prefix_len p xs) xs) ≡ true
 passing_front p [] = refl
 passing_front p (x ∷ xs) = passing_step p x xs (p x) refl (passing_front p xs)
 
+-- the longest front of spaces is spaces
 spaces_step : (x : ℕ) (xs : List ℕ) (b : Bool) → is_space x ≡ b → take (prefix_len is_space xs) xs ≡ replicate (prefix_len is_space xs) 32 → take (cond b (1 + prefix_len is_space xs) 0) (x ∷ xs) ≡ replicate (cond b (1 + prefix_len is_space xs) 0) 32
 spaces_step x xs true e h = rw one-add (ap (λ y. y ∷ take (prefix_len is_space xs) xs) (grind (arith, nat_tests)) ∙ ap (λ ys. 32 ∷ ys) h)
 spaces_step x xs false e h = refl
 
-spaces_front : (xs : List ℕ) → take (prefix_len is_space xs) xs ≡ replicate (prefix_len is_space xs) 32
+pub spaces_front : (xs : List ℕ) → take (prefix_len is_space xs) xs ≡ replicate (prefix_len is_space xs) 32
 spaces_front [] = refl
 spaces_front (x ∷ xs) = spaces_step x xs (is_space x) refl (spaces_front xs)
 

@@ -6,9 +6,9 @@ use Rattle.std.proofs.lemmas.Bool.{and_parts, or_left, and_from, false_from_ne_t
 use Rattle.std.proofs.lemmas.Bool.Decides.{nat_tests}
 use Rattle.tag.specs.LogicalTime.{LogicalTime, forever, is_before, is_same}
 use Rattle.tag.proofs.Order.{same_is_equal, same_itself, before_transitive, before_irreflexive, before_forever}
-use Rattle.network.specs.Undone.{Held, look, is_held_before}
+use Rattle.network.specs.Undone.{Held, look, is_held_before, Rises}
 use Rattle.order.proofs.Lists.{each_more}
-use Rattle.agenda.specs.Agenda.{Agenda, Rises, IsInTime, IsAgenda, least_in}
+use Rattle.agenda.specs.Agenda.{Agenda, IsInTime, IsAgenda, least_in}
 
 pub none_some : {X : Type 0} (v : X) → None ≡ Some v → ⊥
 none_some v e = cc

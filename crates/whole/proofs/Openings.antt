@@ -27,7 +27,7 @@ use Rattle.whole.specs.Schedule.{opening_undone}
 use Rattle.whole.specs.Opening.{IsOpenWith, AreOpenWith}
 use Rattle.whole.proofs.Putting.{slice_get-set_same, slice_get-set_other}
 use Rattle.whole.proofs.Filled.{get_early, get_last, get_beyond}
-use Rattle.whole.proofs.Joined.{found_in-there}
+use Rattle.plan.proofs.Joined.{found_at}
 
 -- ---- what a federate brings by itself; whose it is doesn't matter once it is held
 
@@ -137,7 +137,7 @@ module _ (d : Draft) (i : Input) (found : Found) (is : found_action d.federates 
       ∙ added_by i.tag (stop_of d) found.federate slot_there i.value f (nat_eq found.federate f) (is_at_most i.tag (stop_of d)) refl refl
 
   pub found_there : found.federate < federate_count d
-  found_there = let there = found_in-there (λ s. s.physical) d.federates i.federate i.action found is in slice_get_within d.federates found.federate there.0 there.1
+  found_there = let there = found_at (λ s. s.physical) d.federates i.federate i.action found is in slice_get_within d.federates found.federate there.0 there.1
 
   pub open_with : (agendas : List Agenda) (x a : Agenda) → IsAgenda a → a.stop ≡ (get_or agendas found.federate x).stop →
       a.undone ≡ put_all (in_time (get_or agendas found.federate x).stop (record { tag = i.tag; slot = slot_there; value = i.value } ∷ [])) (get_or agendas found.federate x).undone →

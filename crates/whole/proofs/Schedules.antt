@@ -274,7 +274,7 @@ kept_same d old new nexts wires w many e = record {
       record {
         up_to = sym stop ∙ before.up_to;
         agenda = record {
-          rises = subst Rattle.agenda.specs.Agenda.Rises undone before.agenda.rises;
+          rises = subst Rattle.network.specs.Undone.Rises undone before.agenda.rises;
           in_time = subst (λ s. AllByRecursion (Rattle.agenda.specs.Agenda.IsInTime s) a.undone) stop (subst (AllByRecursion (Rattle.agenda.specs.Agenda.IsInTime was.0.stop)) undone before.agenda.in_time);
         };
       };

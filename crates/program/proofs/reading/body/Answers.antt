@@ -1,11 +1,12 @@
-use Rattle.std.proofs.Common.{◌≡◌, ◌⊎◌, List, ℕ, Err, sym, subst, inr}
+use Rattle.std.proofs.Common.{◌≡◌, ◌⊎◌, List, ℕ, length, Err, refl, sym, subst, inr}
 use Rattle.program.specs.declared.fault.ProgramFault.{ProgramFault}
 use Rattle.program.specs.declared.fault.ProgramFault.TheVariants.{Memory}
 use Rattle.program.specs.Resolution.{line_of}
 use Rattle.program.specs.Reading.{IsReading}
 use Rattle.program.specs.Spelled.{IsWritten, SpellsLineOf, IsLineFault}
 use Rattle.program.proofs.LineFaults.{line_fault}
-use Rattle.program.proofs.Zips.{all_zip_grow, slice_get-here}
+use Rattle.std.proofs.lemmas.Option.{slice_get_read}
+use Rattle.program.proofs.Zips.{all_zip_grow}
 use Rattle.program.proofs.reading.body.Goals as goal
 
 pub loop-place-preserved : goal.loop-place-preserved
@@ -20,6 +21,6 @@ returns-in-Err-clause-refused c =
     let same : c.as_bytes.result.now ≡ c.index-texts-place.result = cc (c.as_bytes.ensures.value, c.as_str.ensures) in
     let P : List ℕ → Type 0 = λ text. IsReading (IsWritten text) (line_of c.args.slots.now c.args.states.now) (Err c.in-Err.fault) in
     let read = subst P same c.in-Err.ensures in
-    let here = slice_get-here c.args.texts.now c.loop-place.place c.index-texts-place.result c.loop-place-test.true c.index-texts-place.is in
+    let here = slice_get_read c.args.texts.now (length c.args.texts.now) c.loop-place.place c.index-texts-place.result refl c.loop-place-test.true c.index-texts-place.is in
     let Q : ProgramFault → Type 0 = λ fault. (fault ≡ Memory) ⊎ IsLineFault c.args.slots.now c.args.states.now c.args.number c.args.texts.now fault in
     subst Q (sym c.at.ensures) (inr (line_fault c.args.slots.now c.args.states.now c.args.number c.args.texts.now c.loop-place.place c.index-texts-place.result here c.in-Err.fault read))

@@ -1,6 +1,7 @@
 use Rattle.std.proofs.Common.{ap, subst, ◌∙◌}
 use Rattle.network.specs.Event.{value_at}
-use Rattle.agenda.specs.Agenda.{Agenda, present_in, Rises}
+use Rattle.network.specs.Undone.{Rises}
+use Rattle.agenda.specs.Agenda.{Agenda, present_in}
 use Rattle.agenda.specs.Kept.{held_in, all_firings}
 use Rattle.agenda.specs.Present.{set_entries}
 use Rattle.agenda.proofs.Views.{rises_undone}

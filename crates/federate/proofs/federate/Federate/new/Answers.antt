@@ -2,7 +2,8 @@ use Rattle.plan.specs.Federation.{stop_of}
 use Rattle.std.proofs.Common.{refl, ◌≡◌, ◌<◌, ◌∙◌, sym, ap, subst, Some, length, slice_get, arith}
 use Rattle.program.specs.Behaviour.{Behaviour, IsWellFormed}
 use Rattle.reactor.specs.Federation.{network_of}
-use Rattle.program.proofs.Zips.{all_zip_lengths, slice_get-here}
+use Rattle.std.proofs.lemmas.Option.{slice_get_read}
+use Rattle.program.proofs.Zips.{all_zip_lengths}
 use Rattle.reactor.proofs.LawfulNetwork.{gives_lawful}
 use Rattle.plan.specs.declared.draft.Federate as declared
 use Rattle.protocol.specs.Federate as protocol
@@ -25,9 +26,9 @@ invariant_of-result-2 c =
     let same = all_zip_lengths (λ (f : declared.Federate) (b : Behaviour). (f.slots ≡ b.slots) × IsWellFormed b) d.federates programs c.requires.programs in
     let within : c.args.number < length programs = omega (arith, same, c.requires.there) in
     let program : slice_get programs c.args.number ≡ Some c.index-as_slice-number.result =
-    slice_get-here programs c.args.number c.index-as_slice-number.result within (rw c.as_slice.ensures at c.index-as_slice-number.is) in
+    slice_get_read programs (length programs) c.args.number c.index-as_slice-number.result refl within (rw c.as_slice.ensures at c.index-as_slice-number.is) in
     let federate : slice_get d.federates c.args.number ≡ Some c.index-federates-number.result =
-    slice_get-here d.federates c.args.number c.index-federates-number.result c.requires.there (rw c.federates.ensures at c.index-federates-number.is) in
+    slice_get_read d.federates (length d.federates) c.args.number c.index-federates-number.result refl c.requires.there (rw c.federates.ensures at c.index-federates-number.is) in
     let undone : c.in_ok-agenda.agenda.undone ≡ own_undone (stop_of d) c.index-federates-number.result.slots =
     rw (c.in_ok-agenda.ensures, c.stop_of.ensures, ← c.index-federates-number.is) refl in
     let opened = opened_is d programs c.args.inputs.now c.args.number c.index-as_slice-number.result c.index-federates-number.result c.in_ok-new.field-0 _ c.put_recorded.new.agenda
@@ -52,9 +53,9 @@ returns c =
     let same = all_zip_lengths (λ (f : declared.Federate) (b : Behaviour). (f.slots ≡ b.slots) × IsWellFormed b) d.federates programs c.requires.programs in
     let within : c.args.number < length programs = omega (arith, same, c.requires.there) in
     let program : slice_get programs c.args.number ≡ Some c.index-as_slice-number.result =
-    slice_get-here programs c.args.number c.index-as_slice-number.result within (rw c.as_slice.ensures at c.index-as_slice-number.is) in
+    slice_get_read programs (length programs) c.args.number c.index-as_slice-number.result refl within (rw c.as_slice.ensures at c.index-as_slice-number.is) in
     let federate : slice_get d.federates c.args.number ≡ Some c.index-federates-number.result =
-    slice_get-here d.federates c.args.number c.index-federates-number.result c.requires.there (rw c.federates.ensures at c.index-federates-number.is) in
+    slice_get_read d.federates (length d.federates) c.args.number c.index-federates-number.result refl c.requires.there (rw c.federates.ensures at c.index-federates-number.is) in
     let undone : c.in_ok-agenda.agenda.undone ≡ own_undone (stop_of d) c.index-federates-number.result.slots =
     rw (c.in_ok-agenda.ensures, c.stop_of.ensures, ← c.index-federates-number.is) refl in
     let opened = opened_is d programs c.args.inputs.now c.args.number c.index-as_slice-number.result c.index-federates-number.result c.in_ok-new.field-0 _ c.put_recorded.new.agenda

@@ -6,7 +6,8 @@ use Rattle.grants.specs.Bounds.{first_incoming, first_upstream}
 use Rattle.grants.specs.Wires.{AreWires, least_by, network_by}
 use Rattle.grants.specs.Routes.{Routed, upstream_of}
 use Rattle.grants.proofs.Arrivals.{bound_is}
-use Rattle.grants.proofs.Passing.{passes_greater, passes_other}
+use Rattle.laws.proofs.SafeGrants.{greater_from_second}
+use Rattle.grants.proofs.Passing.{passes_other}
 use Rattle.grants.proofs.Routed.{routes_are, upstream_there, incoming_there}
 use Rattle.grants.proofs.wiring.Wiring.passes.Goals as goal
 
@@ -39,7 +40,7 @@ returns-then-passes_incoming c =
     bound_is self standings c.args.federate upstream c.incoming.result.now paths connections (greater paths connections) refl
     (c.incoming.ensures ∙ ap (λ (r : Routed). r.incoming) at) refl refl refl in
     let passed : is_before c.args.tag connections ≡ true = sym c.passes_incoming.ensures ∙ c.if-passes_incoming.true in
-    c.if-passes_incoming.true ∙ sym (passes_greater c.args.tag paths connections passed) ∙ ap (is_before c.args.tag) bound
+    c.if-passes_incoming.true ∙ sym (greater_from_second c.args.tag paths connections passed) ∙ ap (is_before c.args.tag) bound
 
 pub returns-else-passes_incoming : goal.returns-else-passes_incoming
 returns-else-passes_incoming c =

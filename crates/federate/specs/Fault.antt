@@ -1,0 +1,11 @@
+-- How it is told that a federate can't be made, or a turn be worked out, for want of memory.
+use Rattle.std.specs.Prelude.{ℕ, List, codes}
+use Rattle.signal.specs.Fault.{told}
+
+-- the number of want of memory
+abbrev pub memory_number : ℕ
+memory_number = 64
+
+-- what is printed of it
+abbrev pub memory_text : List ℕ
+memory_text = told memory_number (codes "Memory")

@@ -1,5 +1,0 @@
--- The number by which a federate that can't be made for want of memory is told.
-use Rattle.std.specs.Prelude.{ℕ}
-
-abbrev pub out_of_memory : ℕ
-out_of_memory = 64

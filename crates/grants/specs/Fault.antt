@@ -1,0 +1,11 @@
+-- How it is told that there is no memory for the table.
+use Rattle.std.specs.Prelude.{ℕ, List, codes}
+use Rattle.signal.specs.Fault.{told}
+
+-- the number of want of memory
+abbrev pub memory_number : ℕ
+memory_number = 65
+
+-- what is printed of it
+abbrev pub memory_text : List ℕ
+memory_text = told memory_number (codes "Memory")
