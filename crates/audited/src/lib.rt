@@ -6,7 +6,7 @@
 //!     print_audited_run --> desks            a desk for each node
 //!                       --> wires            all nodes in threads, over TCP on loopback
 //!                       --> watching         beside them the audit, as far as it comes
-//!                       --> reports          what each federate's desk says
+//!                       --> reports          what each node's desk says, where the run is finished
 //!                       --> recorder         the audit of these reports, to its end
 //!                       --> rows             the reported rows, federate by federate
 //!
