@@ -17,9 +17,9 @@ use telling::tell;
 
 /// Does what the words ask for, over these files, and answers the exit status: 0 where it is done, 1 where what it was given
 /// is refused or can't be read, 2 where the words are no command, 3 where it couldn't finish. What it has to say of a
-/// failure is one line to `err`: what `err` gains is a beginning of that line, and all of it unless `err` refuses bytes; what
-/// it refuses changes nothing else. With 0, `run` printed the rows of reports that the audit proved, and whose coordinator is
-/// finished.
+/// failure is one line to `err`: what `err` gains is a beginning of that line, and `answer` says whether it is all of it; what
+/// `err` refuses changes nothing else. With 0, `run` printed the rows of reports that the audit proved, and whose coordinator
+/// is finished.
 pub fn command<
     R: AllocGlobal
         + Threads
