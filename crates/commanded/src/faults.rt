@@ -1,7 +1,11 @@
 //! What is told of files that are refused.
 use crate::federations::{BOTH_WAYS, CONNECTION};
-use crate::outcome::tells;
+use crate::outcome::{joined, tells};
 use samples::{CHAIN, CHAIN_INPUT, COUNTER};
+use std::net::{Net, TcpListener, TcpStream};
+use std::sync::Wait;
+use std::thread::Threads;
+use std::time::Clock;
 
 const WHOLE: &[&str] = &["whole", "fed.toml", "-", "4"];
 
@@ -30,6 +34,26 @@ fn refuses_names_of_files(rt: HostRuntime) {
             "{words:?}"
         );
     }
+}
+
+/// Whether a line is told whole that is longer than what is told of it at once.
+fn tells_long_line<
+    R: AllocGlobal
+        + Threads
+        + Wait
+        + Clock
+        + Net<Stream = TcpStream, Listener = TcpListener>
+        + Sync,
+>(rt: &R) -> Option<bool> {
+    let name = joined(rt.alloc(), &["unreadable"; 250])?;
+    let line = joined(rt.alloc(), &["fedrun: cannot read ", name.as_str(), "\n"])?;
+    let words = ["check", name.as_str()];
+    Some(tells(rt, &words, &[CHAIN], &[], 1, line.as_str()))
+}
+
+#[test]
+fn tells_long_lines(rt: HostRuntime) {
+    assert!(rt; tells_long_line(&rt) == Some(true));
 }
 
 /// Federation files, and what is told of them.

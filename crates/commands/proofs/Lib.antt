@@ -1,5 +1,5 @@
 -- Lemmas.
--- what a replay printed stays printed
-pub mod Replays
+-- results
+pub mod Results
 -- what a run printed stays printed
 pub mod Runs

@@ -20,7 +20,7 @@ pub enum Fault<'a> {
     /// No memory for a turn. The same command may be given again, with fewer turns.
     Turns(reactor::Memory),
     /// No memory for a step of a replay. What was refused before it is printed. The same command may be given again, with fewer steps.
-    World(world::Memory),
+    World(stage::Memory),
     /// The coordinator of a run isn't finished: a runner had made its turns before, or there was no listener, or a thread couldn't
     /// be started. Nothing was printed. The same command may be given again, with more turns.
     NotFinished,

@@ -9,7 +9,7 @@ use Rattle.program.specs.Behaviour.{Behaviour}
 use Rattle.node.specs.Step.{fresh}
 use Rattle.desk.specs.Replay.{Desk}
 use Rattle.cores.specs.FederateCore.{FederateNode}
-use Rattle.world.specs.Opened.{new_end, new_member}
+use Rattle.schedule.specs.Opened.{new_end, new_member}
 use Rattle.desks.specs.Opened.{unused, unused_members}
 
 fresh_again : (js : List ℕ) → map fresh (map new_end js) ≡ map new_end js

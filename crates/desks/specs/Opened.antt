@@ -7,7 +7,7 @@ use Rattle.program.specs.Behaviour.{Behaviour}
 use Rattle.node.specs.Step.{Station}
 use Rattle.desk.specs.Replay.{Desk}
 use Rattle.cores.specs.FederateCore.{FederateNode}
-use Rattle.world.specs.Opened.{new_member}
+use Rattle.schedule.specs.Opened.{new_member}
 
 -- a station's desk with an empty journal
 abbrev pub unused : {View : Type 0} → Station View → Desk View

@@ -4,7 +4,7 @@ ghost use Rattle.node.specs.Step.{fresh};
 ghost use Rattle.plan.specs.Federation.{federate_count};
 ghost use Rattle.plan.specs.External.{AreInputsOf};
 ghost use Rattle.program.specs.Programs.{AreProgramsOf};
-ghost use Rattle.world.specs.Opened.{new_end, new_hub, new_member};
+ghost use Rattle.schedule.specs.Opened.{new_end, new_hub, new_member};
 ghost use Rattle.desks.specs.Opened.{unused, unused_members};
 
 use coordinator::Coordinator;

@@ -30,3 +30,5 @@ pub mod InOrder
 pub mod Late
 -- Whether every signal was taken and acknowledged shows at the ends.
 pub mod Emptied
+-- Stations as they are made, one after the other.
+pub mod Opened

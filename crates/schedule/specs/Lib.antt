@@ -6,3 +6,5 @@ pub mod Taken
 pub mod Kept
 -- The world of a federation.
 pub mod Federation
+-- The stations of a federation, as they are made.
+pub mod Opened

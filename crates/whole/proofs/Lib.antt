@@ -1,6 +1,6 @@
 -- lists
 pub mod Steps
--- what was put is taken back
+-- what was put stays, or is taken back
 pub mod Putting
 -- the first of turns that are next
 pub mod NextTurns

@@ -1,4 +1,4 @@
--- What was put is taken back.
+-- What was put stays, or is taken back.
 use Rattle.std.proofs.Common.{◌≡◌, ◌≢◌, ℕ, zero, suc, ◌<◌, ◌≤◌, Bool, true, false, inl, inr, Option, None, List, [], ◌∷◌, ◌++◌, append-nil, length, map, take, drop, ◌-◌, get_or, set, nat_eq, ◌||◌, Some, slice_get, refl, sym, ap, ◌∙◌, arith}
 use Rattle.std.specs.List.{AllByRecursion}
 use Rattle.std.specs.Prelude.{if◌then◌else◌, Result, Ok, Err, OnErr}
@@ -6,12 +6,18 @@ use Rattle.std.specs.Option.{option_map}
 use Rattle.std.proofs.lemmas.List.{take_all}
 use Rattle.std.proofs.Math.Seq.{drop-length}
 use Rattle.std.proofs.lemmas.Bool.{or_parts, cases_eq, ne_eqb, eq-eqb}
-use Rattle.std.proofs.lemmas.Option.{slice_get-get_or}
+use Rattle.std.proofs.lemmas.Option.{slice_get-get_or, slice_get-map}
+use Rattle.tag.specs.LogicalTime.{LogicalTime}
 use Rattle.network.specs.Connection.{Connection}
-use Rattle.agenda.specs.Agenda.{Agenda}
+use Rattle.network.specs.Undone.{Held, put_all, drop_up_to}
+use Rattle.agenda.specs.Agenda.{Agenda, in_time}
 use Rattle.whole.specs.declared.targets.Target.{Target}
-use Rattle.whole.specs.Targets.{all_shown, AreApart}
-use Rattle.whole.specs.Made.{TurnMade, has_target, kept_on, dropped, after_puts, after_turn}
+use Rattle.whole.specs.Targets.{shown, all_shown, AreApart}
+use Rattle.whole.specs.Made.{TurnMade, Kept, put_to, has_target, kept_on, dropped, after_put, after_puts, after_turn}
+
+same_map : {X Y : Type 0} (f g : X → Y) → ((x : X) → f x ≡ g x) → (o : Option X) → option_map f o ≡ option_map g o
+same_map f g h None = refl
+same_map f g h (Some x) = ap (λ y. Some y) (h x)
 
 pub slice_get-set_same : {X : Type 0} (xs : List X) (k : ℕ) (y : X) → k < length xs → slice_get (set xs k y) k ≡ Some y
 slice_get-set_same [] k y below = absurd (omega arith)
@@ -48,7 +54,7 @@ put_back old later k x put y z there stop before alike same within z_stop z_undo
     let was : slice_get old k ≡ Some (get_or old k x) = slice_get-get_or old k x there in
     let got : Some (get_or later k y) ≡ Some put = sym (slice_get-get_or later k y within) ∙ (same ∙ slice_get-set_same old k put there) in
     let is : get_or later k y ≡ put = cc in
-    let shown : kept_on z ≡ kept_on (get_or old k x) = (λ i. ((z_stop ∙ (ap (λ a. a.stop) is ∙ stop)) i, (z_undone ∙ (ap (λ a. a.before) is ∙ before)) i)) in
+    let shown : kept_on z ≡ kept_on (get_or old k x) = (λ i. record { stop = (z_stop ∙ (ap (λ a. a.stop) is ∙ stop)) i; undone = (z_undone ∙ (ap (λ a. a.before) is ∙ before)) i }) in
     map_set kept_on later k z
     ∙ (ap (λ l. set l k (kept_on z)) (alike ∙ map_set kept_on old k put)
     ∙ (set_twice (map kept_on old) k (kept_on put) (kept_on z)
@@ -84,31 +90,75 @@ written old new count is same =
     let none : drop (length new) old ≡ [] = ap (λ n. drop n old) same ∙ drop-length old in
     ap (λ rest. take count (new ++ rest)) none ∙ (ap (take count) (append-nil new) ∙ take_all count new (omega arith))
 
-drop_one : (t : TurnMade) (targets : List (ℕ × List Connection)) (f : ℕ) (o : Option Agenda) (x : Agenda) (b : Bool) → nat_eq t.federate f ≡ b → b ≡ true → Some x ≡ option_map (after_puts t targets f) o →
+-- ---- what was put stays
+
+-- what is kept on an agenda that replaced another
+kept-set_same : (old : List Agenda) (k : ℕ) (a : Agenda) → k < length old → slice_get (map kept_on (set old k a)) k ≡ Some (kept_on a)
+kept-set_same old k a there = slice_get-map kept_on (set old k a) k ∙ ap (option_map kept_on) (slice_get-set_same old k a there)
+
+-- what is kept on any other
+kept-set_other : (old : List Agenda) (k f : ℕ) (a : Agenda) → f ≢ k → slice_get (map kept_on (set old k a)) f ≡ slice_get (map kept_on old) f
+kept-set_other old k f a other = slice_get-map kept_on (set old k a) f ∙ (ap (option_map kept_on) (slice_get-set_other old k f a other) ∙ sym (slice_get-map kept_on old f))
+
+kept-there : (old : List Agenda) (k : ℕ) (x : Agenda) → k < length old → slice_get (map kept_on old) k ≡ Some (kept_on (get_or old k x))
+kept-there old k x there = slice_get-map kept_on old k ∙ ap (option_map kept_on) (slice_get-get_or old k x there)
+
+-- one more target
+pub put_step : (t : TurnMade) (target : ℕ × List Connection) (rest : List (ℕ × List Connection)) (old new : List Agenda) (x put : Agenda) → target.0 < length old →
+    kept_on put ≡ after_put t target (kept_on (get_or old target.0 x)) →
+    ((f : ℕ) → slice_get (map kept_on new) f ≡ option_map (after_puts t rest f) (slice_get (map kept_on (set old target.0 put)) f)) →
+    (f : ℕ) → slice_get (map kept_on new) f ≡ option_map (after_puts t (target ∷ rest) f) (slice_get (map kept_on old) f)
+put_step t target rest old new x put there is so_far f = elim (cases_eq f target.0) [
+  | inl e ↦ (
+      let here : nat_eq target.0 f ≡ true = eq-eqb target.0 f (sym e) in
+      let was : Kept = kept_on (get_or old target.0 x) in
+      so_far f ∙ (ap (λ j. option_map (after_puts t rest f) (slice_get (map kept_on (set old target.0 put)) j)) e
+      ∙ (ap (option_map (after_puts t rest f)) (kept-set_same old target.0 put there ∙ ap (λ k. Some k) is)
+      ∙ (sym (ap (λ b. Some (after_puts t rest f (if b then after_put t target was else was))) here)
+      ∙ ap (option_map (after_puts t (target ∷ rest) f)) (sym (ap (slice_get (map kept_on old)) e ∙ kept-there old target.0 x there))))))
+  | inr other ↦ (
+      let elsewhere : nat_eq target.0 f ≡ false = ne_eqb target.0 f (λ q. other (sym q)) in
+      so_far f ∙ (ap (option_map (after_puts t rest f)) (kept-set_other old target.0 f put other)
+      ∙ same_map (after_puts t rest f) (after_puts t (target ∷ rest) f) (λ k. sym (ap (λ b. after_puts t rest f (if b then after_put t target k else k)) elsewhere)) (slice_get (map kept_on old) f)))
+]
+
+-- the same, of the code's targets
+pub put_first : (t : TurnMade) (targets : List Target) (target : Target) (old new : List Agenda) (x put : Agenda) (events : List Held) → 1 ≤ length targets → target ≡ get_or targets 0 target → target.federate < length old →
+    kept_on put ≡ record { stop = (get_or old target.federate x).stop; undone = put_all (in_time (get_or old target.federate x).stop events) (get_or old target.federate x).undone } → events ≡ put_to t (shown target) →
+    ((f : ℕ) → slice_get (map kept_on new) f ≡ option_map (after_puts t (all_shown (all_but_first targets)) f) (slice_get (map kept_on (set old target.federate put)) f)) →
+    (f : ℕ) → slice_get (map kept_on new) f ≡ option_map (after_puts t (all_shown targets) f) (slice_get (map kept_on old) f)
+put_first t [] target old new x put events some first there is made so_far f = absurd (omega arith)
+put_first t (y ∷ rest) target old new x put events some first there is made so_far f =
+    let was : Agenda = get_or old target.federate x in
+    put_step t (shown target) (all_shown (all_but_first (y ∷ rest))) old new x put there (is ∙ ap (λ es. record { stop = was.stop; undone = put_all (in_time was.stop es) was.undone }) made) so_far f
+    ∙ ap (λ ts. option_map (after_puts t ts f) (slice_get (map kept_on old) f)) (λ i. shown (first i) ∷ all_shown (others_are y rest i))
+
+drop_one : (t : TurnMade) (targets : List (ℕ × List Connection)) (f : ℕ) (o : Option Kept) (x : Kept) (b : Bool) → nat_eq t.federate f ≡ b → b ≡ true → Some x ≡ option_map (after_puts t targets f) o →
     Some (dropped t.tag x) ≡ option_map (after_turn t targets f) o
 drop_one t targets f None x b is yes_it e = absurd cc
 drop_one t targets f (Some a) x b is yes_it e =
     let same : x ≡ after_puts t targets f a = cc in
     ap (λ y. Some (dropped t.tag y)) same ∙ sym (ap (λ c. Some (if c then dropped t.tag (after_puts t targets f a) else after_puts t targets f a)) (is ∙ yes_it))
 
-keep_one : (t : TurnMade) (targets : List (ℕ × List Connection)) (f : ℕ) (o : Option Agenda) → nat_eq t.federate f ≡ false →
+keep_one : (t : TurnMade) (targets : List (ℕ × List Connection)) (f : ℕ) (o : Option Kept) → nat_eq t.federate f ≡ false →
     option_map (after_puts t targets f) o ≡ option_map (after_turn t targets f) o
-keep_one t targets f None is = refl
-keep_one t targets f (Some a) is = sym (ap (λ c. Some (if c then dropped t.tag (after_puts t targets f a) else after_puts t targets f a)) is)
+keep_one t targets f o is = same_map (after_puts t targets f) (after_turn t targets f) (λ k. sym (ap (λ c. if c then dropped t.tag (after_puts t targets f k) else after_puts t targets f k) is)) o
 
 -- the turn's own federate drops what is up to its tag
-pub drop_step : (t : TurnMade) (targets : List (ℕ × List Connection)) (old put : List Agenda) (x z : Agenda) → t.federate < length put → z ≡ dropped t.tag (get_or put t.federate x) →
-    ((f : ℕ) → slice_get put f ≡ option_map (after_puts t targets f) (slice_get old f)) →
-    (f : ℕ) → slice_get (set put t.federate z) f ≡ option_map (after_turn t targets f) (slice_get old f)
-drop_step t targets old put x z there is so_far f = elim (cases_eq f t.federate) [
+pub drop_step : (t : TurnMade) (targets : List (ℕ × List Connection)) (old put : List Agenda) (own : ℕ) (tag : LogicalTime) (x z : Agenda) → own ≡ t.federate → tag ≡ t.tag → own < length put →
+    z ≡ record { stop = (get_or put own x).stop; undone = drop_up_to tag (get_or put own x).undone; before = drop_up_to tag (get_or put own x).undone } →
+    ((f : ℕ) → slice_get (map kept_on put) f ≡ option_map (after_puts t targets f) (slice_get (map kept_on old) f)) →
+    (f : ℕ) → slice_get (map kept_on (set put own z)) f ≡ option_map (after_turn t targets f) (slice_get (map kept_on old) f)
+drop_step t targets old put own tag x z is_own is_tag there is so_far f = elim (cases_eq f own) [
   | inl e ↦ (
-      let here : nat_eq t.federate f ≡ true = eq-eqb t.federate f (sym e) in
-      let was : Some (get_or put t.federate x) ≡ option_map (after_puts t targets f) (slice_get old f) = sym (slice_get-get_or put t.federate x there) ∙ (ap (slice_get put) (sym e) ∙ so_far f) in
-      ap (slice_get (set put t.federate z)) e ∙ (slice_get-set_same put t.federate z there ∙ (ap (λ y. Some y) is
-      ∙ drop_one t targets f (slice_get old f) (get_or put t.federate x) (nat_eq t.federate f) refl here was)))
+      let here : nat_eq t.federate f ≡ true = eq-eqb t.federate f (sym (e ∙ is_own)) in
+      let before : Kept = kept_on (get_or put own x) in
+      let was : Some before ≡ option_map (after_puts t targets f) (slice_get (map kept_on old) f) = sym (kept-there put own x there) ∙ (ap (slice_get (map kept_on put)) (sym e) ∙ so_far f) in
+      ap (slice_get (map kept_on (set put own z))) e ∙ (kept-set_same put own z there ∙ (ap (λ y. Some (kept_on y)) is ∙ (ap (λ g. Some (dropped g before)) is_tag
+      ∙ drop_one t targets f (slice_get (map kept_on old) f) before (nat_eq t.federate f) refl here was))))
   | inr other ↦ (
-      let elsewhere : nat_eq t.federate f ≡ false = ne_eqb t.federate f (λ q. other (sym q)) in
-      slice_get-set_other put t.federate f z other ∙ (so_far f ∙ keep_one t targets f (slice_get old f) elsewhere))
+      let elsewhere : nat_eq t.federate f ≡ false = ne_eqb t.federate f (λ q. other (sym (is_own ∙ q))) in
+      kept-set_other put own f z other ∙ (so_far f ∙ keep_one t targets f (slice_get (map kept_on old) f) elsewhere))
 ]
 
 pub on_err : {X E : Type 0} (r : Result X E) (P : Type 0) → P → OnErr r P

@@ -19,7 +19,7 @@ use Rattle.agenda.specs.Agenda.{Agenda, IsAgenda, in_time, least_in}
 use Rattle.whole.specs.declared.targets.Target.{Target}
 use Rattle.whole.specs.declared.nexts.Next.{Next}
 use Rattle.whole.specs.Targets.{between, is_some, is_target, target_if, targets_below, all_shown, AreApart}
-use Rattle.whole.specs.Made.{TurnMade, put_to, after_put, after_puts, after_turn, dropped, has_target, kept_on, least_on}
+use Rattle.whole.specs.Made.{TurnMade, Kept, put_to, after_put, after_puts, after_turn, dropped, has_target, kept_on, least_on}
 use Rattle.whole.specs.Next.{is_earlier, IsFirstAt, renewed}
 use Rattle.whole.specs.Schedule.{Schedule, undone_of, list_or_none, IsDueFirst, IsDone, found_after, IsAfterTurn, next_on, IsAgendaUpTo, for_each, IsSchedule}
 use Rattle.whole.proofs.Looks.{found_after_least, none_before_forever, least_found, not_first}
@@ -58,11 +58,11 @@ unshown n (t ∷ ts) w = (w.0, unshown n ts w.1)
 pub all_there : (n : ℕ) (ts : List Target) → AllByRecursion (λ (t : ℕ × List Connection). t.0 < n) (all_shown ts) → All (λ (t : Target). t.federate < n) ts
 all_there n ts w = from_each (λ (t : Target). t.federate < n) ts (unshown n ts w)
 
-puts-append : (t : TurnMade) (f : ℕ) (a : Agenda) (xs ys : List (ℕ × List Connection)) → after_puts t (xs ++ ys) f a ≡ after_puts t ys f (after_puts t xs f a)
+puts-append : (t : TurnMade) (f : ℕ) (a : Kept) (xs ys : List (ℕ × List Connection)) → after_puts t (xs ++ ys) f a ≡ after_puts t ys f (after_puts t xs f a)
 puts-append t f a [] ys = refl
 puts-append t f a (x ∷ xs) ys = puts-append t f (if nat_eq x.0 f then after_put t x a else a) xs ys
 
-pub puts_nowhere : (t : TurnMade) (f : ℕ) (a : Agenda) (xs : List (ℕ × List Connection)) → has_target f xs ≡ false → after_puts t xs f a ≡ a
+pub puts_nowhere : (t : TurnMade) (f : ℕ) (a : Kept) (xs : List (ℕ × List Connection)) → has_target f xs ≡ false → after_puts t xs f a ≡ a
 puts_nowhere t f a [] h = refl
 puts_nowhere t f a (x ∷ xs) h =
     let parts = or_parts (nat_eq x.0 f) (has_target f xs) h in
@@ -91,12 +91,12 @@ has_is cs src (suc k) f h = elim (cases_eq f k) [
   | inr other ↦ (has_target-append f (targets_below cs src k) (target_if cs src k) ∙ (ap (λ b. has_target f (targets_below cs src k) || b) (has_not f (k, between src k cs) (is_target cs src k) (λ q. other (sym q))) ∙ (or-false (has_target f (targets_below cs src k)) ∙ has_is cs src k f (omega arith))))
 ]
 
-puts_if : (t : TurnMade) (f : ℕ) (a : Agenda) (x : ℕ × List Connection) (b : Bool) → x.0 ≡ f → after_puts t (if b then x ∷ [] else []) f a ≡ (if b then after_put t x a else a)
+puts_if : (t : TurnMade) (f : ℕ) (a : Kept) (x : ℕ × List Connection) (b : Bool) → x.0 ≡ f → after_puts t (if b then x ∷ [] else []) f a ≡ (if b then after_put t x a else a)
 puts_if t f a x true e = ap (λ c. if c then after_put t x a else a) (eq-eqb x.0 f e)
 puts_if t f a x false e = refl
 
 -- what is put to a federate by a turn
-pub puts_are : (t : TurnMade) (cs : List Connection) (src count f : ℕ) (a : Agenda) → f < count → after_puts t (targets_below cs src count) f a ≡ (if is_target cs src f then after_put t (f, between src f cs) a else a)
+pub puts_are : (t : TurnMade) (cs : List Connection) (src count f : ℕ) (a : Kept) → f < count → after_puts t (targets_below cs src count) f a ≡ (if is_target cs src f then after_put t (f, between src f cs) a else a)
 puts_are t cs src zero f a h = absurd (omega arith)
 puts_are t cs src (suc k) f a h = elim (cases_eq f k) [
   | inl e ↦ (puts-append t f a (targets_below cs src k) (target_if cs src k) ∙ (ap (after_puts t (target_if cs src k) f) (puts_nowhere t f a (targets_below cs src k) (not_beyond cs src k f (omega arith)))
@@ -107,9 +107,9 @@ puts_are t cs src (suc k) f a h = elim (cases_eq f k) [
 pub own_is_target : (cs : List Connection) (src : ℕ) → is_target cs src src ≡ true
 own_is_target cs src = ap (λ b. b || is_some (between src src cs)) (eq-eqb src src refl)
 
--- ---- a federate's agenda after a turn
+-- ---- what a federate's agenda keeps after a turn
 
-puts_stop : (t : TurnMade) (xs : List (ℕ × List Connection)) (f : ℕ) (a : Agenda) → (after_puts t xs f a).stop ≡ a.stop
+puts_stop : (t : TurnMade) (xs : List (ℕ × List Connection)) (f : ℕ) (a : Kept) → (after_puts t xs f a).stop ≡ a.stop
 puts_stop t [] f a = refl
 puts_stop t (x ∷ xs) f a = puts_stop t xs f (if nat_eq x.0 f then after_put t x a else a) ∙ by_test (nat_eq x.0 f)
   where
@@ -117,7 +117,7 @@ puts_stop t (x ∷ xs) f a = puts_stop t xs f (if nat_eq x.0 f then after_put t 
     by_test true = refl
     by_test false = refl
 
-pub turn_stop : (t : TurnMade) (xs : List (ℕ × List Connection)) (f : ℕ) (a : Agenda) → (after_turn t xs f a).stop ≡ a.stop
+pub turn_stop : (t : TurnMade) (xs : List (ℕ × List Connection)) (f : ℕ) (a : Kept) → (after_turn t xs f a).stop ≡ a.stop
 turn_stop t xs f a = by_test (nat_eq t.federate f) ∙ puts_stop t xs f a
   where
     by_test : (b : Bool) → (if b then dropped t.tag (after_puts t xs f a) else after_puts t xs f a).stop ≡ (after_puts t xs f a).stop
@@ -134,7 +134,7 @@ nothing_put t cs f h =
     none_of false [] e k = refl
     none_of false (c ∷ rest) e k = absurd cc
 
-puts_undone : (t : TurnMade) (cs : List Connection) (f : ℕ) (a : Agenda) (stop : LogicalTime) → a.stop ≡ stop → (b : Bool) → is_target cs t.federate f ≡ b →
+puts_undone : (t : TurnMade) (cs : List Connection) (f : ℕ) (a : Kept) (stop : LogicalTime) → a.stop ≡ stop → (b : Bool) → is_target cs t.federate f ≡ b →
     (if b then after_put t (f, between t.federate f cs) a else a).undone ≡ put_all (in_time stop (put_to t (f, between t.federate f cs))) a.undone
 puts_undone t cs f a stop e true h = ap (λ s. put_all (in_time s (put_to t (f, between t.federate f cs))) a.undone) e
 puts_undone t cs f a stop e false h = sym (ap (λ es. put_all (in_time stop es) a.undone) (nothing_put t cs f h))
@@ -145,18 +145,18 @@ found_by t u tag slot false later e = refl
 found_by t u tag slot true true e = look_later t.tag tag slot u e
 found_by t u tag slot true false e = look_dropped t.tag tag slot u e
 
-undone_if : (b : Bool) (t : TurnMade) (a : Agenda) → (if b then dropped t.tag a else a).undone ≡ (if b then drop_up_to t.tag a.undone else a.undone)
+undone_if : (b : Bool) (t : TurnMade) (a : Kept) → (if b then dropped t.tag a else a).undone ≡ (if b then drop_up_to t.tag a.undone else a.undone)
 undone_if true t a = refl
 undone_if false t a = refl
 
 -- what is found on it
-pub found_on : (t : TurnMade) (d : Draft) (f : ℕ) (a : Agenda) → f < federate_count d → a.stop ≡ stop_of d → (tag : LogicalTime) (slot : ℕ) →
+pub found_on : (t : TurnMade) (d : Draft) (f : ℕ) (a : Kept) → f < federate_count d → a.stop ≡ stop_of d → (tag : LogicalTime) (slot : ℕ) →
     look (after_turn t (targets_below (connections_of d) t.federate (federate_count d)) f a).undone tag slot ≡ found_after t d a.undone f tag slot
 found_on t d f a h e tag slot =
     let targets = targets_below (connections_of d) t.federate (federate_count d) in
     let put : List Held = put_all (in_time (stop_of d) (put_to t (f, between t.federate f (connections_of d)))) a.undone in
     let puts : (after_puts t targets f a).undone ≡ put =
-    ap (λ (x : Agenda). x.undone) (puts_are t (connections_of d) t.federate (federate_count d) f a h)
+    ap (λ (x : Kept). x.undone) (puts_are t (connections_of d) t.federate (federate_count d) f a h)
     ∙ puts_undone t (connections_of d) f a (stop_of d) e (is_target (connections_of d) t.federate f) refl in
     ap (λ u. look u tag slot) (undone_if (nat_eq t.federate f) t (after_puts t targets f a) ∙ ap (λ u. if nat_eq t.federate f then drop_up_to t.tag u else u) puts)
     ∙ (found_by t put tag slot (nat_eq t.federate f) (is_before t.tag tag) refl
@@ -179,70 +179,100 @@ agenda_at d agendas many f h = some_at agendas f (omega arith) (slice_get agenda
 pub undone_at : (d : Draft) (agendas : List Agenda) (f : ℕ) (a : Agenda) → slice_get agendas f ≡ Some a → undone_of (record { draft = d; undone = map (λ x. x.undone) agendas }) f ≡ a.undone
 undone_at d agendas f a e = ap list_or_none (slice_get-map (λ x. x.undone) agendas f ∙ ap (option_map (λ x. x.undone)) e)
 
+undone_kept : (o : Option Agenda) → option_map (λ x. x.undone) o ≡ option_map (λ (k : Kept). k.undone) (option_map kept_on o)
+undone_kept None = refl
+undone_kept (Some a) = refl
+
+-- the same, where it is known what the agenda keeps
+undone_by : (d : Draft) (agendas : List Agenda) (f : ℕ) (k : Kept) → slice_get (map kept_on agendas) f ≡ Some k → undone_of (record { draft = d; undone = map (λ x. x.undone) agendas }) f ≡ k.undone
+undone_by d agendas f k e =
+    ap list_or_none (slice_get-map (λ x. x.undone) agendas f ∙ (undone_kept (slice_get agendas f) ∙ (ap (option_map (λ (k : Kept). k.undone)) (sym (slice_get-map kept_on agendas f)) ∙ ap (option_map (λ (k : Kept). k.undone)) e)))
+
 pub turn_undone : (t : TurnMade) (d : Draft) (old new : List Agenda) → length old ≡ federate_count d →
     ((f : ℕ) (a : Agenda) → slice_get old f ≡ Some a → IsAgendaUpTo (stop_of d) a) →
-    ((f : ℕ) → slice_get new f ≡ option_map (after_turn t (targets_below (connections_of d) t.federate (federate_count d)) f) (slice_get old f)) →
+    ((f : ℕ) → slice_get (map kept_on new) f ≡ option_map (after_turn t (targets_below (connections_of d) t.federate (federate_count d)) f) (slice_get (map kept_on old) f)) →
     IsAfterTurn t (record { draft = d; undone = map (λ x. x.undone) old }) (record { draft = d; undone = map (λ x. x.undone) new })
 turn_undone t d old new many each after = record {
   draft = refl;
   undone = λ f tag slot h.
       let a = agenda_at d old many f h in
       let targets = targets_below (connections_of d) t.federate (federate_count d) in
-      let next : slice_get new f ≡ Some (after_turn t targets f a.0) = after f ∙ ap (option_map (after_turn t targets f)) a.1 in
-      ap (λ u. look u tag slot) (undone_at d new f (after_turn t targets f a.0) next)
-      ∙ (found_on t d f a.0 h (each f a.0 a.1).up_to tag slot
+      let next : slice_get (map kept_on new) f ≡ Some (after_turn t targets f (kept_on a.0)) = after f ∙ ap (option_map (after_turn t targets f)) (slice_get-map kept_on old f ∙ ap (option_map kept_on) a.1) in
+      ap (λ u. look u tag slot) (undone_by d new f (after_turn t targets f (kept_on a.0)) next)
+      ∙ (found_on t d f (kept_on a.0) h (each f a.0 a.1).up_to tag slot
       ∙ ap (λ u. found_after t d u f tag slot) (sym (undone_at d old f a.0 a.1)));
 }
 
-not_a_target : (t : TurnMade) (targets : List (ℕ × List Connection)) (f : ℕ) → has_target t.federate targets ≡ true → has_target f targets ≡ false → (a : Agenda) → after_turn t targets f a ≡ a
+not_a_target : (t : TurnMade) (targets : List (ℕ × List Connection)) (f : ℕ) → has_target t.federate targets ≡ true → has_target f targets ≡ false → (a : Kept) → after_turn t targets f a ≡ a
 not_a_target t targets f own none a =
     let other : nat_eq t.federate f ≡ false = ne_eqb t.federate f (λ e. (let yes_it : has_target f targets ≡ true = ap (λ k. has_target k targets) (sym e) ∙ own in absurd cc)) in
     ap (λ b. if b then dropped t.tag (after_puts t targets f a) else after_puts t targets f a) other ∙ puts_nowhere t f a targets none
 
-option_id : (g : Agenda → Agenda) → ((a : Agenda) → g a ≡ a) → (o : Option Agenda) → option_map g o ≡ o
+option_id : {X : Type 0} (g : X → X) → ((x : X) → g x ≡ x) → (o : Option X) → option_map g o ≡ o
 option_id g h None = refl
-option_id g h (Some a) = ap (λ x. Some x) (h a)
+option_id g h (Some x) = ap (λ y. Some y) (h x)
 
-some_of : (g : Agenda → Agenda) (o : Option Agenda) (a : Agenda) → option_map g o ≡ Some a → (x : Agenda) × (o ≡ Some x) × (g x ≡ a)
-some_of g None a e = absurd cc
-some_of g (Some x) a e = (x, refl, (let same : g x ≡ a = cc in same))
+some_of : {X Y : Type 0} (g : X → Y) (o : Option X) (y : Y) → option_map g o ≡ Some y → (x : X) × (o ≡ Some x) × (g x ≡ y)
+some_of g None y e = absurd cc
+some_of g (Some x) y e = (x, refl, (let same : g x ≡ y = cc in same))
 
-renew_all : (d : Draft) (old new : List Agenda) (f : ℕ) (h : Bool) → (h ≡ false → slice_get new f ≡ slice_get old f) → option_map (renewed new h f) (for_each d (next_on d old) f) ≡ for_each d (next_on d new) f
+-- ---- where as much is kept
+
+kept_at : (old new : List Agenda) (f : ℕ) → slice_get (map kept_on new) f ≡ slice_get (map kept_on old) f → option_map kept_on (slice_get new f) ≡ option_map kept_on (slice_get old f)
+kept_at old new f e = sym (slice_get-map kept_on new f) ∙ (e ∙ slice_get-map kept_on old f)
+
+least_kept : (o p : Option Agenda) → option_map kept_on o ≡ option_map kept_on p → least_on o ≡ least_on p
+least_kept None None e = refl
+least_kept None (Some b) e = absurd cc
+least_kept (Some a) None e = absurd cc
+least_kept (Some a) (Some b) e = let same : kept_on a ≡ kept_on b = cc in ap (λ (k : Kept). least_in k.undone) same
+
+up_to_kept : (stop : LogicalTime) (old new : Agenda) → kept_on old ≡ kept_on new → IsAgendaUpTo stop old → IsAgendaUpTo stop new
+up_to_kept stop old new e before =
+    let undone : old.undone ≡ new.undone = ap (λ (k : Kept). k.undone) e in
+    let same : old.stop ≡ new.stop = ap (λ (k : Kept). k.stop) e in
+    record {
+      up_to = sym same ∙ before.up_to;
+      agenda = record {
+        rises = subst Rattle.network.specs.Undone.Rises undone before.agenda.rises;
+        in_time = subst (λ s. AllByRecursion (Rattle.agenda.specs.Agenda.IsInTime s) new.undone) same (subst (AllByRecursion (Rattle.agenda.specs.Agenda.IsInTime old.stop)) undone before.agenda.in_time);
+      };
+    }
+
+renew_all : (d : Draft) (old new : List Agenda) (f : ℕ) (h : Bool) → (h ≡ false → least_on (slice_get new f) ≡ least_on (slice_get old f)) → option_map (renewed new h f) (for_each d (next_on d old) f) ≡ for_each d (next_on d new) f
 renew_all d old new f h same = by_test (nat_lt f (federate_count d)) h same
   where
-    by_test : (b h : Bool) → (h ≡ false → slice_get new f ≡ slice_get old f) → option_map (renewed new h f) (if b then Some (next_on d old f) else None) ≡ (if b then Some (next_on d new f) else None)
+    by_test : (b h : Bool) → (h ≡ false → least_on (slice_get new f) ≡ least_on (slice_get old f)) → option_map (renewed new h f) (if b then Some (next_on d old f) else None) ≡ (if b then Some (next_on d new f) else None)
     by_test false h same = refl
     by_test true true same = refl
-    by_test true false same = ap (λ o. Some (record { federate = f; tag = least_on o; rank = rank_of d f })) (sym (same refl))
+    by_test true false same = ap (λ g. Some (record { federate = f; tag = g; rank = rank_of d f })) (sym (same refl))
 
 pub turn_kept : (t : TurnMade) (d : Draft) (old new : List Agenda) (nexts more : List Next) (wires : List (List (ℕ × List Connection))) → t.federate < federate_count d →
     IsSchedule d old nexts wires → length new ≡ length old →
-    ((f : ℕ) → slice_get new f ≡ option_map (after_turn t (targets_below (connections_of d) t.federate (federate_count d)) f) (slice_get old f)) →
+    ((f : ℕ) → slice_get (map kept_on new) f ≡ option_map (after_turn t (targets_below (connections_of d) t.federate (federate_count d)) f) (slice_get (map kept_on old) f)) →
     ((f : ℕ) → slice_get more f ≡ option_map (renewed new (has_target f (targets_below (connections_of d) t.federate (federate_count d))) f) (slice_get nexts f)) →
     ((f : ℕ) (a : Agenda) → has_target f (targets_below (connections_of d) t.federate (federate_count d)) ≡ true → slice_get new f ≡ Some a → IsAgenda a) →
     IsSchedule d new more wires
 turn_kept t d old new nexts more wires there w many after renewal known =
     let targets = targets_below (connections_of d) t.federate (federate_count d) in
     let own : has_target t.federate targets ≡ true = has_is (connections_of d) t.federate (federate_count d) t.federate there ∙ own_is_target (connections_of d) t.federate in
-    let same : (f : ℕ) → has_target f targets ≡ false → slice_get new f ≡ slice_get old f =
-    λ f none. after f ∙ option_id (after_turn t targets f) (not_a_target t targets f own none) (slice_get old f) in
+    let same : (f : ℕ) → has_target f targets ≡ false → least_on (slice_get new f) ≡ least_on (slice_get old f) =
+    λ f none. least_kept (slice_get new f) (slice_get old f) (kept_at old new f (after f ∙ option_id (after_turn t targets f) (not_a_target t targets f own none) (slice_get (map kept_on old) f))) in
     record {
       count = many ∙ w.count;
       each = λ f a at.
-          let was = some_of (after_turn t targets f) (slice_get old f) a (sym (after f) ∙ at) in
+          let kept = some_of (after_turn t targets f) (slice_get (map kept_on old) f) (kept_on a) (sym (after f) ∙ (slice_get-map kept_on new f ∙ ap (option_map kept_on) at)) in
+          let was = some_of kept_on (slice_get old f) kept.0 (sym (slice_get-map kept_on old f) ∙ kept.1) in
           let before = w.each f was.0 was.1 in
           elim (cases_Bool (has_target f targets)) [
-            | inl yes_it ↦ record { up_to = ap (λ (x : Agenda). x.stop) (sym was.2) ∙ (turn_stop t targets f was.0 ∙ before.up_to); agenda = known f a yes_it at }
-            | inr none ↦ subst (IsAgendaUpTo (stop_of d)) (sym (not_a_target t targets f own none was.0) ∙ was.2) before
+            | inl yes_it ↦ record { up_to = ap (λ (k : Kept). k.stop) (sym kept.2) ∙ (turn_stop t targets f kept.0 ∙ (ap (λ (k : Kept). k.stop) (sym was.2) ∙ before.up_to)); agenda = known f a yes_it at }
+            | inr none ↦ up_to_kept (stop_of d) was.0 a (was.2 ∙ (sym (not_a_target t targets f own none kept.0) ∙ kept.2)) before
           ];
       next = λ f. renewal f ∙ (ap (option_map (renewed new (has_target f targets) f)) (w.next f) ∙ renew_all d old new f (has_target f targets) (same f));
       wired = w.wired;
     }
 
 -- ---- where nothing changed
-
-kept_at : (old new : List Agenda) (f : ℕ) → map kept_on new ≡ map kept_on old → option_map kept_on (slice_get new f) ≡ option_map kept_on (slice_get old f)
-kept_at old new f e = sym (slice_get-map kept_on new f) ∙ (ap (λ l. slice_get l f) e ∙ slice_get-map kept_on old f)
 
 pub undone_same : (old new : List Agenda) → map kept_on new ≡ map kept_on old → map (λ x. x.undone) new ≡ map (λ x. x.undone) old
 undone_same [] [] e = refl
@@ -251,36 +281,19 @@ undone_same (a ∷ old) [] e = absurd cc
 undone_same (a ∷ old) (b ∷ new) e =
     let first : kept_on b ≡ kept_on a = cc in
     let rest : map kept_on new ≡ map kept_on old = cc in
-    (λ i. (first i).1 ∷ undone_same old new rest i)
-
-some_kept : (o : Option Agenda) (a : Agenda) → Some (kept_on a) ≡ option_map kept_on o → (x : Agenda) × (o ≡ Some x) × (kept_on a ≡ kept_on x)
-some_kept None a e = absurd cc
-some_kept (Some x) a e = (x, refl, (let same : kept_on a ≡ kept_on x = cc in same))
-
-least_kept : (o p : Option Agenda) → option_map kept_on o ≡ option_map kept_on p → least_on o ≡ least_on p
-least_kept None None e = refl
-least_kept None (Some b) e = absurd cc
-least_kept (Some a) None e = absurd cc
-least_kept (Some a) (Some b) e = let same : kept_on a ≡ kept_on b = cc in ap (λ (k : LogicalTime × List Held). least_in k.1) same
+    (λ i. (first i).undone ∷ undone_same old new rest i)
 
 pub kept_same : (d : Draft) (old new : List Agenda) (nexts : List Next) (wires : List (List (ℕ × List Connection))) → IsSchedule d old nexts wires → length new ≡ length old → map kept_on new ≡ map kept_on old → IsSchedule d new nexts wires
-kept_same d old new nexts wires w many e = record {
-  count = many ∙ w.count;
-  each = λ f a at.
-      let was = some_kept (slice_get old f) a (sym (ap (option_map kept_on) at) ∙ kept_at old new f e) in
-      let before = w.each f was.0 was.1 in
-      let undone : was.0.undone ≡ a.undone = ap (λ (k : LogicalTime × List Held). k.1) (sym was.2) in
-      let stop : was.0.stop ≡ a.stop = ap (λ (k : LogicalTime × List Held). k.0) (sym was.2) in
-      record {
-        up_to = sym stop ∙ before.up_to;
-        agenda = record {
-          rises = subst Rattle.network.specs.Undone.Rises undone before.agenda.rises;
-          in_time = subst (λ s. AllByRecursion (Rattle.agenda.specs.Agenda.IsInTime s) a.undone) stop (subst (AllByRecursion (Rattle.agenda.specs.Agenda.IsInTime was.0.stop)) undone before.agenda.in_time);
-        };
-      };
-  next = λ f. w.next f ∙ ap (λ g. if nat_lt f (federate_count d) then Some (record { federate = f; tag = g; rank = rank_of d f }) else None) (least_kept (slice_get old f) (slice_get new f) (sym (kept_at old new f e)));
-  wired = w.wired;
-}
+kept_same d old new nexts wires w many e =
+    let same : (f : ℕ) → option_map kept_on (slice_get new f) ≡ option_map kept_on (slice_get old f) = λ f. kept_at old new f (ap (λ l. slice_get l f) e) in
+    record {
+      count = many ∙ w.count;
+      each = λ f a at.
+          let was = some_of kept_on (slice_get old f) (kept_on a) (sym (same f) ∙ ap (option_map kept_on) at) in
+          up_to_kept (stop_of d) was.0 a was.2 (w.each f was.0 was.1);
+      next = λ f. w.next f ∙ ap (λ g. if nat_lt f (federate_count d) then Some (record { federate = f; tag = g; rank = rank_of d f }) else None) (least_kept (slice_get old f) (slice_get new f) (sym (same f)));
+      wired = w.wired;
+    }
 
 -- ---- which turn is first
 
@@ -369,12 +382,12 @@ pub record IsPut (t : TurnMade) (d : Draft) (items new : List Agenda) (more : Li
 
 pub after_put_turn : (t : TurnMade) (d : Draft) (items old new : List Agenda) (nitems olds more : List Next) (wires : List (List (ℕ × List Connection))) (ts : List (ℕ × List Connection)) →
     old ≡ items → olds ≡ nitems → ts ≡ targets_below (connections_of d) t.federate (federate_count d) → t.federate < federate_count d → IsSchedule d items nitems wires → length new ≡ length old →
-    ((f : ℕ) → slice_get new f ≡ option_map (after_turn t ts f) (slice_get old f)) →
+    ((f : ℕ) → slice_get (map kept_on new) f ≡ option_map (after_turn t ts f) (slice_get (map kept_on old) f)) →
     ((f : ℕ) → slice_get more f ≡ option_map (renewed new (has_target f ts) f) (slice_get olds f)) →
     ((f : ℕ) (a : Agenda) → has_target f ts ≡ true → slice_get new f ≡ Some a → IsAgenda a) → IsPut t d items new more wires
 after_put_turn t d items old new nitems olds more wires ts is_old is_olds is_ts there w many put renewal known =
-    let after : (f : ℕ) → slice_get new f ≡ option_map (after_turn t (targets_below (connections_of d) t.federate (federate_count d)) f) (slice_get items f) =
-    λ f. put f ∙ (λ i. option_map (after_turn t (is_ts i) f) (slice_get (is_old i) f)) in
+    let after : (f : ℕ) → slice_get (map kept_on new) f ≡ option_map (after_turn t (targets_below (connections_of d) t.federate (federate_count d)) f) (slice_get (map kept_on items) f) =
+    λ f. put f ∙ (λ i. option_map (after_turn t (is_ts i) f) (slice_get (map kept_on (is_old i)) f)) in
     record {
       kept = turn_kept t d items new nitems more wires there w (many ∙ ap length is_old) after
           (λ f. renewal f ∙ (λ i. option_map (renewed new (has_target f (is_ts i)) f) (slice_get (is_olds i) f)))

@@ -38,31 +38,36 @@ own_deferred t target = if nat_eq target t.federate then flat_map (deferred_by t
 abbrev pub put_to : TurnMade → ℕ × List Connection → List Held
 put_to t target = flat_map (carried_over t) target.1 ++ own_deferred t target.0
 
--- an agenda, after that was put
-abbrev pub after_put : TurnMade → ℕ × List Connection → Agenda → Agenda
-after_put t target a = record { stop = a.stop; undone = put_all (in_time a.stop (put_to t target)) a.undone; before = a.undone }
+-- of an agenda, up to which tag its events are kept, and what is undone
+pub record Kept : Type 0 where
+  pub stop : LogicalTime
+  pub undone : List Held
 
--- the agenda of a federate after it was put to all these targets
-abbrev pub after_puts : TurnMade → List (ℕ × List Connection) → ℕ → Agenda → Agenda
-after_puts t [] federate a = a
-after_puts t (target ∷ rest) federate a = after_puts t rest federate (if nat_eq target.0 federate then after_put t target a else a)
+-- an agenda, without what stood before the last events were put
+abbrev pub kept_on : Agenda → Kept
+kept_on a = record { stop = a.stop; undone = a.undone }
 
--- an agenda, after what was up to a tag was dropped
-abbrev pub dropped : LogicalTime → Agenda → Agenda
-dropped tag a = record { stop = a.stop; undone = drop_up_to tag a.undone; before = drop_up_to tag a.undone }
+-- what is kept, after that was put
+abbrev pub after_put : TurnMade → ℕ × List Connection → Kept → Kept
+after_put t target kept = record kept { undone = put_all (in_time kept.stop (put_to t target)) kept.undone }
 
--- the agenda of a federate after a turn was put to these targets
-abbrev pub after_turn : TurnMade → List (ℕ × List Connection) → ℕ → Agenda → Agenda
-after_turn t targets federate a = if nat_eq t.federate federate then dropped t.tag (after_puts t targets federate a) else after_puts t targets federate a
+-- what is kept of a federate, after it was put to all these targets
+abbrev pub after_puts : TurnMade → List (ℕ × List Connection) → ℕ → Kept → Kept
+after_puts t [] federate kept = kept
+after_puts t (target ∷ rest) federate kept = after_puts t rest federate (if nat_eq target.0 federate then after_put t target kept else kept)
+
+-- what is kept, after what was up to a tag was dropped
+abbrev pub dropped : LogicalTime → Kept → Kept
+dropped tag kept = record kept { undone = drop_up_to tag kept.undone }
+
+-- what is kept of a federate, after a turn was put to these targets
+abbrev pub after_turn : TurnMade → List (ℕ × List Connection) → ℕ → Kept → Kept
+after_turn t targets federate kept = if nat_eq t.federate federate then dropped t.tag (after_puts t targets federate kept) else after_puts t targets federate kept
 
 -- the federate is one of these targets
 abbrev pub has_target : ℕ → List (ℕ × List Connection) → Bool
 has_target federate [] = false
 has_target federate (target ∷ rest) = nat_eq target.0 federate || has_target federate rest
-
--- what is undone on an agenda, and up to which tag
-abbrev pub kept_on : Agenda → LogicalTime × List Held
-kept_on a = (a.stop, a.undone)
 
 -- the least tag on a federate's agenda, if it is there
 abbrev pub least_on : Option Agenda → LogicalTime

@@ -44,7 +44,7 @@ pub fn put_made(
     requires there { All (λ t. t.federate < length agendas.old) targets.now }
     requires apart { AreApart (all_shown targets.now) }
     ensures length { length agendas.new ≡ length agendas.old }
-    ensures put { OnOk result ((federate : ℕ) → slice_get agendas.new federate ≡ option_map (after_puts turn.now (all_shown targets.now) federate) (slice_get agendas.old federate)) }
+    ensures put { OnOk result ((federate : ℕ) → slice_get (map kept_on agendas.new) federate ≡ option_map (after_puts turn.now (all_shown targets.now) federate) (slice_get (map kept_on agendas.old) federate)) }
     ensures row { OnOk result (rows.new ≡ rows.old ++ record { reactor = turn.now.federate; tag = turn.now.tag; inputs = turn.now.inputs; outputs = turn.now.outputs } ∷ []) }
     ensures err { OnErr result (map kept_on agendas.new ≡ map kept_on agendas.old) }
     ensures others { OnErr result ((federate : ℕ) → has_target federate (all_shown targets.now) ≡ false → slice_get agendas.new federate ≡ slice_get agendas.old federate) }
@@ -53,6 +53,10 @@ pub fn put_made(
     match targets {
         [target, others @ ..] => {
             made_for(events, turn, target)?;
+            // A federate is a target of its own turns, also of those that schedule nothing.
+            if events.is_empty() {
+                return put_made(agendas, rows, events, others, turn);
+            }
             let put = match agendas[target.federate].put_all(events.as_slice()) {
                 Ok(put) => put,
                 Err(_) => return Err(Memory),

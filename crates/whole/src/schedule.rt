@@ -113,6 +113,7 @@ impl<'p> Schedule<'p> {
 }
 
 /// Puts what a turn makes on the agendas of its targets, and adds its row; then lets go of what was up to its tag. All or nothing.
+#[tactic(auto, using(crate::proofs::Putting::drop_step))]
 fn put_turn(
     agendas: &mut [Agenda],
     nexts: &mut Nexts,
@@ -127,7 +128,7 @@ fn put_turn(
     requires apart { AreApart (all_shown targets.now) }
     ensures length { length agendas.new ≡ length agendas.old }
     ensures nexts_length { length nexts.new ≡ length nexts.old }
-    ensures put { OnOk result ((federate : ℕ) → slice_get agendas.new federate ≡ option_map (after_turn turn.now (all_shown targets.now) federate) (slice_get agendas.old federate)) }
+    ensures put { OnOk result ((federate : ℕ) → slice_get (map kept_on agendas.new) federate ≡ option_map (after_turn turn.now (all_shown targets.now) federate) (slice_get (map kept_on agendas.old) federate)) }
     ensures nexts { OnOk result ((federate : ℕ) → slice_get nexts.new federate ≡ option_map (renewed agendas.new (has_target federate (all_shown targets.now)) federate) (slice_get nexts.old federate)) }
     ensures known { OnOk result ((federate : ℕ) (a : AgendaOf) → has_target federate (all_shown targets.now) ≡ true → slice_get agendas.new federate ≡ Some a → IsAgenda a) }
     ensures row { OnOk result (rows.new ≡ rows.old ++ record { reactor = turn.now.federate; tag = turn.now.tag; inputs = turn.now.inputs; outputs = turn.now.outputs } ∷ []) }

@@ -1,12 +1,10 @@
 -- The stations before the first step are those of the opening world.
 use Rattle.std.proofs.Common.{◌≡◌, ℕ, ◌+◌, Bool, List, [], ◌∷◌, ◌++◌, length, map, replicate, refl, sym, ap, ◌∙◌, arith}
 use Rattle.std.specs.List.{range_with_len}
-use Rattle.std.proofs.lemmas.List.{map-append}
 use Rattle.std.proofs.lemmas.List.Elements.{All-map}
 use Rattle.std.proofs.lemmas.List.FromFn.{length-range_with_len, length-map-range_with_len, map-range_with_len_more}
 use Rattle.std.proofs.lemmas.Simd.{splat_is_map}
 use Rattle.signal.specs.declared.frame.Frame.{Frame}
-use Rattle.link.specs.Image.{Image, EndView}
 use Rattle.plan.specs.declared.draft.Draft.{Draft}
 use Rattle.plan.specs.declared.input.Input.{Input}
 use Rattle.plan.specs.External.{AreInputsOf}
@@ -18,8 +16,8 @@ use Rattle.node.specs.Step.{Station}
 use Rattle.cores.specs.FederateCore.{FederateNode}
 use Rattle.cores.specs.CoordinatorCore.{CoordinatorNode}
 use Rattle.schedule.specs.Federation.{Federation, opening_world}
+use Rattle.schedule.specs.Opened.{new_hub, new_member, new_members}
 use Rattle.stage.specs.Made.{HaveOnePeer, unused}
-use Rattle.world.specs.Opened.{new_end, new_hub, new_member, new_members}
 use Rattle.world.specs.Made.{IsMade}
 
 -- each federate has one peer
@@ -53,15 +51,6 @@ made_first {d} {programs} {inputs} {hub} {members} {w} legal fit given hub_is ar
       after = rw (opened) refl;
       forgotten = rw (opened) refl;
     }
-
--- the ends of one federate more
-pub ends_more : (before after : List EndView) (e : EndView) (count : ℕ) → after ≡ before ++ e ∷ [] → e.image ≡ new_end count →
-    map (λ (x : EndView). x.image) before ≡ map new_end (range_with_len 0 count) → map (λ (x : EndView). x.image) after ≡ map new_end (range_with_len 0 (count + 1))
-ends_more before after e count is new so_far =
-    ap (map (λ (x : EndView). x.image)) is ∙
-    (map-append (λ (x : EndView). x.image) before (e ∷ []) ∙
-    (ap (λ (images : List Image). images ++ e.image ∷ []) so_far ∙
-    (ap (λ (image : Image). map new_end (range_with_len 0 count) ++ image ∷ []) new ∙ sym (map-range_with_len_more new_end 0 count count (omega arith)))))
 
 -- the stations of one federate more
 pub members_more : (d : Draft) (programs : List Behaviour) (inputs : List Input) (before after : List (Station FederateNode)) (s : Station FederateNode) (count : ℕ) →

@@ -2,8 +2,6 @@
 pub mod World
 -- What holds of every world.
 pub mod Faithful
--- The stations as they are made.
-pub mod Opened
 -- A federate for which nothing is left to be done.
 pub mod Quiet
 -- What every world keeps.

@@ -4,7 +4,7 @@ ghost use Rattle.std.specs.List.{range_with_len};
 ghost use Rattle.plan.specs.External.{AreInputsOf};
 ghost use Rattle.plan.specs.Federation.{federate_count};
 ghost use Rattle.program.specs.Programs.{AreProgramsOf};
-ghost use Rattle.world.specs.Opened.{new_end, new_hub, new_member, new_members};
+ghost use Rattle.schedule.specs.Opened.{new_end, new_hub, new_member, new_members};
 
 use coordinator::Coordinator;
 use federate::Federate;

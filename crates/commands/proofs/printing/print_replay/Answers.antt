@@ -1,7 +1,8 @@
 use Rattle.std.proofs.Common.{refl, inl, rules}
 use Rattle.replay.specs.Replayed.{IsReplayed, IsBrokenOff}
 use Rattle.replay.specs.declared.fault.ReplayFault.TheVariants.{World}
-use Rattle.commands.proofs.Replays.{replayed_kept, broken_off_kept, on_ok_always}
+use Rattle.replay.proofs.Kept.{replayed_kept, broken_off_kept}
+use Rattle.commands.proofs.Results.{on_ok_always}
 use Rattle.commands.proofs.printing.print_replay.Goals as goal
 
 pub returns-in-Ok-clause-ok : goal.returns-in-Ok-clause-ok
@@ -20,6 +21,6 @@ returns-in_ok-flush-in-Err-World-clause-stands g c =
     inl (
       c.in-Err-World.memory,
       refl,
-      broken_off_kept c.args.sources.now.plan c.args.sources.now.programs c.args.sources.now.inputs c.in-Err-World.memory before mid
+      broken_off_kept c.args.sources.now.plan c.args.sources.now.programs c.args.sources.now.inputs (World c.in-Err-World.memory) before mid
           (g.O.Write.contents c.flush-in-Err-World.new.out) broken c.flush-in-Err-World.ensures.kept,
     )

@@ -1,7 +1,7 @@
 use Rattle.std.proofs.Common.{rules}
 use Rattle.audited.specs.Printed.{PrintsAudited}
 use Rattle.commands.proofs.Runs.{audited_kept}
-use Rattle.commands.proofs.Replays.{on_ok_always}
+use Rattle.commands.proofs.Results.{on_ok_always}
 use Rattle.commands.proofs.printing.print_run.Goals as goal
 
 pub returns-in-Ok-clause-ok : goal.returns-in-Ok-clause-ok

@@ -1,5 +1,5 @@
 use Rattle.std.proofs.Common.{rules}
-use Rattle.world.proofs.Opening.{ends_more}
+use Rattle.schedule.proofs.Opened.{ends_more}
 use Rattle.desks.proofs.opened.new_ends.Goals as goal
 
 pub loop-number-preserved : goal.loop-number-preserved

@@ -1,6 +1,6 @@
 use Rattle.std.proofs.Common.{◌≡◌, map, vec_len}
 use Rattle.std.specs.List.{range_with_len}
-use Rattle.world.specs.Opened.{new_end}
+use Rattle.schedule.specs.Opened.{new_end}
 use Rattle.desks.proofs.opened.new_ends.Given as goal
 
 -- the ends of the federates so far

@@ -1,15 +1,24 @@
 use Rattle.std.proofs.Common.{ap, ◌∙◌, arith}
 use Rattle.std.proofs.lemmas.List.{length-set}
 use Rattle.whole.specs.declared.targets.Target.{Target}
-use Rattle.whole.proofs.Putting.{put_back, first_apart, not_target, slice_get-set_other}
+use Rattle.whole.specs.Made.{kept_on}
+use Rattle.whole.proofs.Putting.{put_first, put_back, first_apart, not_target, slice_get-set_other}
 use Rattle.whole.proofs.made.+put_made.Goals as goal
+
+pub returns-in-Ok-put_made-clause-put : goal.returns-in-Ok-put_made-clause-put
+returns-in-Ok-put_made-clause-put t c =
+    let low = c.requires.there 0 c.target-item.result (omega arith) in
+    let at = ap (λ (t : Target). t.federate) c.target-item.is in
+    put_first c.args.turn.now c.args.targets.now c.target-item.result c.args.agendas.now c.put_made-in-len1-up.new.agendas c.index-agendas-target.result c.put_all.new.self c.as_slice.result.now
+    (omega arith) c.target-item.is (omega (arith, low, at)) (ap kept_on c.in-Ok.ensures.put) (c.as_slice.ensures.value ∙ c.in_ok-made_for-in-len1-up.ensures)
+    c.in-Ok-put_made.ensures.put
 
 pub returns-in-Err-put_made-clause-err : goal.returns-in-Err-put_made-clause-err
 returns-in-Err-put_made-clause-err t c =
     let low = c.requires.there 0 c.target-item.result (omega arith) in
     let at = ap (λ (t : Target). t.federate) c.target-item.is in
     let many = length-set c.args.agendas.now c.target-item.result.federate c.put_all.new.self in
-    put_back c.args.agendas.now c.put_made.new.agendas c.target-item.result.federate c.index-agendas-target.result c.put_all.new.self
+    put_back c.args.agendas.now c.put_made-in-len1-up.new.agendas c.target-item.result.federate c.index-agendas-target.result c.put_all.new.self
     c.index-agendas-target-in-Err-put_made.result c.take_back.new.self
     (omega (arith, low, at)) (ap (λ a. a.stop) c.in-Ok.ensures.put) (ap (λ a. a.before) c.in-Ok.ensures.put)
     c.in-Err-put_made.ensures.err
@@ -19,6 +28,6 @@ returns-in-Err-put_made-clause-err t c =
 pub returns-in-Err-put_made-clause-others : goal.returns-in-Err-put_made-clause-others
 returns-in-Err-put_made-clause-others t c = λ federate none.
     let apart = not_target c.args.targets.now c.target-item.result federate (omega arith) c.target-item.is none in
-    slice_get-set_other c.put_made.new.agendas c.target-item.result.federate federate c.take_back.new.self apart.0
+    slice_get-set_other c.put_made-in-len1-up.new.agendas c.target-item.result.federate federate c.take_back.new.self apart.0
     ∙ (c.in-Err-put_made.ensures.others federate apart.1
     ∙ slice_get-set_other c.args.agendas.now c.target-item.result.federate federate c.put_all.new.self apart.0)

@@ -1,4 +1,4 @@
-use Rattle.world.proofs.Opening.{ends_more}
+use Rattle.schedule.proofs.Opened.{ends_more}
 use Rattle.world.proofs.opened.new_ends.Goals as goal
 
 pub loop-federate-preserved : goal.loop-federate-preserved

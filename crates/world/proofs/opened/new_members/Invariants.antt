@@ -1,5 +1,5 @@
 use Rattle.std.proofs.Common.{◌≡◌}
-use Rattle.world.specs.Opened.{new_members}
+use Rattle.schedule.specs.Opened.{new_members}
 use Rattle.world.proofs.opened.new_members.Given as goal
 
 -- the stations of the federates so far

@@ -1,14 +1,14 @@
 -- What a replay printed stays printed where a writer keeps its bytes.
-use Rattle.std.proofs.Common.{ℕ, List, Option, None, Some, Result, Ok, Err, OnOk}
+use Rattle.std.proofs.Common.{ℕ, List, Option, None, Some}
 use Rattle.std.specs.Io.KnownBytes.{Keeps}
 use Rattle.std.proofs.KnownBytes.{Appends-kept}
 use Rattle.plan.specs.declared.draft.Draft.{Draft}
 use Rattle.plan.specs.declared.input.Input.{Input}
 use Rattle.program.specs.Behaviour.{Behaviour}
-use Rattle.stage.specs.declared.memory.Memory.{Memory}
 use Rattle.world.specs.World.{WorldView}
 use Rattle.replay.specs.Replayed.{IsEnded, IsReplayed, IsBrokenOff}
-use Rattle.replay.specs.declared.fault.ReplayFault.TheVariants.{World}
+use Rattle.replay.specs.declared.fault.ReplayFault.{ReplayFault}
+use Rattle.replay.specs.declared.fault.ReplayFault.TheVariants.{World, CannotWrite}
 
 ended_kept : (closing : Option ℕ) (w : WorldView) (before mid after : Option (List ℕ)) → IsEnded closing w before mid → Keeps mid after
     → IsEnded closing w before after
@@ -31,9 +31,9 @@ replayed_kept d programs inputs closing before mid after replayed kept =
 
 -- the refused steps of one that broke off
 pub broken_off_kept :
-    (d : Draft) (programs : List Behaviour) (inputs : List Input) (memory : Memory) (before mid after : Option (List ℕ)) →
-    IsBrokenOff d programs inputs before mid (World memory) → Keeps mid after → IsBrokenOff d programs inputs before after (World memory)
-broken_off_kept d programs inputs memory before mid after broken kept =
+    (d : Draft) (programs : List Behaviour) (inputs : List Input) (why : ReplayFault) (before mid after : Option (List ℕ)) →
+    IsBrokenOff d programs inputs before mid why → Keeps mid after → IsBrokenOff d programs inputs before after why
+broken_off_kept d programs inputs (World memory) before mid after broken kept =
     let plays = broken.1 in (
       broken.0,
       record {
@@ -42,8 +42,4 @@ broken_off_kept d programs inputs memory before mid after broken kept =
         printed = Appends-kept before mid after _ plays.printed kept;
       },
     )
-
--- what holds holds of a result too, where it is fine
-pub on_ok_always : {T E : Type 0} {P : Type 0} (r : Result T E) → P → OnOk r P
-on_ok_always (Ok x) holds = holds
-on_ok_always (Err e) holds = tt
+broken_off_kept d programs inputs CannotWrite before mid after broken kept = tt
