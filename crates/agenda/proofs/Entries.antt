@@ -77,10 +77,10 @@ module _ (R : Key → Key → Ordering) (same : (a b : Key) (v w : ℤ) → R a 
   sorted_from [] r = tt
   sorted_from (e ∷ es) r = (below_in e.0 e.1 es r.0, sorted_from es r.1)
 
-  tied : (a b : Key) → R a b ≡ Equal → a ≡ b
+  pub tied : (a b : Key) → R a b ≡ Equal → a ≡ b
   tied a b h = same_key a b (sym (same a b (pos 0) (pos 0)) ∙ h)
 
-  at_key : (a b : Key) (w : ℤ) (o : Ordering) → R a b ≡ o → is_for a (held_at (b, w)) ≡ is_eq o
+  pub at_key : (a b : Key) (w : ℤ) (o : Ordering) → R a b ≡ o → is_for a (held_at (b, w)) ≡ is_eq o
   at_key a b w o h = same_is (held_at (a, pos 0)) (held_at (b, w)) ∙ ap is_eq (sym (same a b (pos 0) w) ∙ h)
 
   -- insertion is putting
@@ -104,7 +104,7 @@ module _ (R : Key → Key → Ordering) (same : (a b : Key) (v w : ℤ) → R a 
   above_first : (e : Key × ℤ) (es : List (Key × ℤ)) (k : Key) → R k e.0 ≡ Equal → AllByRecursion (λ x. R e.0 x.0 ≡ Less) es → AllByRecursion (λ x. R k x.0 ≡ Less) es
   above_first e es k h a = subst (λ key. AllByRecursion (λ x. R key x.0 ≡ Less) es) (sym (tied k e.0 h)) a
 
-  above_next : (a b : Key) (es : List (Key × ℤ)) → R a b ≡ Less → AllByRecursion (λ x. R b x.0 ≡ Less) es → AllByRecursion (λ x. R a x.0 ≡ Less) es
+  pub above_next : (a b : Key) (es : List (Key × ℤ)) → R a b ≡ Less → AllByRecursion (λ x. R b x.0 ≡ Less) es → AllByRecursion (λ x. R a x.0 ≡ Less) es
   above_next a b [] h r = tt
   above_next a b (e ∷ es) h r = (
     same a e.0 (pos 0) e.1
@@ -128,7 +128,7 @@ module _ (R : Key → Key → Ordering) (same : (a b : Key) (v w : ℤ) → R a 
       ∙ ap (λ b. cond (not b) (held_at e ∷ filter (λ x. not (is_for k x)) (held_in es)) (filter (λ x. not (is_for k x)) (held_in es)))
       (sym (at_key k e.0 e.1 (R k e.0) refl))
 
-  found_not : (k : Key) (es : List (Key × ℤ)) → AllByRecursion (λ x. R k x.0 ≡ Less) es → lookup (is_at (R k)) es ≡ None
+  pub found_not : (k : Key) (es : List (Key × ℤ)) → AllByRecursion (λ x. R k x.0 ≡ Less) es → lookup (is_at (R k)) es ≡ None
   found_not k [] a = refl
   found_not k (e ∷ es) a = ap (λ o. cond (is_eq o) (Some e.1) (lookup (is_at (R k)) es)) a.0 ∙ found_not k es a.1
 

@@ -1,16 +1,14 @@
 -- The ordered map's entries, at the order of its keys.
-use Rattle.std.proofs.Common.{◌≡◌, ◌<◌, ℤ, true, false, List, [], ◌∷◌, ◌++◌, length, ap, sym, refl, arith, Option, None, Some, Ordering}
-use Rattle.std.specs.Prelude.{is_some, slice_get}
+use Rattle.std.proofs.Common.{◌≡◌, ℤ, true, false, List, [], ◌∷◌, ◌++◌, ap, sym, refl, Option, None, Some, Ordering}
+use Rattle.std.specs.Prelude.{is_some}
 use Rattle.std.specs.List.Sorted.{IsStrictlySortedBy}
 use Rattle.std.specs.BTreeMap.{insert_entry, is_at}
 use Rattle.std.specs.Map.{keys_of, remove_entry, lookup}
-use Rattle.tag.specs.LogicalTime.{LogicalTime, is_at_most}
 use Rattle.network.specs.Undone.{Held, put, Rises}
 use Rattle.agenda.specs.contracts.key.KeyOrd.TheImpl as key_ord
 use Rattle.agenda.specs.declared.key.Key.{Key}
 use Rattle.agenda.specs.declared.undo.Undo.{Undo}
-use Rattle.agenda.specs.Agenda.{least_in}
-use Rattle.agenda.specs.Kept.{held_at, held_in, undo_to, undo_all, has_due}
+use Rattle.agenda.specs.Kept.{held_at, held_in, undo_to, undo_all}
 use Rattle.agenda.proofs.Order.{held_cmp}
 use Rattle.agenda.proofs.Putting.{rises, ordered}
 use Rattle.agenda.proofs.Entries as entries
@@ -18,7 +16,7 @@ use Rattle.agenda.proofs.Entries as entries
 abbrev pub key_cmp : Key → Key → Ordering
 key_cmp = (key_ord.ghosts).cmp
 
-same : (a b : Key) (v w : ℤ) → key_cmp a b ≡ held_cmp (held_at (a, v)) (held_at (b, w))
+pub same : (a b : Key) (v w : ℤ) → key_cmp a b ≡ held_cmp (held_at (a, v)) (held_at (b, w))
 same a b v w = refl
 
 abbrev pub IsInOrder : List (Key × ℤ) → Type 0
@@ -57,13 +55,3 @@ undo_put es k v was r h = entries.undo_put key_cmp same es k v was (entries.sort
 pub undo_all_more : (undos : List Undo) (u : Undo) (events : List Held) → undo_all (undos ++ u ∷ []) events ≡ undo_all undos (undo_to u.key u.was events)
 undo_all_more [] u events = refl
 undo_all_more (x ∷ undos) u events = ap (undo_to x.key x.was) (undo_all_more undos u events)
-
-pub due_some : (es : List (Key × ℤ)) (tag : LogicalTime) → has_due tag (held_in es) ≡ true → 0 < length es
-due_some [] tag h = cc
-due_some (e ∷ es) tag h = omega arith
-
--- the first entry is the first event
-pub first_is : (es : List (Key × ℤ)) (k : Key) (v : ℤ) → slice_get es 0 ≡ Some (k, v) →
-    (least_in (held_in es) ≡ k.tag) × ((tag : LogicalTime) → has_due tag (held_in es) ≡ is_at_most k.tag tag)
-first_is [] k v h = cc
-first_is (e ∷ es) k v h = let same : e ≡ (k, v) = cc in (ap (λ e. (held_at e).tag) same, λ tag. ap (λ e. is_at_most (held_at e).tag tag) same)

@@ -16,6 +16,8 @@ pub mod TimerLists
 pub mod Fired
 -- The same at the order of the map's keys.
 pub mod Keyed
+-- The first of what was put apart from the others.
+pub mod Apart
 -- An agenda's value after each call.
 pub mod Views
 -- What is present, slot by slot.

@@ -2,7 +2,7 @@
 use Rattle.std.specs.Prelude.{◌≡◌, ℕ, ◌<◌, ◌^◌, ◌+◌, ℤ, pos, Bool, false, IsTrue, if◌then◌else◌, not, List, [], ◌∷◌, ◌++◌, map, filter, Option, None, Some}
 use Rattle.std.specs.List.{AllByRecursion}
 use Rattle.tag.specs.LogicalTime.{LogicalTime, origin, forever, is_at_most, is_before, lesser, IsFinite}
-use Rattle.network.specs.Undone.{Held, is_for_same, put_all}
+use Rattle.network.specs.Undone.{Held, Rises, is_for_same, put_all}
 use Rattle.plan.specs.declared.slots.Timer.{Timer}
 use Rattle.plan.specs.External.{times_from, firing_count}
 use Rattle.agenda.specs.declared.key.Key.{Key}
@@ -17,6 +17,16 @@ held_at entry = record { tag = entry.0.tag; slot = entry.0.slot; value = entry.1
 -- what was put, in order
 abbrev pub held_in : List (Key × ℤ) → List Held
 held_in entries = map held_at entries
+
+-- the first, before the others
+abbrev pub with_first : Option (Key × ℤ) → List (Key × ℤ) → List (Key × ℤ)
+with_first None rest = rest
+with_first (Some e) rest = e ∷ rest
+
+-- the first is before all others, and there are none where it is missing
+abbrev pub IsFirst : Option (Key × ℤ) → List (Key × ℤ) → Type 0
+IsFirst None rest = rest ≡ []
+IsFirst (Some e) rest = Rises (held_in (e ∷ rest))
 
 -- startup, where the flag is set
 abbrev pub startup_in : Bool → List Held

@@ -3,21 +3,21 @@ ghost use Rattle.std.specs.List.{AllByRecursion};
 ghost use Rattle.tag.specs.LogicalTime.{origin};
 ghost use Rattle.network.specs.Event.{listed, value_at};
 ghost use Rattle.network.specs.Undone.{put_all, look, drop_up_to};
-ghost use Rattle.agenda.specs.Kept.{held_in, startup_in};
+ghost use Rattle.agenda.specs.Kept.{startup_in};
 ghost use Rattle.plan.specs.Legal.{IsTimerInRange, IsWithinLimits};
 
 use crate::firings::Firings;
 use crate::held::Held;
 use crate::key::Key;
 use crate::memory::Memory;
+use crate::ordered::Puts;
 use crate::present::{add_firings, add_puts};
-use crate::puts::{Puts, drop_puts, first_put, in_order, put_in_time, undo_each};
+use crate::puts::{drop_puts, put_in_time, undo_each};
 use crate::timers::{drop_firings, first_firing, timers_of};
 use crate::undo::Undo;
 use plan::Slots;
 use reactor::Entry;
 use std::alloc::Global;
-use std::collections::BTreeMap;
 use std::marker::Model;
 use std::mem;
 use tag::{FiniteTag, Tag, Time, lesser};
@@ -42,13 +42,13 @@ pub struct Agenda {
 
 impl Model for Agenda {
     ghost use Rattle.agenda.specs.Agenda.{Agenda as AgendaOf};
-    ghost use Rattle.agenda.specs.Kept.{held_in, undone_of, undo_all, IsKept};
+    ghost use Rattle.agenda.specs.Kept.{undone_of, undo_all, IsKept};
 
     ghost Value = { AgendaOf };
 
-    ghost view = { λ a. record { stop = a.stop; undone = undone_of (held_in a.puts.entries) a.timers.items; before = undone_of (undo_all a.undos.items (held_in a.puts.entries)) a.timers.items } };
+    ghost view = { λ a. record { stop = a.stop; undone = undone_of a.puts a.timers.items; before = undone_of (undo_all a.undos.items a.puts) a.timers.items } };
 
-    ghost invariant = { λ a. IsKept a.stop (held_in a.puts.entries) (undo_all a.undos.items (held_in a.puts.entries)) a.timers.items a.next_firing };
+    ghost invariant = { λ a. IsKept a.stop a.puts (undo_all a.undos.items a.puts) a.timers.items a.next_firing };
 }
 
 impl Agenda {
@@ -78,7 +78,7 @@ impl Agenda {
     pub fn known(&self)
         ensures { IsAgenda self.now }
     {
-        in_order(&self.puts);
+        self.puts.in_order();
         self.stop.known();
     }
 
@@ -88,7 +88,7 @@ impl Agenda {
         ensures put { OnOk result (self.new ≡ record self.old { undone = put_all (in_time self.old.stop events.now) self.old.undone; before = self.old.undone }) }
         ensures err { OnErr result (self.new ≡ self.old) }
     {
-        in_order(&self.puts);
+        self.puts.in_order();
         put_in_time(&mut self.puts, &mut self.spare, self.stop, events)?;
         mem::swap(&mut self.undos, &mut self.spare);
         Ok(Put(()))
@@ -105,8 +105,8 @@ impl Agenda {
     pub fn least(&self) -> Tag
         ensures { result ≡ least_in self.now.undone }
     {
-        in_order(&self.puts);
-        lesser(first_put(&self.puts), self.next_firing)
+        self.puts.in_order();
+        lesser(self.puts.first_tag(), self.next_firing)
     }
 
     /// Writes what is present at a tag over what was in `entries`, by slot, for `Reactor::run`. It takes memory only where `entries`
@@ -145,9 +145,9 @@ fn startup() -> Key
 
 /// Startup, where it is asked for.
 fn startup_of(alloc: Global, wanted: bool) -> Result<Puts, Memory>
-    ensures { IfOk result (λ puts. held_in puts.entries ≡ startup_in wanted) }
+    ensures { IfOk result (λ puts. puts ≡ startup_in wanted) }
 {
-    let mut puts = BTreeMap::new(alloc);
+    let mut puts = Puts::new(alloc);
     if !wanted {
         return Ok(puts);
     }

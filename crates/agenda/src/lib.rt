@@ -9,6 +9,7 @@ mod firings;
 pub mod held;
 mod key;
 pub mod memory;
+mod ordered;
 mod present;
 mod puts;
 mod timers;

@@ -7,8 +7,11 @@ ghost use Rattle.agenda.specs.Present.{entry_of, is_there, set_entry, set_entrie
 use crate::firings::{Firings, are_same, fires_at};
 use crate::key::Key;
 use crate::memory::Memory;
-use crate::puts::{Puts, in_order, is_at_most};
+use crate::ordered::Puts;
+use crate::puts::is_at_most;
 use reactor::Entry;
+use std::alloc::Global;
+use std::collections::BTreeMap;
 use tag::Tag;
 
 /// Adds the timers that fire at a tag.
@@ -35,10 +38,29 @@ fn add_firing(entries: &mut Vec<Entry>, timer: Firings, tag: Tag) -> Result<(), 
 
 /// Adds what was put for a tag. It goes over what was put before it.
 pub fn add_puts(entries: &mut Vec<Entry>, puts: &Puts, tag: Tag) -> Result<(), Memory>
-    ensures { OnOk result (entries.new.items ≡ set_entries (map entry_of (filter (λ e. is_same e.tag tag) (held_in puts.now.entries))) entries.old.items) }
+    ensures { OnOk result (entries.new.items ≡ set_entries (map entry_of (filter (λ e. is_same e.tag tag) puts.now)) entries.old.items) }
 {
-    in_order(puts);
-    for (key, value) in puts {
+    let Some((key, value)) = puts.first else {
+        return Ok(());
+    };
+    if !is_at_most(key.tag, tag) {
+        return Ok(());
+    }
+    add_put(entries, &key, value, tag)?;
+    add_rest(entries, &puts.rest, tag)
+}
+
+/// Adds those after the first.
+fn add_rest(
+    entries: &mut Vec<Entry>,
+    rest: &BTreeMap<Key, i64, Global>,
+    tag: Tag,
+) -> Result<(), Memory>
+    ensures { OnOk result (entries.new.items ≡ set_entries (map entry_of (filter (λ e. is_same e.tag tag) (held_in rest.now.entries))) entries.old.items) }
+{
+    // For the prover: `len` hands out the order of the entries.
+    let _count = rest.len();
+    for (key, value) in rest {
         if !is_at_most(key.tag, tag) {
             return Ok(());
         }

@@ -9,6 +9,7 @@ ghost use Rattle.printed.specs.RowText.{name_at, printed_input, printed_output, 
 use crate::fixed::FixedBytes;
 use crate::put::{CannotWrite, put};
 use crate::tags::{write_tag, write_value};
+use itoa::Buffer;
 use plan::{Federate, Plan, Slots, Text, Timer};
 use reactor::{Entry, RowView, Rows};
 use std::io::Write;
@@ -21,11 +22,20 @@ pub fn write_rows<W: Write>(out: &mut W, plan: &Plan, rows: &Rows) -> Result<(),
     ensures { OnOk result (Appends (W.contents out.old) (W.contents out.new) (printed_rows plan.now.federates rows.now)) }
 {
     let mut room = FixedBytes::new();
+    let mut digits = Buffer::new();
     let count = rows.len();
     let mut first = 0;
     while first < count {
         let end = first + ROWS_AT_ONCE.min(count - first);
-        write_some(out, &mut room, plan.federates(), rows, first, end)?;
+        write_some(
+            out,
+            &mut room,
+            &mut digits,
+            plan.federates(),
+            rows,
+            first,
+            end,
+        )?;
         first = end;
     }
     Ok(())
@@ -35,6 +45,7 @@ pub fn write_rows<W: Write>(out: &mut W, plan: &Plan, rows: &Rows) -> Result<(),
 fn write_some<W: Write>(
     out: &mut W,
     room: &mut FixedBytes,
+    digits: &mut Buffer,
     federates: &[Federate],
     rows: &Rows,
     first: usize,
@@ -45,15 +56,16 @@ fn write_some<W: Write>(
     ensures { OnOk result (Appends (W.contents out.old) (W.contents out.new) (printed_rows federates.now (slice_range rows.now first end))) }
 {
     room.clear();
-    match write_lines(room, federates, rows, first, end) {
+    match write_lines(room, digits, federates, rows, first, end) {
         Ok(()) => put(out, room.as_slice()),
-        Err(_) => write_lines(out, federates, rows, first, end),
+        Err(_) => write_lines(out, digits, federates, rows, first, end),
     }
 }
 
 /// Writes the rows from one place up to another.
 fn write_lines<W: Write>(
     out: &mut W,
+    digits: &mut Buffer,
     federates: &[Federate],
     rows: &Rows,
     first: usize,
@@ -64,7 +76,7 @@ fn write_lines<W: Write>(
     ensures { OnOk result (Appends (W.contents out.old) (W.contents out.new) (printed_rows federates.now (slice_range rows.now first end))) }
 {
     for place in first..end {
-        write_line(out, federates, &rows.row(place))?;
+        write_line(out, digits, federates, &rows.row(place))?;
     }
     Ok(())
 }
@@ -72,13 +84,14 @@ fn write_lines<W: Write>(
 /// Writes a row and the end of its line.
 fn write_line<W: Write>(
     out: &mut W,
+    digits: &mut Buffer,
     federates: &[Federate],
     row: &RowView<'_>,
 ) -> Result<(), CannotWrite>
     ensures { OnOk result (Appends (W.contents out.old) (W.contents out.new) (printed_line federates.now row.now)) }
 {
     match federates.get(row.federate()) {
-        Some(federate) => write_turn(out, federate, row),
+        Some(federate) => write_turn(out, digits, federate, row),
         None => put(out, b"\n"),
     }
 }
@@ -86,63 +99,80 @@ fn write_line<W: Write>(
 /// Writes a row of this federate and the end of its line.
 fn write_turn<W: Write>(
     out: &mut W,
+    digits: &mut Buffer,
     federate: &Federate,
     row: &RowView<'_>,
 ) -> Result<(), CannotWrite>
     ensures { OnOk result (Appends (W.contents out.old) (W.contents out.new) (printed_turn federate.now row.now ++ codes "\n")) }
 {
-    write_parts(out, federate, row)
+    write_parts(out, digits, federate, row)
 }
 
 /// Writes the parts of a row one after the other, each with what parts it from the next.
 fn write_parts<W: Write>(
     out: &mut W,
+    digits: &mut Buffer,
     federate: &Federate,
     row: &RowView<'_>,
 ) -> Result<(), CannotWrite>
     ensures { OnOk result (Appends (W.contents out.old) (W.contents out.new) (federate.now.name ++ (spaced_tag row.now.tag ++ (printed_inputs federate.now.slots row.now.inputs ++ printed_outputs federate.now.slots row.now.outputs)))) }
 {
     put(out, federate.name.as_str().as_bytes())?;
-    write_tag(out, row.tag())?;
-    write_inputs(out, &federate.slots, row.inputs())?;
-    write_outputs(out, &federate.slots, row.outputs())
+    write_tag(out, digits, row.tag())?;
+    write_inputs(out, digits, &federate.slots, row.inputs())?;
+    write_outputs(out, digits, &federate.slots, row.outputs())
 }
 
 /// Writes the slots that were present, in brackets, and an arrow.
 #[tactic(auto, unfolding(crate::specs::RowText::printed_inputs))]
-fn write_inputs<W: Write>(out: &mut W, slots: &Slots, entries: &[Entry]) -> Result<(), CannotWrite>
+fn write_inputs<W: Write>(
+    out: &mut W,
+    digits: &mut Buffer,
+    slots: &Slots,
+    entries: &[Entry],
+) -> Result<(), CannotWrite>
     ensures { OnOk result (Appends (W.contents out.old) (W.contents out.new) (printed_inputs slots.now entries.now)) }
 {
     let Some((first, rest)) = entries.split_first() else {
         return put(out, b"[] -> ");
     };
     put(out, b"[")?;
-    write_input(out, slots, *first)?;
+    write_input(out, digits, slots, *first)?;
     for entry in rest {
-        write_next_input(out, slots, *entry)?;
+        write_next_input(out, digits, slots, *entry)?;
     }
     put(out, b"] -> ")
 }
 
 /// Writes the outputs that were set, in brackets, and the end of the line.
 #[tactic(auto, unfolding(crate::specs::RowText::printed_outputs))]
-fn write_outputs<W: Write>(out: &mut W, slots: &Slots, entries: &[Entry]) -> Result<(), CannotWrite>
+fn write_outputs<W: Write>(
+    out: &mut W,
+    digits: &mut Buffer,
+    slots: &Slots,
+    entries: &[Entry],
+) -> Result<(), CannotWrite>
     ensures { OnOk result (Appends (W.contents out.old) (W.contents out.new) (printed_outputs slots.now entries.now)) }
 {
     let Some((first, rest)) = entries.split_first() else {
         return put(out, b"[]\n");
     };
     put(out, b"[")?;
-    write_output(out, slots, *first)?;
+    write_output(out, digits, slots, *first)?;
     for entry in rest {
-        write_next_output(out, slots, *entry)?;
+        write_next_output(out, digits, slots, *entry)?;
     }
     put(out, b"]\n")
 }
 
 /// Writes a slot that was present.
 #[tactic(auto, unfolding(crate::specs::RowText::printed_input))]
-fn write_input<W: Write>(out: &mut W, slots: &Slots, entry: Entry) -> Result<(), CannotWrite>
+fn write_input<W: Write>(
+    out: &mut W,
+    digits: &mut Buffer,
+    slots: &Slots,
+    entry: Entry,
+) -> Result<(), CannotWrite>
     ensures { OnOk result (Appends (W.contents out.old) (W.contents out.new) (printed_input slots.now entry)) }
 {
     let slot = entry.place();
@@ -150,41 +180,61 @@ fn write_input<W: Write>(out: &mut W, slots: &Slots, entry: Entry) -> Result<(),
     if slots.is_bare(slot) {
         return put(out, name.as_bytes());
     }
-    write_valued(out, name, entry.value())
+    write_valued(out, digits, name, entry.value())
 }
 
 /// Writes a further slot that was present.
-fn write_next_input<W: Write>(out: &mut W, slots: &Slots, entry: Entry) -> Result<(), CannotWrite>
+fn write_next_input<W: Write>(
+    out: &mut W,
+    digits: &mut Buffer,
+    slots: &Slots,
+    entry: Entry,
+) -> Result<(), CannotWrite>
     ensures { OnOk result (Appends (W.contents out.old) (W.contents out.new) (codes " " ++ printed_input slots.now entry)) }
 {
     put(out, b" ")?;
-    write_input(out, slots, entry)
+    write_input(out, digits, slots, entry)
 }
 
 /// Writes a name with a value.
-fn write_valued<W: Write>(out: &mut W, name: &str, value: i64) -> Result<(), CannotWrite>
+fn write_valued<W: Write>(
+    out: &mut W,
+    digits: &mut Buffer,
+    name: &str,
+    value: i64,
+) -> Result<(), CannotWrite>
     ensures { OnOk result (Appends (W.contents out.old) (W.contents out.new) (name.now ++ (codes "=" ++ signed_decimal value))) }
 {
     put(out, name.as_bytes())?;
     put(out, b"=")?;
-    write_value(out, value)
+    write_value(out, digits, value)
 }
 
 /// Writes an output that was set.
 #[tactic(auto, unfolding(crate::specs::RowText::printed_output))]
-fn write_output<W: Write>(out: &mut W, slots: &Slots, entry: Entry) -> Result<(), CannotWrite>
+fn write_output<W: Write>(
+    out: &mut W,
+    digits: &mut Buffer,
+    slots: &Slots,
+    entry: Entry,
+) -> Result<(), CannotWrite>
     ensures { OnOk result (Appends (W.contents out.old) (W.contents out.new) (printed_output slots.now entry)) }
 {
     let name = name_of(slots.outputs.as_slice(), entry.place());
-    write_valued(out, name, entry.value())
+    write_valued(out, digits, name, entry.value())
 }
 
 /// Writes a further output that was set.
-fn write_next_output<W: Write>(out: &mut W, slots: &Slots, entry: Entry) -> Result<(), CannotWrite>
+fn write_next_output<W: Write>(
+    out: &mut W,
+    digits: &mut Buffer,
+    slots: &Slots,
+    entry: Entry,
+) -> Result<(), CannotWrite>
     ensures { OnOk result (Appends (W.contents out.old) (W.contents out.new) (codes " " ++ printed_output slots.now entry)) }
 {
     put(out, b" ")?;
-    write_output(out, slots, entry)
+    write_output(out, digits, slots, entry)
 }
 
 /// The name of a slot; empty where there is none.

@@ -10,66 +10,72 @@ use itoa::Buffer;
 use std::io::Write;
 use tag::{Tag, Time};
 
-/// Writes a tag between spaces.
+/// Writes a tag between spaces. Digits of numbers are put together in the room that is lent.
 #[tactic(auto, unfolding(crate::specs::RowText::spaced_tag))]
-pub fn write_tag<W: Write>(out: &mut W, tag: Tag) -> Result<(), CannotWrite>
+pub fn write_tag<W: Write>(out: &mut W, digits: &mut Buffer, tag: Tag) -> Result<(), CannotWrite>
     ensures { OnOk result (Appends (W.contents out.old) (W.contents out.new) (spaced_tag tag)) }
 {
     let time = tag.time();
     match Time::new(time) {
         Some(_) => {
             put(out, b" (")?;
-            write_time(out, time)?;
-            write_microstep(out, tag.microstep())
+            write_time(out, digits, time)?;
+            write_microstep(out, digits, tag.microstep())
         }
         None => put(out, b" FOREVER "),
     }
 }
 
 /// Writes a microstep after its time, and the end of the tag.
-fn write_microstep<W: Write>(out: &mut W, microstep: u32) -> Result<(), CannotWrite>
+fn write_microstep<W: Write>(
+    out: &mut W,
+    digits: &mut Buffer,
+    microstep: u32,
+) -> Result<(), CannotWrite>
     ensures { OnOk result (Appends (W.contents out.old) (W.contents out.new) (codes ", " ++ (decimal microstep ++ codes ") "))) }
 {
     if microstep == 0 {
         return put(out, b", 0) ");
     }
     put(out, b", ")?;
-    write_count(out, u64::from(microstep))?;
+    write_count(out, digits, u64::from(microstep))?;
     put(out, b") ")
 }
 
 /// Writes a time in the greatest unit that divides it.
-fn write_time<W: Write>(out: &mut W, time: u64) -> Result<(), CannotWrite>
+fn write_time<W: Write>(out: &mut W, digits: &mut Buffer, time: u64) -> Result<(), CannotWrite>
     ensures { OnOk result (Appends (W.contents out.old) (W.contents out.new) (printed_time time)) }
 {
     if time == 0 {
         put(out, b"0")
     } else if time % 1_000_000_000 == 0 {
-        write_count(out, time / 1_000_000_000)?;
+        write_count(out, digits, time / 1_000_000_000)?;
         put(out, b" s")
     } else if time % 1_000_000 == 0 {
-        write_count(out, time / 1_000_000)?;
+        write_count(out, digits, time / 1_000_000)?;
         put(out, b" ms")
     } else if time % 1_000 == 0 {
-        write_count(out, time / 1_000)?;
+        write_count(out, digits, time / 1_000)?;
         put(out, b" us")
     } else {
-        write_count(out, time)?;
+        write_count(out, digits, time)?;
         put(out, b" ns")
     }
 }
 
-fn write_count<W: Write>(out: &mut W, count: u64) -> Result<(), CannotWrite>
+fn write_count<W: Write>(out: &mut W, digits: &mut Buffer, count: u64) -> Result<(), CannotWrite>
     ensures { OnOk result (Appends (W.contents out.old) (W.contents out.new) (decimal count)) }
 {
-    let mut buffer = Buffer::new();
-    put(out, buffer.format(count).as_bytes())
+    put(out, digits.format(count).as_bytes())
 }
 
 /// Writes a value.
-pub fn write_value<W: Write>(out: &mut W, value: i64) -> Result<(), CannotWrite>
+pub fn write_value<W: Write>(
+    out: &mut W,
+    digits: &mut Buffer,
+    value: i64,
+) -> Result<(), CannotWrite>
     ensures { OnOk result (Appends (W.contents out.old) (W.contents out.new) (signed_decimal value)) }
 {
-    let mut buffer = Buffer::new();
-    put(out, buffer.format(value).as_bytes())
+    put(out, digits.format(value).as_bytes())
 }

@@ -2,7 +2,7 @@ use Rattle.std.proofs.Common.{ap, subst, ◌∙◌}
 use Rattle.network.specs.Event.{value_at}
 use Rattle.network.specs.Undone.{Rises}
 use Rattle.agenda.specs.Agenda.{Agenda, present_in}
-use Rattle.agenda.specs.Kept.{held_in, all_firings}
+use Rattle.agenda.specs.Kept.{all_firings}
 use Rattle.agenda.specs.Present.{set_entries}
 use Rattle.agenda.proofs.Views.{rises_undone}
 use Rattle.agenda.proofs.Listing.{present_listed}
@@ -13,11 +13,11 @@ use Rattle.agenda.proofs.agenda.Agenda.at.Goals as goal
 pub returns-clause-entries : goal.returns-clause-entries
 returns-clause-entries c =
     c.in_ok-add_puts.ensures
-    ∙ ap (set_entries (entries_at c.args.tag (held_in c.self.inside.puts.entries))) (
+    ∙ ap (set_entries (entries_at c.args.tag c.self.inside.puts)) (
     c.in_ok-add_firings.ensures ∙ ap (λ ts. set_entries (entries_at c.args.tag (all_firings ts)) c.clear.new.self.items) c.as_slice.ensures.value
     ∙ ap (set_entries (entries_at c.args.tag (all_firings c.self.inside.timers.items))) c.clear.ensures.items
     )
-    ∙ present_is c.args.tag (held_in c.self.inside.puts.entries) c.self.inside.timers.items
+    ∙ present_is c.args.tag c.self.inside.puts c.self.inside.timers.items
     ∙ ap (λ (v : Agenda). present_in v.undone c.args.tag) c.self.view_is
 
 pub returns-clause-inputs : goal.returns-clause-inputs
@@ -25,5 +25,5 @@ returns-clause-inputs c = λ slot. ap (λ es. value_at es slot) (returns-clause-
 
 pub returns-clause-listed : goal.returns-clause-listed
 returns-clause-listed c = λ count below.
-    let rises = subst (λ (v : Agenda). Rises v.undone) c.self.view_is (rises_undone (held_in c.self.inside.puts.entries) c.self.inside.timers.items) in
+    let rises : Rises c.args.self.now.undone = subst (λ (v : Agenda). Rises v.undone) c.self.view_is (rises_undone c.self.inside.puts c.self.inside.timers.items) in
     returns-clause-entries c ∙ present_listed c.args.tag c.args.self.now.undone count rises below

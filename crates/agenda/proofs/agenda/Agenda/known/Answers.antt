@@ -1,13 +1,13 @@
 use Rattle.std.proofs.Common.{subst}
 use Rattle.agenda.specs.Agenda.{IsAgenda}
-use Rattle.agenda.specs.Kept.{held_in, undone_of, IsFit}
+use Rattle.agenda.specs.Kept.{undone_of, IsFit}
 use Rattle.agenda.proofs.Views.{rises_undone, all_undone, in_time_from}
 use Rattle.agenda.proofs.agenda.Agenda.known.Goals as goal
 
 pub returns : goal.returns
 returns c =
     subst IsAgenda c.self.view_is (record {
-      rises = rises_undone (held_in c.self.inside.puts.entries) c.self.inside.timers.items;
-      in_time = in_time_from c.self.inside.stop (undone_of (held_in c.self.inside.puts.entries) c.self.inside.timers.items)
-          (all_undone (IsFit c.self.inside.stop) (held_in c.self.inside.puts.entries) c.self.inside.timers.items c.self.invariant.events_fit c.self.invariant.firings_fit);
+      rises = rises_undone c.self.inside.puts c.self.inside.timers.items;
+      in_time = in_time_from c.self.inside.stop (undone_of c.self.inside.puts c.self.inside.timers.items)
+          (all_undone (IsFit c.self.inside.stop) c.self.inside.puts c.self.inside.timers.items c.self.invariant.events_fit c.self.invariant.firings_fit);
     })

@@ -3,7 +3,7 @@ use Rattle.std.specs.List.{AllByRecursion}
 use Rattle.network.specs.Undone.{Held}
 use Rattle.plan.specs.Numbering.{first_timer}
 use Rattle.agenda.specs.Agenda.{own_undone}
-use Rattle.agenda.specs.Kept.{held_in, undone_of, undo_all, timers_from, all_firings, first_firing, startup_in, IsTimer, IsFit}
+use Rattle.agenda.specs.Kept.{undone_of, undo_all, timers_from, all_firings, first_firing, startup_in, IsTimer, IsFit}
 use Rattle.agenda.proofs.Fresh.{own_is, timers_hold, firings_fit, startup_fits}
 use Rattle.agenda.proofs.agenda.Agenda.new.Goals as goal
 
@@ -19,7 +19,7 @@ invariant_of-result c =
     let fits = subst (AllByRecursion (IsFit c.args.stop)) (sym c.in_ok-puts.ensures) (startup_fits c.args.stop c.args.slots.now.startup) in
     record {
       events_fit = fits;
-      before_fit = subst (λ us. AllByRecursion (IsFit c.args.stop) (undo_all us (held_in c.in_ok-puts.puts.entries))) (sym c.new.ensures.items) fits;
+      before_fit = subst (λ us. AllByRecursion (IsFit c.args.stop) (undo_all us c.in_ok-puts.puts)) (sym c.new.ensures.items) fits;
       timers_hold = subst (AllByRecursion IsTimer) (sym timers)
           (timers_hold c.args.stop.time (first_timer c.args.slots.now) c.args.slots.now.timers c.known.ensures.time c.requires.timers);
       firings_fit = subst (λ ts. AllByRecursion (IsFit c.args.stop) (all_firings ts)) (sym timers)
@@ -30,12 +30,12 @@ invariant_of-result c =
 pub returns : goal.returns
 returns c =
     let timers = c.in_ok-timers.ensures ∙ ap (λ t. timers_from t (first_timer c.args.slots.now) c.args.slots.now.timers) c.time.ensures in
-    let undone : undone_of (held_in c.in_ok-puts.puts.entries) c.in_ok-timers.timers.items ≡ own_undone c.args.stop c.args.slots.now =
+    let undone : undone_of c.in_ok-puts.puts c.in_ok-timers.timers.items ≡ own_undone c.args.stop c.args.slots.now =
     ap (λ es. undone_of es c.in_ok-timers.timers.items) c.in_ok-puts.ensures
     ∙ ap (undone_of (startup_in c.args.slots.now.startup)) timers ∙ own_is c.args.stop c.args.slots.now in
     ap (λ us. record {
       stop = c.args.stop;
-      undone = undone_of (held_in c.in_ok-puts.puts.entries) c.in_ok-timers.timers.items;
-      before = undone_of (undo_all us (held_in c.in_ok-puts.puts.entries)) c.in_ok-timers.timers.items;
+      undone = undone_of c.in_ok-puts.puts c.in_ok-timers.timers.items;
+      before = undone_of (undo_all us c.in_ok-puts.puts) c.in_ok-timers.timers.items;
     }) c.new.ensures.items
     ∙ ap (λ (u : List Held). record { stop = c.args.stop; undone = u; before = u }) undone

@@ -3,11 +3,11 @@ use Rattle.agenda.specs.Kept.{held_in}
 use Rattle.agenda.specs.Present.{set_entries}
 use Rattle.agenda.proofs.Putting.{Ordered}
 use Rattle.agenda.proofs.Writing.{entries_at}
-use Rattle.agenda.proofs.present.add_puts.Given as goal
+use Rattle.agenda.proofs.present.add_rest.Given as goal
 
 abbrev pub invariant-loop-key : goal.invariant-loop-key
 invariant-loop-key l = record {
   ordered : Ordered (held_in l.key-iterator);
   entries : set_entries (entries_at l.tag (held_in l.key-iterator)) l.entries.items ≡
-      set_entries (entries_at l.tag (held_in l.puts.entries)) l.initial.entries.items;
+      set_entries (entries_at l.tag (held_in l.rest.entries)) l.initial.entries.items;
 }

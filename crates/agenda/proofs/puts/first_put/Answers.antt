@@ -1,6 +1,0 @@
-use Rattle.std.proofs.Common.{◌∙◌, sym}
-use Rattle.agenda.proofs.Keyed.{first_is}
-use Rattle.agenda.proofs.puts.first_put.Goals as goal
-
-pub returns-in-Some : goal.returns-in-Some
-returns-in-Some c = c.tag.ensures ∙ sym (first_is c.args.puts.now.entries c.in-Some.key.now c.in-Some.field-0-1.now c.in-Some.ensures.first).0
