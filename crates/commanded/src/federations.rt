@@ -1,7 +1,7 @@
 //! Federations that these tests run beside those of `samples`.
 
 /// An action that is scheduled again each microsecond.
-pub const TICKS: &str = r#"stop = "699 us"
+pub const TICKS: &str = r#"stop = "2199 us"
 [[federate]]
 name = "a"
 actions = ["tick"]

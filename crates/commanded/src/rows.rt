@@ -52,12 +52,12 @@ fn prints_so_many_turns(rt: HostRuntime) {
 /// So many turns of an action that is scheduled again and again print so many rows, also of more turns than those whose rows
 /// are kept at once.
 const MANY_TURNS: &[(&str, u32)] = &[
-    ("255", 255),
-    ("256", 256),
-    ("257", 257),
-    ("512", 512),
-    ("600", 600),
-    ("4294967295", 700),
+    ("1023", 1023),
+    ("1024", 1024),
+    ("1025", 1025),
+    ("2048", 2048),
+    ("2100", 2100),
+    ("4294967295", 2200),
 ];
 
 fn prints_ticks<

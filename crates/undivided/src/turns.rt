@@ -12,7 +12,7 @@ use std::io::Write;
 use whole::Whole;
 
 /// Of how many turns the rows are kept before they are written.
-const TURNS_AT_ONCE: u32 = 256;
+const TURNS_AT_ONCE: u32 = 1024;
 
 /// Why not all rows are printed.
 #[derive(Clone, Copy, Debug, PartialEq, Eq)]
