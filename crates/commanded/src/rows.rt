@@ -70,7 +70,10 @@ fn prints_ticks<
 >(rt: &R, turns: &str, ticks: u32) -> Option<bool> {
     let mut rows = String::from_str(rt.alloc(), "a (0, 0) [startup] -> []\n").ok()?;
     for tick in 1..ticks {
-        write!(rows, "a ({tick} us, 0) [tick=7] -> []\n").ok()?;
+        match tick % 1000 {
+            0 => write!(rows, "a ({} ms, 0) [tick=7] -> []\n", tick / 1000).ok()?,
+            _ => write!(rows, "a ({tick} us, 0) [tick=7] -> []\n").ok()?,
+        }
     }
     let words = ["whole", "fed.toml", "-", turns];
     Some(prints(rt, &words, &[TICKS], &[], rows.as_str()))
