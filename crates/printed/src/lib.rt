@@ -9,6 +9,7 @@ pub mod memory;
 pub mod plans;
 pub mod put;
 pub mod rows;
+mod spelling;
 mod tags;
 
 pub use memory::Memory;

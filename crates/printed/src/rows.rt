@@ -8,7 +8,8 @@ ghost use Rattle.printed.specs.RowText.{name_at, printed_input, printed_output, 
 
 use crate::fixed::FixedBytes;
 use crate::put::{CannotWrite, put};
-use crate::tags::{write_tag, write_value};
+use crate::spelling::Spelling;
+use crate::tags::write_value;
 use itoa::Buffer;
 use plan::{Federate, Plan, Slots, Text, Timer};
 use reactor::{Entry, RowView, Rows};
@@ -22,7 +23,7 @@ pub fn write_rows<W: Write>(out: &mut W, plan: &Plan, rows: &Rows) -> Result<(),
     ensures { OnOk result (Appends (W.contents out.old) (W.contents out.new) (printed_rows plan.now.federates rows.now)) }
 {
     let mut room = FixedBytes::new();
-    let mut digits = Buffer::new();
+    let mut spelling = Spelling::new();
     let count = rows.len();
     let mut first = 0;
     while first < count {
@@ -30,7 +31,7 @@ pub fn write_rows<W: Write>(out: &mut W, plan: &Plan, rows: &Rows) -> Result<(),
         write_some(
             out,
             &mut room,
-            &mut digits,
+            &mut spelling,
             plan.federates(),
             rows,
             first,
@@ -45,7 +46,7 @@ pub fn write_rows<W: Write>(out: &mut W, plan: &Plan, rows: &Rows) -> Result<(),
 fn write_some<W: Write>(
     out: &mut W,
     room: &mut FixedBytes,
-    digits: &mut Buffer,
+    spelling: &mut Spelling,
     federates: &[Federate],
     rows: &Rows,
     first: usize,
@@ -56,16 +57,16 @@ fn write_some<W: Write>(
     ensures { OnOk result (Appends (W.contents out.old) (W.contents out.new) (printed_rows federates.now (slice_range rows.now first end))) }
 {
     room.clear();
-    match write_lines(room, digits, federates, rows, first, end) {
+    match write_lines(room, spelling, federates, rows, first, end) {
         Ok(()) => put(out, room.as_slice()),
-        Err(_) => write_lines(out, digits, federates, rows, first, end),
+        Err(_) => write_lines(out, spelling, federates, rows, first, end),
     }
 }
 
 /// Writes the rows from one place up to another.
 fn write_lines<W: Write>(
     out: &mut W,
-    digits: &mut Buffer,
+    spelling: &mut Spelling,
     federates: &[Federate],
     rows: &Rows,
     first: usize,
@@ -76,7 +77,7 @@ fn write_lines<W: Write>(
     ensures { OnOk result (Appends (W.contents out.old) (W.contents out.new) (printed_rows federates.now (slice_range rows.now first end))) }
 {
     for place in first..end {
-        write_line(out, digits, federates, &rows.row(place))?;
+        write_line(out, spelling, federates, &rows.row(place))?;
     }
     Ok(())
 }
@@ -84,14 +85,14 @@ fn write_lines<W: Write>(
 /// Writes a row and the end of its line.
 fn write_line<W: Write>(
     out: &mut W,
-    digits: &mut Buffer,
+    spelling: &mut Spelling,
     federates: &[Federate],
     row: &RowView<'_>,
 ) -> Result<(), CannotWrite>
     ensures { OnOk result (Appends (W.contents out.old) (W.contents out.new) (printed_line federates.now row.now)) }
 {
     match federates.get(row.federate()) {
-        Some(federate) => write_turn(out, digits, federate, row),
+        Some(federate) => write_turn(out, spelling, federate, row),
         None => put(out, b"\n"),
     }
 }
@@ -99,28 +100,28 @@ fn write_line<W: Write>(
 /// Writes a row of this federate and the end of its line.
 fn write_turn<W: Write>(
     out: &mut W,
-    digits: &mut Buffer,
+    spelling: &mut Spelling,
     federate: &Federate,
     row: &RowView<'_>,
 ) -> Result<(), CannotWrite>
     ensures { OnOk result (Appends (W.contents out.old) (W.contents out.new) (printed_turn federate.now row.now ++ codes "\n")) }
 {
-    write_parts(out, digits, federate, row)
+    write_parts(out, spelling, federate, row)
 }
 
 /// Writes the parts of a row one after the other, each with what parts it from the next.
 fn write_parts<W: Write>(
     out: &mut W,
-    digits: &mut Buffer,
+    spelling: &mut Spelling,
     federate: &Federate,
     row: &RowView<'_>,
 ) -> Result<(), CannotWrite>
     ensures { OnOk result (Appends (W.contents out.old) (W.contents out.new) (federate.now.name ++ (spaced_tag row.now.tag ++ (printed_inputs federate.now.slots row.now.inputs ++ printed_outputs federate.now.slots row.now.outputs)))) }
 {
     put(out, federate.name.as_str().as_bytes())?;
-    write_tag(out, digits, row.tag())?;
-    write_inputs(out, digits, &federate.slots, row.inputs())?;
-    write_outputs(out, digits, &federate.slots, row.outputs())
+    spelling.write_tag(out, row.tag())?;
+    write_inputs(out, &mut spelling.digits, &federate.slots, row.inputs())?;
+    write_outputs(out, &mut spelling.digits, &federate.slots, row.outputs())
 }
 
 /// Writes the slots that were present, in brackets, and an arrow.

@@ -1,8 +1,10 @@
 -- The first of turns that are next, in blocks and of all.
-use Rattle.std.proofs.Common.{◌≡◌, ◌≢◌, ℕ, ◌+◌, ◌*◌, ◌/◌, ◌<◌, ◌≤◌, true, false, List, length, length-set, get_or, set, Some, slice_get, sym, ap, subst, ◌∙◌, arith, inl, inr}
+use Rattle.std.proofs.Common.{◌≡◌, ◌≢◌, ℕ, ◌+◌, ◌*◌, ◌/◌, ◌<◌, ◌≤◌, true, false, List, length, length-set, get_or, set, Some, slice_get, slice_set, sym, ap, subst, ◌∙◌, arith, inl, inr}
 use Rattle.std.proofs.lemmas.Bool.{false_from_ne_true, cases_lt, cases_eq}
 use Rattle.std.proofs.lemmas.Bool.Decides.{nat_tests}
+use Rattle.std.proofs.lemmas.List.{set-get_or}
 use Rattle.std.proofs.lemmas.Option.{slice_get-get_or, slice_get_within}
+use Rattle.tag.specs.LogicalTime.{LogicalTime}
 use Rattle.whole.specs.declared.nexts.Next.{Next}
 use Rattle.whole.specs.Next.{is_earlier, IsFirstAt, IsFirstAmong, AreFirsts}
 use Rattle.whole.proofs.NextTurns.{earlier_then, not_itself, same_some}
@@ -173,3 +175,10 @@ first_at nexts x w = record {
   first = λ other a b below at_a at_b.
       ap (is_earlier a) (same_some (slice_get nexts w.place) b x at_b w.there) ∙ w.first other a (omega arith) below at_a;
 }
+
+-- a tag that was there already changes nothing
+pub unchanged : (nexts : List Next) (place : ℕ) (next : Next) (tag : LogicalTime) → slice_get nexts place ≡ Some next → next.tag ≡ tag → nexts ≡ slice_set nexts place (record next { tag = tag })
+unchanged nexts place next tag at same =
+    let within : place < length nexts = slice_get_within nexts place next at in
+    let is : get_or nexts place next ≡ next = same_some (slice_get nexts place) (get_or nexts place next) next (slice_get-get_or nexts place next within) at in
+    subst (λ t. nexts ≡ slice_set nexts place (record next { tag = t })) same (sym (ap (set nexts place) (sym is) ∙ set-get_or nexts place next))

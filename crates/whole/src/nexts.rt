@@ -1,4 +1,4 @@
-ghost use Rattle.std.specs.Prelude.{◌≡◌, ℕ, ◌<◌, ◌≤◌, ◌+◌, ◌*◌, ◌/◌, length, List, All, IfOk, true, Some, slice_get, slice_set};
+ghost use Rattle.std.specs.Prelude.{◌≡◌, ℕ, ◌<◌, ◌≤◌, ◌+◌, ◌*◌, ◌/◌, length, List, All, IfOk, IsTrue, true, Some, slice_get, slice_set};
 ghost use Rattle.std.specs.Option.{option_map};
 ghost use Rattle.whole.specs.declared.nexts.Next.{Next as NextOf};
 ghost use Rattle.whole.specs.Made.{has_target, least_on};
@@ -72,6 +72,9 @@ impl Nexts {
         requires { federate < length self.old }
         ensures { (next : NextOf) → slice_get self.old federate ≡ Some next → self.new ≡ slice_set self.old federate (record next { tag = tag }) }
     {
+        if is_at(self.nexts.as_slice(), federate, tag) {
+            return;
+        }
         set_tag(
             self.nexts.as_mut_slice(),
             self.firsts.as_mut_slice(),
@@ -138,6 +141,14 @@ fn first_of_block(nexts: &[Next], block: usize) -> Next
 {
     let low = block * BLOCK;
     first_among(nexts, low, nexts.len().min(low + BLOCK))
+}
+
+/// Whether a federate's next event has this tag already.
+fn is_at(nexts: &[Next], federate: usize, tag: Tag) -> bool
+    requires { federate < length nexts.now }
+    ensures { IsTrue result → (next : NextOf) → slice_get nexts.now federate ≡ Some next → next.tag ≡ tag }
+{
+    nexts[federate].tag == tag
 }
 
 fn set_tag(nexts: &mut [Next], firsts: &mut [Next], federate: usize, tag: Tag)
