@@ -9,7 +9,7 @@ use Rattle.std.specs.Ordering.{match_ordering, is_eq}
 use Rattle.std.proofs.lemmas.Cmp.{tied_itself}
 use Rattle.network.specs.Undone.{Held, is_for_same, put}
 use Rattle.agenda.specs.declared.key.Key.{Key}
-use Rattle.agenda.specs.Kept.{held_at, held_in, undo_to}
+use Rattle.agenda.specs.Kept.{held_at, held_in, undo_to, EachBefore}
 use Rattle.agenda.proofs.Order.{held_cmp, held_total, same_is}
 use Rattle.agenda.proofs.Putting.{put_less, put_equal, put_greater, Above, Ordered}
 use Rattle.agenda.proofs.Filtered.{same_tag, same_slot, filter_all}
@@ -49,8 +49,7 @@ drop_others k u a = filter_all (λ e. not (is_for k e)) u (kept u a)
 module _ (R : Key → Key → Ordering) (same : (a b : Key) (v w : ℤ) → R a b ≡ held_cmp (held_at (a, v)) (held_at (b, w))) where
   -- in the order of events
   abbrev pub AreSorted : List (Key × ℤ) → Type 0
-  AreSorted [] = Unit {0}
-  AreSorted (e ∷ es) = AllByRecursion (λ x. R e.0 x.0 ≡ Less) es × AreSorted es
+  AreSorted es = EachBefore (λ e later. R e.0 later.0 ≡ Less) es
 
   above_in : (k : Key) (v : ℤ) (es : List (Key × ℤ)) → AllByRecursion (λ x. R k x.0 ≡ Less) es → Above (held_at (k, v)) (held_in es)
   above_in k v [] a = tt

@@ -1,20 +1,16 @@
 -- The ordered map's entries, at the order of its keys.
-use Rattle.std.proofs.Common.{◌≡◌, ℤ, true, false, List, [], ◌∷◌, ◌++◌, ap, sym, refl, Option, None, Some, Ordering}
+use Rattle.std.proofs.Common.{◌≡◌, ℤ, true, false, List, [], ◌∷◌, ◌++◌, ap, sym, refl, Option, None, Some}
 use Rattle.std.specs.Prelude.{is_some}
 use Rattle.std.specs.List.Sorted.{IsStrictlySortedBy}
 use Rattle.std.specs.BTreeMap.{insert_entry, is_at}
 use Rattle.std.specs.Map.{keys_of, remove_entry, lookup}
 use Rattle.network.specs.Undone.{Held, put, Rises}
-use Rattle.agenda.specs.contracts.key.KeyOrd.TheImpl as key_ord
 use Rattle.agenda.specs.declared.key.Key.{Key}
 use Rattle.agenda.specs.declared.undo.Undo.{Undo}
-use Rattle.agenda.specs.Kept.{held_at, held_in, undo_to, undo_all}
+use Rattle.agenda.specs.Kept.{held_at, held_in, key_cmp, undo_to, undo_all}
 use Rattle.agenda.proofs.Order.{held_cmp}
 use Rattle.agenda.proofs.Putting.{rises, ordered}
 use Rattle.agenda.proofs.Entries as entries
-
-abbrev pub key_cmp : Key → Key → Ordering
-key_cmp = (key_ord.ghosts).cmp
 
 pub same : (a b : Key) (v w : ℤ) → key_cmp a b ≡ held_cmp (held_at (a, v)) (held_at (b, w))
 same a b v w = refl
@@ -46,10 +42,6 @@ present_by es k v r (Some w) p h = entries.set_present key_cmp same es k v w (en
 pub set_present : (es : List (Key × ℤ)) (k : Key) (v : ℤ) → IsInOrder es → is_some (lookup (is_at (key_cmp k)) es) ≡ true →
     held_in (insert_entry key_cmp es k v) ≡ undo_to k (Some v) (held_in es)
 set_present es k v r h = present_by es k v r (lookup (is_at (key_cmp k)) es) refl h
-
-pub undo_put : (es : List (Key × ℤ)) (k : Key) (v : ℤ) (was : Option ℤ) → IsInOrder es → lookup (is_at (key_cmp k)) es ≡ was →
-    undo_to k was (held_in (insert_entry key_cmp es k v)) ≡ held_in es
-undo_put es k v was r h = entries.undo_put key_cmp same es k v was (entries.sorted_in key_cmp same es r) h
 
 -- what was done last is undone first
 pub undo_all_more : (undos : List Undo) (u : Undo) (events : List Held) → undo_all (undos ++ u ∷ []) events ≡ undo_all undos (undo_to u.key u.was events)

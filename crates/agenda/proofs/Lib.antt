@@ -16,8 +16,12 @@ pub mod TimerLists
 pub mod Fired
 -- The same at the order of the map's keys.
 pub mod Keyed
--- The first of what was put apart from the others.
-pub mod Apart
+-- Lists that a search goes over.
+pub mod Searched
+-- A key against entries in order.
+pub mod Past
+-- What was put, some of it in front.
+pub mod Queued
 -- An agenda's value after each call.
 pub mod Views
 -- What is present, slot by slot.

@@ -8,16 +8,11 @@ use Rattle.tag.specs.LogicalTime.{LogicalTime, is_same}
 use Rattle.network.specs.Event.{Entry, entry_at, listed_from, listed, value_at}
 use Rattle.network.specs.Undone.{Held, look, Rises}
 use Rattle.agenda.specs.Agenda.{present_in}
-use Rattle.agenda.specs.Present.{entry_of}
+use Rattle.agenda.specs.Present.{entry_of, AreInPlace}
 use Rattle.agenda.proofs.Order.{held_cmp}
 use Rattle.agenda.proofs.Putting.{Above, Ordered, ordered}
 use Rattle.agenda.proofs.Fired.{those_at}
-use Rattle.agenda.proofs.Writing.{entries_at, present_values}
-
--- each is for a lower place than all that follow
-abbrev Climbing : List Entry → Type 0
-Climbing [] = Unit {0}
-Climbing (e ∷ rest) = AllByRecursion (λ x. e.place < x.place) rest × Climbing rest
+use Rattle.agenda.proofs.Writing.{above_all, entries_at, present_values}
 
 -- all places are from the first on, and below the end
 abbrev AreWithin : ℕ → ℕ → List Entry → Type 0
@@ -38,10 +33,6 @@ differ_back a b h = grind (arith, nat_tests)
 not_found : (p : ℕ) (es : List Entry) → AllByRecursion (λ x. p < x.place) es → value_at es p ≡ None
 not_found p [] a = refl
 not_found p (e ∷ es) a = found_later e es p (differ_back e.place p a.0) ∙ not_found p es a.1
-
-above_all : (p : ℕ) (e : Entry) (es : List Entry) → p < e.place → AllByRecursion (λ x. e.place < x.place) es → AllByRecursion (λ x. p < x.place) es
-above_all p e [] h a = tt
-above_all p e (x ∷ es) h a = let next = a.0 in (omega arith, above_all p e es h a.1)
 
 within_next : (first count : ℕ) (e : Entry) (es : List Entry) → first ≤ e.place → AllByRecursion (λ x. e.place < x.place) es →
     AreWithin first (first + suc count) es → AreWithin (first + 1) (first + 1 + count) es
@@ -71,7 +62,7 @@ list_later : (count first : ℕ) (e : Entry) (es : List Entry) → AllByRecursio
     e ∷ es ≡ listed_from (first + 1) count (value_at (e ∷ es)) → e ∷ es ≡ listed_from first (suc count) (value_at (e ∷ es))
 list_later count first e es a h more =
     more ∙ ap (λ v. entry_at first v ++ listed_from (first + 1) count (value_at (e ∷ es)))
-    (sym (not_found first (e ∷ es) (h, above_all first e es h a)))
+    (sym (not_found first (e ∷ es) (h, above_all first e.place es (omega arith) a)))
 
 list_by : (count first : ℕ) (e : Entry) (es : List Entry) → AllByRecursion (λ x. e.place < x.place) es → first ≤ e.place → e.place < first + suc count →
     es ≡ listed_from (first + 1) count (value_at es) →
@@ -81,7 +72,7 @@ list_by count first e es a low high here later true h = list_here count first e 
 list_by count first e es a low high here later false h =
     let above : first < e.place = grind (arith, nat_tests) in list_later count first e es a above (later (omega arith, omega arith))
 
-lists : (count first : ℕ) (es : List Entry) → Climbing es → AreWithin first (first + count) es → es ≡ listed_from first count (value_at es)
+lists : (count first : ℕ) (es : List Entry) → AreInPlace es → AreWithin first (first + count) es → es ≡ listed_from first count (value_at es)
 lists zero first [] c w = refl
 lists zero first (e ∷ es) c w = let low = w.0.0 in let high = w.0.1 in absurd (omega arith)
 lists (suc count) first [] c w = sym (nothing_listed (suc count) first)
@@ -106,12 +97,12 @@ module _ (tag : LogicalTime) where
   lower_all e [] a k = tt
   lower_all e (x ∷ u) a k = lower_if e x (those_at tag u) (is_same x.tag tag) a.0 k refl (lower_all e u a.1 k)
 
-  climbing_if : (e : Held) (u : List Held) (b : Bool) → Above e u → is_same e.tag tag ≡ b → Climbing (entries_at tag u) →
-      Climbing (map entry_of (cond b (e ∷ those_at tag u) (those_at tag u)))
+  climbing_if : (e : Held) (u : List Held) (b : Bool) → Above e u → is_same e.tag tag ≡ b → AreInPlace (entries_at tag u) →
+      AreInPlace (map entry_of (cond b (e ∷ those_at tag u) (those_at tag u)))
   climbing_if e u true a k more = (lower_all e u a k, more)
   climbing_if e u false a k more = more
 
-  climbing : (u : List Held) → Ordered u → Climbing (entries_at tag u)
+  climbing : (u : List Held) → Ordered u → AreInPlace (entries_at tag u)
   climbing [] r = tt
   climbing (e ∷ u) r = climbing_if e u (is_same e.tag tag) r.0 refl (climbing u r.1)
 

@@ -1,8 +1,11 @@
 -- What is present at a tag is written entry by entry.
-use Rattle.std.proofs.Common.{◌≡◌, ℕ, suc, ◌+◌, ◌<◌, ℤ, Bool, true, false, cond, List, [], ◌∷◌, ◌++◌, length, get_or, take, set, refl, sym, ap, subst, ◌∙◌, arith, map, Option, Some}
-use Rattle.std.specs.Prelude.{if◌then◌else◌, ◌&&◌, nat_lt, nat_eq, find, slice_get}
-use Rattle.std.specs.List.{AllByRecursion, insert, prefix_len}
+use Rattle.std.proofs.Common.{◌≡◌, ℕ, zero, suc, ◌+◌, ◌<◌, ◌≤◌, ℤ, Bool, true, false, cond, List, [], ◌∷◌, ◌++◌, length, get_or, take, set, refl, sym, ap, subst, ◌∙◌, arith, map, Option, Some, Result, Ok, Err, Ordering, Less, Equal, Greater}
+use Rattle.std.specs.Prelude.{if◌then◌else◌, ◌&&◌, nat_lt, nat_eq, find}
+use Rattle.std.specs.List.{AllByRecursion, HoldsAt, insert}
+use Rattle.std.specs.List.Sorted.{IsPartitionPoint, IsNonDecreasingBy}
+use Rattle.std.specs.Ordering.{nat_cmp, ordering_index}
 use Rattle.std.specs.Option.{option_map}
+use Rattle.std.specs.Result.{OnOk}
 use Rattle.std.proofs.lemmas.Bool.Decides.{nat_tests}
 use Rattle.std.proofs.lemmas.List.{map-append, take_more}
 use Rattle.std.proofs.lemmas.List.Elements.{filter-append}
@@ -14,9 +17,10 @@ use Rattle.agenda.specs.declared.key.Key.{Key}
 use Rattle.agenda.specs.declared.firings.Firings.{Firings}
 use Rattle.agenda.specs.Agenda.{present_in}
 use Rattle.agenda.specs.Kept.{held_at, held_in, firings_of, all_firings}
-use Rattle.agenda.specs.Present.{entry_of, is_there, set_entry, set_entries}
+use Rattle.agenda.specs.Present.{entry_of, set_entry, set_entries, AreInPlace}
 use Rattle.agenda.proofs.Putting.{Ordered}
 use Rattle.agenda.proofs.Filtered.{filter_none}
+use Rattle.agenda.proofs.Searched.{all_at, rises_by}
 use Rattle.agenda.proofs.Due.{all_after}
 use Rattle.agenda.proofs.TimerLists.{all_firings-push}
 use Rattle.agenda.proofs.Fired.{those_at}
@@ -25,48 +29,90 @@ use Rattle.agenda.proofs.Fired.{those_at}
 abbrev pub entries_at : LogicalTime → List Held → List Entry
 entries_at tag u = map entry_of (those_at tag u)
 
--- ---- an entry is set at the place of the first that isn't for a lower slot
+-- ---- an entry is set in its place
 
-abbrev pub count_lower : ℕ → List Entry → ℕ
-count_lower slot xs = prefix_len (λ x. nat_lt x.place slot) xs
-
-abbrev pub set_at : Entry → List Entry → ℕ → List Entry
-set_at e xs n = cond (is_there e.place (slice_get xs n)) (set xs n e) (insert xs n e)
-
-lower_skips : (e x : Entry) (xs : List Entry) → nat_lt x.place e.place ≡ true → set_entry e (x ∷ xs) ≡ x ∷ set_entry e xs
+lower_skips : (e x : Entry) (xs : List Entry) → x.place < e.place → set_entry e (x ∷ xs) ≡ x ∷ set_entry e xs
 lower_skips e x xs h = grind (arith, nat_tests)
 
-not_lower : (e x : Entry) (xs : List Entry) → nat_lt x.place e.place ≡ false → set_entry e (x ∷ xs) ≡ cond (nat_eq x.place e.place) (e ∷ xs) (e ∷ x ∷ xs)
-not_lower e x xs h = grind (arith, nat_tests)
+same_goes : (e x : Entry) (xs : List Entry) → x.place ≡ e.place → set_entry e (x ∷ xs) ≡ e ∷ xs
+same_goes e x xs h = grind (arith, nat_tests)
 
-cons_cond : (b : Bool) (x : Entry) (xs ys : List Entry) → x ∷ cond b xs ys ≡ cond b (x ∷ xs) (x ∷ ys)
-cons_cond true x xs ys = refl
-cons_cond false x xs ys = refl
+higher_follows : (e x : Entry) (xs : List Entry) → e.place < x.place → set_entry e (x ∷ xs) ≡ e ∷ x ∷ xs
+higher_follows e x xs h = grind (arith, nat_tests)
 
-set_first : (e x : Entry) (xs : List Entry) (b : Bool) → nat_lt x.place e.place ≡ b → set_entry e xs ≡ set_at e xs (count_lower e.place xs) →
-    set_entry e (x ∷ xs) ≡ set_at e (x ∷ xs) (cond b (1 + count_lower e.place xs) 0)
-set_first e x xs true h more =
-    let next : suc (count_lower e.place xs) ≡ 1 + count_lower e.place xs = omega arith in
-    lower_skips e x xs h ∙ ap (λ rest. x ∷ rest) more
-    ∙ cons_cond (is_there e.place (slice_get xs (count_lower e.place xs))) x (set xs (count_lower e.place xs) e) (insert xs (count_lower e.place xs) e)
-    ∙ ap (set_at e (x ∷ xs)) next
-set_first e x xs false h more = not_lower e x xs h
+is_lower : (a b : ℕ) → nat_cmp a b ≡ Less → a < b
+is_lower a b h = grind (arith, nat_tests)
 
-set_is : (e : Entry) (xs : List Entry) → set_entry e xs ≡ set_at e xs (count_lower e.place xs)
-set_is e [] = refl
-set_is e (x ∷ xs) = set_first e x xs (nat_lt x.place e.place) refl (set_is e xs)
+is_higher : (a b : ℕ) → nat_cmp a b ≡ Greater → b < a
+is_higher a b h = grind (arith, nat_tests)
 
-set_by : (e : Entry) (xs : List Entry) (n : ℕ) (b : Bool) → n ≡ count_lower e.place xs → is_there e.place (slice_get xs n) ≡ b →
-    cond b (set xs n e) (insert xs n e) ≡ set_entry e xs
-set_by e xs n b at is = ap (λ b. cond b (set xs n e) (insert xs n e)) (sym is) ∙ ap (set_at e xs) at ∙ sym (set_is e xs)
+is_same_place : (a b : ℕ) → nat_cmp a b ≡ Equal → a ≡ b
+is_same_place a b h = grind (arith, nat_tests)
 
 -- the entry that is there is replaced
-pub set_there : (e : Entry) (xs : List Entry) (n : ℕ) → n ≡ count_lower e.place xs → is_there e.place (slice_get xs n) ≡ true → set xs n e ≡ set_entry e xs
-set_there e xs n at is = set_by e xs n true at is
+pub set_there : (e : Entry) (xs : List Entry) (i : ℕ) → AreInPlace xs → i < length xs → HoldsAt (λ x. nat_cmp x.place e.place ≡ Equal) xs i →
+    set xs i e ≡ set_entry e xs
+set_there e [] i r h at = absurd (omega arith)
+set_there e (x ∷ xs) zero r h at = sym (same_goes e x xs (is_same_place x.place e.place (at x)))
+set_there e (x ∷ xs) (suc i) r h at =
+    let below = all_at (λ y. x.place < y.place) xs i e r.0 (omega arith) in
+    let same = is_same_place (get_or xs i e).place e.place (at e) in
+    ap (λ rest. x ∷ rest) (set_there e xs i r.1 (omega arith) at) ∙ sym (lower_skips e x xs (omega arith))
 
 -- and goes in, where none is
-pub set_between : (e : Entry) (xs : List Entry) (n : ℕ) → n ≡ count_lower e.place xs → is_there e.place (slice_get xs n) ≡ false → insert xs n e ≡ set_entry e xs
-set_between e xs n at is = set_by e xs n false at is
+pub set_between : (e : Entry) (xs : List Entry) (i : ℕ) → i ≤ length xs →
+    IsPartitionPoint (λ x. nat_cmp x.place e.place ≡ Less) (λ x. nat_cmp x.place e.place ≡ Greater) xs i → insert xs i e ≡ set_entry e xs
+set_between e [] zero h p = refl
+set_between e [] (suc i) h p = absurd (omega arith)
+set_between e (x ∷ xs) zero h p = sym (higher_follows e x xs (is_higher x.place e.place (p.1 0 x (omega arith) (omega arith))))
+set_between e (x ∷ xs) (suc i) h p =
+    ap (λ rest. x ∷ rest) (set_between e xs i (omega arith)
+    (λ n d l k. p.0 (suc n) d (omega arith) (omega arith), λ n d l k. p.1 (suc n) d (omega arith) (omega arith)))
+    ∙ sym (lower_skips e x xs (is_lower x.place e.place (p.0 0 x (omega arith) (omega arith))))
+
+index_rises : (slot a b : ℕ) → a < b → ordering_index (nat_cmp a slot) ≤ ordering_index (nat_cmp b slot)
+index_rises slot a b h = grind (arith, nat_tests)
+
+pub places_rise : (slot : ℕ) (xs : List Entry) → AreInPlace xs → IsNonDecreasingBy (λ x. ordering_index (nat_cmp x.place slot)) xs
+places_rise slot xs = rises_by (λ (x y : Entry). x.place < y.place) (λ x. ordering_index (nat_cmp x.place slot)) xs (λ x y. index_rises slot x.place y.place)
+
+pub above_all : (p q : ℕ) (xs : List Entry) → p ≤ q → AllByRecursion (λ x. q < x.place) xs → AllByRecursion (λ x. p < x.place) xs
+above_all p q [] h a = tt
+above_all p q (x ∷ xs) h a = let next = a.0 in (omega arith, above_all p q xs h a.1)
+
+module _ (P : Entry → Type 0) where
+  all_set_if : (e x : Entry) (xs : List Entry) (b c : Bool) → P e → P x → AllByRecursion P xs → AllByRecursion P (set_entry e xs) →
+      AllByRecursion P (if b then e ∷ x ∷ xs else (if c then e ∷ xs else x ∷ set_entry e xs))
+  all_set_if e x xs true c h k r more = (h, (k, r))
+  all_set_if e x xs false true h k r more = (h, r)
+  all_set_if e x xs false false h k r more = (k, more)
+
+  all_set : (e : Entry) (xs : List Entry) → P e → AllByRecursion P xs → AllByRecursion P (set_entry e xs)
+  all_set e [] h r = (h, tt)
+  all_set e (x ∷ xs) h r = all_set_if e x xs (nat_lt e.place x.place) (nat_eq e.place x.place) h r.0 r.1 (all_set e xs h r.1)
+
+in_place_at : (e x : Entry) (xs : List Entry) → AreInPlace (x ∷ xs) → AreInPlace (set_entry e xs) → (o : Ordering) → nat_cmp e.place x.place ≡ o →
+    AreInPlace (set_entry e (x ∷ xs))
+in_place_at e x xs r more Less h =
+    let lower = is_lower e.place x.place h in
+    rw (higher_follows e x xs lower) ((lower, above_all e.place x.place xs (omega arith) r.0), r)
+in_place_at e x xs r more Equal h =
+    let same = is_same_place e.place x.place h in
+    rw (same_goes e x xs (sym same)) (above_all e.place x.place xs (omega arith) r.0, r.1)
+in_place_at e x xs r more Greater h =
+    let higher = is_higher e.place x.place h in
+    rw (lower_skips e x xs higher) (all_set (λ y. x.place < y.place) e xs higher r.0, more)
+
+in_place_set : (e : Entry) (xs : List Entry) → AreInPlace xs → AreInPlace (set_entry e xs)
+in_place_set e [] r = (tt, tt)
+in_place_set e (x ∷ xs) r = in_place_at e x xs r (in_place_set e xs r.1) (nat_cmp e.place x.place) refl
+
+in_place_all : (es xs : List Entry) → AreInPlace xs → AreInPlace (set_entries es xs)
+in_place_all [] xs r = r
+in_place_all (e ∷ es) xs r = in_place_all es (set_entry e xs) (in_place_set e xs r)
+
+pub in_place_by : (es xs new : List Entry) → new ≡ set_entries es xs → AreInPlace xs → AreInPlace new
+in_place_by es xs new is r = subst AreInPlace (sym is) (in_place_all es xs r)
 
 -- ---- one timer more
 
@@ -86,6 +132,20 @@ firings_more tag timers i d first before after h so_far here =
     ∙ ap (λ us. set_entries (map entry_of us) first) (filter-append (λ e. is_same e.tag tag) (all_firings (take i timers)) (firings_of f))
     ∙ ap (λ es. set_entries es first) (map-append entry_of (those_at tag (all_firings (take i timers))) (those_at tag (firings_of f)))
     ∙ set_entries-append (entries_at tag (all_firings (take i timers))) (entries_at tag (firings_of f)) first)
+
+-- ---- those in front and the others
+
+pub then_ok : {A B P Q : Type 0} (r : Result A B) → (P → Q) → OnOk r P → OnOk r Q
+then_ok (Ok x) f p = f p
+then_ok (Err x) f p = tt
+
+pub entries_of_both : (tag : LogicalTime) (front rest : List (Key × ℤ)) (first : List Entry) →
+    set_entries (entries_at tag (held_in rest)) (set_entries (entries_at tag (held_in front)) first) ≡ set_entries (entries_at tag (held_in (front ++ rest))) first
+entries_of_both tag front rest first =
+    sym (ap (λ us. set_entries (entries_at tag us) first) (map-append held_at front rest)
+    ∙ ap (λ us. set_entries (map entry_of us) first) (filter-append (λ e. is_same e.tag tag) (held_in front) (held_in rest))
+    ∙ ap (λ es. set_entries es first) (map-append entry_of (those_at tag (held_in front)) (those_at tag (held_in rest)))
+    ∙ set_entries-append (entries_at tag (held_in front)) (entries_at tag (held_in rest)) first)
 
 -- ---- past the tag
 

@@ -1,10 +1,14 @@
 -- What an agenda keeps, as code: what was put, by tag and slot, and of each timer the firings that are left.
 use Rattle.std.specs.Prelude.{◌≡◌, ℕ, ◌<◌, ◌^◌, ◌+◌, ℤ, pos, Bool, false, IsTrue, if◌then◌else◌, not, List, [], ◌∷◌, ◌++◌, map, filter, Option, None, Some}
 use Rattle.std.specs.List.{AllByRecursion}
+use Rattle.std.specs.Ordering.{is_eq}
+use Rattle.std.specs.declared.cmp.Ordering.{Ordering}
+use Rattle.std.specs.declared.cmp.Ordering.TheVariants.{Less, Greater}
 use Rattle.tag.specs.LogicalTime.{LogicalTime, origin, forever, is_at_most, is_before, lesser, IsFinite}
 use Rattle.network.specs.Undone.{Held, Rises, is_for_same, put_all}
 use Rattle.plan.specs.declared.slots.Timer.{Timer}
 use Rattle.plan.specs.External.{times_from, firing_count}
+use Rattle.agenda.specs.contracts.key.KeyOrd.TheImpl as key_ord
 use Rattle.agenda.specs.declared.key.Key.{Key}
 use Rattle.agenda.specs.declared.undo.Undo.{Undo}
 use Rattle.agenda.specs.declared.firings.Firings.{Firings}
@@ -18,15 +22,34 @@ held_at entry = record { tag = entry.0.tag; slot = entry.0.slot; value = entry.1
 abbrev pub held_in : List (Key × ℤ) → List Held
 held_in entries = map held_at entries
 
--- the first, before the others
-abbrev pub with_first : Option (Key × ℤ) → List (Key × ℤ) → List (Key × ℤ)
-with_first None rest = rest
-with_first (Some e) rest = e ∷ rest
+-- each is before all that follow
+abbrev pub EachBefore : {X : Type 0} → (X → X → Type 0) → List X → Type 0
+EachBefore R [] = Unit {0}
+EachBefore R (x ∷ rest) = AllByRecursion (R x) rest × EachBefore R rest
 
--- the first is before all others, and there are none where it is missing
-abbrev pub IsFirst : Option (Key × ℤ) → List (Key × ℤ) → Type 0
-IsFirst None rest = rest ≡ []
-IsFirst (Some e) rest = Rises (held_in (e ∷ rest))
+-- the order of keys
+abbrev pub key_cmp : Key → Key → Ordering
+key_cmp = (key_ord.ghosts).cmp
+
+-- those that come first and the others, in order; the first is among the former
+pub record IsQueued (front rest : List (Key × ℤ)) : Type 0 where
+  pub rising : Rises (held_in (front ++ rest))
+  pub next : front ≡ [] → rest ≡ []
+
+-- how a key stands to the first, and Less where there is none
+abbrev pub to_first : Key → List (Key × ℤ) → Ordering
+to_first key [] = Less
+to_first key (e ∷ rest) = key_cmp key e.0
+
+-- how a key stands to the last, and Greater where there is none
+abbrev pub to_last : Key → List (Key × ℤ) → Ordering
+to_last key [] = Greater
+to_last key (e ∷ []) = key_cmp key e.0
+to_last key (e ∷ x ∷ rest) = to_last key (x ∷ rest)
+
+-- none of these is for a key
+abbrev pub AreOthers : Key → List (Key × ℤ) → Type 0
+AreOthers key entries = AllByRecursion (λ e. is_eq (key_cmp key e.0) ≡ false) entries
 
 -- startup, where the flag is set
 abbrev pub startup_in : Bool → List Held
@@ -77,8 +100,7 @@ has_before tag (e ∷ rest) = is_before e.tag tag
 
 -- each is less than all that follow
 abbrev pub Climbs : List ℕ → Type 0
-Climbs [] = Unit {0}
-Climbs (time ∷ rest) = AllByRecursion (λ later. time < later) rest × Climbs rest
+Climbs times = EachBefore (λ time later. time < later) times
 
 -- a timer's firings are apart, and in range
 pub record IsTimer (f : Firings) : Type 0 where

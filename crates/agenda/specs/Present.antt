@@ -1,7 +1,8 @@
 -- What is present at a tag, found slot by slot.
-use Rattle.std.specs.Prelude.{ℕ, Bool, false, if◌then◌else◌, nat_lt, nat_eq, List, [], ◌∷◌, Option, None, Some}
+use Rattle.std.specs.Prelude.{◌<◌, if◌then◌else◌, nat_lt, nat_eq, List, [], ◌∷◌}
 use Rattle.network.specs.Event.{Entry}
 use Rattle.network.specs.Undone.{Held}
+use Rattle.agenda.specs.Kept.{EachBefore}
 
 -- an event, where its tag is known
 abbrev pub entry_of : Held → Entry
@@ -13,10 +14,9 @@ set_entry e [] = e ∷ []
 set_entry e (x ∷ rest) =
     if nat_lt e.place x.place then e ∷ x ∷ rest else (if nat_eq e.place x.place then e ∷ rest else x ∷ set_entry e rest)
 
--- there is an entry, for this slot
-abbrev pub is_there : ℕ → Option Entry → Bool
-is_there slot None = false
-is_there slot (Some e) = nat_eq e.place slot
+-- each is for a lower slot than all that follow
+abbrev pub AreInPlace : List Entry → Type 0
+AreInPlace entries = EachBefore (λ e later. e.place < later.place) entries
 
 -- with these entries, one after the other
 abbrev pub set_entries : List Entry → List Entry → List Entry

@@ -110,7 +110,7 @@ pub fn drop_puts(puts: &mut Puts, tag: Tag)
 fn has_due(puts: &Puts, tag: Tag) -> bool
     ensures { result ≡ has_due tag puts.now }
 {
-    match puts.first {
+    match puts.front.front() {
         Some((key, _)) => is_at_most(key.tag, tag),
         None => false,
     }

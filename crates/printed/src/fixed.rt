@@ -1,5 +1,5 @@
 //! Bytes in room of a fixed size, so that a row's many small writes cost little.
-ghost use Rattle.std.specs.Prelude.{◌≡◌, ◌++◌, [], MatchBool};
+ghost use Rattle.std.specs.Prelude.{◌≡◌, ◌+◌, ◌≤◌, ◌++◌, [], MatchBool, length};
 
 use std::io;
 use std::io::{ErrorKind, Write};
@@ -58,10 +58,39 @@ impl FixedBytes {
             return false;
         }
         let end = self.len + bytes.len();
-        self.bytes[self.len..end].copy_from_slice(bytes);
+        copy(&mut self.bytes[self.len..end], bytes);
         self.len = end;
         true
     }
+}
+
+/// Copies bytes. Of a few the first and the last are copied, and may overlap: that takes no call.
+#[inline(always)]
+fn copy(to: &mut [u8], from: &[u8])
+    requires { length to.old ≡ length from.now }
+    ensures { to.new ≡ from.now }
+{
+    match from.len() {
+        0 => {}
+        1 => to[0] = from[0],
+        2 | 3 => copy_ends(to, from, 2),
+        4..=7 => copy_ends(to, from, 4),
+        8..=16 => copy_ends(to, from, 8),
+        _ => to.copy_from_slice(from),
+    }
+}
+
+/// Copies so many bytes from the start, and as many to the end.
+#[inline(always)]
+fn copy_ends(to: &mut [u8], from: &[u8], count: usize)
+    requires size { length to.old ≡ length from.now }
+    requires within { count ≤ length from.now }
+    requires all { length from.now ≤ count + count }
+    ensures { to.new ≡ from.now }
+{
+    let last = from.len() - count;
+    to[..count].copy_from_slice(&from[..count]);
+    to[last..].copy_from_slice(&from[last..]);
 }
 
 /// A write is taken whole, or refused where there is no room for it.

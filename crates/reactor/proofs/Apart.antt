@@ -1,5 +1,5 @@
 -- No two external events are for one slot at one tag.
-use Rattle.std.proofs.Common.{◌≡◌, ℕ, zero, suc, ◌+◌, ◌-◌, ◌/◌, ◌<◌, ◌≤◌, ◌⊎◌, inl, inr, pos, Bool, true, false, List, [], ◌∷◌, ◌++◌, length, map, refl, ap, sym, ◌∙◌, arith, subst, Some, nat_eq, nat_le, if◌then◌else◌}
+use Rattle.std.proofs.Common.{◌≡◌, ℕ, zero, suc, ◌+◌, ◌-◌, ◌/◌, ◌<◌, ◌≤◌, ◌⊎◌, inl, inr, pos, Bool, true, false, List, [], ◌∷◌, length, map, refl, ap, sym, ◌∙◌, arith, subst, Some, nat_eq, nat_le, if◌then◌else◌}
 use Rattle.std.specs.Prelude.{All, AllPairs, slice_get}
 use Rattle.std.specs.List.{filter_map}
 use Rattle.std.proofs.lemmas.Bool.Decides.{nat_tests}
@@ -13,7 +13,6 @@ use Rattle.plan.specs.declared.slots.Timer.{Timer}
 use Rattle.plan.specs.declared.draft.Federate.{Federate}
 use Rattle.plan.specs.declared.draft.Draft.{Draft}
 use Rattle.plan.specs.declared.input.Input.{Input}
-use Rattle.plan.specs.Naming.{place_of}
 use Rattle.plan.specs.Numbering.{startup_slot, first_timer, first_action, first_physical, slot_count}
 use Rattle.plan.specs.Federation.{Found, place_in, federate_names, federate_number, stop_of}
 use Rattle.plan.specs.External.{outside, times_from, firing_count, firing_times, firings_from, startup_of, own_events, own_events_from, found_action, slot_in, physical_slot, input_event, input_events, external_of, AreApart, AreInputsOf}

@@ -4,6 +4,8 @@ pub mod Listing
 pub mod WorkingLemmas
 -- what is present, put into registers
 pub mod Registers
+-- the registers that turns begin with
+pub mod Opened
 -- literals behind others
 pub mod Literals
 -- steps do what their lines say

@@ -1,5 +1,5 @@
 -- Where and when the external events of a legal draft are.
-use Rattle.std.proofs.Common.{◌≡◌, ℕ, zero, suc, ◌+◌, ◌-◌, ◌*◌, ◌/◌, ◌<◌, ◌≤◌, ◌^◌, ◌⊎◌, inl, inr, pos, Bool, true, false, List, [], ◌∷◌, ◌++◌, length, map, get_or, refl, ap, sym, arith, subst, Option, None, Some, IsTrue, nat_eq, nat_le, if◌then◌else◌, suc-mul}
+use Rattle.std.proofs.Common.{◌≡◌, ℕ, zero, suc, ◌+◌, ◌*◌, ◌<◌, ◌≤◌, ◌^◌, ◌⊎◌, inl, inr, pos, Bool, true, false, List, [], ◌∷◌, length, map, get_or, refl, ap, arith, subst, Option, None, Some, IsTrue, if◌then◌else◌, suc-mul}
 use Rattle.std.specs.Prelude.{All, slice_get}
 use Rattle.std.specs.Option.{option_map}
 use Rattle.std.specs.List.{filter_map}

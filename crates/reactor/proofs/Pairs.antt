@@ -1,8 +1,8 @@
 -- What holds of each item of a list and each later one holds of lists that are made of it.
-use Rattle.std.proofs.Common.{suc, ◌≡◌, List, [], ◌∷◌, ◌++◌, map, get_or, refl, arith, Option, None, Some}
+use Rattle.std.proofs.Common.{◌≡◌, List, [], ◌∷◌, ◌++◌, map, get_or, refl, Option, None, Some}
 use Rattle.std.specs.Prelude.{All, AllPairs}
 use Rattle.std.specs.List.{filter_map, cons_option}
-use Rattle.std.proofs.lemmas.List.Elements.{All-nil, All-cons, All-head, All-tail, All-append, All-map}
+use Rattle.std.proofs.lemmas.List.Elements.{All-head, All-tail, All-append, All-map}
 use Rattle.std.proofs.lemmas.List.Kept.{AllPairs-cons}
 use Rattle.network.proofs.Items.{All-filter_map, no_pairs, first_pair, later_pairs}
 

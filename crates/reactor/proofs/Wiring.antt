@@ -1,5 +1,5 @@
 -- Where the connections of a legal draft begin and end, and which delays there are.
-use Rattle.std.proofs.Common.{◌≡◌, ℕ, ◌+◌, ◌<◌, ◌≤◌, ◌^◌, List, length, refl, ap, sym, ◌∙◌, arith, subst, Option, None, Some, IfSome}
+use Rattle.std.proofs.Common.{◌≡◌, ℕ, ◌+◌, ◌<◌, ◌≤◌, ◌^◌, length, ap, sym, ◌∙◌, arith, subst, Some, IfSome}
 use Rattle.std.specs.Prelude.{All, slice_get}
 use Rattle.tag.specs.Total.{IsPlainDelay}
 use Rattle.network.specs.Connection.{Connection}

@@ -123,10 +123,4 @@ impl Turn {
     {
         self.schedulings.as_slice()
     }
-
-    pub fn into_states(self) -> Vec<i64>
-        ensures { result.items ≡ self.states }
-    {
-        self.states
-    }
 }

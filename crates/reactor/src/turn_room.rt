@@ -1,4 +1,4 @@
-ghost use Rattle.std.specs.Prelude.{◌≡◌, ◌+◌, ◌<◌, ◌^◌, All, IfOk, OnOk, length, []};
+ghost use Rattle.std.specs.Prelude.{◌≡◌, ◌+◌, All, IfOk, OnOk, length, take, drop, []};
 ghost use Rattle.network.specs.Event.{listed, value_at};
 ghost use Rattle.reactor.specs.Entries.{value_in};
 
@@ -32,6 +32,7 @@ impl Model for TurnRoom {
 }
 
 impl TurnRoom {
+    ghost use Rattle.reactor.specs.Resolved.{AreOpen};
     ghost use Rattle.reactor.specs.Working.{ReactionWithin, IsTurnBy};
 
     /// With no room yet, and a turn that makes nothing.
@@ -85,26 +86,26 @@ impl TurnRoom {
         )
     }
 
-    /// The turn of these reactions, with their literals, on these states, with these inputs present at so many slots.
+    /// The turn of these reactions, on these registers, so many of which are states, with these inputs present at so many slots.
     pub(crate) fn run(
         &mut self,
-        states: &[i64],
+        registers: &[i64],
+        states: usize,
         slots: usize,
         ports: usize,
         inputs: &[Entry],
-        literals: &[i64],
         reactions: &[ReactionSteps],
     ) -> Result<(), Memory>
-        requires small { length states.now + slots + slots < 2 ^ 63 }
-        requires within { All (ReactionWithin (length states.now + slots + slots + length literals.now) ports) reactions.now }
-        ensures turn { OnOk result (IsTurnBy states.now slots ports (value_at inputs.now) literals.now reactions.now self.new) }
-        ensures fits { OnOk result (length self.new.states ≡ length states.now) }
+        requires begins { AreOpen states slots registers.now }
+        requires within { All (ReactionWithin (length registers.now) ports) reactions.now }
+        ensures turn { OnOk result (IsTurnBy (take states registers.now) slots ports (value_at inputs.now) (drop (states + slots + slots) registers.now) reactions.now self.new) }
+        ensures fits { OnOk result (length self.new.states ≡ states) }
     {
         self.states = 0;
-        self.working.begin(states, slots, ports, inputs, literals)?;
+        self.working.begin(registers, states, slots, ports, inputs)?;
         self.working.reactions(reactions)?;
         list_into(&mut self.outputs, self.working.outputs.as_slice())?;
-        self.states = states.len();
+        self.states = states;
         Ok(())
     }
 }

@@ -1,16 +1,20 @@
-use Rattle.std.proofs.Common.{ap, sym, ◌∙◌, ◌∷◌, refl, ℤ}
-use Rattle.agenda.specs.declared.key.Key.{Key}
+use Rattle.std.proofs.Common.{ap, ◌∙◌}
 use Rattle.agenda.specs.Kept.{held_in}
 use Rattle.agenda.specs.Present.{set_entries}
-use Rattle.agenda.proofs.Apart.{IsOpened, opened}
-use Rattle.agenda.proofs.Putting.{ordered}
-use Rattle.agenda.proofs.Writing.{entries_at, none_more}
+use Rattle.agenda.proofs.Past.{rises_left}
+use Rattle.agenda.proofs.Writing.{entries_at, entries_of_both, in_place_by, then_ok}
 use Rattle.agenda.proofs.present.add_puts.Goals as goal
 
-pub returns-then-not-is_at_most : goal.returns-then-not-is_at_most
-returns-then-not-is_at_most c =
-    let first : Key × ℤ = (c.in-Some.key, c.in-Some.value) in
-    let o : IsOpened first c.puts.inside.rest.entries c.args.puts.now = opened c.puts.invariant c.puts.view_is c.in-Some.is in
-    none_more c.args.tag (first ∷ c.puts.inside.rest.entries) c.puts.inside.rest.entries first c.args.entries.now.items refl
-    (ordered (held_in (first ∷ c.puts.inside.rest.entries)) o.rising) (sym c.is_at_most.ensures ∙ c.if-not-is_at_most.true)
-    ∙ ap (λ u. set_entries (entries_at c.args.tag u) c.args.entries.now.items) o.all_are
+pub add_front-requires-clause-rises : goal.add_front-requires-clause-rises
+add_front-requires-clause-rises c = rises_left c.puts.inside.front.items c.puts.inside.rest.entries c.puts.invariant.rising
+
+pub add_rest-requires : goal.add_rest-requires
+add_rest-requires c =
+    in_place_by (entries_at c.args.tag (held_in c.puts.inside.front.items)) c.args.entries.now.items c.add_front.new.entries.items c.in_ok-add_front.ensures c.requires
+
+pub returns : goal.returns
+returns c =
+    then_ok c.add_rest.result (λ is.
+    is ∙ ap (set_entries (entries_at c.args.tag (held_in c.puts.inside.rest.entries))) c.in_ok-add_front.ensures
+    ∙ entries_of_both c.args.tag c.puts.inside.front.items c.puts.inside.rest.entries c.args.entries.now.items
+    ∙ ap (λ u. set_entries (entries_at c.args.tag u) c.args.entries.now.items) c.puts.view_is) c.add_rest.ensures

@@ -1,14 +1,18 @@
-use Rattle.std.proofs.Common.{ap, subst, ◌∙◌}
+use Rattle.std.proofs.Common.{ap, sym, subst, ◌∙◌}
 use Rattle.network.specs.Event.{value_at}
 use Rattle.network.specs.Undone.{Rises}
 use Rattle.agenda.specs.Agenda.{Agenda, present_in}
 use Rattle.agenda.specs.Kept.{all_firings}
-use Rattle.agenda.specs.Present.{set_entries}
+use Rattle.agenda.specs.Present.{set_entries, AreInPlace}
 use Rattle.agenda.proofs.Views.{rises_undone}
 use Rattle.agenda.proofs.Listing.{present_listed}
 use Rattle.agenda.proofs.Slots.{present_is}
-use Rattle.agenda.proofs.Writing.{entries_at, present_values}
+use Rattle.agenda.proofs.Writing.{entries_at, in_place_by, present_values}
 use Rattle.agenda.proofs.agenda.Agenda.at.Goals as goal
+
+pub add_puts-requires : goal.add_puts-requires
+add_puts-requires c =
+    in_place_by (entries_at c.args.tag (all_firings c.as_slice.result.now)) c.clear.new.self.items c.add_firings.new.entries.items c.in_ok-add_firings.ensures (subst AreInPlace (sym c.clear.ensures.items) tt)
 
 pub returns-clause-entries : goal.returns-clause-entries
 returns-clause-entries c =

@@ -1,29 +1,43 @@
-use Rattle.std.proofs.Common.{◌∙◌, ap, sym, subst}
-use Rattle.std.specs.Ordering.{is_eq}
+use Rattle.std.proofs.Common.{◌≡◌, ◌<◌, ◌++◌, ◌∙◌, ap, subst, length, arith, ℤ, pos}
+use Rattle.std.specs.Prelude.{OnSome}
+use Rattle.std.specs.BTreeMap.{is_at}
+use Rattle.std.specs.List.{remove}
+use Rattle.std.specs.Map.{remove_entry}
 use Rattle.network.specs.Undone.{Rises}
-use Rattle.agenda.specs.Kept.{held_in, with_first, IsFirst}
-use Rattle.agenda.proofs.Apart.{IsOpened, opened, removed_first, removed_later, rises_without}
+use Rattle.agenda.specs.declared.key.Key.{Key}
+use Rattle.agenda.specs.Kept.{held_in, key_cmp}
+use Rattle.agenda.proofs.Past.{rises_left}
+use Rattle.agenda.proofs.Queued.{rises_without, removed_at, removed_past}
 use Rattle.agenda.proofs.ordered.Puts.remove.Goals as goal
 
-pub invariant_of-self-else-is_eq : goal.invariant_of-self-else-is_eq
-invariant_of-self-else-is_eq c =
-    let o : IsOpened (c.in-Some.first, c.in-Some.field-0-1) c.self.inside.rest.entries c.args.self.now =
-    opened c.self.invariant c.self.view_is c.in-Some.is in
-    subst (λ f. IsFirst f c.remove.new.self.entries) (sym c.in-Some.is)
-    (subst Rises (sym (removed_later (c.in-Some.first, c.in-Some.field-0-1) c.self.inside.rest.entries c.remove.new.self.entries c.args.self.now c.args.key.now o
-    (sym (c.is_eq.ensures ∙ ap is_eq c.cmp.ensures) ∙ c.if-is_eq.false) c.remove.ensures.entries))
-    (rises_without c.args.key.now c.args.self.now (subst Rises o.all_are o.rising)))
+pub place_of-requires : goal.place_of-requires
+place_of-requires c = rises_left c.self.inside.front.items c.self.inside.rest.entries c.self.invariant.rising
 
-pub returns-then-is_eq : goal.returns-then-is_eq
-returns-then-is_eq c =
-    ap held_in c.take_first-self-inside.ensures.taken
-    ∙ removed_first (c.in-Some.first, c.in-Some.field-0-1) c.self.inside.rest.entries c.args.self.now c.args.key.now
-    (opened c.self.invariant c.self.view_is c.in-Some.is)
-    (sym (c.is_eq.ensures ∙ ap is_eq c.cmp.ensures) ∙ c.if-is_eq.true)
+pub returns-in-Some : goal.returns-in-Some
+returns-in-Some c =
+    let d : Key × ℤ = (c.args.key.now, pos 0) in
+    let items = subst (λ r. OnSome r (c.remove.new.self.items ≡ remove c.self.inside.front.items c.in-Some.place)) (c.remove.ensures.succeeds d c.in-Some.ensures.found)
+    c.remove.ensures.items in
+    let within : c.in-Some.place < length c.self.inside.front.items = omega (arith, c.in-Some.ensures.found, c.self.inside.front.ok.0) in
+    ap held_in c.refill.ensures.all
+    ∙ removed_at c.self.inside.front.items c.remove.new.self.items c.self.inside.rest.entries c.args.self.now c.args.key.now c.in-Some.place d
+    c.self.invariant.rising c.self.view_is within (c.in-Some.ensures.key d) items
 
-pub returns-else-is_eq : goal.returns-else-is_eq
-returns-else-is_eq c =
-    ap (λ f. held_in (with_first f c.remove.new.self.entries)) c.in-Some.is
-    ∙ removed_later (c.in-Some.first, c.in-Some.field-0-1) c.self.inside.rest.entries c.remove.new.self.entries c.args.self.now c.args.key.now
-    (opened c.self.invariant c.self.view_is c.in-Some.is)
-    (sym (c.is_eq.ensures ∙ ap is_eq c.cmp.ensures) ∙ c.if-is_eq.false) c.remove.ensures.entries
+pub invariant_of-self : goal.invariant_of-self
+invariant_of-self c = record {
+  rising = rises_without c.args.key.now c.args.self.now (held_in (c.refill.new.front.items ++ c.refill.new.rest.entries)) (returns-in-Some c)
+      (subst Rises c.self.view_is c.self.invariant.rising);
+  next = c.refill.ensures.next;
+}
+
+pub returns-in-None : goal.returns-in-None
+returns-in-None c =
+    removed_past c.self.inside.front.items c.self.inside.rest.entries c.remove-in-None.new.self.entries c.args.self.now c.args.key.now c.self.invariant.rising
+    c.self.view_is c.in-None.ensures.none c.remove-in-None.ensures.entries
+
+pub invariant_of-self-in-None : goal.invariant_of-self-in-None
+invariant_of-self-in-None c = record {
+  rising = rises_without c.args.key.now c.args.self.now (held_in (c.self.inside.front.items ++ c.remove-in-None.new.self.entries)) (returns-in-None c)
+      (subst Rises c.self.view_is c.self.invariant.rising);
+  next = λ none. c.remove-in-None.ensures.entries ∙ ap (remove_entry (is_at (key_cmp c.args.key.now))) (c.self.invariant.next none);
+}

@@ -1,34 +1,44 @@
-use Rattle.std.proofs.Common.{◌∷◌, ◌∙◌, ap, sym, subst, to_z, of_z, w64, Some}
+use Rattle.std.proofs.Common.{◌<◌, ◌++◌, ◌∙◌, ap, subst, set, length, arith, ℤ, pos, Some, to_z, of_z, w64}
 use Rattle.std.proofs.lemmas.Int.{to_z-of_z}
-use Rattle.std.specs.Ordering.{is_eq}
-use Rattle.agenda.specs.Kept.{held_in, undo_to, with_first, IsFirst}
-use Rattle.agenda.proofs.Keyed.{key_cmp}
-use Rattle.agenda.proofs.Apart.{opened, equal_if, put_over, replaced_first, replaced_later, rises_keys}
+use Rattle.network.specs.Undone.{Rises}
+use Rattle.agenda.specs.declared.key.Key.{Key}
+use Rattle.agenda.specs.Kept.{held_in, undo_to}
+use Rattle.agenda.proofs.Past.{rises_left}
+use Rattle.agenda.proofs.Queued.{rises_with, replaced_at, replaced_past, set_none, none_held}
 use Rattle.agenda.proofs.ordered.Puts.replace.Goals as goal
+
+pub place_of-requires : goal.place_of-requires
+place_of-requires c = rises_left c.self.inside.front.items c.self.inside.rest.entries c.self.invariant.rising
+
+pub returns-in-Some : goal.returns-in-Some
+returns-in-Some c =
+    let d : Key × ℤ = (c.args.key, pos 0) in
+    let within : c.in-Some.place < length c.self.inside.front.items = omega (arith, c.in-Some.ensures.found, c.self.inside.front.ok.0) in
+    replaced_at c.self.inside.front.items (set c.self.inside.front.items c.in-Some.place (c.args.key, to_z w64 (of_z w64 c.args.value))) c.self.inside.rest.entries
+    c.args.self.now c.args.key c.args.value c.in-Some.place d c.self.invariant.rising c.self.view_is within (c.in-Some.ensures.key d)
+    (ap (λ v. set c.self.inside.front.items c.in-Some.place (c.args.key, v)) (to_z-of_z w64 c.args.value c.ranges.value))
 
 pub invariant_of-self : goal.invariant_of-self
 invariant_of-self c =
-    (put_over (c.in-Some.first, c.in-Some.field-0-1) c.self.inside.rest.entries c.args.self.now c.args.key (to_z w64 (of_z w64 c.args.value))
-    (opened c.self.invariant c.self.view_is c.in-Some.is)
-    (equal_if (key_cmp c.args.key c.in-Some.first) (sym (c.is_eq.ensures ∙ ap is_eq c.cmp.ensures) ∙ c.if-is_eq.true))).rising
+    let new = set c.self.inside.front.items c.in-Some.place (c.args.key, to_z w64 (of_z w64 c.args.value)) in
+    record {
+      rising = rises_with c.args.key c.args.value c.args.self.now (held_in (new ++ c.self.inside.rest.entries)) (returns-in-Some c)
+          (subst Rises c.self.view_is c.self.invariant.rising);
+      next = λ none. c.self.invariant.next
+          (set_none c.self.inside.front.items c.in-Some.place (c.args.key, to_z w64 (of_z w64 c.args.value)) none);
+    }
 
-pub invariant_of-self-else-is_eq : goal.invariant_of-self-else-is_eq
-invariant_of-self-else-is_eq c =
-    subst (λ f. IsFirst f c.replace_in.new.rest.entries) (sym c.in-Some.is)
-    (rises_keys ((c.in-Some.first, c.in-Some.field-0-1) ∷ c.self.inside.rest.entries) ((c.in-Some.first, c.in-Some.field-0-1) ∷ c.replace_in.new.rest.entries)
-    (ap (λ keys. c.in-Some.first ∷ keys) c.replace_in.ensures.keys) (opened c.self.invariant c.self.view_is c.in-Some.is).rising)
+pub returns-in-None : goal.returns-in-None
+returns-in-None c =
+    replaced_past c.self.inside.front.items c.self.inside.rest.entries c.replace_in.new.rest.entries c.args.key (to_z w64 (of_z w64 c.args.value)) c.in-None.ensures.none
+    c.replace_in.ensures
+    ∙ ap (λ v. undo_to c.args.key (Some v) (held_in (c.self.inside.front.items ++ c.self.inside.rest.entries))) (to_z-of_z w64 c.args.value c.ranges.value)
+    ∙ ap (undo_to c.args.key (Some c.args.value)) c.self.view_is
 
-pub returns-then-is_eq : goal.returns-then-is_eq
-returns-then-is_eq c =
-    replaced_first (c.in-Some.first, c.in-Some.field-0-1) c.self.inside.rest.entries c.args.self.now c.args.key (to_z w64 (of_z w64 c.args.value))
-    (opened c.self.invariant c.self.view_is c.in-Some.is)
-    (sym (c.is_eq.ensures ∙ ap is_eq c.cmp.ensures) ∙ c.if-is_eq.true)
-    ∙ ap (λ v. undo_to c.args.key (Some v) c.args.self.now) (to_z-of_z w64 c.args.value c.ranges.value)
-
-pub returns-else-is_eq : goal.returns-else-is_eq
-returns-else-is_eq c =
-    ap (λ f. held_in (with_first f c.replace_in.new.rest.entries)) c.in-Some.is
-    ∙ replaced_later (c.in-Some.first, c.in-Some.field-0-1) c.self.inside.rest.entries c.replace_in.new.rest.entries c.args.self.now c.args.key (to_z w64 (of_z w64 c.args.value))
-    (opened c.self.invariant c.self.view_is c.in-Some.is)
-    (sym (c.is_eq.ensures ∙ ap is_eq c.cmp.ensures) ∙ c.if-is_eq.false) c.replace_in.ensures.replaced
-    ∙ ap (λ v. undo_to c.args.key (Some v) c.args.self.now) (to_z-of_z w64 c.args.value c.ranges.value)
+pub invariant_of-self-in-None : goal.invariant_of-self-in-None
+invariant_of-self-in-None c = record {
+  rising = rises_with c.args.key c.args.value c.args.self.now (held_in (c.self.inside.front.items ++ c.replace_in.new.rest.entries)) (returns-in-None c)
+      (subst Rises c.self.view_is c.self.invariant.rising);
+  next = λ none. none_held c.replace_in.new.rest.entries
+      (c.replace_in.ensures ∙ ap (λ es. undo_to c.args.key (Some (to_z w64 (of_z w64 c.args.value))) (held_in es)) (c.self.invariant.next none));
+}
