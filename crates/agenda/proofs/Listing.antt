@@ -24,15 +24,12 @@ found_here e es p h = ap (λ b. option_map (λ x. x.value) (cond b (Some e) (fin
 found_later : (e : Entry) (es : List Entry) (p : ℕ) → nat_eq e.place p ≡ false → value_at (e ∷ es) p ≡ value_at es p
 found_later e es p h = ap (λ b. option_map (λ x. x.value) (cond b (Some e) (find (λ x. nat_eq x.place p) es))) h
 
-differ : (a b : ℕ) → a < b → nat_eq a b ≡ false
-differ a b h = grind (arith, nat_tests)
-
-differ_back : (a b : ℕ) → b < a → nat_eq a b ≡ false
-differ_back a b h = grind (arith, nat_tests)
-
 not_found : (p : ℕ) (es : List Entry) → AllByRecursion (λ x. p < x.place) es → value_at es p ≡ None
 not_found p [] a = refl
-not_found p (e ∷ es) a = found_later e es p (differ_back e.place p a.0) ∙ not_found p es a.1
+not_found p (e ∷ es) a =
+    let above = a.0 in
+    let other : nat_eq e.place p ≡ false = grind (arith, nat_tests) in
+    found_later e es p other ∙ not_found p es a.1
 
 within_next : (first count : ℕ) (e : Entry) (es : List Entry) → first ≤ e.place → AllByRecursion (λ x. e.place < x.place) es →
     AreWithin first (first + suc count) es → AreWithin (first + 1) (first + 1 + count) es
@@ -52,7 +49,8 @@ nothing_listed (suc count) first = nothing_listed count (first + 1)
 list_here : (count first : ℕ) (e : Entry) (es : List Entry) → AllByRecursion (λ x. e.place < x.place) es → e.place ≡ first →
     es ≡ listed_from (first + 1) count (value_at es) → e ∷ es ≡ listed_from first (suc count) (value_at (e ∷ es))
 list_here count first e es a at more =
-    let same : (p : ℕ) → first + 1 ≤ p → value_at es p ≡ value_at (e ∷ es) p = λ p low. sym (found_later e es p (differ e.place p (omega arith))) in
+    let same : (p : ℕ) → first + 1 ≤ p → value_at es p ≡ value_at (e ∷ es) p =
+    λ p low. let other : nat_eq e.place p ≡ false = grind (arith, nat_tests) in sym (found_later e es p other) in
     let here : nat_eq e.place first ≡ true = grind (arith, nat_tests) in
     ap (λ p. record { place = p; value = e.value } ∷ es) at
     ∙ ap (λ rest. record { place = first; value = e.value } ∷ rest) (more ∙ same_listing count (first + 1) (value_at es) (value_at (e ∷ es)) same)

@@ -1,5 +1,5 @@
-ghost use Rattle.std.specs.Prelude.{◌≡◌, OnOk, filter, map, [], ◌∷◌};
-ghost use Rattle.std.specs.List.{AllByRecursion};
+ghost use Rattle.std.specs.Prelude.{◌≡◌, ◌≤◌, OnOk, filter, length, map, [], ◌∷◌};
+ghost use Rattle.std.specs.List.{AllByRecursion, insert};
 ghost use Rattle.tag.specs.LogicalTime.{is_same};
 ghost use Rattle.network.specs.Undone.{Rises};
 ghost use Rattle.agenda.specs.Kept.{held_at, held_in, firings_of, all_firings, IsTimer};
@@ -108,7 +108,20 @@ fn set_entry(entries: &mut Vec<Entry>, entry: Entry) -> Result<(), Memory>
         .binary_search_by_key(&entry.place(), |other| other.place())
     {
         Ok(place) => entries[place] = entry,
-        Err(place) => entries.insert(place, entry)?,
+        Err(place) => insert(entries, place, entry)?,
+    }
+    Ok(())
+}
+
+/// Adds an entry at a place, which most often is the end.
+fn insert(entries: &mut Vec<Entry>, place: usize, entry: Entry) -> Result<(), Memory>
+    requires { place ≤ length entries.old.items }
+    ensures { OnOk result (entries.new.items ≡ insert entries.old.items place entry) }
+{
+    if place == entries.len() {
+        entries.push(entry)?;
+    } else {
+        entries.insert(place, entry)?;
     }
     Ok(())
 }

@@ -1,9 +1,10 @@
--- What holds of all items of a list, or of each and each later one.
-use Rattle.std.proofs.Common.{suc, ◌≡◌, List, [], ◌∷◌, refl, arith, Option, None, Some}
+-- What holds of all items of a list, or of each and each later one, and of a list in which one was replaced.
+use Rattle.std.proofs.Common.{ℕ, zero, suc, ◌≡◌, ◌≢◌, ◌<◌, List, [], ◌∷◌, length, set, slice_get, refl, ap, arith, Option, None, Some}
 use Rattle.std.specs.Prelude.{All, AllPairs}
 use Rattle.std.specs.List.{filter_map, cons_option, AllByRecursion}
 use Rattle.std.proofs.lemmas.List.Elements.{All-nil, All-cons, All-head, All-tail}
 use Rattle.std.proofs.lemmas.List.Kept.{AllPairs-cons}
+use Rattle.std.proofs.lemmas.Option.{slice_get_within}
 use Rattle.network.specs.Items.{AllPairsByRecursion}
 
 pub each : {X : Type 0} (P : X → Type 0) (xs : List X) → All P xs → AllByRecursion P xs
@@ -41,3 +42,19 @@ each_pair R (x ∷ xs) apart = (each (R x) xs (first_pair R x xs apart), each_pa
 pub from_each_pair : {X : Type 0} (R : X → X → Type 0) (xs : List X) → AllPairsByRecursion R xs → AllPairs R xs
 from_each_pair R [] apart = no_pairs R
 from_each_pair R (x ∷ xs) apart = AllPairs-cons R x xs (from_each (R x) xs apart.0) (from_each_pair R xs apart.1)
+
+-- a list in which one item was replaced
+pub get_set_within : {X : Type 0} (xs : List X) (i : ℕ) (y : X) → i < length xs → slice_get (set xs i y) i ≡ Some y
+get_set_within [] i y below = absurd (omega arith)
+get_set_within (a ∷ xs) zero y below = refl
+get_set_within (a ∷ xs) (suc i) y below = get_set_within xs i y (omega arith)
+
+pub get_set_here : {X : Type 0} (xs : List X) (i : ℕ) (x y : X) → slice_get xs i ≡ Some x → slice_get (set xs i y) i ≡ Some y
+get_set_here xs i x y found = get_set_within xs i y (slice_get_within xs i x found)
+
+pub get_set_other : {X : Type 0} (xs : List X) (i j : ℕ) (y : X) → j ≢ i → slice_get (set xs i y) j ≡ slice_get xs j
+get_set_other [] i j y other = refl
+get_set_other (a ∷ xs) zero zero y other = absurd (other refl)
+get_set_other (a ∷ xs) zero (suc j) y other = refl
+get_set_other (a ∷ xs) (suc i) zero y other = refl
+get_set_other (a ∷ xs) (suc i) (suc j) y other = get_set_other xs i j y (λ e. other (ap suc e))

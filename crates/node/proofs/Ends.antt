@@ -35,19 +35,6 @@ reserved_here [] i x y found = grind arith
 reserved_here (a ∷ xs) zero x y found = refl
 reserved_here (a ∷ xs) (suc i) x y found = reserved_here xs i x y found
 
--- a place of a list after one was replaced
-pub get_set_here : {X : Type 0} (xs : List X) (i : ℕ) (x y : X) → slice_get xs i ≡ Some x → slice_get (set xs i y) i ≡ Some y
-get_set_here [] i x y found = grind arith
-get_set_here (a ∷ xs) zero x y found = refl
-get_set_here (a ∷ xs) (suc i) x y found = get_set_here xs i x y found
-
-pub get_set_other : {X : Type 0} (xs : List X) (i j : ℕ) (y : X) → j ≢ i → slice_get (set xs i y) j ≡ slice_get xs j
-get_set_other [] i j y other = refl
-get_set_other (a ∷ xs) zero zero y other = absurd (other refl)
-get_set_other (a ∷ xs) zero (suc j) y other = refl
-get_set_other (a ∷ xs) (suc i) zero y other = refl
-get_set_other (a ∷ xs) (suc i) (suc j) y other = get_set_other xs i j y (λ e. other (ap suc e))
-
 -- room at an end that stands at its place
 pub lacks_here : (xs : List EndView) (i : ℕ) (x : EndView) (count : ℕ) → slice_get xs i ≡ Some x → lacks_at i count (images xs) ≡ lacks x.image count
 lacks_here xs i x count found = rw (images_get xs i, found) refl

@@ -11,7 +11,7 @@ use Rattle.link.specs.Image.{Image, answer_of, after_frame, resent_by, last_numb
 use Rattle.node.specs.Mail.{Mail}
 use Rattle.node.specs.Step.{changes, received, returned}
 use Rattle.node.specs.Kinds.{IsHello}
-use Rattle.node.proofs.Ends.{get_set_here}
+use Rattle.network.proofs.Items.{get_set_here}
 use Rattle.link.proofs.Numbered.{length-numbered}
 
 -- the end after a frame was taken in

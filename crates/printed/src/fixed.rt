@@ -1,5 +1,5 @@
 //! Bytes in room of a fixed size, so that a row's many small writes cost little.
-ghost use Rattle.std.specs.Prelude.{◌≡◌, ◌+◌, ◌≤◌, ◌++◌, [], MatchBool, length};
+ghost use Rattle.std.specs.Prelude.{◌≡◌, ◌+◌, ◌-◌, ◌≤◌, ◌++◌, [], MatchBool, length, take, drop};
 
 use std::io;
 use std::io::{ErrorKind, Write};
@@ -73,24 +73,45 @@ fn copy(to: &mut [u8], from: &[u8])
     match from.len() {
         0 => {}
         1 => to[0] = from[0],
-        2 | 3 => copy_ends(to, from, 2),
-        4..=7 => copy_ends(to, from, 4),
-        8..=16 => copy_ends(to, from, 8),
+        2 | 3 => copy_ends::<2>(to, from),
+        4..=7 => copy_ends::<4>(to, from),
+        8..=16 => copy_ends::<8>(to, from),
         _ => to.copy_from_slice(from),
     }
 }
 
-/// Copies so many bytes from the start, and as many to the end.
+/// Copies the first `N` bytes and the last `N`, which are all of them.
 #[inline(always)]
-fn copy_ends(to: &mut [u8], from: &[u8], count: usize)
+fn copy_ends<const N: usize>(to: &mut [u8], from: &[u8])
     requires size { length to.old ≡ length from.now }
-    requires within { count ≤ length from.now }
-    requires all { length from.now ≤ count + count }
+    requires within { N ≤ length from.now }
+    requires all { length from.now ≤ N + N }
     ensures { to.new ≡ from.now }
 {
-    let last = from.len() - count;
-    to[..count].copy_from_slice(&from[..count]);
-    to[last..].copy_from_slice(&from[last..]);
+    copy_first::<N>(to, from);
+    copy_last::<N>(to, from);
+}
+
+#[inline(always)]
+fn copy_first<const N: usize>(to: &mut [u8], from: &[u8])
+    requires size { length to.old ≡ length from.now }
+    requires within { N ≤ length from.now }
+    ensures { to.new ≡ take N from.now ++ drop N to.old }
+{
+    if let (Some(to), Some(from)) = (to.first_chunk_mut::<N>(), from.first_chunk::<N>()) {
+        *to = *from;
+    }
+}
+
+#[inline(always)]
+fn copy_last<const N: usize>(to: &mut [u8], from: &[u8])
+    requires size { length to.old ≡ length from.now }
+    requires within { N ≤ length from.now }
+    ensures { to.new ≡ take (length from.now - N) to.old ++ drop (length from.now - N) from.now }
+{
+    if let (Some(to), Some(from)) = (to.last_chunk_mut::<N>(), from.last_chunk::<N>()) {
+        *to = *from;
+    }
 }
 
 /// A write is taken whole, or refused where there is no room for it.

@@ -43,23 +43,24 @@ fn write_microstep<W: Write>(
 }
 
 /// Writes a time in the greatest unit that divides it.
+#[tactic(auto, using(crate::proofs::Units::in_ns, crate::proofs::Units::in_us, crate::proofs::Units::in_ms))]
 fn write_time<W: Write>(out: &mut W, digits: &mut Buffer, time: u64) -> Result<(), CannotWrite>
     ensures { OnOk result (Appends (W.contents out.old) (W.contents out.new) (printed_time time)) }
 {
     if time == 0 {
         put(out, b"0")
-    } else if time % 1_000_000_000 == 0 {
-        write_count(out, digits, time / 1_000_000_000)?;
-        put(out, b" s")
-    } else if time % 1_000_000 == 0 {
-        write_count(out, digits, time / 1_000_000)?;
-        put(out, b" ms")
-    } else if time % 1_000 == 0 {
-        write_count(out, digits, time / 1_000)?;
-        put(out, b" us")
-    } else {
+    } else if time % 1_000 != 0 {
         write_count(out, digits, time)?;
         put(out, b" ns")
+    } else if time % 1_000_000 != 0 {
+        write_count(out, digits, time / 1_000)?;
+        put(out, b" us")
+    } else if time % 1_000_000_000 != 0 {
+        write_count(out, digits, time / 1_000_000)?;
+        put(out, b" ms")
+    } else {
+        write_count(out, digits, time / 1_000_000_000)?;
+        put(out, b" s")
     }
 }
 

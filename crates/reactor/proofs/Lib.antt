@@ -1,7 +1,7 @@
 -- what is listed of a function, one place more
 pub mod Listing
 -- a turn under way
-pub mod WorkingLemmas
+pub mod RunsTo
 -- what is present, put into registers
 pub mod Registers
 -- the registers that turns begin with

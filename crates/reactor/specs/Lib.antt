@@ -12,7 +12,7 @@ pub mod Steps
 -- which steps stand for which lines
 pub mod Resolved
 -- a turn that is under way
-pub mod Working
+pub mod Running
 -- the network of a federation with its programs and inputs
 pub mod Federation
 -- small federations, their rows computed

@@ -14,10 +14,10 @@ pub mod reactor;
 mod resolve;
 pub mod row;
 pub mod rows;
+mod running;
 mod step;
 pub mod turn;
 pub mod turn_room;
-mod working;
 
 pub use entry::{Entries, Entry};
 pub use memory::Memory;

@@ -1,5 +1,6 @@
 //! Rows in flat room: the entries of all rows one after the other, and of each row where its own stand.
-ghost use Rattle.std.specs.Prelude.{◌≡◌, ◌<◌, ◌++◌, ◌∷◌, [], length, get_or, OnOk, OnErr};
+ghost use Rattle.std.specs.Prelude.{◌≡◌, ◌+◌, ◌<◌, ◌≤◌, ◌++◌, ◌∷◌, [], length, get_or, OnOk, OnErr};
+ghost use Rattle.std.specs.Vec.{vec_len, vec_capacity};
 
 use crate::entry::Entry;
 use crate::memory::Memory;
@@ -64,30 +65,24 @@ impl Rows {
         ensures ok { OnOk result (self.new ≡ self.old ++ record { reactor = federate; tag = tag; inputs = inputs.now; outputs = outputs.now } ∷ []) }
         ensures err { OnErr result (self.new ≡ self.old) }
     {
+        // Room for all of it first, so that nothing has to be taken back.
+        let Some(count) = inputs.len().checked_add(outputs.len()) else {
+            return Err(Memory);
+        };
+        self.entries.reserve(count)?;
+        self.spans.reserve(1)?;
         let first = self.entries.len();
-        self.entries.extend_from_slice(inputs)?;
+        append(&mut self.entries, inputs);
         let middle = self.entries.len();
-        match self.entries.extend_from_slice(outputs) {
-            Ok(()) => {}
-            Err(_) => {
-                self.entries.truncate(first);
-                return Err(Memory);
-            }
-        }
-        let span = Span {
+        append(&mut self.entries, outputs);
+        self.spans.push_reserved(Span {
             federate,
             tag,
             inputs: first,
             outputs: middle,
             end: self.entries.len(),
-        };
-        match self.spans.push(span) {
-            Ok(()) => Ok(()),
-            Err(_) => {
-                self.entries.truncate(first);
-                Err(Memory)
-            }
-        }
+        });
+        Ok(())
     }
 
     /// The row at a place.
@@ -110,6 +105,18 @@ impl Rows {
     {
         self.spans.clear();
         self.entries.clear();
+    }
+}
+
+/// Adds entries, for which there is room.
+fn append(to: &mut Vec<Entry>, entries: &[Entry])
+    requires { vec_len to.old + length entries.now ≤ vec_capacity to.old }
+    ensures items { to.new.items ≡ to.old.items ++ entries.now }
+    ensures len { vec_len to.new ≡ vec_len to.old + length entries.now }
+    ensures capacity { vec_capacity to.new ≡ vec_capacity to.old }
+{
+    for entry in entries {
+        to.push_reserved(*entry);
     }
 }
 

@@ -4,9 +4,9 @@ ghost use Rattle.reactor.specs.Entries.{value_in};
 
 use crate::entry::{Entries, Entry};
 use crate::memory::Memory;
+use crate::running::RunningTurn;
 use crate::step::ReactionSteps;
 use crate::turn::{Scheduling, Schedulings, Turn};
-use crate::working::Working;
 use std::alloc::Global;
 use std::marker::Model;
 
@@ -14,7 +14,7 @@ use std::marker::Model;
 /// it. Contracts see the turn.
 #[derive(Drop)]
 pub struct TurnRoom {
-    working: Working,
+    running: RunningTurn,
     /// How many of the registers are states.
     states: usize,
     outputs: Vec<Entry>,
@@ -26,21 +26,21 @@ impl Model for TurnRoom {
 
     ghost Value = { TurnOf };
 
-    ghost view = { λ r. record { states = take r.states r.working.registers.items; outputs = r.outputs.items; schedulings = r.working.schedulings.items } };
+    ghost view = { λ r. record { states = take r.states r.running.registers.items; outputs = r.outputs.items; schedulings = r.running.schedulings.items } };
 
-    ghost invariant = { λ r. r.states ≤ length r.working.registers.items };
+    ghost invariant = { λ r. r.states ≤ length r.running.registers.items };
 }
 
 impl TurnRoom {
     ghost use Rattle.reactor.specs.Resolved.{AreOpen};
-    ghost use Rattle.reactor.specs.Working.{ReactionWithin, IsTurnBy};
+    ghost use Rattle.reactor.specs.Running.{ReactionWithin, IsTurnBy};
 
     /// With no room yet, and a turn that makes nothing.
     pub fn new(alloc: Global) -> TurnRoom
         ensures { result ≡ record { states = []; outputs = []; schedulings = [] } }
     {
         TurnRoom {
-            working: Working::new(alloc),
+            running: RunningTurn::new(alloc),
             states: 0,
             outputs: Vec::new(alloc),
         }
@@ -49,7 +49,7 @@ impl TurnRoom {
     pub fn states(&self) -> &[i64]
         ensures { result.now ≡ self.now.states }
     {
-        &self.working.registers[..self.states]
+        &self.running.registers[..self.states]
     }
 
     /// By output port.
@@ -62,22 +62,22 @@ impl TurnRoom {
     pub fn schedulings(&self) -> &[Scheduling]
         ensures { result.now ≡ self.now.schedulings }
     {
-        self.working.schedulings.as_slice()
+        self.running.schedulings.as_slice()
     }
 
     pub fn into_turn(self) -> Turn
         ensures { result ≡ self }
     {
         let TurnRoom {
-            working,
+            running,
             states,
             outputs,
         } = self;
-        let Working {
+        let RunningTurn {
             mut registers,
             schedulings,
             ..
-        } = working;
+        } = running;
         registers.truncate(states);
         Turn::new(
             registers,
@@ -102,9 +102,9 @@ impl TurnRoom {
         ensures fits { OnOk result (length self.new.states ≡ states) }
     {
         self.states = 0;
-        self.working.begin(registers, states, slots, ports, inputs)?;
-        self.working.reactions(reactions)?;
-        list_into(&mut self.outputs, self.working.outputs.as_slice())?;
+        self.running.begin(registers, states, slots, ports, inputs)?;
+        self.running.reactions(reactions)?;
+        list_into(&mut self.outputs, self.running.outputs.as_slice())?;
         self.states = states;
         Ok(())
     }

@@ -25,7 +25,8 @@ use Rattle.node.specs.Numbers.{closes}
 use Rattle.node.specs.Mail.{Mail, posted, offered_at, all_posted, framed, lacks_room}
 use Rattle.node.specs.Core.{Core, Made, ending_of, Moves, LacksRoom}
 use Rattle.node.specs.Step.{Station, Answer, Silent, Declines, Stepped, addressed, answer_with, same, acts, received_at, received, refused, takes, acknowledging, changes, returned, noted, lets_in, turned_away, comes, frame_comes, resends, greets, greeting, unsent, step_of}
-use Rattle.node.proofs.Ends.{get_set_here, get_set_other, no_posts}
+use Rattle.network.proofs.Items.{get_set_here, get_set_other}
+use Rattle.node.proofs.Ends.{no_posts}
 use Rattle.node.proofs.Notes.{open_for}
 use Rattle.delivery.specs.Link as link
 use Rattle.delivery.specs.Link.{Side, says, hears, gets, side_after, Act, Gets, Offers, Resends, Greets, Closes, TurnsAway, offers}

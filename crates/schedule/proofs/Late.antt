@@ -33,7 +33,7 @@ use Rattle.laws.proofs.SafeGrants.{widest_rule_is_safe}
 use Rattle.laws.proofs.Replay.{newest_tag, IsReplayed, moves_replay}
 use Rattle.node.specs.declared.event.Event.{Event}
 use Rattle.node.specs.Step.{Station, step_of}
-use Rattle.node.proofs.Ends.{get_set_here, get_set_other}
+use Rattle.network.proofs.Items.{get_set_here, get_set_other}
 use Rattle.cores.specs.FederateCore as member
 use Rattle.cores.specs.FederateCore.{FederateNode, federate_core}
 use Rattle.cores.specs.CoordinatorCore.{CoordinatorNode, coordinator_core}

@@ -14,7 +14,8 @@ use Rattle.protocol.specs.Machine.{sent_to}
 use Rattle.node.specs.declared.outgoing.Outgoing.{Outgoing}
 use Rattle.node.specs.Mail.{Mail, posted, offered_at, all_posted, framed, count_for, lacks, lacks_at, lacks_room}
 use Rattle.node.specs.Step.{addressed}
-use Rattle.node.proofs.Ends.{get_set_here, get_set_other, all_have}
+use Rattle.network.proofs.Items.{get_set_here, get_set_other}
+use Rattle.node.proofs.Ends.{all_have}
 use Rattle.node.proofs.Posts.{posted_lacks, count_more}
 use Rattle.delivery.specs.Link.{Side, offers}
 use Rattle.delivery.proofs.Offers.{offers_open, offers_twice}

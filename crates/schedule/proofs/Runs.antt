@@ -37,7 +37,7 @@ use Rattle.schedule.proofs.Shown.{IsShown, ups_of, with_firsts, shown_at_hub, sh
 use Rattle.schedule.proofs.Quiet.{IsCalmAct, offers_at}
 use Rattle.delivery.proofs.Offers.{offers_open}
 use Rattle.laws.proofs.Safety.{standing_stays}
-use Rattle.node.proofs.Ends.{get_set_here, get_set_other}
+use Rattle.network.proofs.Items.{get_set_here, get_set_other}
 use Rattle.std.proofs.Math.Path.{fun_ext}
 use Rattle.std.proofs.lemmas.Bool.{eqb-true, eqb-false}
 use Rattle.schedule.proofs.Site.{node_with, IsSite, keeps, with_first, with_second, quiet_first, firsts_held, seconds_held, calm_acted, TakesNext, takes_next, acts_of, kept_linked}

@@ -17,7 +17,7 @@ use Rattle.node.specs.declared.event.Event.{Event}
 use Rattle.node.specs.declared.event.Event.TheVariants as event
 use Rattle.node.specs.Core.{Core}
 use Rattle.node.specs.Step.{Station, Stepped, step_of}
-use Rattle.node.proofs.Ends.{get_set_here, get_set_other}
+use Rattle.network.proofs.Items.{get_set_here, get_set_other}
 use Rattle.delivery.specs.Link.{Side, Link, replaced, opening_link}
 use Rattle.delivery.proofs.Acts.{IsHeld, first_told, second_told}
 use Rattle.schedule.specs.declared.dir.Dir.{Dir}

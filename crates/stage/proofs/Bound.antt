@@ -26,7 +26,7 @@ use Rattle.node.specs.Numbers.{closes}
 use Rattle.node.specs.Core.{Core, Made, Ending, Refuses, LacksRoom, Stays, Moves, ending_of}
 use Rattle.node.specs.Mail.{Mail, posted, offered_at, all_posted, framed, lacks_room}
 use Rattle.node.specs.Step.{Station, Stepped, refused, acknowledging, unsent, addressed, step_of, frame_comes, comes, lets_in, takes, noted, acts, resends, greets, greeting, turned_away, returned, changes}
-use Rattle.node.proofs.Ends.{get_set_here, get_set_other}
+use Rattle.network.proofs.Items.{get_set_here, get_set_other}
 use Rattle.schedule.specs.World.{frames_of}
 use Rattle.stage.specs.Room.{count_to, most_of, most_to}
 use Rattle.schedule.proofs.Courses.{frames_with, received_size}

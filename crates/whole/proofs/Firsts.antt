@@ -8,7 +8,7 @@ use Rattle.tag.specs.LogicalTime.{LogicalTime}
 use Rattle.whole.specs.declared.nexts.Next.{Next}
 use Rattle.whole.specs.Next.{is_earlier, IsFirstAt, IsFirstAmong, AreFirsts}
 use Rattle.whole.proofs.NextTurns.{earlier_then, not_itself, same_some}
-use Rattle.whole.proofs.Putting.{slice_get-set_same, slice_get-set_other}
+use Rattle.network.proofs.Items.{get_set_within, get_set_other}
 
 pub here : (nexts : List Next) (place : ℕ) (x : Next) → place < length nexts → x ≡ get_or nexts place x → slice_get nexts place ≡ Some x
 here nexts place x there is = slice_get-get_or nexts place x there ∙ ap (λ n. Some n) (sym is)
@@ -100,8 +100,8 @@ moved nexts f low high v x apart w = record {
   place = w.place;
   not_below = w.not_below;
   below = w.below;
-  there = slice_get-set_other nexts f w.place v (apart w.place w.not_below w.below) ∙ w.there;
-  first = λ other a from to at. w.first other a from to (sym (slice_get-set_other nexts f other v (apart other from to)) ∙ at);
+  there = get_set_other nexts f w.place v (apart w.place w.not_below w.below) ∙ w.there;
+  first = λ other a from to at. w.first other a from to (sym (get_set_other nexts f other v (apart other from to)) ∙ at);
 }
 
 -- one is replaced by another that is earlier than the first
@@ -110,13 +110,13 @@ put_first nexts f low high v x there from to h w = record {
   place = f;
   not_below = from;
   below = to;
-  there = slice_get-set_same nexts f v there;
+  there = get_set_within nexts f v there;
   first = λ other a above under at. elim (cases_eq other f) [
     | inl e ↦ (
-        let mine : a ≡ v = same_some (slice_get (set nexts f v) f) a v (ap (slice_get (set nexts f v)) (sym e) ∙ at) (slice_get-set_same nexts f v there) in
+        let mine : a ≡ v = same_some (slice_get (set nexts f v) f) a v (ap (slice_get (set nexts f v)) (sym e) ∙ at) (get_set_within nexts f v there) in
         ap (λ n. is_earlier n v) mine ∙ not_itself v)
     | inr apart ↦ (
-        let not : is_earlier a x ≡ false = w.first other a above under (sym (slice_get-set_other nexts f other v apart) ∙ at) in
+        let not : is_earlier a x ≡ false = w.first other a above under (sym (get_set_other nexts f other v apart) ∙ at) in
         false_from_ne_true (is_earlier a v) (λ k. (let yes = earlier_then a v x k h in absurd cc)))
   ];
 }
@@ -132,12 +132,12 @@ kept_first nexts f low high u v x there was h k w =
       place = w.place;
       not_below = w.not_below;
       below = w.below;
-      there = slice_get-set_other nexts f w.place v apart ∙ w.there;
+      there = get_set_other nexts f w.place v apart ∙ w.there;
       first = λ other a above under at. elim (cases_eq other f) [
         | inl e ↦ (
-            let mine : a ≡ v = same_some (slice_get (set nexts f v) f) a v (ap (slice_get (set nexts f v)) (sym e) ∙ at) (slice_get-set_same nexts f v there) in
+            let mine : a ≡ v = same_some (slice_get (set nexts f v) f) a v (ap (slice_get (set nexts f v)) (sym e) ∙ at) (get_set_within nexts f v there) in
             ap (λ n. is_earlier n x) mine ∙ h)
-        | inr other_one ↦ w.first other a above under (sym (slice_get-set_other nexts f other v other_one) ∙ at)
+        | inr other_one ↦ w.first other a above under (sym (get_set_other nexts f other v other_one) ∙ at)
       ];
     }
 
@@ -162,10 +162,10 @@ set_firsts nexts firsts f block v x is there w mine = record {
   cover = (let cover = w.cover in let many = length-set nexts f v in let as_many = length-set firsts block x in omega arith);
   each = λ k n at. elim (cases_eq k block) [
     | inl e ↦ (
-        let same : x ≡ n = same_some (slice_get (set firsts block x) block) x n (slice_get-set_same firsts block x there) (ap (slice_get (set firsts block x)) (sym e) ∙ at) in
+        let same : x ≡ n = same_some (slice_get (set firsts block x) block) x n (get_set_within firsts block x there) (ap (slice_get (set firsts block x)) (sym e) ∙ at) in
         subst (λ j. IsFirstAmong (set nexts f v) (j * 8) (j * 8 + 8) n) (sym e) (subst (IsFirstAmong (set nexts f v) (block * 8) (block * 8 + 8)) same mine))
     | inr other ↦ moved nexts f (k * 8) (k * 8 + 8) v n (λ j from to same. other (let held = in_block f in let low = held.0 in let high = held.1 in omega arith))
-        (w.each k n (sym (slice_get-set_other firsts block k x other) ∙ at))
+        (w.each k n (sym (get_set_other firsts block k x other) ∙ at))
   ];
 }
 

@@ -1,5 +1,5 @@
 -- Connections join federates and ports that are there, and what they carry depends on those ports alone.
-use Rattle.std.proofs.Common.{◌≡◌, ℕ, suc, ◌<◌, ℤ, Bool, true, false, List, [], ◌∷◌, length, All, nat_eq, slice_get, Option, None, Some, refl, ap, sym, ◌∙◌, arith, inl, inr, subst, if◌then◌else◌, ◌+◌}
+use Rattle.std.proofs.Common.{◌≡◌, ℕ, suc, ◌<◌, ℤ, List, [], ◌∷◌, length, All, nat_eq, slice_get, Option, Some, refl, ap, sym, ◌∙◌, arith, inl, inr, subst, if◌then◌else◌}
 use Rattle.std.specs.Option.{option_map}
 use Rattle.std.specs.List.{flat_map}
 use Rattle.std.proofs.lemmas.Bool.Decides.{eqb_tells}

@@ -14,7 +14,7 @@ use Rattle.whole.specs.declared.nexts.Next.{Next}
 use Rattle.whole.specs.Targets.{all_shown, shown}
 use Rattle.whole.specs.Made.{has_target, least_on}
 use Rattle.whole.specs.Next.{is_earlier, renewed}
-use Rattle.whole.proofs.Putting.{slice_get-set_same, slice_get-set_other}
+use Rattle.network.proofs.Items.{get_set_within, get_set_other}
 
 rank_then : (a b c : Next) → a.tag ≡ b.tag → b.tag ≡ c.tag → nat_lt a.rank b.rank ≡ true → nat_lt b.rank c.rank ≡ true → is_earlier a c ≡ true
 rank_then a b c p q h k =
@@ -94,12 +94,12 @@ renew_step agendas old nexts targets i t x a tag h is_t there is_x held is_a lea
           let c : (nat_eq t.federate f || false) ≡ true = ap (λ v. v || false) (eq-eqb t.federate f (sym e)) in
           let first : tag ≡ least_on (slice_get agendas f) = least ∙ (ap (λ (y : Agenda). least_in y.undone) is_a ∙ (ap least_on (sym (slice_get-get_or agendas t.federate a held)) ∙ ap (λ k. least_on (slice_get agendas k)) (sym e))) in
           let was : Some x ≡ option_map (renewed agendas b f) (slice_get old f) = ap (λ n. Some n) is_x ∙ (sym (slice_get-get_or nexts t.federate x there) ∙ (ap (slice_get nexts) (sym e) ∙ so_far f)) in
-          ap (slice_get (set nexts t.federate next)) e ∙ (slice_get-set_same nexts t.federate next there
+          ap (slice_get (set nexts t.federate next)) e ∙ (get_set_within nexts t.federate next there
           ∙ (renewed_again agendas f b (nat_eq t.federate f || false) (slice_get old f) x tag c first was
           ∙ sym (ap (λ v. option_map (renewed agendas v f) (slice_get old f)) more))))
       | inr other ↦ (
           let c : (nat_eq t.federate f || false) ≡ false = ap (λ v. v || false) (ne_eqb t.federate f (λ q. other (sym q))) in
-          slice_get-set_other nexts t.federate f next other ∙ (so_far f
+          get_set_other nexts t.federate f next other ∙ (so_far f
           ∙ (ap (λ v. option_map (renewed agendas v f) (slice_get old f)) (or_not b (nat_eq t.federate f || false) c)
           ∙ sym (ap (λ v. option_map (renewed agendas v f) (slice_get old f)) more))))
     ]

@@ -25,7 +25,7 @@ use Rattle.agenda.specs.Agenda.{Agenda, IsAgenda, own_undone, in_time}
 use Rattle.agenda.proofs.Putting.{put_all-append}
 use Rattle.whole.specs.Schedule.{opening_undone}
 use Rattle.whole.specs.Opening.{IsOpenWith, AreOpenWith}
-use Rattle.whole.proofs.Putting.{slice_get-set_same, slice_get-set_other}
+use Rattle.network.proofs.Items.{get_set_within, get_set_other}
 use Rattle.whole.proofs.Filled.{get_early, get_last, get_beyond}
 use Rattle.plan.proofs.Joined.{found_at}
 
@@ -151,7 +151,7 @@ module _ (d : Draft) (i : Input) (found : Found) (is : found_action d.federates 
         count = length-set agendas found.federate a ∙ w.count;
         each = λ f b at. elim (cases_eq f found.federate) [
           | inl same ↦ (
-              let here : slice_get (set agendas found.federate a) f ≡ Some a = ap (slice_get (set agendas found.federate a)) same ∙ slice_get-set_same agendas found.federate a there in
+              let here : slice_get (set agendas found.federate a) f ≡ Some a = ap (slice_get (set agendas found.federate a)) same ∙ get_set_within agendas found.federate a there in
               let both : Some a ≡ Some b = sym here ∙ at in
               let is_b : a ≡ b = cc in
               let mine : added d i f ≡ event_there = added_is f ∙ ap (λ c. if c then event_there else []) (eq-eqb found.federate f (sym same)) in
@@ -165,7 +165,7 @@ module _ (d : Draft) (i : Input) (found : Found) (is : found_action d.federates 
                     ∙ ap (λ u. look u tag slot) (ap (λ es. put_all es (opening_undone d inputs f)) (sym mine) ∙ sym (opening_more d inputs i f)))));
               }))
           | inr other ↦ (
-              let same : slice_get agendas f ≡ Some b = sym (slice_get-set_other agendas found.federate f a other) ∙ at in
+              let same : slice_get agendas f ≡ Some b = sym (get_set_other agendas found.federate f a other) ∙ at in
               let mine : added d i f ≡ [] = added_is f ∙ ap (λ c. if c then event_there else []) (ne_eqb found.federate f (λ q. other (sym q))) in
               let before = w.each f b same in
               record { up_to = before.up_to; undone = λ tag slot. before.undone tag slot ∙ sym (ap (λ u. look u tag slot) (opening_more d inputs i f ∙ ap (λ es. put_all es (opening_undone d inputs f)) mine)) })

@@ -3,12 +3,13 @@ use Rattle.std.proofs.Common.{◌≡◌, ◌≢◌, ℕ, zero, suc, ◌<◌, ◌
 use Rattle.std.specs.List.{AllByRecursion}
 use Rattle.std.specs.Prelude.{if◌then◌else◌, Result, Ok, Err, OnErr}
 use Rattle.std.specs.Option.{option_map}
-use Rattle.std.proofs.lemmas.List.{take_all}
+use Rattle.std.proofs.lemmas.List.{map-set, take_all}
 use Rattle.std.proofs.Math.Seq.{drop-length}
 use Rattle.std.proofs.lemmas.Bool.{or_parts, cases_eq, ne_eqb, eq-eqb}
 use Rattle.std.proofs.lemmas.Option.{slice_get-get_or, slice_get-map}
 use Rattle.tag.specs.LogicalTime.{LogicalTime}
 use Rattle.network.specs.Connection.{Connection}
+use Rattle.network.proofs.Items.{get_set_within, get_set_other}
 use Rattle.network.specs.Undone.{Held, put_all, drop_up_to}
 use Rattle.agenda.specs.Agenda.{Agenda, in_time}
 use Rattle.whole.specs.declared.targets.Target.{Target}
@@ -18,23 +19,6 @@ use Rattle.whole.specs.Made.{TurnMade, Kept, put_to, has_target, kept_on, droppe
 same_map : {X Y : Type 0} (f g : X → Y) → ((x : X) → f x ≡ g x) → (o : Option X) → option_map f o ≡ option_map g o
 same_map f g h None = refl
 same_map f g h (Some x) = ap (λ y. Some y) (h x)
-
-pub slice_get-set_same : {X : Type 0} (xs : List X) (k : ℕ) (y : X) → k < length xs → slice_get (set xs k y) k ≡ Some y
-slice_get-set_same [] k y below = absurd (omega arith)
-slice_get-set_same (x ∷ xs) zero y below = refl
-slice_get-set_same (x ∷ xs) (suc k) y below = slice_get-set_same xs k y (omega arith)
-
-pub slice_get-set_other : {X : Type 0} (xs : List X) (k j : ℕ) (y : X) → j ≢ k → slice_get (set xs k y) j ≡ slice_get xs j
-slice_get-set_other [] k j y apart = refl
-slice_get-set_other (x ∷ xs) zero zero y apart = absurd (apart refl)
-slice_get-set_other (x ∷ xs) zero (suc j) y apart = refl
-slice_get-set_other (x ∷ xs) (suc k) zero y apart = refl
-slice_get-set_other (x ∷ xs) (suc k) (suc j) y apart = slice_get-set_other xs k j y (λ same. apart (ap (λ n. suc n) same))
-
-map_set : {X Y : Type 0} (f : X → Y) (xs : List X) (k : ℕ) (y : X) → map f (set xs k y) ≡ set (map f xs) k (f y)
-map_set f [] k y = refl
-map_set f (x ∷ xs) zero y = refl
-map_set f (x ∷ xs) (suc k) y = ap (λ rest. f x ∷ rest) (map_set f xs k y)
 
 set_twice : {X : Type 0} (xs : List X) (k : ℕ) (x y : X) → set (set xs k x) k y ≡ set xs k y
 set_twice [] k x y = refl
@@ -52,11 +36,11 @@ pub put_back : (old later : List Agenda) (k : ℕ) (x put y z : Agenda) → k < 
     map kept_on (set later k z) ≡ map kept_on old
 put_back old later k x put y z there stop before alike same within z_stop z_undone =
     let was : slice_get old k ≡ Some (get_or old k x) = slice_get-get_or old k x there in
-    let got : Some (get_or later k y) ≡ Some put = sym (slice_get-get_or later k y within) ∙ (same ∙ slice_get-set_same old k put there) in
+    let got : Some (get_or later k y) ≡ Some put = sym (slice_get-get_or later k y within) ∙ (same ∙ get_set_within old k put there) in
     let is : get_or later k y ≡ put = cc in
     let shown : kept_on z ≡ kept_on (get_or old k x) = (λ i. record { stop = (z_stop ∙ (ap (λ a. a.stop) is ∙ stop)) i; undone = (z_undone ∙ (ap (λ a. a.before) is ∙ before)) i }) in
-    map_set kept_on later k z
-    ∙ (ap (λ l. set l k (kept_on z)) (alike ∙ map_set kept_on old k put)
+    map-set kept_on later k z
+    ∙ (ap (λ l. set l k (kept_on z)) (alike ∙ map-set kept_on old k put)
     ∙ (set_twice (map kept_on old) k (kept_on put) (kept_on z)
     ∙ set_itself kept_on old k (get_or old k x) (kept_on z) was shown))
 
@@ -94,11 +78,11 @@ written old new count is same =
 
 -- what is kept on an agenda that replaced another
 kept-set_same : (old : List Agenda) (k : ℕ) (a : Agenda) → k < length old → slice_get (map kept_on (set old k a)) k ≡ Some (kept_on a)
-kept-set_same old k a there = slice_get-map kept_on (set old k a) k ∙ ap (option_map kept_on) (slice_get-set_same old k a there)
+kept-set_same old k a there = slice_get-map kept_on (set old k a) k ∙ ap (option_map kept_on) (get_set_within old k a there)
 
 -- what is kept on any other
 kept-set_other : (old : List Agenda) (k f : ℕ) (a : Agenda) → f ≢ k → slice_get (map kept_on (set old k a)) f ≡ slice_get (map kept_on old) f
-kept-set_other old k f a other = slice_get-map kept_on (set old k a) f ∙ (ap (option_map kept_on) (slice_get-set_other old k f a other) ∙ sym (slice_get-map kept_on old f))
+kept-set_other old k f a other = slice_get-map kept_on (set old k a) f ∙ (ap (option_map kept_on) (get_set_other old k f a other) ∙ sym (slice_get-map kept_on old f))
 
 kept-there : (old : List Agenda) (k : ℕ) (x : Agenda) → k < length old → slice_get (map kept_on old) k ≡ Some (kept_on (get_or old k x))
 kept-there old k x there = slice_get-map kept_on old k ∙ ap (option_map kept_on) (slice_get-get_or old k x there)

@@ -46,7 +46,7 @@ use Rattle.whole.proofs.Joined.{carried-agrees}
 use Rattle.agenda.proofs.Listed.{listed_value}
 use Rattle.whole.proofs.Looks.{all_found, none_some}
 use Rattle.whole.proofs.PutMade.{held_up_to, put_in_time}
-use Rattle.whole.proofs.Putting.{slice_get-set_same, slice_get-set_other}
+use Rattle.network.proofs.Items.{get_set_within, get_set_other}
 
 -- what holds anyway holds on an error
 pub on_err : {A E P : Type 0} (r : Result A E) → P → OnErr r P
@@ -61,8 +61,8 @@ first_of_none n (e ∷ rest) is = absurd cc
 states_in-set : (reactors : List Reactor) (k : ℕ) (r : Reactor) → k < length reactors → states_in (set reactors k r) ≡ with_states (states_in reactors) k r.states
 states_in-set reactors k r below =
     fun_ext λ j. elim (eqb_tells j k) [
-      | inl mine ↦ rw (mine.0, mine.1, slice_get-set_same reactors k r below) refl
-      | inr other ↦ rw (other.0, slice_get-set_other reactors k j r other.1) refl
+      | inl mine ↦ rw (mine.0, mine.1, get_set_within reactors k r below) refl
+      | inr other ↦ rw (other.0, get_set_other reactors k j r other.1) refl
     ]
 
 -- programs of federates have their slots

@@ -11,6 +11,9 @@ returns-in-Ok c =
     (subst (λ xs. c.in-Ok.place < length xs) c.as_slice.ensures.value c.in-Ok.ensures.bound)
     (rw (sym c.as_slice.ensures.value, sym c.place.ensures) found)
 
+pub insert-requires : goal.insert-requires
+insert-requires c = subst (λ xs. c.in-Err.place ≤ length xs) c.as_slice.ensures.value c.in-Err.ensures.bound
+
 pub returns-in_ok-insert-in-Err : goal.returns-in_ok-insert-in-Err
 returns-in_ok-insert-in-Err c =
     let found = c.in-Err.ensures.position (λ e. e.place) (answers_always _ _ _ (λ f a r g called. search rules)) in
@@ -18,7 +21,7 @@ returns-in_ok-insert-in-Err c =
     let slot = c.place.result in
     let parted : IsPartitionPoint (λ x. nat_cmp x.place slot ≡ Less) (λ x. nat_cmp x.place slot ≡ Greater) xs c.in-Err.place =
     found (places_rise slot xs (rw c.as_slice.ensures.value c.requires)) in
-    c.in_ok-insert-in-Err.ensures.items
+    c.in_ok-insert-in-Err.ensures
     ∙ set_between c.args.entry c.args.entries.now.items c.in-Err.place
     (subst (λ xs. c.in-Err.place ≤ length xs) c.as_slice.ensures.value c.in-Err.ensures.bound)
     (rw (sym c.as_slice.ensures.value, sym c.place.ensures) parted)

@@ -1,5 +1,6 @@
 use Rattle.std.proofs.Common.{◌≡◌, arith, Some, slice_get, set}
-use Rattle.node.proofs.Ends.{found_at, images_same, images_get, reserved_then, reserved_here, get_set_here, lacks_here}
+use Rattle.node.proofs.Ends.{found_at, images_same, images_get, reserved_then, reserved_here, lacks_here}
+use Rattle.network.proofs.Items.{get_set_here}
 use Rattle.node.proofs.outbox.reserve_end.Goals as goal
 
 pub returns-then-is_closed-clause-memory : goal.returns-then-is_closed-clause-memory

@@ -2,7 +2,8 @@ use Rattle.std.proofs.Common.{ap, ◌∙◌, arith}
 use Rattle.std.proofs.lemmas.List.{length-set}
 use Rattle.whole.specs.declared.targets.Target.{Target}
 use Rattle.whole.specs.Made.{kept_on}
-use Rattle.whole.proofs.Putting.{put_first, put_back, first_apart, not_target, slice_get-set_other}
+use Rattle.whole.proofs.Putting.{put_first, put_back, first_apart, not_target}
+use Rattle.network.proofs.Items.{get_set_other}
 use Rattle.whole.proofs.made.+put_made.Goals as goal
 
 pub returns-in-Ok-put_made-clause-put : goal.returns-in-Ok-put_made-clause-put
@@ -28,6 +29,6 @@ returns-in-Err-put_made-clause-err t c =
 pub returns-in-Err-put_made-clause-others : goal.returns-in-Err-put_made-clause-others
 returns-in-Err-put_made-clause-others t c = λ federate none.
     let apart = not_target c.args.targets.now c.target-item.result federate (omega arith) c.target-item.is none in
-    slice_get-set_other c.put_made-in-len1-up.new.agendas c.target-item.result.federate federate c.take_back.new.self apart.0
+    get_set_other c.put_made-in-len1-up.new.agendas c.target-item.result.federate federate c.take_back.new.self apart.0
     ∙ (c.in-Err-put_made.ensures.others federate apart.1
-    ∙ slice_get-set_other c.args.agendas.now c.target-item.result.federate federate c.put_all.new.self apart.0)
+    ∙ get_set_other c.args.agendas.now c.target-item.result.federate federate c.put_all.new.self apart.0)

@@ -4,8 +4,8 @@ use Rattle.network.specs.Undivided.{Row}
 use Rattle.reactor.proofs.FlatRows.{pushed}
 use Rattle.reactor.proofs.rows.Rows.push.Goals as goal
 
-pub returns-in-Ok-push-clause-ok : goal.returns-in-Ok-push-clause-ok
-returns-in-Ok-push-clause-ok c =
+pub returns-clause-ok : goal.returns-clause-ok
+returns-clause-ok c =
     let entries = c.self.inside.entries.items in
     let inputs = c.args.inputs.now in
     let outputs = c.args.outputs.now in
@@ -17,9 +17,9 @@ returns-in-Ok-push-clause-ok c =
       end = c.len.result;
     } in
     let row : Row = record { reactor = c.args.federate; tag = c.args.tag; inputs = inputs; outputs = outputs } in
-    let with_inputs : c.extend_from_slice.new.self.items ≡ entries ++ inputs = search rules in
-    let with_outputs : c.extend_from_slice-2.new.self.items ≡ (entries ++ inputs) ++ outputs = search rules in
-    let spans : c.push.new.self.items ≡ c.self.inside.spans.items ++ span ∷ [] = search rules in
+    let with_inputs : c.append.new.to.items ≡ entries ++ inputs = search rules in
+    let with_outputs : c.append-2.new.to.items ≡ (entries ++ inputs) ++ outputs = search rules in
+    let spans : c.push_reserved.new.self.items ≡ c.self.inside.spans.items ++ span ∷ [] = search rules in
     let first : c.len-first.result ≡ length entries = search rules in
     let middle : c.len-middle.result ≡ length (entries ++ inputs) = search rules in
     let last : c.len.result ≡ length ((entries ++ inputs) ++ outputs) = search rules in
