@@ -3,6 +3,8 @@
 #![tactic(auto)]
 
 #[cfg(test)]
+mod asked;
+#[cfg(test)]
 mod counts;
 #[cfg(test)]
 mod faults;
@@ -10,6 +12,8 @@ mod faults;
 mod federations;
 #[cfg(test)]
 mod firings;
+#[cfg(test)]
+mod known_file;
 #[cfg(test)]
 mod limits;
 #[cfg(test)]
