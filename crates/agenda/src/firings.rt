@@ -7,7 +7,7 @@ ghost use Rattle.agenda.specs.Kept.{firings_of, firing, has_due, has_before, IsT
 use tag::{Tag, Time};
 
 /// The firings of a timer that are left: so many, the first at `next`, and each a period after the one before. Times are in ns.
-#[derive(Clone, Copy, Debug)]
+#[derive(Clone, Copy)]
 pub struct Firings {
     pub slot: usize,
     pub next: u64,

@@ -4,7 +4,7 @@ use std::marker::Model;
 use tag::FiniteTag;
 
 /// Something that will be present at a slot.
-#[derive(Clone, Copy, Debug, PartialEq, Eq)]
+#[derive(Clone, Copy, Debug)]
 pub struct Held {
     tag: FiniteTag,
     slot: usize,

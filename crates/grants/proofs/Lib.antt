@@ -4,6 +4,8 @@ pub mod Transit
 pub mod Arrivals
 -- A tag before the least arrival is before each of them.
 pub mod Passing
+-- A filter, one connection more.
+pub mod Filtered
 -- Numbers that pass a test: listed, and counted.
 pub mod Numbered
 -- Whether a connection leads from one federate to another.

@@ -130,9 +130,7 @@ fn copied(alloc: Global, connections: &[Connection]) -> Result<Vec<Connection>, 
     ensures { IfOk result (λ copy. copy.items ≡ connections.now) }
 {
     let mut copy = Vec::new(alloc);
-    for connection in connections {
-        copy.push(*connection)?;
-    }
+    copy.extend_from_slice(connections)?;
     Ok(copy)
 }
 

@@ -1,5 +1,5 @@
 /// What a frame is to the end that it comes to.
-#[derive(Clone, Copy, Debug, PartialEq, Eq, Hash)]
+#[derive(Clone, Copy, Debug, PartialEq, Eq)]
 pub enum Arrival {
     /// The next signal: it may be taken.
     Signal,

@@ -4,7 +4,7 @@ use std::alloc::{AllocError, AllocFailed};
 use std::fmt;
 
 /// Why an end refuses. The end is as it was before.
-#[derive(Clone, Copy, Debug, PartialEq, Eq, Hash)]
+#[derive(Clone, Copy, Debug, PartialEq, Eq)]
 pub enum LinkFault {
     /// As many signals are kept as there is room for: the other side acknowledges more slowly than this one offers.
     /// Offer again after an acknowledgement.
@@ -46,15 +46,15 @@ impl fmt::Display for LinkFault {
     ghost output = { λ fault. Some (text_of fault) };
 
     fn fmt<W: fmt::Write>(&self, f: &mut fmt::Formatter<W>) -> fmt::Result {
-        let number = self.number();
-        match self {
-            LinkFault::Full => write!(f, "{number} Full"),
-            LinkFault::Stranger => write!(f, "{number} Stranger"),
-            LinkFault::Gap => write!(f, "{number} Gap"),
-            LinkFault::AckOfUnsent => write!(f, "{number} AckOfUnsent"),
-            LinkFault::Memory => write!(f, "{number} Memory"),
-            LinkFault::Closed => write!(f, "{number} Closed"),
-        }
+        let name = match self {
+            LinkFault::Full => "Full",
+            LinkFault::Stranger => "Stranger",
+            LinkFault::Gap => "Gap",
+            LinkFault::AckOfUnsent => "AckOfUnsent",
+            LinkFault::Memory => "Memory",
+            LinkFault::Closed => "Closed",
+        };
+        write!(f, "{} {name}", self.number())
     }
 }
 

@@ -5,7 +5,7 @@ use std::alloc::{AllocError, AllocFailed};
 use std::fmt;
 
 /// There was no memory for frames. It is the machine that lacks it: nothing changed, and the same call may succeed later.
-#[derive(Clone, Copy, Debug, PartialEq, Eq, Hash)]
+#[derive(Clone, Copy, Debug, PartialEq, Eq)]
 pub struct Memory;
 
 impl Memory {
@@ -28,7 +28,7 @@ impl fmt::Display for Memory {
     ghost output = { λ _. Some (text_of LinkFaults.Memory) };
 
     fn fmt<W: fmt::Write>(&self, f: &mut fmt::Formatter<W>) -> fmt::Result {
-        write!(f, "{}", LinkFault::Memory)
+        fmt::Display::fmt(&LinkFault::Memory, f)
     }
 }
 

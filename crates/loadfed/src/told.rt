@@ -21,7 +21,7 @@ pub fn of_program(federate: &Text, fault: ProgramFault) -> LoadFault
     ensures told { (result ≡ LoadFault.Memory) ⊎ (result ≡ LoadFault.Program federate.now fault) }
     ensures memory { fault ≡ ProgramFault.Memory → result ≡ LoadFault.Memory }
 {
-    if fault == ProgramFault::Memory {
+    if let ProgramFault::Memory = fault {
         return LoadFault::Memory;
     }
     match federate.clone() {

@@ -4,3 +4,5 @@ pub mod Places
 pub mod First
 -- What stands at two places of a list.
 pub mod Twice
+-- Names pushed one after another.
+pub mod Pushed

@@ -39,12 +39,6 @@ impl Text {
         self.text.as_str()
     }
 
-    pub fn into_string(self) -> String
-        ensures { string_bytes result ≡ self }
-    {
-        self.text
-    }
-
     /// Whether this is the name.
     pub fn is(&self, name: &str) -> bool
         ensures { IsTrue result ↔ (self.now ≡ name.now) }
@@ -85,12 +79,6 @@ impl Names {
         ensures { result.now ≡ self.now }
     {
         self.names.as_slice()
-    }
-
-    pub fn into_vec(self) -> Vec<Text>
-        ensures { result.items ≡ self }
-    {
-        self.names
     }
 
     /// Whether both are the same names, in one order.

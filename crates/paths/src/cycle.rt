@@ -23,9 +23,13 @@ fn is_reached(root: usize, tree: &[Connection], federate: usize) -> bool
 fn joins(root: usize, tree: &[Connection], connection: Connection) -> bool
     ensures { IsTrue result ↔ JoinsTree root tree.now connection }
 {
-    is_immediate(connection)
-        && is_reached(root, tree, connection.target())
-        && !begins(tree, connection.source())
+    if !is_immediate(connection) {
+        return false;
+    }
+    if begins(tree, connection.source()) {
+        return false;
+    }
+    is_reached(root, tree, connection.target())
 }
 
 /// A connection that joins the tree, where one does.

@@ -122,5 +122,3 @@ module _ (fs : List Federate) (inputs : List Input) (occurrences : List Occurren
   some_known some =
       let below : 0 < length inputs = subst (λ n. 0 < n) same_count some in
       (0, get_or inputs 0 no_input, below, get_or_default inputs 0 (get_or inputs 0 no_input) no_input below, all_known 0 no_input below)
-
-pub ruleset of_occurrences = (all_known, apart_from_distinct, distinct_from_apart, some_known)

@@ -102,17 +102,28 @@ spaced names = flat_map (λ name. codes " " ++ name) names
 abbrev pub printed_port : PortName → List ℕ
 printed_port p = p.federate ++ (codes "." ++ p.port)
 
--- what is told after the number: the refusal's name, and what it is about
-abbrev pub text_of : PlanFault → List ℕ
-text_of NoFederate = codes " NoFederate"
-text_of (UnknownName p) = codes " UnknownName " ++ printed_port p
-text_of (TwoSources p) = codes " TwoSources " ++ printed_port p
-text_of (ZeroDelayCycle names) = codes " ZeroDelayCycle" ++ spaced names
-text_of OverLimit = codes " OverLimit"
-text_of BadTimer = codes " BadTimer"
-text_of Memory = codes " Memory"
-text_of (RepeatedName name) = codes " RepeatedName " ++ name
+-- the refusal's name
+abbrev pub name_of : PlanFault → List ℕ
+name_of NoFederate = codes "NoFederate"
+name_of (UnknownName p) = codes "UnknownName"
+name_of (TwoSources p) = codes "TwoSources"
+name_of (ZeroDelayCycle names) = codes "ZeroDelayCycle"
+name_of OverLimit = codes "OverLimit"
+name_of BadTimer = codes "BadTimer"
+name_of Memory = codes "Memory"
+name_of (RepeatedName name) = codes "RepeatedName"
 
--- how the refusal is told
+-- what it is about, after a space
+abbrev pub about : PlanFault → List ℕ
+about NoFederate = []
+about (UnknownName p) = codes " " ++ printed_port p
+about (TwoSources p) = codes " " ++ printed_port p
+about (ZeroDelayCycle names) = spaced names
+about OverLimit = []
+about BadTimer = []
+about Memory = []
+about (RepeatedName name) = codes " " ++ name
+
+-- how the refusal is told: by number and name, and what it is about
 abbrev pub printed_fault : PlanFault → List ℕ
-printed_fault fault = decimal (number_of fault) ++ text_of fault
+printed_fault fault = decimal (number_of fault) ++ (codes " " ++ (name_of fault ++ about fault))

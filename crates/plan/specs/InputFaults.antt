@@ -11,13 +11,13 @@ input_number_of RepeatedInput = 35
 input_number_of OverLimit = 36
 input_number_of Memory = 37
 
--- what is told after the number
-abbrev pub input_text_of : InputFault → List ℕ
-input_text_of UnknownAction = codes " UnknownAction"
-input_text_of RepeatedInput = codes " RepeatedInput"
-input_text_of OverLimit = codes " OverLimit"
-input_text_of Memory = codes " Memory"
+-- the refusal's name
+abbrev pub input_name_of : InputFault → List ℕ
+input_name_of UnknownAction = codes "UnknownAction"
+input_name_of RepeatedInput = codes "RepeatedInput"
+input_name_of OverLimit = codes "OverLimit"
+input_name_of Memory = codes "Memory"
 
 -- how the refusal is told
 abbrev pub printed_input_fault : InputFault → List ℕ
-printed_input_fault fault = decimal (input_number_of fault) ++ input_text_of fault
+printed_input_fault fault = decimal (input_number_of fault) ++ (codes " " ++ input_name_of fault)

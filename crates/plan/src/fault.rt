@@ -1,7 +1,7 @@
 ghost use Rattle.std.specs.Prelude.{◌≡◌};
 ghost use Rattle.plan.specs.declared.fault.PlanFault.TheVariants.{Memory};
-ghost use Rattle.plan.specs.Faults.{number_of};
-ghost use Rattle.plan.specs.InputFaults.{input_number_of};
+ghost use Rattle.plan.specs.Faults.{number_of, name_of};
+ghost use Rattle.plan.specs.InputFaults.{input_number_of, input_name_of};
 
 use crate::draft::PortName;
 use names::{Names, Text};
@@ -47,6 +47,21 @@ impl PlanFault {
             PlanFault::RepeatedName(_) => 17,
         }
     }
+
+    fn name(&self) -> &'static str
+        ensures { result.now ≡ name_of self.now }
+    {
+        match self {
+            PlanFault::NoFederate => "NoFederate",
+            PlanFault::UnknownName(_) => "UnknownName",
+            PlanFault::TwoSources(_) => "TwoSources",
+            PlanFault::ZeroDelayCycle(_) => "ZeroDelayCycle",
+            PlanFault::OverLimit => "OverLimit",
+            PlanFault::BadTimer => "BadTimer",
+            PlanFault::Memory => "Memory",
+            PlanFault::RepeatedName(_) => "RepeatedName",
+        }
+    }
 }
 
 impl fmt::Display for PlanFault {
@@ -56,20 +71,29 @@ impl fmt::Display for PlanFault {
     ghost output = { λ fault. Some (printed_fault fault) };
 
     fn fmt<W: fmt::Write>(&self, f: &mut fmt::Formatter<W>) -> fmt::Result {
-        let number = self.number();
-        match self {
-            PlanFault::NoFederate => write!(f, "{number} NoFederate"),
-            PlanFault::UnknownName(port) => write!(f, "{number} UnknownName {port}"),
-            PlanFault::TwoSources(port) => write!(f, "{number} TwoSources {port}"),
-            PlanFault::ZeroDelayCycle(names) => write!(
-                f,
-                "{number} ZeroDelayCycle{}",
-                Spaced(names)
-            ),
-            PlanFault::OverLimit => write!(f, "{number} OverLimit"),
-            PlanFault::BadTimer => write!(f, "{number} BadTimer"),
-            PlanFault::Memory => write!(f, "{number} Memory"),
-            PlanFault::RepeatedName(name) => write!(f, "{number} RepeatedName {}", name.as_str()),
+        write!(f, "{} {}{}", self.number(), self.name(), About(self))
+    }
+}
+
+/// What a refusal is about, printed after a space.
+#[derive(Drop)]
+struct About<'a>(&'a PlanFault);
+
+impl fmt::Display for About<'_> {
+    ghost use Rattle.std.specs.Prelude.{Some};
+    ghost use Rattle.plan.specs.Faults.{about};
+
+    ghost output = { λ fault. Some (about fault.0.now) };
+
+    fn fmt<W: fmt::Write>(&self, f: &mut fmt::Formatter<W>) -> fmt::Result {
+        match self.0 {
+            PlanFault::NoFederate => Ok(()),
+            PlanFault::UnknownName(port) | PlanFault::TwoSources(port) => write!(f, " {port}"),
+            PlanFault::ZeroDelayCycle(names) => fmt::Display::fmt(&Spaced(names), f),
+            PlanFault::OverLimit => Ok(()),
+            PlanFault::BadTimer => Ok(()),
+            PlanFault::Memory => Ok(()),
+            PlanFault::RepeatedName(name) => write!(f, " {}", name.as_str()),
         }
     }
 }
@@ -149,6 +173,17 @@ impl InputFault {
             InputFault::Memory => 37,
         }
     }
+
+    fn name(self) -> &'static str
+        ensures { result.now ≡ input_name_of self }
+    {
+        match self {
+            InputFault::UnknownAction => "UnknownAction",
+            InputFault::RepeatedInput => "RepeatedInput",
+            InputFault::OverLimit => "OverLimit",
+            InputFault::Memory => "Memory",
+        }
+    }
 }
 
 impl fmt::Display for InputFault {
@@ -158,12 +193,6 @@ impl fmt::Display for InputFault {
     ghost output = { λ fault. Some (printed_input_fault fault) };
 
     fn fmt<W: fmt::Write>(&self, f: &mut fmt::Formatter<W>) -> fmt::Result {
-        let number = self.number();
-        match self {
-            InputFault::UnknownAction => write!(f, "{number} UnknownAction"),
-            InputFault::RepeatedInput => write!(f, "{number} RepeatedInput"),
-            InputFault::OverLimit => write!(f, "{number} OverLimit"),
-            InputFault::Memory => write!(f, "{number} Memory"),
-        }
+        write!(f, "{} {}", self.number(), self.name())
     }
 }

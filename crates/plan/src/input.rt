@@ -46,7 +46,7 @@ impl Inputs {
 
     /// Takes recorded inputs of a plan: of their faults it tells an unknown action first, then a repeated input, then
     /// that there are too many.
-    #[tactic(auto, using(crate::proofs::Occurrences::of_occurrences))]
+    #[tactic(auto, using(crate::proofs::Occurrences::some_known))]
     pub fn check(alloc: Global, plan: &Plan, inputs: Vec<Input>) -> Result<Inputs, InputFault>
         ensures ok { IfOk result (λ checked. checked ≡ inputs.items) }
         ensures known { OnOk result (AreInputsOf plan.now inputs.items) }

@@ -1,8 +1,12 @@
 -- A row's parts, with what stands between them.
-use Rattle.std.proofs.Common.{◌≡◌, List, ℕ, [], ◌∷◌, ◌++◌, ◌+◌, ◌-◌, ◌<◌, ◌≤◌, length, take, drop, get_or, slice_range, codes, append_assoc, refl, sym, ap, ◌∙◌, arith}
+use Rattle.std.proofs.Common.{◌≡◌, List, ℕ, [], ◌∷◌, ◌++◌, ◌+◌, ◌-◌, ◌<◌, ◌≤◌, length, take, drop, get_or, slice_range, codes, append_assoc, refl, sym, ap, subst, ◌∙◌, arith, Option, Result, Ok, Err, OnOk}
 use Rattle.std.proofs.lemmas.List.{append-nil, length-drop, take-take, take-append-drop, drop-take, take_more, get_or-drop}
 use Rattle.std.proofs.lemmas.Grind.{flat_map-append}
 use Rattle.std.specs.Fmt.{decimal, digits}
+use Rattle.std.specs.Io.KnownBytes.{Appends}
+use Rattle.std.specs.List.{flat_map}
+use Rattle.std.proofs.KnownBytes.{Appends-trans}
+use Rattle.network.specs.Event.{Entry}
 use Rattle.tag.specs.Printed.{printed_tag}
 use Rattle.network.specs.Undivided.{Row}
 use Rattle.plan.specs.declared.draft.Federate.{Federate}
@@ -50,3 +54,26 @@ some_more federates rows first end after =
     ∙ (flat_map-append (printed_line federates) (take first (take end rows)) (drop first (take end rows))
     ∙ (ap (λ t. printed_rows federates t ++ printed_rows federates (drop first (take end rows))) (take-take first end rows after)
     ∙ ap (λ t. printed_rows federates (take first rows) ++ printed_rows federates t) rest))
+
+-- one entry more
+pub entry_more :
+    (printed : Entry → List ℕ) (entries : List Entry) (i : ℕ) (entry : Entry) (a b c : Option (List ℕ)) → i < length entries → entry ≡ get_or entries i entry →
+    Appends a b (flat_map printed (take i entries)) → Appends b c (printed entry) → Appends a c (flat_map printed (take (i + 1) entries))
+entry_more printed entries i entry a b c there is so_far more =
+    let text : flat_map printed (take (i + 1) entries) ≡ flat_map printed (take i entries) ++ printed entry =
+    ap (flat_map printed) (take_more entries i entry there ∙ ap (λ (e : Entry). take i entries ++ e ∷ []) (sym is))
+    ∙ (flat_map-append printed (take i entries) (entry ∷ []) ∙ ap (λ t. flat_map printed (take i entries) ++ t) (append-nil (printed entry))) in
+    subst (Appends a c) (sym text) (Appends-trans a b c _ _ so_far more)
+
+bracket_parts : (p r end : List ℕ) → codes "[" ++ (p ++ (r ++ (codes "]" ++ end))) ≡ (codes "[" ++ ((p ++ r) ++ codes "]")) ++ end
+bracket_parts p r end = ap (λ y. 91 ∷ y) (sym (append_assoc p r (codes "]" ++ end)) ∙ sym (append_assoc (p ++ r) (codes "]") end))
+
+-- entries in brackets, with what stands behind them
+pub in_brackets :
+    {X E : Type 0} (printed : Entry → List ℕ) (end : List ℕ) (first : Entry) (rest entries : List Entry) (answer : Result X E) (a b c d e : Option (List ℕ)) → entries ≡ first ∷ rest →
+    Appends a b (codes "[") → Appends b c (printed first) → Appends c d (flat_map (λ x. codes " " ++ printed x) rest) →
+    OnOk answer (Appends d e (codes "]" ++ end)) → OnOk answer (Appends a e (bracketed printed entries ++ end))
+in_brackets printed end first rest entries (Err error) a b c d e is p q r s = tt
+in_brackets printed end first rest entries (Ok x) a b c d e is p q r s =
+    rw is (subst (Appends a e) (bracket_parts (printed first) (flat_map (λ x. codes " " ++ printed x) rest) end)
+    (Appends-trans a b e _ _ p (Appends-trans b c e _ _ q (Appends-trans c d e _ _ r s))))

@@ -87,6 +87,16 @@ same_text a b c r e f g = (bytes_eq-Decides a b).0 (negated (bytes_eq a b) (sym 
 pub other_text : (a b c : List ℕ) (r : Bool) → r ≡ bytes_eq a b → r ≡ false → b ≡ c → a ≡ c → ⊥
 other_text a b c r e f g h = let yes = (bytes_eq-Decides a b).1 (h ∙ sym g) in let no = sym e ∙ f in cc
 
+pub equal_text : (a b c : List ℕ) (r : Bool) → r ≡ bytes_eq a b → r ≡ true → b ≡ c → a ≡ c
+equal_text a b c r e f g = (bytes_eq-Decides a b).0 (sym e ∙ f) ∙ g
+
+pub unequal_text : (a b c : List ℕ) (r : Bool) → r ≡ not (bytes_eq a b) → r ≡ true → b ≡ c → a ≡ c → ⊥
+unequal_text a b c r e f g h = let yes = (bytes_eq-Decides a b).1 (h ∙ sym g) in let no : true ≡ false = sym f ∙ e ∙ ap not yes in cc
+
+-- a name read, from the two answers that it is made of
+pub read_of : {a b : Bool} {m n : Option ℕ} {r : Result ℕ LineFault} → r ≡ name_read a m → a ≡ b → m ≡ n → r ≡ name_read b n
+read_of {a} {b} {m} {n} {r} e f g = rw (e, f, g) refl
+
 -- a name where one stands
 abbrev pub IsNamed : (List ℕ → Bool) → List ℕ → List ℕ → Type 0
 IsNamed test target x = IsTrue (test x) × (target ≡ x)

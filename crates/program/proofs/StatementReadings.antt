@@ -19,6 +19,14 @@ use Rattle.program.specs.Reading.{IsReading, IsTimed, name_read, made_of, made_o
 use Rattle.program.proofs.Readings.{Wraps, wrapped, Joins, joined, IsNamed, named, dotted_out, not_dotted, mapped_first}
 use Rattle.program.proofs.OneReading.{name_and_other, no_equals, duration_one}
 
+-- the tokens of a text, from its first tokens and what follows them
+pub token_alone : {left : List ℕ} {tokens rest : List (List ℕ)} → tokens ≡ left ∷ rest → rest ≡ [] → tokens ≡ left ∷ []
+token_alone {left} {tokens} {rest} e f = rw f at e
+
+pub tokens_combined : {left sign right : List ℕ} {tokens after_left after_sign : List (List ℕ)} (o : Operator)
+    → tokens ≡ left ∷ after_left → after_left ≡ sign ∷ after_sign → sign ≡ operator_token o → after_sign ≡ right ∷ [] → tokens ≡ left ∷ operator_token o ∷ right ∷ []
+tokens_combined {left} {sign} {right} {tokens} {after_left} {after_sign} o e f g h = rw (e, f, g, h) refl
+
 -- expressions
 single_wraps : (s : Slots) (states : List StateOf.State) (tokens : List (List ℕ)) (left : List ℕ) → tokens ≡ left ∷ []
     → Wraps Alone (λ w. SpellsOperand w left) (λ w. SpellsExpression w tokens) (operand_of s states) (expression_of s states) Single
@@ -64,6 +72,23 @@ combined_reading s states o tokens left right e r q h k =
     (operand_of s states) (operand_of s states) (expression_of s states) (λ a b. Binary a o b) (combined_joins s states o tokens left right e) r q h k
 
 -- statements
+pub none_in_nothing : (tokens : List (List ℕ)) → tokens ≡ [] → (w : WrittenStatement) → SpellsStatement w tokens → ⊥
+none_in_nothing tokens e (AssignTo x a) h = let f = sym e ∙ h.1 in cc
+none_in_nothing tokens e (OutputTo p a) h = let f = sym e ∙ h.1 in cc
+none_in_nothing tokens e (ScheduleAfter c time a) h = let f = sym e ∙ h.2 in cc
+
+pub none_in_one : (tokens : List (List ℕ)) (first : List ℕ) → tokens ≡ first ∷ [] → (w : WrittenStatement) → SpellsStatement w tokens → ⊥
+none_in_one tokens first e (AssignTo x a) h = let f = sym e ∙ h.1 in cc
+none_in_one tokens first e (OutputTo p a) h = let f = sym e ∙ h.1 in cc
+none_in_one tokens first e (ScheduleAfter c time a) h = let f = sym e ∙ h.2 in cc
+
+-- what begins with another word than `schedule` has `=` after it
+pub none_without_equals : (tokens : List (List ℕ)) (first second : List ℕ) (rest : List (List ℕ)) → tokens ≡ first ∷ second ∷ rest → (first ≡ codes "schedule" → ⊥) → (second ≡ codes "=" → ⊥)
+    → (w : WrittenStatement) → SpellsStatement w tokens → ⊥
+none_without_equals tokens first second rest e other unequal (AssignTo x a) h = let f : first ∷ second ∷ rest ≡ x ∷ codes "=" ∷ h.0 = sym e ∙ h.1 in unequal (cc)
+none_without_equals tokens first second rest e other unequal (OutputTo p a) h = let f : first ∷ second ∷ rest ≡ (codes "out." ++ p) ∷ codes "=" ∷ h.0 ∷ [] = sym e ∙ h.1 in unequal (cc)
+none_without_equals tokens first second rest e other unequal (ScheduleAfter c time a) h = let f : first ∷ second ∷ rest ≡ codes "schedule" ∷ c ∷ (h.0 ++ h.1 ∷ []) = sym e ∙ h.2 in other (cc)
+
 out_or_schedule : (p : List ℕ) → codes "out." ++ p ≡ codes "schedule" → ⊥
 out_or_schedule p e = let f : List ℕ → ℕ = λ l. get_or l 0 0 in clash (ap f e)
   where

@@ -1,7 +1,11 @@
 -- what is listed of a function, one place more
 pub mod Listing
+-- a loop over a list, one item further
+pub mod Loops
 -- a turn under way
 pub mod RunsTo
+-- after one step
+pub mod Stepped
 -- what is present, put into registers
 pub mod Registers
 -- the registers that turns begin with

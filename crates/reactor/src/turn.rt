@@ -5,7 +5,7 @@ use std::marker::Model;
 use tag::Delay;
 
 /// An action that is to be present a delay after the turn, with a value.
-#[derive(Clone, Copy, PartialEq, Eq)]
+#[derive(Clone, Copy)]
 pub struct Scheduling {
     slot: usize,
     delay: Delay,

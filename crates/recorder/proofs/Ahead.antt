@@ -1,14 +1,11 @@
 -- An audit that is begun goes on, and journals go on while it does.
-use Rattle.std.proofs.Common.{◌≡◌, ◌∙◌, ℕ, zero, suc, ◌+◌, Bool, false, List, [], ◌∷◌, ◌++◌, length, map, set, get_or, replicate, refl, sym, ap, subst, append-nil, arith}
-use Rattle.std.specs.Prelude.{Result, Ok, Err, OnOk, OnErr, is_err}
+use Rattle.std.proofs.Common.{◌≡◌, ◌∙◌, ℕ, zero, suc, ◌+◌, Bool, true, false, List, [], ◌∷◌, ◌++◌, length, map, set, get_or, replicate, refl, sym, ap, subst, append-nil, arith}
+use Rattle.std.specs.Prelude.{Result, Ok, Err, IfOk, OnOk, OnErr, is_err}
 use Rattle.std.specs.Global.{Vec}
 use Rattle.std.proofs.lemmas.List.{length-map, length-replicate}
 use Rattle.std.proofs.lemmas.List.FromFn.{length-map-range_with_len}
-use Rattle.plan.specs.declared.draft.Draft.{Draft}
-use Rattle.plan.specs.declared.input.Input.{Input}
 use Rattle.plan.specs.External.{AreInputsOf}
 use Rattle.plan.specs.Federation.{federate_count}
-use Rattle.program.specs.Behaviour.{Behaviour}
 use Rattle.program.specs.Programs.{AreProgramsOf}
 use Rattle.node.specs.declared.event.Event.{Event}
 use Rattle.search.specs.Journals.{IsFound}
@@ -17,8 +14,7 @@ use Rattle.search.specs.Reading.{Position, IsReading, GrewTo}
 use Rattle.world.specs.World.{WorldView}
 use Rattle.recorder.specs.declared.report.Report.{Report}
 use Rattle.recorder.specs.Reports.{all_journals, journal_of, report_of}
-use Rattle.recorder.specs.Audited.{HasSearched, claim_of}
-use Rattle.recorder.specs.Begun.{opening_of, IsAhead, IsBegun}
+use Rattle.recorder.specs.Begun.{IsAhead, IsBegun}
 use Rattle.recorder.specs.Known.{events_of}
 use Rattle.recorder.specs.Placing.{world_motion}
 
@@ -80,7 +76,7 @@ module _ (opening made : WorldView) (read : List ℕ) (known more : List (Vec Ev
     inputs = begun.inputs;
     ahead = λ still. on opening (begun.ahead still);
   }
-  begun_on (Err e) after further going good on = absurd (grind (arith, good))
+  begun_on (Err e) after further going good on = absurd (let no : true ≡ false = good in cc)
 
 -- at the opening nothing is read
 pub begun_new : (opening made : WorldView) (read : List ℕ) (known : List (Vec Event)) (count : ℕ) → AreProgramsOf opening.draft opening.programs →
@@ -105,13 +101,20 @@ journals_counted f journals count reports coordinator are =
     let federates = length-map-range_with_len (λ j. journal_of (report_of reports j)) 0 count in
     omega arith
 
--- where what is known is a beginning of all journals, and reading ends after what is read, the search has ended
-pub searched_on : (draft : Draft) (programs : List Behaviour) (inputs : List Input) (made w : WorldView) (read : List ℕ) (known : List (Vec Event)) (journals : List (List Event))
-    (reports : List Report) (coordinator : List Event) (found : Found) → StaysRead → IsAhead (opening_of draft programs inputs) made read known → GrewTo (events_of known) journals →
-    journals ≡ all_journals (federate_count draft) reports coordinator →
-    ((o : WorldView) → IsReading world_motion o journals (record { state = made; read = read }) → IsFound world_motion o journals w found) →
-    HasSearched (claim_of (opening_of draft programs inputs) reports coordinator) w found
-searched_on draft programs inputs made w read known journals reports coordinator found stays ahead grew are ends =
-    let opening = opening_of draft programs inputs in
-    subst (λ js. IsFound world_motion opening js w found) are
-    (ends opening (stays opening (events_of known) journals (record { state = made; read = read }) grew ahead.reading))
+-- where what is known is a beginning of these journals, and reading ends after what is read, the search has ended
+pub read_on_longer : {E : Type 0} (opening made : WorldView) (read : List ℕ) (known : List (Vec Event)) (journals : List (List Event)) (r : Result (WorldView × Found) E) →
+    StaysRead → IsAhead opening made read known → GrewTo (events_of known) journals →
+    IfOk r (λ ended. (o : WorldView) → IsReading world_motion o journals (record { state = made; read = read }) → IsFound world_motion o journals ended.0 ended.1) →
+    IfOk r (λ ended. IsFound world_motion opening journals ended.0 ended.1)
+read_on_longer opening made read known journals (Ok ended) stays ahead grew ends =
+    ends opening (stays opening (events_of known) journals (record { state = made; read = read }) grew ahead.reading)
+read_on_longer opening made read known journals (Err e) stays ahead grew ends = tt
+
+-- or where nothing was read at the opening
+pub read_from_opening : {E : Type 0} (opening made : WorldView) (read : List ℕ) (count : ℕ) (journals : List (List Event)) (r : Result (WorldView × Found) E) →
+    ((o : WorldView) (js : List (List Event)) (n : ℕ) → IsReading world_motion o js (record { state = o; read = replicate n 0 })) →
+    made ≡ opening → read ≡ replicate count 0 →
+    IfOk r (λ ended. (o : WorldView) → IsReading world_motion o journals (record { state = made; read = read }) → IsFound world_motion o journals ended.0 ended.1) →
+    IfOk r (λ ended. IsFound world_motion opening journals ended.0 ended.1)
+read_from_opening opening made read count journals (Ok ended) law there none ends = ends opening (rw (there, none) (law opening journals count))
+read_from_opening opening made read count journals (Err e) law there none ends = tt

@@ -1,9 +1,10 @@
-ghost use Rattle.std.specs.Prelude.{◌≡◌, map, IfOk, IfErr};
+ghost use Rattle.std.specs.Prelude.{◌≡◌, ◌+◌, length, map, IfOk, IfErr};
 ghost use Rattle.plan.specs.External.{AreInputsOf};
 ghost use Rattle.plan.specs.Federation.{federate_count};
 ghost use Rattle.plan.specs.Legal.{IsLegal};
 ghost use Rattle.program.specs.Programs.{AreProgramsOf};
 ghost use Rattle.search.specs.Journals.{IsFound};
+ghost use Rattle.search.specs.Reading.{IsReading};
 ghost use Rattle.world.specs.World.{WorldView};
 ghost use Rattle.recorder.specs.Placing.{world_motion};
 ghost use Rattle.recorder.specs.Reports.{AreComplete};
@@ -23,7 +24,7 @@ use node::{Event, NodeId};
 use plan::{Inputs, Plan};
 use reactor::Programs;
 use search::growing::{longer_journals_are_read, nothing_is_read};
-use search::{Found, Reading, search};
+use search::{Found, Reading};
 use std::alloc::{AllocError, Global};
 use std::marker::Model;
 
@@ -136,10 +137,10 @@ impl<'a> BegunAudit<'a> {
         ensures ended { IfOk result (HasEnded (claim_of self.entry reports.now coordinator.now)) }
         ensures unproved { IfErr result (IsUnproved (claim_of self.entry reports.now coordinator.now)) }
     {
-        if let Err(fault) = refuse_incomplete(self.federate_count(), reports) {
-            return Err(fault);
+        match refuse_incomplete(self.federate_count(), reports) {
+            Ok(()) => self.conclude_complete(alloc, reports, coordinator),
+            Err(fault) => Err(fault),
         }
-        self.conclude_complete(alloc, reports, coordinator)
     }
 
     // What it says of complete reports.
@@ -175,7 +176,7 @@ impl<'a> BegunAudit<'a> {
         self.plan.known();
     }
 
-    // The world in which the search for all journals ended, and how: it goes on where it stands, or begins again.
+    // The world in which the search for all journals ended, and how.
     fn search_on(
         self,
         alloc: Global,
@@ -186,14 +187,25 @@ impl<'a> BegunAudit<'a> {
         ensures memory { IfErr result (λ fault. fault ≡ Faults.Memory) }
     {
         let journals = all_journals(alloc, self.plan.federate_count(), reports, coordinator)?;
-        if self.is_given_up || !are_beginnings(&self.known, &journals) {
-            return self.search_anew(alloc, &journals);
+        self.search_all(alloc, &journals)
+    }
+
+    // The same of journals, one for each node: it goes on where it stands, or begins again.
+    fn search_all(
+        self,
+        alloc: Global,
+        journals: &[&[Event]],
+    ) -> Result<(Auditor<'a>, Found), Unproved>
+        requires sized { length journals.now ≡ federate_count self.draft + 1 }
+        ensures searched { IfOk result (λ ended. IsFound world_motion self.entry (map (λ j. j.now) journals.now) ended.0 ended.1) }
+        ensures memory { IfErr result (λ fault. fault ≡ Faults.Memory) }
+    {
+        if self.is_given_up || !are_beginnings(&self.known, journals) {
+            return self.search_anew(alloc, journals);
         }
         // For the prover: what is read stays read.
         longer_journals_are_read::<Auditor<'a>>();
-        let mut auditor = self.auditor;
-        let found = self.reading.finish(&mut auditor, &journals)?;
-        Ok((auditor, found))
+        read_to_end(self.auditor, self.reading, journals)
     }
 
     // The same of a second world. Before it is made, the first one goes, and all that was made for it.
@@ -207,10 +219,42 @@ impl<'a> BegunAudit<'a> {
     {
         let (plan, programs, inputs) = (self.plan, self.programs, self.inputs);
         drop(self);
-        let mut auditor = Auditor::new(alloc, plan, programs, inputs)?;
-        let found = search(alloc, &mut auditor, journals)?;
-        Ok((auditor, found))
+        search_from_opening(alloc, plan, programs, inputs, journals)
     }
+}
+
+// The world in which a search for these journals ended, and how, where it began at the opening.
+fn search_from_opening<'a>(
+    alloc: Global,
+    plan: &'a Plan,
+    programs: &'a Programs,
+    inputs: &'a Inputs,
+    journals: &[&[Event]],
+) -> Result<(Auditor<'a>, Found), Unproved>
+    requires programs { AreProgramsOf plan.now programs.now }
+    requires inputs { AreInputsOf plan.now inputs.now }
+    ensures searched { IfOk result (λ ended. IsFound world_motion (opening_of plan.now programs.now inputs.now) (map (λ j. j.now) journals.now) ended.0 ended.1) }
+    ensures memory { IfErr result (λ fault. fault ≡ Faults.Memory) }
+{
+    // For the prover: at the opening nothing is read.
+    nothing_is_read::<Auditor<'a>>();
+    let reading = Reading::new(alloc, journals.len())?;
+    let auditor = Auditor::new(alloc, plan, programs, inputs)?;
+    read_to_end(auditor, reading, journals)
+}
+
+// The world in which a search ended that had read so far, and how.
+fn read_to_end<'a>(
+    mut auditor: Auditor<'a>,
+    reading: Reading,
+    journals: &[&[Event]],
+) -> Result<(Auditor<'a>, Found), Unproved>
+    requires sized { length reading ≡ length journals.now }
+    ensures found { IfOk result (λ ended. (opening : WorldView) → IsReading world_motion opening (map (λ j. j.now) journals.now) (record { state = auditor.entry; read = reading }) → IsFound world_motion opening (map (λ j. j.now) journals.now) ended.0 ended.1) }
+    ensures memory { IfErr result (λ fault. fault ≡ Faults.Memory) }
+{
+    let found = reading.finish(&mut auditor, journals)?;
+    Ok((auditor, found))
 }
 
 // A node's place among the journals.

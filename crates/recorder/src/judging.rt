@@ -4,7 +4,9 @@ ghost use Rattle.plan.specs.External.{AreInputsOf};
 ghost use Rattle.plan.specs.Federation.{federate_count};
 ghost use Rattle.plan.specs.Legal.{IsLegal};
 ghost use Rattle.program.specs.Programs.{AreProgramsOf};
+ghost use Rattle.cores.specs.CoordinatorCore.{coordinator_core};
 ghost use Rattle.schedule.specs.Federation.{rows_in};
+ghost use Rattle.search.specs.declared.found.Found.TheVariants as Ends;
 ghost use Rattle.world.specs.World.{stations_of};
 ghost use Rattle.recorder.specs.Reports.{how_many, reported_rows, AreComplete};
 ghost use Rattle.recorder.specs.Difference.{DifferAt};
@@ -30,17 +32,35 @@ pub(crate) fn judge(
     ensures ended { IfOk result (λ audited. (coordinator : List Event) → HasSearched (claim_of world.entry reports.now coordinator) world.entry found → HasEnded (claim_of world.entry reports.now coordinator) audited) }
     ensures unproved { IfErr result (λ fault. (coordinator : List Event) → HasSearched (claim_of world.entry reports.now coordinator) world.entry found → IsUnproved (claim_of world.entry reports.now coordinator) fault) }
 {
+    match fault_of(&world, reports, found) {
+        Some(fault) => Err(fault),
+        None => Ok(run_of(world)),
+    }
+}
+
+// Why the reports aren't believed, after a search that ended so in this world.
+fn fault_of(world: &World<'_>, reports: &[Report], found: Found) -> Option<Unproved>
+    requires federation { IsLegal world.now.draft × AreProgramsOf world.now.draft world.now.programs × AreInputsOf world.now.draft world.now.inputs }
+    requires complete { AreComplete (federate_count world.now.draft) reports.now }
+    ensures { MatchOption result ((found ≡ Ends.All) × ((j : ℕ) → j < federate_count world.now.draft → HasReportedRows world.now reports.now j)) (λ fault. (coordinator : List Event) → HasSearched (claim_of world.now reports.now coordinator) world.now found → IsUnproved (claim_of world.now reports.now coordinator) fault) }
+{
     match found {
-        Found::Stuck(node, event) => Err(Unproved::Stuck(node, event)),
-        Found::All => match first_apart(&world, reports) {
-            Some((federate, row)) => Err(Unproved::Mismatch(federate, row)),
-            None => {
-                let is_finished = world.finished();
-                let steps = world.into_steps();
-                Ok(AuditedRun { steps, is_finished })
-            }
+        Found::Stuck(node, event) => Some(Unproved::Stuck(node, event)),
+        Found::All => match first_apart(world, reports) {
+            Some((federate, row)) => Some(Unproved::Mismatch(federate, row)),
+            None => None,
         },
     }
+}
+
+// A world's steps, and whether the coordinator is finished there.
+fn run_of(world: World<'_>) -> AuditedRun
+    ensures steps { result.steps.items ≡ world.entry.steps }
+    ensures finished { result.is_finished ≡ coordinator_core.finished (stations_of world.entry).coordinator.node }
+{
+    let is_finished = world.finished();
+    let steps = world.into_steps();
+    AuditedRun { steps, is_finished }
 }
 
 // The first federate whose rows aren't those that it reports, and the first place, counted from 1, at which they differ.

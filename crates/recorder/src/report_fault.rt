@@ -36,12 +36,12 @@ impl fmt::Display for ReportFault {
     ghost output = { λ fault. Some (text_of_report_fault fault) };
 
     fn fmt<W: fmt::Write>(&self, f: &mut fmt::Formatter<W>) -> fmt::Result {
-        let number = self.number();
-        match self {
-            ReportFault::Stranger => write!(f, "{number} Stranger"),
-            ReportFault::Double => write!(f, "{number} Double"),
-            ReportFault::Memory => write!(f, "{number} Memory"),
-        }
+        let name = match self {
+            ReportFault::Stranger => "Stranger",
+            ReportFault::Double => "Double",
+            ReportFault::Memory => "Memory",
+        };
+        write!(f, "{} {name}", self.number())
     }
 }
 

@@ -2,8 +2,8 @@
 use Rattle.std.proofs.Common.{◌≡◌, ℕ, ◌+◌, ◌<◌, ◌≤◌, true, false, ltb, List, ◌++◌, length, take, drop, Some, None, refl, sym, ap, subst, ◌∙◌, arith}
 use Rattle.std.proofs.lemmas.Bool.{le-ltb}
 use Rattle.std.proofs.lemmas.Bool.Decides.{nat_tests}
-use Rattle.std.proofs.lemmas.List.{take_at, drop_at, length-append, length-drop}
-use Rattle.byteorder.specs.Endian.{big_number}
+use Rattle.std.proofs.lemmas.List.{take_at, drop_at, length-append, length-drop, length-take-le, take-append-drop}
+use Rattle.byteorder.specs.Endian.{big_bytes, big_number}
 use Rattle.byteorder.specs.Numbers.{big_number-reads_back}
 use Rattle.signal.specs.declared.frame.Frame.{Frame}
 use Rattle.signal.specs.declared.fault.FrameFault.{FrameFault}
@@ -86,3 +86,15 @@ partial_faultless bytes h = rw h refl
 -- less than a frame is less than 68 bytes
 pub partial_short : (bytes : List ℕ) → is_partial bytes ≡ true → length bytes < 68
 partial_short bytes h = grind (arith, nat_tests)
+
+-- a body that is there, behind its length
+pub front_spells : (bytes rest body : List ℕ) (size : ℕ) (frame : Frame) → bytes ≡ big_bytes 4 size ++ rest → body ≡ take size rest → size ≤ length rest → IsBody body frame
+    → (4 + size ≤ length bytes) × Spells (take (4 + size) bytes) frame
+front_spells bytes rest body size frame parts front there spelled =
+    let long : length bytes ≡ 4 + length rest = ap length parts ∙ length-append (big_bytes 4 size) rest in
+    let same : length body ≡ size = ap length front ∙ length-take-le size rest there in
+    let halves : rest ≡ body ++ drop size rest = sym (take-append-drop size rest) ∙ ap (λ (r : List ℕ). r ++ drop size rest) (sym front) in
+    let whole : bytes ≡ (big_bytes 4 size ++ body) ++ drop size rest = parts ∙ ap (λ (r : List ℕ). big_bytes 4 size ++ r) halves in
+    let taken : take (4 + size) bytes ≡ big_bytes 4 size ++ body =
+    ap (take (4 + size)) whole ∙ take_at (big_bytes 4 size ++ body) (drop size rest) (4 + size) (length-append (big_bytes 4 size) body ∙ ap (λ (n : ℕ). 4 + n) same) in
+    (omega arith, record { body = body; is_body = spelled; is_framed = taken ∙ ap (λ (n : ℕ). big_bytes 4 n ++ body) (sym same) })

@@ -1,6 +1,6 @@
 -- A body put together again from the parts that were read one after the other.
 use Rattle.std.proofs.Common.{◌≡◌, ℕ, ◌+◌, ◌-◌, ◌<◌, ◌≤◌, List, [], ◌∷◌, ◌++◌, length, get_or, take, drop, false, ltb, Some, refl, sym, ap, ◌∙◌, arith}
-use Rattle.std.proofs.lemmas.List.{nil_from_length, length-drop, length-append, drop_more, drop-drop, take_rest}
+use Rattle.std.proofs.lemmas.List.{nil_from_length, length-drop, length-append, drop_more, drop-drop, take_rest, take_all, take-append-drop}
 use Rattle.std.proofs.lemmas.Bool.{le-ltb}
 use Rattle.byteorder.specs.Endian.{big_bytes}
 use Rattle.signal.specs.declared.fault.FrameFault.{FrameFault}
@@ -62,3 +62,23 @@ pub signal_fault_counts : (body signal : List ℕ) (fault : FrameFault) → 14 �
 signal_fault_counts body signal fault size kind place h =
     let long : ltb (length body) 14 ≡ false = le-ltb _ _ size in
     rw (kind, long) (ap signal_fault (sym place) ∙ h)
+
+-- a NET, an LTC or a TAG: its kind and twelve bytes
+pub point_parts : (bytes tag : List ℕ) (kind : ℕ) → length bytes ≡ 13 → get_or bytes 0 0 ≡ kind → take 12 (from 1 bytes) ≡ tag → bytes ≡ kind ∷ tag
+point_parts bytes tag kind size first e =
+    let all : take 12 (from 1 bytes) ≡ from 1 bytes = take_all 12 (from 1 bytes) (omega (arith, ap length (take_rest bytes 1), length-drop 1 bytes)) in
+    headed bytes tag kind (omega arith) first (sym (take_rest bytes 1) ∙ sym all ∙ e)
+
+pub message_parts : (bytes fields more tag : List ℕ) (connection value spelled : ℕ) → length bytes ≡ 23 → get_or bytes 0 0 ≡ 4
+    → from 1 bytes ≡ big_bytes 2 connection ++ fields → take 12 fields ≡ tag → from 12 fields ≡ big_bytes 8 value ++ more → spelled ≡ value
+    → bytes ≡ 4 ∷ big_bytes 2 connection ++ tag ++ big_bytes 8 spelled
+message_parts bytes fields more tag connection value spelled size kind first second third same =
+    let start : drop 1 bytes ≡ big_bytes 2 connection ++ fields = sym (take_rest bytes 1) ∙ first in
+    let last : drop 12 fields ≡ big_bytes 8 value ++ more = sym (take_rest fields 12) ∙ third in
+    let a : length (drop 1 bytes) ≡ 2 + length fields = ap length start ∙ length-append (big_bytes 2 connection) fields in
+    let b : length (drop 12 fields) ≡ 8 + length more = ap length last ∙ length-append (big_bytes 8 value) more in
+    let nothing : more ≡ [] = nil_from_length more (omega (arith, length-drop 1 bytes, length-drop 12 fields)) in
+    let end : drop 12 fields ≡ big_bytes 8 spelled = field_then (drop 12 fields) (big_bytes 8 value) more [] last nothing ∙ ap (big_bytes 8) (sym same) in
+    let whole : fields ≡ tag ++ big_bytes 8 spelled = sym (take-append-drop 12 fields) ∙ rw (second, end) refl in
+    headed bytes (big_bytes 2 connection ++ tag ++ big_bytes 8 spelled) 4 (omega arith) kind
+    (field_then _ (big_bytes 2 connection) fields _ start whole)

@@ -3,7 +3,7 @@ ghost use Rattle.std.specs.Prelude.{◌≡◌};
 use std::fmt;
 
 /// Why bytes are no frame. Who wrote them is at fault, and the stream can't be read on: whoever reads it gives it up.
-#[derive(Clone, Copy, Debug, PartialEq, Eq, Hash)]
+#[derive(Clone, Copy, Debug, PartialEq, Eq)]
 pub enum FrameFault {
     /// The writer told a length of 0 or above 64, or a body shorter than its kind needs.
     BadLength,
@@ -38,13 +38,13 @@ impl fmt::Display for FrameFault {
     ghost output = { λ fault. Some (text_of fault) };
 
     fn fmt<W: fmt::Write>(&self, f: &mut fmt::Formatter<W>) -> fmt::Result {
-        let number = self.number();
-        match self {
-            FrameFault::BadLength => write!(f, "{number} BadLength"),
-            FrameFault::BadKind => write!(f, "{number} BadKind"),
-            FrameFault::BadTag => write!(f, "{number} BadTag"),
-            FrameFault::Trailing => write!(f, "{number} Trailing"),
-        }
+        let name = match self {
+            FrameFault::BadLength => "BadLength",
+            FrameFault::BadKind => "BadKind",
+            FrameFault::BadTag => "BadTag",
+            FrameFault::Trailing => "Trailing",
+        };
+        write!(f, "{} {name}", self.number())
     }
 }
 

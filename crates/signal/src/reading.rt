@@ -1,6 +1,6 @@
 //! The signal that some bytes spell.
 
-ghost use Rattle.std.specs.Prelude.{◌≡◌, ◌≤◌, ◌<◌, length, take, drop, slice_index, MatchResult, IfSome, IfOk, IfErr, IfNone, Some, false, true, nat_lt, MatchBool};
+ghost use Rattle.std.specs.Prelude.{◌≡◌, ◌≤◌, ◌<◌, length, take, drop, slice_index, MatchResult, IfOk, IfErr, Some, false, true, nat_lt, MatchBool};
 ghost use Rattle.byteorder.specs.Endian.{big_number};
 ghost use Rattle.tag.specs.LogicalTime.{IsFinite, IsLogicalTime};
 ghost use Rattle.signal.specs.Signal.{tag_bytes, signal_bytes, IsSignal};
@@ -15,11 +15,11 @@ use crate::wire::{
 };
 use tag::{FiniteTag, Time};
 
-/// None for a time that isn't before FOREVER's.
-fn finite_tag_of(bytes: &[u8]) -> Option<FiniteTag>
+/// The tag at the front; a fault for a time that isn't before FOREVER's.
+fn finite_tag_of(bytes: &[u8]) -> Result<FiniteTag, FrameFault>
     requires { 12 ≤ length bytes.now }
-    ensures found { IfSome result (λ g. IsFinite g × (take 12 bytes.now ≡ tag_bytes g)) }
-    ensures none { IfNone result (is_tag false (big_number 8 bytes.now) (big_number 4 (drop 8 bytes.now)) ≡ false) }
+    ensures found { IfOk result (λ g. IsFinite g × (take 12 bytes.now ≡ tag_bytes g)) }
+    ensures fault { IfErr result (λ e. (e ≡ FrameFault.BadTag) × (is_tag false (big_number 8 bytes.now) (big_number 4 (drop 8 bytes.now)) ≡ false)) }
 {
     let (time, rest) = take_u64(bytes);
     let (microstep, _) = take_u32(rest);
@@ -27,27 +27,27 @@ fn finite_tag_of(bytes: &[u8]) -> Option<FiniteTag>
         Some(time) => {
             let tag = FiniteTag::new(time, microstep);
             tag.known();
-            Some(tag)
+            Ok(tag)
         }
-        None => None,
+        None => Err(FrameFault::BadTag),
     }
 }
 
 /// The same, and FOREVER for twelve bytes ff.
-fn tag_of(bytes: &[u8]) -> Option<tag::Tag>
+fn tag_of(bytes: &[u8]) -> Result<tag::Tag, FrameFault>
     requires { 12 ≤ length bytes.now }
-    ensures found { IfSome result (λ g. IsLogicalTime g × (take 12 bytes.now ≡ tag_bytes g)) }
-    ensures none { IfNone result (is_tag true (big_number 8 bytes.now) (big_number 4 (drop 8 bytes.now)) ≡ false) }
+    ensures found { IfOk result (λ g. IsLogicalTime g × (take 12 bytes.now ≡ tag_bytes g)) }
+    ensures fault { IfErr result (λ e. (e ≡ FrameFault.BadTag) × (is_tag true (big_number 8 bytes.now) (big_number 4 (drop 8 bytes.now)) ≡ false)) }
 {
     let (time, rest) = take_u64(bytes);
     let (microstep, _) = take_u32(rest);
     let tag = match Time::new(time) {
         Some(time) => tag::Tag::new(time, microstep),
         None if time == FOREVER_TIME && microstep == FOREVER_MICROSTEP => tag::Tag::FOREVER,
-        None => return None,
+        None => return Err(FrameFault::BadTag),
     };
     tag.known();
-    Some(tag)
+    Ok(tag)
 }
 
 /// Whether there are as many bytes as are needed.
@@ -70,23 +70,30 @@ pub fn signal_of(bytes: &[u8]) -> Result<Signal, FrameFault>
     ensures fault { IfErr result (λ e. signal_fault bytes.now ≡ Some e) }
 {
     match bytes[0] {
-        NET_KIND => {
-            check_size(bytes.len(), POINT_SIZE)?;
-            let tag = tag_of(&bytes[1..]).ok_or(FrameFault::BadTag)?;
-            Ok(Signal::Net(tag))
-        }
-        LTC_KIND => {
-            check_size(bytes.len(), POINT_SIZE)?;
-            let tag = finite_tag_of(&bytes[1..]).ok_or(FrameFault::BadTag)?;
-            Ok(Signal::Ltc(tag))
-        }
-        TAG_KIND => {
-            check_size(bytes.len(), POINT_SIZE)?;
-            let tag = finite_tag_of(&bytes[1..]).ok_or(FrameFault::BadTag)?;
-            Ok(Signal::Tag(tag))
-        }
+        NET_KIND | LTC_KIND | TAG_KIND => point_of(bytes),
         MSG_KIND => message_of(bytes),
         _ => Err(FrameFault::BadKind),
+    }
+}
+
+/// The NET, LTC or TAG that all of these bytes spell.
+fn point_of(bytes: &[u8]) -> Result<Signal, FrameFault>
+    requires there { 0 < length bytes.now }
+    requires is_kind { 0 < slice_index bytes.now 0 }
+    requires no_message { slice_index bytes.now 0 < MSG_KIND }
+    ensures spelled { IfOk result (λ signal. IsSignal signal × (bytes.now ≡ signal_bytes signal)) }
+    ensures fault { IfErr result (λ e. signal_fault bytes.now ≡ Some e) }
+{
+    check_size(bytes.len(), POINT_SIZE)?;
+    if bytes[0] == NET_KIND {
+        let tag = tag_of(&bytes[1..])?;
+        return Ok(Signal::Net(tag));
+    }
+    let tag = finite_tag_of(&bytes[1..])?;
+    if bytes[0] == LTC_KIND {
+        Ok(Signal::Ltc(tag))
+    } else {
+        Ok(Signal::Tag(tag))
     }
 }
 
@@ -100,7 +107,7 @@ fn message_of(bytes: &[u8]) -> Result<Signal, FrameFault>
     check_size(bytes.len(), MSG_SIZE)?;
     let (connection, fields) = take_u16(&bytes[1..]);
     let (value, _) = take_u64(&fields[12..]);
-    let tag = finite_tag_of(fields).ok_or(FrameFault::BadTag)?;
+    let tag = finite_tag_of(fields)?;
     Ok(Signal::Msg {
         connection,
         tag,

@@ -1,18 +1,13 @@
 -- What a federate that forgets makes of the world.
-use Rattle.std.proofs.Common.{◌≡◌, ℕ, ◌+◌, ◌^◌, Bool, true, false, List, [], ◌∷◌, ◌++◌, length, map, set, slice_get, Option, None, Some, if◌then◌else◌, nat_lt, refl, sym, ap, ◌∙◌, arith}
+use Rattle.std.proofs.Common.{◌≡◌, ℕ, ◌+◌, ◌^◌, Bool, true, false, List, [], ◌∷◌, length, map, set, slice_get, Option, None, Some, if◌then◌else◌, nat_lt, refl, sym, ap, ◌∙◌, arith}
 use Rattle.std.specs.Prelude.{◌&&◌}
 use Rattle.std.proofs.lemmas.List.{length-map}
-use Rattle.std.proofs.lemmas.List.Elements.{All-set}
 use Rattle.std.proofs.lemmas.Option.{cond_some}
-use Rattle.signal.specs.declared.frame.Frame.{Frame}
 use Rattle.link.specs.Image.{Image}
 use Rattle.node.specs.Core.{Core}
 use Rattle.node.specs.Step.{Station}
-use Rattle.schedule.specs.declared.step.Step.{Step}
 use Rattle.schedule.specs.declared.outcome.Outcome.TheVariants as outcome
-use Rattle.schedule.specs.World.{World, Applied, blank_next, forgotten, has_next, forgets, listed}
-use Rattle.stage.specs.Made.{IsWorld}
-use Rattle.stage.proofs.Stepping.{has_one}
+use Rattle.schedule.specs.World.{World, Applied, blank_next, forgotten, has_next, forgets}
 
 -- a list of one
 single : {X : Type 0} (xs : List X) (x : X) → length xs ≡ 1 → slice_get xs 0 ≡ Some x → xs ≡ x ∷ []
@@ -50,27 +45,18 @@ pub blank_is : {Member Row : Type 0} (core : Core Member Row) (s blank : Station
 blank_is core s blank is = let both = cond_some (has_next s.ends) (forgotten core s) blank (sym is) in (both.0, sym both.1)
 
 -- a federate that forgot still has one peer
-pub still_world : {Member Row : Type 0} (core : Core Member Row) (hub member : Bool) (federates later : List (Station Member)) (j : ℕ) (s blank : Station Member) →
-    IsWorld hub member federates → slice_get federates j ≡ Some s → Some blank ≡ (if has_next s.ends then Some (forgotten core s) else None) → later ≡ set federates j blank →
-    IsWorld hub member later
-still_world core hub member federates later j s blank is found made put =
-    let one = has_one federates j s is.one_peer found in
+pub has_one_still : {Member Row : Type 0} (core : Core Member Row) (s blank : Station Member) → length s.ends ≡ 1 →
+    Some blank ≡ (if has_next s.ends then Some (forgotten core s) else None) → length blank.ends ≡ 1
+has_one_still core s blank one made =
     let blank_ends : blank.ends ≡ map blank_next s.ends = ap (λ (x : Station _). x.ends) (blank_is core s blank made).1 in
-    let long = ap length blank_ends ∙ length-map s.ends blank_next in
-    record {
-      is_hub = is.is_hub;
-      is_member = is.is_member;
-      one_peer = rw put (All-set (λ f. length f.ends ≡ 1) federates j blank (long ∙ one) is.one_peer);
-    }
+    ap length blank_ends ∙ length-map s.ends blank_next ∙ one
 
 -- the world after a federate forgot
-pub after_forget : {Hub Member Row : Type 0} (core : Core Member Row) (w : World Hub Member) (coordinator : Station Hub) (federates later : List (Station Member))
-    (up down : List (List Frame)) (steps steps_then : List Step) (j : ℕ) (s blank : Station Member) (step : Step) →
-    w ≡ record { coordinator = coordinator; federates = federates; up = up; down = down; steps = steps } → slice_get federates j ≡ Some s →
-    Some blank ≡ (if has_next s.ends then Some (forgotten core s) else None) → later ≡ set federates j blank → steps_then ≡ steps ++ step ∷ [] →
+pub put_is : {Hub Member Row : Type 0} (core : Core Member Row) (w : World Hub Member) (j : ℕ) (s blank : Station Member) → slice_get w.federates j ≡ Some s →
+    Some blank ≡ (if has_next s.ends then Some (forgotten core s) else None) →
     ◌≡◌ {A = Applied Hub Member}
-    (record { world = record { coordinator = coordinator; federates = later; up = up; down = down; steps = steps_then }; outcome = outcome.Done })
-    (listed step (forgets core w j (slice_get w.federates j)))
-after_forget core w coordinator federates later up down steps steps_then j s blank step view found made put listed_then =
+    (record { world = record w { federates = set w.federates j blank }; outcome = outcome.Done })
+    (forgets core w j (slice_get w.federates j))
+put_is core w j s blank found made =
     let both = blank_is core s blank made in
-    rw (view, found, both.0, put, both.1, listed_then) refl
+    rw (found, both.0, both.1) refl

@@ -1,8 +1,8 @@
 -- What a step of one station makes of the world.
-use Rattle.std.proofs.Common.{◌≡◌, ◌≢◌, ℕ, zero, suc, ◌+◌, ◌<◌, ◌≤◌, Bool, true, false, List, [], ◌∷◌, ◌++◌, length, map, set, get_or, take, slice_get, Option, None, Some, nat_eq, refl, sym, ap, ◌∙◌, arith}
+use Rattle.std.proofs.Common.{◌≡◌, ◌≢◌, ℕ, zero, suc, ◌+◌, ◌<◌, ◌≤◌, Bool, true, false, List, [], ◌∷◌, ◌++◌, length, map, set, get_or, take, replicate, slice_get, Option, None, Some, nat_eq, refl, sym, ap, ◌∙◌, arith}
 use Rattle.std.specs.Prelude.{◌-◌}
 use Rattle.std.proofs.lemmas.Bool.Decides.{nat_tests}
-use Rattle.std.proofs.lemmas.List.{take_more}
+use Rattle.std.proofs.lemmas.List.{take_more, length-map, length-replicate}
 use Rattle.std.proofs.lemmas.List.Elements.{All-get_or, All-set}
 use Rattle.std.proofs.lemmas.Option.{slice_get_past, slice_get_within, get_or_from_slice_get}
 use Rattle.signal.specs.declared.frame.Frame.{Frame}
@@ -13,7 +13,8 @@ use Rattle.node.specs.Core.{Core}
 use Rattle.node.specs.Step.{Station, Stepped, Answer, step_of}
 use Rattle.schedule.specs.declared.step.Step.{Step}
 use Rattle.schedule.specs.declared.outcome.Outcome.{Outcome}
-use Rattle.schedule.specs.World.{World, Applied, frames_of, outcome_of, at_federate, listed, applied, after_steps}
+use Rattle.schedule.specs.World.{World, Applied, frames_of, outcome_of, sent_out, at_federate, at_node, listed, applied, after_steps}
+use Rattle.node.specs.declared.node_id.NodeId.TheVariants.{Coordinator}
 use Rattle.stage.specs.Room.{count_to, most_to, most_ever_to, SentView, spare_at, AllSpare, IsReserved, HasSpare, Fits}
 use Rattle.stage.specs.Made.{IsWorld, HaveOnePeer}
 use Rattle.stage.proofs.Bound.{within, IsBounded}
@@ -114,6 +115,39 @@ still_world core hub member federates later j s e is found stepped =
       is_hub = is.is_hub;
       is_member = is.is_member;
       one_peer = rw stepped (All-set (λ f. length f.ends ≡ 1) federates j (step_of core member s e).station (omega arith) is.one_peer);
+    }
+
+-- the world after a step of the hub
+pub after_hub : {Hub Member HubRow Row : Type 0} (core : Core Hub HubRow) (member : Core Member Row) (flag : Bool) (w : World Hub Member) (coordinator later : Station Hub) (federates : List (Station Member))
+    (up down down_ready down_then : List (List Frame)) (steps steps_ready steps_then : List Step) (e : Event) (step : Step) (answer : Answer) (outs : List Outgoing) (o : Outcome) →
+    w ≡ record { coordinator = coordinator; federates = federates; up = up; down = down; steps = steps } → flag ≡ true →
+    record { station = later; answer = answer } ≡ step_of core flag coordinator e → outs ≡ frames_of answer →
+    down_ready ≡ down → down_then ≡ sent_out down_ready outs → steps_ready ≡ steps → steps_then ≡ steps_ready ++ step ∷ [] → o ≡ outcome_of answer →
+    ◌≡◌ {A = Applied Hub Member}
+    (record { world = record { coordinator = later; federates = federates; up = up; down = down_then; steps = steps_then }; outcome = o })
+    (listed step (at_node core member w Coordinator e))
+after_hub core member flag w coordinator later federates up down down_ready down_then steps steps_ready steps_then e step answer outs o view hub stepped frames same put as_before made told =
+    let station : later ≡ (step_of core flag coordinator e).station = ap (λ (r : Stepped _). r.station) stepped in
+    let says : answer ≡ (step_of core flag coordinator e).answer = ap (λ (r : Stepped _). r.answer) stepped in
+    rw (view, told, made, as_before, put, same, frames, station, says, hub) refl
+
+-- another station with one peer in the place of a federate's
+pub world_with : {View : Type 0} (hub member : Bool) (federates later : List (Station View)) (j : ℕ) (s : Station View) →
+    IsWorld hub member federates → length s.ends ≡ 1 → later ≡ set federates j s → IsWorld hub member later
+world_with hub member federates later j s is one put = record {
+  is_hub = is.is_hub;
+  is_member = is.is_member;
+  one_peer = rw put (All-set (λ f. length f.ends ≡ 1) federates j s one is.one_peer);
+}
+
+-- where no frame was sent yet, none is reserved
+pub none_reserved : (ends : List Image) (down : List SentView) (count most : ℕ) → map (λ s. s.frames) down ≡ replicate count [] →
+    ((j : ℕ) → j < count → most_ever_to (slice_get ends j) ≤ most) → IsReserved ends down most 0
+none_reserved ends down count most none bound =
+    let long : length down ≡ count = sym (length-map down (λ (s : SentView). s.frames)) ∙ ap length none ∙ length-replicate count [] in
+    record {
+      bounded = λ j there. bound j (omega arith);
+      memory = λ j there. omega arith;
     }
 
 -- the world after a step of a federate

@@ -1,8 +1,10 @@
 -- The frames of all directions: one of them longer, and the memory that is left.
-use Rattle.std.proofs.Common.{◌≡◌, ℕ, zero, suc, ◌+◌, ◌<◌, ◌≤◌, true, List, [], ◌∷◌, ◌++◌, length, map, set, get_or, slice_get, Some, if◌then◌else◌, nat_eq, refl, ap, arith}
+use Rattle.std.proofs.Common.{◌≡◌, ℕ, zero, suc, ◌+◌, ◌<◌, ◌≤◌, true, List, [], ◌∷◌, ◌++◌, length, map, set, get_or, slice_get, Option, None, Some, option_map, IfSome, if◌then◌else◌, nat_eq, refl, sym, ap, arith}
+use Rattle.std.specs.Borrow.{Bor}
+use Rattle.std.specs.Slice.{IsItemAt}
 use Rattle.std.proofs.lemmas.Bool.Decides.{nat_tests}
 use Rattle.std.proofs.lemmas.List.{map-set, map-append, append_assoc, append-nil}
-use Rattle.std.proofs.lemmas.Option.{slice_get_read}
+use Rattle.std.proofs.lemmas.Option.{slice_get_read, slice_get_past}
 use Rattle.signal.specs.declared.frame.Frame.{Frame}
 use Rattle.node.specs.declared.outgoing.Outgoing.{Outgoing}
 use Rattle.schedule.specs.World.{sent_out}
@@ -11,6 +13,15 @@ use Rattle.stage.specs.Room.{count_to, SentView, frames_of_each, spare_at, NoneL
 -- what a look at a place tells
 pub found_at : {X : Type 0} (xs : List X) (i : ℕ) (x : X) → i < length xs → x ≡ get_or xs i x → slice_get xs i ≡ Some x
 found_at xs i x within is = slice_get_read xs (length xs) i x refl within is
+
+-- the same of what it lends
+pub found_in : {X : Type 0} (xs : List X) (i : ℕ) (r : Option (Bor X)) → IsItemAt xs i r → option_map (λ (x : Bor X). x.now) r ≡ slice_get xs i
+found_in xs i None is = sym (slice_get_past xs i is.3)
+found_in xs i (Some x) is = sym (found_at xs i x.now is.3.0 is.1)
+
+pub there_in : {X : Type 0} (xs : List X) (i : ℕ) (r : Option (Bor X)) → IsItemAt xs i r → IfSome r (λ _. i < length xs)
+there_in xs i None is = tt
+there_in xs i (Some x) is = is.3.0
 
 pub frames_set : (xs : List SentView) (i : ℕ) (y : SentView) → frames_of_each (set xs i y) ≡ set (frames_of_each xs) i y.frames
 frames_set xs i y = map-set (λ s. s.frames) xs i y

@@ -1,7 +1,7 @@
 //! The frames of all directions from or to the coordinator, by federate.
 ghost use Rattle.std.specs.Prelude.{◌≡◌, ℕ, ◌+◌, ◌<◌, ◌≤◌, ◌++◌, ◌∷◌, [], if◌then◌else◌, nat_eq, length, map, set, get_or, slice_get, replicate, OnOk, IfOk};
 ghost use Rattle.schedule.specs.World.{sent_out, frame_at};
-ghost use Rattle.stage.specs.Room.{most_to, most_ever_to, frames_of_each, spare_at, AllSpare, NoneLost, Fits};
+ghost use Rattle.stage.specs.Room.{most_to, most_ever_to, frames_of_each, spare_at, AllSpare, IsReserved, NoneLost, Fits};
 
 use crate::memory::Memory;
 use crate::sent::Sent;
@@ -33,7 +33,7 @@ fn most_ever_to<N: Node>(station: &Station<N>, peer: usize) -> Result<usize, Mem
 }
 
 // How many frames a station sends to one of its first peers at most in any step to come.
-pub(crate) fn most_ever<N: Node>(station: &Station<N>, peers: usize) -> Result<usize, Memory>
+fn most_ever<N: Node>(station: &Station<N>, peers: usize) -> Result<usize, Memory>
     ensures { IfOk result (λ most. (j : ℕ) → j < peers → most_ever_to (slice_get station.now.ends j) ≤ most) }
 {
     let mut most = 0;
@@ -138,8 +138,33 @@ pub(crate) fn append_all(sent: &mut Vec<Sent>, place: usize, outgoing: &[Outgoin
     }
 }
 
+/// All directions of a world, by federate.
+#[derive(Drop)]
+pub(crate) struct Directions {
+    pub(crate) up: Vec<Sent>,
+    pub(crate) down: Vec<Sent>,
+    /// No step of the coordinator sends more frames to one federate.
+    pub(crate) most: usize,
+}
+
+// No frame in each direction from and to so many federates.
+pub(crate) fn none_used<N: Node>(
+    alloc: Global,
+    coordinator: &Station<N>,
+    count: usize,
+) -> Result<Directions, Memory>
+    ensures up { IfOk result (λ directions. frames_of_each directions.up.items ≡ replicate count []) }
+    ensures down { IfOk result (λ directions. frames_of_each directions.down.items ≡ replicate count []) }
+    ensures reserved { IfOk result (λ directions. IsReserved coordinator.now.ends directions.down.items directions.most 0) }
+{
+    let most = most_ever(coordinator, count)?;
+    let up = none_sent(alloc, count)?;
+    let down = none_sent(alloc, count)?;
+    Ok(Directions { up, down, most })
+}
+
 // No frame in each of so many directions.
-pub(crate) fn none_sent(alloc: Global, count: usize) -> Result<Vec<Sent>, Memory>
+fn none_sent(alloc: Global, count: usize) -> Result<Vec<Sent>, Memory>
     ensures { IfOk result (λ sent. frames_of_each sent.items ≡ replicate count []) }
 {
     let mut sent = Vec::with_capacity(alloc, count)?;

@@ -1,14 +1,15 @@
-ghost use Rattle.std.specs.Prelude.{◌≡◌, ℕ, take, ◌<◌, ◌≤◌, ◌++◌, ◌∷◌, [], true, false, length, set, slice_get, option_map, IfOk, OnOk, OnErr, Some};
+ghost use Rattle.std.specs.Prelude.{◌≡◌, ℕ, take, ◌<◌, ◌≤◌, ◌++◌, ◌∷◌, [], true, false, length, set, slice_get, option_map, IfOk, IfSome, OnOk, OnErr, Some};
 ghost use Rattle.link.specs.Image.{room_left};
 ghost use Rattle.node.specs.Step.{Station as StationOf, said, step_of};
 ghost use Rattle.schedule.specs.World.{applied, after_steps, occurrence_of, frames_in, frame_at, at_node, happens, forgets, listed, unchanged};
 ghost use Rattle.schedule.specs.Taken.{sender};
 ghost use Rattle.node.specs.declared.node_id.NodeId.TheVariants as NodeIds;
+ghost use Rattle.schedule.specs.declared.outcome.Outcome.TheVariants as Outcomes;
 ghost use Rattle.stage.specs.Made.{HaveOnePeer, unused};
 
 use crate::blank::forgotten;
 use crate::directions::{
-    append_all, append_each, count, most_ever, none_sent, nth, reserve_ahead, reserve_first,
+    append_all, append_each, count, none_used, nth, reserve_ahead, reserve_first,
 };
 use crate::memory::Memory;
 use crate::occurrence::{Occurrence, comes, federate_of, greets, sends_again};
@@ -67,16 +68,14 @@ impl<H: Node, M: Blank> Stations<H, M> {
         requires one_peer { HaveOnePeer federates.items }
         ensures { IfOk result (λ w. w ≡ unused coordinator federates.items) }
     {
-        let up = none_sent(alloc, federates.len())?;
-        let down = none_sent(alloc, federates.len())?;
-        let most = most_ever(&coordinator, federates.len())?;
+        let directions = none_used(alloc, &coordinator, federates.len())?;
         Ok(Stations {
             alloc,
             coordinator,
             federates,
-            up,
-            down,
-            most,
+            up: directions.up,
+            down: directions.down,
+            most: directions.most,
             spare: 0,
             steps: Vec::new(alloc),
         })
@@ -107,7 +106,7 @@ impl<H: Node, M: Blank> Stations<H, M> {
     pub fn federate(&self, federate: usize) -> Option<&Station<M>>
         ensures { option_map (λ s. s.now) result ≡ slice_get self.now.federates federate }
     {
-        self.federates.get(federate)
+        station_at(&self.federates, federate)
     }
 
     /// How many frames were ever sent in a direction.
@@ -162,7 +161,7 @@ impl<H: Node, M: Blank> Stations<H, M> {
         ensures { option_map (λ e. e.now.image) result ≡ sender self.now dir }
     {
         match dir {
-            Dir::Up(federate) => self.federates.get(federate)?.end(0),
+            Dir::Up(federate) => self.federate(federate)?.end(0),
             Dir::Down(federate) => self.coordinator.end(federate),
         }
     }
@@ -247,7 +246,7 @@ impl<H: Node, M: Blank> Stations<H, M> {
         ensures done { IfOk result (λ outcome. record { world = self.new; outcome = outcome } ≡ listed step (at_node H.core M.core self.old (NodeIds.Federate federate) event)) }
         ensures as_before { OnErr result (self.new ≡ self.old) }
     {
-        let Some(station) = self.federates.get(federate) else {
+        let Some(station) = station_at(&self.federates, federate) else {
             return self.pass(step);
         };
         self.steps.reserve(1)?;
@@ -263,19 +262,37 @@ impl<H: Node, M: Blank> Stations<H, M> {
         ensures done { IfOk result (λ outcome. record { world = self.new; outcome = outcome } ≡ listed step (forgets M.core self.old federate (slice_get self.old.federates federate))) }
         ensures as_before { OnErr result (self.new ≡ self.old) }
     {
-        let Some(station) = self.federates.get(federate) else {
+        let Some(station) = self.federate(federate) else {
             return self.pass(step);
         };
         let Some(blank) = forgotten(self.alloc, station)? else {
             return self.pass(step);
         };
+        self.put(federate, blank, step)
+    }
+
+    // Another station in the place of a federate's.
+    fn put(&mut self, federate: usize, station: Station<M>, step: Step) -> Result<Outcome, Memory>
+        requires there { federate < length self.old.federates }
+        requires one_peer { length station.ends ≡ 1 }
+        ensures done { IfOk result (λ outcome. record { world = self.new; outcome = outcome } ≡ listed step (record { world = record self.old { federates = set self.old.federates federate station }; outcome = Outcomes.Done })) }
+        ensures as_before { OnErr result (self.new ≡ self.old) }
+    {
         self.steps.push(step)?;
-        replace(&mut self.federates, federate, blank);
+        replace(&mut self.federates, federate, station);
         Ok(Outcome::Done)
     }
 }
 
-// Another station in the place of a federate's.
+// The station of a federate.
+fn station_at<M: Node>(federates: &[Station<M>], federate: usize) -> Option<&Station<M>>
+    ensures station { option_map (λ s. s.now) result ≡ slice_get federates.now federate }
+    ensures there { IfSome result (λ _. federate < length federates.now) }
+{
+    federates.get(federate)
+}
+
+// Another one in its place.
 fn replace<M: Node>(federates: &mut Vec<Station<M>>, federate: usize, station: Station<M>)
     requires { federate < length federates.old.items }
     ensures { federates.new.items ≡ set federates.old.items federate station }
@@ -288,13 +305,13 @@ fn step_at<M: Node>(
     federates: &mut Vec<Station<M>>,
     federate: usize,
     event: Event,
-) -> Result<Reply, Memory>
+) -> Result<Reply, node::Memory>
     requires there { federate < length federates.old.items }
     ensures said { (s : StationOf M) → slice_get federates.old.items federate ≡ Some s → IfOk result (λ reply. said reply ≡ (step_of M.core M.HUB s event).answer) }
     ensures stepped { (s : StationOf M) → slice_get federates.old.items federate ≡ Some s → OnOk result (federates.new.items ≡ set federates.old.items federate (step_of M.core M.HUB s event).station) }
     ensures as_before { OnErr result (federates.new.items ≡ federates.old.items) }
 {
-    Ok(federates[federate].step(event)?)
+    federates[federate].step(event)
 }
 
 // A federate says or runs something.

@@ -1,11 +1,12 @@
 ghost use Rattle.std.specs.Prelude.{◌≡◌, ◌↔◌, IsTrue};
 
+use crate::tag::Tag;
 use crate::time::Time;
 use std::fmt;
 use std::marker::Model;
 
 /// How much later something happens: a time below 2^62 ns with a microstep, or `FOREVER`.
-#[derive(Clone, Copy, Debug, PartialEq, Eq, PartialOrd, Ord, Hash)]
+#[derive(Clone, Copy, Debug, PartialEq, Eq, PartialOrd, Ord)]
 pub struct Delay {
     time: u64,
     microstep: u32,
@@ -107,10 +108,6 @@ impl fmt::Display for Delay {
     ghost output = { λ t. Some (printed_tag t) };
 
     fn fmt<W: fmt::Write>(&self, f: &mut fmt::Formatter<W>) -> fmt::Result {
-        let microstep = self.microstep;
-        match Time::new(self.time) {
-            Some(time) => write!(f, "({time}, {microstep})"),
-            None => write!(f, "FOREVER"),
-        }
+        fmt::Display::fmt(&Tag::after_origin(*self), f)
     }
 }

@@ -20,7 +20,7 @@ pub enum DurationFault {
 }
 
 impl DurationFault {
-    ghost use Rattle.tag.specs.DurationFault.{fault_number};
+    ghost use Rattle.tag.specs.DurationFault.{fault_number, fault_name};
 
     pub fn number(self) -> u16
         ensures { result ≡ fault_number self }
@@ -28,6 +28,15 @@ impl DurationFault {
         match self {
             DurationFault::BadDuration => 1,
             DurationFault::TooLong => 2,
+        }
+    }
+
+    fn name(self) -> &'static str
+        ensures { result.now ≡ fault_name self }
+    {
+        match self {
+            DurationFault::BadDuration => "BadDuration",
+            DurationFault::TooLong => "TooLong",
         }
     }
 }
@@ -39,11 +48,7 @@ impl fmt::Display for DurationFault {
     ghost output = { λ fault. Some (fault_text fault) };
 
     fn fmt<W: fmt::Write>(&self, f: &mut fmt::Formatter<W>) -> fmt::Result {
-        let number = self.number();
-        match self {
-            DurationFault::BadDuration => write!(f, "{number} BadDuration"),
-            DurationFault::TooLong => write!(f, "{number} TooLong"),
-        }
+        write!(f, "{} {}", self.number(), self.name())
     }
 }
 

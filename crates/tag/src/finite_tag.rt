@@ -76,10 +76,6 @@ impl fmt::Display for FiniteTag {
     ghost output = { λ t. Some (printed_tag t) };
 
     fn fmt<W: fmt::Write>(&self, f: &mut fmt::Formatter<W>) -> fmt::Result {
-        let time = self.time;
-        let microstep = self.microstep;
-        // For the prover: the time is below 2^62 ns.
-        let _nanoseconds = time.nanoseconds();
-        write!(f, "({time}, {microstep})")
+        fmt::Display::fmt(&self.tag(), f)
     }
 }

@@ -1,6 +1,7 @@
 ghost use Rattle.std.specs.Prelude.{◌≡◌, ℕ, ◌<◌, ◌≤◌, ◌^◌, ◌↔◌, IsTrue, IsSome, IfSome, IfNone};
 ghost use Rattle.tag.specs.LogicalTime.{greater, lesser};
 
+use crate::delay::Delay;
 use crate::time::Time;
 use std::fmt;
 use std::marker::Model;
@@ -49,6 +50,18 @@ impl Tag {
         Tag {
             time: 0,
             microstep: 0,
+        }
+    }
+
+    /// The tag that is so much later than the first.
+    pub(crate) fn after_origin(delay: Delay) -> Tag
+        ensures { result ≡ delay }
+    {
+        // For the prover: a delay is at most FOREVER.
+        delay.known();
+        Tag {
+            time: delay.time(),
+            microstep: delay.microstep(),
         }
     }
 

@@ -1,4 +1,6 @@
-ghost use Rattle.std.specs.Prelude.{◌≡◌, ℕ, ◌<◌, ◌≤◌, ◌^◌, ◌↔◌, IsTrue, IsSome, IfSome};
+ghost use Rattle.std.specs.Prelude.{◌≡◌, ℕ, ◌<◌, ◌≤◌, ◌^◌, ◌↔◌, ◌++◌, IsTrue, IsSome, IfSome, codes};
+ghost use Rattle.std.specs.Fmt.{decimal};
+ghost use Rattle.tag.specs.Printed.{printed_time};
 
 use std::fmt;
 use std::marker::Model;
@@ -54,17 +56,26 @@ impl fmt::Display for Time {
     ghost output = { λ t. Some (printed_time t) };
 
     fn fmt<W: fmt::Write>(&self, f: &mut fmt::Formatter<W>) -> fmt::Result {
-        let time = self.nanoseconds;
-        if time == 0 {
-            write!(f, "0")
-        } else if time % 1_000_000_000 == 0 {
-            write!(f, "{} s", time / 1_000_000_000)
-        } else if time % 1_000_000 == 0 {
-            write!(f, "{} ms", time / 1_000_000)
-        } else if time % 1_000 == 0 {
-            write!(f, "{} us", time / 1_000)
-        } else {
-            write!(f, "{time} ns")
+        if self.nanoseconds == 0 {
+            return write!(f, "0");
         }
+        let (count, unit) = in_units(self.nanoseconds);
+        write!(f, "{count} {unit}")
+    }
+}
+
+/// A time in ns as so many of the greatest unit that divides it.
+fn in_units(time: u64) -> (u64, &'static str)
+    requires { 0 < time }
+    ensures { decimal result.0 ++ (codes " " ++ result.1.now) ≡ printed_time time }
+{
+    if time % 1_000_000_000 == 0 {
+        (time / 1_000_000_000, "s")
+    } else if time % 1_000_000 == 0 {
+        (time / 1_000_000, "ms")
+    } else if time % 1_000 == 0 {
+        (time / 1_000, "us")
+    } else {
+        (time, "ns")
     }
 }

@@ -38,14 +38,31 @@ pub fn print_turns<O: Write>(
     ensures ok { OnOk result (PrintsRows plan.now programs.now inputs.now turns (O.contents out.old) (O.contents out.new)) }
     ensures stopped { IfErr result (λ fault. fault ≢ TurnsFault.CannotWrite → PrintsFirstRows plan.now programs.now inputs.now turns (O.contents out.old) (O.contents out.new)) }
 {
-    let mut program = match Whole::new(alloc, plan, programs, inputs) {
-        Ok(program) => program,
-        Err(memory) => return Err(TurnsFault::Memory(memory)),
+    match Whole::new(alloc, plan, programs, inputs) {
+        Ok(mut program) => print_all(&mut program, plan, turns, out),
+        Err(memory) => Err(TurnsFault::Memory(memory)),
+    }
+}
+
+/// Prints the rows of at most so many turns, and hands all of the text on.
+fn print_all<O: Write>(
+    program: &mut Whole<'_>,
+    plan: &Plan,
+    turns: u32,
+    out: &mut O,
+) -> Result<(), TurnsFault>
+    requires draft { program.old.draft ≡ plan.now }
+    requires none_made { program.old.turns ≡ 0 }
+    requires none_gone { program.old.gone ≡ 0 }
+    ensures ok { OnOk result (PrintsRows plan.now program.old.programs program.old.inputs turns (O.contents out.old) (O.contents out.new)) }
+    ensures stopped { IfErr result (λ fault. fault ≢ TurnsFault.CannotWrite → PrintsFirstRows plan.now program.old.programs program.old.inputs turns (O.contents out.old) (O.contents out.new)) }
+{
+    let Ok(turned) = print_in_batches(program, plan, turns, out) else {
+        return Err(TurnsFault::CannotWrite);
     };
-    let turned = print_in_batches(&mut program, plan, turns, out).map_err(
-        |_| TurnsFault::CannotWrite,
-    )?;
-    out.flush().map_err(|_| TurnsFault::CannotWrite)?;
+    if out.flush().is_err() {
+        return Err(TurnsFault::CannotWrite);
+    }
     match turned {
         Ok(()) => Ok(()),
         Err(memory) => Err(TurnsFault::Memory(memory)),

@@ -1,5 +1,5 @@
 -- The first of turns that are next, in blocks and of all.
-use Rattle.std.proofs.Common.{◌≡◌, ◌≢◌, ℕ, ◌+◌, ◌*◌, ◌/◌, ◌<◌, ◌≤◌, true, false, List, length, length-set, get_or, set, Some, slice_get, slice_set, sym, ap, subst, ◌∙◌, arith, inl, inr}
+use Rattle.std.proofs.Common.{◌≡◌, ◌≢◌, ℕ, ◌+◌, ◌*◌, ◌/◌, ◌<◌, ◌≤◌, true, false, List, [], ◌∷◌, ◌++◌, length, length-set, get_or, set, Some, slice_get, slice_set, sym, ap, subst, ◌∙◌, arith, inl, inr}
 use Rattle.std.proofs.lemmas.Bool.{false_from_ne_true, cases_lt, cases_eq}
 use Rattle.std.proofs.lemmas.Bool.Decides.{nat_tests}
 use Rattle.std.proofs.lemmas.List.{set-get_or}
@@ -7,6 +7,7 @@ use Rattle.std.proofs.lemmas.Option.{slice_get-get_or, slice_get_within}
 use Rattle.tag.specs.LogicalTime.{LogicalTime}
 use Rattle.whole.specs.declared.nexts.Next.{Next}
 use Rattle.whole.specs.Next.{is_earlier, IsFirstAt, IsFirstAmong, AreFirsts}
+use Rattle.whole.proofs.Filled.{get_early, get_last, get_beyond}
 use Rattle.whole.proofs.NextTurns.{earlier_then, not_itself, same_some}
 use Rattle.network.proofs.Items.{get_set_within, get_set_other}
 
@@ -182,3 +183,20 @@ unchanged nexts place next tag at same =
     let within : place < length nexts = slice_get_within nexts place next at in
     let is : get_or nexts place next ≡ next = same_some (slice_get nexts place) (get_or nexts place next) next (slice_get-get_or nexts place next within) at in
     subst (λ t. nexts ≡ slice_set nexts place (record next { tag = t })) same (sym (ap (set nexts place) (sym is) ∙ set-get_or nexts place next))
+
+-- the first ones of the blocks so far, and of one block more
+pub firsts_more :
+    (nexts firsts more : List Next) (block : ℕ) (x : Next) → length firsts ≡ block → ((k : ℕ) (n : Next) → slice_get firsts k ≡ Some n → IsFirstAmong nexts (k * 8) (k * 8 + 8) n) →
+    more ≡ firsts ++ x ∷ [] → IsFirstAmong nexts (block * 8) (block * 8 + 8) x → (k : ℕ) (n : Next) → slice_get more k ≡ Some n → IsFirstAmong nexts (k * 8) (k * 8 + 8) n
+firsts_more nexts firsts more block x many so_far is mine k n at =
+    let found : slice_get (firsts ++ x ∷ []) k ≡ Some n = sym (ap (λ ns. slice_get ns k) is) ∙ at in
+    elim (cases_lt k block) [
+      | inl low ↦ so_far k n (sym (get_early firsts (x ∷ []) k (omega arith)) ∙ found)
+      | inr high ↦ (elim (cases_eq k block) [
+        | inl e ↦ (
+            let last : slice_get (firsts ++ x ∷ []) k ≡ Some x = ap (slice_get (firsts ++ x ∷ [])) (e ∙ sym many) ∙ get_last firsts x in
+            let same : x ≡ n = same_some (slice_get (firsts ++ x ∷ []) k) x n last found in
+            subst (λ j. IsFirstAmong nexts (j * 8) (j * 8 + 8) n) (sym e) (subst (IsFirstAmong nexts (block * 8) (block * 8 + 8)) same mine))
+        | inr other ↦ (let none = get_beyond firsts x k (omega arith) in absurd cc)
+      ])
+    ]

@@ -1,11 +1,11 @@
 -- What was put stays, or is taken back.
 use Rattle.std.proofs.Common.{◌≡◌, ◌≢◌, ℕ, zero, suc, ◌<◌, ◌≤◌, Bool, true, false, inl, inr, Option, None, List, [], ◌∷◌, ◌++◌, append-nil, length, map, take, drop, ◌-◌, get_or, set, nat_eq, ◌||◌, Some, slice_get, refl, sym, ap, ◌∙◌, arith}
 use Rattle.std.specs.List.{AllByRecursion}
-use Rattle.std.specs.Prelude.{if◌then◌else◌, Result, Ok, Err, OnErr}
+use Rattle.std.specs.Prelude.{if◌then◌else◌, Result, Ok, Err, OnOk, OnErr}
 use Rattle.std.specs.Option.{option_map}
-use Rattle.std.proofs.lemmas.List.{map-set, take_all}
+use Rattle.std.proofs.lemmas.List.{map-set, nil_from_length, take_all}
 use Rattle.std.proofs.Math.Seq.{drop-length}
-use Rattle.std.proofs.lemmas.Bool.{or_parts, cases_eq, ne_eqb, eq-eqb}
+use Rattle.std.proofs.lemmas.Bool.{or_parts, cases_eq, ne_eqb, eq-eqb, eqb-true}
 use Rattle.std.proofs.lemmas.Option.{slice_get-get_or, slice_get-map}
 use Rattle.tag.specs.LogicalTime.{LogicalTime}
 use Rattle.network.specs.Connection.{Connection}
@@ -116,6 +116,30 @@ put_first t (y ∷ rest) target old new x put events some first there is made so
     let was : Agenda = get_or old target.federate x in
     put_step t (shown target) (all_shown (all_but_first (y ∷ rest))) old new x put there (is ∙ ap (λ es. record { stop = was.stop; undone = put_all (in_time was.stop es) was.undone }) made) so_far f
     ∙ ap (λ ts. option_map (after_puts t ts f) (slice_get (map kept_on old) f)) (λ i. shown (first i) ∷ all_shown (others_are y rest i))
+
+nothing_put : (t : TurnMade) (target : ℕ × List Connection) (k : Kept) (b : Bool) → put_to t target ≡ [] → (if b then after_put t target k else k) ≡ k
+nothing_put t target k true none = ap (λ es. record { stop = k.stop; undone = put_all (in_time k.stop es) k.undone }) none
+nothing_put t target k false none = refl
+
+-- nothing is put to the first target
+without_first : (t : TurnMade) (target : ℕ × List Connection) (rest : List (ℕ × List Connection)) (f : ℕ) (o : Option Kept) → put_to t target ≡ [] →
+    option_map (after_puts t rest f) o ≡ option_map (after_puts t (target ∷ rest) f) o
+without_first t target rest f o none =
+    same_map (after_puts t rest f) (after_puts t (target ∷ rest) f) (λ k. sym (ap (after_puts t rest f) (nothing_put t target k (nat_eq target.0 f) none))) o
+
+-- the same, of the code's targets
+pub put_none :
+    {X E : Type 0} (answer : Result X E) (t : TurnMade) (targets : List Target) (target : Target) (old new : List Agenda) (events : List Held) (test : Bool) (count : ℕ) →
+    1 ≤ length targets → target ≡ get_or targets 0 target → events ≡ put_to t (shown target) → test ≡ nat_eq count 0 → test ≡ true → count ≡ length events →
+    OnOk answer ((f : ℕ) → slice_get (map kept_on new) f ≡ option_map (after_puts t (all_shown (all_but_first targets)) f) (slice_get (map kept_on old) f)) →
+    OnOk answer ((f : ℕ) → slice_get (map kept_on new) f ≡ option_map (after_puts t (all_shown targets) f) (slice_get (map kept_on old) f))
+put_none (Err e) t targets target old new events test count some first made is passes many so_far = tt
+put_none (Ok x) t [] target old new events test count some first made is passes many so_far = absurd (omega arith)
+put_none (Ok x) t (y ∷ rest) target old new events test count some first made is passes many so_far = λ f.
+    let none : events ≡ [] = nil_from_length events (sym many ∙ eqb-true count 0 (sym is ∙ passes)) in
+    let none_put : put_to t (shown y) ≡ [] = ap (λ x. put_to t (shown x)) (sym first) ∙ (sym made ∙ none) in
+    so_far f ∙ (ap (λ ts. option_map (after_puts t (all_shown ts) f) (slice_get (map kept_on old) f)) (others_are y rest)
+    ∙ without_first t (shown y) (all_shown rest) f (slice_get (map kept_on old) f) none_put)
 
 drop_one : (t : TurnMade) (targets : List (ℕ × List Connection)) (f : ℕ) (o : Option Kept) (x : Kept) (b : Bool) → nat_eq t.federate f ≡ b → b ≡ true → Some x ≡ option_map (after_puts t targets f) o →
     Some (dropped t.tag x) ≡ option_map (after_turn t targets f) o

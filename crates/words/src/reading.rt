@@ -1,5 +1,5 @@
 use crate::request::Request;
-use clap::error::ErrorKind;
+use clap::error::{Error, ErrorKind};
 use clap::{Arg, ArgAction, ArgMatches, Command};
 use std::alloc::{AllocError, Global};
 
@@ -17,13 +17,26 @@ pub enum WordsFault {
 
 /// What the words ask for: one subcommand with its arguments and options.
 pub fn read_words<'a>(alloc: Global, words: &'a [String]) -> Result<Request<'a>, WordsFault> {
-    let Ok(command) = commands(alloc) else {
-        return Err(WordsFault::Memory);
-    };
-    match command.try_get_matches_from(words) {
-        Ok(matches) => requested(&matches).ok_or(WordsFault::Usage),
-        Err(error) if error.kind() == ErrorKind::OutOfMemory => Err(WordsFault::Memory),
-        Err(_) => Err(WordsFault::Usage),
+    let matches = parsed(alloc, words)?;
+    requested(&matches).ok_or(WordsFault::Usage)
+}
+
+/// The words, parsed.
+fn parsed<'a>(alloc: Global, words: &'a [String]) -> Result<ArgMatches<'a>, WordsFault> {
+    match commands(alloc) {
+        Ok(command) => command
+            .try_get_matches_from(words)
+            .map_err(|error| fault_of(&error)),
+        Err(_) => Err(WordsFault::Memory),
+    }
+}
+
+/// Why the words can't be parsed.
+fn fault_of(error: &Error) -> WordsFault {
+    if error.kind() == ErrorKind::OutOfMemory {
+        WordsFault::Memory
+    } else {
+        WordsFault::Usage
     }
 }
 

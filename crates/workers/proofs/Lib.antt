@@ -1,2 +1,4 @@
+-- Events that are handed in, one after the other.
+pub mod SeveralEvents
 -- Turns that are handed in, one after the other.
 pub mod SeveralTurns

@@ -86,11 +86,15 @@ impl<'a, N: Node, G: Gate, T: Drop, C: Drop> Context<'a, N, G, T, C> {
         ensures as_before { result ≡ None → share.new ≡ share.old }
     {
         self.gate.pass(rt, self.node, Point::of(&event));
-        let reply = self.shared.handle(rt, share, event).ok()?;
-        if let Reply::Done(_) = reply {
-            self.hint(rt, Hint::Done);
+        match self.shared.handle(rt, share, event) {
+            Ok(reply) => {
+                if let Reply::Done(_) = reply {
+                    self.hint(rt, Hint::Done);
+                }
+                Some(reply)
+            }
+            Err(_) => None,
         }
-        Some(reply)
     }
 
     /// Makes the events' steps one after the other, and hands the frames of the replies to the writers while the desk's lock is
@@ -154,19 +158,8 @@ impl<'a, N: Node, G: Gate, T: Drop, C: Drop> Context<'a, N, G, T, C> {
         let mut has_done = false;
         for event in events {
             self.gate.pass(rt, self.node, Point::of(event));
-            has_done |= self.make(rt, alloc, share, *event);
+            has_done |= self.make_all(rt, alloc, share, &[*event]);
         }
-        has_done
-    }
-
-    // Makes the event's step. Whether it did something.
-    fn make<R: Wait>(&self, rt: &R, alloc: Global, share: &mut Share, event: Event) -> bool
-        ensures { HandedIn share.old event share.new }
-    {
-        let mut desk = self.shared.lock(rt);
-        let mut said = Said::new(alloc);
-        let has_done = enter(&mut desk, share, event, &mut said);
-        self.leave(rt, desk, said);
         has_done
     }
 

@@ -91,7 +91,7 @@ pub(crate) fn read_connection<R: Wait + Clock, N: Node, G: Gate, T: Transport, C
             writer.begin(rt, side, greeting);
             if !context.ending.is_set() {
                 let mut frames = FrameReader::new(alloc);
-                if take_in(rt, alloc, context, share, peer, &mut frames, &first).is_some() {
+                if frames.feed(&first).is_ok() {
                     read_on(rt, alloc, context, share, peer, &mut incoming, &mut frames);
                 }
             }
@@ -100,8 +100,8 @@ pub(crate) fn read_connection<R: Wait + Clock, N: Node, G: Gate, T: Transport, C
     cut.cut(rt);
 }
 
-// Reads to the end of the connection.
-fn read_on<R: Wait + Clock, N: Node, G: Gate, T: Transport, C: Cut>(
+// Hands in all whole frames that are there, and reads what comes next, to the end of the connection or what is no frame.
+fn read_on<R: Wait + Clock, N: Node, G: Gate, T: Transport, C: Drop>(
     rt: &R,
     alloc: Global,
     context: &Context<'_, N, G, T, C>,
@@ -111,47 +111,21 @@ fn read_on<R: Wait + Clock, N: Node, G: Gate, T: Transport, C: Cut>(
     frames: &mut FrameReader,
 ) {
     for _ in rt.forever() {
-        if read_once(rt, alloc, context, share, peer, incoming, frames).is_none() {
-            break;
+        match take_some(rt, alloc, context, share, peer, frames) {
+            Some(true) => {}
+            Some(false) if has_read(rt, incoming, frames) => {}
+            _ => break,
         }
     }
 }
 
-// Reads what comes next. None where the connection has ended.
-fn read_once<R: Wait + Clock, N: Node, G: Gate, T: Transport, C: Cut>(
-    rt: &R,
-    alloc: Global,
-    context: &Context<'_, N, G, T, C>,
-    share: &mut Share,
-    peer: usize,
-    incoming: &mut T,
-    frames: &mut FrameReader,
-) -> Option<()> {
+// Reads what comes next. False where the connection has ended, or there was no memory.
+fn has_read<R: Wait, T: Transport>(rt: &R, incoming: &mut T, frames: &mut FrameReader) -> bool {
     let mut room = [0; ROOM];
-    let count = incoming.recv(rt, &mut room).ok()?;
-    if count == 0 {
-        return None;
+    match incoming.recv(rt, &mut room) {
+        Ok(0) | Err(_) => false,
+        Ok(count) => frames.feed(&room[..count]).is_ok(),
     }
-    take_in(rt, alloc, context, share, peer, frames, &room[..count])
-}
-
-// Hands in all whole frames that are there with these bytes. None where what comes next is no frame.
-fn take_in<R: Wait + Clock, N: Node, G: Gate, T: Transport, C: Cut>(
-    rt: &R,
-    alloc: Global,
-    context: &Context<'_, N, G, T, C>,
-    share: &mut Share,
-    peer: usize,
-    frames: &mut FrameReader,
-    bytes: &[u8],
-) -> Option<()> {
-    frames.feed(bytes).ok()?;
-    for _ in rt.forever() {
-        if !take_some(rt, alloc, context, share, peer, frames)? {
-            return Some(());
-        }
-    }
-    unreachable!()
 }
 
 // Hands in whole frames, as many as are handed in at once; whether there may be more. What comes after them, and is no frame, is

@@ -26,38 +26,25 @@ pub fn run<R: Wait + Clock, N: Node, G: Gate, T: Drop, C: Drop>(
     let mut pace = Pace::new(turns);
     let mut next = pace.turn();
     for _ in rt.forever() {
-        if next == Next::End || context.ending.is_set() {
+        if context.ending.is_set() {
             break;
         }
-        next = go_on(rt, alloc, context, hints, &mut share, &mut pace, next);
+        next = match next {
+            Next::Turn => take_turns(rt, alloc, context, hints, &mut share, &mut pace),
+            Next::Wait => match hints.wait(rt) {
+                Some(Hint::Done) => pace.after_wait(true),
+                Some(Hint::NotConnected) => pace.after_turn(true),
+                None => pace.after_wait(false),
+            },
+            Next::Repeat => {
+                context.hand_in(rt, alloc, &mut share, &[Event::Hello(0), Event::Resend(0)]);
+                pace.turn()
+            }
+            Next::End => break,
+        };
     }
     context.end(rt);
     share
-}
-
-// Does what comes next; what comes then.
-fn go_on<R: Wait + Clock, N: Node, G: Gate, T: Drop, C: Drop>(
-    rt: &R,
-    alloc: Global,
-    context: &Context<'_, N, G, T, C>,
-    hints: &Hints,
-    share: &mut Share,
-    pace: &mut Pace,
-    next: Next,
-) -> Next {
-    match next {
-        Next::Turn => take_turns(rt, alloc, context, hints, share, pace),
-        Next::Wait => match hints.wait(rt) {
-            Some(Hint::Done) => pace.after_wait(true),
-            Some(Hint::NotConnected) => pace.after_turn(true),
-            None => pace.after_wait(false),
-        },
-        Next::Repeat => {
-            context.hand_in(rt, alloc, share, &[Event::Hello(0), Event::Resend(0)]);
-            pace.turn()
-        }
-        Next::End => Next::End,
-    }
 }
 
 // Makes turns, which answer the hints that are waiting, where one is left; what comes then.

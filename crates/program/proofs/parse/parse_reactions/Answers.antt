@@ -1,5 +1,7 @@
-use Rattle.std.proofs.Common.{length, refl}
+use Rattle.std.proofs.Common.{◌≤◌, length, refl, sym, subst, arith}
 use Rattle.std.proofs.lemmas.Result.{err_from_is_err_and}
+use Rattle.program.specs.declared.limits.TheConstants.{MOST_LINES}
+use Rattle.program.specs.declared.reaction_draft.ReactionDraft.{ReactionDraft}
 use Rattle.program.specs.Spelled.{SpellsReaction}
 use Rattle.std.proofs.lemmas.Option.{slice_get_read}
 use Rattle.program.proofs.Zips.{all_zip_grow}
@@ -11,6 +13,17 @@ returns-in_err-reaction-clause-refused c =
     let p = err_from_is_err_and c.from_residual.result c.from_residual.ensures.1 in
     let here = slice_get_read c.args.drafts.now (length c.args.drafts.now) c.loop-place.place c.index-drafts-place.result refl c.loop-place-test.true c.index-drafts-place.is in
     rw (p.1, p.2) (reaction_fault c.args.slots.now c.args.states.now c.args.drafts.now c.loop-place.place c.index-drafts-place.result here c.in_err-reaction.field-0.0 c.in_err-reaction.ensures.refused)
+
+pub overflow_add-place : goal.overflow_add-place
+overflow_add-place c = omega arith
+
+pub parse_reaction-requires-clause-limits : goal.parse_reaction-requires-clause-limits
+parse_reaction-requires-clause-limits c = c.requires.limits
+
+pub parse_reaction-requires-clause-few_lines : goal.parse_reaction-requires-clause-few_lines
+parse_reaction-requires-clause-few_lines c =
+    let P : ReactionDraft → Type 0 = λ d. length d.body ≤ MOST_LINES in
+    subst P (sym c.index-drafts-place.is) (c.requires.few_lines c.loop-place.place c.index-drafts-place.result c.loop-place-test.true)
 
 pub loop-place-preserved : goal.loop-place-preserved
 loop-place-preserved c =

@@ -1,7 +1,14 @@
-use Rattle.std.proofs.Common.{◌≡◌, Some, ℕ, List}
+use Rattle.std.proofs.Common.{◌≡◌, Some, ℕ, List, length, refl, inr, ◌∙◌}
+use Rattle.std.proofs.lemmas.Option.{slice_get_read}
 use Rattle.program.specs.Resolution.{trigger_slot}
 use Rattle.program.proofs.Zips.{all_zip_grow}
+use Rattle.program.proofs.LineFaults.{trigger_fault}
 use Rattle.program.proofs.parse.parse_triggers.Goals as goal
+
+pub returns-in-None-clause-refused : goal.returns-in-None-clause-refused
+returns-in-None-clause-refused c =
+    let here = slice_get_read c.args.texts.now (length c.args.texts.now) c.loop-text.text-index c.text-item.result refl c.loop-text-test.true c.text-item.is in
+    inr (trigger_fault c.args.slots.now c.args.number c.args.texts.now c.loop-text.text-index c.text-item.result c.as_bytes.result.now here (c.as_bytes.ensures.value ∙ c.as_str.ensures) c.in-None.ensures)
 
 pub loop-text-preserved : goal.loop-text-preserved
 loop-text-preserved c =

@@ -1,4 +1,4 @@
-use Rattle.std.proofs.Common.{◌≡◌, ◌⊎◌, List, ℕ, length, Err, refl, sym, subst, inr}
+use Rattle.std.proofs.Common.{◌≡◌, ◌⊎◌, List, ℕ, length, Err, refl, sym, subst, inr, arith}
 use Rattle.program.specs.declared.fault.ProgramFault.{ProgramFault}
 use Rattle.program.specs.declared.fault.ProgramFault.TheVariants.{Memory}
 use Rattle.program.specs.Resolution.{line_of}
@@ -8,6 +8,12 @@ use Rattle.program.proofs.LineFaults.{line_fault}
 use Rattle.std.proofs.lemmas.Option.{slice_get_read}
 use Rattle.program.proofs.Zips.{all_zip_grow}
 use Rattle.program.proofs.reading.body.Goals as goal
+
+pub overflow_add-place : goal.overflow_add-place
+overflow_add-place c = omega arith
+
+pub line-requires : goal.line-requires
+line-requires c = c.requires.limits
 
 pub loop-place-preserved : goal.loop-place-preserved
 loop-place-preserved c =

@@ -2,7 +2,7 @@ use Rattle.std.proofs.Common.{ap, ◌∙◌, arith}
 use Rattle.std.proofs.lemmas.List.{length-set}
 use Rattle.whole.specs.declared.targets.Target.{Target}
 use Rattle.whole.specs.Made.{kept_on}
-use Rattle.whole.proofs.Putting.{put_first, put_back, first_apart, not_target}
+use Rattle.whole.proofs.Putting.{put_first, put_none, put_back, first_apart, not_target}
 use Rattle.network.proofs.Items.{get_set_other}
 use Rattle.whole.proofs.made.+put_made.Goals as goal
 
@@ -32,3 +32,9 @@ returns-in-Err-put_made-clause-others t c = λ federate none.
     get_set_other c.put_made-in-len1-up.new.agendas c.target-item.result.federate federate c.take_back.new.self apart.0
     ∙ (c.in-Err-put_made.ensures.others federate apart.1
     ∙ get_set_other c.args.agendas.now c.target-item.result.federate federate c.put_all.new.self apart.0)
+
+pub returns-then-is_empty-clause-put : goal.returns-then-is_empty-clause-put
+returns-then-is_empty-clause-put t c =
+    let events = c.made_for.new.events in
+    put_none c.put_made.result c.args.turn.now c.args.targets.now c.target-item.result c.args.agendas.now c.put_made.new.agendas events.items c.is_empty.result events.len
+    (omega arith) c.target-item.is c.in_ok-made_for-in-len1-up.ensures c.is_empty.ensures c.if-is_empty.true events.ok.0 c.put_made.ensures.put

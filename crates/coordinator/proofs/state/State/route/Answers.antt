@@ -12,6 +12,18 @@ use Rattle.node.specs.declared.fault.NodeFault.TheVariants as fault
 use Rattle.coordinator.proofs.Signals.{ok_of, err_of, routed, target_is_there, message_passed, message_added, message_back, finished_step, failed_step, message_first, peers_are_there}
 use Rattle.coordinator.proofs.state.State.route.Goals as goal
 
+pub granted-requires : goal.granted-requires
+granted-requires c =
+    target_is_there c.args.self.now.table c.args.number c.target-target.result c.args.over c.in-Some.connection c.known.ensures c.requires.over c.in-Some.is c.target-target.ensures
+
+pub next-next-requires : goal.next-next-requires
+next-next-requires c =
+    target_is_there c.args.self.now.table c.args.number c.target-target.result c.args.over c.in-Some.connection c.known.ensures c.requires.over c.in-Some.is c.target-target.ensures
+
+pub note_next-requires : goal.note_next-requires
+note_next-requires c =
+    target_is_there c.args.self.now.table c.args.number c.target-target.result c.args.over c.in-Some.connection c.known.ensures c.requires.over c.in-Some.is c.target-target.ensures
+
 pub prepare-requires : goal.prepare-requires
 prepare-requires c =
     let r = c.args.self.now.table in

@@ -6,7 +6,7 @@ use Rattle.program.specs.Reading.{IsReading, name_read}
 use Rattle.program.specs.Grammar.{WrittenOperand, SpellsOperand}
 use Rattle.program.specs.Resolution.{operand_of}
 use Rattle.program.specs.declared.program.Statement.TheVariants.{Schedule}
-use Rattle.program.proofs.Readings.{paired_ok, paired_err}
+use Rattle.program.proofs.Readings.{read_of, paired_ok, paired_err}
 use Rattle.program.proofs.StatementReadings.{slot_in, schedule_reading, no_scheduling}
 use Rattle.program.proofs.reading.schedule.schedule.Goals as goal
 
@@ -17,7 +17,7 @@ pub returns-in_err-action : goal.returns-in_err-action
 returns-in_err-action c =
     let read : IsReading {W = WrittenOperand} (λ w. SpellsOperand w c.in-Some-timed.value.now) (operand_of c.args.slots.now c.args.states.now) c.operand-value.result = search rules in
     let p = err_from_is_err_and c.from_residual.result c.from_residual.ensures.1 in
-    let named : c.numbered-action.result ≡ name_read (is_name c.in-Some.action.now) (slot_in c.args.slots.now c.in-Some.action.now) = cc in
+    let named : c.numbered-action.result ≡ name_read (is_name c.in-Some.action.now) (slot_in c.args.slots.now c.in-Some.action.now) = read_of c.numbered-action.ensures c.is_name.ensures c.action_slot.ensures in
     let whole = schedule_reading c.args.slots.now c.args.states.now c.args.text.now c.in-Some.action.now c.in-Some.rest.now c.in-Some-timed.value.now c.in-Some-timed.time
     c.in-Some.ensures.tokens c.in-Some-timed.ensures c.numbered-action.result c.operand-value.result named read in
     rw (p.1, p.2) (rw (paired_err (λ slot a. Schedule slot (delay_of c.in-Some-timed.time) a) c.numbered-action.result c.operand-value.result c.in_err-action.field-0.0 c.in_err-action.ensures) at whole)
@@ -25,7 +25,7 @@ returns-in_err-action c =
 pub returns : goal.returns
 returns c =
     let read : IsReading {W = WrittenOperand} (λ w. SpellsOperand w c.in-Some-timed.value.now) (operand_of c.args.slots.now c.args.states.now) c.operand-value.result = search rules in
-    let named : c.numbered-action.result ≡ name_read (is_name c.in-Some.action.now) (slot_in c.args.slots.now c.in-Some.action.now) = cc in
+    let named : c.numbered-action.result ≡ name_read (is_name c.in-Some.action.now) (slot_in c.args.slots.now c.in-Some.action.now) = read_of c.numbered-action.ensures c.is_name.ensures c.action_slot.ensures in
     let whole = schedule_reading c.args.slots.now c.args.states.now c.args.text.now c.in-Some.action.now c.in-Some.rest.now c.in-Some-timed.value.now c.in-Some-timed.time
     c.in-Some.ensures.tokens c.in-Some-timed.ensures c.numbered-action.result c.operand-value.result named read in
     let delay : c.after.result ≡ delay_of c.in-Some-timed.time = search rules in

@@ -9,4 +9,4 @@ returns-in-Err-clause-unproved c =
     c.in-Err.fault (rw c.federate_count.ensures at c.in-Err.ensures)
 
 pub conclude_complete-requires : goal.conclude_complete-requires
-conclude_complete-requires c = record { complete = rw c.federate_count.ensures at c.in_default.ensures }
+conclude_complete-requires c = record { complete = rw c.federate_count.ensures at c.in-Ok.ensures }

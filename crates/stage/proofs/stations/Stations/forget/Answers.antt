@@ -1,25 +1,30 @@
-use Rattle.std.proofs.Common.{◌≡◌, arith, sym, Some, slice_get, if◌then◌else◌, None}
-use Rattle.schedule.specs.World.{has_next, forgotten}
-use Rattle.stage.specs.Room.{frames_of_each}
-use Rattle.stage.proofs.Ways.{found_at}
-use Rattle.stage.proofs.Forgetting.{still_world, after_forget}
+use Rattle.std.proofs.Common.{◌≡◌, arith, sym, subst, Some, if◌then◌else◌, None, IfOk}
+use Rattle.std.proofs.lemmas.Option.{slice_get_within}
+use Rattle.schedule.specs.World.{World, Applied, has_next, forgotten, listed}
+use Rattle.stage.specs.Made.{HaveOnePeer}
+use Rattle.stage.proofs.Stepping.{has_one}
+use Rattle.stage.proofs.Forgetting.{has_one_still, put_is}
 use Rattle.stage.proofs.stations.Stations.forget.Goals as goal
 
-pub invariant_of-self-2 : goal.invariant_of-self-2
-invariant_of-self-2 g c =
-    let found : slice_get c.self.inside.federates.items c.args.federate ≡ Some c.in-Some.station.now = grind (arith, found_at, c.in-Some.ensures) in
+pub forgotten-requires : goal.forgotten-requires
+forgotten-requires g c =
+    has_one c.args.self.now.federates c.args.federate c.in-Some.station.now
+    (subst (λ (w : World _ _). HaveOnePeer w.federates) c.self.view_is c.self.invariant.0.one_peer) (sym c.in-Some.ensures)
+
+pub put-requires-clause-there : goal.put-requires-clause-there
+put-requires-clause-there g c = slice_get_within c.args.self.now.federates c.args.federate c.in-Some.station.now (sym c.in-Some.ensures)
+
+pub put-requires-clause-one_peer : goal.put-requires-clause-one_peer
+put-requires-clause-one_peer g c =
+    let one = has_one c.args.self.now.federates c.args.federate c.in-Some.station.now
+    (subst (λ (w : World _ _). HaveOnePeer w.federates) c.self.view_is c.self.invariant.0.one_peer) (sym c.in-Some.ensures) in
     let made : Some c.in-Some-2.blank ≡ (if has_next c.in-Some.station.now.ends then Some (forgotten g.M.Node.core c.in-Some.station.now) else None) =
-    grind (arith, c.in_ok-blank.ensures, c.in-Some-2.is) in (
-      still_world g.M.Node.core g.H.Node.HUB g.M.Node.HUB c.self.inside.federates.items c.replace.new.federates.items c.args.federate c.in-Some.station.now c.in-Some-2.blank
-          c.self.invariant.0 found made c.replace.ensures,
-      c.self.invariant.1,
-    )
+    grind (arith, c.in_ok-blank.ensures, c.in-Some-2.is) in
+    has_one_still g.M.Node.core c.in-Some.station.now c.in-Some-2.blank one made
 
 pub returns-clause-done : goal.returns-clause-done
 returns-clause-done g c =
-    let found : slice_get c.self.inside.federates.items c.args.federate ≡ Some c.in-Some.station.now = grind (arith, found_at, c.in-Some.ensures) in
     let made : Some c.in-Some-2.blank ≡ (if has_next c.in-Some.station.now.ends then Some (forgotten g.M.Node.core c.in-Some.station.now) else None) =
     grind (arith, c.in_ok-blank.ensures, c.in-Some-2.is) in
-    after_forget g.M.Node.core c.args.self.now c.self.inside.coordinator c.self.inside.federates.items c.replace.new.federates.items (frames_of_each c.self.inside.up.items)
-    (frames_of_each c.self.inside.down.items) c.self.inside.steps.items c.push.new.self.items c.args.federate c.in-Some.station.now c.in-Some-2.blank c.args.step (sym c.self.view_is) found made
-    c.replace.ensures c.in_ok-push.ensures.items
+    subst (λ (x : Applied _ _). IfOk c.put.result (λ outcome. record { world = c.put.new.self; outcome = outcome } ≡ listed c.args.step x))
+    (put_is g.M.Node.core c.args.self.now c.args.federate c.in-Some.station.now c.in-Some-2.blank (sym c.in-Some.ensures) made) c.put.ensures.done

@@ -13,3 +13,12 @@ loop-made-preserved g c = (
   omega arith,
   λ some. omega (arith, some, c.loop-made-test.true),
 )
+
+pub returns-clause-handed_in : goal.returns-clause-handed_in
+returns-clause-handed_in g c = c.loop-made.invariant.0
+
+pub returns-clause-one : goal.returns-clause-one
+returns-clause-one g c = c.loop-made.invariant.1
+
+pub returns-clause-most : goal.returns-clause-most
+returns-clause-most g c = c.loop-made.invariant.2
