@@ -28,11 +28,11 @@ pub fn coordinator_desk(alloc: Global, plan: &Plan) -> Result<Desk<Coordinator<'
 {
     // For the prover: a plan has few federates.
     plan.known();
-    let Ok(coordinator) = Coordinator::new(alloc, plan) else {
-        return Err(Memory);
-    };
     let ends = new_ends(alloc, plan.federate_count())?;
-    Ok(Desk::new(alloc, Station::new(alloc, coordinator, ends)))
+    match Coordinator::new(alloc, plan) {
+        Ok(coordinator) => Ok(Desk::new(alloc, Station::new(alloc, coordinator, ends))),
+        Err(_) => Err(Memory),
+    }
 }
 
 /// The federates' desks, by number: their stations are those of the world before the first step.
@@ -69,12 +69,12 @@ fn federate_desk<'a>(
 {
     // For the prover: a plan has few federates.
     plan.known();
-    let Ok(federate) = Federate::new(alloc, plan, programs, inputs, number) else {
-        return Err(Memory);
-    };
     let mut ends = Vec::with_capacity(alloc, 1)?;
     ends.push_reserved(new_end(alloc, number));
-    Ok(Desk::new(alloc, Station::new(alloc, federate, ends)))
+    match Federate::new(alloc, plan, programs, inputs, number) {
+        Ok(federate) => Ok(Desk::new(alloc, Station::new(alloc, federate, ends))),
+        Err(_) => Err(Memory),
+    }
 }
 
 // Ends that have offered and taken nothing, by number.

@@ -6,6 +6,14 @@ use std::alloc::{AllocError, Global};
 /// The turns of a run for which no number is given.
 const RUN_TURNS: u32 = 1_000_000;
 
+/// Each subcommand, with its arguments and its option.
+const SUBCOMMANDS: [(&str, &[&str], Option<&str>); 4] = [
+    ("whole", &["FED", "IN", "TURNS"], None),
+    ("check", &["FED"], None),
+    ("replay", &["FED", "IN", "SCHEDULE"], Some("until-stuck")),
+    ("run", &["FED", "IN"], Some("turns")),
+];
+
 /// Why the words give no request.
 #[derive(Clone, Copy, Debug, PartialEq, Eq)]
 pub enum WordsFault {
@@ -56,35 +64,33 @@ fn requested<'a>(matches: &ArgMatches<'a>) -> Option<Request<'a>> {
 
 /// The subcommands, with their arguments and options.
 fn commands<'a>(alloc: Global) -> Result<Command<'a>, AllocError> {
-    let replay = subcommand(alloc, "replay", &["FED", "IN", "SCHEDULE"])?;
-    let run = subcommand(alloc, "run", &["FED", "IN"])?;
-    Command::new(alloc, "fedrun")
+    let mut command = Command::new(alloc, "fedrun")
         .no_binary_name(true)
         .disable_help_flag(true)
         .disable_help_subcommand(true)
-        .subcommand_required(true)
-        .subcommand(subcommand(alloc, "whole", &["FED", "IN", "TURNS"])?)?
-        .subcommand(subcommand(alloc, "check", &["FED"])?)?
-        .subcommand(replay.arg(option(alloc, "until-stuck"))?)?
-        .subcommand(run.arg(option(alloc, "turns"))?)
+        .subcommand_required(true);
+    for (name, arguments, option) in &SUBCOMMANDS {
+        let subcommand = subcommand(alloc, name, arguments, *option)?;
+        command = command.subcommand(subcommand)?;
+    }
+    Ok(command)
 }
 
-/// A subcommand with arguments that have to be there.
+/// A subcommand with arguments that have to be there, and an option with a value, which may be given once.
 fn subcommand<'a>(
     alloc: Global,
     name: &'a str,
     arguments: &[&'a str],
+    option: Option<&'a str>,
 ) -> Result<Command<'a>, AllocError> {
     let mut command = Command::new(alloc, name).disable_help_flag(true);
     for argument in arguments {
         command = command.arg(Arg::new(alloc, *argument).required(true))?;
     }
-    Ok(command)
-}
-
-/// An option with a value, which may be given once.
-fn option<'a>(alloc: Global, name: &'a str) -> Arg<'a> {
-    Arg::new(alloc, name).long(name).action(ArgAction::Set)
+    match option {
+        Some(name) => command.arg(Arg::new(alloc, name).long(name).action(ArgAction::Set)),
+        None => Ok(command),
+    }
 }
 
 fn whole<'a>(given: &ArgMatches<'a>) -> Option<Request<'a>> {

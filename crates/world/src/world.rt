@@ -33,7 +33,8 @@ pub struct World<'a> {
     plan: &'a Plan,
     programs: &'a Programs,
     inputs: &'a Inputs,
-    stations: Stations<Coordinator<'a>, Federate<'a>>,
+    // Boxed, as a world is moved often.
+    stations: Box<Stations<Coordinator<'a>, Federate<'a>>>,
     /// Whether a step made some federate forget.
     has_forgotten: bool,
 }
@@ -48,10 +49,10 @@ impl<'a> Model for World<'a> {
       draft = w.plan.now;
       programs = w.programs.now;
       inputs = w.inputs.now;
-      steps = w.stations.steps;
+      steps = w.stations.value.steps;
     } };
 
-    ghost invariant = { λ w. IsMade w.plan.now w.programs.now w.inputs.now w.stations w.has_forgotten };
+    ghost invariant = { λ w. IsMade w.plan.now w.programs.now w.inputs.now w.stations.value w.has_forgotten };
 }
 
 impl<'a> World<'a> {
@@ -69,7 +70,8 @@ impl<'a> World<'a> {
         plan.known();
         let coordinator = new_hub(alloc, plan)?;
         let federates = new_members(alloc, plan, programs, inputs)?;
-        let stations = Stations::new(alloc, coordinator, federates)?;
+        let made = Stations::new(alloc, coordinator, federates)?;
+        let stations = Box::new(alloc, made)?;
         Ok(World {
             plan,
             programs,
@@ -127,7 +129,7 @@ impl<'a> World<'a> {
     pub fn into_steps(self) -> Vec<Step>
         ensures { result.items ≡ self.entry.steps }
     {
-        self.stations.into_steps()
+        Box::into_inner(self.stations).into_steps()
     }
 
     /// How many federates there are.

@@ -14,18 +14,20 @@ returns-in_err-outcome-clause-faithful c = faithful _ (record { legal = c.self.i
 
 pub invariant_of-self-2 : goal.invariant_of-self-2
 invariant_of-self-2 c =
-    made_after c.self.inside.plan.now c.self.inside.programs.now c.self.inside.inputs.now c.self.inside.stations c.apply.new.self c.args.step c.in_ok-outcome.outcome
-    c.self.inside.has_forgotten c.somebody_forgot-has_forgotten.result c.self.invariant c.in_ok-outcome.ensures.done c.somebody_forgot-has_forgotten.ensures
+    made_after c.self.inside.plan.now c.self.inside.programs.now c.self.inside.inputs.now c.self.inside.stations.value c.apply.new.self c.args.step c.in_ok-outcome.outcome
+    c.self.inside.has_forgotten c.somebody_forgot-has_forgotten.result c.self.invariant (c.in_ok-outcome.ensures.done ∙ ap (λ (w : Federation). step_in w c.args.step) c.deref_mut.ensures.value) c.somebody_forgot-has_forgotten.ensures
 
 pub returns-clause-told : goal.returns-clause-told
 returns-clause-told c =
     ap (λ (a : Applied CoordinatorNode FederateNode). a.outcome) c.in_ok-outcome.ensures.done ∙
+    ap (λ (w : Federation). (step_in w c.args.step).outcome) c.deref_mut.ensures.value ∙
     ap (λ (w : Federation). (step_in w c.args.step).outcome) (seen c.self.view_is c.self.invariant).stations_are
 
 pub returns-clause-plain : goal.returns-clause-plain
 returns-clause-plain c =
     let told : c.in_ok-outcome.outcome ≡ (step_in (stations_of c.args.self.now) c.args.step).outcome =
     ap (λ (a : Applied CoordinatorNode FederateNode). a.outcome) c.in_ok-outcome.ensures.done ∙
+    ap (λ (w : Federation). (step_in w c.args.step).outcome) c.deref_mut.ensures.value ∙
     ap (λ (w : Federation). (step_in w c.args.step).outcome) (seen c.self.view_is c.self.invariant).stations_are in
     plain_next c.args.self.now c.args.step c.in_ok-outcome.outcome (seen c.self.view_is c.self.invariant).fit told
 

@@ -5,4 +5,4 @@ use Rattle.world.proofs.Seen.{seen}
 use Rattle.world.proofs.world.World.frame.Goals as goal
 
 pub returns : goal.returns
-returns c = c.frame.ensures ∙ ap (λ (w : Federation). frame_at (frames_in w c.args.dir) c.args.k) (seen c.self.view_is c.self.invariant).stations_are
+returns c = c.frame.ensures ∙ ap (λ (w : Federation). frame_at (frames_in w c.args.dir) c.args.k) (c.deref.ensures ∙ (seen c.self.view_is c.self.invariant).stations_are)

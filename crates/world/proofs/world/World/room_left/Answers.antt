@@ -6,4 +6,4 @@ use Rattle.world.proofs.Seen.{seen}
 use Rattle.world.proofs.world.World.room_left.Goals as goal
 
 pub returns : goal.returns
-returns c = c.room_left.ensures ∙ ap (λ (w : Federation). option_map room_left (sender w c.args.dir)) (seen c.self.view_is c.self.invariant).stations_are
+returns c = c.room_left.ensures ∙ ap (λ (w : Federation). option_map room_left (sender w c.args.dir)) (c.deref.ensures ∙ (seen c.self.view_is c.self.invariant).stations_are)

@@ -5,4 +5,4 @@ use Rattle.world.proofs.Seen.{seen}
 use Rattle.world.proofs.world.World.sent.Goals as goal
 
 pub returns : goal.returns
-returns c = c.sent.ensures ∙ ap (λ (w : Federation). length (frames_in w c.args.dir)) (seen c.self.view_is c.self.invariant).stations_are
+returns c = c.sent.ensures ∙ ap (λ (w : Federation). length (frames_in w c.args.dir)) (c.deref.ensures ∙ (seen c.self.view_is c.self.invariant).stations_are)

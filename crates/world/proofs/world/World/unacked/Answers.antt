@@ -5,4 +5,4 @@ use Rattle.world.proofs.Seen.{seen}
 use Rattle.world.proofs.world.World.unacked.Goals as goal
 
 pub returns : goal.returns
-returns c = c.unacked.ensures ∙ ap (λ (w : Federation). option_map (λ e. length e.kept) (sender w c.args.dir)) (seen c.self.view_is c.self.invariant).stations_are
+returns c = c.unacked.ensures ∙ ap (λ (w : Federation). option_map (λ e. length e.kept) (sender w c.args.dir)) (c.deref.ensures ∙ (seen c.self.view_is c.self.invariant).stations_are)
