@@ -1,6 +1,6 @@
 //! Federation files, and how they are answered.
 ghost use Rattle.std.specs.Prelude.{IfOk};
-ghost use Rattle.program.specs.Programs.{AreProgramsOf};
+ghost use Rattle.programs.specs.Programs.{AreProgramsOf};
 
 use loadfed::{LoadFault, load};
 use plan::Plan;

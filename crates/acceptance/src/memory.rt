@@ -1,7 +1,7 @@
 //! Want of memory: it is told, nothing else is, nothing changes, and the next call succeeds. These pass with ample memory
 //! and whichever one allocation is refused: `rt try --test --fail-alloc N`.
 ghost use Rattle.plan.specs.External.{AreInputsOf};
-ghost use Rattle.program.specs.Programs.{AreProgramsOf};
+ghost use Rattle.programs.specs.Programs.{AreProgramsOf};
 
 use crate::federations::{CYCLE, FOUR, ONE_ACTION, TWO_SOURCES, loaded};
 use crate::rows::are_first;

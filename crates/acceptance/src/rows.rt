@@ -1,6 +1,6 @@
 //! Rows: the turns of a counter, and of the sum of its counts, at 0, 10 and 20 ms.
 ghost use Rattle.plan.specs.External.{AreInputsOf};
-ghost use Rattle.program.specs.Programs.{AreProgramsOf};
+ghost use Rattle.programs.specs.Programs.{AreProgramsOf};
 
 use crate::federations::loaded;
 use loadfed::load_inputs;

@@ -7,10 +7,10 @@ use Rattle.std.proofs.lemmas.List.{map-append}
 use Rattle.std.proofs.Math.Nat.{suc-mul}
 use Rattle.tag.specs.LogicalTime.{LogicalTime, origin}
 use Rattle.network.specs.Undone.{Held, put_all, held_of}
-use Rattle.plan.specs.declared.slots.Timer.{Timer}
-use Rattle.plan.specs.declared.slots.Slots.{Slots}
-use Rattle.plan.specs.Legal.{IsTimerInRange}
-use Rattle.plan.specs.Numbering.{first_timer}
+use Rattle.slots.specs.declared.slots.Timer.{Timer}
+use Rattle.slots.specs.declared.slots.Slots.{Slots}
+use Rattle.slots.specs.Limits.{IsTimerInRange}
+use Rattle.slots.specs.Numbering.{first_timer}
 use Rattle.plan.specs.External.{outside, times_from, firing_count, firing_times, firings_from}
 use Rattle.plan.proofs.Outside.{firing_in_time}
 use Rattle.agenda.specs.Agenda.{own_undone}

@@ -8,7 +8,7 @@ use Rattle.std.proofs.lemmas.List.Elements.{filter-append}
 use Rattle.std.proofs.lemmas.Grind.{take-set_at, drop_more_same}
 use Rattle.tag.specs.LogicalTime.{LogicalTime, is_before}
 use Rattle.network.specs.Undone.{drop_up_to}
-use Rattle.plan.specs.declared.slots.Timer.{Timer}
+use Rattle.slots.specs.declared.slots.Timer.{Timer}
 use Rattle.plan.specs.External.{firing_count}
 use Rattle.agenda.specs.declared.firings.Firings.{Firings}
 use Rattle.agenda.specs.Kept.{firings_of, all_firings, timers_from, IsTimer}

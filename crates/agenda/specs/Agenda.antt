@@ -4,7 +4,7 @@ use Rattle.std.specs.List.{AllByRecursion}
 use Rattle.tag.specs.LogicalTime.{LogicalTime, forever, is_at_most, is_same, IsFinite}
 use Rattle.network.specs.Event.{Entry}
 use Rattle.network.specs.Undone.{Held, held_of, Rises, put_all}
-use Rattle.plan.specs.declared.slots.Slots.{Slots}
+use Rattle.slots.specs.declared.slots.Slots.{Slots}
 use Rattle.plan.specs.External.{own_events}
 
 -- what is undone, with nothing later than stop, and what stood before the last events were put

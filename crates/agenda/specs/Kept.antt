@@ -6,7 +6,7 @@ use Rattle.std.specs.declared.cmp.Ordering.{Ordering}
 use Rattle.std.specs.declared.cmp.Ordering.TheVariants.{Less, Greater}
 use Rattle.tag.specs.LogicalTime.{LogicalTime, origin, forever, is_at_most, is_before, lesser, IsFinite}
 use Rattle.network.specs.Undone.{Held, Rises, is_for_same, put_all}
-use Rattle.plan.specs.declared.slots.Timer.{Timer}
+use Rattle.slots.specs.declared.slots.Timer.{Timer}
 use Rattle.plan.specs.External.{times_from, firing_count}
 use Rattle.agenda.specs.contracts.key.KeyOrd.TheImpl as key_ord
 use Rattle.agenda.specs.declared.key.Key.{Key}

@@ -4,7 +4,7 @@ ghost use Rattle.tag.specs.LogicalTime.{origin};
 ghost use Rattle.network.specs.Event.{listed, value_at};
 ghost use Rattle.network.specs.Undone.{put_all, look, drop_up_to};
 ghost use Rattle.agenda.specs.Kept.{startup_in};
-ghost use Rattle.plan.specs.Legal.{IsTimerInRange, IsWithinLimits};
+ghost use Rattle.slots.specs.Limits.{IsTimerInRange, IsWithinLimits};
 
 use crate::firings::Firings;
 use crate::held::Held;
@@ -16,7 +16,7 @@ use crate::puts::{drop_puts, put_in_time, undo_each};
 use crate::timers::{drop_firings, first_firing, timers_of};
 use crate::undo::Undo;
 use plan::Slots;
-use reactor::Entry;
+use program::Entry;
 use std::alloc::Global;
 use std::marker::Model;
 use std::mem;

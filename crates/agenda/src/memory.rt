@@ -1,5 +1,6 @@
 ghost use Rattle.std.specs.Prelude.{◌≡◌};
 
+use program::ProgramFault;
 use std::alloc::{AllocError, AllocFailed};
 use std::fmt;
 
@@ -15,7 +16,7 @@ impl Memory {
     pub const fn number(self) -> u16
         ensures { result ≡ fault_number ProgramFaults.Memory }
     {
-        reactor::Memory.number()
+        ProgramFault::Memory.number()
     }
 }
 
@@ -26,7 +27,7 @@ impl fmt::Display for Memory {
     ghost output = { λ _. Some printed_memory };
 
     fn fmt<W: fmt::Write>(&self, f: &mut fmt::Formatter<W>) -> fmt::Result {
-        write!(f, "{}", reactor::Memory)
+        write!(f, "{} Memory", self.number())
     }
 }
 

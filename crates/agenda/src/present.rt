@@ -10,7 +10,7 @@ use crate::key::Key;
 use crate::memory::Memory;
 use crate::ordered::Puts;
 use crate::puts::is_at_most;
-use reactor::Entry;
+use program::Entry;
 use std::alloc::Global;
 use std::collections::{BTreeMap, VecDeque};
 use tag::Tag;

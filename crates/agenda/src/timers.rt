@@ -2,8 +2,8 @@ ghost use Rattle.std.specs.Prelude.{◌≡◌, ◌+◌, ◌<◌, ◌^◌, All, I
 ghost use Rattle.std.specs.List.{AllByRecursion};
 ghost use Rattle.network.specs.Undone.{drop_up_to};
 ghost use Rattle.plan.specs.External.{firing_count};
-ghost use Rattle.plan.specs.Legal.{IsTimerInRange};
-ghost use Rattle.plan.specs.Numbering.{first_timer};
+ghost use Rattle.slots.specs.Limits.{IsTimerInRange};
+ghost use Rattle.slots.specs.Numbering.{first_timer};
 ghost use Rattle.agenda.specs.Kept.{all_firings, first_firing, timers_from, IsTimer};
 
 use crate::firings::{Firings, later_than, next_tag};

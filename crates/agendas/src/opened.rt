@@ -1,6 +1,6 @@
 //! Federations, and the agenda of the first of their federates.
 ghost use Rattle.std.specs.Prelude.{IfSome};
-ghost use Rattle.program.specs.Programs.{AreProgramsOf};
+ghost use Rattle.programs.specs.Programs.{AreProgramsOf};
 
 use agenda::Agenda;
 use loadfed::{LoadFault, load};

@@ -2,14 +2,14 @@
 //! whichever one allocation is refused.
 ghost use Rattle.std.specs.Prelude.{◌<◌, length};
 ghost use Rattle.plan.specs.External.{AreInputsOf};
-ghost use Rattle.program.specs.Programs.{AreProgramsOf};
+ghost use Rattle.programs.specs.Programs.{AreProgramsOf};
 
 use crate::opened::{first_agenda, is_right, loaded, one_action};
 use crate::puts::{event, tag};
 use agenda::{Agenda, Held, Put};
 use loadfed::load_inputs;
 use plan::{Inputs, Plan};
-use reactor::entry::value_at;
+use program::entry::value_at;
 use reactor::{Entry, Memory, Programs, RowView, Rows};
 use std::alloc::Global;
 use std::test::Fail;

@@ -3,7 +3,7 @@ ghost use Rattle.std.specs.Io.KnownBytes.{Appends};
 ghost use Rattle.plan.specs.declared.input.Input.{Input};
 ghost use Rattle.plan.specs.External.{AreInputsOf};
 ghost use Rattle.program.specs.Behaviour.{Behaviour};
-ghost use Rattle.program.specs.Programs.{AreProgramsOf};
+ghost use Rattle.programs.specs.Programs.{AreProgramsOf};
 ghost use Rattle.printed.specs.RowText.{printed_rows};
 ghost use Rattle.recorder.specs.Reports.{reported_rows};
 ghost use Rattle.audited.specs.Printed.{PrintsAudited, IsAuditedFault, IsFaultOfPlan, printed_reports};

@@ -1,30 +1,18 @@
 -- What the program prints where all went well.
 use Rattle.std.specs.Prelude.{ℕ, List, Option}
-use Rattle.std.specs.Io.KnownBytes.{Appends}
-use Rattle.plan.specs.declared.draft.Draft.{Draft}
-use Rattle.program.specs.Behaviour.{Behaviour}
-use Rattle.printed.specs.PlanText.{printed_plan}
 use Rattle.files.specs.Contents.{Contents}
-use Rattle.sources.specs.Loaded.{input_file, IsFederation, HoldsOfSources}
-use Rattle.undivided.specs.Printed.{PrintsRows}
+use Rattle.sources.specs.Loaded.{input_file, HoldsOfSources}
+use Rattle.unfederated.specs.Printed.{PrintsWhole, PrintsPlan}
 use Rattle.replay.specs.Replayed.{IsReplayed}
 use Rattle.audited.specs.Printed.{PrintsAudited}
 use Rattle.words.specs.declared.request.Request.{Request}
 use Rattle.words.specs.declared.request.Request.TheVariants.{Whole, Check, Replay, Run}
 
--- a writer's bytes grew by the plan of the federation in a file
-pub record PrintsPlan (federation before after : Option (List ℕ)) : Type 0 where
-  pub draft : Draft
-  pub programs : List Behaviour
-  pub federation_is : IsFederation federation draft programs
-  pub printed : Appends before after (printed_plan draft)
-
 -- what a request that was done printed, of the federation in a file, and but for a plan, with the recorded inputs in another: the plan;
 -- the rows after at most so many turns; what a schedule's world refuses and the rows after its steps, after closing rounds where some
 -- were asked for; or the rows of a run that an audit proved
 abbrev pub PrintsFor : Contents → Request → Option (List ℕ) → Option (List ℕ) → Type 0
-PrintsFor contents (Whole federation inputs turns) before after =
-    HoldsOfSources (contents federation.now) (input_file contents inputs.now) (λ s. PrintsRows s.plan s.programs s.inputs turns before after)
+PrintsFor contents (Whole federation inputs turns) before after = PrintsWhole contents federation.now inputs.now turns before after
 PrintsFor contents (Check federation) before after = PrintsPlan (contents federation.now) before after
 PrintsFor contents (Replay federation inputs schedule until_stuck) before after =
     HoldsOfSources (contents federation.now) (input_file contents inputs.now) (λ s. IsReplayed s.plan s.programs s.inputs until_stuck before after)

@@ -1,11 +1,12 @@
 ghost use Rattle.std.specs.Prelude.{◌≡◌, ◌≢◌, ◌≤◌};
+ghost use Rattle.telling.specs.Lines.{line_of, Tells};
 ghost use Rattle.telling.specs.Pieces.{AppendsBeginning, AppendsTold};
 ghost use Rattle.files.specs.Answers.{Answers};
-ghost use Rattle.commands.specs.Faults.{status_of, line_of};
+ghost use Rattle.commands.specs.Faults.{status_of, printed_fault};
 ghost use Rattle.commands.specs.Printed.{PrintsAnswer};
-ghost use Rattle.commands.specs.Refused.{TellsFault};
+ghost use Rattle.commands.specs.Refused.{Stands};
 
-use crate::fault::{Fault, Line};
+use crate::fault::Fault;
 use crate::requests::perform;
 use files::Files;
 use std::io::Write;
@@ -13,7 +14,7 @@ use std::net::{Net, TcpListener, TcpStream};
 use std::sync::Wait;
 use std::thread::Threads;
 use std::time::Clock;
-use telling::tell;
+use telling::tell_line;
 
 /// Does what the words ask for, over these files, and answers the exit status: 0 where it is done, 1 where what it was given
 /// is refused or can't be read, 2 where the words are no command, 3 where it couldn't finish. What it has to say of a
@@ -33,7 +34,7 @@ pub fn command<
 >(rt: &R, words: &[String], files: &mut F, out: &mut O, err: &mut E) -> u8
     ensures done { result ≡ 0 → PrintsAnswer (F.contents files.old) (O.contents out.old) (O.contents out.new) }
     ensures quiet { result ≡ 0 → err.new ≡ err.old }
-    ensures told { result ≢ 0 → TellsFault (F.contents files.old) (Answers (F.answers files.old) (F.answers files.new)) result (O.contents out.old) (O.contents out.new) (AppendsBeginning (E.contents err.old) (E.contents err.new)) }
+    ensures told { result ≢ 0 → Tells (Stands (F.contents files.old) (Answers (F.answers files.old) (F.answers files.new)) (O.contents out.old) (O.contents out.new)) status_of printed_fault result (AppendsBeginning (E.contents err.old) (E.contents err.new)) }
     ensures untouched { result ≡ 1 → out.new ≡ out.old }
     ensures unused { result ≡ 2 → out.new ≡ out.old }
     ensures statuses { result ≤ 3 }
@@ -64,7 +65,7 @@ pub fn answer<
 >(rt: &R, words: &[String], files: &mut F, out: &mut O, err: &mut E) -> Answered
     ensures done { result.status ≡ 0 → PrintsAnswer (F.contents files.old) (O.contents out.old) (O.contents out.new) }
     ensures quiet { result.status ≡ 0 → err.new ≡ err.old }
-    ensures told { result.status ≢ 0 → TellsFault (F.contents files.old) (Answers (F.answers files.old) (F.answers files.new)) result.status (O.contents out.old) (O.contents out.new) (AppendsTold result.is_told (E.contents err.old) (E.contents err.new)) }
+    ensures told { result.status ≢ 0 → Tells (Stands (F.contents files.old) (Answers (F.answers files.old) (F.answers files.new)) (O.contents out.old) (O.contents out.new)) status_of printed_fault result.status (AppendsTold result.is_told (E.contents err.old) (E.contents err.new)) }
     ensures untouched { result.status ≡ 1 → out.new ≡ out.old }
     ensures unused { result.status ≡ 2 → out.new ≡ out.old }
     ensures statuses { result.status ≤ 3 }
@@ -81,9 +82,9 @@ pub fn answer<
 /// Tells a fault on one line, with its exit status.
 pub fn refuse<E: Write>(fault: &Fault<'_>, err: &mut E) -> Answered
     ensures status { result.status ≡ status_of fault.now }
-    ensures line { AppendsTold result.is_told (E.contents err.old) (E.contents err.new) (line_of fault.now) }
+    ensures line { AppendsTold result.is_told (E.contents err.old) (E.contents err.new) (line_of (printed_fault fault.now)) }
 {
-    let is_told = tell(err, &Line(fault));
+    let is_told = tell_line(err, fault);
     Answered {
         status: fault.status(),
         is_told,

@@ -2,12 +2,14 @@
 //!
 //! Promise to the layer above: with status 0, what the words ask for was printed (`specs/Printed`); with another status, a fault
 //! stands (`specs/Refused`), and it is told on one line (`specs/Faults`). Begin with `command` in `answering.rt`, then `requests.rt`.
+//! What `whole` and `check` do stands in `unfederated`.
 #![tactic(auto)]
 
 pub mod answering;
 pub mod fault;
 mod printing;
 mod requests;
+mod schedules;
 
 pub use answering::{Answered, answer, command, refuse};
 pub use fault::Fault;

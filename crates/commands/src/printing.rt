@@ -1,19 +1,15 @@
 //! What a request prints, once its files are read.
-ghost use Rattle.std.specs.Prelude.{◌≡◌, IfErr, OnOk, string_bytes};
-ghost use Rattle.std.specs.Io.KnownBytes.{Appends, Keeps};
+ghost use Rattle.std.specs.Prelude.{◌≡◌, IfErr, OnOk};
+ghost use Rattle.std.specs.Io.KnownBytes.{Keeps};
 ghost use Rattle.plan.specs.External.{AreInputsOf};
-ghost use Rattle.program.specs.Programs.{AreProgramsOf};
-ghost use Rattle.printed.specs.PlanText.{printed_plan};
-ghost use Rattle.undivided.specs.Printed.{PrintsRows};
+ghost use Rattle.programs.specs.Programs.{AreProgramsOf};
 ghost use Rattle.replay.specs.Replayed.{IsReplayed};
 ghost use Rattle.audited.specs.Printed.{PrintsAudited};
 ghost use Rattle.commands.specs.Faults.{status_of};
-ghost use Rattle.commands.specs.Refused.{IsWholeFault, IsReplayFault, IsRunFault, IsPlanFault};
+ghost use Rattle.commands.specs.Refused.{cannot_write, IsReplayFault, IsRunFault};
 
 use crate::fault::Fault;
 use audited::{AuditedFault, print_audited_run};
-use plan::Plan;
-use printed::plan_text;
 use replay::{ReplayFault, replay};
 use script::Script;
 use sources::Sources;
@@ -23,34 +19,6 @@ use std::net::{Net, TcpListener, TcpStream};
 use std::sync::Wait;
 use std::thread::Threads;
 use std::time::Clock;
-use undivided::{TurnsFault, print_turns};
-
-/// Prints the rows of the undivided program after at most so many turns.
-pub(crate) fn print_whole<O: Write>(
-    alloc: Global,
-    sources: &Sources,
-    turns: u32,
-    out: &mut O,
-) -> Result<(), Fault<'static>>
-    requires programs { AreProgramsOf sources.now.plan sources.now.programs }
-    requires inputs { AreInputsOf sources.now.plan sources.now.inputs }
-    ensures ok { OnOk result (PrintsRows sources.now.plan sources.now.programs sources.now.inputs turns (O.contents out.old) (O.contents out.new)) }
-    ensures stands { IfErr result (IsWholeFault sources.now turns (O.contents out.old) (O.contents out.new)) }
-    ensures late { IfErr result (λ fault. status_of fault ≡ 3) }
-{
-    match print_turns(
-        alloc,
-        &sources.plan,
-        &sources.programs,
-        &sources.inputs,
-        turns,
-        out,
-    ) {
-        Ok(()) => Ok(()),
-        Err(TurnsFault::Memory(memory)) => Err(Fault::Turns(memory)),
-        Err(TurnsFault::CannotWrite) => Err(Fault::CannotWrite),
-    }
-}
 
 /// Plays a schedule and prints what `replay` does. Where there is no memory for a step, the refused steps before it are written.
 pub(crate) fn print_replay<O: Write>(
@@ -80,7 +48,7 @@ pub(crate) fn print_replay<O: Write>(
             flush(out)?;
             Err(Fault::World(memory))
         }
-        Err(ReplayFault::CannotWrite) => Err(Fault::CannotWrite),
+        Err(ReplayFault::CannotWrite) => Err(cannot_write()),
     }
 }
 
@@ -108,39 +76,21 @@ pub(crate) fn print_run<
         Err(AuditedFault::NotFinished) => Err(Fault::NotFinished),
         Err(AuditedFault::Unproved(doubt)) => Err(Fault::Unproved(doubt)),
         Err(AuditedFault::Memory) => Err(Fault::Run(desk::Memory)),
-        Err(AuditedFault::CannotWrite) => Err(Fault::CannotWrite),
+        Err(AuditedFault::CannotWrite) => Err(cannot_write()),
     }
-}
-
-/// Prints the plan.
-pub(crate) fn print_plan<O: Write>(
-    alloc: Global,
-    plan: &Plan,
-    out: &mut O,
-) -> Result<(), Fault<'static>>
-    ensures ok { OnOk result (Appends (O.contents out.old) (O.contents out.new) (printed_plan plan.now)) }
-    ensures stands { IfErr result (IsPlanFault (O.contents out.old) (O.contents out.new)) }
-    ensures late { IfErr result (λ fault. status_of fault ≡ 3) }
-{
-    match plan_text(alloc, plan) {
-        Ok(text) => print(out, &text),
-        Err(memory) => Err(Fault::Print(memory)),
-    }
-}
-
-fn print<O: Write>(out: &mut O, text: &String) -> Result<(), Fault<'static>>
-    ensures ok { OnOk result (Appends (O.contents out.old) (O.contents out.new) (string_bytes text.now)) }
-    ensures err { IfErr result (λ fault. fault ≡ Fault.CannotWrite) }
-{
-    out.write_all(text.as_bytes())
-        .map_err(|_| Fault::CannotWrite)?;
-    flush(out)
 }
 
 /// Sends on what was written.
 fn flush<O: Write>(out: &mut O) -> Result<(), Fault<'static>>
     ensures kept { Keeps (O.contents out.old) (O.contents out.new) }
-    ensures err { IfErr result (λ fault. fault ≡ Fault.CannotWrite) }
+    ensures err { IfErr result (λ fault. fault ≡ cannot_write) }
 {
-    out.flush().map_err(|_| Fault::CannotWrite)
+    out.flush().map_err(|_| cannot_write())
+}
+
+/// Standard output takes no more.
+fn cannot_write() -> Fault<'static>
+    ensures { result ≡ cannot_write }
+{
+    Fault::Unfederated(unfederated::Fault::CannotWrite)
 }

@@ -3,19 +3,20 @@ ghost use Rattle.std.specs.Prelude.{◌≡◌, ◌≢◌, IfErr, OnOk};
 ghost use Rattle.files.specs.Answers.{Answers};
 ghost use Rattle.commands.specs.Faults.{status_of};
 ghost use Rattle.commands.specs.Printed.{PrintsFor, PrintsAnswer};
-ghost use Rattle.commands.specs.Refused.{IsWordsFault, IsFaultOf, Stands};
+ghost use Rattle.commands.specs.Refused.{IsFaultOf, Stands};
 
 use crate::fault::Fault;
-use crate::printing::{print_plan, print_replay, print_run, print_whole};
+use crate::printing::{print_replay, print_run};
+use crate::schedules::read_schedule;
 use files::Files;
-use sources::{read_federation, read_schedule, read_sources};
+use sources::read_sources;
 use std::alloc::Global;
 use std::io::Write;
 use std::net::{Net, TcpListener, TcpStream};
 use std::sync::Wait;
 use std::thread::Threads;
 use std::time::Clock;
-use words::{Request, read_words};
+use words::Request;
 
 /// Does what the words ask for.
 #[tactic(auto, using(files::proofs::InTurn::none_answered))]
@@ -35,7 +36,11 @@ pub(crate) fn perform<
     ensures untouched { IfErr result (λ fault. status_of fault ≢ 3 → out.new ≡ out.old) }
 {
     let alloc = rt.alloc();
-    match requested(alloc, words)? {
+    let request = match unfederated::requested(alloc, words) {
+        Ok(request) => request,
+        Err(fault) => return Err(Fault::Unfederated(fault)),
+    };
+    match request {
         Request::Whole {
             federation,
             inputs,
@@ -56,16 +61,6 @@ pub(crate) fn perform<
     }
 }
 
-/// What the words ask for.
-fn requested<'a>(alloc: Global, words: &'a [String]) -> Result<Request<'a>, Fault<'a>>
-    ensures { IfErr result IsWordsFault }
-{
-    match read_words(alloc, words) {
-        Ok(request) => Ok(request),
-        Err(why) => Err(Fault::of_words(why)),
-    }
-}
-
 /// Prints the rows of the undivided program after at most so many turns.
 fn whole<'a, F: Files, O: Write>(
     alloc: Global,
@@ -79,9 +74,9 @@ fn whole<'a, F: Files, O: Write>(
     ensures stands { IfErr result (IsFaultOf (F.contents files.old) (Answers (F.answers files.old) (F.answers files.new)) (O.contents out.old) (O.contents out.new) (Request.Whole federation.entry inputs.entry turns)) }
     ensures untouched { IfErr result (λ fault. status_of fault ≢ 3 → out.new ≡ out.old) }
 {
-    match read_sources(alloc, federation, inputs, files) {
-        Ok(sources) => print_whole(alloc, &sources, turns, out),
-        Err(fault) => Err(Fault::Source(fault)),
+    match unfederated::whole(alloc, federation, inputs, turns, files, out) {
+        Ok(()) => Ok(()),
+        Err(fault) => Err(Fault::Unfederated(fault)),
     }
 }
 
@@ -106,7 +101,7 @@ fn run<
 {
     match read_sources(alloc, federation, inputs, files) {
         Ok(sources) => print_run(rt, alloc, &sources, turns, out),
-        Err(fault) => Err(Fault::Source(fault)),
+        Err(fault) => Err(Fault::Unfederated(unfederated::Fault::Source(fault))),
     }
 }
 
@@ -127,11 +122,11 @@ fn replay<'a, F: Files, O: Write>(
 {
     let sources = match read_sources(alloc, federation, inputs, files) {
         Ok(sources) => sources,
-        Err(fault) => return Err(Fault::Source(fault)),
+        Err(fault) => return Err(Fault::Unfederated(unfederated::Fault::Source(fault))),
     };
     match read_schedule(alloc, schedule, &sources.plan, files) {
         Ok(script) => print_replay(alloc, &sources, &script, until_stuck, out),
-        Err(fault) => Err(Fault::Source(fault)),
+        Err(fault) => Err(fault),
     }
 }
 
@@ -146,8 +141,8 @@ fn check<'a, F: Files, O: Write>(
     ensures stands { IfErr result (IsFaultOf (F.contents files.old) (Answers (F.answers files.old) (F.answers files.new)) (O.contents out.old) (O.contents out.new) (Request.Check federation.entry)) }
     ensures untouched { IfErr result (λ fault. status_of fault ≢ 3 → out.new ≡ out.old) }
 {
-    match read_federation(alloc, federation, files) {
-        Ok((plan, _programs)) => print_plan(alloc, &plan, out),
-        Err(fault) => Err(Fault::Source(fault)),
+    match unfederated::check(alloc, federation, files, out) {
+        Ok(()) => Ok(()),
+        Err(fault) => Err(Fault::Unfederated(fault)),
     }
 }

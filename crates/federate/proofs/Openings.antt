@@ -7,12 +7,12 @@ use Rattle.network.specs.Event.{Event, outside}
 use Rattle.network.specs.Undivided.{Row}
 use Rattle.network.specs.Undone.{Held, put_all, held_of}
 use Rattle.protocol.specs.Federate.{Federate, opening_federate}
-use Rattle.plan.specs.declared.slots.Slots.{Slots}
-use Rattle.plan.specs.declared.slots.Timer.{Timer}
+use Rattle.slots.specs.declared.slots.Slots.{Slots}
+use Rattle.slots.specs.declared.slots.Timer.{Timer}
 use Rattle.plan.specs.declared.draft.Draft.{Draft}
 use Rattle.plan.specs.declared.draft.Federate as declared
 use Rattle.plan.specs.declared.input.Input.{Input}
-use Rattle.plan.specs.Numbering.{startup_slot, first_timer}
+use Rattle.slots.specs.Numbering.{startup_slot, first_timer}
 use Rattle.plan.specs.Federation.{stop_of}
 use Rattle.plan.specs.External.{startup_of, firings_from, firing_times, own_events, own_events_in, input_events_to, external_of}
 use Rattle.plan.proofs.Outside.{external_parts}

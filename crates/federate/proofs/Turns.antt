@@ -22,7 +22,7 @@ use Rattle.plan.specs.declared.draft.Draft.{Draft}
 use Rattle.plan.specs.declared.draft.Federate as declared
 use Rattle.plan.specs.declared.input.Input.{Input}
 use Rattle.plan.specs.Federation.{connections_of, stop_of}
-use Rattle.plan.specs.Numbering.{slot_count}
+use Rattle.slots.specs.Numbering.{slot_count}
 use Rattle.program.specs.Behaviour.{Behaviour, IsWellFormed}
 use Rattle.reactor.specs.Federation.{network_of, slots_of, ports_of, effect_by}
 use Rattle.reactor.specs.Turn.{Reactor, Turn}

@@ -8,7 +8,7 @@ use Rattle.signal.specs.declared.signal.Signal.TheVariants.{Ltc}
 use Rattle.protocol.specs.Federate.{Federate, scheduled_at}
 use Rattle.plan.specs.declared.draft.Draft.{Draft}
 use Rattle.plan.specs.Federation.{stop_of}
-use Rattle.plan.specs.Numbering.{slot_count}
+use Rattle.slots.specs.Numbering.{slot_count}
 use Rattle.reactor.specs.Effect as reactor
 use Rattle.reactor.specs.Federation.{network_of}
 use Rattle.reactor.specs.Turn.{Reactor, turn_of}

@@ -8,7 +8,7 @@ ghost use Rattle.protocol.specs.Alone.{IsFederate};
 ghost use Rattle.plan.specs.External.{AreInputsOf};
 ghost use Rattle.plan.specs.Federation.{connections_of, federate_count, stop_of};
 ghost use Rattle.reactor.specs.Federation.{network_of};
-ghost use Rattle.program.specs.Programs.{AreProgramsOf};
+ghost use Rattle.programs.specs.Programs.{AreProgramsOf};
 ghost use Rattle.federate.specs.Change.{changed, IsInTime};
 ghost use Rattle.federate.specs.Turn.{due_in};
 

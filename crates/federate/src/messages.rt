@@ -10,9 +10,9 @@ ghost use Rattle.federate.specs.Outlets.{messages_by};
 use crate::memory::Memory;
 use crate::outlet::Outlet;
 use plan::Plan;
+use program::entry::value_at;
 use protocol::Post;
 use reactor::Entry;
-use reactor::entry::value_at;
 use signal::Signal;
 use tag::{Delay, FiniteTag, plus};
 

@@ -3,7 +3,7 @@ ghost use Rattle.std.specs.List.{AllByRecursion};
 ghost use Rattle.tag.specs.LogicalTime.{is_before};
 ghost use Rattle.network.specs.Undone.{put_all, drop_up_to};
 ghost use Rattle.agenda.specs.Agenda.{in_time};
-ghost use Rattle.plan.specs.Numbering.{slot_count};
+ghost use Rattle.slots.specs.Numbering.{slot_count};
 ghost use Rattle.federate.specs.Turn.{IsPrepared};
 
 use crate::memory::Memory;

@@ -10,7 +10,7 @@ use Rattle.plan.specs.Faults.{StandsIn}
 use Rattle.program.specs.declared.fault.ProgramFault.{ProgramFault}
 use Rattle.program.specs.declared.fault.ProgramFault.TheVariants as program_fault
 use Rattle.program.specs.Behaviour.{Behaviour}
-use Rattle.program.specs.Programs.{AreProgramsOf}
+use Rattle.programs.specs.Programs.{AreProgramsOf}
 use Rattle.program.specs.Spelled.{SpellsProgram, IsFaultOf}
 use Rattle.tables.specs.declared.fault.LoadFault.{LoadFault}
 use Rattle.tables.specs.declared.fault.LoadFault.TheVariants.{NotToml, Plan, Program, OverLimit, Memory}

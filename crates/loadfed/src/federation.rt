@@ -3,7 +3,7 @@ ghost use Rattle.loadfed.specs.Ready.{AreReady};
 ghost use Rattle.plan.specs.declared.draft.Draft.{Draft};
 ghost use Rattle.plan.specs.Legal.{IsLegal};
 ghost use Rattle.program.specs.Behaviour.{Behaviour};
-ghost use Rattle.program.specs.Programs.{AreProgramsOf};
+ghost use Rattle.programs.specs.Programs.{AreProgramsOf};
 ghost use Rattle.program.specs.Spelled.{SpellsProgram, IsReadable};
 ghost use Rattle.loadfed.specs.Loaded.{SpellPrograms, IsFederationFile, IsPlanFault, IsProgramFault, IsFaultAmong, IsLoading};
 
@@ -11,7 +11,8 @@ use crate::federation_shape::{Shape, federation_shape};
 use crate::program_shape::ProgramShape;
 use crate::told::{of_plan, of_program};
 use plan::{Draft, Federate, Plan};
-use reactor::{Program, Programs};
+use program::Program;
+use programs::Programs;
 use std::alloc::Global;
 use tables::{LoadFault, Section, document};
 

@@ -9,7 +9,7 @@ ghost use Rattle.loadfed.specs.ShapeFaults.{HasTooMany, HasStateFault, HasReacti
 use crate::arrays::{FromTable, read_each};
 use plan::Names;
 use program::limits::{MOST_LINES, MOST_REACTIONS, MOST_STATES};
-use reactor::{ReactionDraft, State};
+use program::{ReactionDraft, State};
 use std::alloc::Global;
 use std::marker::Model;
 use tables::{LoadFault, Section};

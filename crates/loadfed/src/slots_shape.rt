@@ -5,7 +5,7 @@ ghost use Rattle.loadfed.specs.ShapeFaults.{HasTimerFault, HasSlotsFault};
 
 use crate::arrays::{FromTable, read_each};
 use plan::{Slots, Text, Timer, Timers};
-use reactor::ReactionDraft;
+use program::ReactionDraft;
 use std::alloc::Global;
 use tables::{LoadFault, Section};
 

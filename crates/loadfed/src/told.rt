@@ -3,7 +3,7 @@ ghost use Rattle.std.specs.Prelude.{◌≡◌, ◌⊎◌};
 ghost use Rattle.loadfed.specs.Told.{fault_of_plan, fault_of_inputs};
 
 use plan::{InputFault, PlanFault, Text};
-use reactor::ProgramFault;
+use program::ProgramFault;
 use tables::LoadFault;
 
 /// How a fault of a plan is told.

@@ -7,13 +7,13 @@ use Rattle.std.proofs.lemmas.List.{length-map, drop_more, get_or_default, get_or
 use Rattle.std.proofs.lemmas.List.Elements.{All-head, All-tail}
 use Rattle.std.proofs.lemmas.Option.{slice_get_within, slice_get-get_or}
 use Rattle.network.specs.Connection.{Connection}
-use Rattle.plan.specs.declared.slots.Slots.{Slots}
+use Rattle.slots.specs.declared.slots.Slots.{Slots}
 use Rattle.plan.specs.declared.draft.Federate.{Federate}
 use Rattle.plan.specs.declared.draft.PortName.{PortName}
 use Rattle.plan.specs.declared.draft.ConnectionDraft.{ConnectionDraft}
 use Rattle.plan.specs.declared.draft.Draft.{Draft}
 use Rattle.names.specs.Naming.{place_of}
-use Rattle.plan.specs.Numbering.{first_input}
+use Rattle.slots.specs.Numbering.{first_input}
 use Rattle.plan.specs.Federation.{Found, federate_names, federate_number, place_in, found_in, found_output, found_input, delay_after, connection_of, connections_of}
 use Rattle.network.specs.Lawful.{EndApart}
 use Rattle.plan.specs.Faults.{ArePortsThere, EndsTwice, HasTwoSources}

@@ -15,7 +15,7 @@ use Rattle.plan.specs.declared.draft.Draft.{Draft}
 use Rattle.plan.specs.declared.fault.PlanFault.{PlanFault}
 use Rattle.plan.specs.declared.fault.PlanFault.TheVariants.{NoFederate, UnknownName, TwoSources, ZeroDelayCycle, OverLimit, BadTimer, Memory, RepeatedName}
 use Rattle.names.specs.Naming.{AreDistinct, StandsTwice}
-use Rattle.plan.specs.Numbering.{all_names, first_input}
+use Rattle.slots.specs.Numbering.{all_names, first_input}
 use Rattle.plan.specs.Federation.{Found, federate_names, found_input, found_output, connection_of, connections_of, federate_count}
 use Rattle.paths.specs.Levels.{level_within, before_by}
 use Rattle.paths.specs.Least.{IsLeastTable}

@@ -10,9 +10,9 @@ use Rattle.plan.specs.declared.fault.PlanFault.{PlanFault}
 use Rattle.plan.specs.declared.fault.PlanFault.TheVariants.{NoFederate, UnknownName, TwoSources, ZeroDelayCycle, OverLimit, BadTimer, Memory, RepeatedName}
 use Rattle.plan.specs.declared.limits.TheConstants.{MOST_FEDERATES, MOST_CONNECTIONS}
 use Rattle.names.specs.Naming.{AreDistinct, StandsTwice}
-use Rattle.plan.specs.Numbering.{all_names}
+use Rattle.slots.specs.Numbering.{all_names}
 use Rattle.plan.specs.Federation.{federate_names, found_output, found_input, connections_of}
-use Rattle.plan.specs.Legal.{IsWithinLimits, IsTimerInRange}
+use Rattle.slots.specs.Limits.{IsWithinLimits, IsTimerInRange}
 
 -- a connection names this port, and it isn't there
 abbrev pub IsUnknown : Draft → PortName → Type 0

@@ -5,13 +5,13 @@ use Rattle.std.specs.List.{filter_map}
 use Rattle.tag.specs.LogicalTime.{LogicalTime, origin, delay_of}
 use Rattle.network.specs.Connection.{Connection}
 use Rattle.paths.specs.Levels.{level_within, before_by}
-use Rattle.plan.specs.declared.slots.Slots.{Slots}
+use Rattle.slots.specs.declared.slots.Slots.{Slots}
 use Rattle.plan.specs.declared.draft.Federate.{Federate}
 use Rattle.plan.specs.declared.draft.PortName.{PortName}
 use Rattle.plan.specs.declared.draft.ConnectionDraft.{ConnectionDraft}
 use Rattle.plan.specs.declared.draft.Draft.{Draft}
 use Rattle.names.specs.Naming.{place_of}
-use Rattle.plan.specs.Numbering.{first_input}
+use Rattle.slots.specs.Numbering.{first_input}
 
 -- the names of federates, in their order
 abbrev pub federate_names : List Federate → List (List ℕ)

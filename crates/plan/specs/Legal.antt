@@ -2,25 +2,12 @@
 use Rattle.std.specs.Prelude.{◌^◌, ◌<◌, ◌≤◌, length, All, AllPairs, IsSome, IfSome}
 use Rattle.network.specs.Lawful.{EndApart}
 use Rattle.paths.specs.Cycles.{HasNoImmediateCycle}
-use Rattle.plan.specs.declared.slots.Slots.{Slots}
-use Rattle.plan.specs.declared.slots.Timer.{Timer}
+use Rattle.slots.specs.Limits.{IsWithinLimits, IsTimerInRange}
 use Rattle.plan.specs.declared.draft.Draft.{Draft}
-use Rattle.plan.specs.declared.limits.TheConstants.{MOST_FEDERATES, MOST_CONNECTIONS, MOST_SLOTS}
+use Rattle.plan.specs.declared.limits.TheConstants.{MOST_FEDERATES, MOST_CONNECTIONS}
 use Rattle.names.specs.Naming.{AreDistinct}
-use Rattle.plan.specs.Numbering.{all_names}
+use Rattle.slots.specs.Numbering.{all_names}
 use Rattle.plan.specs.Federation.{federate_names, found_output, found_input, connections_of}
-
--- a federate has not too many of each kind of slot
-pub record IsWithinLimits (s : Slots) : Type 0 where
-  pub inputs : length s.inputs ≤ MOST_SLOTS
-  pub outputs : length s.outputs ≤ MOST_SLOTS
-  pub timers : length s.timers ≤ MOST_SLOTS
-  pub actions : length s.actions ≤ MOST_SLOTS
-  pub physical : length s.physical ≤ MOST_SLOTS
-
--- a timer's times are below 2^62 ns
-abbrev pub IsTimerInRange : Timer → Type 0
-IsTimerInRange t = (t.offset < 2 ^ 62) × (t.period < 2 ^ 62)
 
 -- a draft that is a federation: within its limits, with names and ports as they must be, and without a cycle of no delay
 pub record IsLegal (d : Draft) : Type 0 where

@@ -1,8 +1,6 @@
 -- Federations: what is declared, what is legal, and what it means in numbers.
 -- names in a list
 pub mod Naming
--- a federate's slots by number
-pub mod Numbering
 -- connections by number, and levels and ranks
 pub mod Federation
 -- least delays

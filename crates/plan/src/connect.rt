@@ -5,8 +5,8 @@ ghost use Rattle.plan.specs.Faults.{ArePortsThere, StandsIn};
 use crate::draft::Draft;
 use crate::fault::PlanFault;
 use crate::lookup::{found_input, found_output};
-use crate::slots::Slots;
 use paths::Connection;
+use slots::Slots;
 use std::alloc::Global;
 use tag::{Delay, Time};
 

@@ -1,7 +1,7 @@
 ghost use Rattle.std.specs.Prelude.{◌≡◌};
 
-use crate::slots::Slots;
 use names::{Named, Text};
+use slots::Slots;
 use std::marker::Model;
 use tag::Time;
 

@@ -7,7 +7,7 @@ ghost use Rattle.paths.specs.Levels.{IsLevel};
 ghost use Rattle.paths.specs.Least.{IsTotalWithin};
 ghost use Rattle.plan.specs.declared.draft.Draft.{Draft};
 ghost use Rattle.plan.specs.declared.input.Input.{Input};
-ghost use Rattle.plan.specs.declared.slots.Timer.{Timer};
+ghost use Rattle.slots.specs.declared.slots.Timer.{Timer};
 ghost use Rattle.plan.specs.External.{external_of, external_to, is_for, firing_times, FiresAt};
 ghost use Rattle.plan.specs.Federation.{connections_of, level_of, rank_of, federate_count};
 ghost use Rattle.plan.specs.declared.limits.TheConstants.{MOST_FEDERATES};

@@ -14,7 +14,6 @@ pub mod limits;
 mod lookup;
 pub mod plan;
 mod repeated;
-pub mod slots;
 mod sources;
 
 pub use draft::{ConnectionDraft, Connections, Draft, Federate, Federates, PortName};

@@ -1,30 +1,17 @@
 ghost use Rattle.std.specs.Prelude.{◌≡◌, ◌<◌, ◌↔◌, length, IsTrue, All, OnOk, IfErr};
-ghost use Rattle.plan.specs.Legal.{IsWithinLimits, IsTimerInRange};
+ghost use Rattle.slots.specs.Limits.{IsWithinLimits, IsTimerInRange};
 ghost use Rattle.plan.specs.Faults.{IsWithinAllLimits, AreTimersInRange, StandsIn};
 
 use crate::draft::{Draft, Federate};
 use crate::fault::PlanFault;
-use crate::slots::{Slots, Timer};
 use network::limits::MOST_REACTORS;
-use tag::Time;
+use slots::Timer;
+use slots::limits::{is_in_range, is_within_limits};
 
 /// Each is a reactor of the network.
 pub const MOST_FEDERATES: usize = MOST_REACTORS;
 
 pub const MOST_CONNECTIONS: usize = 1024;
-
-/// Of each kind, for each federate.
-pub const MOST_SLOTS: usize = 32;
-
-fn is_within_limits(slots: &Slots) -> bool
-    ensures { IsTrue result ↔ IsWithinLimits slots.now }
-{
-    slots.inputs.as_slice().len() <= MOST_SLOTS
-        && slots.outputs.as_slice().len() <= MOST_SLOTS
-        && slots.timers.as_slice().len() <= MOST_SLOTS
-        && slots.actions.as_slice().len() <= MOST_SLOTS
-        && slots.physical.as_slice().len() <= MOST_SLOTS
-}
 
 fn are_slots_within_limits(federates: &[Federate]) -> bool
     ensures { IsTrue result ↔ All (λ f. IsWithinLimits f.slots) federates.now }
@@ -40,12 +27,6 @@ fn is_within_all_limits(draft: &Draft) -> bool
     federates.len() <= MOST_FEDERATES
         && draft.connections.as_slice().len() <= MOST_CONNECTIONS
         && are_slots_within_limits(federates)
-}
-
-fn is_in_range(timer: &Timer) -> bool
-    ensures { IsTrue result ↔ IsTimerInRange timer.now }
-{
-    Time::new(timer.offset).is_some() && Time::new(timer.period).is_some()
 }
 
 fn are_in_range(timers: &[Timer]) -> bool

@@ -1,13 +1,13 @@
 ghost use Rattle.std.specs.Prelude.{◌≡◌, map, IfOk, OnOk, IfErr, MatchOption};
 ghost use Rattle.names.specs.Naming.{AreDistinct, StandsTwice};
-ghost use Rattle.plan.specs.Numbering.{all_names};
+ghost use Rattle.slots.specs.Numbering.{all_names};
 ghost use Rattle.plan.specs.Federation.{federate_names};
 ghost use Rattle.plan.specs.Faults.{StandsIn, HasDistinctNames};
 
 use crate::draft::{Draft, Federate};
 use crate::fault::PlanFault;
-use crate::slots::Slots;
 use names::{Text, push_names, repeated};
+use slots::Slots;
 use std::alloc::{AllocError, Global};
 
 fn names_of_federates<'a>(

@@ -3,3 +3,5 @@
 pub mod RowText
 -- a plan as text
 pub mod PlanText
+-- want of memory for it
+pub mod Memory

@@ -6,9 +6,9 @@ use Rattle.tag.specs.LogicalTime.{LogicalTime}
 use Rattle.tag.specs.Printed.{printed_tag}
 use Rattle.network.specs.Event.{Entry}
 use Rattle.network.specs.Undivided.{Row}
-use Rattle.plan.specs.declared.slots.Slots.{Slots}
+use Rattle.slots.specs.declared.slots.Slots.{Slots}
 use Rattle.plan.specs.declared.draft.Federate.{Federate}
-use Rattle.plan.specs.Numbering.{is_bare}
+use Rattle.slots.specs.Numbering.{is_bare}
 use Rattle.program.specs.Resolution.{slot_names}
 
 -- the name at this place of these

@@ -2,7 +2,7 @@
 ghost use Rattle.std.specs.Prelude.{◌≡◌, ◌≤◌, ◌++◌, OnOk, codes, length, slice_range};
 ghost use Rattle.std.specs.Fmt.{signed_decimal};
 ghost use Rattle.std.specs.Io.KnownBytes.{Appends};
-ghost use Rattle.plan.specs.Numbering.{timer_names};
+ghost use Rattle.slots.specs.Numbering.{timer_names};
 ghost use Rattle.program.specs.Resolution.{slot_names};
 ghost use Rattle.printed.specs.RowText.{name_at, printed_input, printed_output, printed_inputs, printed_outputs, spaced_tag, printed_turn, printed_line, printed_rows};
 

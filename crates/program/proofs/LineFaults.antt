@@ -1,7 +1,7 @@
 -- Where a fault in a line or a reaction stands.
 use Rattle.std.proofs.Common.{◌≡◌, ℕ, ◌+◌, List, None, Some, Err, refl, sym, subst, inl, inr, ◌⊎◌}
 use Rattle.std.specs.Prelude.{slice_get}
-use Rattle.plan.specs.declared.slots.Slots.{Slots}
+use Rattle.slots.specs.declared.slots.Slots.{Slots}
 use Rattle.program.specs.declared.program.State as StateOf
 use Rattle.program.specs.declared.reaction_draft.ReactionDraft.{ReactionDraft}
 use Rattle.program.specs.declared.fault.LineFault.{LineFault}

@@ -1,7 +1,7 @@
 -- Reading lines, with a condition or without, from the readings of their parts.
 use Rattle.std.proofs.Common.{◌≡◌, ℕ, List, ◌∷◌, Result, Option, Some, None, codes, refl, sym, ap, ◌∙◌, subst}
 use Rattle.std.specs.Option.{option_map, option_and_then}
-use Rattle.plan.specs.declared.slots.Slots.{Slots}
+use Rattle.slots.specs.declared.slots.Slots.{Slots}
 use Rattle.program.specs.declared.program.State as StateOf
 use Rattle.program.specs.declared.program.Operand.{Operand}
 use Rattle.program.specs.declared.program.Statement.{Statement}

@@ -4,12 +4,12 @@ use Rattle.std.specs.Prelude.{Option, None, Some}
 use Rattle.std.specs.Option.{option_map}
 use Rattle.std.specs.Str.{bytes_eq}
 use Rattle.std.proofs.lemmas.Slice.Eq.{bytes_eq-Decides}
-use Rattle.plan.specs.declared.slots.Slots.{Slots}
-use Rattle.plan.specs.declared.slots.Timer.{Timer}
+use Rattle.slots.specs.declared.slots.Slots.{Slots}
+use Rattle.slots.specs.declared.slots.Timer.{Timer}
 use Rattle.std.specs.List.{IsDistinct, AllByRecursion}
-use Rattle.plan.specs.Naming.{place_of, AreDistinct}
-use Rattle.plan.specs.Numbering.{timer_names}
-use Rattle.plan.proofs.Places.{bytes_eq-yes, bytes_eq-no, place_of-first, place_of-rest}
+use Rattle.names.specs.Naming.{place_of, AreDistinct}
+use Rattle.slots.specs.Numbering.{timer_names}
+use Rattle.names.proofs.Places.{bytes_eq-yes, bytes_eq-no, place_of-first, place_of-rest}
 use Rattle.program.specs.Resolution.{trigger_slot}
 
 -- where a name stands in two lists, one after the other

@@ -5,7 +5,7 @@ use Rattle.std.specs.List.{AllZip}
 use Rattle.std.specs.Str.{bytes_eq}
 use Rattle.tag.specs.Duration.{Spells}
 use Rattle.tag.proofs.Spellings.{one_value}
-use Rattle.plan.specs.declared.slots.Slots.{Slots}
+use Rattle.slots.specs.declared.slots.Slots.{Slots}
 use Rattle.program.specs.declared.program.Line.{Line}
 use Rattle.program.specs.declared.program.Operator.{Operator}
 use Rattle.program.specs.declared.program.Operator.TheVariants.{Plus, Minus, Times, Minimum, Maximum, Less, Equal}

@@ -4,9 +4,9 @@ use Rattle.std.specs.Option.{option_map, option_and_then}
 use Rattle.std.specs.List.{AllZip, All}
 use Rattle.std.specs.Str.{bytes_eq}
 use Rattle.tag.specs.LogicalTime.{delay_of}
-use Rattle.plan.specs.declared.slots.Slots.{Slots}
-use Rattle.plan.specs.Naming.{place_of}
-use Rattle.plan.specs.Numbering.{slot_count, is_bare, timer_names, first_action, first_physical}
+use Rattle.slots.specs.declared.slots.Slots.{Slots}
+use Rattle.names.specs.Naming.{place_of}
+use Rattle.slots.specs.Numbering.{slot_count, is_bare, timer_names, first_action, first_physical}
 use Rattle.program.specs.declared.program.State as StateOf
 use Rattle.program.specs.declared.program.Operand.{Operand}
 use Rattle.program.specs.declared.program.Operand.TheVariants.{Number, State, Value, Presence}

@@ -5,8 +5,8 @@ use Rattle.std.specs.Char.{is_ascii_digit}
 use Rattle.std.specs.Str.{bytes_eq}
 use Rattle.std.proofs.lemmas.Bool.Decides.{nat_tests}
 use Rattle.std.proofs.lemmas.Slice.Eq.{bytes_eq-Decides}
-use Rattle.plan.specs.declared.slots.Slots.{Slots}
-use Rattle.plan.specs.Naming.{place_of}
+use Rattle.slots.specs.declared.slots.Slots.{Slots}
+use Rattle.names.specs.Naming.{place_of}
 use Rattle.program.specs.declared.program.State as StateOf
 use Rattle.program.specs.declared.program.Operand.TheVariants.{Number, State, Presence}
 use Rattle.program.specs.declared.fault.LineFault.{LineFault}

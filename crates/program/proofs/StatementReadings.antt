@@ -2,9 +2,9 @@
 use Rattle.std.proofs.Common.{◌≡◌, ℕ, ◌+◌, ◌<◌, ◌^◌, false, List, [], ◌∷◌, ◌++◌, IsTrue, Result, Option, Some, None, codes, get_or, refl, sym, ap, ◌∙◌, subst, arith}
 use Rattle.std.specs.Option.{option_map, option_and_then}
 use Rattle.tag.specs.LogicalTime.{delay_of}
-use Rattle.plan.specs.declared.slots.Slots.{Slots}
-use Rattle.plan.specs.Naming.{place_of}
-use Rattle.plan.specs.Numbering.{first_action}
+use Rattle.slots.specs.declared.slots.Slots.{Slots}
+use Rattle.names.specs.Naming.{place_of}
+use Rattle.slots.specs.Numbering.{first_action}
 use Rattle.program.specs.declared.program.State as StateOf
 use Rattle.program.specs.declared.program.Operand.{Operand}
 use Rattle.program.specs.declared.program.Operator.{Operator}

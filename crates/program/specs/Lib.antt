@@ -9,8 +9,6 @@ pub mod Grammar
 pub mod Resolution
 -- which program texts spell, and which fault stands in them
 pub mod Spelled
--- programs for the federates of a federation
-pub mod Programs
 -- what reading one line answers
 pub mod Reading
 -- the refusals by number

@@ -2,7 +2,7 @@
 use Rattle.std.specs.Prelude.{◌≡◌, ℕ, ◌<◌, ◌^◌, ◌⊎◌, List, [], ◌∷◌, ◌++◌, length, replicate, Bool, false, IsTrue, codes, if◌then◌else◌, Option, None, Some, Result, Ok, Err}
 use Rattle.std.specs.Option.{ok_or}
 use Rattle.std.specs.List.{list_all}
-use Rattle.plan.specs.declared.slots.Slots.{Slots}
+use Rattle.slots.specs.declared.slots.Slots.{Slots}
 use Rattle.program.specs.Tokens.{is_word_character, tokens_of}
 use Rattle.program.specs.Grammar.{is_slot_name, SpellsDuration}
 use Rattle.program.specs.Resolution.{operand_slot}

@@ -3,9 +3,9 @@ use Rattle.std.specs.Prelude.{ℕ, pos, ◌+◌, not, ◌&&◌, if◌then◌else
 use Rattle.std.specs.Option.{option_map, option_and_then}
 use Rattle.std.specs.Str.{bytes_eq}
 use Rattle.tag.specs.LogicalTime.{delay_of}
-use Rattle.plan.specs.declared.slots.Slots.{Slots}
-use Rattle.plan.specs.Naming.{place_of}
-use Rattle.plan.specs.Numbering.{timer_names, first_action, is_bare}
+use Rattle.slots.specs.declared.slots.Slots.{Slots}
+use Rattle.names.specs.Naming.{place_of}
+use Rattle.slots.specs.Numbering.{timer_names, first_action, is_bare}
 use Rattle.program.specs.declared.program.Operand.{Operand}
 use Rattle.program.specs.declared.program.Operand.TheVariants.{Number, State, Value, Presence}
 use Rattle.program.specs.declared.program.Expression.{Expression}

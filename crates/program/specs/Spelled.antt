@@ -1,10 +1,10 @@
 -- Which program the triggers and lines of reactions spell, and what is wrong where they spell none.
 use Rattle.std.specs.Prelude.{◌≡◌, ℕ, ◌+◌, ◌≤◌, List, length, slice_get, All, None, Some, IsTrue, ◌⊎◌}
 use Rattle.std.specs.List.{AllZip}
-use Rattle.plan.specs.declared.slots.Slots.{Slots}
-use Rattle.plan.specs.Naming.{AreDistinct}
-use Rattle.plan.specs.Numbering.{all_names}
-use Rattle.plan.specs.Legal.{IsWithinLimits}
+use Rattle.slots.specs.declared.slots.Slots.{Slots}
+use Rattle.names.specs.Naming.{AreDistinct}
+use Rattle.slots.specs.Numbering.{all_names}
+use Rattle.slots.specs.Limits.{IsWithinLimits}
 use Rattle.program.specs.declared.limits.TheConstants.{MOST_STATES, MOST_REACTIONS, MOST_LINES}
 use Rattle.program.specs.declared.program.Line.{Line}
 use Rattle.program.specs.declared.program.Reaction.{Reaction}

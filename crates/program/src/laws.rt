@@ -1,7 +1,7 @@
 //! What texts spell, they spell once.
 
 ghost use Rattle.std.specs.Prelude.{◌≡◌, ℕ, List};
-ghost use Rattle.plan.specs.declared.slots.Slots.{Slots};
+ghost use Rattle.slots.specs.declared.slots.Slots.{Slots};
 ghost use Rattle.program.specs.declared.program.State as StateOf;
 ghost use Rattle.program.specs.declared.reaction_draft.ReactionDraft.{ReactionDraft};
 ghost use Rattle.program.specs.Grammar.{WrittenLine, SpellsLine};

@@ -1,9 +1,10 @@
-//! What a reactor runs: its program, read from the texts of triggers and body lines.
+//! What a reactor runs: its program, read from the texts of triggers and body lines; and what it is given and gives, as entries.
 //!
 //! Promise to the layer above: `Program::parse` takes exactly the texts that `specs/Spelled` says, and tells where a fault
 //! stands. Begin with `program`, then `specs/Grammar` and `specs/Resolution`; `reading` reads lines, `parse` all of a program.
 #![tactic(auto)]
 
+pub mod entry;
 pub mod fault;
 pub mod laws;
 pub mod limits;
@@ -11,15 +12,14 @@ mod number;
 pub mod parse;
 mod places;
 pub mod program;
-pub mod programs;
 pub mod reaction_draft;
 mod reading;
 pub mod token;
 
+pub use entry::{Entries, Entry};
 pub use fault::ProgramFault;
 pub use program::{
     Body, Expression, Line, Operand, Operator, Program, Reaction, State, Statement, Triggers,
 };
-pub use programs::Programs;
 pub use reaction_draft::ReactionDraft;
 pub use token::is_name;

@@ -1,7 +1,7 @@
 ghost use Rattle.std.specs.Prelude.{◌≡◌, ◌≤◌, ◌⊎◌, ◌↔◌, IsTrue, IfOk, IfErr, All, length, Some};
 ghost use Rattle.std.specs.List.{AllZip};
-ghost use Rattle.plan.specs.Legal.{IsWithinLimits};
-ghost use Rattle.plan.specs.Naming.{AreDistinct};
+ghost use Rattle.slots.specs.Limits.{IsWithinLimits};
+ghost use Rattle.names.specs.Naming.{AreDistinct};
 ghost use Rattle.program.specs.Behaviour.{Behaviour};
 ghost use Rattle.program.specs.Resolution.{trigger_slot, state_names};
 ghost use Rattle.program.specs.declared.limits.TheConstants.{MOST_LINES, MOST_REACTIONS};
@@ -13,7 +13,8 @@ use crate::places::trigger_slot;
 use crate::program::{Body, Program, Reaction, State, Triggers};
 use crate::reaction_draft::ReactionDraft;
 use crate::reading::body;
-use plan::{Slots, Text, place_of};
+use names::{Text, place_of};
+use slots::Slots;
 use std::alloc::{AllocError, Global};
 
 impl Program {

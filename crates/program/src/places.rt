@@ -1,11 +1,11 @@
 ghost use Rattle.std.specs.Prelude.{◌≡◌, ◌+◌};
 ghost use Rattle.std.specs.Option.{option_map};
-ghost use Rattle.plan.specs.Naming.{place_of};
-ghost use Rattle.plan.specs.Legal.{IsWithinLimits};
-ghost use Rattle.plan.specs.Numbering.{first_action};
+ghost use Rattle.names.specs.Naming.{place_of};
+ghost use Rattle.slots.specs.Limits.{IsWithinLimits};
+ghost use Rattle.slots.specs.Numbering.{first_action};
 ghost use Rattle.program.specs.Resolution.{trigger_slot, operand_slot};
 
-use plan::Slots;
+use slots::Slots;
 
 /// The slot that a trigger names.
 pub(crate) fn trigger_slot(slots: &Slots, name: &[u8]) -> Option<usize>

@@ -1,6 +1,7 @@
 ghost use Rattle.std.specs.Prelude.{◌≡◌};
 
-use plan::{Named, Slots, Text};
+use names::{Named, Text};
+use slots::Slots;
 use std::marker::Model;
 use tag::Delay;
 

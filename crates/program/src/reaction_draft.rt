@@ -1,4 +1,4 @@
-use plan::Names;
+use names::Names;
 
 /// A reaction as it is declared: the texts of its triggers and of its body lines.
 #[derive(Drop)]

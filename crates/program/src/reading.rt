@@ -1,6 +1,6 @@
 ghost use Rattle.std.specs.Prelude.{◌≡◌, ◌≤◌, ◌⊎◌, length, IfOk, IfErr};
 ghost use Rattle.std.specs.List.{AllZip};
-ghost use Rattle.plan.specs.Legal.{IsWithinLimits};
+ghost use Rattle.slots.specs.Limits.{IsWithinLimits};
 ghost use Rattle.program.specs.declared.limits.TheConstants.{MOST_LINES};
 ghost use Rattle.program.specs.Spelled.{SpellsLineOf, IsLineFault};
 ghost use Rattle.program.specs.declared.fault.ProgramFault.TheVariants.{Memory};
@@ -15,7 +15,8 @@ mod statement;
 use crate::fault::ProgramFault;
 use crate::program::{Line, State};
 use guard::line;
-use plan::{Slots, Text};
+use names::Text;
+use slots::Slots;
 use std::alloc::Global;
 
 /// Reads the lines of the reaction of this number.

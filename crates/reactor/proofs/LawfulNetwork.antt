@@ -14,18 +14,18 @@ use Rattle.network.specs.Lawful.{IsConnected, IsExternal, IsOwn, IsLawful}
 use Rattle.network.specs.Tables.{IsLawfulWith}
 use Rattle.plan.specs.Least.{least_of}
 use Rattle.plan.proofs.LeastLaws.{least, direct, onward}
-use Rattle.plan.specs.declared.slots.Slots.{Slots}
+use Rattle.slots.specs.declared.slots.Slots.{Slots}
 use Rattle.plan.specs.declared.draft.Federate.{Federate}
 use Rattle.plan.specs.declared.draft.Draft.{Draft}
 use Rattle.plan.specs.declared.input.Input.{Input}
-use Rattle.plan.specs.Numbering.{first_timer, first_action, first_physical, slot_count}
+use Rattle.slots.specs.Numbering.{first_timer, first_action, first_physical, slot_count}
 use Rattle.plan.specs.Federation.{connections_of, federate_count, rank_of, level_of}
 use Rattle.plan.specs.External.{own_events_from, input_events, external_of, AreInputsOf}
 use Rattle.plan.specs.Legal.{IsLegal}
 use Rattle.plan.proofs.Legality.{rank_rises}
 use Rattle.paths.proofs.Paths.{before_by-lt, before_by-injective}
 use Rattle.program.specs.Behaviour.{Behaviour, IsWellFormed}
-use Rattle.program.specs.Programs.{AreProgramsOf}
+use Rattle.programs.specs.Programs.{AreProgramsOf}
 use Rattle.reactor.specs.Federation.{slots_of, ports_of, effect_by, network_of}
 use Rattle.reactor.proofs.Wiring.{IsWired, all_wired, same_federate}
 use Rattle.reactor.proofs.Outside.{IsOutside, IsOwnSlot, IsInputSlot, own_events_outside, inputs_outside}

@@ -7,12 +7,12 @@ use Rattle.std.proofs.lemmas.Bool.Decides.{nat_tests}
 use Rattle.std.proofs.lemmas.List.Elements.{All-nil, All-cons, All-append, All-map, All-filter, All-weaker, filter_passes}
 use Rattle.tag.specs.LogicalTime.{LogicalTime, IsFinite, origin, is_at_most}
 use Rattle.network.specs.Event.{Event}
-use Rattle.plan.specs.declared.slots.Slots.{Slots}
-use Rattle.plan.specs.declared.slots.Timer.{Timer}
+use Rattle.slots.specs.declared.slots.Slots.{Slots}
+use Rattle.slots.specs.declared.slots.Timer.{Timer}
 use Rattle.plan.specs.declared.draft.Federate.{Federate}
 use Rattle.plan.specs.declared.draft.Draft.{Draft}
 use Rattle.plan.specs.declared.input.Input.{Input}
-use Rattle.plan.specs.Numbering.{startup_slot, first_timer, first_action, first_physical, slot_count}
+use Rattle.slots.specs.Numbering.{startup_slot, first_timer, first_action, first_physical, slot_count}
 use Rattle.plan.specs.Federation.{Found, stop_of}
 use Rattle.plan.specs.External.{outside, times_from, firing_count, firing_times, firings_from, startup_of, own_events, own_events_from, found_action, slot_in, physical_slot, input_event, input_events, AreInputsOf}
 use Rattle.plan.specs.Legal.{IsLegal}

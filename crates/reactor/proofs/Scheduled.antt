@@ -3,7 +3,7 @@ use Rattle.std.proofs.Common.{ℕ, ◌<◌, ◌≤◌, ℤ, Bool, true, false, L
 use Rattle.std.proofs.lemmas.List.Elements.{All-nil, All-head, All-tail, All-push}
 use Rattle.tag.specs.Total.{IsAfterDelay}
 use Rattle.network.specs.Network.{Scheduling, Effect}
-use Rattle.plan.specs.Numbering.{first_action, first_physical}
+use Rattle.slots.specs.Numbering.{first_action, first_physical}
 use Rattle.program.specs.declared.program.Statement.{Statement}
 use Rattle.program.specs.declared.program.Statement.TheVariants.{Assign, Output, Schedule}
 use Rattle.program.specs.declared.program.Line.{Line}

@@ -6,7 +6,7 @@ use Rattle.network.specs.Connection.{Connection}
 use Rattle.plan.specs.declared.draft.Federate.{Federate}
 use Rattle.plan.specs.declared.draft.ConnectionDraft.{ConnectionDraft}
 use Rattle.plan.specs.declared.draft.Draft.{Draft}
-use Rattle.plan.specs.Numbering.{first_input, first_timer}
+use Rattle.slots.specs.Numbering.{first_input, first_timer}
 use Rattle.plan.specs.Federation.{connection_of, connections_of}
 use Rattle.plan.specs.Legal.{IsLegal}
 use Rattle.plan.proofs.LeastLaws.{plain_after}

@@ -3,8 +3,8 @@ use Rattle.std.specs.Prelude.{ℕ, ◌*◌, ℤ, pos, negsuc, true, false, List,
 use Rattle.tag.specs.LogicalTime.{LogicalTime, delay_of}
 use Rattle.network.specs.Event.{Entry}
 use Rattle.network.specs.Undivided.{Row}
-use Rattle.plan.specs.declared.slots.Slots.{Slots}
-use Rattle.plan.specs.declared.slots.Timer.{Timer}
+use Rattle.slots.specs.declared.slots.Slots.{Slots}
+use Rattle.slots.specs.declared.slots.Timer.{Timer}
 use Rattle.plan.specs.declared.draft.ConnectionDraft.{ConnectionDraft}
 use Rattle.plan.specs.declared.draft.Draft.{Draft}
 use Rattle.plan.specs.declared.input.Input.{Input}

@@ -4,7 +4,7 @@ use Rattle.network.specs.Network.{Network, Effect}
 use Rattle.plan.specs.declared.draft.Federate.{Federate}
 use Rattle.plan.specs.declared.draft.Draft.{Draft}
 use Rattle.plan.specs.declared.input.Input.{Input}
-use Rattle.plan.specs.Numbering.{slot_count}
+use Rattle.slots.specs.Numbering.{slot_count}
 use Rattle.plan.specs.Federation.{federate_count, connections_of, rank_of, stop_of}
 use Rattle.plan.specs.External.{external_of}
 use Rattle.program.specs.Behaviour.{Behaviour}

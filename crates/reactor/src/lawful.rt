@@ -9,7 +9,7 @@ ghost use Rattle.plan.specs.Least.{least_of};
 ghost use Rattle.plan.specs.Legal.{IsLegal};
 ghost use Rattle.program.specs.Behaviour.{Behaviour};
 ghost use Rattle.reactor.specs.Federation.{network_of};
-ghost use Rattle.program.specs.Programs.{AreProgramsOf};
+ghost use Rattle.programs.specs.Programs.{AreProgramsOf};
 
 /// The network of a legal federation with a program for each federate and recorded inputs is lawful, and the plan's least
 /// delays are its least delays, which keep the two facts that grants use.

@@ -6,7 +6,6 @@
 //! stand in the crate `program`, whose types are given on here.
 #![tactic(auto)]
 
-pub mod entry;
 pub mod examples;
 pub mod lawful;
 pub mod memory;
@@ -19,12 +18,12 @@ mod step;
 pub mod turn;
 pub mod turn_room;
 
-pub use entry::{Entries, Entry};
 pub use memory::Memory;
 pub use program::{
-    Body, Expression, Line, Operand, Operator, Program, ProgramFault, Programs, Reaction,
+    Body, Entries, Entry, Expression, Line, Operand, Operator, Program, ProgramFault, Reaction,
     ReactionDraft, State, Statement, Triggers, is_name,
 };
+pub use programs::Programs;
 pub use reactor::Reactor;
 pub use row::Row;
 pub use rows::{RowView, Rows};

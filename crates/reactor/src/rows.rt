@@ -2,8 +2,8 @@
 ghost use Rattle.std.specs.Prelude.{◌≡◌, ◌+◌, ◌<◌, ◌≤◌, ◌++◌, ◌∷◌, [], length, get_or, OnOk, OnErr};
 ghost use Rattle.std.specs.Vec.{vec_len, vec_capacity};
 
-use crate::entry::Entry;
 use crate::memory::Memory;
+use program::Entry;
 use std::alloc::Global;
 use std::marker::Model;
 use tag::Tag;

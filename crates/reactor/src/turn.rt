@@ -1,6 +1,6 @@
 ghost use Rattle.std.specs.Prelude.{◌≡◌};
 
-use crate::entry::{Entries, Entry};
+use program::{Entries, Entry};
 use std::marker::Model;
 use tag::Delay;
 

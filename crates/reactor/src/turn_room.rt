@@ -2,11 +2,11 @@ ghost use Rattle.std.specs.Prelude.{◌≡◌, ◌+◌, All, IfOk, OnOk, length,
 ghost use Rattle.network.specs.Event.{listed, value_at};
 ghost use Rattle.reactor.specs.Entries.{value_in};
 
-use crate::entry::{Entries, Entry};
 use crate::memory::Memory;
 use crate::running::RunningTurn;
 use crate::step::ReactionSteps;
 use crate::turn::{Scheduling, Schedulings, Turn};
+use program::{Entries, Entry};
 use std::alloc::Global;
 use std::marker::Model;
 

@@ -6,7 +6,7 @@ use Rattle.std.proofs.lemmas.List.{length-map, length-replicate}
 use Rattle.std.proofs.lemmas.List.FromFn.{length-map-range_with_len}
 use Rattle.plan.specs.External.{AreInputsOf}
 use Rattle.plan.specs.Federation.{federate_count}
-use Rattle.program.specs.Programs.{AreProgramsOf}
+use Rattle.programs.specs.Programs.{AreProgramsOf}
 use Rattle.node.specs.declared.event.Event.{Event}
 use Rattle.search.specs.Journals.{IsFound}
 use Rattle.search.specs.declared.found.Found.{Found}

@@ -4,7 +4,7 @@ use Rattle.std.specs.Prelude.{◌↔◌}
 use Rattle.plan.specs.External.{AreInputsOf}
 use Rattle.plan.specs.Federation.{federate_count}
 use Rattle.plan.specs.Legal.{IsLegal}
-use Rattle.program.specs.Programs.{AreProgramsOf}
+use Rattle.programs.specs.Programs.{AreProgramsOf}
 use Rattle.node.specs.declared.event.Event.{Event}
 use Rattle.cores.specs.CoordinatorCore.{coordinator_core}
 use Rattle.schedule.specs.declared.step.Step.{Step}

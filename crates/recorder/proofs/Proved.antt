@@ -9,7 +9,7 @@ use Rattle.laws.specs.Rows.{HasEveryRow}
 use Rattle.plan.specs.External.{AreInputsOf}
 use Rattle.plan.specs.Federation.{federate_count}
 use Rattle.plan.specs.Legal.{IsLegal}
-use Rattle.program.specs.Programs.{AreProgramsOf}
+use Rattle.programs.specs.Programs.{AreProgramsOf}
 use Rattle.reactor.specs.Federation.{network_of}
 use Rattle.reactor.proofs.LawfulNetwork.{gives_lawful_with}
 use Rattle.node.specs.declared.event.Event.{Event}

@@ -6,7 +6,7 @@ use Rattle.plan.specs.declared.input.Input.{Input}
 use Rattle.plan.specs.External.{AreInputsOf}
 use Rattle.plan.specs.Federation.{federate_count}
 use Rattle.program.specs.Behaviour.{Behaviour}
-use Rattle.program.specs.Programs.{AreProgramsOf}
+use Rattle.programs.specs.Programs.{AreProgramsOf}
 use Rattle.node.specs.declared.event.Event.{Event}
 use Rattle.search.specs.Reading.{IsReading}
 use Rattle.world.specs.World.{WorldView}

@@ -1,6 +1,6 @@
 ghost use Rattle.std.specs.Prelude.{IfOk, IfErr};
 ghost use Rattle.plan.specs.External.{AreInputsOf};
-ghost use Rattle.program.specs.Programs.{AreProgramsOf};
+ghost use Rattle.programs.specs.Programs.{AreProgramsOf};
 ghost use Rattle.recorder.specs.Audited.{IsProvedBy, HasEnded, IsUnproved};
 
 use crate::audited_run::AuditedRun;

@@ -2,7 +2,7 @@ ghost use Rattle.std.specs.Prelude.{◌≡◌, ◌≢◌, ◌↔◌, ℕ, ◌<�
 ghost use Rattle.std.proofs.Common.{refl};
 ghost use Rattle.node.specs.declared.event.Event.TheVariants as Events;
 ghost use Rattle.plan.specs.External.{AreInputsOf};
-ghost use Rattle.program.specs.Programs.{AreProgramsOf};
+ghost use Rattle.programs.specs.Programs.{AreProgramsOf};
 ghost use Rattle.schedule.specs.World.{frames_in, frame_at};
 ghost use Rattle.search.specs.Motion.{IsEvent, IsNoStep};
 ghost use Rattle.world.specs.World.{stations_of, with_step};

@@ -2,7 +2,7 @@ ghost use Rattle.std.specs.Prelude.{◌≡◌, ◌+◌, length, map, IfOk, IfErr
 ghost use Rattle.plan.specs.External.{AreInputsOf};
 ghost use Rattle.plan.specs.Federation.{federate_count};
 ghost use Rattle.plan.specs.Legal.{IsLegal};
-ghost use Rattle.program.specs.Programs.{AreProgramsOf};
+ghost use Rattle.programs.specs.Programs.{AreProgramsOf};
 ghost use Rattle.search.specs.Journals.{IsFound};
 ghost use Rattle.search.specs.Reading.{IsReading};
 ghost use Rattle.world.specs.World.{WorldView};

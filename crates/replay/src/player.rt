@@ -1,7 +1,7 @@
 ghost use Rattle.std.specs.Prelude.{◌≡◌, OnOk, IfOk, IfErr};
 ghost use Rattle.std.specs.Io.KnownBytes.{Appends};
 ghost use Rattle.plan.specs.External.{AreInputsOf};
-ghost use Rattle.program.specs.Programs.{AreProgramsOf};
+ghost use Rattle.programs.specs.Programs.{AreProgramsOf};
 ghost use Rattle.replay.specs.Play.{HasPlayed, told};
 ghost use Rattle.replay.specs.Replayed.{unasked};
 

@@ -1,6 +1,6 @@
 ghost use Rattle.std.specs.Prelude.{OnOk, IfErr};
 ghost use Rattle.plan.specs.External.{AreInputsOf};
-ghost use Rattle.program.specs.Programs.{AreProgramsOf};
+ghost use Rattle.programs.specs.Programs.{AreProgramsOf};
 ghost use Rattle.replay.specs.Replayed.{IsReplayed, IsBrokenOff};
 
 use crate::ending::write_end;

@@ -2,7 +2,7 @@
 //! state are a beginning of its part of the undivided program's rows.
 ghost use Rattle.std.specs.Prelude.{◌<◌, length};
 ghost use Rattle.plan.specs.External.{AreInputsOf};
-ghost use Rattle.program.specs.Programs.{AreProgramsOf};
+ghost use Rattle.programs.specs.Programs.{AreProgramsOf};
 
 use loadfed::{load, load_inputs};
 use plan::{Inputs, Plan};

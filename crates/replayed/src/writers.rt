@@ -1,6 +1,6 @@
 //! A writer that refuses every write.
 ghost use Rattle.plan.specs.External.{AreInputsOf};
-ghost use Rattle.program.specs.Programs.{AreProgramsOf};
+ghost use Rattle.programs.specs.Programs.{AreProgramsOf};
 
 use loadfed::{load, load_inputs};
 use plan::{Inputs, Plan};

@@ -6,7 +6,7 @@ ghost use Rattle.plan.specs.External.{AreInputsOf};
 ghost use Rattle.plan.specs.Federation.{federate_count};
 ghost use Rattle.plan.specs.Legal.{IsLegal};
 ghost use Rattle.program.specs.Behaviour.{Behaviour};
-ghost use Rattle.program.specs.Programs.{AreProgramsOf};
+ghost use Rattle.programs.specs.Programs.{AreProgramsOf};
 ghost use Rattle.cores.specs.FederateCore.{federate_core};
 ghost use Rattle.cores.specs.CoordinatorCore.{coordinator_core};
 ghost use Rattle.schedule.specs.declared.step.Step.{Step};

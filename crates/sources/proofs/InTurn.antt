@@ -5,10 +5,11 @@ use Rattle.plan.specs.declared.draft.Draft.{Draft}
 use Rattle.files.specs.Answers.{Answer}
 use Rattle.files.specs.Contents.{Contents}
 use Rattle.sources.specs.declared.fault.SourceFault.{SourceFault}
-use Rattle.sources.specs.Refused.{IsUnread, IsInputFault, input_unread, input_unloaded, IsScheduleFault, schedule_unread, schedule_refused}
+use Rattle.sources.specs.Refused.{IsUnread, IsInputFault, input_unread, input_unloaded}
 
 module _ {first all : List Answer → Type 0} (come : (answers : List Answer) → first answers → all answers) where
-  unread_after : (most : ℕ) (name : Bor (List ℕ)) (known : Option (List ℕ)) (fault : SourceFault) → IsUnread most name known first fault
+  -- a file's bytes that can't be had
+  pub unread_after : (most : ℕ) (name : Bor (List ℕ)) (known : Option (List ℕ)) (fault : SourceFault) → IsUnread most name known first fault
       → IsUnread most name known all fault
   unread_after most name known fault unread = record {
     why = unread.why;
@@ -22,9 +23,3 @@ module _ {first all : List Answer → Type 0} (come : (answers : List Answer) �
       → IsInputFault d name contents all fault
   input_fault_after d name contents fault (input_unread named unread) = input_unread named (unread_after _ _ _ _ unread)
   input_fault_after d name contents fault (input_unloaded asked unloaded) = input_unloaded (come _ asked) unloaded
-
-  -- the schedule's
-  pub schedule_fault_after : (name : Bor (List ℕ)) (contents : Contents) (fault : SourceFault) → IsScheduleFault name contents first fault
-      → IsScheduleFault name contents all fault
-  schedule_fault_after name contents fault (schedule_unread unread) = schedule_unread (unread_after _ _ _ _ unread)
-  schedule_fault_after name contents fault (schedule_refused asked why told stands) = schedule_refused (come _ asked) why told stands

@@ -1,12 +1,10 @@
 -- How a fault of a file is told; what a library told is told as the library has it.
 use Rattle.std.specs.Prelude.{ℕ, List, ◌++◌, codes}
 use Rattle.tables.specs.Numbers as tables
-use Rattle.script.specs.Faults as script
 use Rattle.sources.specs.declared.fault.SourceFault.{SourceFault}
-use Rattle.sources.specs.declared.fault.SourceFault.TheVariants.{CannotRead, Load, Schedule}
+use Rattle.sources.specs.declared.fault.SourceFault.TheVariants.{CannotRead, Load}
 
 -- the text of a fault of a file
 abbrev pub printed_fault : SourceFault → List ℕ
 printed_fault (CannotRead name) = codes "cannot read " ++ name.now
 printed_fault (Load fault) = tables.printed_fault fault
-printed_fault (Schedule fault) = script.printed_fault fault

@@ -6,7 +6,7 @@ use Rattle.plan.specs.declared.draft.Draft.{Draft}
 use Rattle.plan.specs.declared.input.Input.{Input}
 use Rattle.plan.specs.External.{AreInputsOf}
 use Rattle.program.specs.Behaviour.{Behaviour}
-use Rattle.program.specs.Programs.{AreProgramsOf}
+use Rattle.programs.specs.Programs.{AreProgramsOf}
 use Rattle.loadfed.specs.Loaded.{IsFederationFile}
 use Rattle.loadfed.specs.InputShape.{SaysInputFile}
 use Rattle.sources.specs.declared.reading.Sources.{Sources}

@@ -10,15 +10,12 @@ use Rattle.loadfed.specs.declared.federation.TheConstants.{MOST_BYTES as MOST_FE
 use Rattle.loadfed.specs.declared.recorded.TheConstants.{MOST_INPUT_BYTES}
 use Rattle.loadfed.specs.Loaded.{HasLoadFault}
 use Rattle.loadfed.specs.InputShape.{HasInputFileFault}
-use Rattle.script.specs.declared.fault.ScriptFault.{ScriptFault}
-use Rattle.script.specs.declared.script.TheConstants.{MOST_BYTES}
-use Rattle.script.specs.Scripts.{IsFaultOf as IsScriptFault}
 use Rattle.files.specs.declared.named.FileFault.{FileFault}
 use Rattle.files.specs.declared.named.FileFault.TheVariants as file_fault
 use Rattle.files.specs.Answers.{Answer, given, refused}
 use Rattle.files.specs.Contents.{Contents}
 use Rattle.sources.specs.declared.fault.SourceFault.{SourceFault}
-use Rattle.sources.specs.declared.fault.SourceFault.TheVariants.{CannotRead, Load, Schedule}
+use Rattle.sources.specs.declared.fault.SourceFault.TheVariants.{CannotRead, Load}
 use Rattle.sources.specs.Loaded.{input_file, IsFederation}
 
 -- how it is told why a file's bytes can't be had
@@ -67,9 +64,3 @@ pub data IsSourcesFault (federation inputs : Bor (List ℕ)) (contents : Content
   input_fault : (d : Draft) (programs : List Behaviour) → IsFederation (contents federation.now) d programs
       → IsInputFault d inputs contents (λ later. answered (given federation.now ∷ later)) fault
       → IsSourcesFault federation inputs contents answered fault
-
--- why the schedule file isn't taken
-pub data IsScheduleFault (name : Bor (List ℕ)) (contents : Contents) (answered : List Answer → Type 0) (fault : SourceFault) : Type 0 where
-  schedule_unread : IsUnread MOST_BYTES name (contents name.now) answered fault → IsScheduleFault name contents answered fault
-  schedule_refused : answered (given name.now ∷ []) → (why : ScriptFault) → fault ≡ Schedule why
-      → IfSome (contents name.now) (λ bytes. IsScriptFault bytes why) → IsScheduleFault name contents answered fault

@@ -1,5 +1,4 @@
 use loadfed::LoadFault;
-use script::ScriptFault;
 use std::fmt;
 use thiserror::Error;
 
@@ -10,8 +9,6 @@ pub enum SourceFault<'a> {
     CannotRead(&'a str),
     /// The federation or the recorded inputs aren't taken, and the inner fault says why; or memory was wanting.
     Load(LoadFault),
-    /// The schedule isn't taken, and the inner fault says why.
-    Schedule(ScriptFault),
 }
 
 /// As it is displayed.
@@ -31,7 +28,6 @@ impl fmt::Display for SourceFault<'_> {
         match self {
             SourceFault::CannotRead(name) => write!(f, "cannot read {name}"),
             SourceFault::Load(fault) => write!(f, "{fault}"),
-            SourceFault::Schedule(fault) => write!(f, "{fault}"),
         }
     }
 }

@@ -2,14 +2,13 @@ ghost use Rattle.std.specs.Prelude.{◌≡◌, ◌≤◌, [], ◌∷◌, OnOk, I
 ghost use Rattle.files.specs.Answers.{Answers, given};
 ghost use Rattle.files.specs.Contents.{AreBytesOf};
 ghost use Rattle.sources.specs.Loaded.{input_file, IsFederation, RecordsInputs, AreSources};
-ghost use Rattle.sources.specs.Refused.{asked_inputs, asked_sources, IsUnread, IsFederationFault, IsInputFault, IsScheduleFault, IsSourcesFault, told_of_file};
+ghost use Rattle.sources.specs.Refused.{asked_inputs, asked_sources, IsUnread, IsFederationFault, IsInputFault, IsSourcesFault, told_of_file};
 
 use crate::fault::SourceFault;
 use files::{FileFault, Files};
 use loadfed::{LoadFault, MOST_BYTES, MOST_INPUT_BYTES, load, load_inputs};
 use plan::{Inputs, Plan};
-use reactor::Programs;
-use script::{MOST_BYTES as MOST_SCHEDULE_BYTES, Script, read_script};
+use programs::Programs;
 use std::alloc::Global;
 
 /// A federation with its programs and its recorded inputs.
@@ -82,26 +81,8 @@ fn read_inputs<'a, F: Files>(
     }
 }
 
-/// The schedule in a file, of the plan's federates.
-pub fn read_schedule<'a, F: Files>(
-    alloc: Global,
-    name: &'a str,
-    plan: &Plan,
-    files: &mut F,
-) -> Result<Script, SourceFault<'a>>
-    ensures asked { OnOk result (Answers (F.answers files.old) (F.answers files.new) (given name.entry.now ∷ [])) }
-    ensures err { IfErr result (IsScheduleFault name.entry (F.contents files.old) (Answers (F.answers files.old) (F.answers files.new))) }
-    ensures same { F.contents files.new ≡ F.contents files.old }
-{
-    let bytes = bytes_of(name, files, MOST_SCHEDULE_BYTES)?;
-    match read_script(alloc, bytes.as_slice(), plan) {
-        Ok(script) => Ok(script),
-        Err(fault) => Err(SourceFault::Schedule(fault)),
-    }
-}
-
 /// The bytes of a file that has at most so many.
-fn bytes_of<'a, F: Files>(
+pub fn bytes_of<'a, F: Files>(
     name: &'a str,
     files: &mut F,
     most: usize,

@@ -3,7 +3,7 @@ ghost use Rattle.tables.specs.declared.fault.LoadFault.TheVariants.{Memory};
 ghost use Rattle.tables.specs.Numbers.{number_of};
 
 use plan::{InputFault, PlanFault, Text};
-use reactor::ProgramFault;
+use program::ProgramFault;
 use std::alloc::{AllocError, AllocFailed, Global};
 use std::fmt;
 

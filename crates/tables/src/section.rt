@@ -9,7 +9,7 @@ ghost use Rattle.tables.specs.TableFaults.{IsWrongAt, HasUnknownKey};
 use crate::data::{as_number, as_table, as_text, as_values};
 use crate::fault::LoadFault;
 use plan::{Names, PortName, Text};
-use reactor::is_name;
+use program::is_name;
 use std::alloc::Global;
 use tag::{Time, parse_duration};
 use toml::{Table, Value};

@@ -1,12 +1,21 @@
 ghost use Rattle.std.specs.Prelude.{◌≡◌, ◌≤◌, IfSome, IsTrue, length, take, drop};
 ghost use Rattle.std.specs.Io.KnownBytes.{Appends};
-ghost use Rattle.telling.specs.Pieces.{AppendsBeginning};
+ghost use Rattle.telling.specs.Lines.{line_of};
+ghost use Rattle.telling.specs.Pieces.{AppendsBeginning, AppendsTold};
 ghost use Rattle.telling.specs.declared.piece.TheConstants.{PIECE};
 
+use crate::line::Line;
 use crate::piece::{PIECE, Piece};
 use arrayvec::ArrayVec;
 use std::fmt::{Display, Write as _};
 use std::io::{ErrorKind, Write};
+
+/// Tells a text on a line of the program's own, and says whether all of it was written.
+pub fn tell_line<E: Write, D: Display>(err: &mut E, text: &D) -> bool
+    ensures { IfSome (D.output text.now) (λ bytes. AppendsTold result (E.contents err.old) (E.contents err.new) (line_of bytes)) }
+{
+    tell(err, &Line(text))
+}
 
 /// Tells a text, and says whether all of it was written. A writer that was interrupted is asked again.
 pub fn tell<E: Write, D: Display>(err: &mut E, text: &D) -> bool

@@ -15,9 +15,9 @@ use Rattle.order.proofs.LookUps.{last_held, look_put_all}
 use Rattle.plan.specs.declared.draft.Draft.{Draft}
 use Rattle.plan.specs.declared.draft.Federate.{Federate}
 use Rattle.plan.specs.declared.input.Input.{Input}
-use Rattle.plan.specs.declared.slots.Slots.{Slots}
-use Rattle.plan.specs.declared.slots.Timer.{Timer}
-use Rattle.plan.specs.Numbering.{first_timer}
+use Rattle.slots.specs.declared.slots.Slots.{Slots}
+use Rattle.slots.specs.declared.slots.Timer.{Timer}
+use Rattle.slots.specs.Numbering.{first_timer}
 use Rattle.plan.specs.External.{outside, firing_times, firings_from, startup_of, own_events, own_events_in, own_events_from, input_event, external_of, is_for, found_action, physical_slot}
 use Rattle.plan.specs.Federation.{Found, federate_count, stop_of}
 use Rattle.plan.proofs.Outside.{external_parts}

@@ -23,16 +23,16 @@ use Rattle.order.proofs.LookUps.{last_held, look_put_all, or_nothing}
 use Rattle.order.proofs.PendingSlots.{next_turn, own_is_gone, made_is_newer, quiet_is_done, present_is_sound}
 use Rattle.order.proofs.InOrder.{held_for, found_as_present, made_in_order, external_in_order}
 use Rattle.order.proofs.Lists.{each_more}
-use Rattle.plan.specs.declared.slots.Slots.{Slots}
+use Rattle.slots.specs.declared.slots.Slots.{Slots}
 use Rattle.plan.specs.declared.draft.Federate.{Federate}
 use Rattle.plan.specs.declared.draft.Draft.{Draft}
 use Rattle.plan.specs.declared.input.Input.{Input}
 use Rattle.plan.specs.Federation.{federate_count, connections_of, rank_of, stop_of}
-use Rattle.plan.specs.Numbering.{slot_count}
+use Rattle.slots.specs.Numbering.{slot_count}
 use Rattle.plan.specs.External.{external_of}
 use Rattle.program.specs.Behaviour.{Behaviour}
 use Rattle.reactor.specs.Federation.{network_of, slots_of, ports_of, effect_by, opening_by}
-use Rattle.program.specs.Programs.{HaveProgramsOf, HaveSlotsOf}
+use Rattle.programs.specs.Programs.{HaveProgramsOf, HaveSlotsOf}
 use Rattle.reactor.specs.Effect.{opening_states, effect_of}
 use Rattle.reactor.specs.Turn.{Reactor}
 use Rattle.agenda.specs.Agenda.{in_time}

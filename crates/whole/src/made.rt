@@ -8,7 +8,7 @@ ghost use Rattle.whole.specs.Targets.{shown, all_shown, AreApart};
 use crate::targets::Target;
 use agenda::{Agenda, Held};
 use plan::Connection;
-use reactor::entry::value_at;
+use program::entry::value_at;
 use reactor::{Entry, Memory, Rows, Scheduling};
 use std::marker::Model;
 use tag::{FiniteTag, Tag, plus};

@@ -1,6 +1,6 @@
 ghost use Rattle.std.specs.Prelude.{◌≡◌, ◌≢◌, ℕ, ◌+◌, ◌<◌, ◌≤◌, [], IfOk, OnErr, MatchBool};
 ghost use Rattle.plan.specs.External.{AreInputsOf};
-ghost use Rattle.program.specs.Programs.{AreProgramsOf};
+ghost use Rattle.programs.specs.Programs.{AreProgramsOf};
 
 use crate::made::TurnMade;
 use crate::schedule::Schedule;

@@ -34,7 +34,7 @@ pub(crate) struct Federation {
 impl Model for Federation {
     ghost use Rattle.plan.specs.declared.draft.Draft.{Draft};
     ghost use Rattle.plan.specs.External.{AreInputsOf};
-    ghost use Rattle.program.specs.Programs.{AreProgramsOf};
+    ghost use Rattle.programs.specs.Programs.{AreProgramsOf};
 
     ghost Value = { Draft };
 

@@ -11,7 +11,7 @@ use Rattle.plan.specs.External.{AreInputsOf}
 use Rattle.plan.specs.Federation.{federate_count}
 use Rattle.plan.specs.Legal.{IsLegal}
 use Rattle.program.specs.Behaviour.{Behaviour}
-use Rattle.program.specs.Programs.{AreProgramsOf}
+use Rattle.programs.specs.Programs.{AreProgramsOf}
 use Rattle.node.specs.Step.{Station}
 use Rattle.cores.specs.FederateCore.{FederateNode}
 use Rattle.cores.specs.CoordinatorCore.{CoordinatorNode}

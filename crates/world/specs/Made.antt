@@ -6,7 +6,7 @@ use Rattle.plan.specs.declared.input.Input.{Input}
 use Rattle.plan.specs.External.{AreInputsOf}
 use Rattle.plan.specs.Legal.{IsLegal}
 use Rattle.program.specs.Behaviour.{Behaviour}
-use Rattle.program.specs.Programs.{AreProgramsOf}
+use Rattle.programs.specs.Programs.{AreProgramsOf}
 use Rattle.schedule.specs.Kept.{is_forget}
 use Rattle.schedule.specs.Federation.{Federation, world_after}
 use Rattle.world.specs.World.{WorldView}

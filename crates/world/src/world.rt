@@ -3,7 +3,7 @@ ghost use Rattle.std.specs.List.{list_any};
 ghost use Rattle.link.specs.Image.{room_left};
 ghost use Rattle.plan.specs.External.{AreInputsOf};
 ghost use Rattle.plan.specs.Federation.{federate_count};
-ghost use Rattle.program.specs.Programs.{AreProgramsOf};
+ghost use Rattle.programs.specs.Programs.{AreProgramsOf};
 ghost use Rattle.cores.specs.CoordinatorCore.{coordinator_core};
 ghost use Rattle.schedule.specs.Federation.{step_in, IsPlain, IsStuck};
 ghost use Rattle.schedule.specs.Kept.{is_kept, is_forget, is_forget_of};

@@ -1,6 +1,6 @@
 //! Expressions: `A`, `A OP B`.
 ghost use Rattle.std.specs.Prelude.{◌≡◌, ◌≢◌, MatchOption};
-ghost use Rattle.plan.specs.Legal.{IsWithinLimits};
+ghost use Rattle.slots.specs.Limits.{IsWithinLimits};
 ghost use Rattle.program.specs.Tokens.{tokens_of};
 ghost use Rattle.program.specs.Grammar.{operator_token, SpellsExpression};
 ghost use Rattle.program.specs.Resolution.{expression_of};
@@ -12,7 +12,7 @@ use super::operand::operand;
 use crate::fault::LineFault;
 use crate::program::{Expression, Operator, State};
 use crate::token::{next_token, only_token};
-use plan::Slots;
+use slots::Slots;
 
 /// Reads an operand alone, or two with an operator between them.
 pub(super) fn expression(

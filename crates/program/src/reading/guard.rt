@@ -1,6 +1,6 @@
 //! Body lines: a statement, or `when A : S`.
 ghost use Rattle.std.specs.Prelude.{◌∷◌, codes};
-ghost use Rattle.plan.specs.Legal.{IsWithinLimits};
+ghost use Rattle.slots.specs.Limits.{IsWithinLimits};
 ghost use Rattle.program.specs.Tokens.{tokens_of};
 ghost use Rattle.program.specs.Grammar.{SpellsLine};
 ghost use Rattle.program.specs.Resolution.{line_of};
@@ -12,7 +12,7 @@ use super::statement::statement;
 use crate::fault::LineFault;
 use crate::program::{Line, State};
 use crate::token::next_token;
-use plan::Slots;
+use slots::Slots;
 
 /// Reads a body line.
 pub(super) fn line(slots: &Slots, states: &[State], text: &[u8]) -> Result<Line, LineFault>

@@ -1,6 +1,6 @@
 //! Operands: `5`, `n`, `in.x`, `has.x`.
 ghost use Rattle.std.specs.Prelude.{◌≡◌};
-ghost use Rattle.plan.specs.Legal.{IsWithinLimits};
+ghost use Rattle.slots.specs.Limits.{IsWithinLimits};
 ghost use Rattle.program.specs.Grammar.{SpellsOperand};
 ghost use Rattle.program.specs.Resolution.{operand_of, value_at_slot};
 ghost use Rattle.program.specs.Reading.{IsReading, slot_read};
@@ -11,7 +11,8 @@ use crate::number::number;
 use crate::places::operand_slot;
 use crate::program::{Operand, State};
 use crate::token::is_name;
-use plan::{Slots, place_of};
+use names::place_of;
+use slots::Slots;
 
 /// Reads an operand: a number, a state, or what is at a slot or whether something is.
 pub(super) fn operand(slots: &Slots, states: &[State], token: &[u8]) -> Result<Operand, LineFault>

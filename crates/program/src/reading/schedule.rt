@@ -1,6 +1,6 @@
 //! Schedulings: `schedule C D A`.
 ghost use Rattle.std.specs.Prelude.{◌<◌, ◌^◌, ◌∷◌, List, ℕ, codes, MatchOption};
-ghost use Rattle.plan.specs.Legal.{IsWithinLimits};
+ghost use Rattle.slots.specs.Limits.{IsWithinLimits};
 ghost use Rattle.tag.specs.Duration.{Spells};
 ghost use Rattle.program.specs.Tokens.{tokens_of};
 ghost use Rattle.program.specs.Grammar.{SpellsStatement};
@@ -13,7 +13,7 @@ use crate::fault::LineFault;
 use crate::places::action_slot;
 use crate::program::{State, Statement};
 use crate::token::{is_name, next_token, only_token, two_tokens};
-use plan::Slots;
+use slots::Slots;
 use std::str;
 use tag::{Delay, Time, parse_duration};
 

@@ -1,6 +1,6 @@
 //! Statements: `X = A`, `X = A OP B`, `out.P = A`, `schedule C D A`.
 ghost use Rattle.std.specs.Prelude.{◌≡◌, ◌∷◌, ◌++◌, List, ℕ, codes};
-ghost use Rattle.plan.specs.Legal.{IsWithinLimits};
+ghost use Rattle.slots.specs.Limits.{IsWithinLimits};
 ghost use Rattle.program.specs.Tokens.{tokens_of};
 ghost use Rattle.program.specs.Grammar.{SpellsStatement};
 ghost use Rattle.program.specs.Resolution.{statement_of};
@@ -13,7 +13,8 @@ use super::schedule::schedule;
 use crate::fault::LineFault;
 use crate::program::{State, Statement};
 use crate::token::{is_name, next_token, only_token};
-use plan::{Slots, place_of};
+use names::place_of;
+use slots::Slots;
 
 /// Reads a statement.
 pub(super) fn statement(

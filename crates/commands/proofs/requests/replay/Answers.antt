@@ -2,8 +2,9 @@ use Rattle.std.proofs.Common.{[], ◌∷◌, ◌++◌, refl, inl, inr, subst}
 use Rattle.std.proofs.lemmas.Result.{IfErr-weaker}
 use Rattle.files.specs.Answers.{Answers, given}
 use Rattle.files.proofs.InTurn.{answered_in_turn}
-use Rattle.sources.specs.Refused.{asked_sources, IsScheduleFault}
-use Rattle.sources.proofs.InTurn.{schedule_fault_after}
+use Rattle.sources.specs.Refused.{asked_sources}
+use Rattle.commands.specs.Refused.{IsScheduleFault}
+use Rattle.commands.proofs.InTurn.{schedule_fault_after}
 use Rattle.commands.proofs.requests.replay.Goals as goal
 
 pub returns-clause-stands : goal.returns-clause-stands
@@ -17,12 +18,10 @@ returns-clause-stands g c =
       sources = c.in-Ok.sources;
       sources_are = c.in-Ok.ensures.ok;
       holds = inl (
-        fault,
-        refl,
-        subst (λ contents. IsScheduleFault c.args.schedule contents (λ later. Answers before after (asked ++ later)) fault) c.in-Ok.ensures.same
-            (schedule_fault_after (λ later come. answered_in_turn before mid after asked later c.in-Ok.ensures.asked come) c.args.schedule
-            (g.F.Files.contents c.read_sources.new.files) fault c.in-Err-read_schedule.ensures.err),
-      );
+          subst (λ contents. IsScheduleFault c.args.schedule contents (λ later. Answers before after (asked ++ later)) fault) c.in-Ok.ensures.same
+          (schedule_fault_after (λ later come. answered_in_turn before mid after asked later c.in-Ok.ensures.asked come) c.args.schedule
+          (g.F.Files.contents c.read_sources.new.files) fault c.in-Err-read_schedule.ensures.err)
+          );
     })
 
 pub returns-in-Ok-read_schedule-clause-stands : goal.returns-in-Ok-read_schedule-clause-stands

@@ -1,7 +1,7 @@
 use Rattle.std.proofs.Common.{◌≡◌, ◌≤◌, ◌<◌, ◌-◌, ℕ, Bool, true, false, List, [], ◌∷◌, length, take, drop, get_or, Option, Some, None, IsTrue, refl, sym, ap, ◌∙◌, subst, arith}
 use Rattle.std.specs.Option.{is_some}
 use Rattle.std.proofs.lemmas.List.{take_all}
-use Rattle.plan.specs.Naming.{place_of, AreDistinct}
+use Rattle.names.specs.Naming.{place_of, AreDistinct}
 use Rattle.program.specs.declared.program.State as StateOf
 use Rattle.program.specs.Resolution.{state_names}
 use Rattle.program.proofs.NamePlaces.{distinct_more, distinct_less, distinct_none}

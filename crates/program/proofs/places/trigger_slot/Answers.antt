@@ -1,7 +1,7 @@
 use Rattle.std.proofs.Common.{◌≡◌, None, Some, ap, ◌∙◌}
 use Rattle.std.specs.Str.{bytes_eq}
-use Rattle.plan.specs.Naming.{place_of}
-use Rattle.plan.specs.Numbering.{timer_names}
+use Rattle.names.specs.Naming.{place_of}
+use Rattle.slots.specs.Numbering.{timer_names}
 use Rattle.program.proofs.NamePlaces.{slot_input, slot_timer, slot_action, slot_physical, slot_missing}
 use Rattle.program.proofs.places.trigger_slot.Goals as goal
 

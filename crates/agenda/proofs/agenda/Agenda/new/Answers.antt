@@ -1,7 +1,7 @@
 use Rattle.std.proofs.Common.{◌≡◌, ◌<◌, ◌^◌, ◌∙◌, ap, sym, subst, List}
 use Rattle.std.specs.List.{AllByRecursion}
 use Rattle.network.specs.Undone.{Held}
-use Rattle.plan.specs.Numbering.{first_timer}
+use Rattle.slots.specs.Numbering.{first_timer}
 use Rattle.agenda.specs.Agenda.{own_undone}
 use Rattle.agenda.specs.Kept.{undone_of, undo_all, timers_from, all_firings, first_firing, startup_in, IsTimer, IsFit}
 use Rattle.agenda.proofs.Fresh.{own_is, timers_hold, firings_fit, startup_fits}

@@ -1,6 +1,6 @@
 use Rattle.std.proofs.Common.{◌≡◌}
 use Rattle.std.proofs.lemmas.Result.{err_from_is_err_and}
-use Rattle.plan.specs.Naming.{place_of}
+use Rattle.names.specs.Naming.{place_of}
 use Rattle.program.specs.Tokens.{tokens_of, is_name}
 use Rattle.program.specs.Reading.{name_read}
 use Rattle.program.specs.declared.program.Statement.TheVariants.{Output}

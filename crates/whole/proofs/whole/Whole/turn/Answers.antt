@@ -6,7 +6,7 @@ use Rattle.std.proofs.lemmas.Option.{slice_get-get_or}
 use Rattle.network.specs.Event.{listed, value_at}
 use Rattle.network.specs.Undone.{look}
 use Rattle.plan.specs.Federation.{federate_count}
-use Rattle.plan.specs.Numbering.{slot_count}
+use Rattle.slots.specs.Numbering.{slot_count}
 use Rattle.program.specs.Behaviour.{Behaviour}
 use Rattle.reactor.specs.Entries.{AgreesBelow}
 use Rattle.reactor.specs.Federation.{slots_of}

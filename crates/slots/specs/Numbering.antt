@@ -1,8 +1,8 @@
 -- A federate's slots by number: 0 is startup, then come inputs, timers, actions and physical actions, each in order of
 -- declaration. Output ports have numbers of their own.
 use Rattle.std.specs.Prelude.{ℕ, ◌+◌, Bool, ◌&&◌, ◌||◌, nat_eq, nat_lt, nat_le, List, ◌++◌, map, length}
-use Rattle.plan.specs.declared.slots.Slots.{Slots}
-use Rattle.plan.specs.declared.slots.Timer.{Timer}
+use Rattle.slots.specs.declared.slots.Slots.{Slots}
+use Rattle.slots.specs.declared.slots.Timer.{Timer}
 
 -- the slot of startup
 abbrev pub startup_slot : ℕ

@@ -1,6 +1,6 @@
 use Rattle.std.proofs.Common.{◌≡◌, arith}
 use Rattle.names.proofs.First.{uncons}
-use Rattle.plan.proofs.slots.+are_same.Goals as goal
+use Rattle.slots.proofs.slots.+are_same.Goals as goal
 
 pub returns-then-is_same : goal.returns-then-is_same
 returns-then-is_same t c =

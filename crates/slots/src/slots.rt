@@ -1,6 +1,6 @@
 ghost use Rattle.std.specs.Prelude.{◌≡◌, ◌<◌, ◌^◌, ◌↔◌, IfSome, IsTrue, length};
 ghost use Rattle.names.specs.Naming.{place_of};
-ghost use Rattle.plan.specs.Numbering.{timer_names};
+ghost use Rattle.slots.specs.Numbering.{timer_names};
 
 use names::{Named, Names, Text, place_of};
 use std::marker::Model;
@@ -38,7 +38,7 @@ pub struct Timers {
 
 impl Model for Timers {
     ghost use Rattle.std.specs.Prelude.{List};
-    ghost use Rattle.plan.specs.declared.slots.Timer.{Timer};
+    ghost use Rattle.slots.specs.declared.slots.Timer.{Timer};
 
     ghost Value = { List Timer };
 
@@ -98,7 +98,7 @@ pub struct Slots {
 }
 
 impl Slots {
-    ghost use Rattle.plan.specs.Numbering.{first_timer, first_action, first_physical, slot_count, is_bare};
+    ghost use Rattle.slots.specs.Numbering.{first_timer, first_action, first_physical, slot_count, is_bare};
 
     /// The slot of startup.
     pub const STARTUP: usize = 0;

@@ -1,8 +1,8 @@
 ghost use Rattle.std.specs.Prelude.{◌≡◌, ◌↔◌, IsTrue, IsSome, IfSome};
-ghost use Rattle.program.specs.Programs.{AreProgramsOf, HaveProgramsOf, HaveSlotsOf};
+ghost use Rattle.programs.specs.Programs.{AreProgramsOf, HaveProgramsOf, HaveSlotsOf};
 
-use crate::program::Program;
 use plan::{Federate, Plan};
+use program::Program;
 use std::marker::Model;
 
 /// A program for each federate of a plan, in their order. Contracts see the list of them.

@@ -1,0 +1,34 @@
+//! The program `fedwhole`: `whole` and `check` alone, as `fedrun` has them. It stands on few crates, and so is proved sooner.
+//!
+//! All it does is `unfederated::command`, a function over words, files and writers; `main` hands it the machine's.
+#![tactic(auto)]
+
+use files::MachineFiles;
+use std::io::{BufWriter, Stderr};
+use std::process::ExitCode;
+use unfederated::{Fault, OUT_BYTES, command, refuse};
+use words::{WordsFault, given_words};
+
+fn main(rt: HostRuntime) -> ExitCode {
+    let mut err = rt.stderr();
+    let status = match perform(&rt, &mut err) {
+        Ok(status) => status,
+        Err(why) => refuse(&Fault::of_words(why), &mut err),
+    };
+    ExitCode::from(status)
+}
+
+/// Does what the machine's words ask for, with its output through a buffer.
+fn perform(rt: &HostRuntime, err: &mut Stderr) -> Result<u8, WordsFault> {
+    let words = given_words(rt)?;
+    match BufWriter::with_capacity(rt.alloc(), OUT_BYTES, rt.stdout()) {
+        Ok(mut out) => Ok(command(
+            rt.alloc(),
+            words.as_slice(),
+            &mut MachineFiles::new(rt),
+            &mut out,
+            err,
+        )),
+        Err(_) => Err(WordsFault::Memory),
+    }
+}
