@@ -4,7 +4,7 @@ ghost use Rattle.programs.specs.Programs.{AreProgramsOf};
 
 use loadfed::{LoadFault, load};
 use plan::Plan;
-use reactor::Programs;
+use programs::Programs;
 use std::alloc::{AllocError, Global};
 
 /// A federate `f` with a physical action `p`.

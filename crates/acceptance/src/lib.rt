@@ -9,8 +9,6 @@
 #[cfg(test)]
 mod delays;
 #[cfg(test)]
-mod durations;
-#[cfg(test)]
 mod federations;
 #[cfg(test)]
 mod files;
@@ -28,5 +26,7 @@ mod requests;
 mod rows;
 #[cfg(test)]
 mod schedules;
+#[cfg(test)]
+mod spelled;
 #[cfg(test)]
 mod tags;

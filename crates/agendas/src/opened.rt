@@ -5,7 +5,7 @@ ghost use Rattle.programs.specs.Programs.{AreProgramsOf};
 use agenda::Agenda;
 use loadfed::{LoadFault, load};
 use plan::Plan;
-use reactor::Programs;
+use programs::Programs;
 use std::alloc::Global;
 use std::test::Fail;
 use tag::FiniteTag;

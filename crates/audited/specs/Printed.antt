@@ -8,7 +8,7 @@ use Rattle.plan.specs.declared.draft.Draft.{Draft}
 use Rattle.plan.specs.declared.input.Input.{Input}
 use Rattle.plan.specs.Federation.{federate_count}
 use Rattle.program.specs.Behaviour.{Behaviour}
-use Rattle.reactor.specs.Federation.{network_of}
+use Rattle.federation.specs.Network.{network_of}
 use Rattle.node.specs.declared.event.Event.{Event}
 use Rattle.schedule.specs.declared.step.Step.{Step}
 use Rattle.printed.specs.RowText.{printed_rows}

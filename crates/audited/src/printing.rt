@@ -18,7 +18,7 @@ use federate::Federate;
 use node::{Event, Node};
 use plan::{Inputs, Plan};
 use printed::{CannotWrite, write_rows};
-use reactor::Programs;
+use programs::Programs;
 use recorder::{BegunAudit, Report, report_of};
 use std::alloc::Global;
 use std::io::Write;

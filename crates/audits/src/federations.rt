@@ -1,7 +1,7 @@
 //! Federations that are audited.
 use loadfed::load;
 use plan::{Inputs, Plan};
-use reactor::Programs;
+use programs::Programs;
 use std::alloc::Global;
 use std::marker::Model;
 

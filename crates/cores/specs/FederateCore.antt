@@ -11,7 +11,7 @@ use Rattle.node.specs.Core.{Core, Made}
 use Rattle.plan.specs.declared.draft.Draft.{Draft}
 use Rattle.plan.specs.declared.input.Input.{Input}
 use Rattle.program.specs.Behaviour.{Behaviour}
-use Rattle.reactor.specs.Federation.{network_of}
+use Rattle.federation.specs.Network.{network_of}
 
 -- what it was made from, with its number, and where it stands
 pub record FederateNode : Type 0 where

@@ -13,7 +13,7 @@ use federate::Federate;
 use link::LinkEnd;
 use node::Station;
 use plan::{Inputs, Plan};
-use reactor::Programs;
+use programs::Programs;
 use schedule::LINK_ROOM;
 use std::alloc::Global;
 

@@ -12,7 +12,7 @@ use Rattle.node.specs.declared.fault.NodeFault.{NodeFault}
 use Rattle.node.specs.declared.fault.NodeFault.TheVariants as fault
 use Rattle.node.specs.Mail.{Mail, lacks_room, all_posted}
 use Rattle.node.specs.Core.{Made, LacksRoom, Moves, ending_of, IsCall, SendsOnly}
-use Rattle.reactor.proofs.LawfulNetwork.{gives_lawful}
+use Rattle.federation.proofs.LawfulNetwork.{gives_lawful}
 use Rattle.cores.specs.FederateCore.{FederateNode, network_at, to_coordinator, signals_of, made_by, federate_may_send, advances}
 use Rattle.federate.specs.declared.change.Change.{Change}
 use Rattle.federate.specs.Change.{changed}

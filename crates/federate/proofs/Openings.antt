@@ -18,7 +18,7 @@ use Rattle.plan.specs.External.{startup_of, firings_from, firing_times, own_even
 use Rattle.plan.proofs.Outside.{external_parts}
 use Rattle.program.specs.Behaviour.{Behaviour}
 use Rattle.reactor.specs.Effect.{opening_states}
-use Rattle.reactor.specs.Federation.{network_of, opening_by}
+use Rattle.federation.specs.Network.{network_of, opening_by}
 use Rattle.reactor.specs.Turn.{Reactor}
 use Rattle.agenda.specs.Agenda.{Agenda, own_undone}
 use Rattle.agenda.proofs.Putting.{put_all-append}

@@ -24,9 +24,9 @@ use Rattle.plan.specs.declared.input.Input.{Input}
 use Rattle.plan.specs.Federation.{connections_of, stop_of}
 use Rattle.slots.specs.Numbering.{slot_count}
 use Rattle.program.specs.Behaviour.{Behaviour, IsWellFormed}
-use Rattle.reactor.specs.Federation.{network_of, slots_of, ports_of, effect_by}
+use Rattle.federation.specs.Network.{network_of, slots_of, ports_of, effect_by}
 use Rattle.reactor.specs.Turn.{Reactor, Turn}
-use Rattle.reactor.proofs.LawfulNetwork.{gives_lawful}
+use Rattle.federation.proofs.LawfulNetwork.{gives_lawful}
 use Rattle.agenda.specs.Agenda.{Agenda, in_time}
 use Rattle.agenda.proofs.Filtered.{all_filter, filter_twice}
 use Rattle.cores.specs.FederateCore.{to_coordinator}

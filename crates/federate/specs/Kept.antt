@@ -10,7 +10,7 @@ use Rattle.plan.specs.External.{AreInputsOf}
 use Rattle.plan.specs.Federation.{federate_count, connections_of, stop_of}
 use Rattle.plan.specs.Legal.{IsLegal}
 use Rattle.program.specs.Behaviour.{Behaviour}
-use Rattle.reactor.specs.Federation.{network_of}
+use Rattle.federation.specs.Network.{network_of}
 use Rattle.programs.specs.Programs.{AreProgramsOf}
 use Rattle.reactor.specs.Turn.{Reactor}
 use Rattle.agenda.specs.Agenda.{Agenda}

@@ -10,7 +10,7 @@ use Rattle.plan.specs.declared.draft.Draft.{Draft}
 use Rattle.plan.specs.Federation.{stop_of}
 use Rattle.slots.specs.Numbering.{slot_count}
 use Rattle.reactor.specs.Effect as reactor
-use Rattle.reactor.specs.Federation.{network_of}
+use Rattle.federation.specs.Network.{network_of}
 use Rattle.reactor.specs.Turn.{Reactor, turn_of}
 use Rattle.cores.specs.FederateCore.{to_coordinator}
 use Rattle.federate.specs.declared.outlet.Outlet.{Outlet}

@@ -3,7 +3,7 @@ ghost use Rattle.tag.specs.LogicalTime.{is_at_most, sum_of};
 ghost use Rattle.plan.specs.Federation.{stop_of};
 ghost use Rattle.protocol.specs.Federate.{message_over};
 ghost use Rattle.network.specs.Event.{value_at};
-ghost use Rattle.reactor.specs.Federation.{network_of};
+ghost use Rattle.federation.specs.Network.{network_of};
 ghost use Rattle.cores.specs.FederateCore.{to_coordinator};
 ghost use Rattle.federate.specs.Outlets.{messages_by};
 

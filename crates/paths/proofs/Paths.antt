@@ -2,9 +2,8 @@
 use Rattle.std.proofs.Common.{◌≡◌, ℕ, suc, zero, ◌+◌, ◌<◌, ◌≤◌, Bool, true, false, List, [], ◌∷◌, ◌++◌, length, max, refl, ap, sym, ◌∙◌, arith, get_or, subst, inl, inr, ◌⊎◌, length-append}
 use Rattle.std.specs.Prelude.{Contains, ◌&&◌, ◌||◌, nat_eq, nat_lt, if◌then◌else◌}
 use Rattle.std.proofs.lemmas.Bool.Decides.{nat_tests, leb_tells, eqb_tells}
-use Rattle.std.proofs.lemmas.Bool.{eqb-true}
+use Rattle.std.proofs.lemmas.Bool.{eqb-true, and_parts}
 use Rattle.tag.specs.LogicalTime.{origin, is_same, logical_time}
-use Rattle.tag.proofs.Parts.{and_true}
 use Rattle.network.specs.Connection.{Connection, IsPath}
 use Rattle.network.proofs.Walks.{AreImmediate}
 use Rattle.paths.specs.Levels.{is_immediate, above, level_within, before_by}
@@ -151,7 +150,7 @@ comes_by f j (b ∷ cs) some = chosen (nat_eq b.target j && is_immediate b) refl
 
     first : (nat_eq b.target j && is_immediate b) ≡ true → above f j (b ∷ cs) ≡ f b.source + 1 → ComesBy f j (b ∷ cs)
     first e level =
-        let both : (nat_eq b.target j ≡ true) × (is_immediate b ≡ true) = and_true (nat_eq b.target j) (is_immediate b) e in
+        let both : (nat_eq b.target j ≡ true) × (is_immediate b ≡ true) = and_parts (nat_eq b.target j) (is_immediate b) e in
         record {
           last = b;
           contained = (0, omega arith, refl);

@@ -4,16 +4,16 @@ use Rattle.std.specs.Prelude.{IsUtf8, IsAscii}
 use Rattle.std.specs.Char.{is_ascii, is_ascii_digit}
 use Rattle.std.specs.List.{list_all}
 use Rattle.std.specs.Str.{all_ascii_digits}
+use Rattle.std.proofs.lemmas.Bool.{and_parts}
 use Rattle.std.proofs.lemmas.Bool.Decides.{nat_tests}
 use Rattle.std.proofs.lemmas.List.{append_assoc}
 use Rattle.std.proofs.lemmas.List.Folds.{list_all-append}
 use Rattle.std.proofs.lemmas.Str.{IsAscii-append, IsUtf8-from_ascii}
 use Rattle.std.proofs.lemmas.Str.Ascii.{IsAscii-nil, IsAscii-cons}
-use Rattle.tag.specs.Duration.{IsUnit, Spells}
+use Rattle.durations.specs.Duration.{IsUnit, Spells}
 use Rattle.program.specs.Tokens.{is_word_character, tokens_of}
 use Rattle.program.specs.Grammar.{SpellsDuration}
 use Rattle.program.specs.Reading.{IsTimed, AreFirstTokens}
-use Rattle.tag.proofs.Parts.{and_true}
 use Rattle.program.proofs.FirstTokens.{first_by_itself, tokens_after_spaces, single_token}
 
 -- digits and names of units are words
@@ -23,7 +23,7 @@ digit_in_word c h = grind (arith, nat_tests)
 digits_word : (ds : List ℕ) → all_ascii_digits ds ≡ true → list_all is_word_character ds ≡ true
 digits_word [] h = refl
 digits_word (d ∷ ds) h =
-    let both = and_true (is_ascii_digit d) (all_ascii_digits ds) h in
+    let both = and_parts (is_ascii_digit d) (all_ascii_digits ds) h in
     let one : is_word_character d ≡ true = digit_in_word d both.0 in
     rw one (digits_word ds both.1)
 
@@ -87,7 +87,7 @@ ascii_by c h = grind (arith, nat_tests)
 ascii_all : (bs : List ℕ) → list_all is_ascii bs ≡ true → IsAscii bs
 ascii_all [] h = IsAscii-nil
 ascii_all (b ∷ bs) h =
-    let both = and_true (is_ascii b) (list_all is_ascii bs) h in
+    let both = and_parts (is_ascii b) (list_all is_ascii bs) h in
     IsAscii-cons b bs (ascii_by b both.0) (ascii_all bs both.1)
 
 digit_ascii : (c : ℕ) → is_ascii_digit c ≡ true → c < 128
@@ -96,7 +96,7 @@ digit_ascii c h = grind (arith, nat_tests)
 digits_ascii : (ds : List ℕ) → all_ascii_digits ds ≡ true → IsAscii ds
 digits_ascii [] h = IsAscii-nil
 digits_ascii (d ∷ ds) h =
-    let both = and_true (is_ascii_digit d) (all_ascii_digits ds) h in
+    let both = and_parts (is_ascii_digit d) (all_ascii_digits ds) h in
     IsAscii-cons d ds (digit_ascii d both.0) (digits_ascii ds both.1)
 
 spaces_ascii : (n : ℕ) → IsAscii (replicate n 32)

@@ -3,7 +3,7 @@ use Rattle.std.proofs.Common.{◌≡◌, ◌≢◌, ℕ, zero, suc, ◌+◌, ◌
 use Rattle.std.specs.List.{prefix_len, list_all}
 use Rattle.std.proofs.lemmas.List.{take-append-drop, append_assoc, append-nil}
 use Rattle.std.proofs.Math.Seq.{take-append_seam, drop-append_seam}
-use Rattle.tag.proofs.Parts.{passing_front, spaces_front}
+use Rattle.durations.proofs.Parts.{passing_front, spaces_front}
 use Rattle.program.specs.Tokens.{is_space, is_word_character, tokens_of}
 use Rattle.program.specs.Reading.{begins_with_word, IsTokenBefore, IsFirstToken, AreFirstTokens}
 use Rattle.program.proofs.Splitting.{stops, space_skipped, colon_first, word_token, word_length, word_some, front_some}

@@ -3,8 +3,8 @@ use Rattle.std.proofs.Common.{◌≡◌, ℕ, zero, suc, ◌+◌, false, if◌th
 use Rattle.std.specs.Prelude.{slice_get}
 use Rattle.std.specs.List.{AllZip}
 use Rattle.std.specs.Str.{bytes_eq}
-use Rattle.tag.specs.Duration.{Spells}
-use Rattle.tag.proofs.Spellings.{one_value}
+use Rattle.durations.specs.Duration.{Spells}
+use Rattle.durations.proofs.Spellings.{one_value}
 use Rattle.slots.specs.declared.slots.Slots.{Slots}
 use Rattle.program.specs.declared.program.Line.{Line}
 use Rattle.program.specs.declared.program.Operator.{Operator}

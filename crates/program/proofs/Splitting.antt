@@ -2,8 +2,9 @@
 use Rattle.std.proofs.Common.{◌≡◌, ℕ, ◌+◌, ◌<◌, ◌≤◌, ◌≢◌, Bool, true, false, cond, not, ◌&&◌, List, [], ◌∷◌, ◌++◌, length, get_or, take, drop, filter, refl, sym, ap, ◌∙◌, subst, arith, one-add}
 use Rattle.std.specs.List.{prefix_len, list_all, slice_split, onto_first}
 use Rattle.std.proofs.lemmas.List.{take-append-drop}
+use Rattle.std.proofs.lemmas.Bool.{and_parts}
 use Rattle.std.proofs.lemmas.Bool.Decides.{nat_tests}
-use Rattle.tag.proofs.Parts.{and_true, passing_front}
+use Rattle.durations.proofs.Parts.{passing_front}
 use Rattle.program.specs.Tokens.{is_space, is_colon, is_word_character, spaced, is_some_text, tokens_of}
 
 pub is_space_is : (c : ℕ) → is_space c ≡ true → c ≡ 32
@@ -43,7 +44,7 @@ IsCutHere rest tail = slice_split is_space (spaced rest) ≡ [] ∷ tail
 
 word_step : (x : ℕ) (text w : List ℕ) (tail : List (List ℕ)) → is_word_character x ≡ true → slice_split is_space (spaced text) ≡ w ∷ tail → slice_split is_space (spaced (x ∷ text)) ≡ (x ∷ w) ∷ tail
 word_step x text w tail h e =
-    let both = and_true (not (is_space x)) (not (is_colon x)) h in
+    let both = and_parts (not (is_space x)) (not (is_colon x)) h in
     let space : is_space x ≡ false = not_true (is_space x) both.0 in
     let colon : is_colon x ≡ false = not_true (is_colon x) both.1 in
     rw (colon, space) (ap (λ parts. onto_first x parts) e)
@@ -51,7 +52,7 @@ word_step x text w tail h e =
 word_split : (w rest : List ℕ) (tail : List (List ℕ)) → list_all is_word_character w ≡ true → IsCutHere rest tail → slice_split is_space (spaced (w ++ rest)) ≡ w ∷ tail
 word_split [] rest tail a e = e
 word_split (x ∷ w) rest tail a e =
-    let both = and_true (is_word_character x) (list_all is_word_character w) a in
+    let both = and_parts (is_word_character x) (list_all is_word_character w) a in
     word_step x (w ++ rest) w tail both.0 (word_split w rest tail both.1 e)
 
 -- where the text is empty, or begins with a space or a `:`

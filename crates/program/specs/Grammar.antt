@@ -1,7 +1,7 @@
 -- How body lines are written: their syntax with names where a program has numbers, and the tokens that spell it.
 use Rattle.std.specs.Prelude.{◌≡◌, ℕ, ℤ, ◌<◌, ◌^◌, ◌⊎◌, Bool, ◌||◌, List, [], ◌∷◌, ◌++◌, Option, None, Some, IsTrue, codes}
 use Rattle.std.specs.Str.{bytes_eq}
-use Rattle.tag.specs.Duration.{Spells}
+use Rattle.durations.specs.Duration.{Spells}
 use Rattle.program.specs.declared.program.Operator.{Operator}
 use Rattle.program.specs.declared.program.Operator.TheVariants.{Plus, Minus, Times, Minimum, Maximum, Less, Equal}
 use Rattle.program.specs.Tokens.{is_name, IsWholeNumber, number_in}

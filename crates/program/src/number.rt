@@ -5,7 +5,7 @@ ghost use Rattle.std.specs.List.{list_all};
 ghost use Rattle.std.specs.Str.Parse.{digits_value};
 ghost use Rattle.program.specs.Tokens.{is_numeral, number_in, IsWholeNumber};
 
-use tag::digits_value;
+use durations::digits_value;
 
 /// The whole number that a token spells: digits, perhaps after a `-`, within 64 bits.
 pub(crate) fn number(token: &[u8]) -> Option<i64>

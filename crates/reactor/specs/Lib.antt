@@ -13,7 +13,3 @@ pub mod Steps
 pub mod Resolved
 -- a turn that is under way
 pub mod Running
--- the network of a federation with its programs and inputs
-pub mod Federation
--- small federations, their rows computed
-pub mod Examples

@@ -6,8 +6,6 @@
 //! stand in the crate `program`, whose types are given on here.
 #![tactic(auto)]
 
-pub mod examples;
-pub mod lawful;
 pub mod memory;
 pub mod reactor;
 mod resolve;
@@ -23,7 +21,6 @@ pub use program::{
     Body, Entries, Entry, Expression, Line, Operand, Operator, Program, ProgramFault, Reaction,
     ReactionDraft, State, Statement, Triggers, is_name,
 };
-pub use programs::Programs;
 pub use reactor::Reactor;
 pub use row::Row;
 pub use rows::{RowView, Rows};

@@ -10,8 +10,8 @@ use Rattle.plan.specs.External.{AreInputsOf}
 use Rattle.plan.specs.Federation.{federate_count}
 use Rattle.plan.specs.Legal.{IsLegal}
 use Rattle.programs.specs.Programs.{AreProgramsOf}
-use Rattle.reactor.specs.Federation.{network_of}
-use Rattle.reactor.proofs.LawfulNetwork.{gives_lawful_with}
+use Rattle.federation.specs.Network.{network_of}
+use Rattle.federation.proofs.LawfulNetwork.{gives_lawful_with}
 use Rattle.node.specs.declared.event.Event.{Event}
 use Rattle.node.specs.declared.node_id.NodeId.{NodeId}
 use Rattle.node.specs.declared.node_id.NodeId.TheVariants.{Coordinator, Federate}

@@ -7,7 +7,7 @@ use Rattle.plan.specs.declared.draft.Draft.{Draft}
 use Rattle.plan.specs.declared.input.Input.{Input}
 use Rattle.plan.specs.Federation.{federate_count}
 use Rattle.program.specs.Behaviour.{Behaviour}
-use Rattle.reactor.specs.Federation.{network_of}
+use Rattle.federation.specs.Network.{network_of}
 use Rattle.node.specs.declared.event.Event.{Event}
 use Rattle.desk.specs.Replay as replayed
 use Rattle.cores.specs.CoordinatorCore.{coordinator_core}

@@ -10,7 +10,7 @@ use crate::report::Report;
 use crate::unproved::Unproved;
 use node::Event;
 use plan::{Inputs, Plan};
-use reactor::Programs;
+use programs::Programs;
 use schedule::Step;
 use std::alloc::Global;
 

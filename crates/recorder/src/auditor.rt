@@ -14,7 +14,7 @@ use crate::cursors::Cursors;
 use crate::unproved::Unproved;
 use node::{Event, NodeId};
 use plan::{Inputs, Plan};
-use reactor::Programs;
+use programs::Programs;
 use schedule::{Dir, Step};
 use search::{Machine, Memory};
 use signal::Frame;

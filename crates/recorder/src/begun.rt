@@ -22,7 +22,7 @@ use crate::report::Report;
 use crate::unproved::Unproved;
 use node::{Event, NodeId};
 use plan::{Inputs, Plan};
-use reactor::Programs;
+use programs::Programs;
 use search::growing::{longer_journals_are_read, nothing_is_read};
 use search::{Found, Reading};
 use std::alloc::{AllocError, Global};

@@ -8,7 +8,7 @@ ghost use Rattle.replay.specs.Replayed.{unasked};
 use crate::cursors::Cursors;
 use crate::fault::ReplayFault;
 use plan::{Inputs, Plan};
-use reactor::Programs;
+use programs::Programs;
 use schedule::{Dir, Outcome, Step};
 use script::{Command, Line, Script};
 use std::alloc::Global;

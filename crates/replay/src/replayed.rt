@@ -7,7 +7,7 @@ use crate::ending::write_end;
 use crate::fault::ReplayFault;
 use crate::player::Player;
 use plan::{Inputs, Plan};
-use reactor::Programs;
+use programs::Programs;
 use script::Script;
 use std::alloc::Global;
 use std::io::Write;

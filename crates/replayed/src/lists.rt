@@ -6,7 +6,8 @@ ghost use Rattle.programs.specs.Programs.{AreProgramsOf};
 
 use loadfed::{load, load_inputs};
 use plan::{Inputs, Plan};
-use reactor::{Programs, RowView, Rows};
+use programs::Programs;
+use reactor::{RowView, Rows};
 use samples::{CHAIN, CHAIN_INPUT, COUNTER, DELAYED_COUNTER, LOOP, REPLACED, STARTED_COUNTER};
 use schedule::{Dir, Outcome, Step};
 use std::alloc::Global;

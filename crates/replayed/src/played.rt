@@ -4,7 +4,7 @@ ghost use Rattle.programs.specs.Programs.{AreProgramsOf};
 
 use loadfed::{load, load_inputs};
 use plan::{Inputs, Plan};
-use reactor::Programs;
+use programs::Programs;
 use replay::replay;
 use script::{Script, read_script};
 use std::alloc::Global;

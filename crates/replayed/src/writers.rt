@@ -4,7 +4,7 @@ ghost use Rattle.programs.specs.Programs.{AreProgramsOf};
 
 use loadfed::{load, load_inputs};
 use plan::{Inputs, Plan};
-use reactor::Programs;
+use programs::Programs;
 use replay::{ReplayFault, replay};
 use samples::COUNTER;
 use script::{Script, read_script};

@@ -13,7 +13,7 @@ use Rattle.plan.specs.declared.input.Input.{Input}
 use Rattle.plan.specs.Federation.{federate_count}
 use Rattle.plan.specs.Least.{least_of}
 use Rattle.program.specs.Behaviour.{Behaviour}
-use Rattle.reactor.specs.Federation.{network_of}
+use Rattle.federation.specs.Network.{network_of}
 use Rattle.delivery.specs.Way.{offered_in, IsSaid}
 use Rattle.delivery.specs.Link.{Side}
 use Rattle.delivery.proofs.Places.{length_of_rest, get_below}

@@ -22,7 +22,7 @@ use Rattle.plan.specs.declared.input.Input.{Input}
 use Rattle.plan.specs.Federation.{federate_count}
 use Rattle.plan.specs.Least.{least_of}
 use Rattle.program.specs.Behaviour.{Behaviour}
-use Rattle.reactor.specs.Federation.{network_of}
+use Rattle.federation.specs.Network.{network_of}
 use Rattle.protocol.specs.declared.refusal.Refusal.{Refusal}
 use Rattle.protocol.specs.declared.refusal.Refusal.TheVariants.{Late, WrongSignal}
 use Rattle.protocol.specs.Outcome.{Refused, Nothing, Done}

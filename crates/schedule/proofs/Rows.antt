@@ -18,7 +18,7 @@ use Rattle.plan.specs.declared.input.Input.{Input}
 use Rattle.plan.specs.Federation.{federate_count}
 use Rattle.plan.specs.Least.{least_of}
 use Rattle.program.specs.Behaviour.{Behaviour}
-use Rattle.reactor.specs.Federation.{network_of}
+use Rattle.federation.specs.Network.{network_of}
 use Rattle.protocol.specs.Outcome.{Outcome, Refused, Nothing, Done}
 use Rattle.protocol.specs.Standing.{Standing}
 use Rattle.protocol.specs.Standings.{standing_at, is_finished}

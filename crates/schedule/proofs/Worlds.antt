@@ -12,7 +12,7 @@ use Rattle.plan.specs.declared.input.Input.{Input}
 use Rattle.plan.specs.Federation.{federate_count}
 use Rattle.plan.specs.Least.{least_of}
 use Rattle.program.specs.Behaviour.{Behaviour}
-use Rattle.reactor.specs.Federation.{network_of}
+use Rattle.federation.specs.Network.{network_of}
 use Rattle.protocol.specs.Standing.{opening_standing}
 use Rattle.protocol.specs.Machine.{Member, Move, opening_member as first_member}
 use Rattle.laws.proofs.ListedStandings.{listed_length, opening_read}

@@ -11,7 +11,7 @@ use Rattle.plan.specs.declared.draft.Draft.{Draft}
 use Rattle.plan.specs.declared.input.Input.{Input}
 use Rattle.plan.specs.Federation.{federate_count}
 use Rattle.program.specs.Behaviour.{Behaviour}
-use Rattle.reactor.specs.Federation.{network_of}
+use Rattle.federation.specs.Network.{network_of}
 use Rattle.protocol.specs.Federate.{opening_federate}
 use Rattle.protocol.specs.Standing.{opening_standing}
 use Rattle.protocol.specs.Standings.{standings_listed}

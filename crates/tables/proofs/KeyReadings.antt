@@ -5,8 +5,8 @@ use Rattle.std.proofs.lemmas.List.{take_more, take_all, map-append}
 use Rattle.std.proofs.lemmas.List.Elements.{All-map}
 use Rattle.std.specs.Map.{keys_of}
 use Rattle.std.specs.Map.Iter.{deref}
-use Rattle.tag.specs.Duration.{Spells}
-use Rattle.tag.specs.declared.duration.DurationFault.{DurationFault}
+use Rattle.durations.specs.Duration.{Spells}
+use Rattle.durations.specs.declared.duration.DurationFault.{DurationFault}
 use Rattle.program.specs.Tokens.{is_name}
 use Rattle.toml.specs.Data.{Data, string, table, Members, get_member}
 use Rattle.toml.specs.View.{view, members_view}

@@ -1,8 +1,8 @@
 -- A key says one thing: two readings of it are the same.
 use Rattle.std.proofs.Common.{◌≡◌, ℕ, ℤ, List, [], ◌∷◌, ◌++◌, map, Option, Some, None, codes, refl, sym, ap, ◌∙◌, subst, inl, inr}
 use Rattle.std.specs.Prelude.{pos}
-use Rattle.tag.specs.Duration.{Spells}
-use Rattle.tag.proofs.Spellings.{one_value}
+use Rattle.durations.specs.Duration.{Spells}
+use Rattle.durations.proofs.Spellings.{one_value}
 use Rattle.plan.specs.declared.draft.PortName.{PortName}
 use Rattle.toml.specs.Data.{Data, string, integer, array, table, Members, get_member}
 use Rattle.toml.specs.View.{items_of}

@@ -2,7 +2,7 @@
 use Rattle.std.specs.Prelude.{◌≡◌, ℕ, ℤ, pos, ◌<◌, ◌^◌, ◌⊎◌, Bool, IsTrue, List, [], ◌∷◌, ◌++◌, codes, map, All, Option, None, Some}
 use Rattle.std.specs.List.{AllZip, list_any}
 use Rattle.std.specs.Str.{bytes_eq}
-use Rattle.tag.specs.Duration.{Spells}
+use Rattle.durations.specs.Duration.{Spells}
 use Rattle.plan.specs.declared.draft.PortName.{PortName}
 use Rattle.program.specs.Tokens.{is_name}
 use Rattle.toml.specs.Data.{Data, string, integer, array, table, Members, no_members, member, get_member}

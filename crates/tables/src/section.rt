@@ -8,10 +8,11 @@ ghost use Rattle.tables.specs.TableFaults.{IsWrongAt, HasUnknownKey};
 
 use crate::data::{as_number, as_table, as_text, as_values};
 use crate::fault::LoadFault;
+use durations::parse_duration;
 use plan::{Names, PortName, Text};
 use program::is_name;
 use std::alloc::Global;
-use tag::{Time, parse_duration};
+use tag::Time;
 use toml::{Table, Value};
 
 /// A table of a file, read key by key. Each fault is `WrongShape` of the key that it is about, or `Memory`.

@@ -4,9 +4,5 @@ pub mod LogicalTime
 pub mod Compared
 -- The delay of a whole path of connections.
 pub mod Total
--- Durations as text.
-pub mod Duration
 -- Times, tags and delays as text.
 pub mod Printed
--- The faults of a duration's text.
-pub mod DurationFault

@@ -1,11 +1,9 @@
-//! The laws of tags, delays and durations: each function's contract is one, for all logical times.
+//! The laws of tags and delays: each function's contract is one, for all logical times.
 
 ghost use Rattle.std.specs.Prelude.{◌≡◌, ℕ, ◌+◌, ◌-◌, ◌*◌, ◌^◌, ◌<◌, ◌≤◌, ◌≢◌, ◌⊎◌, ◌↔◌, List, ◌++◌, length, All, IfSome, IsSomeAnd, IsTrue, Some, false, min, max};
 ghost use Rattle.tag.specs.LogicalTime.{LogicalTime, IsLogicalTime, IsFinite, CarriesNothing, origin, forever, logical_time, one_microstep, is_before, is_at_most, is_same, place, sum_of, successor_of, tag_before};
 ghost use Rattle.tag.specs.Compared.{IsOrderOfTags};
 ghost use Rattle.tag.specs.Total.{total_of, IsPlainDelay};
-ghost use Rattle.tag.specs.Duration.{Spells};
-ghost use Rattle.tag.specs.Printed.{printed_time};
 
 use crate::delay::Delay;
 use crate::finite_tag::FiniteTag;
@@ -94,15 +92,6 @@ pub fn sums_at_the_limits()
     ensures carry_into_forever { sum_of (logical_time (2 ^ 62 - 1) (2 ^ 32 - 1)) (logical_time 0 1) ≡ forever }
     ensures microstep { sum_of (logical_time 5 3) (logical_time 0 1) ≡ logical_time 5 4 }
     ensures time { sum_of (logical_time 5 3) (logical_time 2 0) ≡ logical_time 7 0 }
-{}
-
-pub fn texts_spell_one_duration()
-    ensures { (text : List ℕ) (value other : ℕ) → Spells text value → Spells text other → value ≡ other }
-{}
-
-/// `parse_duration` reads back what a time prints.
-pub fn printed_times_spell_themselves()
-    ensures { (time : ℕ) → time < 2 ^ 62 → Spells (printed_time time) time }
 {}
 
 /// The constants are the FOREVER of the definitions.

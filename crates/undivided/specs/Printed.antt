@@ -5,7 +5,7 @@ use Rattle.plan.specs.declared.draft.Draft.{Draft}
 use Rattle.plan.specs.declared.input.Input.{Input}
 use Rattle.network.specs.Undivided.{whole}
 use Rattle.program.specs.Behaviour.{Behaviour}
-use Rattle.reactor.specs.Federation.{network_of}
+use Rattle.federation.specs.Network.{network_of}
 use Rattle.whole.specs.Progress.{Progress, pending_in, all_rows_in}
 use Rattle.printed.specs.RowText.{printed_rows}
 

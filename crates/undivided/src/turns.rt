@@ -6,7 +6,7 @@ ghost use Rattle.undivided.specs.Printed.{PrintsRows, PrintsFirstRows, IsPrinted
 
 use plan::{Inputs, Plan};
 use printed::{CannotWrite, write_rows};
-use reactor::Programs;
+use programs::Programs;
 use std::alloc::Global;
 use std::io::Write;
 use whole::Whole;

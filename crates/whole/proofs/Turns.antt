@@ -31,7 +31,7 @@ use Rattle.plan.specs.Federation.{federate_count, connections_of, rank_of, stop_
 use Rattle.slots.specs.Numbering.{slot_count}
 use Rattle.plan.specs.External.{external_of}
 use Rattle.program.specs.Behaviour.{Behaviour}
-use Rattle.reactor.specs.Federation.{network_of, slots_of, ports_of, effect_by, opening_by}
+use Rattle.federation.specs.Network.{network_of, slots_of, ports_of, effect_by, opening_by}
 use Rattle.programs.specs.Programs.{HaveProgramsOf, HaveSlotsOf}
 use Rattle.reactor.specs.Effect.{opening_states, effect_of}
 use Rattle.reactor.specs.Turn.{Reactor}

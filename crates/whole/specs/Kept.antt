@@ -11,7 +11,7 @@ use Rattle.plan.specs.declared.input.Input.{Input}
 use Rattle.plan.specs.Federation.{federate_count}
 use Rattle.program.specs.Behaviour.{Behaviour}
 use Rattle.programs.specs.Programs.{HaveSlotsOf}
-use Rattle.reactor.specs.Federation.{network_of}
+use Rattle.federation.specs.Network.{network_of}
 use Rattle.reactor.specs.Turn.{Reactor}
 use Rattle.whole.specs.Schedule.{Schedule, undone_of}
 

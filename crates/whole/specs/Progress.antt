@@ -6,7 +6,7 @@ use Rattle.network.specs.Undivided.{Undivided, Row, undivided_after, whole}
 use Rattle.plan.specs.declared.draft.Draft.{Draft}
 use Rattle.plan.specs.declared.input.Input.{Input}
 use Rattle.program.specs.Behaviour.{Behaviour}
-use Rattle.reactor.specs.Federation.{network_of}
+use Rattle.federation.specs.Network.{network_of}
 
 -- what an undivided program was made from, how many turns were made, and of how many, the first ones, the rows were let go
 pub record Progress : Type 0 where

@@ -1,7 +1,7 @@
 -- What holds of every world, by the laws of a federation's worlds.
 use Rattle.std.proofs.Common.{◌≡◌, List, sym, subst}
 use Rattle.plan.specs.Federation.{federate_count}
-use Rattle.reactor.proofs.LawfulNetwork.{gives_lawful_with}
+use Rattle.federation.proofs.LawfulNetwork.{gives_lawful_with}
 use Rattle.cores.specs.FederateCore.{federate_core}
 use Rattle.cores.specs.CoordinatorCore.{coordinator_core}
 use Rattle.schedule.specs.declared.limits.TheConstants.{LINK_ROOM}

@@ -1,7 +1,7 @@
 -- When a world is stuck: nobody forgot, and nothing is left to be done at any federate.
 use Rattle.std.proofs.Common.{◌≡◌, ℕ, ◌<◌, ◌≤◌, inl, inr, false, slice_get, None, ◌↔◌, ap, ◌∙◌, arith}
 use Rattle.plan.specs.Federation.{federate_count}
-use Rattle.reactor.proofs.LawfulNetwork.{gives_lawful_with}
+use Rattle.federation.proofs.LawfulNetwork.{gives_lawful_with}
 use Rattle.std.specs.List.{list_any}
 use Rattle.std.proofs.lemmas.Bool.{cases_lt}
 use Rattle.schedule.specs.declared.dir.Dir.{Dir}

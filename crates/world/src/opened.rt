@@ -11,7 +11,7 @@ use federate::Federate;
 use link::LinkEnd;
 use node::Station;
 use plan::{Inputs, Plan};
-use reactor::Programs;
+use programs::Programs;
 use schedule::LINK_ROOM;
 use stage::Memory;
 use std::alloc::Global;

@@ -1,7 +1,7 @@
 //! Schedulings: `schedule C D A`.
 ghost use Rattle.std.specs.Prelude.{◌<◌, ◌^◌, ◌∷◌, List, ℕ, codes, MatchOption};
 ghost use Rattle.slots.specs.Limits.{IsWithinLimits};
-ghost use Rattle.tag.specs.Duration.{Spells};
+ghost use Rattle.durations.specs.Duration.{Spells};
 ghost use Rattle.program.specs.Tokens.{tokens_of};
 ghost use Rattle.program.specs.Grammar.{SpellsStatement};
 ghost use Rattle.program.specs.Resolution.{statement_of};
@@ -13,9 +13,10 @@ use crate::fault::LineFault;
 use crate::places::action_slot;
 use crate::program::{State, Statement};
 use crate::token::{is_name, next_token, only_token, two_tokens};
+use durations::parse_duration;
 use slots::Slots;
 use std::str;
-use tag::{Delay, Time, parse_duration};
+use tag::{Delay, Time};
 
 /// The statement that begins with `schedule`: an action, a duration, and an operand.
 pub(super) fn schedule(slots: &Slots, states: &[State], text: &[u8]) -> Result<Statement, LineFault>

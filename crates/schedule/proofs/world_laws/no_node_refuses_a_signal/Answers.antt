@@ -1,4 +1,4 @@
-use Rattle.reactor.proofs.LawfulNetwork.{gives_lawful_with}
+use Rattle.federation.proofs.LawfulNetwork.{gives_lawful_with}
 use Rattle.schedule.proofs.Worlds.{refusals_are_plain}
 use Rattle.schedule.proofs.world_laws.no_node_refuses_a_signal.Goals as goal
 

@@ -1,4 +1,4 @@
-use Rattle.reactor.proofs.LawfulNetwork.{gives_lawful_with}
+use Rattle.federation.proofs.LawfulNetwork.{gives_lawful_with}
 use Rattle.schedule.proofs.Rows.{stuck_rows, finished_rows}
 use Rattle.schedule.proofs.world_laws.no_row_is_missing.Goals as goal
 

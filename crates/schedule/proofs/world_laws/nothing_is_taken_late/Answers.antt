@@ -1,4 +1,4 @@
-use Rattle.reactor.proofs.LawfulNetwork.{gives_lawful_with}
+use Rattle.federation.proofs.LawfulNetwork.{gives_lawful_with}
 use Rattle.schedule.proofs.Late.{nothing_late}
 use Rattle.schedule.proofs.world_laws.nothing_is_taken_late.Goals as goal
 

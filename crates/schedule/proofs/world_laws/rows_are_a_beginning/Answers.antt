@@ -1,4 +1,4 @@
-use Rattle.reactor.proofs.LawfulNetwork.{gives_lawful_with}
+use Rattle.federation.proofs.LawfulNetwork.{gives_lawful_with}
 use Rattle.schedule.proofs.Rows.{rows_begin}
 use Rattle.schedule.proofs.world_laws.rows_are_a_beginning.Goals as goal
 

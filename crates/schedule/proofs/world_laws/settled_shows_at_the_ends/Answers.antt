@@ -1,4 +1,4 @@
-use Rattle.reactor.proofs.LawfulNetwork.{gives_lawful_with}
+use Rattle.federation.proofs.LawfulNetwork.{gives_lawful_with}
 use Rattle.schedule.proofs.Emptied.{shows_at_the_ends}
 use Rattle.schedule.proofs.world_laws.settled_shows_at_the_ends.Goals as goal
 

@@ -1,10 +1,10 @@
 use Rattle.plan.specs.Federation.{stop_of}
 use Rattle.std.proofs.Common.{refl, ◌≡◌, ◌<◌, ◌∙◌, sym, ap, subst, Some, length, slice_get, arith}
 use Rattle.program.specs.Behaviour.{Behaviour, IsWellFormed}
-use Rattle.reactor.specs.Federation.{network_of}
+use Rattle.federation.specs.Network.{network_of}
 use Rattle.std.proofs.lemmas.Option.{slice_get_read}
 use Rattle.program.proofs.Zips.{all_zip_lengths}
-use Rattle.reactor.proofs.LawfulNetwork.{gives_lawful}
+use Rattle.federation.proofs.LawfulNetwork.{gives_lawful}
 use Rattle.plan.specs.declared.draft.Federate as declared
 use Rattle.protocol.specs.Federate as protocol
 use Rattle.protocol.specs.Alone.{IsFederate}

@@ -3,7 +3,7 @@ use Rattle.protocol.specs.Federate.{turn_at}
 use Rattle.protocol.specs.Outcome.{Done}
 use Rattle.node.specs.Mail.{Mail, lacks_room, all_posted}
 use Rattle.node.specs.Core.{IsCall}
-use Rattle.reactor.specs.Federation.{network_of}
+use Rattle.federation.specs.Network.{network_of}
 use Rattle.cores.specs.FederateCore.{FederateNode, made_by, advances}
 use Rattle.federate.specs.Kept.{standing}
 use Rattle.federate.specs.Turn.{due_in, IsPrepared}

@@ -1,5 +1,5 @@
 use Rattle.std.proofs.Common.{ℕ, List, sym, subst}
-use Rattle.tag.specs.Duration.{Spells}
+use Rattle.durations.specs.Duration.{Spells}
 use Rattle.program.proofs.Durations.{duration_is_text}
 use Rattle.program.proofs.reading.schedule.duration.Goals as goal
 

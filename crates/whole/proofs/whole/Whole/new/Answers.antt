@@ -2,7 +2,7 @@ use Rattle.std.proofs.Common.{◌≡◌, ℕ, ◌∙◌, List, length, map, ap, 
 use Rattle.std.proofs.lemmas.List.{take_all}
 use Rattle.whole.proofs.Turns.{opened, opened-programs, kept_opening, slots_of_programs}
 use Rattle.program.specs.Behaviour.{Behaviour}
-use Rattle.reactor.proofs.LawfulNetwork.{gives_lawful}
+use Rattle.federation.proofs.LawfulNetwork.{gives_lawful}
 use Rattle.whole.specs.Kept.{programs_in}
 use Rattle.whole.specs.Progress.{Progress}
 use Rattle.whole.proofs.whole.Whole.new.Goals as goal

@@ -9,7 +9,7 @@ use Rattle.plan.specs.Federation.{federate_count}
 use Rattle.slots.specs.Numbering.{slot_count}
 use Rattle.program.specs.Behaviour.{Behaviour}
 use Rattle.reactor.specs.Entries.{AgreesBelow}
-use Rattle.reactor.specs.Federation.{slots_of}
+use Rattle.federation.specs.Network.{slots_of}
 use Rattle.reactor.specs.Turn.{Reactor, turn_of}
 use Rattle.whole.specs.Kept.{programs_in, HasSlotsOf}
 use Rattle.whole.specs.Made.{TurnMade}

@@ -19,9 +19,9 @@ use Rattle.plan.specs.External.{outside, times_from, firing_count, firing_times,
 use Rattle.plan.specs.Legal.{IsLegal}
 use Rattle.plan.proofs.Joined.{found_in_parts, found_at, same_name}
 use Rattle.network.proofs.Items.{no_pairs}
-use Rattle.reactor.proofs.Pairs.{across, AllPairs-append, AllPairs-map, AllPairs-filter_map}
-use Rattle.reactor.proofs.Wiring.{same_federate}
-use Rattle.reactor.proofs.Outside.{IsOutside, IsOwnSlot, IsInputSlot, own_events_outside, inputs_outside, input_parts}
+use Rattle.federation.proofs.Pairs.{across, AllPairs-append, AllPairs-map, AllPairs-filter_map}
+use Rattle.federation.proofs.Wiring.{same_federate}
+use Rattle.federation.proofs.Outside.{IsOutside, IsOwnSlot, IsInputSlot, own_events_outside, inputs_outside, input_parts}
 
 -- ---- firings of one timer
 

@@ -1,10 +1,10 @@
 -- What a text spells, and what is answered for it.
 use Rattle.std.proofs.Common.{◌≡◌, ℕ, ◌*◌, ◌^◌, ◌<◌, ◌≤◌, ◌↔◌, inl, inr, Option, Some, None, Result, Ok, Err, List, ◌++◌, length, length-append, replicate, codes, SomeIff, ok_or, IfOk, refl, sym, ap, ◌∙◌, arith}
 use Rattle.std.specs.Str.Parse.{digits_value}
-use Rattle.tag.specs.Duration.{HasParts, Spells}
-use Rattle.tag.specs.declared.duration.DurationFault.{DurationFault}
-use Rattle.tag.specs.declared.duration.DurationFault.TheVariants.{BadDuration, TooLong}
-use Rattle.tag.proofs.Parts.{same_value, name_some}
+use Rattle.durations.specs.Duration.{HasParts, Spells}
+use Rattle.durations.specs.declared.duration.DurationFault.{DurationFault}
+use Rattle.durations.specs.declared.duration.DurationFault.TheVariants.{BadDuration, TooLong}
+use Rattle.durations.proofs.Parts.{same_value, name_some}
 
 -- `0` alone has no unit
 zero_has_no_parts : (text digits : List ℕ) (unit : ℕ) → text ≡ codes "0" → HasParts text digits unit → ⊥

@@ -1,6 +1,6 @@
 //! Which texts are durations, and of how many nanoseconds.
+use durations::{DurationFault, parse_duration};
 use std::test::Fail;
-use tag::{DurationFault, parse_duration};
 
 const DURATIONS: &[(&str, u64)] = &[
     ("0", 0),

@@ -5,16 +5,13 @@ use Rattle.std.specs.List.{prefix_len, list_all}
 use Rattle.std.specs.Str.{all_ascii_digits}
 use Rattle.std.specs.Str.Parse.{digits_value}
 use Rattle.std.proofs.lemmas.List.{take-append-drop}
+use Rattle.std.proofs.lemmas.Bool.{and_parts}
 use Rattle.std.proofs.lemmas.Bool.Decides.{nat_tests}
 use Rattle.std.proofs.Math.Seq.{take-append_seam, drop-append_seam}
-use Rattle.tag.specs.Duration.{IsUnit, HasParts}
+use Rattle.durations.specs.Duration.{IsUnit, HasParts}
 
 abbrev pub is_space : ℕ → Bool
 is_space b = b == 32
-
-pub and_true : (a b : Bool) → (a && b) ≡ true → (a ≡ true) × (b ≡ true)
-and_true true b h = (refl, h)
-and_true false b h = cc
 
 -- the longest front that passes passes
 passing_step : (p : ℕ → Bool) (x : ℕ) (xs : List ℕ) (b : Bool) → p x ≡ b → list_all p (take (prefix_len p xs) xs) ≡ true → list_all p (take (cond b (1 + prefix_len p xs) 0) (x ∷ xs)) ≡ true
@@ -39,7 +36,7 @@ front_exact : (p : ℕ → Bool) (xs ys : List ℕ) → list_all p xs ≡ true �
 front_exact p [] [] a f = refl
 front_exact p [] (y ∷ ys) a f = rw f refl
 front_exact p (x ∷ xs) ys a f =
-    let both = and_true (p x) (list_all p xs) a in
+    let both = and_parts (p x) (list_all p xs) a in
     let first : p x ≡ true = both.0 in
     rw (first, one-add) (ap (λ n. suc n) (front_exact p xs ys both.1 f))
 

@@ -1,9 +1,9 @@
 use Rattle.std.proofs.Common.{codes}
 use Rattle.std.proofs.lemmas.Bool.Decides.{Decides-eqb}
 use Rattle.std.proofs.lemmas.Slice.Eq.{slice_eq-Decides}
-use Rattle.tag.specs.Duration.{HasParts}
-use Rattle.tag.proofs.Spellings.{zero_answer, none_answer, some_answer}
-use Rattle.tag.proofs.duration.parse_duration.Goals as goal
+use Rattle.durations.specs.Duration.{HasParts}
+use Rattle.durations.proofs.Spellings.{zero_answer, none_answer, some_answer}
+use Rattle.durations.proofs.duration.parse_duration.Goals as goal
 
 pub returns-then-eq : goal.returns-then-eq
 returns-then-eq c =

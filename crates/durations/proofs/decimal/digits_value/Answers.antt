@@ -1,6 +1,6 @@
 use Rattle.std.proofs.Common.{arith}
-use Rattle.tag.proofs.Numerals.{no_room_to_shift, no_room_to_add, whole_number}
-use Rattle.tag.proofs.decimal.digits_value.Goals as goal
+use Rattle.durations.proofs.Numerals.{no_room_to_shift, no_room_to_add, whole_number}
+use Rattle.durations.proofs.decimal.digits_value.Goals as goal
 
 pub returns-in_err-checked_mul : goal.returns-in_err-checked_mul
 returns-in_err-checked_mul c =

@@ -1,8 +1,8 @@
 -- The faults of a duration's text.
 use Rattle.std.specs.Prelude.{ℕ, List, ◌++◌, codes}
 use Rattle.std.specs.Fmt.{decimal}
-use Rattle.tag.specs.declared.duration.DurationFault.{DurationFault}
-use Rattle.tag.specs.declared.duration.DurationFault.TheVariants.{BadDuration, TooLong}
+use Rattle.durations.specs.declared.duration.DurationFault.{DurationFault}
+use Rattle.durations.specs.declared.duration.DurationFault.TheVariants.{BadDuration, TooLong}
 
 -- by which each is told
 abbrev pub fault_number : DurationFault → ℕ

@@ -3,9 +3,9 @@ use Rattle.std.proofs.Common.{◌≡◌, ℕ, ◌*◌, ◌/◌, ◌%◌, ◌^◌
 use Rattle.std.specs.Fmt.{decimal}
 use Rattle.std.proofs.lemmas.Bool.{eqb-true}
 use Rattle.std.proofs.lemmas.Fmt.{decimal_is_IsNumeral}
-use Rattle.tag.specs.Duration.{IsUnit, Spells}
+use Rattle.durations.specs.Duration.{IsUnit, Spells}
 use Rattle.tag.specs.Printed.{printed_time}
-use Rattle.tag.proofs.Numerals.{numerals}
+use Rattle.durations.proofs.Numerals.{numerals}
 
 -- so many of a unit, one space before its name
 many_spelled : (count unit : ℕ) (name : List ℕ) → count < 2 ^ 64 → IsUnit name unit → Spells (decimal count ++ (codes " " ++ name)) (count * unit)

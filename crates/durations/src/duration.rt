@@ -3,12 +3,12 @@ ghost use Rattle.std.specs.Char.{is_ascii_digit};
 ghost use Rattle.std.specs.List.{prefix_len};
 ghost use Rattle.std.specs.Str.{all_ascii_digits};
 ghost use Rattle.std.specs.Str.Parse.{digits_value};
-ghost use Rattle.tag.specs.Duration.{IsUnit, HasParts, Spells};
-ghost use Rattle.tag.specs.declared.duration.DurationFault.TheVariants.{BadDuration, TooLong};
+ghost use Rattle.durations.specs.Duration.{IsUnit, HasParts, Spells};
+ghost use Rattle.durations.specs.declared.duration.DurationFault.TheVariants.{BadDuration, TooLong};
 
 use crate::decimal::digits_value;
-use crate::time::Time;
 use std::fmt;
+use tag::Time;
 
 /// Why a text is no duration.
 #[derive(Clone, Copy, Debug, PartialEq, Eq)]
@@ -20,7 +20,7 @@ pub enum DurationFault {
 }
 
 impl DurationFault {
-    ghost use Rattle.tag.specs.DurationFault.{fault_number, fault_name};
+    ghost use Rattle.durations.specs.DurationFault.{fault_number, fault_name};
 
     pub fn number(self) -> u16
         ensures { result ≡ fault_number self }
@@ -43,7 +43,7 @@ impl DurationFault {
 
 impl fmt::Display for DurationFault {
     ghost use Rattle.std.specs.Prelude.{Some};
-    ghost use Rattle.tag.specs.DurationFault.{fault_text};
+    ghost use Rattle.durations.specs.DurationFault.{fault_text};
 
     ghost output = { λ fault. Some (fault_text fault) };
 

@@ -1,8 +1,8 @@
 //! The definitions on small federations: what comes out is what should.
 ghost use Rattle.std.specs.Prelude.{◌≡◌, [], None, Some};
 ghost use Rattle.network.specs.Undivided.{whole};
-ghost use Rattle.reactor.specs.Federation.{network_of};
-ghost use Rattle.reactor.specs.Examples.{counter, counter_programs, counter_rows, late_counter_rows, meeting, meeting_programs, meeting_rows, loop, loop_programs, loop_rows, chain, chain_programs, chain_inputs, chain_rows};
+ghost use Rattle.federation.specs.Network.{network_of};
+ghost use Rattle.federation.specs.Examples.{counter, counter_programs, counter_rows, late_counter_rows, meeting, meeting_programs, meeting_rows, loop, loop_programs, loop_rows, chain, chain_programs, chain_inputs, chain_rows};
 
 /// A counter and the sum of its counts, at one tag each time.
 pub fn counter_counts()

@@ -26,11 +26,11 @@ use Rattle.plan.proofs.Legality.{rank_rises}
 use Rattle.paths.proofs.Paths.{before_by-lt, before_by-injective}
 use Rattle.program.specs.Behaviour.{Behaviour, IsWellFormed}
 use Rattle.programs.specs.Programs.{AreProgramsOf}
-use Rattle.reactor.specs.Federation.{slots_of, ports_of, effect_by, network_of}
-use Rattle.reactor.proofs.Wiring.{IsWired, all_wired, same_federate}
-use Rattle.reactor.proofs.Outside.{IsOutside, IsOwnSlot, IsInputSlot, own_events_outside, inputs_outside}
-use Rattle.reactor.proofs.Apart.{external_apart}
-use Rattle.reactor.proofs.Scheduled.{IsAction, schedules_actions}
+use Rattle.federation.specs.Network.{slots_of, ports_of, effect_by, network_of}
+use Rattle.federation.proofs.Wiring.{IsWired, all_wired, same_federate}
+use Rattle.federation.proofs.Outside.{IsOutside, IsOwnSlot, IsInputSlot, own_events_outside, inputs_outside}
+use Rattle.federation.proofs.Apart.{external_apart}
+use Rattle.federation.proofs.Scheduled.{IsAction, schedules_actions}
 
 -- ---- slots are there
 

@@ -8,7 +8,7 @@ ghost use Rattle.plan.specs.External.{AreInputsOf};
 ghost use Rattle.plan.specs.Least.{least_of};
 ghost use Rattle.plan.specs.Legal.{IsLegal};
 ghost use Rattle.program.specs.Behaviour.{Behaviour};
-ghost use Rattle.reactor.specs.Federation.{network_of};
+ghost use Rattle.federation.specs.Network.{network_of};
 ghost use Rattle.programs.specs.Programs.{AreProgramsOf};
 
 /// The network of a legal federation with a program for each federate and recorded inputs is lawful, and the plan's least

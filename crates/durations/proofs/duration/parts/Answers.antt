@@ -1,8 +1,8 @@
 use Rattle.std.proofs.Common.{◌≡◌, List, ℕ, length, ap, sym, ◌∙◌, subst, arith}
 use Rattle.std.proofs.lemmas.Bool.Decides.{nat_tests}
-use Rattle.tag.specs.Duration.{IsUnit, HasParts}
-use Rattle.tag.proofs.Parts.{digits_in, after_digits, after_spaces, parts_found, parts_digits, parts_unit}
-use Rattle.tag.proofs.duration.parts.Goals as goal
+use Rattle.durations.specs.Duration.{IsUnit, HasParts}
+use Rattle.durations.proofs.Parts.{digits_in, after_digits, after_spaces, parts_found, parts_digits, parts_unit}
+use Rattle.durations.proofs.duration.parts.Goals as goal
 
 pub returns-then-is_empty : goal.returns-then-is_empty
 returns-then-is_empty c = λ digits unit p.

@@ -1,5 +1,0 @@
-use Rattle.tag.proofs.Spellings.{one_value}
-use Rattle.tag.proofs.laws.texts_spell_one_duration.Goals as goal
-
-pub returns : goal.returns
-returns c = one_value
