@@ -16,6 +16,7 @@
 pub mod doubt;
 pub mod fault;
 pub mod printing;
+mod reporting;
 mod reports;
 mod watching;
 

@@ -1,4 +1,4 @@
-ghost use Rattle.std.specs.Prelude.{◌≡◌, ◌≢◌, [], List, OnOk, IfOk, IfErr};
+ghost use Rattle.std.specs.Prelude.{◌≡◌, ◌≢◌, List, OnOk, IfErr};
 ghost use Rattle.std.specs.Io.KnownBytes.{Appends};
 ghost use Rattle.plan.specs.declared.input.Input.{Input};
 ghost use Rattle.plan.specs.External.{AreInputsOf};
@@ -10,8 +10,9 @@ ghost use Rattle.audited.specs.Printed.{PrintsAudited, IsAuditedFault, IsFaultOf
 
 use crate::doubt::Doubt;
 use crate::fault::AuditedFault;
+use crate::reporting::Reporting;
 use crate::reports::{Said, said_by};
-use crate::watching::{gone_on, watch};
+use crate::watching::watch;
 use coordinator::Coordinator;
 use desks::{coordinator_desk, federate_desks};
 use federate::Federate;
@@ -50,10 +51,13 @@ pub fn print_audited_run<
     ensures told { IfErr result (IsAuditedFault plan.now programs.now inputs.now) }
     ensures untouched { IfErr result (λ fault. fault ≢ AuditedFault.CannotWrite → O.contents out.new ≡ O.contents out.old) }
 {
-    let nodes = nodes_of(alloc, plan, programs, inputs)?;
-    let opened = begun(alloc, plan, programs, inputs)?;
-    let (watched, left) = run_watched(rt, alloc, &nodes, opened, turns);
-    let (audit, said) = take_apart(rt, alloc, plan, nodes, left, watched);
+    let Ok(audit) = BegunAudit::new(alloc, plan, programs, inputs) else {
+        return Err(AuditedFault::Memory);
+    };
+    let Ok(nodes) = nodes_of(alloc, plan, programs, inputs) else {
+        return Err(AuditedFault::Memory);
+    };
+    let (audit, said) = run_and_ask(rt, alloc, plan, nodes, audit, turns);
     let said = said?;
     print_audited(
         alloc,
@@ -63,6 +67,27 @@ pub fn print_audited_run<
         &said.coordinator,
         out,
     )
+}
+
+// Runs the nodes, and asks them what they say, with the audit beside both.
+fn run_and_ask<
+    'a,
+    R: Threads + Wait + Clock + Net<Stream = TcpStream, Listener = TcpListener> + Sync,
+    H: Node + Send,
+    M: Reporting + Send,
+>(
+    rt: &R,
+    alloc: Global,
+    plan: &'a Plan,
+    nodes: Nodes<H, M>,
+    audit: BegunAudit<'a>,
+    turns: u32,
+) -> (BegunAudit<'a>, Result<Said<'a>, AuditedFault>)
+    ensures audit { result.0 ≡ audit.entry }
+    ensures told { IfErr result.1 (IsFaultOfPlan plan.now) }
+{
+    let (audit, left) = run_watched(rt, alloc, &nodes, audit, turns);
+    take_apart(rt, alloc, plan, nodes, left, audit)
 }
 
 // Runs the nodes, and makes steps of the audit beside the run; where there is no thread for that, after it.
@@ -90,13 +115,13 @@ fn run_watched<
 }
 
 // Takes the desks apart, and makes what is left of the audit's steps beside that.
-fn take_apart<'a, R: Threads + Sync>(
+fn take_apart<'a, R: Threads + Sync, H: Node + Send, M: Reporting + Send>(
     rt: &R,
     alloc: Global,
     plan: &'a Plan,
-    nodes: Nodes<Coordinator<'a>, Federate<'a>>,
+    nodes: Nodes<H, M>,
     left: Result<Vec<Option<Left>>, RunFault>,
-    audit: BegunAudit<'a>,
+    mut audit: BegunAudit<'a>,
 ) -> (BegunAudit<'a>, Result<Said<'a>, AuditedFault>)
     ensures audit { result.0 ≡ audit.entry }
     ensures told { IfErr result.1 (IsFaultOfPlan plan.now) }
@@ -105,7 +130,10 @@ fn take_apart<'a, R: Threads + Sync>(
         rt,
         ||
             ensures { result ≡ audit.entry }
-        { gone_on(alloc, audit) },
+        {
+            audit.go_on(alloc);
+            audit
+        },
         ||
             ensures { IfErr result (IsFaultOfPlan plan.entry.now) }
         { said_by(alloc, plan, nodes, left) },
@@ -118,39 +146,17 @@ fn nodes_of<'a>(
     plan: &'a Plan,
     programs: &'a Programs,
     inputs: &'a Inputs,
-) -> Result<Nodes<Coordinator<'a>, Federate<'a>>, AuditedFault>
+) -> Result<Nodes<Coordinator<'a>, Federate<'a>>, RunFault>
     requires programs { AreProgramsOf plan.now programs.now }
     requires inputs { AreInputsOf plan.now inputs.now }
-    ensures { IfErr result (IsAuditedFault plan.now programs.now inputs.now) }
 {
-    let Ok(hub) = coordinator_desk(alloc, plan) else {
-        return Err(AuditedFault::Memory);
-    };
     let Ok(members) = federate_desks(alloc, plan, programs, inputs) else {
-        return Err(AuditedFault::Memory);
+        return Err(RunFault::Memory);
     };
-    match Nodes::new(alloc, hub, members) {
-        Ok(nodes) => Ok(nodes),
-        Err(_) => Err(AuditedFault::Memory),
-    }
-}
-
-// An audit of a federation of whose run nothing is known.
-fn begun<'a>(
-    alloc: Global,
-    plan: &'a Plan,
-    programs: &'a Programs,
-    inputs: &'a Inputs,
-) -> Result<BegunAudit<'a>, AuditedFault>
-    requires programs { AreProgramsOf plan.now programs.now }
-    requires inputs { AreInputsOf plan.now inputs.now }
-    ensures begun { IfOk result (λ audit. audit ≡ record { draft = plan.now; programs = programs.now; inputs = inputs.now; steps = [] }) }
-    ensures told { IfErr result (IsAuditedFault plan.now programs.now inputs.now) }
-{
-    match BegunAudit::new(alloc, plan, programs, inputs) {
-        Ok(audit) => Ok(audit),
-        Err(_) => Err(AuditedFault::Memory),
-    }
+    let Ok(hub) = coordinator_desk(alloc, plan) else {
+        return Err(RunFault::Memory);
+    };
+    Nodes::new(alloc, hub, members)
 }
 
 // Ends the audit with these reports and the coordinator's journal, and prints their rows where they are proved and the coordinator

@@ -9,9 +9,8 @@ ghost use Rattle.audited.specs.Printed.{IsAuditedFault, IsFaultOfPlan, IsOfTheRu
 
 use crate::doubt::Doubt;
 use crate::fault::AuditedFault;
-use coordinator::Coordinator;
+use crate::reporting::Reporting;
 use desk::Desk;
-use federate::Federate;
 use node::{Event, Node};
 use plan::Plan;
 use recorder::{Collector, Report, ReportFault};
@@ -29,10 +28,10 @@ pub(crate) struct Said<'a> {
 
 /// What all nodes say, when all their workers have ended, from what these left. That a run isn't finished is told before anything
 /// of a report.
-pub(crate) fn said_by<'a>(
+pub(crate) fn said_by<'a, H: Node, M: Reporting>(
     alloc: Global,
     plan: &'a Plan,
-    nodes: Nodes<Coordinator<'_>, Federate<'_>>,
+    nodes: Nodes<H, M>,
     left: Result<Vec<Option<Left>>, RunFault>,
 ) -> Result<Said<'a>, AuditedFault>
     ensures { IfErr result (IsFaultOfPlan plan.now) }
@@ -81,10 +80,10 @@ fn finished<H: Node, M: Node>(
 }
 
 // What each federate reports.
-fn reports_of<'a>(
+fn reports_of<'a, M: Reporting>(
     alloc: Global,
     plan: &'a Plan,
-    desks: Vec<Desk<Federate<'_>>>,
+    desks: Vec<Desk<M>>,
 ) -> Result<Collector<'a>, AuditedFault>
     ensures { IfErr result (IsFaultOfPlan plan.now) }
 {
@@ -119,15 +118,11 @@ fn fault_of(fault: ReportFault) -> AuditedFault
 }
 
 // What a federate's desk says: the node's rows, and the journal.
-fn report(federate: usize, desk: Desk<Federate<'_>>) -> Report
+fn report<M: Reporting>(federate: usize, desk: Desk<M>) -> Report
     ensures federate { result.federate ≡ federate }
-    ensures rows { result.rows ≡ desk.entry.station.node.federate.rows }
-    ensures journal { result.journal.items ≡ desk.entry.journal }
+    ensures rows { M.tells desk.station.node result }
+    ensures journal { result.journal.items ≡ desk.journal }
 {
     let (station, journal) = desk.into_parts();
-    Report {
-        federate,
-        rows: station.into_node().into_rows(),
-        journal,
-    }
+    station.into_node().report(federate, journal)
 }

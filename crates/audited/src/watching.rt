@@ -32,22 +32,16 @@ pub(crate) fn watch<'a, R: Wait + Clock, H: Node, M: Node>(
         }
         let is_ending = nodes.ending.is_set();
         let is_new = look(rt, nodes, &mut audit, &mut events);
-        if is_new && !is_ending {
-            audit.go_on(alloc);
-        } else if is_ending && !is_new {
-            break;
+        if !is_ending {
+            if is_new {
+                audit.go_on(alloc);
+            } else {
+                thread::sleep(rt, Duration::from_millis(PAUSE));
+            }
         } else if !is_new {
-            thread::sleep(rt, Duration::from_millis(PAUSE));
+            break;
         }
     }
-    audit
-}
-
-// The audit, after the steps for all that was read.
-pub(crate) fn gone_on<'a>(alloc: Global, mut audit: BegunAudit<'a>) -> BegunAudit<'a>
-    ensures { result ≡ audit.entry }
-{
-    audit.go_on(alloc);
     audit
 }
 

@@ -48,15 +48,22 @@ impl<H: Node, M: Node> Nodes<H, M> {
     ) -> Result<Gathered<H, M>, RunFault> {
         let Nodes { hub, members, .. } = self;
         let hub = desk_of(alloc, NodeId::Coordinator, hub, &mut left)?;
-        let mut desks = Vec::with_capacity(alloc, members.len())?;
-        for (number, member) in members.into_iter().enumerate() {
-            desks.push(desk_of(alloc, NodeId::Federate(number), member, &mut left)?)?;
-        }
-        Ok(Gathered {
-            hub,
-            members: desks,
-        })
+        let members = desks_of(alloc, members, &mut left)?;
+        Ok(Gathered { hub, members })
     }
+}
+
+// The members' desks, from what their workers left, which is taken.
+fn desks_of<M: Node>(
+    alloc: Global,
+    members: Vec<Shared<M>>,
+    left: &mut [Option<Left>],
+) -> Result<Vec<Desk<M>>, RunFault> {
+    let mut desks = Vec::with_capacity(alloc, members.len())?;
+    for (number, member) in members.into_iter().enumerate() {
+        desks.push(desk_of(alloc, NodeId::Federate(number), member, left)?)?;
+    }
+    Ok(desks)
 }
 
 // A node's desk, from what its workers left, which is taken.

@@ -8,6 +8,7 @@ use crate::job::{Job, Left, start};
 use crate::nodes::Nodes;
 use crate::run_fault::RunFault;
 use crossbeam_channel::Receiver;
+use desk::Shared;
 use node::{Node, NodeId};
 use std::alloc::Global;
 use std::net::{Net, TcpListener, TcpStream};
@@ -28,25 +29,12 @@ pub struct Line<D: Drop, T: Drop, C: Drop> {
     pub arrivals: Receiver<Arrived<T, C>>,
 }
 
-// A member's node, and where the hub's ends of its connections come.
-#[derive(Drop)]
-struct Linked<'n, M: Node, T: Drop, C: Drop> {
-    crew: Crew<'n, M, T, C>,
-    arrivals: Receiver<Arrived<T, C>>,
-}
-
-// How connections are made: each member's way to the hub, and the hub's entrance.
-#[derive(Drop)]
-struct Ways<D: Drop, E: Drop> {
-    dials: Vec<D>,
-    entrance: E,
-}
-
 // What all jobs of a run are lent.
 #[derive(Drop)]
-struct Lent<'a, 'n, H: Node, M: Node, G: Gate, T: Drop, C: Drop> {
+struct Lent<'a, 'n, H: Node, M: Node, G: Gate, D: Drop, T: Drop, C: Drop> {
     hub: &'a Crew<'n, H, T, C>,
-    members: &'a [Linked<'n, M, T, C>],
+    members: &'a [Crew<'n, M, T, C>],
+    lines: &'a [Line<D, T, C>],
     gate: &'a G,
     ending: &'a Ending,
     turns: u32,
@@ -61,7 +49,7 @@ pub fn run<
     G: Gate + Sync,
     T: Transport + Send,
     C: Cut + Send + Sync,
-    D: Dial<T, C> + Drop + Send,
+    D: Dial<T, C> + Drop + Sync,
     E: Entrance + Send,
 >(
     rt: &R,
@@ -72,7 +60,7 @@ pub fn run<
     gate: &G,
     turns: u32,
 ) -> Result<Vec<Option<Left>>, RunFault> {
-    let left = run_lines(rt, alloc, nodes, lines, entrance, gate, turns);
+    let left = run_lines(rt, alloc, nodes, &lines, entrance, gate, turns);
     nodes.ending.set();
     left
 }
@@ -85,38 +73,30 @@ fn run_lines<
     G: Gate + Sync,
     T: Transport + Send,
     C: Cut + Send + Sync,
-    D: Dial<T, C> + Drop + Send,
+    D: Dial<T, C> + Drop + Sync,
     E: Entrance + Send,
 >(
     rt: &R,
     alloc: Global,
     nodes: &Nodes<H, M>,
-    lines: Vec<Line<D, T, C>>,
+    lines: &[Line<D, T, C>],
     entrance: E,
     gate: &G,
     turns: u32,
 ) -> Result<Vec<Option<Left>>, RunFault> {
     let hub = Crew::new(alloc, NodeId::Coordinator, &nodes.hub, lines.len(), false)?;
-    let (members, dials) = split(alloc, nodes, lines)?;
-    let ways = Ways { dials, entrance };
-    run_all(rt, alloc, &hub, &members, ways, gate, turns, &nodes.ending)
-}
-
-// The members, and how they connect to the hub.
-fn split<'n, H: Node, M: Node, T: Drop, C: Drop, D: Drop>(
-    alloc: Global,
-    nodes: &'n Nodes<H, M>,
-    lines: Vec<Line<D, T, C>>,
-) -> Result<(Vec<Linked<'n, M, T, C>>, Vec<D>), RunFault> {
-    let mut members = Vec::with_capacity(alloc, lines.len())?;
-    let mut dials = Vec::with_capacity(alloc, lines.len())?;
-    for (number, (line, shared)) in lines.into_iter().zip(&nodes.members).enumerate() {
-        let Line { dial, arrivals } = line;
-        dials.push(dial)?;
-        let crew = Crew::new(alloc, NodeId::Federate(number), shared, 1, true)?;
-        members.push(Linked { crew, arrivals })?;
-    }
-    Ok((members, dials))
+    let members = crews_of(alloc, &nodes.members, lines.len())?;
+    run_all(
+        rt,
+        alloc,
+        &hub,
+        &members,
+        lines,
+        entrance,
+        gate,
+        turns,
+        &nodes.ending,
+    )
 }
 
 // Runs all workers; what they left.
@@ -129,14 +109,15 @@ fn run_all<
     G: Gate + Sync,
     T: Transport + Send,
     C: Cut + Send + Sync,
-    D: Dial<T, C> + Drop + Send,
+    D: Dial<T, C> + Drop + Sync,
     E: Entrance + Send,
 >(
     rt: &R,
     alloc: Global,
     hub: &'a Crew<'n, H, T, C>,
-    members: &'a [Linked<'n, M, T, C>],
-    ways: Ways<D, E>,
+    members: &'a [Crew<'n, M, T, C>],
+    lines: &'a [Line<D, T, C>],
+    entrance: E,
     gate: &'a G,
     turns: u32,
     ending: &'a Ending,
@@ -147,34 +128,58 @@ fn run_all<
     let lent = Lent {
         hub,
         members,
+        lines,
         gate,
         ending,
         turns,
     };
-    let jobs = jobs_of(alloc, &lent, ways)?;
+    let jobs = jobs_of(alloc, &lent, entrance)?;
     start(rt, alloc, jobs, ending)
 }
 
-// The jobs of a run, in the order in which they are started.
-fn jobs_of<'a, 'n, H: Node, M: Node, G: Gate, T: Drop, C: Drop, D: Drop, E: Drop>(
+// What the workers of each of so many members are lent.
+fn crews_of<'n, M: Node, T: Drop, C: Drop>(
     alloc: Global,
-    lent: &Lent<'a, 'n, H, M, G, T, C>,
-    ways: Ways<D, E>,
+    members: &'n [Shared<M>],
+    most: usize,
+) -> Result<Vec<Crew<'n, M, T, C>>, RunFault> {
+    let mut crews = Vec::with_capacity(alloc, most)?;
+    for (number, shared) in members.iter().take(most).enumerate() {
+        crews.push(Crew::new(alloc, NodeId::Federate(number), shared, 1, true)?)?;
+    }
+    Ok(crews)
+}
+
+// The jobs of a run, in the order in which they are started.
+fn jobs_of<'a, 'n, H: Node, M: Node, G: Gate, D: Drop, T: Drop, C: Drop, E: Drop>(
+    alloc: Global,
+    lent: &Lent<'a, 'n, H, M, G, D, T, C>,
+    entrance: E,
 ) -> Result<Vec<Job<'a, H, M, G, T, C, D, E>>, RunFault> {
     let mut jobs = Vec::new(alloc);
-    let Ways { dials, entrance } = ways;
     jobs.push(Job::LetIn(entrance, lent.ending))?;
-    add_writers(&mut jobs, &lent.hub.writers, lent.ending)?;
-    for member in lent.members {
-        add_writers(&mut jobs, &member.crew.writers, lent.ending)?;
-        add_runner(&mut jobs, lent, &member.crew)?;
-    }
-    add_readers(&mut jobs, lent, dials)?;
+    add_workers(&mut jobs, lent)?;
     Ok(jobs)
 }
 
+// Adds the hub's writers, then each member's writers and runner, then for each member the hub's reader and its own.
+fn add_workers<'a, 'n, H: Node, M: Node, G: Gate, D: Drop, T: Drop, C: Drop, E: Drop>(
+    jobs: &mut Vec<Job<'a, H, M, G, T, C, D, E>>,
+    lent: &Lent<'a, 'n, H, M, G, D, T, C>,
+) -> Result<(), RunFault> {
+    add_writers(jobs, &lent.hub.writers, lent.ending)?;
+    for member in lent.members {
+        add_writers(jobs, &member.writers, lent.ending)?;
+        add_runner(jobs, lent, member)?;
+    }
+    for (number, (member, line)) in lent.members.iter().zip(lent.lines).enumerate() {
+        add_readers(jobs, lent, number, member, line)?;
+    }
+    Ok(())
+}
+
 // Adds a node's writers.
-fn add_writers<'a, H: Node, M: Node, G: Gate, T: Drop, C: Drop, D: Drop, E: Drop>(
+fn add_writers<'a, H: Node, M: Node, G: Gate, D: Drop, T: Drop, C: Drop, E: Drop>(
     jobs: &mut Vec<Job<'a, H, M, G, T, C, D, E>>,
     writers: &'a [Outlet<T, C>],
     ending: &'a Ending,
@@ -186,29 +191,29 @@ fn add_writers<'a, H: Node, M: Node, G: Gate, T: Drop, C: Drop, D: Drop, E: Drop
 }
 
 // Adds a member's runner.
-fn add_runner<'a, 'n, H: Node, M: Node, G: Gate, T: Drop, C: Drop, D: Drop, E: Drop>(
+fn add_runner<'a, 'n, H: Node, M: Node, G: Gate, D: Drop, T: Drop, C: Drop, E: Drop>(
     jobs: &mut Vec<Job<'a, H, M, G, T, C, D, E>>,
-    lent: &Lent<'a, 'n, H, M, G, T, C>,
-    crew: &'a Crew<'n, M, T, C>,
+    lent: &Lent<'a, 'n, H, M, G, D, T, C>,
+    member: &'a Crew<'n, M, T, C>,
 ) -> Result<(), RunFault> {
-    if let Some(hints) = &crew.runner {
-        jobs.push(Job::Run(crew.context(lent.gate, lent.ending), hints, lent.turns))?;
+    if let Some(hints) = &member.runner {
+        jobs.push(Job::Run(member.context(lent.gate, lent.ending), hints, lent.turns))?;
     }
     Ok(())
 }
 
-// Adds for each member the hub's reader, and after it the member's own.
-fn add_readers<'a, 'n, H: Node, M: Node, G: Gate, T: Drop, C: Drop, D: Drop, E: Drop>(
+// Adds the hub's reader of a member, and after it the member's own.
+fn add_readers<'a, 'n, H: Node, M: Node, G: Gate, D: Drop, T: Drop, C: Drop, E: Drop>(
     jobs: &mut Vec<Job<'a, H, M, G, T, C, D, E>>,
-    lent: &Lent<'a, 'n, H, M, G, T, C>,
-    dials: Vec<D>,
+    lent: &Lent<'a, 'n, H, M, G, D, T, C>,
+    number: usize,
+    member: &'a Crew<'n, M, T, C>,
+    line: &'a Line<D, T, C>,
 ) -> Result<(), RunFault> {
-    for (number, (member, dial)) in lent.members.iter().zip(dials).enumerate() {
-        let hub = lent.hub.context(lent.gate, lent.ending);
-        jobs.push(Job::Read(hub, number, &member.arrivals))?;
-        let own = member.crew.context(lent.gate, lent.ending);
-        jobs.push(Job::Connect(own, dial))?;
-    }
+    let hub = lent.hub.context(lent.gate, lent.ending);
+    jobs.push(Job::Read(hub, number, &line.arrivals))?;
+    let own = member.context(lent.gate, lent.ending);
+    jobs.push(Job::Connect(own, &line.dial))?;
     Ok(())
 }
 

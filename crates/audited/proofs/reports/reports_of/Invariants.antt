@@ -5,7 +5,7 @@ use Rattle.audited.proofs.reports.reports_of.Given as goal
 
 -- each report so far is of a federate of the plan
 abbrev pub invariant-loop-federate : goal.invariant-loop-federate
-invariant-loop-federate l = record {
+invariant-loop-federate g l = record {
   count : l.reports.count ≡ federate_count l.plan;
   known : AreKnown l.reports.count l.reports.reports;
 }
