@@ -93,7 +93,7 @@ pub(crate) fn ran_in_memory<
     R: Threads + Wait + Clock + Sync,
     G: Gate + Sync,
     T: Transport + Send,
-    W: Wrap<T> + Copy + Sync + Drop,
+    W: Wrap<T> + Copy + Send + Drop,
 >(
     rt: &R,
     alloc: Global,

@@ -23,7 +23,7 @@ pub(crate) enum Job<'a, H: Node, M: Node, G: Gate, T: Drop, C: Drop, D: Drop, E:
     /// Reads a member's connections, for the hub.
     Read(Context<'a, H, G, T, C>, usize, &'a Receiver<Arrived<T, C>>),
     /// Makes a member's connections, and reads them.
-    Connect(Context<'a, M, G, T, C>, &'a D),
+    Connect(Context<'a, M, G, T, C>, D),
 }
 
 /// What a thread is started for.
@@ -66,7 +66,7 @@ impl<'a, H: Node, M: Node, G: Gate, T: Transport, C: Cut, D: Dial<T, C> + Drop, 
                 })
             }
             Job::Connect(context, dial) => {
-                let share = read_dialed(rt, alloc, &context, dial);
+                let share = read_dialed(rt, alloc, &context, &dial);
                 Some(Left {
                     node: context.node,
                     share,

@@ -21,7 +21,8 @@ use transports::{
 };
 use workers::{Gate, Outlet};
 
-/// How a member connects to the hub. A run has a line for each member, in their order.
+/// How a member connects to the hub. A run has a line for each member, in their order. The thread that makes a member's
+/// connections owns `dial` and lets it go at its end: what that holds, as the other end of `arrivals`, ends with it.
 #[derive(Drop)]
 pub struct Line<D: Drop, T: Drop, C: Drop> {
     pub dial: D,
@@ -29,12 +30,25 @@ pub struct Line<D: Drop, T: Drop, C: Drop> {
     pub arrivals: Receiver<Arrived<T, C>>,
 }
 
+// A member's node, and where the hub's ends of its connections come.
+#[derive(Drop)]
+struct Linked<'n, M: Node, T: Drop, C: Drop> {
+    crew: Crew<'n, M, T, C>,
+    arrivals: Receiver<Arrived<T, C>>,
+}
+
+// How connections are made: each member's way to the hub, and the hub's entrance.
+#[derive(Drop)]
+struct Ways<D: Drop, E: Drop> {
+    dials: Vec<D>,
+    entrance: E,
+}
+
 // What all jobs of a run are lent.
 #[derive(Drop)]
-struct Lent<'a, 'n, H: Node, M: Node, G: Gate, D: Drop, T: Drop, C: Drop> {
+struct Lent<'a, 'n, H: Node, M: Node, G: Gate, T: Drop, C: Drop> {
     hub: &'a Crew<'n, H, T, C>,
-    members: &'a [Crew<'n, M, T, C>],
-    lines: &'a [Line<D, T, C>],
+    members: &'a [Linked<'n, M, T, C>],
     gate: &'a G,
     ending: &'a Ending,
     turns: u32,
@@ -49,7 +63,7 @@ pub fn run<
     G: Gate + Sync,
     T: Transport + Send,
     C: Cut + Send + Sync,
-    D: Dial<T, C> + Drop + Sync,
+    D: Dial<T, C> + Drop + Send,
     E: Entrance + Send,
 >(
     rt: &R,
@@ -60,7 +74,7 @@ pub fn run<
     gate: &G,
     turns: u32,
 ) -> Result<Vec<Option<Left>>, RunFault> {
-    let left = run_lines(rt, alloc, nodes, &lines, entrance, gate, turns);
+    let left = run_lines(rt, alloc, nodes, lines, entrance, gate, turns);
     nodes.ending.set();
     left
 }
@@ -73,30 +87,47 @@ fn run_lines<
     G: Gate + Sync,
     T: Transport + Send,
     C: Cut + Send + Sync,
-    D: Dial<T, C> + Drop + Sync,
+    D: Dial<T, C> + Drop + Send,
     E: Entrance + Send,
 >(
     rt: &R,
     alloc: Global,
     nodes: &Nodes<H, M>,
-    lines: &[Line<D, T, C>],
+    lines: Vec<Line<D, T, C>>,
     entrance: E,
     gate: &G,
     turns: u32,
 ) -> Result<Vec<Option<Left>>, RunFault> {
     let hub = Crew::new(alloc, NodeId::Coordinator, &nodes.hub, lines.len(), false)?;
-    let members = crews_of(alloc, &nodes.members, lines.len())?;
-    run_all(
-        rt,
-        alloc,
-        &hub,
-        &members,
-        lines,
-        entrance,
-        gate,
-        turns,
-        &nodes.ending,
-    )
+    let (members, dials) = split(alloc, nodes, lines)?;
+    let ways = Ways { dials, entrance };
+    run_all(rt, alloc, &hub, &members, ways, gate, turns, &nodes.ending)
+}
+
+// The members, and how they connect to the hub.
+fn split<'n, H: Node, M: Node, T: Drop, C: Drop, D: Drop>(
+    alloc: Global,
+    nodes: &'n Nodes<H, M>,
+    lines: Vec<Line<D, T, C>>,
+) -> Result<(Vec<Linked<'n, M, T, C>>, Vec<D>), RunFault> {
+    let mut members = Vec::with_capacity(alloc, lines.len())?;
+    let mut dials = Vec::with_capacity(alloc, lines.len())?;
+    for (number, (line, shared)) in lines.into_iter().zip(&nodes.members).enumerate() {
+        dials.push(line.dial)?;
+        members.push(link(alloc, number, shared, line.arrivals)?)?;
+    }
+    Ok((members, dials))
+}
+
+// The member of this number, and where the hub's ends of its connections come.
+fn link<'n, M: Node, T: Drop, C: Drop>(
+    alloc: Global,
+    number: usize,
+    shared: &'n Shared<M>,
+    arrivals: Receiver<Arrived<T, C>>,
+) -> Result<Linked<'n, M, T, C>, RunFault> {
+    let crew = Crew::new(alloc, NodeId::Federate(number), shared, 1, true)?;
+    Ok(Linked { crew, arrivals })
 }
 
 // Runs all workers; what they left.
@@ -109,15 +140,14 @@ fn run_all<
     G: Gate + Sync,
     T: Transport + Send,
     C: Cut + Send + Sync,
-    D: Dial<T, C> + Drop + Sync,
+    D: Dial<T, C> + Drop + Send,
     E: Entrance + Send,
 >(
     rt: &R,
     alloc: Global,
     hub: &'a Crew<'n, H, T, C>,
-    members: &'a [Crew<'n, M, T, C>],
-    lines: &'a [Line<D, T, C>],
-    entrance: E,
+    members: &'a [Linked<'n, M, T, C>],
+    ways: Ways<D, E>,
     gate: &'a G,
     turns: u32,
     ending: &'a Ending,
@@ -128,58 +158,43 @@ fn run_all<
     let lent = Lent {
         hub,
         members,
-        lines,
         gate,
         ending,
         turns,
     };
-    let jobs = jobs_of(alloc, &lent, entrance)?;
+    let jobs = jobs_of(alloc, &lent, ways)?;
     start(rt, alloc, jobs, ending)
 }
 
-// What the workers of each of so many members are lent.
-fn crews_of<'n, M: Node, T: Drop, C: Drop>(
-    alloc: Global,
-    members: &'n [Shared<M>],
-    most: usize,
-) -> Result<Vec<Crew<'n, M, T, C>>, RunFault> {
-    let mut crews = Vec::with_capacity(alloc, most)?;
-    for (number, shared) in members.iter().take(most).enumerate() {
-        crews.push(Crew::new(alloc, NodeId::Federate(number), shared, 1, true)?)?;
-    }
-    Ok(crews)
-}
-
 // The jobs of a run, in the order in which they are started.
-fn jobs_of<'a, 'n, H: Node, M: Node, G: Gate, D: Drop, T: Drop, C: Drop, E: Drop>(
+fn jobs_of<'a, 'n, H: Node, M: Node, G: Gate, T: Drop, C: Drop, D: Drop, E: Drop>(
     alloc: Global,
-    lent: &Lent<'a, 'n, H, M, G, D, T, C>,
-    entrance: E,
+    lent: &Lent<'a, 'n, H, M, G, T, C>,
+    ways: Ways<D, E>,
 ) -> Result<Vec<Job<'a, H, M, G, T, C, D, E>>, RunFault> {
     let mut jobs = Vec::new(alloc);
+    let Ways { dials, entrance } = ways;
     jobs.push(Job::LetIn(entrance, lent.ending))?;
     add_workers(&mut jobs, lent)?;
+    add_readers(&mut jobs, lent, dials)?;
     Ok(jobs)
 }
 
-// Adds the hub's writers, then each member's writers and runner, then for each member the hub's reader and its own.
-fn add_workers<'a, 'n, H: Node, M: Node, G: Gate, D: Drop, T: Drop, C: Drop, E: Drop>(
+// Adds the hub's writers, then each member's writers and runner.
+fn add_workers<'a, 'n, H: Node, M: Node, G: Gate, T: Drop, C: Drop, D: Drop, E: Drop>(
     jobs: &mut Vec<Job<'a, H, M, G, T, C, D, E>>,
-    lent: &Lent<'a, 'n, H, M, G, D, T, C>,
+    lent: &Lent<'a, 'n, H, M, G, T, C>,
 ) -> Result<(), RunFault> {
     add_writers(jobs, &lent.hub.writers, lent.ending)?;
     for member in lent.members {
-        add_writers(jobs, &member.writers, lent.ending)?;
-        add_runner(jobs, lent, member)?;
-    }
-    for (number, (member, line)) in lent.members.iter().zip(lent.lines).enumerate() {
-        add_readers(jobs, lent, number, member, line)?;
+        add_writers(jobs, &member.crew.writers, lent.ending)?;
+        add_runner(jobs, lent, &member.crew)?;
     }
     Ok(())
 }
 
 // Adds a node's writers.
-fn add_writers<'a, H: Node, M: Node, G: Gate, D: Drop, T: Drop, C: Drop, E: Drop>(
+fn add_writers<'a, H: Node, M: Node, G: Gate, T: Drop, C: Drop, D: Drop, E: Drop>(
     jobs: &mut Vec<Job<'a, H, M, G, T, C, D, E>>,
     writers: &'a [Outlet<T, C>],
     ending: &'a Ending,
@@ -191,29 +206,29 @@ fn add_writers<'a, H: Node, M: Node, G: Gate, D: Drop, T: Drop, C: Drop, E: Drop
 }
 
 // Adds a member's runner.
-fn add_runner<'a, 'n, H: Node, M: Node, G: Gate, D: Drop, T: Drop, C: Drop, E: Drop>(
+fn add_runner<'a, 'n, H: Node, M: Node, G: Gate, T: Drop, C: Drop, D: Drop, E: Drop>(
     jobs: &mut Vec<Job<'a, H, M, G, T, C, D, E>>,
-    lent: &Lent<'a, 'n, H, M, G, D, T, C>,
-    member: &'a Crew<'n, M, T, C>,
+    lent: &Lent<'a, 'n, H, M, G, T, C>,
+    crew: &'a Crew<'n, M, T, C>,
 ) -> Result<(), RunFault> {
-    if let Some(hints) = &member.runner {
-        jobs.push(Job::Run(member.context(lent.gate, lent.ending), hints, lent.turns))?;
+    if let Some(hints) = &crew.runner {
+        jobs.push(Job::Run(crew.context(lent.gate, lent.ending), hints, lent.turns))?;
     }
     Ok(())
 }
 
-// Adds the hub's reader of a member, and after it the member's own.
-fn add_readers<'a, 'n, H: Node, M: Node, G: Gate, D: Drop, T: Drop, C: Drop, E: Drop>(
+// Adds for each member the hub's reader, and after it the member's own.
+fn add_readers<'a, 'n, H: Node, M: Node, G: Gate, T: Drop, C: Drop, D: Drop, E: Drop>(
     jobs: &mut Vec<Job<'a, H, M, G, T, C, D, E>>,
-    lent: &Lent<'a, 'n, H, M, G, D, T, C>,
-    number: usize,
-    member: &'a Crew<'n, M, T, C>,
-    line: &'a Line<D, T, C>,
+    lent: &Lent<'a, 'n, H, M, G, T, C>,
+    dials: Vec<D>,
 ) -> Result<(), RunFault> {
-    let hub = lent.hub.context(lent.gate, lent.ending);
-    jobs.push(Job::Read(hub, number, &line.arrivals))?;
-    let own = member.context(lent.gate, lent.ending);
-    jobs.push(Job::Connect(own, &line.dial))?;
+    for (number, (member, dial)) in lent.members.iter().zip(dials).enumerate() {
+        let hub = lent.hub.context(lent.gate, lent.ending);
+        jobs.push(Job::Read(hub, number, &member.arrivals))?;
+        let own = member.crew.context(lent.gate, lent.ending);
+        jobs.push(Job::Connect(own, dial))?;
+    }
     Ok(())
 }
 
