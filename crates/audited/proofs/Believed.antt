@@ -6,7 +6,7 @@ use Rattle.plan.specs.declared.input.Input.{Input}
 use Rattle.program.specs.Behaviour.{Behaviour}
 use Rattle.node.specs.declared.event.Event.{Event}
 use Rattle.recorder.specs.declared.audited_run.AuditedRun.{AuditedRun}
-use Rattle.recorder.specs.declared.report.Report.{Report}
+use Rattle.reports.specs.declared.report.Report.{Report}
 use Rattle.recorder.specs.Audited.{HasEnded}
 use Rattle.audited.specs.Printed.{claim, printed_reports, PrintsAudited}
 

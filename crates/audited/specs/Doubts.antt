@@ -5,9 +5,9 @@ use Rattle.plan.specs.declared.draft.Draft.{Draft}
 use Rattle.node.specs.declared.node_id.NodeId.{NodeId}
 use Rattle.node.specs.declared.node_id.NodeId.TheVariants.{Coordinator, Federate}
 use Rattle.printed.specs.PlanText.{federate_name}
-use Rattle.recorder.specs.declared.unproved.Unproved.{Unproved}
-use Rattle.recorder.specs.declared.unproved.Unproved.TheVariants as unproved
-use Rattle.recorder.specs.Numbers as numbers
+use Rattle.reports.specs.declared.unproved.Unproved.{Unproved}
+use Rattle.reports.specs.declared.unproved.Unproved.TheVariants as unproved
+use Rattle.reports.specs.Numbers as numbers
 use Rattle.audited.specs.declared.doubt.Doubt.{Doubt}
 use Rattle.audited.specs.declared.doubt.Doubt.TheVariants.{Stranger, Double, Missing, Stuck, Mismatch, Memory}
 

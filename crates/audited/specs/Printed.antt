@@ -13,11 +13,11 @@ use Rattle.node.specs.declared.event.Event.{Event}
 use Rattle.schedule.specs.declared.step.Step.{Step}
 use Rattle.printed.specs.RowText.{printed_rows}
 use Rattle.printed.specs.PlanText.{printed_each}
-use Rattle.recorder.specs.declared.report.Report.{Report}
-use Rattle.recorder.specs.declared.report_fault.ReportFault.{ReportFault}
-use Rattle.recorder.specs.declared.report_fault.ReportFault.TheVariants as report_fault
-use Rattle.recorder.specs.declared.unproved.Unproved.{Unproved}
-use Rattle.recorder.specs.Reports.{reported_rows}
+use Rattle.reports.specs.declared.report.Report.{Report}
+use Rattle.reports.specs.declared.report_fault.ReportFault.{ReportFault}
+use Rattle.reports.specs.declared.report_fault.ReportFault.TheVariants as report_fault
+use Rattle.reports.specs.declared.unproved.Unproved.{Unproved}
+use Rattle.reports.specs.Reports.{reported_rows}
 use Rattle.recorder.specs.Audited.{Claim, IsProvedBy, IsFinishedBy, IsUnproved}
 use Rattle.audited.specs.declared.doubt.Doubt.{Doubt}
 use Rattle.audited.specs.declared.doubt.Doubt.TheVariants as doubt

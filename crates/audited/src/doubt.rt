@@ -4,12 +4,12 @@ ghost use Rattle.audited.specs.Doubts.{node_name, doubt_of, number_of, IsDoubtOf
 
 use node::NodeId;
 use plan::{Plan, Text};
-use recorder::Unproved;
+use reports::Unproved;
 use std::alloc::{AllocError, Global};
 use std::fmt;
 
 /// Why an audit doesn't believe what a run's nodes reported, with the plan's names in place of numbers: see
-/// `recorder::Unproved`. Nothing is printed.
+/// `reports::Unproved`. Nothing is printed.
 #[derive(Debug, Drop)]
 pub enum Doubt {
     /// A report is of a federate that isn't there.

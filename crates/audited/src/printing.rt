@@ -1,167 +1,22 @@
-ghost use Rattle.std.specs.Prelude.{◌≡◌, ◌≢◌, List, OnOk, IfErr};
+ghost use Rattle.std.specs.Prelude.{◌≡◌, ◌≢◌, OnOk, IfErr};
 ghost use Rattle.std.specs.Io.KnownBytes.{Appends};
-ghost use Rattle.plan.specs.declared.input.Input.{Input};
-ghost use Rattle.plan.specs.External.{AreInputsOf};
-ghost use Rattle.program.specs.Behaviour.{Behaviour};
-ghost use Rattle.programs.specs.Programs.{AreProgramsOf};
 ghost use Rattle.printed.specs.RowText.{printed_rows};
-ghost use Rattle.recorder.specs.Reports.{reported_rows};
-ghost use Rattle.audited.specs.Printed.{PrintsAudited, IsAuditedFault, IsFaultOfPlan, printed_reports};
+ghost use Rattle.reports.specs.Reports.{reported_rows};
+ghost use Rattle.audited.specs.Printed.{PrintsAudited, IsAuditedFault, printed_reports};
 
 use crate::doubt::Doubt;
 use crate::fault::AuditedFault;
-use crate::reporting::Reporting;
-use crate::reports::{Said, said_by};
-use crate::watching::watch;
-use coordinator::Coordinator;
-use desks::{coordinator_desk, federate_desks};
-use federate::Federate;
-use node::{Event, Node};
-use plan::{Inputs, Plan};
+use node::Event;
+use plan::Plan;
 use printed::{CannotWrite, write_rows};
-use programs::Programs;
-use recorder::{BegunAudit, Report, report_of};
+use recorder::BegunAudit;
+use reports::{Report, report_of};
 use std::alloc::Global;
 use std::io::Write;
-use std::net::{Net, TcpListener, TcpStream};
-use std::sync::Wait;
-use std::thread;
-use std::thread::Threads;
-use std::time::Clock;
-use wires::{Left, Nodes, Open, RunFault, run_over_tcp};
 
-/// Runs the federation in threads over TCP on loopback until the coordinator is finished or a runner has made so many turns,
-/// audits what its nodes wrote down, and prints each federate's rows, federate by federate. The caller flushes. That a run isn't
-/// finished is told before any doubt of the audit.
-pub fn print_audited_run<
-    R: Threads + Wait + Clock + Net<Stream = TcpStream, Listener = TcpListener> + Sync,
-    O: Write,
->(
-    rt: &R,
-    alloc: Global,
-    plan: &Plan,
-    programs: &Programs,
-    inputs: &Inputs,
-    turns: u32,
-    out: &mut O,
-) -> Result<(), AuditedFault>
-    requires programs { AreProgramsOf plan.now programs.now }
-    requires inputs { AreInputsOf plan.now inputs.now }
-    ensures ok { OnOk result (PrintsAudited plan.now programs.now inputs.now (O.contents out.old) (O.contents out.new)) }
-    ensures told { IfErr result (IsAuditedFault plan.now programs.now inputs.now) }
-    ensures untouched { IfErr result (λ fault. fault ≢ AuditedFault.CannotWrite → O.contents out.new ≡ O.contents out.old) }
-{
-    let Ok(audit) = BegunAudit::new(alloc, plan, programs, inputs) else {
-        return Err(AuditedFault::Memory);
-    };
-    let Ok(nodes) = nodes_of(alloc, plan, programs, inputs) else {
-        return Err(AuditedFault::Memory);
-    };
-    let (audit, said) = run_and_ask(rt, alloc, plan, nodes, audit, turns);
-    let said = said?;
-    print_audited(
-        alloc,
-        plan,
-        audit,
-        said.reports.reports(),
-        &said.coordinator,
-        out,
-    )
-}
-
-// Runs the nodes, and asks them what they say, with the audit beside both.
-fn run_and_ask<
-    'a,
-    R: Threads + Wait + Clock + Net<Stream = TcpStream, Listener = TcpListener> + Sync,
-    H: Node + Send,
-    M: Reporting + Send,
->(
-    rt: &R,
-    alloc: Global,
-    plan: &'a Plan,
-    nodes: Nodes<H, M>,
-    audit: BegunAudit<'a>,
-    turns: u32,
-) -> (BegunAudit<'a>, Result<Said<'a>, AuditedFault>)
-    ensures audit { result.0 ≡ audit.entry }
-    ensures told { IfErr result.1 (IsFaultOfPlan plan.now) }
-{
-    let (audit, left) = run_watched(rt, alloc, &nodes, audit, turns);
-    take_apart(rt, alloc, plan, nodes, left, audit)
-}
-
-// Runs the nodes, and makes steps of the audit beside the run; where there is no thread for that, after it.
-fn run_watched<
-    'a,
-    R: Threads + Wait + Clock + Net<Stream = TcpStream, Listener = TcpListener> + Sync,
-    H: Node + Send,
-    M: Node + Send,
->(
-    rt: &R,
-    alloc: Global,
-    nodes: &Nodes<H, M>,
-    audit: BegunAudit<'a>,
-    turns: u32,
-) -> (BegunAudit<'a>, Result<Vec<Option<Left>>, RunFault>)
-    ensures { result.0 ≡ audit.entry }
-{
-    thread::join(
-        rt,
-        ||
-            ensures { result ≡ audit.entry }
-        { watch(rt, alloc, nodes, audit) },
-        || run_over_tcp(rt, alloc, nodes, &Open, turns),
-    )
-}
-
-// Takes the desks apart, and makes what is left of the audit's steps beside that.
-fn take_apart<'a, R: Threads + Sync, H: Node + Send, M: Reporting + Send>(
-    rt: &R,
-    alloc: Global,
-    plan: &'a Plan,
-    nodes: Nodes<H, M>,
-    left: Result<Vec<Option<Left>>, RunFault>,
-    mut audit: BegunAudit<'a>,
-) -> (BegunAudit<'a>, Result<Said<'a>, AuditedFault>)
-    ensures audit { result.0 ≡ audit.entry }
-    ensures told { IfErr result.1 (IsFaultOfPlan plan.now) }
-{
-    thread::join(
-        rt,
-        ||
-            ensures { result ≡ audit.entry }
-        {
-            audit.go_on(alloc);
-            audit
-        },
-        ||
-            ensures { IfErr result (IsFaultOfPlan plan.entry.now) }
-        { said_by(alloc, plan, nodes, left) },
-    )
-}
-
-// The desks of all nodes of a federation, before their workers begin.
-fn nodes_of<'a>(
-    alloc: Global,
-    plan: &'a Plan,
-    programs: &'a Programs,
-    inputs: &'a Inputs,
-) -> Result<Nodes<Coordinator<'a>, Federate<'a>>, RunFault>
-    requires programs { AreProgramsOf plan.now programs.now }
-    requires inputs { AreInputsOf plan.now inputs.now }
-{
-    let Ok(members) = federate_desks(alloc, plan, programs, inputs) else {
-        return Err(RunFault::Memory);
-    };
-    let Ok(hub) = coordinator_desk(alloc, plan) else {
-        return Err(RunFault::Memory);
-    };
-    Nodes::new(alloc, hub, members)
-}
-
-// Ends the audit with these reports and the coordinator's journal, and prints their rows where they are proved and the coordinator
-// is finished.
-fn print_audited<O: Write>(
+/// Ends the audit with these reports and the coordinator's journal, and prints their rows, federate by federate, where they are
+/// proved and the coordinator is finished. The caller flushes.
+pub fn print_audited<O: Write>(
     alloc: Global,
     plan: &Plan,
     audit: BegunAudit<'_>,

@@ -9,7 +9,8 @@ ghost use Rattle.commands.specs.Faults.{status_of};
 ghost use Rattle.commands.specs.Refused.{cannot_write, IsReplayFault, IsRunFault};
 
 use crate::fault::Fault;
-use audited::{AuditedFault, print_audited_run};
+use audited::AuditedFault;
+use federated::print_audited_run;
 use replay::{ReplayFault, replay};
 use script::Script;
 use sources::Sources;

@@ -12,3 +12,5 @@ pub mod Rising
 pub mod LeastTotals
 -- Least delays, as they are computed.
 pub mod LeastRounds
+-- Connections that end apart.
+pub mod Apart

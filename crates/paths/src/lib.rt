@@ -1,15 +1,18 @@
-//! Paths of connections between federates by number: cycles without any delay, ranks, and least delays.
+//! Connections between federates by number, and their paths: ports with two sources, cycles without any delay, ranks, and
+//! least delays.
 //!
-//! Promise to the layer above: a cycle is found exactly where there is one, over all paths of the connections; ranks and
-//! least delays are those of `specs`. Begin with `connection`, then `cycle`.
+//! Promise to the layer above: a second source of a port and a cycle are found exactly where there is one, the cycle over all
+//! paths of the connections; ranks and least delays are those of `specs`. Begin with `connection`, then `cycle`.
 #![tactic(auto)]
 
 pub mod connection;
 mod cycle;
 mod least;
 mod rank;
+mod sources;
 
 pub use connection::Connection;
 pub use cycle::lowest_cycle;
 pub use least::LeastDelays;
 pub use rank::ranks;
+pub use sources::second_source;

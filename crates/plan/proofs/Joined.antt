@@ -1,9 +1,9 @@
 -- What joins a declared connection and the connection by numbers.
-use Rattle.std.proofs.Common.{◌≡◌, ℕ, suc, zero, ◌+◌, ◌<◌, ◌≤◌, List, [], ◌∷◌, length, refl, ap, sym, ◌∙◌, arith, get_or, ◌++◌, drop, take, append_assoc, subst, min}
-use Rattle.std.specs.Prelude.{All, Any, IsSome, Option, None, Some, slice_get}
+use Rattle.std.proofs.Common.{◌≡◌, ℕ, suc, zero, ◌+◌, ◌<◌, ◌≤◌, List, [], ◌∷◌, length, refl, ap, sym, ◌∙◌, arith, get_or, ◌++◌, drop, take, append_assoc, subst}
+use Rattle.std.specs.Prelude.{All, IsSome, Option, None, Some, slice_get}
 use Rattle.std.specs.Option.{option_map, option_and_then}
 use Rattle.std.specs.List.{filter_map, cons_option}
-use Rattle.std.proofs.lemmas.List.{length-map, drop_more, get_or_default, get_or-take, length-take, take_all}
+use Rattle.std.proofs.lemmas.List.{length-map, drop_more, get_or_default, take_all}
 use Rattle.std.proofs.lemmas.List.Elements.{All-head, All-tail}
 use Rattle.std.proofs.lemmas.Option.{slice_get_within, slice_get-get_or}
 use Rattle.network.specs.Connection.{Connection}
@@ -15,8 +15,8 @@ use Rattle.plan.specs.declared.draft.Draft.{Draft}
 use Rattle.names.specs.Naming.{place_of}
 use Rattle.slots.specs.Numbering.{first_input}
 use Rattle.plan.specs.Federation.{Found, federate_names, federate_number, place_in, found_in, found_output, found_input, delay_after, connection_of, connections_of}
-use Rattle.network.specs.Lawful.{EndApart}
-use Rattle.plan.specs.Faults.{ArePortsThere, EndsTwice, HasTwoSources}
+use Rattle.plan.specs.Faults.{ArePortsThere, HasTwoSources}
+use Rattle.paths.specs.Sources.{EndsTwice}
 use Rattle.names.proofs.Places.{slice_get-place_of}
 use Rattle.names.proofs.Twice.{mapped_at}
 
@@ -278,25 +278,6 @@ two_sources d by_number place c p is there twice here named =
         at_later = mapped_at (λ (z : ConnectionDraft). z.to) d.connections place c later_below (sym here) ∙ ap (λ z. Some z) (sym named);
       };
     }
-
--- where no connection before a place ends where the one there does
-pub apart_from_before : (xs : List Connection) (place : ℕ) (x : Connection) → place < length xs → x ≡ get_or xs place x
-    → (Any (λ c. (c.target ≡ x.target) × (c.slot ≡ x.slot)) (take place xs) → ⊥)
-    → (j : ℕ) (d : Connection) → j < place → EndApart (get_or xs j d) (get_or xs place d)
-apart_from_before xs place x below here none j d j_below target slot =
-    let bound : length (take place xs) ≡ min place (length xs) = length-take place xs in
-    let j_there : j < length xs = omega arith in
-    let j_taken : j < length (take place xs) = omega arith in
-    let taken : get_or (take place xs) j (get_or xs j d) ≡ get_or xs j (get_or xs j d) = get_or-take place xs j (get_or xs j d) j_below in
-    let again : get_or xs j (get_or xs j d) ≡ get_or xs j d = get_or_default xs j (get_or xs j d) d j_there in
-    let at_place : get_or xs place d ≡ x = get_or_default xs place d x below ∙ sym here in
-    none (
-      j,
-      get_or xs j d,
-      j_taken,
-      taken ∙ again,
-      (target ∙ ap (λ (z : Connection). z.target) at_place, slot ∙ ap (λ (z : Connection). z.slot) at_place),
-    )
 
 -- all ports are there once all connections were gone through
 pub there_at_end : (d : Draft) (fs : List Federate) (i : ℕ) → fs ≡ d.federates → length d.connections ≤ i

@@ -1,5 +1,5 @@
 -- What each refusal says of a draft, its number, and how it is told.
-use Rattle.std.specs.Prelude.{◌≡◌, ℕ, ◌<◌, ◌≤◌, ◌⊎◌, List, [], ◌++◌, length, map, All, Any, IsSome, None, Some, slice_get, slice_index_or, codes}
+use Rattle.std.specs.Prelude.{◌≡◌, ℕ, ◌<◌, ◌≤◌, ◌⊎◌, List, [], ◌++◌, length, map, All, Any, IsSome, None, Some, slice_get, codes}
 use Rattle.std.specs.List.{flat_map}
 use Rattle.std.specs.Fmt.{decimal}
 use Rattle.network.specs.Connection.{Connection}
@@ -39,14 +39,6 @@ pub record HasDistinctNames (d : Draft) : Type 0 where
 pub record ArePortsThere (d : Draft) : Type 0 where
   pub from_outputs : All (λ c. IsSome (found_output d.federates c.from)) d.connections
   pub to_inputs : All (λ c. IsSome (found_input d.federates c.to)) d.connections
-
--- the later connection goes to a port to which an earlier one goes
-pub record EndsTwice (connections : List Connection) (later : ℕ) : Type 0 where
-  pub first : ℕ
-  pub in_order : first < later
-  pub there : later < length connections
-  pub target : (d : Connection) → (slice_index_or connections first d).target ≡ (slice_index_or connections later d).target
-  pub slot : (d : Connection) → (slice_index_or connections first d).slot ≡ (slice_index_or connections later d).slot
 
 -- all limits hold
 pub record IsWithinAllLimits (d : Draft) : Type 0 where

@@ -1,32 +1,12 @@
-ghost use Rattle.std.specs.Prelude.{◌≡◌, ◌≤◌, ◌↔◌, length, AllPairs, Any, IsTrue, MatchOption, OnOk, IfErr};
+ghost use Rattle.std.specs.Prelude.{◌≡◌, ◌≤◌, length, AllPairs, OnOk, IfErr};
 ghost use Rattle.plan.specs.Federation.{connections_of};
 ghost use Rattle.plan.specs.declared.limits.TheConstants.{MOST_CONNECTIONS};
 ghost use Rattle.network.specs.Lawful.{EndApart};
-ghost use Rattle.plan.specs.Faults.{ArePortsThere, EndsTwice, StandsIn};
+ghost use Rattle.plan.specs.Faults.{ArePortsThere, StandsIn};
 
 use crate::draft::Draft;
 use crate::fault::PlanFault;
-use paths::Connection;
-
-fn ends_there(connections: &[Connection], last: Connection) -> bool
-    ensures { IsTrue result ↔ Any (λ c. (c.target ≡ last.target) × (c.slot ≡ last.slot)) connections.now }
-{
-    connections
-        .iter()
-        .any(|c| c.target() == last.target() && c.slot() == last.slot())
-}
-
-/// The place of a connection to a port to which one before it goes.
-fn second_source(connections: &[Connection]) -> Option<usize>
-    ensures { MatchOption result (AllPairs EndApart connections.now) (EndsTwice connections.now) }
-{
-    for (place, &connection) in connections.iter().enumerate() {
-        if ends_there(&connections[..place], connection) {
-            return Some(place);
-        }
-    }
-    None
-}
+use paths::{Connection, second_source};
 
 /// Refuses a draft, whose connections by number these are, in which a port has two sources.
 pub(crate) fn refuse_two_sources(draft: &Draft, connections: &[Connection]) -> Result<(), PlanFault>

@@ -12,8 +12,8 @@ use Rattle.search.specs.Journals.{IsFound}
 use Rattle.search.specs.declared.found.Found.{Found}
 use Rattle.search.specs.Reading.{Position, IsReading, GrewTo}
 use Rattle.world.specs.World.{WorldView}
-use Rattle.recorder.specs.declared.report.Report.{Report}
-use Rattle.recorder.specs.Reports.{all_journals, journal_of, report_of}
+use Rattle.reports.specs.declared.report.Report.{Report}
+use Rattle.reports.specs.Reports.{all_journals, journal_of, report_of}
 use Rattle.recorder.specs.Begun.{IsAhead, IsBegun}
 use Rattle.recorder.specs.Known.{events_of}
 use Rattle.recorder.specs.Placing.{world_motion}

@@ -12,8 +12,8 @@ use Rattle.search.specs.Motion.{after_all}
 use Rattle.search.specs.declared.found.Found.{Found}
 use Rattle.search.specs.declared.found.Found.TheVariants.{All as Whole, Stuck}
 use Rattle.world.specs.World.{WorldView, stations_of}
-use Rattle.recorder.specs.declared.report.Report.{Report}
-use Rattle.recorder.specs.Reports.{AreComplete}
+use Rattle.reports.specs.declared.report.Report.{Report}
+use Rattle.reports.specs.Reports.{AreComplete}
 use Rattle.recorder.specs.Placing.{world_motion}
 use Rattle.recorder.specs.Audited.{Claim, world_of, claim_of, AgreesWith, HasReportedRows, HasSearched, IsFirstApart, IsMismatch, IsProvedBy, IsFinishedBy}
 use Rattle.recorder.proofs.Proved.{after_world, coordinator_there, proved}

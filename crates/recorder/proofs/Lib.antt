@@ -1,12 +1,10 @@
--- Two lists that are the same up to a place.
-mod Differences
 -- Lists of events that are beginnings of journals.
 mod Beginnings
 -- Which step an event at a node can be.
 mod Placing
 -- What a list of steps that agrees with the journals, and gives the reported rows, proves.
 mod Proved
--- Reports that are found, and the journals of one federate more.
+-- Reports that are found.
 mod Found
 -- What a search for the journals of a claim says of it.
 mod Judged

@@ -30,7 +30,7 @@ use Rattle.schedule.proofs.Rows.{rows_begin, all_kept, finished_rows}
 use Rattle.search.specs.Motion.{after_all}
 use Rattle.search.specs.Journals.{event_at, events_at}
 use Rattle.world.specs.World.{WorldView, stations_of, with_step, with_steps}
-use Rattle.recorder.specs.Reports.{AreComplete}
+use Rattle.reports.specs.Reports.{AreComplete}
 use Rattle.recorder.specs.Placing.{world_motion}
 use Rattle.recorder.specs.Audited.{Claim, world_of, AgreesWith, HasReportedRows, IsProvedBy}
 

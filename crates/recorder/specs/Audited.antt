@@ -17,12 +17,12 @@ use Rattle.search.specs.Journals.{Agrees, IsStuck, IsFound}
 use Rattle.search.specs.declared.found.Found.{Found}
 use Rattle.world.specs.World.{WorldView, stations_of}
 use Rattle.recorder.specs.declared.audited_run.AuditedRun.{AuditedRun}
-use Rattle.recorder.specs.declared.report.Report.{Report}
-use Rattle.recorder.specs.declared.unproved.Unproved.{Unproved}
-use Rattle.recorder.specs.declared.unproved.Unproved.TheVariants.{Stranger, Double, Missing, Stuck, Mismatch, Memory}
-use Rattle.recorder.specs.Reports.{reported_rows, all_journals, AreComplete, IsIncomplete}
+use Rattle.reports.specs.declared.report.Report.{Report}
+use Rattle.reports.specs.declared.unproved.Unproved.{Unproved}
+use Rattle.reports.specs.declared.unproved.Unproved.TheVariants.{Stranger, Double, Missing, Stuck, Mismatch, Memory}
+use Rattle.reports.specs.Reports.{reported_rows, all_journals, AreComplete, IsIncomplete}
 use Rattle.recorder.specs.Placing.{world_motion}
-use Rattle.recorder.specs.Difference.{DifferAt}
+use Rattle.reports.specs.Difference.{DifferAt}
 
 -- what is audited: a federation, its federates' reports, and the coordinator's journal
 pub record Claim : Type 0 where

@@ -5,12 +5,10 @@ ghost use Rattle.recorder.specs.Audited.{IsProvedBy, HasEnded, IsUnproved};
 
 use crate::audited_run::AuditedRun;
 use crate::begun::BegunAudit;
-use crate::complete::refuse_incomplete;
-use crate::report::Report;
-use crate::unproved::Unproved;
 use node::Event;
 use plan::{Inputs, Plan};
 use programs::Programs;
+use reports::{Report, Unproved, refuse_incomplete};
 use schedule::Step;
 use std::alloc::Global;
 

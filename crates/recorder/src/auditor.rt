@@ -7,14 +7,14 @@ ghost use Rattle.schedule.specs.World.{frames_in, frame_at};
 ghost use Rattle.search.specs.Motion.{IsEvent, IsNoStep};
 ghost use Rattle.world.specs.World.{stations_of, with_step};
 ghost use Rattle.recorder.specs.Begun.{opening_of};
-ghost use Rattle.recorder.specs.declared.unproved.Unproved.TheVariants as Faults;
+ghost use Rattle.reports.specs.declared.unproved.Unproved.TheVariants as Faults;
 ghost use Rattle.recorder.specs.Placing.{world_motion, direction_to, step_alone};
 
 use crate::cursors::Cursors;
-use crate::unproved::Unproved;
 use node::{Event, NodeId};
 use plan::{Inputs, Plan};
 use programs::Programs;
+use reports::Unproved;
 use schedule::{Dir, Step};
 use search::{Machine, Memory};
 use signal::Frame;
@@ -67,8 +67,10 @@ impl<'a> Auditor<'a> {
         ensures memory { IfErr result (λ fault. fault ≡ Faults.Memory) }
     {
         let cursors = Cursors::new(alloc, plan.federate_count())?;
-        let world = World::new(alloc, plan, programs, inputs)?;
-        Ok(Auditor { world, cursors })
+        match World::new(alloc, plan, programs, inputs) {
+            Ok(world) => Ok(Auditor { world, cursors }),
+            Err(_) => Err(Unproved::Memory),
+        }
     }
 
     /// That world, taken out.

@@ -8,16 +8,13 @@ ghost use Rattle.cores.specs.CoordinatorCore.{coordinator_core};
 ghost use Rattle.schedule.specs.Federation.{rows_in};
 ghost use Rattle.search.specs.declared.found.Found.TheVariants as Ends;
 ghost use Rattle.world.specs.World.{stations_of};
-ghost use Rattle.recorder.specs.Reports.{how_many, reported_rows, AreComplete};
-ghost use Rattle.recorder.specs.Difference.{DifferAt};
+ghost use Rattle.reports.specs.Reports.{how_many, reported_rows, AreComplete};
+ghost use Rattle.reports.specs.Difference.{DifferAt};
 ghost use Rattle.recorder.specs.Audited.{HasReportedRows, IsFirstApart, HasEnded, IsUnproved, HasSearched, claim_of};
 ghost use Rattle.node.specs.declared.event.Event.{Event};
 
 use crate::audited_run::AuditedRun;
-use crate::complete::report_of;
-use crate::difference::first_difference;
-use crate::report::Report;
-use crate::unproved::Unproved;
+use reports::{Report, Unproved, first_difference, report_of};
 use search::Found;
 use world::World;
 

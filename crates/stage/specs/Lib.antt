@@ -4,3 +4,5 @@ pub mod Numbers
 pub mod Room
 -- What every world keeps, and one of which nothing was asked.
 pub mod Made
+-- Links whose signals are all acknowledged.
+pub mod Acknowledged

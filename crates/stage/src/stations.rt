@@ -1,4 +1,4 @@
-ghost use Rattle.std.specs.Prelude.{◌≡◌, ℕ, take, ◌<◌, ◌≤◌, ◌++◌, ◌∷◌, [], true, false, length, set, slice_get, option_map, IfOk, IfSome, OnOk, OnErr, Some};
+ghost use Rattle.std.specs.Prelude.{◌≡◌, ◌↔◌, ℕ, take, ◌<◌, ◌≤◌, ◌++◌, ◌∷◌, [], true, false, length, set, slice_get, option_map, IsTrue, IfOk, IfSome, OnOk, OnErr, Some};
 ghost use Rattle.link.specs.Image.{room_left};
 ghost use Rattle.node.specs.Step.{Station as StationOf, said, step_of};
 ghost use Rattle.schedule.specs.World.{applied, after_steps, occurrence_of, frames_in, frame_at, at_node, happens, forgets, listed, unchanged};
@@ -6,6 +6,7 @@ ghost use Rattle.schedule.specs.Taken.{sender};
 ghost use Rattle.node.specs.declared.node_id.NodeId.TheVariants as NodeIds;
 ghost use Rattle.schedule.specs.declared.outcome.Outcome.TheVariants as Outcomes;
 ghost use Rattle.stage.specs.Made.{HaveOnePeer, unused};
+ghost use Rattle.stage.specs.Acknowledged.{KeepsNone, IsAcknowledged};
 
 use crate::blank::forgotten;
 use crate::directions::{
@@ -133,6 +134,13 @@ impl<H: Node, M: Blank> Stations<H, M> {
         Some(self.sender(dir)?.room_left())
     }
 
+    /// Whether neither side of a federate's link keeps a signal: all that they offered is acknowledged.
+    pub fn is_acknowledged(&self, federate: usize) -> bool
+        ensures { IsTrue result ↔ IsAcknowledged self.now federate }
+    {
+        self.keeps_none(Dir::Up(federate)) && self.keeps_none(Dir::Down(federate))
+    }
+
     /// Makes one step. It is listed also where it is refused or doesn't apply; without memory the world is as before, and
     /// the same step may come again.
     pub fn apply(&mut self, step: Step) -> Result<Outcome, Memory>
@@ -154,6 +162,13 @@ impl<H: Node, M: Blank> Stations<H, M> {
             self.apply(*step)?;
         }
         Ok(())
+    }
+
+    // Whether the sender of a direction keeps no signal.
+    fn keeps_none(&self, dir: Dir) -> bool
+        ensures { IsTrue result ↔ KeepsNone self.now dir }
+    {
+        matches!(self.unacked(dir), None | Some(0))
     }
 
     // The end that sends in a direction.

@@ -13,13 +13,13 @@ use Rattle.schedule.proofs.Shown.{nothing_beyond}
 use Rattle.schedule.proofs.Worlds.{stands, listed_so}
 use Rattle.world.specs.Made.{IsFederation}
 use Rattle.world.specs.World.{WorldView, stations_of}
-use Rattle.world.specs.Quiet.{SendsNoMore, IsQuiet}
+use Rattle.stage.specs.Acknowledged.{KeepsNone}
+use Rattle.world.specs.Quiet.{IsQuiet}
 use Rattle.world.proofs.Silence.{silent_where_none}
 
 quiet_where_none : (w : Federation) (j : ℕ) → slice_get w.coordinator.ends j ≡ None → slice_get w.federates j ≡ None → IsQuiet w j
 quiet_where_none w j no_end no_federate = record {
-  up = rw (no_federate) tt;
-  down = rw (no_end) tt;
+  acknowledged = record { up = rw (no_federate) tt; down = rw (no_end) tt };
   silent = silent_where_none w j no_federate;
 }
 
@@ -41,9 +41,9 @@ all_quiet w fit quiet j =
       | inr beyond ↦ quiet_beyond w j fit (let there = beyond in omega arith)
     ]
 
-keeps : (w : Federation) → ((j : ℕ) → IsQuiet w j) → (dir : Dir) → SendsNoMore w dir
-keeps w quiet (Up j) = (quiet j).up
-keeps w quiet (Down j) = (quiet j).down
+keeps : (w : Federation) → ((j : ℕ) → IsQuiet w j) → (dir : Dir) → KeepsNone w dir
+keeps w quiet (Up j) = (quiet j).acknowledged.up
+keeps w quiet (Down j) = (quiet j).acknowledged.down
 
 -- a world without forgetting is stuck where nothing is left to be done
 pub stuck_is : (w : WorldView) → IsFederation w → list_any is_forget w.steps ≡ false →
@@ -59,8 +59,7 @@ stuck_is w fit none =
         advanced = λ j. (quiet j).silent.advanced;
       }),
       (λ stuck j. record {
-        up = shows.0 stuck.settled (Up j);
-        down = shows.0 stuck.settled (Down j);
+        acknowledged = record { up = shows.0 stuck.settled (Up j); down = shows.0 stuck.settled (Down j) };
         silent = record { announced = stuck.announced j; advanced = stuck.advanced j };
       }),
     )

@@ -12,7 +12,7 @@ ghost use Rattle.schedule.specs.World.{frames_in, frame_at};
 ghost use Rattle.world.specs.World.{stations_of, with_step, with_steps};
 ghost use Rattle.world.specs.Made.{IsFederation};
 ghost use Rattle.world.specs.Faithful.{IsFaithful, ArePlain};
-ghost use Rattle.world.specs.Quiet.{IsQuiet, IsSilent, SendsNoMore};
+ghost use Rattle.world.specs.Quiet.{IsQuiet, IsSilent};
 
 use crate::opened::{new_hub, new_members};
 use coordinator::Coordinator;
@@ -220,16 +220,7 @@ impl<'a> World<'a> {
     fn is_quiet_at(&self, federate: usize) -> bool
         ensures { IsTrue result ↔ IsQuiet (stations_of self.now) federate }
     {
-        self.sends_no_more(Dir::Up(federate))
-            && self.sends_no_more(Dir::Down(federate))
-            && self.is_silent(federate)
-    }
-
-    // Whether the sender of a direction keeps no signal.
-    fn sends_no_more(&self, dir: Dir) -> bool
-        ensures { IsTrue result ↔ SendsNoMore (stations_of self.now) dir }
-    {
-        matches!(self.unacked(dir), None | Some(0))
+        self.stations.is_acknowledged(federate) && self.is_silent(federate)
     }
 
     // Whether a federate has nothing to announce and nothing to run.

@@ -3,7 +3,7 @@ use Rattle.std.specs.Io.KnownBytes.{Appends}
 use Rattle.std.proofs.KnownBytes.{Appends-trans}
 use Rattle.printed.specs.RowText.{printed_rows}
 use Rattle.printed.specs.PlanText.{printed_each}
-use Rattle.recorder.specs.Reports.{reported_rows}
+use Rattle.reports.specs.Reports.{reported_rows}
 use Rattle.audited.proofs.printing.print_reports.Goals as goal
 
 pub loop-federate-preserved : goal.loop-federate-preserved

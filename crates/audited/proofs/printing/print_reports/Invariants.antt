@@ -1,7 +1,7 @@
 use Rattle.std.specs.Io.KnownBytes.{Appends}
 use Rattle.printed.specs.RowText.{printed_rows}
 use Rattle.printed.specs.PlanText.{printed_each}
-use Rattle.recorder.specs.Reports.{reported_rows}
+use Rattle.reports.specs.Reports.{reported_rows}
 use Rattle.audited.proofs.printing.print_reports.Given as goal
 
 -- the rows of the federates so far are printed

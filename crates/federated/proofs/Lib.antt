@@ -1,0 +1,3 @@
+-- Lemmas.
+-- reports that aren't taken, and those that are
+mod Refused

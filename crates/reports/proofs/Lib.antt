@@ -1,0 +1,5 @@
+-- Lemmas.
+-- two lists that are the same up to a place
+mod Differences
+-- the journals of one federate more
+mod Pushed

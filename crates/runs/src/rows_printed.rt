@@ -1,0 +1,55 @@
+//! A run over TCP prints its rows, federate by federate; one with too few turns prints none.
+use crate::federations::loaded;
+use audited::AuditedFault;
+use federated::print_audited_run;
+use samples::COUNTER;
+use std::alloc::Global;
+use std::net::{Net, TcpListener, TcpStream};
+use std::sync::Wait;
+use std::test::Fail;
+use std::thread::Threads;
+use std::time::Clock;
+
+const ROWS: &str = "src (0, 0) [t] -> [y=1]
+src (10 ms, 0) [t] -> [y=2]
+src (20 ms, 0) [t] -> [y=3]
+snk (0, 0) [x=1] -> [total=1]
+snk (10 ms, 0) [x=2] -> [total=3]
+snk (20 ms, 0) [x=3] -> [total=6]
+";
+
+/// What is printed after at most so many turns, and whether it is told that the run isn't finished.
+fn printed<R: Threads + Wait + Clock + Net<Stream = TcpStream, Listener = TcpListener> + Sync>(
+    rt: &R,
+    alloc: Global,
+    turns: u32,
+) -> Option<(Vec<u8>, bool)> {
+    let federation = loaded(alloc, COUNTER, "")?;
+    let mut out = Vec::new(alloc);
+    let result = print_audited_run(
+        rt,
+        alloc,
+        &federation.plan,
+        &federation.programs,
+        &federation.inputs,
+        turns,
+        &mut out,
+    );
+    match result {
+        Ok(()) => Some((out, false)),
+        Err(AuditedFault::NotFinished) => Some((out, true)),
+        Err(_) => None,
+    }
+}
+
+#[test]
+fn all_or_none(rt: HostRuntime) -> Result<(), Fail> {
+    for (turns, text, is_unfinished) in [(100_000, ROWS, false), (0, "", true)] {
+        let result = printed(&rt, rt.alloc(), turns);
+        assert!(rt;
+            result.is_some_and(|(out, told)| out.as_slice() == text.as_bytes()
+                && told == is_unfinished)
+        );
+    }
+    Ok(())
+}
