@@ -1,5 +1,7 @@
 //! Reports of strangers, second ones, and missing ones.
-use crate::federations::loaded;
+use crate::federations::{Federation, loaded};
+use node::Event;
+use plan::Plan;
 use reactor::Rows;
 use recorder::{Collector, Report, ReportFault, Unproved, audit};
 use samples::COUNTER;
@@ -14,28 +16,51 @@ fn empty(alloc: Global, federate: usize) -> Report {
     }
 }
 
-/// What an audit of two federates tells of empty reports of these.
-fn told(alloc: Global, federates: &[usize]) -> Option<Unproved> {
-    let federation = loaded(alloc, COUNTER, "")?;
+/// Empty reports of these federates.
+fn all_empty(alloc: Global, federates: &[usize]) -> Option<Vec<Report>> {
     let mut reports = Vec::new(alloc);
     for federate in federates {
         reports.push(empty(alloc, *federate)).ok()?;
     }
+    Some(reports)
+}
+
+/// What an audit tells of these reports and the coordinator's journal.
+pub(crate) fn told_of(
+    alloc: Global,
+    federation: &Federation,
+    reports: &[Report],
+    coordinator: &[Event],
+) -> Option<Unproved> {
     audit(
         alloc,
         &federation.plan,
         &federation.programs,
         &federation.inputs,
-        &reports,
-        &[],
+        reports,
+        coordinator,
     )
     .err()
 }
 
-/// Whether a collector takes a report of each of two federates, and refuses others after them.
-fn collects(alloc: Global) -> Option<bool> {
+/// What an audit of two federates tells of empty reports of these.
+fn told(alloc: Global, federates: &[usize]) -> Option<Unproved> {
     let federation = loaded(alloc, COUNTER, "")?;
-    let mut collector = Collector::new(alloc, &federation.plan);
+    let reports = all_empty(alloc, federates)?;
+    told_of(alloc, &federation, &reports, &[])
+}
+
+/// Why a collector doesn't take an empty report of this federate.
+fn refusal(alloc: Global, collector: &mut Collector<'_>, federate: usize) -> Option<ReportFault> {
+    match collector.add(empty(alloc, federate)) {
+        Ok(()) => None,
+        Err(refused) => Some(refused.fault),
+    }
+}
+
+/// Whether a collector takes a report of each of two federates, and refuses others after them.
+fn collects(alloc: Global, plan: &Plan) -> bool {
+    let mut collector = Collector::new(alloc, plan);
     let mut is_right = true;
     for (federate, fault) in [
         (1, None),
@@ -44,13 +69,9 @@ fn collects(alloc: Global) -> Option<bool> {
         (0, None),
         (0, Some(ReportFault::Double)),
     ] {
-        let refused = collector
-            .add(empty(alloc, federate))
-            .err()
-            .map(|refused| refused.fault);
-        is_right = is_right && refused == fault;
+        is_right = is_right && refusal(alloc, &mut collector, federate) == fault;
     }
-    Some(is_right && collector.reports().len() == 2)
+    is_right && collector.reports().len() == 2
 }
 
 #[test]
@@ -70,7 +91,8 @@ fn in_this_order(rt: HostRuntime) -> Result<(), Fail> {
 
 #[test]
 fn one_of_each(rt: HostRuntime) -> Result<(), Fail> {
-    assert!(rt; collects(rt.alloc()) == Some(true));
+    let federation = loaded(rt.alloc(), COUNTER, "");
+    assert!(rt; federation.is_some_and(|federation| collects(rt.alloc(), &federation.plan)));
     assert!(rt; ReportFault::Stranger.number() == 80 && ReportFault::Double.number() == 81);
     Ok(())
 }

@@ -2,7 +2,6 @@
 ghost use Rattle.std.specs.Prelude.{IfSome};
 
 use coordinator::Coordinator;
-use desk::Desk;
 use desks::{coordinator_desk, federate_desks};
 use federate::Federate;
 use loadfed::{load, load_inputs};
@@ -13,6 +12,7 @@ use samples::{CHAIN, CHAIN_INPUT, COUNTER, DELAYED_COUNTER, LOOP, REPLACED, STAR
 use std::alloc::Global;
 use std::marker::Model;
 use whole::Whole;
+use wires::Nodes;
 
 /// The federations that are run, each with its input file.
 pub(crate) const ALL: &[(&str, &str)] = &[
@@ -44,9 +44,6 @@ impl Model for Federation {
     ghost invariant = { λ f. AreProgramsOf f.plan f.programs × AreInputsOf f.plan f.inputs };
 }
 
-/// The coordinator's desk, and the federates'.
-pub(crate) type Desks<'a> = (Desk<Coordinator<'a>>, Vec<Desk<Federate<'a>>>);
-
 /// The federation of a file and its input file; None where it can't be loaded.
 pub(crate) fn loaded(alloc: Global, federation: &str, inputs: &str) -> Option<Federation> {
     let (plan, programs) = load(alloc, federation.as_bytes()).ok()?;
@@ -58,16 +55,20 @@ pub(crate) fn loaded(alloc: Global, federation: &str, inputs: &str) -> Option<Fe
     })
 }
 
-/// The desks of a federation's nodes: the coordinator's, and the federates' by number.
-pub(crate) fn desks_of<'a>(alloc: Global, federation: &'a Federation) -> Option<Desks<'a>> {
-    let hub = coordinator_desk(alloc, &federation.plan).ok()?;
+/// The nodes of a federation, before their workers begin.
+pub(crate) fn nodes_of<'a>(
+    alloc: Global,
+    federation: &'a Federation,
+) -> Option<Nodes<Coordinator<'a>, Federate<'a>>> {
     let desks = federate_desks(
         alloc,
         &federation.plan,
         &federation.programs,
         &federation.inputs,
-    );
-    Some((hub, desks.ok()?))
+    )
+    .ok()?;
+    let hub = coordinator_desk(alloc, &federation.plan).ok()?;
+    Nodes::new(alloc, hub, desks).ok()
 }
 
 /// The rows of the undivided program; None where there is no memory for it.

@@ -1,5 +1,5 @@
 //! Federations in threads over connections in memory.
-use crate::federations::{Federation, desks_of};
+use crate::federations::{Federation, nodes_of};
 use coordinator::Coordinator;
 use crossbeam_channel::{Sender, unbounded};
 use federate::Federate;
@@ -9,7 +9,7 @@ use std::thread::Threads;
 use std::time::Clock;
 use wires::{
     Arrived, Connection, Cut, Dial, Ending, Entrance, Gate, Gathered, Line, MemoryCut,
-    MemoryTransport, Nodes, Transport, pair, run,
+    MemoryTransport, Transport, pair, run,
 };
 
 /// Makes one end of a member's connection something that the workers are given.
@@ -101,9 +101,8 @@ pub(crate) fn ran_in_memory<
     gate: &G,
     wrap: W,
 ) -> Option<Gathered<Coordinator<'a>, Federate<'a>>> {
-    let (hub, desks) = desks_of(alloc, federation)?;
-    let lines = lines(alloc, desks.len(), wrap)?;
-    let nodes = Nodes::new(alloc, hub, desks).ok()?;
+    let nodes = nodes_of(alloc, federation)?;
+    let lines = lines(alloc, nodes.members.len(), wrap)?;
     let left = run(rt, alloc, &nodes, lines, NoEntrance, gate, 100_000).ok()?;
     nodes.gather(alloc, left).ok()
 }

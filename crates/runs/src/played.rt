@@ -1,10 +1,5 @@
 //! What a replay prints.
-ghost use Rattle.plan.specs.External.{AreInputsOf};
-ghost use Rattle.programs.specs.Programs.{AreProgramsOf};
-
-use loadfed::{load, load_inputs};
-use plan::{Inputs, Plan};
-use programs::Programs;
+use crate::federations::{Federation, loaded};
 use replay::replay;
 use script::{Script, read_script};
 use std::alloc::Global;
@@ -29,27 +24,43 @@ impl<'a> Case<'a> {
 
     // What is printed; None where something isn't taken.
     fn played(&self, alloc: Global) -> Option<Vec<u8>> {
-        let (plan, programs) = load(alloc, self.federation.as_bytes()).ok()?;
-        let inputs = load_inputs(alloc, self.inputs.as_bytes(), &plan).ok()?;
-        let script = read_script(alloc, self.schedule.as_bytes(), &plan).ok()?;
-        printed(alloc, &plan, &programs, &inputs, &script, self.closing)
+        let federation = loaded(alloc, self.federation, self.inputs)?;
+        printed(alloc, &federation, self.schedule, self.closing)
     }
 }
 
+// What a schedule prints over a federation; None where it isn't taken.
 fn printed(
     alloc: Global,
-    plan: &Plan,
-    programs: &Programs,
-    inputs: &Inputs,
+    federation: &Federation,
+    schedule: &str,
+    closing: Option<u32>,
+) -> Option<Vec<u8>> {
+    let script = read_script(alloc, schedule.as_bytes(), &federation.plan).ok()?;
+    let mut out = Vec::new(alloc);
+    if is_replayed(alloc, federation, &script, closing, &mut out) {
+        Some(out)
+    } else {
+        None
+    }
+}
+
+// Whether a replay of commands ends, and what it prints.
+fn is_replayed(
+    alloc: Global,
+    federation: &Federation,
     script: &Script,
     closing: Option<u32>,
-) -> Option<Vec<u8>>
-    requires programs { AreProgramsOf plan.now programs.now }
-    requires inputs { AreInputsOf plan.now inputs.now }
-{
-    let mut out = Vec::new(alloc);
-    match replay(alloc, &mut out, plan, programs, inputs, script, closing) {
-        Ok(()) => Some(out),
-        Err(_) => None,
-    }
+    out: &mut Vec<u8>,
+) -> bool {
+    replay(
+        alloc,
+        out,
+        &federation.plan,
+        &federation.programs,
+        &federation.inputs,
+        script,
+        closing,
+    )
+    .is_ok()
 }

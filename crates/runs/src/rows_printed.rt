@@ -1,5 +1,5 @@
 //! A run over TCP prints its rows, federate by federate; one with too few turns prints none.
-use crate::federations::loaded;
+use crate::federations::{Federation, loaded};
 use audited::AuditedFault;
 use federated::print_audited_run;
 use samples::COUNTER;
@@ -18,6 +18,25 @@ snk (10 ms, 0) [x=2] -> [total=3]
 snk (20 ms, 0) [x=3] -> [total=6]
 ";
 
+/// Prints the rows of a run of at most so many turns; whether it is told that the run isn't finished.
+fn is_unfinished<
+    R: Threads + Wait + Clock + Net<Stream = TcpStream, Listener = TcpListener> + Sync,
+>(rt: &R, alloc: Global, federation: &Federation, turns: u32, out: &mut Vec<u8>) -> Option<bool> {
+    match print_audited_run(
+        rt,
+        alloc,
+        &federation.plan,
+        &federation.programs,
+        &federation.inputs,
+        turns,
+        out,
+    ) {
+        Ok(()) => Some(false),
+        Err(AuditedFault::NotFinished) => Some(true),
+        Err(_) => None,
+    }
+}
+
 /// What is printed after at most so many turns, and whether it is told that the run isn't finished.
 fn printed<R: Threads + Wait + Clock + Net<Stream = TcpStream, Listener = TcpListener> + Sync>(
     rt: &R,
@@ -26,20 +45,8 @@ fn printed<R: Threads + Wait + Clock + Net<Stream = TcpStream, Listener = TcpLis
 ) -> Option<(Vec<u8>, bool)> {
     let federation = loaded(alloc, COUNTER, "")?;
     let mut out = Vec::new(alloc);
-    let result = print_audited_run(
-        rt,
-        alloc,
-        &federation.plan,
-        &federation.programs,
-        &federation.inputs,
-        turns,
-        &mut out,
-    );
-    match result {
-        Ok(()) => Some((out, false)),
-        Err(AuditedFault::NotFinished) => Some((out, true)),
-        Err(_) => None,
-    }
+    let told = is_unfinished(rt, alloc, &federation, turns, &mut out)?;
+    Some((out, told))
 }
 
 #[test]

@@ -1,5 +1,5 @@
 //! Federations in threads over TCP.
-use crate::federations::{ALL, Federation, are_rows_of, desks_of, loaded, undivided};
+use crate::federations::{ALL, Federation, are_rows_of, loaded, nodes_of, undivided};
 use coordinator::Coordinator;
 use federate::Federate;
 use node::Node;
@@ -10,7 +10,7 @@ use std::net::{Net, TcpListener, TcpStream};
 use std::sync::Wait;
 use std::thread::Threads;
 use std::time::Clock;
-use wires::{Gathered, Nodes, Open, run_over_tcp};
+use wires::{Gathered, Open, run_over_tcp};
 
 /// The desks after a run over TCP; None where there are none.
 fn ran<'a, R: Threads + Wait + Clock + Net<Stream = TcpStream, Listener = TcpListener> + Sync>(
@@ -19,8 +19,7 @@ fn ran<'a, R: Threads + Wait + Clock + Net<Stream = TcpStream, Listener = TcpLis
     federation: &'a Federation,
     turns: u32,
 ) -> Option<Gathered<Coordinator<'a>, Federate<'a>>> {
-    let (hub, desks) = desks_of(alloc, federation)?;
-    let nodes = Nodes::new(alloc, hub, desks).ok()?;
+    let nodes = nodes_of(alloc, federation)?;
     let left = run_over_tcp(rt, alloc, &nodes, &Open, turns).ok()?;
     nodes.gather(alloc, left).ok()
 }
@@ -81,15 +80,22 @@ fn each_has_its_rows(rt: HostRuntime) {
     }
 }
 
-/// Whether a run with so few turns ends unfinished.
+/// Whether a run of a federation with so few turns ends unfinished.
+fn is_unfinished<
+    R: Threads + Wait + Clock + Net<Stream = TcpStream, Listener = TcpListener> + Sync,
+>(rt: &R, alloc: Global, federation: &Federation, turns: u32) -> bool {
+    match ran(rt, alloc, federation, turns) {
+        Some(gathered) => !is_finished(&gathered),
+        None => false,
+    }
+}
+
+/// Whether the counter's run with so few turns does.
 fn ends_unfinished<
     R: Threads + Wait + Clock + Net<Stream = TcpStream, Listener = TcpListener> + Sync,
 >(rt: &R, alloc: Global, turns: u32) -> bool {
     match loaded(alloc, COUNTER, "") {
-        Some(federation) => match ran(rt, alloc, &federation, turns) {
-            Some(gathered) => !is_finished(&gathered),
-            None => false,
-        },
+        Some(federation) => is_unfinished(rt, alloc, &federation, turns),
         None => false,
     }
 }

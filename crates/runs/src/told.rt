@@ -2,16 +2,29 @@
 use crate::federations::loaded;
 use audited::Doubt;
 use node::NodeId;
+use plan::Plan;
 use recorder::Unproved;
 use samples::COUNTER;
 use std::alloc::Global;
 use std::test::Fail;
 
-fn is_told(alloc: Global, fault: Unproved, text: &str) -> Option<bool> {
-    let federation = loaded(alloc, COUNTER, "")?;
-    let doubt = Doubt::new(alloc, &federation.plan, fault);
-    let told = format!(in alloc; "{doubt}").ok()?;
-    Some(told.as_str() == text)
+fn spelled(alloc: Global, doubt: &Doubt) -> Option<String> {
+    format!(in alloc; "{doubt}").ok()
+}
+
+fn is_told_of(alloc: Global, plan: &Plan, fault: Unproved, text: &str) -> bool {
+    let doubt = Doubt::new(alloc, plan, fault);
+    match spelled(alloc, &doubt) {
+        Some(told) => told.as_str() == text,
+        None => false,
+    }
+}
+
+fn is_told(alloc: Global, fault: Unproved, text: &str) -> bool {
+    match loaded(alloc, COUNTER, "") {
+        Some(federation) => is_told_of(alloc, &federation.plan, fault, text),
+        None => false,
+    }
 }
 
 #[test]
@@ -28,7 +41,7 @@ fn with_names(rt: HostRuntime) -> Result<(), Fail> {
         (Unproved::Missing(1), "84 Missing snk"),
         (Unproved::Memory, "85 Memory"),
     ] {
-        assert!(rt; is_told(rt.alloc(), fault, text) == Some(true));
+        assert!(rt; is_told(rt.alloc(), fault, text));
     }
     Ok(())
 }

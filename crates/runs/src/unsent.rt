@@ -1,8 +1,9 @@
 //! A frame that was never sent: a coordinator grants before it heard of anything, and a federate announces after the grant.
-use crate::federations::loaded;
+use crate::counted::told_of;
+use crate::federations::{Federation, loaded};
 use node::{Event, NodeId};
 use reactor::Rows;
-use recorder::{Report, Unproved, audit};
+use recorder::{Report, Unproved};
 use signal::{Frame, Signal};
 use std::alloc::Global;
 use std::test::Fail;
@@ -41,29 +42,28 @@ fn journal(alloc: Global, events: &[Event]) -> Option<Vec<Event>> {
     Some(journal)
 }
 
+/// What the federate reports: it is granted its first tag, and announces.
+fn report(alloc: Global) -> Option<Report> {
+    let grant = first(Signal::Tag(FiniteTag::new(Time::zero(), 0)));
+    let journal = journal(alloc, &[grant, Event::Announce])?;
+    Some(Report {
+        federate: 0,
+        rows: Rows::new(alloc),
+        journal,
+    })
+}
+
 /// What is told of such journals: each frame answers the other.
+fn told_at(alloc: Global, federation: &Federation) -> Option<Unproved> {
+    let next = first(Signal::Net(Tag::new(Time::zero(), 0)));
+    let coordinator = journal(alloc, &[next])?;
+    let reports = [report(alloc)?];
+    told_of(alloc, federation, &reports, &coordinator)
+}
+
 fn told(alloc: Global) -> Option<Unproved> {
     let federation = loaded(alloc, ALONE, "")?;
-    let next = first(Signal::Net(Tag::new(Time::zero(), 0)));
-    let grant = first(Signal::Tag(FiniteTag::new(Time::zero(), 0)));
-    let mut reports = Vec::new(alloc);
-    reports
-        .push(Report {
-            federate: 0,
-            rows: Rows::new(alloc),
-            journal: journal(alloc, &[grant, Event::Announce])?,
-        })
-        .ok()?;
-    let coordinator = journal(alloc, &[next])?;
-    audit(
-        alloc,
-        &federation.plan,
-        &federation.programs,
-        &federation.inputs,
-        &reports,
-        &coordinator,
-    )
-    .err()
+    told_at(alloc, &federation)
 }
 
 #[test]

@@ -1,10 +1,5 @@
 //! A writer that refuses every write.
-ghost use Rattle.plan.specs.External.{AreInputsOf};
-ghost use Rattle.programs.specs.Programs.{AreProgramsOf};
-
-use loadfed::{load, load_inputs};
-use plan::{Inputs, Plan};
-use programs::Programs;
+use crate::federations::{Federation, loaded};
 use replay::{ReplayFault, replay};
 use samples::COUNTER;
 use script::{Script, read_script};
@@ -25,25 +20,27 @@ impl Write for Refusing {
     }
 }
 
-fn cannot_write(
-    alloc: Global,
-    plan: &Plan,
-    programs: &Programs,
-    inputs: &Inputs,
-    script: &Script,
-) -> bool
-    requires programs { AreProgramsOf plan.now programs.now }
-    requires inputs { AreInputsOf plan.now inputs.now }
-{
-    let played = replay(alloc, &mut Refusing, plan, programs, inputs, script, None);
+fn cannot_write(alloc: Global, federation: &Federation, script: &Script) -> bool {
+    let played = replay(
+        alloc,
+        &mut Refusing,
+        &federation.plan,
+        &federation.programs,
+        &federation.inputs,
+        script,
+        None,
+    );
     matches!(played, Err(ReplayFault::CannotWrite))
 }
 
+fn tells_of(alloc: Global, federation: &Federation, schedule: &str) -> Option<bool> {
+    let script = read_script(alloc, schedule.as_bytes(), &federation.plan).ok()?;
+    Some(cannot_write(alloc, federation, &script))
+}
+
 fn tells(alloc: Global, schedule: &str) -> Option<bool> {
-    let (plan, programs) = load(alloc, COUNTER.as_bytes()).ok()?;
-    let inputs = load_inputs(alloc, b"", &plan).ok()?;
-    let script = read_script(alloc, schedule.as_bytes(), &plan).ok()?;
-    Some(cannot_write(alloc, &plan, &programs, &inputs, &script))
+    let federation = loaded(alloc, COUNTER, "")?;
+    tells_of(alloc, &federation, schedule)
 }
 
 #[test]
