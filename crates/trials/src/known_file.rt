@@ -2,7 +2,7 @@
 ghost use Rattle.std.specs.Prelude.{◌≡◌, ◌++◌, ◌∷◌, [], ◌<◌, ◌≤◌, IfOk, IfSome, Err, length, vec_len};
 ghost use Rattle.files.specs.Contents.{AreBytesOf};
 ghost use Rattle.files.specs.declared.named.FileFault.TheVariants.{OverLimit as over_limit};
-ghost use Rattle.commanded.specs.KnownFile.{contents_of};
+ghost use Rattle.trials.specs.KnownFile.{contents_of};
 
 use files::{FileFault, Files};
 use std::marker::Model;

@@ -1,5 +1,5 @@
 //! What a replay prints.
-use crate::federations::{Federation, loaded};
+use crate::loading::{Federation, loaded};
 use replay::replay;
 use script::{Script, read_script};
 use std::alloc::Global;

@@ -1,5 +1,5 @@
 //! A writer that refuses every write.
-use crate::federations::{Federation, loaded};
+use crate::loading::{Federation, loaded};
 use replay::{ReplayFault, replay};
 use samples::COUNTER;
 use script::{Script, read_script};

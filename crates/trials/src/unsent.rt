@@ -1,6 +1,6 @@
 //! A frame that was never sent: a coordinator grants before it heard of anything, and a federate announces after the grant.
 use crate::counted::told_of;
-use crate::federations::{Federation, loaded};
+use crate::loading::{Federation, loaded};
 use node::{Event, NodeId};
 use reactor::Rows;
 use recorder::{Report, Unproved};

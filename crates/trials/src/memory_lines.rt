@@ -1,5 +1,5 @@
 //! Federations in threads over connections in memory.
-use crate::federations::{Federation, nodes_of};
+use crate::loading::{Federation, nodes_of};
 use coordinator::Coordinator;
 use crossbeam_channel::{Sender, unbounded};
 use federate::Federate;

@@ -1,5 +1,5 @@
 //! How an audit's doubts are told.
-use crate::federations::loaded;
+use crate::loading::loaded;
 use audited::Doubt;
 use node::NodeId;
 use plan::Plan;

@@ -1,7 +1,7 @@
 //! Each federate's connection breaks once in its midst: it connects again, and the rows are the same.
 ghost use Rattle.std.specs.Prelude.{◌≡◌};
 
-use crate::federations::{Federation, loaded};
+use crate::loading::{Federation, loaded};
 use crate::memory_lines::{Wrap, ran_in_memory};
 use crate::running::has_all_rows;
 use samples::COUNTER;

@@ -1,5 +1,5 @@
 //! Reports of strangers, second ones, and missing ones.
-use crate::federations::{Federation, loaded};
+use crate::loading::{Federation, loaded};
 use node::Event;
 use plan::Plan;
 use reactor::Rows;

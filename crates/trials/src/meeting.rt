@@ -1,5 +1,5 @@
 //! Two federates that have nothing to do with each other run at the same time.
-use crate::federations::{Federation, loaded};
+use crate::loading::{Federation, loaded};
 use crate::memory_lines::{Plain, ran_in_memory};
 use crate::running::is_finished;
 use node::NodeId;

@@ -1,5 +1,5 @@
 //! A run over TCP prints its rows, federate by federate; one with too few turns prints none.
-use crate::federations::{Federation, loaded};
+use crate::loading::{Federation, loaded};
 use audited::AuditedFault;
 use federated::print_audited_run;
 use samples::COUNTER;

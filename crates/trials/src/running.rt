@@ -1,5 +1,5 @@
 //! Federations in threads over TCP.
-use crate::federations::{ALL, Federation, are_rows_of, loaded, nodes_of, undivided};
+use crate::loading::{ALL, Federation, are_rows_of, loaded, nodes_of, undivided};
 use coordinator::Coordinator;
 use federate::Federate;
 use node::Node;
