@@ -1,6 +1,6 @@
 ghost use Rattle.std.specs.Prelude.{◌≡◌};
 
-use program::ProgramFault;
+use faults::ProgramFault;
 use std::alloc::{AllocError, AllocFailed};
 use std::fmt;
 
@@ -9,8 +9,8 @@ use std::fmt;
 pub struct Memory;
 
 impl Memory {
-    ghost use Rattle.program.specs.Fault.{fault_number};
-    ghost use Rattle.program.specs.declared.fault.ProgramFault.TheVariants as ProgramFaults;
+    ghost use Rattle.faults.specs.ProgramFaults.{fault_number};
+    ghost use Rattle.faults.specs.declared.program_fault.ProgramFault.TheVariants as ProgramFaults;
 
     /// The number by which it is told.
     pub const fn number(self) -> u16
@@ -22,7 +22,7 @@ impl Memory {
 
 impl fmt::Display for Memory {
     ghost use Rattle.std.specs.Prelude.{Some};
-    ghost use Rattle.program.specs.Fault.{printed_memory};
+    ghost use Rattle.faults.specs.ProgramFaults.{printed_memory};
 
     ghost output = { λ _. Some printed_memory };
 

@@ -5,8 +5,8 @@ use Rattle.toml.specs.Data.{Members}
 use Rattle.plan.specs.declared.draft.Draft.{Draft}
 use Rattle.plan.specs.declared.input.Input.{Input}
 use Rattle.plan.specs.declared.input.TheConstants.{MOST_INPUTS}
-use Rattle.plan.specs.declared.fault.InputFault.{InputFault}
-use Rattle.plan.specs.declared.fault.InputFault.TheVariants as input_fault
+use Rattle.faults.specs.declared.input_fault.InputFault.{InputFault}
+use Rattle.faults.specs.declared.input_fault.InputFault.TheVariants as input_fault
 use Rattle.plan.specs.External.{AreApart, AreInputsOf}
 use Rattle.tables.specs.declared.fault.LoadFault.{LoadFault}
 use Rattle.tables.specs.declared.fault.LoadFault.TheVariants.{NotToml, Memory}

@@ -8,7 +8,7 @@ use Rattle.slots.specs.declared.slots.Timer.{Timer}
 use Rattle.plan.specs.declared.draft.Federate.{Federate}
 use Rattle.slots.specs.Numbering.{timer_names, all_names}
 use Rattle.program.specs.declared.reaction_draft.ReactionDraft.{ReactionDraft}
-use Rattle.program.specs.Tokens.{is_name}
+use Rattle.names.specs.Spelling.{is_name}
 use Rattle.toml.specs.Data.{Members}
 use Rattle.tables.specs.Tables.{SaysEach}
 use Rattle.loadfed.specs.Shape.{SaysTimer, SaysState, SaysReaction, ProgramDraft, SaysProgram, SaysSlots, SaysFederate, SaysFederates}

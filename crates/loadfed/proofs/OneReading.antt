@@ -6,7 +6,7 @@ use Rattle.std.specs.List.{AllZip}
 use Rattle.slots.specs.declared.slots.Slots.{Slots}
 use Rattle.slots.specs.declared.slots.Timer.{Timer}
 use Rattle.plan.specs.declared.draft.Federate.{Federate}
-use Rattle.plan.specs.declared.draft.PortName.{PortName}
+use Rattle.names.specs.declared.port.PortName.{PortName}
 use Rattle.plan.specs.declared.draft.ConnectionDraft.{ConnectionDraft}
 use Rattle.plan.specs.declared.draft.Draft.{Draft}
 use Rattle.program.specs.declared.program.State.{State}

@@ -5,12 +5,12 @@ use Rattle.toml.specs.Data.{Members}
 use Rattle.plan.specs.Legal.{IsLegal}
 use Rattle.plan.specs.declared.draft.Federate.{Federate}
 use Rattle.plan.specs.declared.draft.Draft.{Draft}
-use Rattle.plan.specs.declared.fault.PlanFault.{PlanFault}
-use Rattle.plan.specs.declared.fault.PlanFault.TheVariants as plan_fault
+use Rattle.faults.specs.declared.plan_fault.PlanFault.{PlanFault}
+use Rattle.faults.specs.declared.plan_fault.PlanFault.TheVariants as plan_fault
 use Rattle.plan.specs.Faults.{StandsIn}
 use Rattle.plan.specs.Legal.{IsLegal}
-use Rattle.program.specs.declared.fault.ProgramFault.{ProgramFault}
-use Rattle.program.specs.declared.fault.ProgramFault.TheVariants as program_fault
+use Rattle.faults.specs.declared.program_fault.ProgramFault.{ProgramFault}
+use Rattle.faults.specs.declared.program_fault.ProgramFault.TheVariants as program_fault
 use Rattle.program.specs.Behaviour.{Behaviour}
 use Rattle.programs.specs.Programs.{AreProgramsOf}
 use Rattle.program.specs.Spelled.{SpellsProgram, IsFaultOf}

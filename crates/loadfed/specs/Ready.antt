@@ -3,7 +3,7 @@ use Rattle.std.specs.Prelude.{◌≤◌, List, length, All, IsTrue}
 use Rattle.std.specs.List.{AllZip}
 use Rattle.plan.specs.declared.draft.Federate.{Federate}
 use Rattle.slots.specs.Numbering.{all_names}
-use Rattle.program.specs.Tokens.{is_name}
+use Rattle.names.specs.Spelling.{is_name}
 use Rattle.program.specs.Resolution.{state_names}
 use Rattle.program.specs.declared.limits.TheConstants.{MOST_STATES, MOST_REACTIONS, MOST_LINES}
 use Rattle.loadfed.specs.Shape.{ProgramDraft}

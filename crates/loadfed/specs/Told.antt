@@ -1,8 +1,8 @@
 -- How faults of plans and of recorded inputs are told.
-use Rattle.plan.specs.declared.fault.PlanFault.{PlanFault}
-use Rattle.plan.specs.declared.fault.PlanFault.TheVariants as plan_fault
-use Rattle.plan.specs.declared.fault.InputFault.{InputFault}
-use Rattle.plan.specs.declared.fault.InputFault.TheVariants as input_fault
+use Rattle.faults.specs.declared.plan_fault.PlanFault.{PlanFault}
+use Rattle.faults.specs.declared.plan_fault.PlanFault.TheVariants as plan_fault
+use Rattle.faults.specs.declared.input_fault.InputFault.{InputFault}
+use Rattle.faults.specs.declared.input_fault.InputFault.TheVariants as input_fault
 use Rattle.tables.specs.declared.fault.LoadFault.{LoadFault}
 use Rattle.tables.specs.declared.fault.LoadFault.TheVariants.{Plan, UnknownAction, RepeatedInput, OverLimit, Memory}
 

@@ -9,11 +9,11 @@ use Rattle.network.specs.Connection.{Connection}
 use Rattle.network.specs.Lawful.{EndApart}
 use Rattle.network.proofs.Items.{All-filter_map}
 use Rattle.plan.specs.declared.draft.Federate.{Federate}
-use Rattle.plan.specs.declared.draft.PortName.{PortName}
+use Rattle.names.specs.declared.port.PortName.{PortName}
 use Rattle.plan.specs.declared.draft.ConnectionDraft.{ConnectionDraft}
 use Rattle.plan.specs.declared.draft.Draft.{Draft}
-use Rattle.plan.specs.declared.fault.PlanFault.{PlanFault}
-use Rattle.plan.specs.declared.fault.PlanFault.TheVariants.{NoFederate, UnknownName, TwoSources, ZeroDelayCycle, OverLimit, BadTimer, Memory, RepeatedName}
+use Rattle.faults.specs.declared.plan_fault.PlanFault.{PlanFault}
+use Rattle.faults.specs.declared.plan_fault.PlanFault.TheVariants.{NoFederate, UnknownName, TwoSources, ZeroDelayCycle, OverLimit, BadTimer, Memory, RepeatedName}
 use Rattle.names.specs.Naming.{AreDistinct, StandsTwice}
 use Rattle.slots.specs.Numbering.{all_names, first_input}
 use Rattle.plan.specs.Federation.{Found, federate_names, found_input, found_output, connection_of, connections_of, federate_count}

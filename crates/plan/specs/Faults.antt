@@ -1,13 +1,11 @@
--- What each refusal says of a draft, its number, and how it is told.
-use Rattle.std.specs.Prelude.{◌≡◌, ℕ, ◌<◌, ◌≤◌, ◌⊎◌, List, [], ◌++◌, length, map, All, Any, IsSome, None, Some, slice_get, codes}
-use Rattle.std.specs.List.{flat_map}
-use Rattle.std.specs.Fmt.{decimal}
+-- What each refusal says of a draft.
+use Rattle.std.specs.Prelude.{◌≡◌, ℕ, ◌<◌, ◌≤◌, ◌⊎◌, List, [], length, map, All, Any, IsSome, None, Some, slice_get}
 use Rattle.network.specs.Connection.{Connection}
 use Rattle.paths.specs.Cycles.{HasNoCycleAt, IsCycleFrom}
-use Rattle.plan.specs.declared.draft.PortName.{PortName}
+use Rattle.names.specs.declared.port.PortName.{PortName}
 use Rattle.plan.specs.declared.draft.Draft.{Draft}
-use Rattle.plan.specs.declared.fault.PlanFault.{PlanFault}
-use Rattle.plan.specs.declared.fault.PlanFault.TheVariants.{NoFederate, UnknownName, TwoSources, ZeroDelayCycle, OverLimit, BadTimer, Memory, RepeatedName}
+use Rattle.faults.specs.declared.plan_fault.PlanFault.{PlanFault}
+use Rattle.faults.specs.declared.plan_fault.PlanFault.TheVariants.{NoFederate, UnknownName, TwoSources, ZeroDelayCycle, OverLimit, BadTimer, Memory, RepeatedName}
 use Rattle.plan.specs.declared.limits.TheConstants.{MOST_FEDERATES, MOST_CONNECTIONS}
 use Rattle.names.specs.Naming.{AreDistinct, StandsTwice}
 use Rattle.slots.specs.Numbering.{all_names}
@@ -74,48 +72,3 @@ abbrev pub IsCycleRefusal : Draft → PlanFault → Type 0
 IsCycleRefusal d (ZeroDelayCycle names) = IsNamedCycle d names
 IsCycleRefusal d Memory = Unit {0}
 IsCycleRefusal d _ = ⊥
-
--- the refusal's number
-abbrev pub number_of : PlanFault → ℕ
-number_of NoFederate = 10
-number_of (UnknownName p) = 11
-number_of (TwoSources p) = 12
-number_of (ZeroDelayCycle names) = 13
-number_of OverLimit = 14
-number_of BadTimer = 15
-number_of Memory = 16
-number_of (RepeatedName name) = 17
-
--- names, each after a space
-abbrev pub spaced : List (List ℕ) → List ℕ
-spaced names = flat_map (λ name. codes " " ++ name) names
-
--- a port, as federate.port
-abbrev pub printed_port : PortName → List ℕ
-printed_port p = p.federate ++ (codes "." ++ p.port)
-
--- the refusal's name
-abbrev pub name_of : PlanFault → List ℕ
-name_of NoFederate = codes "NoFederate"
-name_of (UnknownName p) = codes "UnknownName"
-name_of (TwoSources p) = codes "TwoSources"
-name_of (ZeroDelayCycle names) = codes "ZeroDelayCycle"
-name_of OverLimit = codes "OverLimit"
-name_of BadTimer = codes "BadTimer"
-name_of Memory = codes "Memory"
-name_of (RepeatedName name) = codes "RepeatedName"
-
--- what it is about, after a space
-abbrev pub about : PlanFault → List ℕ
-about NoFederate = []
-about (UnknownName p) = codes " " ++ printed_port p
-about (TwoSources p) = codes " " ++ printed_port p
-about (ZeroDelayCycle names) = spaced names
-about OverLimit = []
-about BadTimer = []
-about Memory = []
-about (RepeatedName name) = codes " " ++ name
-
--- how the refusal is told: by number and name, and what it is about
-abbrev pub printed_fault : PlanFault → List ℕ
-printed_fault fault = decimal (number_of fault) ++ (codes " " ++ (name_of fault ++ about fault))

@@ -7,7 +7,7 @@ use Rattle.network.specs.Connection.{Connection}
 use Rattle.paths.specs.Levels.{level_within, before_by}
 use Rattle.slots.specs.declared.slots.Slots.{Slots}
 use Rattle.plan.specs.declared.draft.Federate.{Federate}
-use Rattle.plan.specs.declared.draft.PortName.{PortName}
+use Rattle.names.specs.declared.port.PortName.{PortName}
 use Rattle.plan.specs.declared.draft.ConnectionDraft.{ConnectionDraft}
 use Rattle.plan.specs.declared.draft.Draft.{Draft}
 use Rattle.names.specs.Naming.{place_of}

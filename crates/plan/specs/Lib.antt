@@ -15,5 +15,3 @@ pub mod Occurrences
 pub mod Planned
 -- what each refusal says of a draft
 pub mod Faults
--- the numbers of the refusals of recorded inputs
-pub mod InputFaults

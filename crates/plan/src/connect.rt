@@ -3,8 +3,8 @@ ghost use Rattle.plan.specs.Federation.{connections_of, delay_after};
 ghost use Rattle.plan.specs.Faults.{ArePortsThere, StandsIn};
 
 use crate::draft::Draft;
-use crate::fault::PlanFault;
 use crate::lookup::{found_input, found_output};
+use faults::PlanFault;
 use paths::Connection;
 use slots::Slots;
 use std::alloc::Global;

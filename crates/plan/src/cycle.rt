@@ -4,7 +4,7 @@ ghost use Rattle.plan.specs.Federation.{connections_of, federate_names};
 ghost use Rattle.plan.specs.Faults.{IsCycleRefusal};
 
 use crate::draft::{Draft, Federate};
-use crate::fault::PlanFault;
+use faults::PlanFault;
 use names::Names;
 use paths::{Connection, lowest_cycle};
 use std::alloc::{AllocError, Global};

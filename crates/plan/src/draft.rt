@@ -1,6 +1,6 @@
 ghost use Rattle.std.specs.Prelude.{◌≡◌};
 
-use names::{Named, Text};
+use names::{Named, PortName, Text};
 use slots::Slots;
 use std::marker::Model;
 use tag::Time;
@@ -47,13 +47,6 @@ impl Federates {
     {
         self.federates.as_slice()
     }
-}
-
-/// A port of a federate, both by name.
-#[derive(Clone, Debug, Drop)]
-pub struct PortName {
-    pub federate: Text,
-    pub port: Text,
 }
 
 /// A connection as it is declared: `after` is None where it has no delay.

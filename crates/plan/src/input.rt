@@ -5,12 +5,12 @@ ghost use Rattle.plan.specs.declared.input.TheConstants.{MOST_INPUTS};
 ghost use Rattle.plan.specs.Occurrences.{occurrence_of};
 
 use crate::draft::Federate;
-use crate::fault::InputFault;
 use crate::lookup::found_action;
 use crate::plan::Plan;
+use faults::InputFault;
 use indexmap::IndexSet;
 use names::Text;
-use std::alloc::{AllocError, AllocFailed, Global};
+use std::alloc::{AllocError, Global};
 use std::marker::Model;
 use tag::FiniteTag;
 
@@ -76,26 +76,6 @@ impl Inputs {
         ensures { result.now ≡ self.now }
     {
         self.inputs.as_slice()
-    }
-}
-
-impl From<AllocError> for InputFault {
-    ghost use Rattle.plan.specs.declared.fault.InputFault.TheVariants.{Memory};
-
-    ghost from_gives = { λ _ e. e ≡ Memory };
-
-    fn from(_error: AllocError) -> InputFault {
-        InputFault::Memory
-    }
-}
-
-impl<T: Drop> From<AllocFailed<T>> for InputFault {
-    ghost use Rattle.plan.specs.declared.fault.InputFault.TheVariants.{Memory};
-
-    ghost from_gives = { λ _ e. e ≡ Memory };
-
-    fn from(_error: AllocFailed<T>) -> InputFault {
-        InputFault::Memory
     }
 }
 

@@ -6,10 +6,10 @@ ghost use Rattle.plan.specs.Faults.{IsWithinAllLimits, AreTimersInRange, StandsI
 use crate::connect::connect;
 use crate::cycle::refuse_cycle;
 use crate::draft::Draft;
-use crate::fault::PlanFault;
 use crate::limits::refuse_out_of_range;
 use crate::repeated::refuse_repeated;
 use crate::sources::refuse_two_sources;
+use faults::PlanFault;
 use paths::Connection;
 use std::alloc::Global;
 

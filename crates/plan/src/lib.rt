@@ -6,7 +6,6 @@
 mod connect;
 mod cycle;
 pub mod draft;
-pub mod fault;
 pub mod input;
 pub mod laws;
 mod legal;
@@ -16,10 +15,10 @@ pub mod plan;
 mod repeated;
 mod sources;
 
-pub use draft::{ConnectionDraft, Connections, Draft, Federate, Federates, PortName};
-pub use fault::{InputFault, PlanFault};
+pub use draft::{ConnectionDraft, Connections, Draft, Federate, Federates};
+pub use faults::{InputFault, PlanFault, input_fault, plan_fault};
 pub use input::{Input, Inputs};
-pub use names::{Named, Names, Text, named, place_of, text};
+pub use names::{Named, Names, PortName, Text, named, place_of, port, text};
 pub use paths::connection;
 pub use paths::connection::Connection;
 pub use plan::Plan;

@@ -3,7 +3,7 @@ ghost use Rattle.slots.specs.Limits.{IsWithinLimits, IsTimerInRange};
 ghost use Rattle.plan.specs.Faults.{IsWithinAllLimits, AreTimersInRange, StandsIn};
 
 use crate::draft::{Draft, Federate};
-use crate::fault::PlanFault;
+use faults::PlanFault;
 use network::limits::MOST_REACTORS;
 use slots::Timer;
 use slots::limits::{is_in_range, is_within_limits};

@@ -2,9 +2,9 @@ ghost use Rattle.std.specs.Prelude.{◌≡◌, ◌<◌, ◌^◌, length, IfSome}
 ghost use Rattle.plan.specs.Federation.{federate_number, found_output, found_input};
 ghost use Rattle.plan.specs.External.{found_action};
 
-use crate::draft::{Federate, PortName};
+use crate::draft::Federate;
 use crate::input::Input;
-use names::{Text, place_of};
+use names::{PortName, Text, place_of};
 use std::marker::Model;
 
 /// Where a port or an action was found: the federate's number, and the place among its names of that kind.

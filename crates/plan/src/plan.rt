@@ -9,10 +9,10 @@ ghost use Rattle.plan.specs.External.{found_action, physical_slot};
 ghost use Rattle.std.specs.Option.{option_map};
 
 use crate::draft::{Draft, Federate};
-use crate::fault::PlanFault;
 use crate::input::Input;
 use crate::legal::legal_connections;
 use crate::lookup::found_action;
+use faults::PlanFault;
 use paths::{Connection, LeastDelays, ranks};
 use std::alloc::Global;
 use std::marker::Model;

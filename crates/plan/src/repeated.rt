@@ -5,7 +5,7 @@ ghost use Rattle.plan.specs.Federation.{federate_names};
 ghost use Rattle.plan.specs.Faults.{StandsIn, HasDistinctNames};
 
 use crate::draft::{Draft, Federate};
-use crate::fault::PlanFault;
+use faults::PlanFault;
 use names::{Text, push_names, repeated};
 use slots::Slots;
 use std::alloc::{AllocError, Global};

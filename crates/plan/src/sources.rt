@@ -5,7 +5,7 @@ ghost use Rattle.network.specs.Lawful.{EndApart};
 ghost use Rattle.plan.specs.Faults.{ArePortsThere, StandsIn};
 
 use crate::draft::Draft;
-use crate::fault::PlanFault;
+use faults::PlanFault;
 use paths::{Connection, second_source};
 
 /// Refuses a draft, whose connections by number these are, in which a port has two sources.

@@ -6,8 +6,8 @@ use Rattle.program.specs.declared.program.State as StateOf
 use Rattle.program.specs.declared.reaction_draft.ReactionDraft.{ReactionDraft}
 use Rattle.program.specs.declared.fault.LineFault.{LineFault}
 use Rattle.program.specs.declared.fault.LineFault.TheVariants.{NoForm, UnknownName}
-use Rattle.program.specs.declared.fault.ProgramFault.{ProgramFault}
-use Rattle.program.specs.declared.fault.ProgramFault.TheVariants.{UnknownOperand, Memory}
+use Rattle.faults.specs.declared.program_fault.ProgramFault.{ProgramFault}
+use Rattle.faults.specs.declared.program_fault.ProgramFault.TheVariants.{UnknownOperand, Memory}
 use Rattle.program.specs.Resolution.{trigger_slot, line_of}
 use Rattle.program.specs.Reading.{IsReading, told_at}
 use Rattle.program.specs.Spelled.{IsWritten, IsTriggerFault, IsLineFault, IsReactionFault}

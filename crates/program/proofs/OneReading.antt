@@ -12,9 +12,10 @@ use Rattle.program.specs.declared.program.Operator.TheVariants.{Plus, Minus, Tim
 use Rattle.program.specs.declared.program.Reaction.{Reaction}
 use Rattle.program.specs.declared.program.State as StateOf
 use Rattle.program.specs.declared.reaction_draft.ReactionDraft.{ReactionDraft}
-use Rattle.program.specs.declared.fault.ProgramFault.{ProgramFault}
-use Rattle.program.specs.declared.fault.ProgramFault.TheVariants.{BadLine, UnknownOperand, Memory, RepeatedState}
-use Rattle.program.specs.Tokens.{tokens_of, is_name, IsWholeNumber}
+use Rattle.faults.specs.declared.program_fault.ProgramFault.{ProgramFault}
+use Rattle.faults.specs.declared.program_fault.ProgramFault.TheVariants.{BadLine, UnknownOperand, Memory, RepeatedState}
+use Rattle.program.specs.Tokens.{tokens_of, IsWholeNumber}
+use Rattle.names.specs.Spelling.{is_name}
 use Rattle.program.specs.Grammar.{WrittenOperand, WrittenNumber, StateNamed, ValueAt, PresenceAt, WrittenExpression, Alone, Combined, WrittenStatement, AssignTo, OutputTo, ScheduleAfter, WrittenLine, operator_token, SpellsOperand, SpellsExpression, SpellsDuration, SpellsStatement, SpellsGuarded, SpellsLine}
 use Rattle.program.specs.Resolution.{trigger_slot, line_of}
 use Rattle.program.specs.Behaviour.{Behaviour}

@@ -11,7 +11,8 @@ use Rattle.program.specs.declared.program.State as StateOf
 use Rattle.program.specs.declared.program.Operand.TheVariants.{Number, State, Presence}
 use Rattle.program.specs.declared.fault.LineFault.{LineFault}
 use Rattle.program.specs.declared.fault.LineFault.TheVariants.{NoForm, UnknownName}
-use Rattle.program.specs.Tokens.{is_name, is_name_start, has_minus, is_numeral, digits_in, number_in, IsWholeNumber}
+use Rattle.program.specs.Tokens.{has_minus, is_numeral, digits_in, number_in, IsWholeNumber}
+use Rattle.names.specs.Spelling.{is_name, is_name_start}
 use Rattle.program.specs.Grammar.{WrittenOperand, WrittenNumber, StateNamed, ValueAt, PresenceAt, is_slot_name, SpellsOperand}
 use Rattle.program.specs.Resolution.{operand_slot, state_names, value_at_slot, operand_of}
 use Rattle.program.specs.Reading.{IsReading, name_read, made_of, made_of_both, pair_of}

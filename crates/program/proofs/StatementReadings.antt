@@ -12,7 +12,8 @@ use Rattle.program.specs.declared.program.Expression.{Expression}
 use Rattle.program.specs.declared.program.Expression.TheVariants.{Single, Binary}
 use Rattle.program.specs.declared.program.Statement.TheVariants.{Assign, Output, Schedule}
 use Rattle.program.specs.declared.fault.LineFault.{LineFault}
-use Rattle.program.specs.Tokens.{tokens_of, is_name}
+use Rattle.program.specs.Tokens.{tokens_of}
+use Rattle.names.specs.Spelling.{is_name}
 use Rattle.program.specs.Grammar.{WrittenOperand, WrittenExpression, Alone, Combined, WrittenStatement, AssignTo, OutputTo, ScheduleAfter, operator_token, SpellsOperand, SpellsExpression, SpellsDuration, SpellsStatement}
 use Rattle.program.specs.Resolution.{state_names, operand_of, expression_of, statement_of}
 use Rattle.program.specs.Reading.{IsReading, IsTimed, name_read, made_of, made_of_both}

@@ -4,7 +4,8 @@ use Rattle.std.specs.Str.{bytes_eq}
 use Rattle.durations.specs.Duration.{Spells}
 use Rattle.program.specs.declared.program.Operator.{Operator}
 use Rattle.program.specs.declared.program.Operator.TheVariants.{Plus, Minus, Times, Minimum, Maximum, Less, Equal}
-use Rattle.program.specs.Tokens.{is_name, IsWholeNumber, number_in}
+use Rattle.program.specs.Tokens.{IsWholeNumber, number_in}
+use Rattle.names.specs.Spelling.{is_name}
 
 -- an operand: a number, a state, or what is at a slot or whether something is, by name
 pub data WrittenOperand : Type 0 where

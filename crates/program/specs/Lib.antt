@@ -1,7 +1,7 @@
 -- The programs of reactors.
 -- what a reactor has and does
 pub mod Behaviour
--- tokens, names and whole numbers
+-- tokens and whole numbers
 pub mod Tokens
 -- how body lines are written, with names
 pub mod Grammar
@@ -11,5 +11,3 @@ pub mod Resolution
 pub mod Spelled
 -- what reading one line answers
 pub mod Reading
--- the refusals by number
-pub mod Fault

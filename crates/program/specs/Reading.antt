@@ -8,8 +8,8 @@ use Rattle.program.specs.Grammar.{is_slot_name, SpellsDuration}
 use Rattle.program.specs.Resolution.{operand_slot}
 use Rattle.program.specs.declared.fault.LineFault.{LineFault}
 use Rattle.program.specs.declared.fault.LineFault.TheVariants.{NoForm, UnknownName}
-use Rattle.program.specs.declared.fault.ProgramFault.{ProgramFault}
-use Rattle.program.specs.declared.fault.ProgramFault.TheVariants.{BadLine, UnknownOperand}
+use Rattle.faults.specs.declared.program_fault.ProgramFault.{ProgramFault}
+use Rattle.faults.specs.declared.program_fault.ProgramFault.TheVariants.{BadLine, UnknownOperand}
 
 -- Ok where something is written there whose names are there, with what it is by numbers
 abbrev pub IsReading : {W A : Type 0} → (W → Type 0) → (W → Option A) → Result A LineFault → Type 0

@@ -10,9 +10,10 @@ use Rattle.program.specs.declared.program.Line.{Line}
 use Rattle.program.specs.declared.program.Reaction.{Reaction}
 use Rattle.program.specs.declared.program.State as StateOf
 use Rattle.program.specs.declared.reaction_draft.ReactionDraft.{ReactionDraft}
-use Rattle.program.specs.declared.fault.ProgramFault.{ProgramFault}
-use Rattle.program.specs.declared.fault.ProgramFault.TheVariants.{BadLine, UnknownOperand, Memory, RepeatedState}
-use Rattle.program.specs.Tokens.{tokens_of, is_name}
+use Rattle.faults.specs.declared.program_fault.ProgramFault.{ProgramFault}
+use Rattle.faults.specs.declared.program_fault.ProgramFault.TheVariants.{BadLine, UnknownOperand, Memory, RepeatedState}
+use Rattle.program.specs.Tokens.{tokens_of}
+use Rattle.names.specs.Spelling.{is_name}
 use Rattle.program.specs.Grammar.{WrittenLine, SpellsLine}
 use Rattle.program.specs.Resolution.{trigger_slot, state_names, line_of}
 use Rattle.program.specs.Behaviour.{Behaviour}

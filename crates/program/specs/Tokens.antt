@@ -1,11 +1,10 @@
--- What body lines are made of: tokens, names and whole numbers.
+-- What body lines are made of: tokens and whole numbers.
 use Rattle.std.specs.Prelude.{ℕ, ℤ, pos, neg_ℤ, Bool, true, false, not, ◌&&◌, ◌||◌, nat_eq, nat_lt, if◌then◌else◌, List, [], ◌∷◌, length, drop, filter, slice_index, IsTrue, FitsSigned, codes}
 use Rattle.std.specs.Char.{is_ascii_digit, is_ascii_alphabetic}
 use Rattle.std.specs.Int.{w64}
 use Rattle.std.specs.List.{slice_split, list_all, list_any}
 use Rattle.std.specs.Str.{bytes_eq, all_ascii_digits}
 use Rattle.std.specs.Str.Parse.{digits_value}
-use Rattle.program.specs.declared.limits.TheConstants.{LONGEST_NAME}
 
 -- a space
 abbrev pub is_space : ℕ → Bool
@@ -32,33 +31,6 @@ is_some_text (c ∷ rest) = true
 -- the tokens of a line: what stands between its spaces; each `:` is a token of its own
 abbrev pub tokens_of : List ℕ → List (List ℕ)
 tokens_of line = filter is_some_text (slice_split is_space (spaced line))
-
--- what a name may begin with: a letter or `_`
-abbrev pub is_name_start : ℕ → Bool
-is_name_start c = is_ascii_alphabetic c || nat_eq c 95
-
--- what a name may go on with: a letter, `_` or a digit
-abbrev pub is_name_character : ℕ → Bool
-is_name_character c = is_name_start c || is_ascii_digit c
-
--- words with a meaning of their own in the forms of lines
-abbrev pub form_words : List (List ℕ)
-form_words = codes "when" ∷ codes "schedule" ∷ codes "min" ∷ codes "max" ∷ []
-
--- words with a meaning of their own before a dot, and `startup`, which stands after one
-abbrev pub place_words : List (List ℕ)
-place_words = codes "in" ∷ codes "out" ∷ codes "has" ∷ codes "startup" ∷ []
-
--- a word with a meaning of its own
-abbrev pub is_reserved : List ℕ → Bool
-is_reserved text = list_any (bytes_eq text) form_words || list_any (bytes_eq text) place_words
-
--- a name: 1 to 32 letters, digits and `_`, of which the first is no digit, and no reserved word
-abbrev pub is_name : List ℕ → Bool
-is_name [] = false
-is_name (first ∷ rest) =
-    is_name_start first && list_all is_name_character rest && nat_lt (length rest) LONGEST_NAME
-    && not (is_reserved (first ∷ rest))
 
 -- the token begins with `-`
 abbrev pub has_minus : List ℕ → Bool

@@ -5,7 +5,7 @@
 #![tactic(auto)]
 
 pub mod entry;
-pub mod fault;
+mod fault;
 pub mod laws;
 pub mod limits;
 mod number;
@@ -14,12 +14,11 @@ mod places;
 pub mod program;
 pub mod reaction_draft;
 mod reading;
-pub mod token;
+mod token;
 
 pub use entry::{Entries, Entry};
-pub use fault::ProgramFault;
+pub use faults::{ProgramFault, program_fault};
 pub use program::{
     Body, Expression, Line, Operand, Operator, Program, Reaction, State, Statement, Triggers,
 };
 pub use reaction_draft::ReactionDraft;
-pub use token::is_name;

@@ -8,6 +8,3 @@ pub const MOST_REACTIONS: usize = 64;
 
 /// The most lines of a reaction.
 pub const MOST_LINES: usize = 256;
-
-/// The most characters of a name, which are bytes.
-pub const LONGEST_NAME: usize = 32;

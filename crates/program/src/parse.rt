@@ -6,13 +6,13 @@ ghost use Rattle.program.specs.Behaviour.{Behaviour};
 ghost use Rattle.program.specs.Resolution.{trigger_slot, state_names};
 ghost use Rattle.program.specs.declared.limits.TheConstants.{MOST_LINES, MOST_REACTIONS};
 ghost use Rattle.program.specs.Spelled.{SpellsReaction, SpellsProgram, IsTriggerFault, IsLineFault, IsReactionFault, IsFaultOf, IsReadable};
-ghost use Rattle.program.specs.declared.fault.ProgramFault.TheVariants.{Memory};
+ghost use Rattle.faults.specs.declared.program_fault.ProgramFault.TheVariants.{Memory};
 
-use crate::fault::ProgramFault;
 use crate::places::trigger_slot;
 use crate::program::{Body, Program, Reaction, State, Triggers};
 use crate::reaction_draft::ReactionDraft;
 use crate::reading::body;
+use faults::ProgramFault;
 use names::{Text, place_of};
 use slots::Slots;
 use std::alloc::{AllocError, Global};

@@ -3,7 +3,7 @@ ghost use Rattle.std.specs.List.{AllZip};
 ghost use Rattle.slots.specs.Limits.{IsWithinLimits};
 ghost use Rattle.program.specs.declared.limits.TheConstants.{MOST_LINES};
 ghost use Rattle.program.specs.Spelled.{SpellsLineOf, IsLineFault};
-ghost use Rattle.program.specs.declared.fault.ProgramFault.TheVariants.{Memory};
+ghost use Rattle.faults.specs.declared.program_fault.ProgramFault.TheVariants.{Memory};
 
 mod answer;
 mod expression;
@@ -12,8 +12,8 @@ mod operand;
 mod schedule;
 mod statement;
 
-use crate::fault::ProgramFault;
 use crate::program::{Line, State};
+use faults::ProgramFault;
 use guard::line;
 use names::Text;
 use slots::Slots;

@@ -19,7 +19,7 @@ pub mod turn_room;
 pub use memory::Memory;
 pub use program::{
     Body, Entries, Entry, Expression, Line, Operand, Operator, Program, ProgramFault, Reaction,
-    ReactionDraft, State, Statement, Triggers, is_name,
+    ReactionDraft, State, Statement, Triggers,
 };
 pub use reactor::Reactor;
 pub use row::Row;

@@ -1,8 +1,8 @@
 ghost use Rattle.std.specs.Prelude.{◌≡◌};
-ghost use Rattle.program.specs.Fault.{fault_number};
-ghost use Rattle.program.specs.declared.fault.ProgramFault.TheVariants as ProgramFaults;
+ghost use Rattle.faults.specs.ProgramFaults.{fault_number};
+ghost use Rattle.faults.specs.declared.program_fault.ProgramFault.TheVariants as ProgramFaults;
 
-use program::ProgramFault;
+use faults::ProgramFault;
 use std::alloc::{AllocError, AllocFailed};
 use std::fmt;
 
@@ -22,7 +22,7 @@ impl Memory {
 
 impl fmt::Display for Memory {
     ghost use Rattle.std.specs.Prelude.{Some};
-    ghost use Rattle.program.specs.Fault.{printed_memory};
+    ghost use Rattle.faults.specs.ProgramFaults.{printed_memory};
 
     ghost output = { λ _. Some printed_memory };
 

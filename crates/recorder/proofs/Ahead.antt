@@ -16,7 +16,7 @@ use Rattle.reports.specs.declared.report.Report.{Report}
 use Rattle.reports.specs.Reports.{all_journals, journal_of, report_of}
 use Rattle.recorder.specs.Begun.{IsAhead, IsBegun}
 use Rattle.recorder.specs.Known.{events_of}
-use Rattle.recorder.specs.Placing.{world_motion}
+use Rattle.auditor.specs.Placing.{world_motion}
 
 -- what is known is read on
 pub reads_on : {E : Type 0} (r : Result (Unit {0}) E) (known : List (Vec Event)) (journals : List (List Event)) (before after : WorldView) (read more : List ℕ) →

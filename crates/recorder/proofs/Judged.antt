@@ -14,7 +14,7 @@ use Rattle.search.specs.declared.found.Found.TheVariants.{All as Whole, Stuck}
 use Rattle.world.specs.World.{WorldView, stations_of}
 use Rattle.reports.specs.declared.report.Report.{Report}
 use Rattle.reports.specs.Reports.{AreComplete}
-use Rattle.recorder.specs.Placing.{world_motion}
+use Rattle.auditor.specs.Placing.{world_motion}
 use Rattle.recorder.specs.Audited.{Claim, world_of, claim_of, AgreesWith, HasReportedRows, HasSearched, IsFirstApart, IsMismatch, IsProvedBy, IsFinishedBy}
 use Rattle.recorder.proofs.Proved.{after_world, coordinator_there, proved}
 

@@ -1,7 +1,5 @@
 -- Lists of events that are beginnings of journals.
 mod Beginnings
--- Which step an event at a node can be.
-mod Placing
 -- What a list of steps that agrees with the journals, and gives the reported rows, proves.
 mod Proved
 -- Reports that are found.

@@ -31,7 +31,7 @@ use Rattle.search.specs.Motion.{after_all}
 use Rattle.search.specs.Journals.{event_at, events_at}
 use Rattle.world.specs.World.{WorldView, stations_of, with_step, with_steps}
 use Rattle.reports.specs.Reports.{AreComplete}
-use Rattle.recorder.specs.Placing.{world_motion}
+use Rattle.auditor.specs.Placing.{world_motion}
 use Rattle.recorder.specs.Audited.{Claim, world_of, AgreesWith, HasReportedRows, IsProvedBy}
 
 -- steps, made one after the other, are appended

@@ -21,7 +21,7 @@ use Rattle.reports.specs.declared.report.Report.{Report}
 use Rattle.reports.specs.declared.unproved.Unproved.{Unproved}
 use Rattle.reports.specs.declared.unproved.Unproved.TheVariants.{Stranger, Double, Missing, Stuck, Mismatch, Memory}
 use Rattle.reports.specs.Reports.{reported_rows, all_journals, AreComplete, IsIncomplete}
-use Rattle.recorder.specs.Placing.{world_motion}
+use Rattle.auditor.specs.Placing.{world_motion}
 use Rattle.reports.specs.Difference.{DifferAt}
 
 -- what is audited: a federation, its federates' reports, and the coordinator's journal

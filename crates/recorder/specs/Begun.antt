@@ -1,21 +1,14 @@
 -- An audit that is begun while the nodes of a federation still write their journals.
-use Rattle.std.specs.Prelude.{◌≡◌, ℕ, ◌+◌, Bool, false, List, [], length}
+use Rattle.std.specs.Prelude.{◌≡◌, ℕ, ◌+◌, Bool, false, List, length}
 use Rattle.std.specs.Global.{Vec}
-use Rattle.plan.specs.declared.draft.Draft.{Draft}
-use Rattle.plan.specs.declared.input.Input.{Input}
 use Rattle.plan.specs.External.{AreInputsOf}
 use Rattle.plan.specs.Federation.{federate_count}
-use Rattle.program.specs.Behaviour.{Behaviour}
 use Rattle.programs.specs.Programs.{AreProgramsOf}
 use Rattle.node.specs.declared.event.Event.{Event}
 use Rattle.search.specs.Reading.{IsReading}
 use Rattle.world.specs.World.{WorldView}
 use Rattle.recorder.specs.Known.{events_of}
-use Rattle.recorder.specs.Placing.{world_motion}
-
--- a federation: its world before the first step
-abbrev pub opening_of : Draft → List Behaviour → List Input → WorldView
-opening_of draft programs inputs = record { draft = draft; programs = programs; inputs = inputs; steps = [] }
+use Rattle.auditor.specs.Placing.{world_motion}
 
 -- from a federation's opening this world was made, and what is known of its journals is read so far
 pub record IsAhead (opening made : WorldView) (read : List ℕ) (known : List (Vec Event)) : Type 0 where

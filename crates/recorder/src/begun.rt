@@ -6,16 +6,15 @@ ghost use Rattle.programs.specs.Programs.{AreProgramsOf};
 ghost use Rattle.search.specs.Journals.{IsFound};
 ghost use Rattle.search.specs.Reading.{IsReading};
 ghost use Rattle.world.specs.World.{WorldView};
-ghost use Rattle.recorder.specs.Placing.{world_motion};
+ghost use Rattle.auditor.specs.Placing.{opening_of, world_motion};
 ghost use Rattle.reports.specs.Reports.{AreComplete};
 ghost use Rattle.recorder.specs.Audited.{HasEnded, HasSearched, IsUnproved, claim_of};
-ghost use Rattle.recorder.specs.Begun.{opening_of};
 ghost use Rattle.reports.specs.declared.unproved.Unproved.TheVariants as Faults;
 
 use crate::audited_run::AuditedRun;
-use crate::auditor::Auditor;
 use crate::judging::judge;
 use crate::known::{add_to, are_beginnings, none_known, slices_of};
+use auditor::Auditor;
 use node::{Event, NodeId};
 use plan::{Inputs, Plan};
 use programs::Programs;
@@ -42,7 +41,8 @@ pub struct BegunAudit<'a> {
 
 impl<'a> Model for BegunAudit<'a> {
     ghost use Rattle.world.specs.World.{WorldView};
-    ghost use Rattle.recorder.specs.Begun.{opening_of, IsBegun};
+    ghost use Rattle.auditor.specs.Placing.{opening_of};
+    ghost use Rattle.recorder.specs.Begun.{IsBegun};
 
     ghost Value = { WorldView };
 

@@ -17,9 +17,7 @@
 
 pub mod audited_run;
 pub mod auditing;
-mod auditor;
 pub mod begun;
-mod cursors;
 mod judging;
 mod known;
 

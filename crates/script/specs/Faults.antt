@@ -1,8 +1,8 @@
 -- How a schedule's faults are told.
 use Rattle.std.specs.Prelude.{ℕ, List, ◌++◌, codes}
 use Rattle.std.specs.Fmt.{decimal}
-use Rattle.plan.specs.declared.fault.InputFault.TheVariants as input_fault
-use Rattle.plan.specs.InputFaults.{printed_input_fault}
+use Rattle.faults.specs.declared.input_fault.InputFault.TheVariants as input_fault
+use Rattle.faults.specs.InputFaults.{printed_input_fault}
 use Rattle.script.specs.declared.fault.ScriptFault.{ScriptFault}
 use Rattle.script.specs.declared.fault.ScriptFault.TheVariants.{OverLimit, Line, Memory}
 

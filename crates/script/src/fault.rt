@@ -1,7 +1,7 @@
 ghost use Rattle.std.specs.Prelude.{◌≡◌};
 ghost use Rattle.script.specs.declared.fault.ScriptFault.TheVariants.{Memory};
 
-use plan::InputFault;
+use faults::InputFault;
 use std::alloc::{AllocError, AllocFailed};
 use std::fmt;
 

@@ -2,7 +2,7 @@
 use Rattle.std.proofs.Common.{◌≡◌, ◌≢◌, ℕ, zero, suc, ◌<◌, List, [], ◌∷◌, ◌++◌, length, get_or, true, false, IsTrue, codes, refl, sym, ap, ◌∙◌, subst, arith}
 use Rattle.std.specs.List.{list_all}
 use Rattle.std.proofs.lemmas.Bool.{and_parts, false≢true}
-use Rattle.program.specs.Tokens.{is_name, is_name_start, is_name_character}
+use Rattle.names.specs.Spelling.{is_name, is_name_start, is_name_character}
 
 -- no character of the text is a dot
 abbrev pub HasNoDot : List ℕ → Type 0

@@ -7,7 +7,7 @@ use Rattle.std.specs.Map.{keys_of}
 use Rattle.std.specs.Map.Iter.{deref}
 use Rattle.durations.specs.Duration.{Spells}
 use Rattle.durations.specs.declared.duration.DurationFault.{DurationFault}
-use Rattle.program.specs.Tokens.{is_name}
+use Rattle.names.specs.Spelling.{is_name}
 use Rattle.toml.specs.Data.{Data, string, table, Members, get_member}
 use Rattle.toml.specs.View.{view, members_view}
 use Rattle.toml.specs.declared.value.Value.{Value}

@@ -3,7 +3,7 @@ use Rattle.std.proofs.Common.{◌≡◌, ℕ, ℤ, List, [], ◌∷◌, ◌++◌
 use Rattle.std.specs.Prelude.{pos}
 use Rattle.durations.specs.Duration.{Spells}
 use Rattle.durations.proofs.Spellings.{one_value}
-use Rattle.plan.specs.declared.draft.PortName.{PortName}
+use Rattle.names.specs.declared.port.PortName.{PortName}
 use Rattle.toml.specs.Data.{Data, string, integer, array, table, Members, get_member}
 use Rattle.toml.specs.View.{items_of}
 use Rattle.tables.specs.Tables.{IsWithout, SaysText, SaysNumber, SaysDuration, SaysPort, MaySay, SaysDurationOrZero, SaysMicrostep, SaysArray, SaysTexts, SaysTables}

@@ -1,7 +1,7 @@
 -- What the reading of a text says of a port.
 use Rattle.std.proofs.Common.{◌≡◌, ◌≢◌, ◌⊎◌, inl, inr, ℕ, ◌<◌, List, [], ◌∷◌, ◌++◌, length, get_or, false, IsTrue, codes, refl, sym, ap, ◌∙◌, subst, arith}
-use Rattle.plan.specs.declared.draft.PortName.{PortName}
-use Rattle.program.specs.Tokens.{is_name}
+use Rattle.names.specs.declared.port.PortName.{PortName}
+use Rattle.names.specs.Spelling.{is_name}
 use Rattle.toml.specs.Data.{Members}
 use Rattle.tables.specs.declared.fault.LoadFault.{LoadFault}
 use Rattle.tables.specs.declared.fault.LoadFault.TheVariants.{WrongShape, Memory}

@@ -1,11 +1,11 @@
 -- The refusals: their numbers, how they are told, and what faults of the layers below are here.
 use Rattle.std.specs.Prelude.{ℕ, List, ◌++◌, codes}
 use Rattle.std.specs.Fmt.{decimal}
-use Rattle.plan.specs.declared.fault.PlanFault.TheVariants as plan_fault
-use Rattle.plan.specs.declared.fault.InputFault.TheVariants as input_fault
-use Rattle.plan.specs.Faults as plan_faults
-use Rattle.plan.specs.InputFaults.{input_number_of, printed_input_fault}
-use Rattle.program.specs.Fault.{printed_fault_of}
+use Rattle.faults.specs.declared.plan_fault.PlanFault.TheVariants as plan_fault
+use Rattle.faults.specs.declared.input_fault.InputFault.TheVariants as input_fault
+use Rattle.faults.specs.PlanFaults as plan_faults
+use Rattle.faults.specs.InputFaults.{input_number_of, printed_input_fault}
+use Rattle.faults.specs.ProgramFaults.{printed_fault_of}
 use Rattle.tables.specs.declared.fault.LoadFault.{LoadFault}
 use Rattle.tables.specs.declared.fault.LoadFault.TheVariants.{NotToml, WrongShape, Plan, Program, UnknownAction, RepeatedInput, OverLimit, Memory}
 

@@ -3,8 +3,8 @@ use Rattle.std.specs.Prelude.{◌≡◌, ℕ, ℤ, pos, ◌<◌, ◌^◌, ◌⊎
 use Rattle.std.specs.List.{AllZip, list_any}
 use Rattle.std.specs.Str.{bytes_eq}
 use Rattle.durations.specs.Duration.{Spells}
-use Rattle.plan.specs.declared.draft.PortName.{PortName}
-use Rattle.program.specs.Tokens.{is_name}
+use Rattle.names.specs.declared.port.PortName.{PortName}
+use Rattle.names.specs.Spelling.{is_name}
 use Rattle.toml.specs.Data.{Data, string, integer, array, table, Members, no_members, member, get_member}
 use Rattle.toml.specs.View.{items_of}
 

@@ -2,8 +2,8 @@ ghost use Rattle.std.specs.Prelude.{◌≡◌, ◌⊎◌};
 ghost use Rattle.tables.specs.declared.fault.LoadFault.TheVariants.{Memory};
 ghost use Rattle.tables.specs.Numbers.{number_of};
 
-use plan::{InputFault, PlanFault, Text};
-use program::ProgramFault;
+use faults::{InputFault, PlanFault, ProgramFault};
+use names::Text;
 use std::alloc::{AllocError, AllocFailed, Global};
 use std::fmt;
 

@@ -1,5 +1,5 @@
 ghost use Rattle.std.specs.Prelude.{◌≡◌, ◌⊎◌, IfOk, IfErr, OnOk, map, option_map, IsTrue, All, ◌↔◌, false};
-ghost use Rattle.program.specs.Tokens.{is_name};
+ghost use Rattle.names.specs.Spelling.{is_name};
 ghost use Rattle.toml.specs.Data.{get_member, string, table};
 ghost use Rattle.toml.specs.View.{view, table_view};
 ghost use Rattle.tables.specs.Sections.{members_of};
@@ -9,8 +9,7 @@ ghost use Rattle.tables.specs.TableFaults.{IsWrongAt, HasUnknownKey};
 use crate::data::{as_number, as_table, as_text, as_values};
 use crate::fault::LoadFault;
 use durations::parse_duration;
-use plan::{Names, PortName, Text};
-use program::is_name;
+use names::{Names, PortName, Text, is_name};
 use std::alloc::Global;
 use tag::Time;
 use toml::{Table, Value};

@@ -1,7 +1,7 @@
 -- Faults of `whole` and `check`: the exit status that goes with each, and how it is told.
 use Rattle.std.specs.Prelude.{ℕ, List, codes}
 use Rattle.sources.specs.Faults as sources
-use Rattle.program.specs.Fault as program
+use Rattle.faults.specs.ProgramFaults as program
 use Rattle.printed.specs.Memory.{memory_text}
 use Rattle.unfederated.specs.declared.fault.Fault.{Fault}
 use Rattle.unfederated.specs.declared.fault.Fault.TheVariants.{Usage, Source, CannotWrite, Turns, Print}

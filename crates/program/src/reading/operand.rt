@@ -10,8 +10,7 @@ use crate::fault::LineFault;
 use crate::number::number;
 use crate::places::operand_slot;
 use crate::program::{Operand, State};
-use crate::token::is_name;
-use names::place_of;
+use names::{is_name, place_of};
 use slots::Slots;
 
 /// Reads an operand: a number, a state, or what is at a slot or whether something is.

@@ -12,8 +12,8 @@ use super::operand::operand;
 use super::schedule::schedule;
 use crate::fault::LineFault;
 use crate::program::{State, Statement};
-use crate::token::{is_name, next_token, only_token};
-use names::place_of;
+use crate::token::{next_token, only_token};
+use names::{is_name, place_of};
 use slots::Slots;
 
 /// Reads a statement.

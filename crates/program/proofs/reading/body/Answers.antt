@@ -1,6 +1,6 @@
 use Rattle.std.proofs.Common.{◌≡◌, ◌⊎◌, List, ℕ, length, Err, refl, sym, subst, inr, arith}
-use Rattle.program.specs.declared.fault.ProgramFault.{ProgramFault}
-use Rattle.program.specs.declared.fault.ProgramFault.TheVariants.{Memory}
+use Rattle.faults.specs.declared.program_fault.ProgramFault.{ProgramFault}
+use Rattle.faults.specs.declared.program_fault.ProgramFault.TheVariants.{Memory}
 use Rattle.program.specs.Resolution.{line_of}
 use Rattle.program.specs.Reading.{IsReading}
 use Rattle.program.specs.Spelled.{IsWritten, SpellsLineOf, IsLineFault}

@@ -1,5 +1,5 @@
 use Rattle.std.proofs.Common.{map, length}
-use Rattle.recorder.specs.Begun.{opening_of}
+use Rattle.auditor.specs.Placing.{opening_of}
 use Rattle.recorder.proofs.Ahead.{read_from_opening}
 use Rattle.recorder.proofs.begun.search_from_opening.Goals as goal
 

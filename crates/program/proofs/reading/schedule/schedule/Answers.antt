@@ -1,7 +1,7 @@
 use Rattle.std.proofs.Common.{◌≡◌, rules}
 use Rattle.std.proofs.lemmas.Result.{err_from_is_err_and}
 use Rattle.tag.specs.LogicalTime.{delay_of}
-use Rattle.program.specs.Tokens.{is_name}
+use Rattle.names.specs.Spelling.{is_name}
 use Rattle.program.specs.Reading.{IsReading, name_read}
 use Rattle.program.specs.Grammar.{WrittenOperand, SpellsOperand}
 use Rattle.program.specs.Resolution.{operand_of}

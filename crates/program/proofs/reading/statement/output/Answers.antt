@@ -1,7 +1,8 @@
 use Rattle.std.proofs.Common.{◌≡◌}
 use Rattle.std.proofs.lemmas.Result.{err_from_is_err_and}
 use Rattle.names.specs.Naming.{place_of}
-use Rattle.program.specs.Tokens.{tokens_of, is_name}
+use Rattle.program.specs.Tokens.{tokens_of}
+use Rattle.names.specs.Spelling.{is_name}
 use Rattle.program.specs.Reading.{name_read}
 use Rattle.program.specs.declared.program.Statement.TheVariants.{Output}
 use Rattle.program.proofs.Readings.{read_of, paired_ok, paired_err}

@@ -1,4 +1,4 @@
-use Rattle.recorder.specs.Begun.{opening_of}
+use Rattle.auditor.specs.Placing.{opening_of}
 use Rattle.recorder.proofs.Ahead.{begun_more}
 use Rattle.recorder.proofs.begun.BegunAudit.add.Goals as goal
 

@@ -1,5 +1,5 @@
 use Rattle.std.proofs.Common.{◌∙◌, map, sym, ap}
-use Rattle.recorder.specs.Begun.{opening_of}
+use Rattle.auditor.specs.Placing.{opening_of}
 use Rattle.recorder.specs.Known.{events_of}
 use Rattle.recorder.proofs.Ahead.{begun_on, reads_on}
 use Rattle.recorder.proofs.begun.BegunAudit.go_on.Goals as goal

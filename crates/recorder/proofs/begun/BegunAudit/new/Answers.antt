@@ -1,4 +1,4 @@
-use Rattle.recorder.specs.Begun.{opening_of}
+use Rattle.auditor.specs.Placing.{opening_of}
 use Rattle.recorder.proofs.Ahead.{begun_new}
 use Rattle.recorder.proofs.begun.BegunAudit.new.Goals as goal
 

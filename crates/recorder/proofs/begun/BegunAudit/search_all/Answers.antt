@@ -1,5 +1,5 @@
 use Rattle.std.proofs.Common.{◌∙◌, sym, map}
-use Rattle.recorder.specs.Begun.{opening_of}
+use Rattle.auditor.specs.Placing.{opening_of}
 use Rattle.recorder.proofs.Ahead.{read_on_longer}
 use Rattle.recorder.proofs.begun.BegunAudit.search_all.Goals as goal
 

@@ -1,6 +1,6 @@
 use Rattle.std.proofs.Common.{◌≡◌, true, IsTrue}
 use Rattle.std.specs.Prelude.{All}
-use Rattle.program.specs.Tokens.{is_name}
+use Rattle.names.specs.Spelling.{is_name}
 use Rattle.tables.specs.Sections.{members_of}
 use Rattle.tables.proofs.Refusals.{told}
 use Rattle.tables.proofs.KeyReadings.{no_names}

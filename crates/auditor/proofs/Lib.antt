@@ -1,0 +1,2 @@
+-- Which step an event at a node can be.
+mod Placing

@@ -1,0 +1,2 @@
+-- The machine of an audit, and which step an event can be.
+pub mod Placing
