@@ -1,7 +1,6 @@
 -- The refusals: their numbers, how they are told, and what faults of the layers below are here.
 use Rattle.std.specs.Prelude.{ℕ, List, ◌++◌, codes}
 use Rattle.std.specs.Fmt.{decimal}
-use Rattle.faults.specs.declared.plan_fault.PlanFault.TheVariants as plan_fault
 use Rattle.faults.specs.declared.input_fault.InputFault.TheVariants as input_fault
 use Rattle.faults.specs.PlanFaults as plan_faults
 use Rattle.faults.specs.InputFaults.{input_number_of, printed_input_fault}

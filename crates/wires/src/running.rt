@@ -3,10 +3,7 @@
 //! A member has three threads: one reads, one writes, one runs. The hub has two for each member, which read and write, and one
 //! more that lets connections in. They end in any case: a runner sees within its turns that the run is to end, then writers
 //! do, then readers come to the end of what was sent.
-use crate::crew::{Crew, channels};
-use crate::job::{Job, Left, start};
-use crate::nodes::Nodes;
-use crate::run_fault::RunFault;
+use crews::{Crew, Job, Left, Nodes, RunFault, channels, start};
 use crossbeam_channel::Receiver;
 use desk::Shared;
 use node::{Node, NodeId};

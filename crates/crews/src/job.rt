@@ -13,7 +13,7 @@ use workers::{Context, Gate, Hints, Outlet, read, read_dialed, runner, write};
 
 /// What one thread does.
 #[derive(Drop)]
-pub(crate) enum Job<'a, H: Node, M: Node, G: Gate, T: Drop, C: Drop, D: Drop, E: Drop> {
+pub enum Job<'a, H: Node, M: Node, G: Gate, T: Drop, C: Drop, D: Drop, E: Drop> {
     /// Writes what a node sends to one peer.
     Write(&'a Outlet<T, C>, &'a Ending),
     /// Runs a member for so many turns.
@@ -27,7 +27,7 @@ pub(crate) enum Job<'a, H: Node, M: Node, G: Gate, T: Drop, C: Drop, D: Drop, E:
 }
 
 /// What a thread is started for.
-pub(crate) trait Work: Drop {
+pub trait Work: Drop {
     /// Does it to its end; what it leaves.
     fn work<R: Wait + Clock>(self, rt: &R, alloc: Global) -> Option<Left>;
 }
@@ -78,7 +78,7 @@ impl<'a, H: Node, M: Node, G: Gate, T: Transport, C: Cut, D: Dial<T, C> + Drop, 
 
 /// Starts each job in a thread of its own, in this order, and waits for all of them; what they left. Where a thread can't be
 /// started, no more are, and the run is to end: a job that waits for what comes stands behind those that end it then.
-pub(crate) fn start<'a, R: Threads + Wait + Clock + Sync, J: Work + Send + 'a>(
+pub fn start<'a, R: Threads + Wait + Clock + Sync, J: Work + Send + 'a>(
     rt: &R,
     alloc: Global,
     jobs: Vec<J>,

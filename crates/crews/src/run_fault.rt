@@ -1,4 +1,5 @@
 ghost use Rattle.std.specs.Prelude.{◌≡◌};
+ghost use Rattle.crews.specs.declared.run_fault.RunFault.TheVariants.{Memory};
 
 use std::alloc::{AllocError, AllocFailed};
 use std::fmt;
@@ -14,7 +15,7 @@ pub enum RunFault {
 
 impl fmt::Display for RunFault {
     ghost use Rattle.std.specs.Prelude.{Some};
-    ghost use Rattle.wires.specs.Fault.{text_of};
+    ghost use Rattle.crews.specs.Fault.{text_of};
 
     ghost output = { λ fault. Some (text_of fault) };
 
@@ -29,12 +30,16 @@ impl fmt::Display for RunFault {
 impl std::error::Error for RunFault {}
 
 impl From<AllocError> for RunFault {
+    ghost from_gives = { λ _ fault. fault ≡ Memory };
+
     fn from(_: AllocError) -> RunFault {
         RunFault::Memory
     }
 }
 
 impl<T: Drop> From<AllocFailed<T>> for RunFault {
+    ghost from_gives = { λ _ fault. fault ≡ Memory };
+
     fn from(_: AllocFailed<T>) -> RunFault {
         RunFault::Memory
     }
