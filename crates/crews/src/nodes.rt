@@ -1,3 +1,5 @@
+ghost use Rattle.std.specs.Prelude.{◌≡◌, IfOk, IfErr, length};
+
 use crate::job::Left;
 use crate::run_fault::RunFault;
 use desk::{Desk, Shared, gather};
@@ -24,11 +26,10 @@ pub struct Gathered<H: Node, M: Node> {
 
 impl<H: Node, M: Node> Nodes<H, M> {
     /// These desks, before their workers begin.
-    pub fn new(
-        alloc: Global,
-        hub: Desk<H>,
-        members: Vec<Desk<M>>,
-    ) -> Result<Nodes<H, M>, RunFault> {
+    pub fn new(alloc: Global, hub: Desk<H>, members: Vec<Desk<M>>) -> Result<Nodes<H, M>, RunFault>
+        ensures each { IfOk result (λ nodes. length nodes.members.items ≡ length members.items) }
+        ensures memory { IfErr result (λ fault. fault ≡ RunFault.Memory) }
+    {
         let mut shared = Vec::with_capacity(alloc, members.len())?;
         for member in members {
             shared.push(Shared::new(member))?;
@@ -45,7 +46,9 @@ impl<H: Node, M: Node> Nodes<H, M> {
         self,
         alloc: Global,
         mut left: Vec<Option<Left>>,
-    ) -> Result<Gathered<H, M>, RunFault> {
+    ) -> Result<Gathered<H, M>, RunFault>
+        ensures each { IfOk result (λ gathered. length gathered.members.items ≡ length self.members.items) }
+    {
         let Nodes { hub, members, .. } = self;
         let hub = desk_of(alloc, NodeId::Coordinator, hub, &mut left)?;
         let members = desks_of(alloc, members, &mut left)?;
@@ -58,7 +61,9 @@ fn desks_of<M: Node>(
     alloc: Global,
     members: Vec<Shared<M>>,
     left: &mut [Option<Left>],
-) -> Result<Vec<Desk<M>>, RunFault> {
+) -> Result<Vec<Desk<M>>, RunFault>
+    ensures { IfOk result (λ desks. length desks.items ≡ length members.items) }
+{
     let mut desks = Vec::with_capacity(alloc, members.len())?;
     for (number, member) in members.into_iter().enumerate() {
         desks.push(desk_of(alloc, NodeId::Federate(number), member, left)?)?;
