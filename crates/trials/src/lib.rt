@@ -19,8 +19,6 @@ mod counted;
 #[cfg(test)]
 mod counts;
 #[cfg(test)]
-mod faults;
-#[cfg(test)]
 mod federations;
 #[cfg(test)]
 mod firings;
@@ -42,6 +40,8 @@ mod outcome;
 mod played;
 #[cfg(test)]
 mod reader;
+#[cfg(test)]
+mod refused_files;
 #[cfg(test)]
 mod refusing;
 #[cfg(test)]
