@@ -12,8 +12,8 @@ use Rattle.network.specs.Tables.{Table}
 use Rattle.protocol.specs.Standing.{Standing}
 use Rattle.protocol.specs.Grant.{after_completed, all_below, is_before_arrival, passes_paths, passes_connection, passes_connections, is_eligible}
 use Rattle.protocol.specs.Coordinator.{with_standing}
-use Rattle.laws.proofs.Eligibility.{contains_at, path_begins}
-use Rattle.laws.proofs.Settled.{eligible_so}
+use Rattle.protocol_laws.proofs.Eligibility.{contains_at, path_begins}
+use Rattle.protocol_laws.proofs.Settled.{eligible_so}
 use Rattle.grants.specs.Wires.{Wires, AreWires, network_by, least_by}
 use Rattle.grants.specs.Looks.{has_path}
 use Rattle.grants.specs.Routes.{may_change}

@@ -13,7 +13,7 @@ use Rattle.signal.specs.declared.signal.Signal.TheVariants.{Net, Ltc, Tag, Msg}
 use Rattle.protocol.specs.declared.refusal.Refusal.{Refusal}
 use Rattle.protocol.specs.declared.refusal.Refusal.TheVariants.{NotYours, NotForCoordinator}
 use Rattle.protocol.specs.Outcome.{Outcome, Refused, Nothing, Done, with_made, IfDone}
-use Rattle.protocol.specs.Standing.{Standing, opening_standing, after_net, after_ltc}
+use Rattle.protocol.specs.Standing.{Standing, initial_standing, after_net, after_ltc}
 use Rattle.protocol.specs.Standings.{Listed, standing_at, standings_listed, listed_after, coordinator_accepts_in}
 use Rattle.protocol.specs.Grant.{Rule, IsSafeRule, is_eligible, all_below}
 use Rattle.protocol.specs.Machine.{sent_to}
@@ -23,18 +23,18 @@ use Rattle.node.specs.declared.fault.NodeFault.{NodeFault}
 use Rattle.node.specs.declared.fault.NodeFault.TheVariants as fault
 use Rattle.node.specs.Mail.{Mail, all_posted, lacks_room}
 use Rattle.node.specs.Core.{Made, LacksRoom, Moves, answer_of, node_after, mail_after, IsCall, Allows, SendsOnly}
-use Rattle.laws.specs.Runs.{IsFullRule}
-use Rattle.laws.proofs.SafeGrants.{widest_rule_is_safe, widest_rule_is_full}
-use Rattle.laws.proofs.Settled.{NobodyIsEligible, settled_by_grants, next_same}
-use Rattle.laws.proofs.CoordinatorAlone.{accepts_stand, accepts_in_order, opening_is_standing}
-use Rattle.laws.proofs.ListedStandings.{accepts_listed, opening_read}
-use Rattle.laws.proofs.Eligibility.{contains_at, between_is, all_below_from}
-use Rattle.laws.proofs.Tests.{both_hold}
+use Rattle.protocol_laws.specs.Runs.{IsFullRule}
+use Rattle.protocol_laws.proofs.SafeGrants.{widest_rule_is_safe, widest_rule_is_full}
+use Rattle.protocol_laws.proofs.Settled.{NobodyIsEligible, settled_by_grants, next_same}
+use Rattle.protocol_laws.proofs.CoordinatorAlone.{accepts_stand, accepts_in_order, initial_is_standing}
+use Rattle.protocol_laws.proofs.ListedStandings.{accepts_listed, initial_read}
+use Rattle.protocol_laws.proofs.Eligibility.{contains_at, between_is, all_below_from}
+use Rattle.protocol_laws.proofs.Tests.{both_hold}
 use Rattle.plan.specs.declared.draft.Draft.{Draft}
 use Rattle.grants.specs.Wires.{Wires, network_by, least_by, wires_of}
 use Rattle.plan.specs.Federation.{federate_count}
-use Rattle.grants.specs.Records.{Records, AreRecords, opening_records}
-use Rattle.cores.specs.CoordinatorCore.{CoordinatorNode, made_by, accepts, coordinator_may_send}
+use Rattle.grants.specs.Records.{Records, AreRecords, initial_records}
+use Rattle.node_cores.specs.CoordinatorCore.{CoordinatorNode, made_by, accepts, coordinator_may_send}
 use Rattle.coordinator.specs.Sending.{rule_by}
 use Rattle.coordinator.specs.Steps.{IsSettled, IsKept, IsStep, made_listed, taken_by}
 use Rattle.coordinator.proofs.Signals.{stranger_done}
@@ -234,13 +234,13 @@ below_fails (suc count) j test l e =
     and_false false = refl
 
 -- what a coordinator keeps holds at the start
-pub opening_is_kept : (d : Draft) → IsKept d (opening_records d)
-opening_is_kept d =
-    let f = standing_at (standings_listed (federate_count d) (λ k. opening_standing)) in
+pub initial_is_kept : (d : Draft) → IsKept d (initial_records d)
+initial_is_kept d =
+    let f = standing_at (standings_listed (federate_count d) (λ k. initial_standing)) in
     record {
       wires = refl;
       settled = record {
-        standings = λ j. (let P : Standing → Type 0 = λ s. IsStanding s in subst P (sym (opening_read (federate_count d) j)) opening_is_standing);
-        nobody = λ j l. not_announced (f j).announced _ _ _ (ap (λ s. s.announced) (opening_read (federate_count d) j));
+        standings = λ j. (let P : Standing → Type 0 = λ s. IsStanding s in subst P (sym (initial_read (federate_count d) j)) initial_is_standing);
+        nobody = λ j l. not_announced (f j).announced _ _ _ (ap (λ s. s.announced) (initial_read (federate_count d) j));
       };
     }

@@ -9,19 +9,19 @@ use Rattle.std.proofs.lemmas.Grind.{get_or-set_at}
 use Rattle.std.proofs.lemmas.List.{append-nil, append_assoc, get_or-set_other, set-get_or}
 use Rattle.tag.specs.LogicalTime.{LogicalTime}
 use Rattle.network.specs.Network.{Network}
-use Rattle.protocol.specs.Standing.{Standing, opening_standing, after_grant}
+use Rattle.protocol.specs.Standing.{Standing, initial_standing, after_grant}
 use Rattle.protocol.specs.Grant.{Rule}
 use Rattle.protocol.specs.declared.post.Post.{Post}
 use Rattle.protocol.specs.Coordinator.{Coordinated, with_standing, grant_to, grant_post, grants_from, with_grants}
 use Rattle.protocol.specs.Standings.{standing_at, standings_listed, Listed, listed_after}
-use Rattle.laws.proofs.ListedStandings.{list_read}
+use Rattle.protocol_laws.proofs.ListedStandings.{list_read}
 use Rattle.coordinator.specs.Sending.{all_granted}
 
 set_at : (xs : List Standing) (i : ℕ) (s : Standing) (j : ℕ) (b : Bool) → nat_eq j i ≡ b → i < length xs → standing_at (set xs i s) j ≡ (if b then s else standing_at xs j)
-set_at xs i s j true e l = get_or-set_at xs i j s opening_standing (eqb-true j i e) l
+set_at xs i s j true e l = get_or-set_at xs i j s initial_standing (eqb-true j i e) l
 set_at xs i s j false e l =
     let apart : j ≢ i = grind (arith, nat_tests) in
-    get_or-set_other xs i j s opening_standing apart
+    get_or-set_other xs i j s initial_standing apart
 
 -- a list with one standing replaced is read so
 pub read_set : (xs : List Standing) (i : ℕ) (s : Standing) → i < length xs → standing_at (set xs i s) ≡ with_standing (standing_at xs) i s
@@ -35,7 +35,7 @@ listed_same (suc count) f g same =
     ap (λ rest. g 0 ∷ rest) (listed_same count (λ j. f (suc j)) (λ j. g (suc j)) (λ j l. same (suc j) (omega arith)))
 
 granted_once : (xs : List Standing) (j : ℕ) (o : Option LogicalTime) (rest : List Post) → all_granted xs (grant_post j o ++ rest) ≡ all_granted (set xs j (after_grant (standing_at xs j) o)) rest
-granted_once xs j None rest = ap (λ ys. all_granted ys rest) (sym (set-get_or xs j opening_standing))
+granted_once xs j None rest = ap (λ ys. all_granted ys rest) (sym (set-get_or xs j initial_standing))
 granted_once xs j (Some tag) rest = refl
 
 pub granted_length : (n : Network) (rule : Rule) (f : ℕ → Standing) (xs : List Standing) (j count : ℕ) → length (all_granted xs (grants_from n rule f j count)) ≡ length xs
@@ -50,7 +50,7 @@ granted_before n rule f xs j (suc count) k l =
     let s = after_grant (standing_at xs j) (grant_to n rule f j) in
     let apart : k ≢ j = omega arith in
     ap (λ ys. standing_at ys k) (granted_once xs j (grant_to n rule f j) (grants_from n rule f (j + 1) count)) ∙
-    (granted_before n rule f (set xs j s) (j + 1) count k (omega arith) ∙ get_or-set_other xs j k s opening_standing apart)
+    (granted_before n rule f (set xs j s) (j + 1) count k (omega arith) ∙ get_or-set_other xs j k s initial_standing apart)
 
 granted_there : (n : Network) (rule : Rule) (f : ℕ → Standing) (xs : List Standing) (j count k : ℕ) → j ≤ k → k < j + count → j + count ≤ length xs → standing_at (all_granted xs (grants_from n rule f j count)) k ≡ after_grant (standing_at xs k) (grant_to n rule f k)
 granted_there n rule f xs j zero k l m within = absurd (omega arith)
@@ -62,11 +62,11 @@ granted_there n rule f xs j (suc count) k l m within =
       | inl later ↦
           let apart : k ≢ j = omega arith in
           granted_there n rule f (set xs j s) (j + 1) count k (omega arith) (omega arith) (omega arith) ∙
-          ap (λ x. after_grant x (grant_to n rule f k)) (get_or-set_other xs j k s opening_standing apart)
+          ap (λ x. after_grant x (grant_to n rule f k)) (get_or-set_other xs j k s initial_standing apart)
       | inr here ↦
           let is : k ≡ j = omega arith in
           granted_before n rule f (set xs j s) (j + 1) count k (omega arith) ∙
-          (get_or-set_at xs j k s opening_standing is (omega arith) ∙ ap (λ x. after_grant (standing_at xs x) (grant_to n rule f x)) (sym is))
+          (get_or-set_at xs j k s initial_standing is (omega arith) ∙ ap (λ x. after_grant (standing_at xs x) (grant_to n rule f x)) (sym is))
     ]
 
 -- after all grants, one after the other, each federate has its own

@@ -12,7 +12,7 @@ use Rattle.protocol.specs.Standing.{Standing}
 use Rattle.protocol.specs.Standings.{standing_at}
 use Rattle.protocol.specs.Grant.{Rule, bound_of}
 use Rattle.protocol.specs.Coordinator.{grant_to, grant_post, grants_over}
-use Rattle.order.proofs.Lists.{each_append, from_each}
+use Rattle.network_laws.proofs.Lists.{each_append, from_each}
 use Rattle.std.specs.List.{AllByRecursion}
 use Rattle.grants.specs.Wires.{Wires, network_by, least_by}
 use Rattle.grants.specs.Routes.{listed_below, may_change, looked_at}

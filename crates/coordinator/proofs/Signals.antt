@@ -16,7 +16,7 @@ use Rattle.protocol.specs.declared.post.Post.{Post}
 use Rattle.protocol.specs.declared.refusal.Refusal.{Refusal}
 use Rattle.protocol.specs.declared.refusal.Refusal.TheVariants.{NotYours, BelowGrant, NotRising, AfterStop}
 use Rattle.protocol.specs.Outcome.{Outcome, Refused, Done, with_made}
-use Rattle.protocol.specs.Standing.{Standing, opening_standing, least_with, with_tag, after_grant, after_net, after_ltc, after_message}
+use Rattle.protocol.specs.Standing.{Standing, initial_standing, least_with, with_tag, after_grant, after_net, after_ltc, after_message}
 use Rattle.protocol.specs.Standings.{standing_at, standings_listed, listed_after}
 use Rattle.protocol.specs.Grant.{Rule}
 use Rattle.protocol.specs.Coordinator.{Coordinated, with_standing, noted, route, coordinator_takes, with_grants, grant_to, grant_post, grants_from, grants_over}
@@ -25,9 +25,9 @@ use Rattle.node.specs.declared.fault.NodeFault.TheVariants as fault
 use Rattle.node.specs.Mail.{Mail, all_posted, lacks_room}
 use Rattle.node.specs.Core.{Made}
 use Rattle.node.proofs.Ends.{no_posts}
-use Rattle.laws.proofs.ListedStandings.{list_read}
-use Rattle.laws.proofs.Eligibility.{contains_at, between_is}
-use Rattle.order.proofs.Lists.{each_append, each, from_each}
+use Rattle.protocol_laws.proofs.ListedStandings.{list_read}
+use Rattle.protocol_laws.proofs.Eligibility.{contains_at, between_is}
+use Rattle.network_laws.proofs.Lists.{each_append, each, from_each}
 use Rattle.grants.specs.Wires.{Wires, network_by}
 use Rattle.grants.specs.Transit.{lesser_with}
 use Rattle.grants.specs.Records as table
@@ -51,7 +51,7 @@ pub changed_twice : (r t u : Records) (i k looks : ℕ) (a : Standing) (change :
 changed_twice r t u i k looks a change within one two =
     let first = changed r t i k a one in
     let second = changed t u i looks (change (standing_at t.standings i)) two in
-    let at : standing_at (set r.standings i a) i ≡ a = get_or-set_at r.standings i i a opening_standing refl within in (
+    let at : standing_at (set r.standings i a) i ≡ a = get_or-set_at r.standings i i a initial_standing refl within in (
       second.0 ∙ first.0,
       second.1 ∙ (ap (λ xs. set xs i (change (standing_at xs i))) first.1 ∙
           (set-set r.standings i a (change (standing_at (set r.standings i a) i)) ∙ ap (λ s. set r.standings i (change s)) at)),
@@ -62,7 +62,7 @@ pub changed_again : (r t u : Records) (i looks : ℕ) (a : Standing) (change : S
     u ≡ with_looks (table.with_standing t i (change (standing_at t.standings i))) looks → (u.wires ≡ r.wires) × (u.standings ≡ set r.standings i (change a))
 changed_again r t u i looks a change within wires so two =
     let second = changed t u i looks (change (standing_at t.standings i)) two in
-    let at : standing_at (set r.standings i a) i ≡ a = get_or-set_at r.standings i i a opening_standing refl within in (
+    let at : standing_at (set r.standings i a) i ≡ a = get_or-set_at r.standings i i a initial_standing refl within in (
       second.0 ∙ wires,
       second.1 ∙ (ap (λ xs. set xs i (change (standing_at xs i))) so ∙
           (set-set r.standings i a (change (standing_at (set r.standings i a) i)) ∙ ap (λ s. set r.standings i (change s)) at)),
@@ -70,7 +70,7 @@ changed_again r t u i looks a change within wires so two =
 
 -- taken back
 pub taken_back : (r u : Records) (i : ℕ) (s : Standing) → u.standings ≡ set r.standings i s → s ≡ standing_at r.standings i → u.standings ≡ r.standings
-taken_back r u i s is same = is ∙ (ap (set r.standings i) same ∙ set-get_or r.standings i opening_standing)
+taken_back r u i s is same = is ∙ (ap (set r.standings i) same ∙ set-get_or r.standings i initial_standing)
 
 grants_in_are : (r t : Records) (xs : List Standing) (j : ℕ) → t.wires ≡ r.wires → t.standings ≡ xs →
     grants_in t (looked_at t.wires j) ≡ grants_over (network_by r.wires) (rule_by r.wires) (standing_at xs) (looked_at r.wires j)
@@ -182,7 +182,7 @@ stranger_done r i signal s are settled l takes =
     ap (λ ps. let o : Outcome (Made (List Standing)) = Done (record { after = r.standings; sent = ps }) in o) (none_from n (rule_by r.wires) f 0 r.wires.federates none))
 
 stranger_is_new : (r : Records) (i : ℕ) → AreRecords r → r.wires.federates ≤ i → (standing_at r.standings i).completed ≡ None
-stranger_is_new r i are l = ap (λ (s : Standing). s.completed) (get_or-eq_default r.standings opening_standing (omega (arith, are.count)))
+stranger_is_new r i are l = ap (λ (s : Standing). s.completed) (get_or-eq_default r.standings initial_standing (omega (arith, are.count)))
 
 stranger_step : (r : Records) (m : Mail) (i : ℕ) (signal : Signal) (s : Standing) → AreRecords r → IsSettled r → r.wires.federates ≤ i → coordinator_takes (network_by r.wires) (standing_at r.standings) i signal ≡ Done (noted (standing_at r.standings) i s) →
     IsStep r r m m (Ok true) i signal

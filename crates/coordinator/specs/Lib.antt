@@ -3,5 +3,5 @@
 pub mod Sending
 -- what is kept between steps, and what a step comes to
 pub mod Steps
--- how the coordinator's want of memory is told
+-- how the coordinator's out-of-memory fault is printed
 pub mod Fault

@@ -1,5 +1,5 @@
 ghost use Rattle.std.specs.Prelude.{◌≡◌, ℕ, IfOk};
-ghost use Rattle.protocol.specs.Standing.{opening_standing};
+ghost use Rattle.protocol.specs.Standing.{initial_standing};
 ghost use Rattle.protocol.specs.Standings.{standings_listed};
 ghost use Rattle.signal.specs.Signal.{IsSignal};
 ghost use Rattle.plan.specs.Federation.{federate_count};
@@ -24,7 +24,7 @@ pub struct Coordinator<'a> {
 }
 
 impl<'a> Model for Coordinator<'a> {
-    ghost use Rattle.cores.specs.CoordinatorCore.{CoordinatorNode};
+    ghost use Rattle.node_cores.specs.CoordinatorCore.{CoordinatorNode};
 
     ghost Value = { CoordinatorNode };
 
@@ -38,7 +38,7 @@ impl<'a> Model for Coordinator<'a> {
 impl<'a> Coordinator<'a> {
     /// Of a plan's federates, before any signal came.
     pub fn new(alloc: Global, plan: &'a Plan) -> Result<Coordinator<'a>, Memory>
-        ensures { IfOk result (λ coordinator. coordinator ≡ record { draft = plan.now; standings = standings_listed (federate_count plan.now) (λ j. opening_standing) }) }
+        ensures { IfOk result (λ coordinator. coordinator ≡ record { draft = plan.now; standings = standings_listed (federate_count plan.now) (λ j. initial_standing) }) }
     {
         let table = Table::new(alloc, plan)?;
         let posts = Vec::new(alloc);
@@ -51,8 +51,8 @@ impl<'a> Coordinator<'a> {
 
 impl<'a> Node for Coordinator<'a> {
     ghost use Rattle.std.specs.Prelude.{true, []};
-    ghost use Rattle.cores.specs.CoordinatorCore.{coordinator_core};
-    ghost use Rattle.cores.proofs.GoingOn.{coordinators_go_on};
+    ghost use Rattle.node_cores.specs.CoordinatorCore.{coordinator_core};
+    ghost use Rattle.node_cores.proofs.GoingOn.{coordinators_go_on};
 
     type Row = ();
 
@@ -71,8 +71,8 @@ impl<'a> Node for Coordinator<'a> {
         outbox: &mut Outbox,
     ) -> Result<bool, NodeFault> {
         // For the prover: tags are tags, and least delays are least over all paths.
-        known(&signal);
-        self.state.table.known();
+        signal_invariant(&signal);
+        self.state.table.invariant();
         self.state.take(self.plan, peer, &signal, outbox)
     }
 
@@ -100,8 +100,8 @@ impl<'a> Node for Coordinator<'a> {
 }
 
 /// What every signal keeps.
-fn known(signal: &Signal)
+fn signal_invariant(signal: &Signal)
     ensures { IsSignal signal.now }
 {
-    signal.known();
+    signal.invariant();
 }

@@ -1,6 +1,6 @@
 //! The coordinator of a federation: it takes the federates' signals, sends messages on, and grants each federate as much as is safe.
 //!
-//! Promise to the layer above: `Coordinator` is the node of `cores`, `specs/CoordinatorCore`: each accepted signal is the step of
+//! Promise to the layer above: `Coordinator` is the node of `node_cores`, `specs/CoordinatorCore`: each accepted signal is the step of
 //! `protocol`, on its list of standings, or changes nothing.
 //!
 //!     Coordinator::accept --> State::take       is the signal refused?

@@ -8,13 +8,14 @@ ghost use Rattle.grants.specs.Records.{changed_at, with_looks};
 ghost use Rattle.coordinator.specs.Steps.{IsSettled, IsStep};
 
 use crate::sending::{prepare, send};
-use crate::tags::{is_in_time, is_next_in_time, is_past, lesser_with};
+use crate::tags::{is_in_time, is_next_in_time, lesser_with};
 use grants::Table;
 use node::{NodeFault, Outbox};
-use plan::{Connection, Plan};
+use plan::Plan;
+use plan_paths::Connection;
 use protocol::{Post, Refusal};
 use signal::Signal;
-use tag::{FiniteTag, Tag, lesser};
+use tag::{FiniteTag, Tag, is_past, lesser};
 
 /// What the coordinator knows of the federates, and room for what a step sends, which is kept.
 #[derive(Drop)]
@@ -69,7 +70,7 @@ impl State {
         ensures { IsStep self.old.table self.new.table outbox.old.mail outbox.new.mail result peer (signals.Net tag) }
     {
         // For the prover: a standing for each federate, and connections between federates that are there.
-        self.table.known();
+        self.table.invariant();
         if !is_next_in_time(tag, self.table.stop()) {
             return Err(NodeFault::Refused(Refusal::AfterStop));
         }
@@ -106,7 +107,7 @@ impl State {
         ensures { IsStep self.old.table self.new.table outbox.old.mail outbox.new.mail result peer (signals.Ltc tag) }
     {
         // For the prover: a standing for each federate, and connections between federates that are there.
-        self.table.known();
+        self.table.invariant();
         if !is_in_time(tag.tag(), self.table.stop()) {
             return Err(NodeFault::Refused(Refusal::AfterStop));
         }
@@ -144,7 +145,7 @@ impl State {
         ensures { IsStep self.old.table self.new.table outbox.old.mail outbox.new.mail result peer (signals.Msg number tag value) }
     {
         // For the prover: a standing for each federate, and connections between federates that are there.
-        self.table.known();
+        self.table.invariant();
         let Some(connection) = over else {
             return Err(NodeFault::Refused(Refusal::NotYours));
         };

@@ -1,6 +1,6 @@
 //! Tests of tags, and the lesser of a tag and of another that may be there.
 ghost use Rattle.std.specs.Prelude.{◌≡◌, ◌||◌};
-ghost use Rattle.tag.specs.LogicalTime.{forever, is_at_most, is_same, is_past};
+ghost use Rattle.tag.specs.LogicalTime.{forever, is_at_most, is_same};
 ghost use Rattle.grants.specs.Transit.{lesser_with};
 
 use tag::{FiniteTag, Tag, lesser};
@@ -26,15 +26,5 @@ pub(crate) fn lesser_with(tag: Tag, other: Option<FiniteTag>) -> Tag
     match other {
         Some(other) => lesser(other.tag(), tag),
         None => tag,
-    }
-}
-
-/// Whether a tag is later than the last one, if there is one.
-pub(crate) fn is_past(last: Option<FiniteTag>, tag: Tag) -> bool
-    ensures { result ≡ is_past last tag }
-{
-    match last {
-        Some(last) => last.tag() < tag,
-        None => true,
     }
 }

@@ -2,7 +2,7 @@
 use Rattle.std.specs.Prelude.{Bool, List, [], ◌∷◌}
 use Rattle.node.specs.declared.event.Event.{Event}
 use Rattle.node.specs.Core.{Core}
-use Rattle.node.specs.Step.{Station, step_of, opening_of}
+use Rattle.node.specs.Step.{Station, step_of, initial_of}
 
 -- a station, and all events that came to it, oldest first
 pub record Desk (View : Type 0) : Type 0 where
@@ -14,6 +14,6 @@ abbrev pub after_all : {View Row : Type 0} → Core View Row → (hub : Bool) �
 after_all core hub s [] = s
 after_all core hub s (event ∷ events) = after_all core hub (step_of core hub s event).station events
 
--- the station that a journal gives: all its events, from the opening of what the station was made from
+-- the station that a journal gives: all its events, from the initial station of what it was made from
 abbrev pub replay : {View Row : Type 0} → Core View Row → (hub : Bool) → Station View → List Event → Station View
-replay core hub s journal = after_all core hub (opening_of core s) journal
+replay core hub s journal = after_all core hub (initial_of core s) journal

@@ -1,5 +1,5 @@
 ghost use Rattle.std.specs.Prelude.{◌≡◌, [], ◌∷◌, ◌++◌, IfOk, OnOk, OnErr, MatchResult};
-ghost use Rattle.node.specs.Step.{said, step_of, opening_of};
+ghost use Rattle.node.specs.Step.{said, step_of, initial_of};
 ghost use Rattle.desk.specs.Replay.{replay};
 ghost use Rattle.desk.specs.Shares.{Agree};
 
@@ -7,7 +7,7 @@ use crate::matching::agree;
 use crate::memory::Memory;
 use crate::share::Share;
 use crate::shares_disagree::SharesDisagree;
-use node::laws::openings_stay;
+use node::laws::initial_stations_stay;
 use node::{Event, Node, Reply, Station};
 use std::alloc::Global;
 use std::marker::Model;
@@ -33,7 +33,7 @@ impl<N: Node> Model for Desk<N> {
 impl<N: Node> Desk<N> {
     /// A desk with an empty journal. It is asked before the station's first step.
     pub fn new(alloc: Global, station: Station<N>) -> Desk<N>
-        requires { station ≡ opening_of N.core station }
+        requires { station ≡ initial_of N.core station }
         ensures { result ≡ record { station = station; journal = [] } }
     {
         Desk {
@@ -71,12 +71,12 @@ impl<N: Node> Desk<N> {
     pub fn handle(&mut self, event: Event) -> Result<Reply, Memory>
         ensures step { IfOk result (λ reply. record { station = self.new.station; answer = said reply } ≡ step_of N.core N.HUB (replay N.core N.HUB self.old.station self.old.journal) event) }
         ensures station { self.old.station ≡ replay N.core N.HUB self.old.station self.old.journal }
-        ensures opening { opening_of N.core self.new.station ≡ opening_of N.core self.old.station }
+        ensures initial { initial_of N.core self.new.station ≡ initial_of N.core self.old.station }
         ensures journal { OnOk result (self.new.journal ≡ self.old.journal ++ event ∷ []) }
-        ensures as_before { OnErr result (self.new ≡ self.old) }
+        ensures unchanged { OnErr result (self.new ≡ self.old) }
     {
         // For the prover: what the station was made from stays.
-        openings_stay::<N>();
+        initial_stations_stay::<N>();
         step(&mut self.station, &mut self.journal, &event)
     }
 

@@ -52,7 +52,7 @@ fn are_used_up(shares: &[Share]) -> bool
 // Takes the slip off the share at this position, if there is one and the slip is its last.
 fn take_at(shares: &mut [Share], position: usize, slip: &Slip) -> bool
     ensures taken { result ≡ true → (journal : List IsEvent) → length journal ≡ slip.now.place → Agree (journal ++ slip.now.event ∷ []) shares.old ↔ Agree journal shares.new }
-    ensures as_before { result ≡ false → shares.new ≡ shares.old }
+    ensures unchanged { result ≡ false → shares.new ≡ shares.old }
     ensures not_last { result ≡ false → (front : List IsSlip) → slice_get shares.old position ≢ Some (front ++ slip.now ∷ []) }
 {
     position < shares.len() && take_last(&mut shares[position], slip)
@@ -61,7 +61,7 @@ fn take_at(shares: &mut [Share], position: usize, slip: &Slip) -> bool
 // Takes the slip off the share, if it is its last one.
 fn take_last(share: &mut Share, slip: &Slip) -> bool
     ensures taken { result ≡ true → share.old ≡ share.new ++ slip.now ∷ [] }
-    ensures as_before { result ≡ false → share.new ≡ share.old }
+    ensures unchanged { result ≡ false → share.new ≡ share.old }
     ensures not_last { result ≡ false → (front : List IsSlip) → share.old ≢ front ++ slip.now ∷ [] }
 {
     let is_last = match share.slips.last() {

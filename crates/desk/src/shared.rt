@@ -16,7 +16,7 @@ use std::sync::{Mutex, MutexGuard, Wait};
 /// journal beside it.
 ///
 /// A contract can't name what lies under a lock. That `handle` answers as the desk does, and that its slip has the event's place
-/// in the journal, is said by `enter`, which is lent the locked desk. That `finished` answers as the node does isn't said.
+/// in the journal, is said by `enter`, which is passed the locked desk. That `finished` answers as the node does isn't said.
 #[derive(Drop)]
 pub struct Shared<N: Node> {
     desk: Mutex<Desk<N>>,
@@ -34,7 +34,7 @@ impl<N: Node> Shared<N> {
     /// changed, and the same event may come again.
     pub fn handle<R: Wait>(&self, rt: &R, share: &mut Share, event: Event) -> Result<Reply, Memory>
         ensures slip { OnOk result ((place : ℕ) × (share.new ≡ share.old ++ record { place = place; event = event } ∷ [])) }
-        ensures as_before { OnErr result (share.new ≡ share.old) }
+        ensures unchanged { OnErr result (share.new ≡ share.old) }
     {
         let mut locked = self.lock(rt);
         let reply = locked.handle(share, event);
@@ -59,7 +59,7 @@ impl<N: Node> Shared<N> {
         events: &mut Vec<Event>,
     ) -> Result<(), Memory>
         ensures copied { OnOk result ((more : List IsEvent) × (events.new.items ≡ events.old.items ++ more)) }
-        ensures as_before { OnErr result (events.new.items ≡ events.old.items) }
+        ensures unchanged { OnErr result (events.new.items ≡ events.old.items) }
     {
         let locked = self.lock(rt);
         let result = copy_some(locked.desk.journal(), place, most, events);
@@ -86,7 +86,7 @@ impl<'a, N: Node> Locked<'a, N> {
     /// event may come again.
     pub fn handle(&mut self, share: &mut Share, event: Event) -> Result<Reply, Memory>
         ensures slip { OnOk result ((place : ℕ) × (share.new ≡ share.old ++ record { place = place; event = event } ∷ [])) }
-        ensures as_before { OnErr result (share.new ≡ share.old) }
+        ensures unchanged { OnErr result (share.new ≡ share.old) }
     {
         share.slips.reserve(1)?;
         enter(&mut self.desk, &mut share.slips, &event)
@@ -120,7 +120,7 @@ fn copy_some(
     events: &mut Vec<Event>,
 ) -> Result<(), Memory>
     ensures copied { OnOk result (events.new.items ≡ events.old.items ++ take most (drop place journal.now)) }
-    ensures as_before { OnErr result (events.new.items ≡ events.old.items) }
+    ensures unchanged { OnErr result (events.new.items ≡ events.old.items) }
 {
     let from = place.min(journal.len());
     let count = most.min(journal.len() - from);

@@ -7,16 +7,16 @@ use Rattle.protocol.specs.declared.refusal.Refusal.{Refusal}
 use Rattle.protocol.specs.Outcome.{Outcome, Refused, Nothing, Done, with_made, IfDone}
 use Rattle.protocol.specs.Federate.{Federate, Stepped, federate_accepts, federate_advances}
 use Rattle.protocol.specs.Alone.{IsFederate, is_of_turn, is_sent_after, completed_by}
-use Rattle.laws.proofs.FederateAlone.{accept_leaves, advance_sends}
+use Rattle.protocol_laws.proofs.FederateAlone.{accept_leaves, advance_sends}
 use Rattle.node.specs.declared.fault.NodeFault.{NodeFault}
 use Rattle.node.specs.declared.fault.NodeFault.TheVariants as fault
 use Rattle.node.specs.Mail.{Mail, lacks_room, all_posted}
 use Rattle.node.specs.Core.{Made, LacksRoom, Moves, ending_of, IsCall, SendsOnly}
-use Rattle.federation.proofs.LawfulNetwork.{gives_lawful}
-use Rattle.cores.specs.FederateCore.{FederateNode, network_at, to_coordinator, signals_of, made_by, federate_may_send, advances}
+use Rattle.plan_network.proofs.LawfulNetwork.{gives_lawful}
+use Rattle.node_cores.specs.FederateCore.{FederateNode, network_at, to_coordinator, signals_of, made_by, federate_may_send, advances}
 use Rattle.federate.specs.declared.change.Change.{Change}
 use Rattle.federate.specs.Change.{changed}
-use Rattle.federate.specs.Kept.{IsNode}
+use Rattle.federate.specs.Invariant.{IsNode}
 
 -- done, and this sent
 pub done_call : {V : Type 0} (v after : V) (m mail : Mail) (o : Outcome (Made V)) (made : Made V) → o ≡ Done made → after ≡ made.after → mail ≡ all_posted m made.sent →

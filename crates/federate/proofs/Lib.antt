@@ -6,5 +6,5 @@ pub mod RecordedInputs
 pub mod Turns
 -- What a node's call comes to, by its step.
 pub mod Calls
--- A federate as it is made is the opening one.
-pub mod Openings
+-- A federate as it is made is the initial one.
+pub mod Initial

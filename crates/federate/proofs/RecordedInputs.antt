@@ -5,12 +5,12 @@ use Rattle.std.proofs.lemmas.List.{take_more, map-append}
 use Rattle.std.proofs.lemmas.List.Elements.{filter-append, filter_map-append}
 use Rattle.tag.specs.LogicalTime.{is_at_most}
 use Rattle.network.specs.Event.{Event}
-use Rattle.network.specs.Undone.{Held, put_all, held_of}
+use Rattle.network.specs.Undone.{PendingEvent, put_all, pending_event_of}
 use Rattle.plan.specs.declared.draft.Draft.{Draft}
 use Rattle.plan.specs.declared.input.Input.{Input}
 use Rattle.plan.specs.Federation.{stop_of}
 use Rattle.plan.specs.External.{input_event, input_events, input_events_to, is_for}
-use Rattle.agenda.proofs.Putting.{put_all-append}
+use Rattle.reactor_agenda.proofs.Putting.{put_all-append}
 
 -- inputs, and then others
 joined : (d : Draft) (xs ys : List Input) (j : ℕ) → input_events_to d (xs ++ ys) j ≡ input_events_to d xs j ++ input_events_to d ys j
@@ -21,12 +21,12 @@ joined d xs ys j =
     ∙ filter-append (is_for j) (input_events d xs) (input_events d ys)
 
 -- one input more is put over those before it
-pub put_more : (d : Draft) (inputs : List Input) (i : ℕ) (x : Input) (j : ℕ) (u : List Held) → i < length inputs → x ≡ get_or inputs i x →
-    put_all (map held_of (input_events_to d (take (i + 1) inputs) j)) u ≡
-    put_all (map held_of (input_events_to d (x ∷ []) j)) (put_all (map held_of (input_events_to d (take i inputs) j)) u)
+pub put_more : (d : Draft) (inputs : List Input) (i : ℕ) (x : Input) (j : ℕ) (u : List PendingEvent) → i < length inputs → x ≡ get_or inputs i x →
+    put_all (map pending_event_of (input_events_to d (take (i + 1) inputs) j)) u ≡
+    put_all (map pending_event_of (input_events_to d (x ∷ []) j)) (put_all (map pending_event_of (input_events_to d (take i inputs) j)) u)
 put_more d inputs i x j u h is =
     let cut : take (i + 1) inputs ≡ take i inputs ++ x ∷ [] = take_more inputs i x h ∙ ap (λ y. take i inputs ++ y ∷ []) (sym is) in
-    ap (λ xs. put_all (map held_of (input_events_to d xs j)) u) cut
-    ∙ ap (λ es. put_all (map held_of es) u) (joined d (take i inputs) (x ∷ []) j)
-    ∙ ap (λ es. put_all es u) (map-append held_of (input_events_to d (take i inputs) j) (input_events_to d (x ∷ []) j))
-    ∙ put_all-append (map held_of (input_events_to d (take i inputs) j)) (map held_of (input_events_to d (x ∷ []) j)) u
+    ap (λ xs. put_all (map pending_event_of (input_events_to d xs j)) u) cut
+    ∙ ap (λ es. put_all (map pending_event_of es) u) (joined d (take i inputs) (x ∷ []) j)
+    ∙ ap (λ es. put_all es u) (map-append pending_event_of (input_events_to d (take i inputs) j) (input_events_to d (x ∷ []) j))
+    ∙ put_all-append (map pending_event_of (input_events_to d (take i inputs) j)) (map pending_event_of (input_events_to d (x ∷ []) j)) u

@@ -10,32 +10,32 @@ use Rattle.network.specs.Connection.{Connection}
 use Rattle.network.specs.Event.{Entry, listed, value_at}
 use Rattle.network.specs.Network.{Network, Scheduling, Effect}
 use Rattle.network.specs.Undivided.{Row}
-use Rattle.network.specs.Undone.{Held, put_all, look, first_tag, drop_up_to}
+use Rattle.network.specs.Undone.{PendingEvent, put_all, look, first_tag, drop_up_to}
 use Rattle.network.specs.Lawful.{IsLawful, IsConnected, IsOwn}
-use Rattle.order.proofs.Lists.{each, each_more, each_append}
+use Rattle.network_laws.proofs.Lists.{each, each_more, each_append}
 use Rattle.signal.specs.declared.signal.Signal.TheVariants.{Ltc}
 use Rattle.protocol.specs.Outcome.{Nothing, Done, IfDone}
 use Rattle.protocol.specs.Federate.{Federate, effect_of, scheduled_at, scheduled_by, message_over, messages_from, turn_at, advance_to, federate_advances}
 use Rattle.protocol.specs.Alone.{IsFederate, IsStillToRun}
-use Rattle.laws.proofs.FederateAlone.{advance_leaves}
+use Rattle.protocol_laws.proofs.FederateAlone.{advance_leaves}
 use Rattle.plan.specs.declared.draft.Draft.{Draft}
 use Rattle.plan.specs.declared.draft.Federate as declared
 use Rattle.plan.specs.declared.input.Input.{Input}
 use Rattle.plan.specs.Federation.{connections_of, stop_of}
-use Rattle.slots.specs.Numbering.{slot_count}
-use Rattle.program.specs.Behaviour.{Behaviour, IsWellFormed}
-use Rattle.federation.specs.Network.{network_of, slots_of, ports_of, effect_by}
+use Rattle.plan_slots.specs.Numbering.{slot_count}
+use Rattle.reactor_program.specs.Behaviour.{Behaviour, IsWellFormed}
+use Rattle.plan_network.specs.Network.{network_of, slots_of, ports_of, effect_by}
 use Rattle.reactor.specs.Turn.{Reactor, Turn}
-use Rattle.federation.proofs.LawfulNetwork.{gives_lawful}
-use Rattle.agenda.specs.Agenda.{Agenda, in_time}
-use Rattle.agenda.proofs.Filtered.{all_filter, filter_twice}
-use Rattle.cores.specs.FederateCore.{to_coordinator}
+use Rattle.plan_network.proofs.LawfulNetwork.{gives_lawful}
+use Rattle.reactor_agenda.specs.Agenda.{Agenda, in_time}
+use Rattle.reactor_agenda.proofs.Filtered.{all_filter, filter_twice}
+use Rattle.node_cores.specs.FederateCore.{to_coordinator}
 use Rattle.federate.specs.declared.outlet.Outlet.{Outlet}
 use Rattle.federate.specs.declared.prepared.Prepared.{Prepared}
 use Rattle.federate.specs.Outlets.{outlet_if, outlets_from, messages_by}
 use Rattle.federate.specs.Turn.{due_if, due_in, effect_at, IsPrepared}
-use Rattle.federate.specs.Kept.{IsKept, standing}
-use Rattle.agenda.proofs.Listed.{listed_value}
+use Rattle.federate.specs.Invariant.{IsKept, standing}
+use Rattle.reactor_agenda.proofs.Listed.{listed_value}
 use Rattle.federate.proofs.Outlets.{messages_are}
 
 -- ---- what is due
@@ -55,7 +55,7 @@ advances_due n j f tag due =
     let h = due_parts f.granted (first_tag f.undone) tag due in
     ap (advance_to n j f) h.0 ∙ ap (λ b. if b then Done (turn_at n j f tag) else Nothing) h.1
 
-first_finite : (n : Network) (j : ℕ) (completed : Option LogicalTime) (u : List Held) (tag : LogicalTime) → first_tag u ≡ Some tag → AllByRecursion (IsStillToRun n j completed) u → IsFinite tag
+first_finite : (n : Network) (j : ℕ) (completed : Option LogicalTime) (u : List PendingEvent) (tag : LogicalTime) → first_tag u ≡ Some tag → AllByRecursion (IsStillToRun n j completed) u → IsFinite tag
 first_finite n j completed [] tag e a = absurd cc
 first_finite n j completed (x ∷ rest) tag e a = let same : x.tag ≡ tag = cc in subst IsFinite same a.0.finite
 
@@ -138,7 +138,7 @@ module _ (d : Draft) (programs : List Behaviour) (inputs : List Input) (j : ℕ)
     effect_is : Keeps → effect_of n j f tag ≡ effect_at r a.undone tag
     effect_is k = ap (λ o. effect_by o r.states (look a.undone tag)) k.program_is
 
-    abbrev in_stop : Held → Bool
+    abbrev in_stop : PendingEvent → Bool
     in_stop e = is_at_most e.tag (stop_of d)
 
     module _ (p : Prepared) where
@@ -171,7 +171,7 @@ module _ (d : Draft) (programs : List Behaviour) (inputs : List Input) (j : ℕ)
           ∙ ap (λ (e : Effect). messages_from n j tag e.outputs 0 (connections_of d)) (sym (effect_is k)) in
           is.posts ∙ ap (λ xs. map to_coordinator (xs ++ Ltc tag ∷ [])) same
 
-      abbrev made : List ℤ → List Held → Row → Federate
+      abbrev made : List ℤ → List PendingEvent → Row → Federate
       made states undone row = record {
         states = states;
         undone = undone;
@@ -225,7 +225,7 @@ module _ (d : Draft) (programs : List Behaviour) (inputs : List Input) (j : ℕ)
 
         pub stands : Keeps → Prepares → Takes → standing s b granted (Some tag) None more ≡ (turn_at n j f tag).after
         stands k is t =
-            let with_rows : List ℤ → List Held → List Row → Federate = λ states undone rows. record {
+            let with_rows : List ℤ → List PendingEvent → List Row → Federate = λ states undone rows. record {
               states = states;
               undone = undone;
               granted = granted;

@@ -1,8 +1,8 @@
--- How it is told that a federate can't be made, or a turn be worked out, for want of memory.
+-- How it is printed that a federate can't be made, or a turn be worked out, out of memory.
 use Rattle.std.specs.Prelude.{ℕ, List, codes}
 use Rattle.signal.specs.Fault.{told}
 
--- the number of want of memory
+-- the number of the out-of-memory fault
 abbrev pub memory_number : ℕ
 memory_number = 64
 

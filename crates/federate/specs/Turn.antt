@@ -3,16 +3,16 @@ use Rattle.std.specs.Prelude.{◌≡◌, if◌then◌else◌, List, [], ◌∷�
 use Rattle.tag.specs.LogicalTime.{LogicalTime, is_at_most, is_reached}
 use Rattle.network.specs.Event.{listed, value_at}
 use Rattle.network.specs.Network.{Effect}
-use Rattle.network.specs.Undone.{Held, look, first_tag}
+use Rattle.network.specs.Undone.{PendingEvent, look, first_tag}
 use Rattle.signal.specs.declared.signal.Signal.TheVariants.{Ltc}
 use Rattle.protocol.specs.Federate.{Federate, scheduled_at}
 use Rattle.plan.specs.declared.draft.Draft.{Draft}
 use Rattle.plan.specs.Federation.{stop_of}
-use Rattle.slots.specs.Numbering.{slot_count}
+use Rattle.plan_slots.specs.Numbering.{slot_count}
 use Rattle.reactor.specs.Effect as reactor
-use Rattle.federation.specs.Network.{network_of}
+use Rattle.plan_network.specs.Network.{network_of}
 use Rattle.reactor.specs.Turn.{Reactor, turn_of}
-use Rattle.cores.specs.FederateCore.{to_coordinator}
+use Rattle.node_cores.specs.FederateCore.{to_coordinator}
 use Rattle.federate.specs.declared.outlet.Outlet.{Outlet}
 use Rattle.federate.specs.declared.prepared.Prepared.{Prepared}
 use Rattle.federate.specs.Outlets.{messages_by}
@@ -27,11 +27,11 @@ abbrev pub due_in : Federate → Option LogicalTime
 due_in f = due_if f.granted (first_tag f.undone)
 
 -- what a reactor makes of what is undone at a tag
-abbrev pub effect_at : Reactor → List Held → LogicalTime → Effect
+abbrev pub effect_at : Reactor → List PendingEvent → LogicalTime → Effect
 effect_at r undone tag = reactor.effect_of r.behaviour r.states (look undone tag)
 
 -- the turn at a tag; neither programs nor recorded inputs matter for its messages
-pub record IsPrepared (d : Draft) (r : Reactor) (undone : List Held) (outlets : List Outlet) (tag : LogicalTime) (p : Prepared) : Type 0 where
+pub record IsPrepared (d : Draft) (r : Reactor) (undone : List PendingEvent) (outlets : List Outlet) (tag : LogicalTime) (p : Prepared) : Type 0 where
   pub present : p.present.items ≡ listed (slot_count r.behaviour.slots) (look undone tag)
   pub turn : p.turn ≡ turn_of r (look undone tag)
   pub fits : length p.turn.states ≡ length r.states

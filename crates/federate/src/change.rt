@@ -1,4 +1,4 @@
-use agenda::Held;
+use reactor_agenda::PendingEvent;
 use tag::FiniteTag;
 
 /// What an accepted signal changes.
@@ -7,5 +7,5 @@ pub enum Change {
     /// It may run up to this tag.
     Grant(FiniteTag),
     /// An event is to be run, in place of an older one for its slot at its tag.
-    Put(Held),
+    Put(PendingEvent),
 }

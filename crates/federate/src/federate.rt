@@ -3,32 +3,33 @@ ghost use Rattle.tag.specs.LogicalTime.{is_at_most, is_past};
 ghost use Rattle.signal.specs.Signal.{IsSignal};
 ghost use Rattle.signal.specs.declared.signal.Signal.TheVariants as Signals;
 ghost use Rattle.protocol.specs.Outcome.{Nothing, Done, Refused};
-ghost use Rattle.protocol.specs.Federate.{accept_grant, accept_message, opening_federate, federate_accepts};
+ghost use Rattle.protocol.specs.Federate.{accept_grant, accept_message, initial_federate, federate_accepts};
 ghost use Rattle.protocol.specs.Alone.{IsFederate};
 ghost use Rattle.plan.specs.External.{AreInputsOf};
 ghost use Rattle.plan.specs.Federation.{connections_of, federate_count, stop_of};
-ghost use Rattle.federation.specs.Network.{network_of};
-ghost use Rattle.programs.specs.Programs.{AreProgramsOf};
+ghost use Rattle.plan_network.specs.Network.{network_of};
+ghost use Rattle.reactor_programs.specs.Programs.{AreProgramsOf};
 ghost use Rattle.federate.specs.Change.{changed, IsInTime};
 ghost use Rattle.federate.specs.Turn.{due_in};
 
 use crate::change::Change;
 use crate::memory::Memory;
-use crate::messages::{stop_of, to_coordinator};
+use crate::messages::to_coordinator;
 use crate::outlet::{Outlet, outlets_of};
 use crate::prepared::{Prepared, prepare, take_in};
 use crate::recorded::put_recorded;
-use agenda::{Agenda, Held};
 use node::laws::nothing_needs_no_room;
 use node::{Blank, Node, NodeFault, Outbox};
-use plan::{Connection, Inputs, Plan};
-use programs::Programs;
+use plan::{Inputs, Plan};
+use plan_paths::Connection;
 use protocol::Refusal;
 use reactor::{Reactor, Row, Rows};
+use reactor_agenda::{Agenda, PendingEvent};
+use reactor_programs::Programs;
 use signal::Signal;
 use std::alloc::Global;
 use std::marker::Model;
-use tag::{FiniteTag, Tag};
+use tag::{FiniteTag, Tag, is_past};
 
 /// A federate of a plan, behind a link to the coordinator, its one peer, 0. Contracts see what it was made from, its number, and
 /// where it stands.
@@ -54,8 +55,8 @@ pub struct Federate<'a> {
 }
 
 impl<'a> Model for Federate<'a> {
-    ghost use Rattle.cores.specs.FederateCore.{FederateNode};
-    ghost use Rattle.federate.specs.Kept.{standing, IsKept};
+    ghost use Rattle.node_cores.specs.FederateCore.{FederateNode};
+    ghost use Rattle.federate.specs.Invariant.{standing, IsKept};
 
     ghost Value = { FederateNode };
 
@@ -72,8 +73,8 @@ impl<'a> Model for Federate<'a> {
 }
 
 impl<'a> Federate<'a> {
-    ghost use Rattle.cores.specs.FederateCore.{network_at, announces, advances};
-    ghost use Rattle.federate.specs.Kept.{IsNode};
+    ghost use Rattle.node_cores.specs.FederateCore.{network_at, announces, advances};
+    ghost use Rattle.federate.specs.Invariant.{IsNode};
 
     /// The federate of this number, before it has run anything. `Memory` alone is told.
     pub fn new(
@@ -91,13 +92,13 @@ impl<'a> Federate<'a> {
           programs = programs.now;
           inputs = inputs.now;
           number = number;
-          federate = opening_federate (network_of plan.now programs.now inputs.now) number;
+          federate = initial_federate (network_of plan.now programs.now inputs.now) number;
         }) }
     {
-        plan.known();
+        plan.invariant();
         let program = &programs.as_slice()[number];
         let slots = &plan.federates()[number].slots;
-        let mut agenda = Agenda::new(alloc, slots, stop_of(plan))?;
+        let mut agenda = Agenda::new(alloc, slots, plan.stop_tag())?;
         put_recorded(&mut agenda, plan, inputs, number)?;
         Ok(Federate {
             plan,
@@ -116,7 +117,7 @@ impl<'a> Federate<'a> {
     }
 
     /// What every federate keeps, whatever signals came.
-    pub fn known(&self)
+    pub fn invariant(&self)
         ensures { IsNode self.now }
     {
         let _ = &self.plan;
@@ -150,7 +151,7 @@ impl<'a> Federate<'a> {
     fn due(&self) -> Option<FiniteTag>
         ensures { result ≡ due_in self.now.federate }
     {
-        self.agenda.known();
+        self.agenda.invariant();
         let tag = FiniteTag::of(self.agenda.least())?;
         match self.granted {
             Some(granted) if tag <= granted => Some(tag),
@@ -166,7 +167,7 @@ impl<'a> Federate<'a> {
         ensures in_time { IfOk result (IsInTime (stop_of self.now.draft)) }
         ensures alone { IfOk result (λ change. IsFederate (network_at self.now) self.now.number (changed change self.now.federate)) }
     {
-        self.known();
+        self.invariant();
         match signal {
             Signal::Net(_) | Signal::Ltc(_) => Err(Refusal::WrongSignal),
             Signal::Tag(tag) => self.admit_grant(tag),
@@ -186,11 +187,11 @@ impl<'a> Federate<'a> {
         ensures in_time { IfOk result (IsInTime (stop_of self.now.draft)) }
         ensures known { IsSignal (Signals.Tag tag) }
     {
-        tag.known();
-        if tag > stop_of(self.plan) {
+        tag.invariant();
+        if tag > self.plan.stop_tag() {
             return Err(Refusal::WrongSignal);
         }
-        if !is_past(self.granted, tag) {
+        if !is_past(self.granted, tag.tag()) {
             return Err(Refusal::OldGrant);
         }
         Ok(Change::Grant(tag))
@@ -204,7 +205,7 @@ impl<'a> Federate<'a> {
         ensures in_time { IfOk result (IsInTime (stop_of self.now.draft)) }
         ensures known { IsSignal (Signals.Msg connection tag value) }
     {
-        tag.known();
+        tag.invariant();
         let Some(connection) = self.connection(connection) else {
             return Err(Refusal::WrongSignal);
         };
@@ -214,7 +215,7 @@ impl<'a> Federate<'a> {
         if !self.is_ahead(tag) {
             return Err(Refusal::Late);
         }
-        Ok(Change::Put(Held::new(tag, connection.slot(), value)))
+        Ok(Change::Put(PendingEvent::new(tag, connection.slot(), value)))
     }
 
     /// The connection of this number.
@@ -228,14 +229,14 @@ impl<'a> Federate<'a> {
     fn takes(&self, connection: Connection, tag: FiniteTag) -> bool
         ensures { result ≡ (nat_eq connection.target self.now.number && is_at_most tag (stop_of self.now.draft)) }
     {
-        connection.target() == self.number && tag <= stop_of(self.plan)
+        connection.target() == self.number && tag <= self.plan.stop_tag()
     }
 
     /// Whether a tag is later than what is completed, and than what is granted.
     fn is_ahead(&self, tag: FiniteTag) -> bool
         ensures { result ≡ (is_past self.now.federate.completed tag && is_past self.now.federate.granted tag) }
     {
-        is_past(self.completed, tag) && is_past(self.granted, tag)
+        is_past(self.completed, tag.tag()) && is_past(self.granted, tag.tag())
     }
 
     /// Makes a change that was admitted.
@@ -255,20 +256,10 @@ impl<'a> Federate<'a> {
     }
 }
 
-/// Whether a tag is later than that one; none is before all.
-fn is_past(bound: Option<FiniteTag>, tag: FiniteTag) -> bool
-    ensures { result ≡ is_past bound tag }
-{
-    match bound {
-        Some(bound) => bound < tag,
-        None => true,
-    }
-}
-
 impl<'a> Node for Federate<'a> {
     ghost use Rattle.std.specs.Prelude.{false};
-    ghost use Rattle.cores.specs.FederateCore.{federate_core};
-    ghost use Rattle.cores.proofs.GoingOn.{federates_go_on};
+    ghost use Rattle.node_cores.specs.FederateCore.{federate_core};
+    ghost use Rattle.node_cores.proofs.GoingOn.{federates_go_on};
 
     type Row = Row;
 
@@ -297,7 +288,7 @@ impl<'a> Node for Federate<'a> {
     }
 
     fn announce(&mut self, outbox: &mut Outbox) -> Result<bool, NodeFault> {
-        self.known();
+        self.invariant();
         if self.has_announced() {
             return Ok(false);
         }
@@ -310,7 +301,7 @@ impl<'a> Node for Federate<'a> {
     }
 
     fn advance(&mut self, outbox: &mut Outbox) -> Result<bool, NodeFault> {
-        self.known();
+        self.invariant();
         let Some(tag) = self.due() else {
             return Ok(false);
         };
@@ -354,7 +345,7 @@ impl<'a> Node for Federate<'a> {
 
 impl<'a> Blank for Federate<'a> {
     fn blank(&self, alloc: Global) -> Result<Federate<'a>, node::Memory> {
-        self.known();
+        self.invariant();
         let blank = Federate::new(alloc, self.plan, self.programs, self.inputs, self.number)?;
         Ok(blank)
     }

@@ -11,7 +11,7 @@
 //!             -----> take_in                 memory for what is undone and for the row, and both change
 //!             -----> put_all, commit_from    what can't fail
 //!
-//! Begin with the struct in `federate`; what it keeps is in `specs/Kept`.
+//! Begin with the struct in `federate`; what it keeps is in `specs/Invariant`.
 #![tactic(auto)]
 
 mod change;

@@ -4,7 +4,7 @@ use node::NodeFault;
 use std::alloc::{AllocError, AllocFailed};
 use std::fmt;
 
-/// No memory was to be had: what was lent is as it was.
+/// No memory was to be had: what was passed in is as it was.
 #[derive(Clone, Copy, Debug, PartialEq, Eq)]
 pub struct Memory;
 
@@ -44,8 +44,8 @@ impl<T: Drop> From<AllocFailed<T>> for Memory {
     }
 }
 
-impl From<agenda::Memory> for Memory {
-    fn from(_memory: agenda::Memory) -> Memory {
+impl From<reactor_agenda::Memory> for Memory {
+    fn from(_memory: reactor_agenda::Memory) -> Memory {
         Memory
     }
 }

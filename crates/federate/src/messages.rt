@@ -3,16 +3,16 @@ ghost use Rattle.tag.specs.LogicalTime.{is_at_most, sum_of};
 ghost use Rattle.plan.specs.Federation.{stop_of};
 ghost use Rattle.protocol.specs.Federate.{message_over};
 ghost use Rattle.network.specs.Event.{value_at};
-ghost use Rattle.federation.specs.Network.{network_of};
-ghost use Rattle.cores.specs.FederateCore.{to_coordinator};
+ghost use Rattle.plan_network.specs.Network.{network_of};
+ghost use Rattle.node_cores.specs.FederateCore.{to_coordinator};
 ghost use Rattle.federate.specs.Outlets.{messages_by};
 
 use crate::memory::Memory;
 use crate::outlet::Outlet;
 use plan::Plan;
-use program::entry::value_at;
 use protocol::Post;
-use reactor::Entry;
+use reactor_program::Entry;
+use reactor_program::entry::value_at;
 use signal::Signal;
 use tag::{Delay, FiniteTag, plus};
 
@@ -23,18 +23,11 @@ pub fn to_coordinator(signal: Signal) -> Post
     Post { peer: 0, signal }
 }
 
-/// The last tag at which anything runs.
-pub fn stop_of(plan: &Plan) -> FiniteTag
-    ensures { result ≡ stop_of plan.now }
-{
-    FiniteTag::new(plan.stop_time(), 0)
-}
-
 /// The tag that is the delay later than this one, unless it is later than stop.
 pub fn in_time(tag: FiniteTag, delay: Delay, stop: FiniteTag) -> Option<FiniteTag>
     ensures { result ≡ (if is_at_most (sum_of tag delay) stop then Some (sum_of tag delay) else None) }
 {
-    stop.known();
+    stop.invariant();
     let later = FiniteTag::of(plus(tag.tag(), delay))?;
     if later <= stop { Some(later) } else { None }
 }
@@ -69,7 +62,7 @@ fn add_message(
     let Some(value) = value else {
         return Ok(());
     };
-    let Some(tag) = in_time(tag, outlet.connection.delay(), stop_of(plan)) else {
+    let Some(tag) = in_time(tag, outlet.connection.delay(), plan.stop_tag()) else {
         return Ok(());
     };
     let signal = Signal::Msg {

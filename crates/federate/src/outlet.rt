@@ -3,7 +3,8 @@ ghost use Rattle.plan.specs.Federation.{connections_of};
 ghost use Rattle.federate.specs.Outlets.{outlets_from};
 
 use crate::memory::Memory;
-use plan::{Connection, Plan};
+use plan::Plan;
+use plan_paths::Connection;
 use std::alloc::Global;
 
 /// A connection by which a federate sends, with its number in the plan.
@@ -17,7 +18,7 @@ pub struct Outlet {
 pub fn outlets_of(alloc: Global, plan: &Plan, federate: usize) -> Result<Vec<Outlet>, Memory>
     ensures { IfOk result (λ outlets. outlets.items ≡ outlets_from federate 0 (connections_of plan.now)) }
 {
-    plan.known();
+    plan.invariant();
     let mut outlets = Vec::new(alloc);
     for (number, connection) in plan.connections().iter().enumerate() {
         if connection.source() == federate {

@@ -2,18 +2,19 @@ ghost use Rattle.std.specs.Prelude.{◌≡◌, ◌<◌, ◌∷◌, ◌++◌, [],
 ghost use Rattle.std.specs.List.{AllByRecursion};
 ghost use Rattle.tag.specs.LogicalTime.{is_before};
 ghost use Rattle.network.specs.Undone.{put_all, drop_up_to};
-ghost use Rattle.agenda.specs.Agenda.{in_time};
-ghost use Rattle.slots.specs.Numbering.{slot_count};
+ghost use Rattle.reactor_agenda.specs.Agenda.{in_time};
+ghost use Rattle.plan_slots.specs.Numbering.{slot_count};
 ghost use Rattle.federate.specs.Turn.{IsPrepared};
 
 use crate::memory::Memory;
 use crate::messages::{add_messages, to_coordinator};
 use crate::outlet::Outlet;
 use crate::scheduled::add_scheduled;
-use agenda::{Agenda, Held};
 use plan::Plan;
 use protocol::Post;
-use reactor::{Entry, Reactor, Rows, TurnRoom};
+use reactor::{Reactor, Rows, TurnRoom};
+use reactor_agenda::{Agenda, PendingEvent};
+use reactor_program::Entry;
 use signal::Signal;
 use std::alloc::Global;
 use tag::FiniteTag;
@@ -25,7 +26,7 @@ pub struct Prepared {
     pub present: Vec<Entry>,
     pub turn: TurnRoom,
     /// What it schedules, as far as it isn't later than stop.
-    pub scheduled: Vec<Held>,
+    pub scheduled: Vec<PendingEvent>,
     /// Its messages, and then its LTC.
     pub posts: Vec<Post>,
 }
@@ -90,7 +91,7 @@ pub fn take_in(
     ensures undone_as_before { OnErr result (agenda.new.undone ≡ agenda.old.undone) }
     ensures rows_as_before { OnErr result (rows.new ≡ rows.old) }
 {
-    agenda.known();
+    agenda.invariant();
     let put = agenda.put_all(&prepared.scheduled)?;
     match rows.push(
         federate,

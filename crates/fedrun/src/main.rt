@@ -1,14 +1,14 @@
 //! The program `fedrun`: reads its words and files, and prints the rows of a federation.
 //!
-//! All it does is `commands::command`, a function over words, files and writers; `main` hands it the machine's.
+//! All it does is `fedrun_commands::command`, a function over words, files and writers; `main` hands it the machine's.
 #![tactic(auto)]
 
-use commands::{Fault, command, refuse};
-use files::MachineFiles;
+use fedrun_commands::{Fault, command, refuse};
+use fedrun_files::MachineFiles;
+use fedrun_whole::OUT_BYTES;
+use fedrun_words::{WordsFault, given_words};
 use std::io::{BufWriter, Stdout};
 use std::process::ExitCode;
-use unfederated::OUT_BYTES;
-use words::{WordsFault, given_words};
 
 fn main(rt: HostRuntime) -> ExitCode {
     let mut err = rt.stderr();
@@ -18,7 +18,7 @@ fn main(rt: HostRuntime) -> ExitCode {
             command(&rt, words.as_slice(), &mut files, &mut out, &mut err)
         }
         Err(why) => {
-            let fault = Fault::Unfederated(unfederated::Fault::of_words(why));
+            let fault = Fault::Undivided(fedrun_whole::Fault::of_words(why));
             refuse(&fault, &mut err).status
         }
     };

@@ -1,13 +1,13 @@
 //! The program `fedwhole`: `whole` and `check` alone, as `fedrun` has them. It stands on few crates, and so is proved sooner.
 //!
-//! All it does is `unfederated::command`, a function over words, files and writers; `main` hands it the machine's.
+//! All it does is `fedrun_whole::command`, a function over words, files and writers; `main` hands it the machine's.
 #![tactic(auto)]
 
-use files::MachineFiles;
+use fedrun_files::MachineFiles;
+use fedrun_whole::{Fault, OUT_BYTES, command, refuse};
+use fedrun_words::{WordsFault, given_words};
 use std::io::{BufWriter, Stderr};
 use std::process::ExitCode;
-use unfederated::{Fault, OUT_BYTES, command, refuse};
-use words::{WordsFault, given_words};
 
 fn main(rt: HostRuntime) -> ExitCode {
     let mut err = rt.stderr();

@@ -7,16 +7,16 @@ use Rattle.std.proofs.lemmas.List.{get_or-set_same, get_or-set_other}
 use Rattle.tag.specs.LogicalTime.{LogicalTime}
 use Rattle.network.specs.Connection.{Connection, IsPath, IsLeastDelay, IsUnreachable}
 use Rattle.network.specs.Network.{with_one}
-use Rattle.laws.proofs.Eligibility.{contains_at}
-use Rattle.laws.proofs.ListedStandings.{list_read}
-use Rattle.protocol.specs.Standing.{Standing, opening_standing}
+use Rattle.protocol_laws.proofs.Eligibility.{contains_at}
+use Rattle.protocol_laws.proofs.ListedStandings.{list_read}
+use Rattle.protocol.specs.Standing.{Standing, initial_standing}
 use Rattle.protocol.specs.Standings.{standing_at, standings_listed}
 use Rattle.grants.specs.Wires.{Wires, AreWires, least_by, network_by}
 use Rattle.grants.specs.Records.{is_eligible_by}
 use Rattle.grants.specs.Looks.{count_below, has_path, reached_from, differ}
 use Rattle.grants.specs.Routes.{connected_to, leads, listed_below, may_change, looked_at}
 use Rattle.grants.proofs.Leading.{leads_by}
-use Rattle.grants.specs.Kept.{IsKept, flags_after}
+use Rattle.grants.specs.Invariant.{IsKept, flags_after}
 use Rattle.grants.proofs.Numbered.{length_listed, count_weaker, count_one, count_either}
 use Rattle.grants.proofs.Eligible.{eligible_same}
 use Rattle.grants.proofs.Flags.{flags_stay_as_many, set_flag_is, other_flag_stays}
@@ -24,10 +24,10 @@ use Rattle.grants.proofs.Flags.{flags_stay_as_many, set_flag_is, other_flag_stay
 -- ---- one standing is replaced
 
 pub other_standing : (standings : List Standing) (i j : ℕ) (mine : Standing) → (j ≡ i → ⊥) → standing_at (slice_set standings i mine) j ≡ standing_at standings j
-other_standing standings i j mine n = get_or-set_other standings i j mine opening_standing n
+other_standing standings i j mine n = get_or-set_other standings i j mine initial_standing n
 
 own_standing : (standings : List Standing) (i : ℕ) (mine : Standing) → i < length standings → standing_at (slice_set standings i mine) i ≡ mine
-own_standing standings i mine l = get_or-set_same standings i mine opening_standing l
+own_standing standings i mine l = get_or-set_same standings i mine initial_standing l
 
 -- what the new one has as the old one had
 field_stays : {A : Type 0} (f : Standing → A) (standings : List Standing) (i : ℕ) (mine : Standing) → i < length standings → f mine ≡ f (standing_at standings i) →

@@ -11,9 +11,9 @@ use Rattle.network.specs.Tables.{Table, IsLeastTable}
 use Rattle.protocol.specs.Standing.{Standing}
 use Rattle.protocol.specs.Grant.{after_completed, passes_paths, passes_connections, is_eligible, lesser_arrival, bound_by_paths, bound_by_connections, bound_of}
 use Rattle.protocol.specs.Bound.{IsWithin}
-use Rattle.laws.proofs.Tests.{both_left, both_right, both_hold}
-use Rattle.laws.proofs.Eligibility.{eligible_by_table}
-use Rattle.laws.proofs.FirstArrivals.{table_bound, eligible_within}
+use Rattle.protocol_laws.proofs.Tests.{both_left, both_right, both_hold}
+use Rattle.protocol_laws.proofs.Eligibility.{eligible_by_table}
+use Rattle.protocol_laws.proofs.FirstArrivals.{table_bound, eligible_within}
 
 -- ---- by the bound
 

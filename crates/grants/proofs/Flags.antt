@@ -6,7 +6,7 @@ use Rattle.std.proofs.lemmas.Bool.{cases_eq}
 use Rattle.std.proofs.lemmas.List.{get_or-set_same, get_or-set_other}
 use Rattle.std.proofs.lemmas.List.Sums.{fold-append}
 use Rattle.grants.specs.Routes.{listed_below}
-use Rattle.grants.specs.Kept.{set_count, flags_after}
+use Rattle.grants.specs.Invariant.{set_count, flags_after}
 
 abbrev set_flag : (ℕ → Bool) → List Bool → ℕ → List Bool
 set_flag value flags j = slice_set flags j (value j)

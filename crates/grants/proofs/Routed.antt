@@ -10,7 +10,7 @@ use Rattle.network.specs.Tables.{Table}
 use Rattle.plan.specs.declared.draft.Draft.{Draft}
 use Rattle.plan.specs.Federation.{federate_count, connections_of, stop_of}
 use Rattle.plan.specs.Legal.{IsLegal}
-use Rattle.protocol.specs.Standing.{Standing, opening_standing}
+use Rattle.protocol.specs.Standing.{Standing, initial_standing}
 use Rattle.protocol.specs.Standings.{standings_listed}
 use Rattle.grants.specs.declared.routes.Upstream.{Upstream}
 use Rattle.grants.specs.Wires.{Wires, AreWires, least_by, wires_of}
@@ -97,14 +97,14 @@ pub wires_made_are : (d : Draft) (routes : List Routed) (w : Wires) → IsLegal 
 wires_made_are d routes w legal rs e =
     (subst AreWires (sym e) (wires_are d legal), rs ∙ ap (λ x. routed_below x x.federates) (sym e))
 
--- so many opening standings, then one more
-one_more_opening : (count : ℕ) → standings_listed count (λ j. opening_standing) ++ opening_standing ∷ [] ≡ standings_listed (suc count) (λ j. opening_standing)
-one_more_opening zero = refl
-one_more_opening (suc count) = ap (λ (ss : List Standing). opening_standing ∷ ss) (one_more_opening count)
+-- so many initial standings, then one more
+one_more_initial : (count : ℕ) → standings_listed count (λ j. initial_standing) ++ initial_standing ∷ [] ≡ standings_listed (suc count) (λ j. initial_standing)
+one_more_initial zero = refl
+one_more_initial (suc count) = ap (λ (ss : List Standing). initial_standing ∷ ss) (one_more_initial count)
 
-pub opening_more : (count : ℕ) (before after : List Standing) (s : Standing) → before ≡ standings_listed count (λ j. opening_standing) → s ≡ opening_standing →
-    after ≡ before ++ s ∷ [] → after ≡ standings_listed (count + 1) (λ j. opening_standing)
-opening_more count before after s all one e =
+pub initial_more : (count : ℕ) (before after : List Standing) (s : Standing) → before ≡ standings_listed count (λ j. initial_standing) → s ≡ initial_standing →
+    after ≡ before ++ s ∷ [] → after ≡ standings_listed (count + 1) (λ j. initial_standing)
+initial_more count before after s all one e =
     let next : suc count ≡ count + 1 = omega arith in
-    e ∙ ap (λ ss. ss ++ s ∷ []) all ∙ ap (λ x. standings_listed count (λ j. opening_standing) ++ x ∷ []) one ∙ one_more_opening count
-    ∙ ap (λ n. standings_listed n (λ j. opening_standing)) next
+    e ∙ ap (λ ss. ss ++ s ∷ []) all ∙ ap (λ x. standings_listed count (λ j. initial_standing) ++ x ∷ []) one ∙ one_more_initial count
+    ∙ ap (λ n. standings_listed n (λ j. initial_standing)) next

@@ -4,18 +4,18 @@ use Rattle.std.specs.Prelude.{◌&&◌, All, slice_index_or, slice_set}
 use Rattle.std.proofs.lemmas.Bool.{cases_lt}
 use Rattle.std.proofs.lemmas.List.{get_or_read, get_or-replicate, length-replicate}
 use Rattle.tag.specs.LogicalTime.{LogicalTime, is_at_most, is_before, lesser, origin, predecessor_of, is_past}
-use Rattle.protocol.specs.Standing.{Standing, opening_standing}
+use Rattle.protocol.specs.Standing.{Standing, initial_standing}
 use Rattle.protocol.specs.Standings.{standing_at, standings_listed}
 use Rattle.protocol.specs.Grant.{Eligible, bound_of}
 use Rattle.protocol.specs.Bound.{IsWidest}
-use Rattle.laws.proofs.Eligibility.{eligible_by_table}
-use Rattle.laws.proofs.FirstArrivals.{table_bound}
-use Rattle.laws.proofs.ListedStandings.{read_listed, listed_length}
+use Rattle.protocol_laws.proofs.Eligibility.{eligible_by_table}
+use Rattle.protocol_laws.proofs.FirstArrivals.{table_bound}
+use Rattle.protocol_laws.proofs.ListedStandings.{read_listed, listed_length}
 use Rattle.grants.specs.Wires.{Wires, AreWires, least_by, network_by}
 use Rattle.grants.specs.Records.{Records, is_eligible_by, is_eligible_in}
 use Rattle.grants.specs.Looks.{counted, changed_between, reached_from}
 use Rattle.grants.specs.Routes.{connected_to, leads, listed_below, looked_at, may_change}
-use Rattle.grants.specs.Kept.{IsKept, flags_after}
+use Rattle.grants.specs.Invariant.{IsKept, flags_after}
 use Rattle.grants.proofs.Numbered.{listed_are_below}
 use Rattle.grants.proofs.Eligible.{by_bound, silent_is_not_eligible, bound_after_origin}
 use Rattle.grants.proofs.Changes.{completed_stays, others_stay, kept_by_looks, kept_by_one_look, kept_with_transit, changed_by_looks, changed_by_one_look, looked_at_few}
@@ -25,18 +25,18 @@ abbrev pub records : Wires → List Standing → ℕ → Records
 records w standings looks = record { wires = w; standings = standings; looks = looks }
 
 pub standing_is : (standings : List Standing) (i : ℕ) (s : Standing) → i < length standings → s ≡ get_or standings i s → s ≡ standing_at standings i
-standing_is standings i s l e = get_or_read standings i s l e opening_standing
+standing_is standings i s l e = get_or_read standings i s l e initial_standing
 
 -- ---- before any signal came
 
-pub kept_at_first : (w : Wires) (standings : List Standing) (flags : List Bool) → standings ≡ standings_listed w.federates (λ j. opening_standing) →
+pub kept_at_first : (w : Wires) (standings : List Standing) (flags : List Bool) → standings ≡ standings_listed w.federates (λ j. initial_standing) →
     flags ≡ replicate w.federates false → IsKept w standings flags
 kept_at_first w standings flags s f = record {
-  standing_count = ap length s ∙ listed_length w.federates (λ j. opening_standing);
+  standing_count = ap length s ∙ listed_length w.federates (λ j. initial_standing);
   flag_count = ap length f ∙ length-replicate w.federates false;
   each = λ j l. (
       let silent : (standing_at standings j).announced ≡ false =
-      ap (λ ss. (standing_at ss j).announced) s ∙ ap (λ (x : Standing). x.announced) (read_listed w.federates (λ i. opening_standing) j l) in
+      ap (λ ss. (standing_at ss j).announced) s ∙ ap (λ (x : Standing). x.announced) (read_listed w.federates (λ i. initial_standing) j l) in
       ap (λ fs. slice_index_or fs j false) f ∙ get_or-replicate w.federates j false false l
       ∙ sym (silent_is_not_eligible (network_by w) (least_by w) (standing_at standings) j silent));
 }

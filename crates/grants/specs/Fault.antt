@@ -1,8 +1,8 @@
--- How it is told that there is no memory for the table.
+-- How it is printed that there is no memory for the table.
 use Rattle.std.specs.Prelude.{ℕ, List, codes}
 use Rattle.signal.specs.Fault.{told}
 
--- the number of want of memory
+-- the number of the out-of-memory fault
 abbrev pub memory_number : ℕ
 memory_number = 65
 

@@ -1,5 +1,5 @@
 -- What a coordinator's table holds, who is eligible by it, and how often it looks at a federate.
--- how the table's want of memory is told
+-- how the table's out-of-memory fault is printed
 pub mod Fault
 -- the tags of messages on their way
 pub mod Transit
@@ -14,4 +14,4 @@ pub mod Routes
 -- arrivals along routes
 pub mod Bounds
 -- what a table keeps
-pub mod Kept
+pub mod Invariant

@@ -2,7 +2,7 @@
 use Rattle.std.specs.Prelude.{◌≡◌, ℕ, Bool, List, length, slice_set}
 use Rattle.plan.specs.declared.draft.Draft.{Draft}
 use Rattle.plan.specs.Federation.{federate_count}
-use Rattle.protocol.specs.Standing.{Standing, opening_standing}
+use Rattle.protocol.specs.Standing.{Standing, initial_standing}
 use Rattle.protocol.specs.Standings.{standing_at, standings_listed}
 use Rattle.protocol.specs.Grant.{is_eligible}
 use Rattle.grants.specs.Wires.{Wires, AreWires, wires_of, network_by, least_by}
@@ -14,8 +14,8 @@ pub record Records : Type 0 where
   pub looks : ℕ
 
 -- before any signal came
-abbrev pub opening_records : Draft → Records
-opening_records d = record { wires = wires_of d; standings = standings_listed (federate_count d) (λ j. opening_standing); looks = 0 }
+abbrev pub initial_records : Draft → Records
+initial_records d = record { wires = wires_of d; standings = standings_listed (federate_count d) (λ j. initial_standing); looks = 0 }
 
 -- with another standing of federate i
 abbrev pub with_standing : Records → ℕ → Standing → Records

@@ -5,7 +5,7 @@ use Rattle.network.specs.Connection.{Connection}
 use Rattle.network.specs.Network.{Network}
 use Rattle.network.specs.Wiring.{IsWired, wiring}
 use Rattle.network.specs.Tables.{Table, IsLeastTable}
-use Rattle.paths.specs.Least.{least_within}
+use Rattle.plan_paths.specs.Least.{least_within}
 use Rattle.plan.specs.declared.draft.Draft.{Draft}
 use Rattle.plan.specs.Federation.{federate_count, connections_of, stop_of}
 

@@ -6,7 +6,7 @@ ghost use Rattle.grants.specs.Bounds.{first_incoming, first_upstream};
 
 use crate::routes::Upstream;
 use crate::standing::Standing;
-use plan::Connection;
+use plan_paths::Connection;
 use tag::{FiniteTag, Tag, lesser, plus, succ};
 
 /// The least tag at which anything of these federates' next turns can arrive; FOREVER where there are none.

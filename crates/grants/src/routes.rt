@@ -5,7 +5,8 @@ ghost use Rattle.grants.specs.Wires.{least_by, wires_of};
 ghost use Rattle.grants.specs.Routes.{connected_to, incoming_of, looked_at, outgoing_of, routed, upstream_of};
 
 use crate::memory::Memory;
-use plan::{Connection, Plan};
+use plan::Plan;
+use plan_paths::Connection;
 use std::alloc::Global;
 use std::marker::Model;
 use tag::Delay;

@@ -1,13 +1,13 @@
 ghost use Rattle.std.specs.Prelude.{◌≡◌, ◌&&◌, OnErr, OnOk, filter, slice_get};
 ghost use Rattle.tag.specs.LogicalTime.{LogicalTime, is_at_most, is_before, is_past};
-ghost use Rattle.protocol.specs.Standing.{opening_standing, least_with, with_tag};
+ghost use Rattle.protocol.specs.Standing.{initial_standing, least_with, with_tag};
 ghost use Rattle.grants.specs.Transit.{Rises, has_up_to, lesser_with};
 
 use crate::memory::Memory;
 use std::alloc::Global;
 use std::collections::BTreeSet;
 use std::marker::Model;
-use tag::{FiniteTag, Tag};
+use tag::{FiniteTag, Tag, is_past};
 
 /// What the coordinator knows of one federate.
 #[derive(Drop)]
@@ -31,7 +31,7 @@ impl Model for Standing {
 impl Standing {
     /// Before any signal came.
     pub fn new(alloc: Global) -> Standing
-        ensures { result ≡ opening_standing }
+        ensures { result ≡ initial_standing }
     {
         Standing {
             completed: None,
@@ -135,16 +135,6 @@ fn first_of(tags: &BTreeSet<FiniteTag, Global>) -> Option<FiniteTag>
     // For the prover: the tags are in order.
     let _count = tags.len();
     tags.first().copied()
-}
-
-/// Whether a tag is later than the one granted; none is before all.
-fn is_past(granted: Option<FiniteTag>, tag: Tag) -> bool
-    ensures { result ≡ is_past granted tag }
-{
-    match granted {
-        Some(granted) => granted.tag() < tag,
-        None => true,
-    }
 }
 
 /// Lets go of the tags up to this one.

@@ -1,16 +1,16 @@
 ghost use Rattle.std.specs.Prelude.{◌≡◌, ◌↔◌, ℕ, ◌+◌, ◌<◌, ◌≤◌, IfOk, OnOk, OnErr, IsTrue, Some, false, filter, length, slice_get};
 ghost use Rattle.tag.specs.LogicalTime.{LogicalTime, is_before, lesser, origin, predecessor_of};
-ghost use Rattle.protocol.specs.Standing.{least_with, opening_standing, with_tag};
+ghost use Rattle.protocol.specs.Standing.{least_with, initial_standing, with_tag};
 ghost use Rattle.protocol.specs.Standings.{standing_at, standings_listed};
 ghost use Rattle.protocol.specs.Grant.{Eligible, grant_widest};
 ghost use Rattle.protocol.specs.Bound.{IsWidest};
 ghost use Rattle.grants.specs.Transit.{lesser_with};
 ghost use Rattle.grants.specs.Wires.{least_by, network_by};
-ghost use Rattle.grants.specs.Records.{AreRecords, changed_at, is_eligible_in, opening_records, with_looks};
+ghost use Rattle.grants.specs.Records.{AreRecords, changed_at, is_eligible_in, initial_records, with_looks};
 ghost use Rattle.grants.specs.Looks.{changed_between, counted, reached_from};
 ghost use Rattle.grants.specs.Routes.{connected_to, looked_at};
 
-use crate::lookout::Lookout;
+use crate::affected::AffectedFederates;
 use crate::memory::Memory;
 use crate::standing::Standing;
 use crate::wiring::Wiring;
@@ -25,40 +25,40 @@ use tag::{FiniteTag, Tag, pred};
 pub struct Table {
     wiring: Wiring,
     standings: Vec<Standing>,
-    lookout: Lookout,
+    affected: AffectedFederates,
 }
 
 impl Model for Table {
     ghost use Rattle.grants.specs.Records.{Records};
-    ghost use Rattle.grants.specs.Kept.{IsKept};
+    ghost use Rattle.grants.specs.Invariant.{IsKept};
 
     ghost Value = { Records };
 
-    ghost view = { λ t. record { wires = t.wiring; standings = t.standings.items; looks = t.lookout.looks } };
+    ghost view = { λ t. record { wires = t.wiring; standings = t.standings.items; looks = t.affected.looks } };
 
-    ghost invariant = { λ t. IsKept t.wiring t.standings.items t.lookout.eligible };
+    ghost invariant = { λ t. IsKept t.wiring t.standings.items t.affected.eligible };
 }
 
 impl Table {
     /// Of a plan's federates, before any signal came.
     pub fn new(alloc: Global, plan: &Plan) -> Result<Table, Memory>
-        ensures { IfOk result (λ table. table ≡ opening_records plan.now) }
+        ensures { IfOk result (λ table. table ≡ initial_records plan.now) }
     {
         let wiring = Wiring::new(alloc, plan)?;
-        let standings = opening_standings(alloc, plan.federate_count())?;
-        let lookout = Lookout::new(alloc, plan.federate_count())?;
+        let standings = initial_standings(alloc, plan.federate_count())?;
+        let affected = AffectedFederates::new(alloc, plan.federate_count())?;
         Ok(Table {
             wiring,
             standings,
-            lookout,
+            affected,
         })
     }
 
     /// What every table keeps.
-    pub fn known(&self)
+    pub fn invariant(&self)
         ensures { AreRecords self.now }
     {
-        self.wiring.known();
+        self.wiring.invariant();
     }
 
     pub fn federates(&self) -> usize
@@ -119,7 +119,7 @@ impl Table {
     pub fn looks(&self) -> u64
         ensures { result ≡ self.now.looks }
     {
-        self.lookout.looks()
+        self.affected.looks()
     }
 
     /// Whether a federate gets a grant.
@@ -129,15 +129,15 @@ impl Table {
         ensures table { result ≡ is_eligible_in self.now federate }
     {
         // For the prover: the least delays are least over all paths.
-        self.wiring.known();
-        self.lookout.is_eligible(federate)
+        self.wiring.invariant();
+        self.affected.is_eligible(federate)
     }
 
     /// Whether any federate gets a grant. It takes the same time however many there are.
     pub fn has_eligible(&self) -> bool
         ensures { result ≡ false ↔ ((federate : ℕ) → federate < self.now.wires.federates → is_eligible_in self.now federate ≡ false) }
     {
-        self.lookout.has_eligible()
+        self.affected.has_eligible()
     }
 
     /// How far an eligible federate may be granted: the last tag before anything can still arrive at it, or stop if that is earlier.
@@ -148,7 +148,7 @@ impl Table {
         ensures rule { grant_widest (network_by self.now.wires) (least_by self.now.wires) (standing_at self.now.standings) federate ≡ Some result }
     {
         // For the prover: the least delays are least over all paths.
-        self.wiring.known();
+        self.wiring.invariant();
         let bound = self.wiring.bound(self.standings.as_slice(), federate);
         last_before(bound, self.wiring.stop())
     }
@@ -170,11 +170,11 @@ impl Table {
         ensures looks { counted self.old.looks (changed_between self.old self.new) ≤ self.new.looks }
     {
         // For the prover: the least delays are least over all paths.
-        self.wiring.known();
+        self.wiring.invariant();
         let standing = &mut self.standings[federate];
         standing.set_next(next);
         let federates = self.wiring.looked_at(federate);
-        self.lookout
+        self.affected
             .look_at_each(&self.wiring, self.standings.as_slice(), federates);
     }
 
@@ -187,11 +187,11 @@ impl Table {
         ensures looks { counted self.old.looks (changed_between self.old self.new) ≤ self.new.looks }
     {
         // For the prover: the least delays are least over all paths.
-        self.wiring.known();
+        self.wiring.invariant();
         let standing = &mut self.standings[federate];
         standing.set_completed(completed);
         let federates = self.wiring.connected_to(federate);
-        self.lookout
+        self.affected
             .look_at_each(&self.wiring, self.standings.as_slice(), federates);
     }
 
@@ -203,10 +203,10 @@ impl Table {
         ensures looks { counted self.old.looks (changed_between self.old self.new) ≤ self.new.looks }
     {
         // For the prover: the least delays are least over all paths.
-        self.wiring.known();
+        self.wiring.invariant();
         let standing = &mut self.standings[federate];
         standing.set_announced(announced);
-        self.lookout
+        self.affected
             .look(&self.wiring, self.standings.as_slice(), federate);
     }
 
@@ -218,10 +218,10 @@ impl Table {
         ensures looks { counted self.old.looks (changed_between self.old self.new) ≤ self.new.looks }
     {
         // For the prover: the least delays are least over all paths.
-        self.wiring.known();
+        self.wiring.invariant();
         let standing = &mut self.standings[federate];
         standing.set_granted(granted);
-        self.lookout
+        self.affected
             .look(&self.wiring, self.standings.as_slice(), federate);
     }
 
@@ -232,7 +232,7 @@ impl Table {
         ensures err { OnErr result (self.new ≡ self.old) }
     {
         // For the prover: the least delays are least over all paths.
-        self.wiring.known();
+        self.wiring.invariant();
         let standing = &mut self.standings[federate];
         standing.add_transit(tag)
     }
@@ -243,15 +243,15 @@ impl Table {
         ensures { self.new ≡ changed_at self.old federate (λ s. record s { transit = filter (λ t. is_before completed t) s.transit }) }
     {
         // For the prover: the least delays are least over all paths.
-        self.wiring.known();
+        self.wiring.invariant();
         let standing = &mut self.standings[federate];
         standing.drop_transit(completed);
     }
 }
 
 /// So many standings, before any signal came.
-fn opening_standings(alloc: Global, count: usize) -> Result<Vec<Standing>, Memory>
-    ensures { IfOk result (λ standings. standings.items ≡ standings_listed count (λ j. opening_standing)) }
+fn initial_standings(alloc: Global, count: usize) -> Result<Vec<Standing>, Memory>
+    ensures { IfOk result (λ standings. standings.items ≡ standings_listed count (λ j. initial_standing)) }
 {
     let mut standings = Vec::new(alloc);
     for _federate in 0..count {

@@ -10,7 +10,8 @@ use crate::bounds::{first_incoming, first_upstream, passes_incoming, passes_upst
 use crate::memory::Memory;
 use crate::routes::Routes;
 use crate::standing::Standing;
-use plan::{Connection, Plan};
+use plan::Plan;
+use plan_paths::Connection;
 use std::alloc::Global;
 use std::marker::Model;
 use tag::{FiniteTag, Tag, greater};
@@ -41,10 +42,10 @@ impl Wiring {
     pub fn new(alloc: Global, plan: &Plan) -> Result<Wiring, Memory>
         ensures { IfOk result (λ wiring. wiring ≡ wires_of plan.now) }
     {
-        plan.known();
+        plan.invariant();
         let connections = copied(alloc, plan.connections())?;
         let routes = routes_of(alloc, plan)?;
-        let stop = FiniteTag::new(plan.stop_time(), 0);
+        let stop = plan.stop_tag();
         Ok(Wiring {
             connections,
             stop,
@@ -53,7 +54,7 @@ impl Wiring {
     }
 
     /// What every wiring keeps.
-    pub fn known(&self)
+    pub fn invariant(&self)
         ensures { AreWires self.now }
     {
         let _ = &self.stop;

@@ -1,4 +1,4 @@
--- What is taken is a beginning of what was offered.
+-- What is taken is a prefix of what was offered.
 use Rattle.std.proofs.Common.{◌≡◌, ℕ, ◌+◌, ◌≤◌, List, [], ◌∷◌, ◌++◌, length, take, arith, ap, Some, ◌∙◌, sym, append-nil, append_assoc, length-append, length-take}
 use Rattle.std.specs.Prelude.{cond, nat_lt, slice_get, All}
 use Rattle.std.proofs.Math.Seq.{take-suc}
@@ -18,23 +18,23 @@ take_next xs k x e =
     let same = get_or_from_slice_get xs k x x e in
     grind arith
 
--- one frame: the signals taken so far, with what is taken of it, are a beginning
+-- one frame: the signals taken so far, with what is taken of it, are a prefix
 take-after_coming : (i : Image) (f : Frame) (incarnation : ℕ) (offered : List Signal) → i.incarnation ≡ incarnation → Carries incarnation offered f →
     take i.taken offered ++ cond (nat_lt i.taken (after_coming i f).taken) (carried_by f) [] ≡ take (after_coming i f).taken offered
-take-after_coming i (Hello _ _ n) incarnation offered e c = grind (arith, nat_tests, append-nil)
+take-after_coming i (Hello hello) incarnation offered e c = grind (arith, nat_tests, append-nil)
 take-after_coming i (Data k n signal) incarnation offered e c = grind (arith, nat_tests, append-nil, take_next)
 take-after_coming i (Ack _ n) incarnation offered e c = grind (arith, nat_tests, append-nil)
 take-after_coming i (Refuse _ _) incarnation offered e c = grind (arith, nat_tests, append-nil)
 
 incarnation-after_coming : (i : Image) (f : Frame) → (after_coming i f).incarnation ≡ i.incarnation
-incarnation-after_coming i (Hello _ _ n) = grind (arith, nat_tests)
+incarnation-after_coming i (Hello hello) = grind (arith, nat_tests)
 incarnation-after_coming i (Data _ _ _) = grind (arith, nat_tests)
 incarnation-after_coming i (Ack _ n) = grind (arith, nat_tests)
 incarnation-after_coming i (Refuse _ _) = grind (arith, nat_tests)
 
 length-after_coming : (i : Image) (f : Frame) →
     i.taken + length (cond (nat_lt i.taken (after_coming i f).taken) (carried_by f) []) ≡ (after_coming i f).taken
-length-after_coming i (Hello _ _ n) = grind (arith, nat_tests)
+length-after_coming i (Hello hello) = grind (arith, nat_tests)
 length-after_coming i (Data _ _ _) = grind (arith, nat_tests)
 length-after_coming i (Ack _ n) = grind (arith, nat_tests)
 length-after_coming i (Refuse _ _) = grind (arith, nat_tests)

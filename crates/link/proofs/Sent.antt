@@ -37,14 +37,14 @@ slice_get-middle xs x ys k e =
 
 -- what was carried is carried still when more was offered
 pub Carries-more : (incarnation : ℕ) (offered more : List Signal) (f : Frame) → Carries incarnation offered f → Carries incarnation (offered ++ more) f
-Carries-more incarnation offered more (Hello _ _ _) c = tt
+Carries-more incarnation offered more (Hello _) c = tt
 Carries-more incarnation offered more (Data k n s) c = λ own positive. slice_get-append offered more (n - 1) s (c own positive)
 Carries-more incarnation offered more (Ack _ _) c = tt
 Carries-more incarnation offered more (Refuse _ _) c = tt
 
 -- the frame of an offer
 pub Carries-offer : (e : End) (s : Signal) (f : Frame) → IsLawful e → offer_of e.image s ≡ Ok f → Carries e.image.incarnation (after_offer e s).offered f
-Carries-offer e s (Hello _ _ _) lawful o = tt
+Carries-offer e s (Hello _) lawful o = tt
 Carries-offer e s (Data k n x) lawful o = λ own positive. let number = last_number-length e lawful in grind (arith, nat_tests, slice_get-push)
 Carries-offer e s (Ack _ _) lawful o = tt
 Carries-offer e s (Refuse _ _) lawful o = tt

@@ -8,14 +8,14 @@ use Rattle.link.specs.declared.fault.LinkFault.{LinkFault}
 
 -- whether a frame is of this link: of its incarnation, and a Hello of its federate
 abbrev pub is_own : (federate incarnation : ℕ) → Frame → Bool
-is_own federate incarnation (Hello f i _) = nat_eq i incarnation && nat_eq f federate
+is_own federate incarnation (Hello hello) = nat_eq hello.incarnation incarnation && nat_eq hello.federate federate
 is_own federate incarnation (Data i _ _) = nat_eq i incarnation
 is_own federate incarnation (Ack i _) = nat_eq i incarnation
 is_own federate incarnation (Refuse i _) = nat_eq i incarnation
 
 -- what an open end answers to a frame of its link, by the number that it offered last and the number that it took last
 abbrev pub answer_when_open : (offered taken : ℕ) → Frame → Result Arrival LinkFault
-answer_when_open offered taken (Hello _ _ n) = if nat_lt offered n then Err LinkFault.AckOfUnsent else Ok Arrival.Resume
+answer_when_open offered taken (Hello hello) = if nat_lt offered hello.last_taken then Err LinkFault.AckOfUnsent else Ok Arrival.Resume
 answer_when_open offered taken (Data _ n _) =
     if nat_le n taken then Ok Arrival.Repeated
     else if nat_eq n (taken + 1) then Ok Arrival.Signal

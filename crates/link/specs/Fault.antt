@@ -1,4 +1,4 @@
--- How each refusal of an end is told.
+-- How each refusal of an end is printed.
 use Rattle.std.specs.Prelude.{ℕ, List, codes}
 use Rattle.signal.specs.Fault.{told}
 use Rattle.link.specs.declared.fault.LinkFault.{LinkFault}

@@ -76,7 +76,7 @@ acknowledge i n = record i { kept = drop (n - i.acknowledged) i.kept; acknowledg
 
 -- what a frame that isn't refused makes of the end: of a signal, taken or repeated, the greatest number counts
 abbrev pub after_frame : Image → Frame → Image
-after_frame i (Hello _ _ n) = acknowledge i n
+after_frame i (Hello hello) = acknowledge i hello.last_taken
 after_frame i (Data _ n _) = record i { taken = max i.taken n }
 after_frame i (Ack _ n) = acknowledge i n
 after_frame i (Refuse _ _) = record i { closed = true }
@@ -89,9 +89,13 @@ after_close i = record i { closed = true }
 abbrev pub ack_of : Image → Frame
 ack_of i = Ack i.incarnation i.taken
 
--- the greeting by which an open end starts again
+-- the greeting by which an end starts again
+abbrev pub hello_by : Image → Frame
+hello_by i = Hello (record { federate = i.federate; incarnation = i.incarnation; last_taken = i.taken })
+
+-- it, where the end is open
 abbrev pub hello_of : Image → Option Frame
-hello_of i = if i.closed then None else Some (Hello i.federate i.incarnation i.taken)
+hello_of i = if i.closed then None else Some (hello_by i)
 
 -- what an open end sends again: all that is kept
 abbrev pub resent_by : Image → List Frame

@@ -7,14 +7,14 @@ use Rattle.link.specs.Image.{Image, answer_of, after_frame}
 
 -- a Data frame of this incarnation carries the signal that was offered under its number
 abbrev pub Carries : (incarnation : ℕ) → List Signal → Frame → Type 0
-Carries incarnation offered (Hello _ _ _) = Unit {0}
+Carries incarnation offered (Hello _) = Unit {0}
 Carries incarnation offered (Data i n signal) = i ≡ incarnation → 0 < n → slice_get offered (n - 1) ≡ Some signal
 Carries incarnation offered (Ack _ _) = Unit {0}
 Carries incarnation offered (Refuse _ _) = Unit {0}
 
 -- the signal that a frame carries
 abbrev pub carried_by : Frame → List Signal
-carried_by (Hello _ _ _) = []
+carried_by (Hello _) = []
 carried_by (Data _ _ signal) = signal ∷ []
 carried_by (Ack _ _) = []
 carried_by (Refuse _ _) = []

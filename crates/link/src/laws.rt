@@ -45,10 +45,10 @@ pub fn takes_in_turn()
     ensures others { (i : Image) (frame : Frame) → IsOk (answer_of i frame) → answer_of i frame ≢ Ok Arrival.Signal → (after_frame i frame).taken ≡ i.taken }
 {}
 
-/// What is taken of frames that come one after the other, where each carries the signal of its number: a beginning of
+/// What is taken of frames that come one after the other, where each carries the signal of its number: a prefix of
 /// what was offered, each number once.
 #[tactic(none)]
-pub fn takes_a_beginning()
+pub fn takes_a_prefix()
     ensures goes_on { (i : Image) (frames : List Frame) (incarnation : ℕ) (offered : List Signal) → i.incarnation ≡ incarnation → All (Carries incarnation offered) frames →
         take i.taken offered ++ taken_of i frames ≡ take (after_all i frames).taken offered }
     ensures offered_only { (i : Image) (frames : List Frame) (incarnation : ℕ) (offered : List Signal) → i.incarnation ≡ incarnation → All (Carries incarnation offered) frames →

@@ -1,7 +1,7 @@
 //! One end of a numbered link: it keeps what it offered until the other side has it, and takes nothing twice.
 //!
 //! Promise to the layer above: each call is a step of `specs/Image`, what a caller sees of an end. By the laws of
-//! `laws`, what one end takes is a beginning of what the other offered. Begin with `specs/Image`, then `link_end`.
+//! `laws`, what one end takes is a prefix of what the other offered. Begin with `specs/Image`, then `link_end`.
 #![tactic(auto)]
 
 pub mod arrival;

@@ -5,7 +5,7 @@ ghost use Rattle.std.specs.VecDeque.{deque_capacity, deque_len};
 use crate::arrival::Arrival;
 use crate::fault::LinkFault;
 use crate::memory::Memory;
-use signal::{Frame, Signal};
+use signal::{Frame, Hello, Signal};
 use std::alloc::Global;
 use std::collections::VecDeque;
 use std::marker::Model;
@@ -57,7 +57,7 @@ impl LinkEnd {
     }
 
     /// What every end keeps.
-    pub fn known(&self)
+    pub fn invariant(&self)
         ensures { IsImage self.now.image }
     {
         let _ = &self.room;
@@ -112,7 +112,7 @@ impl LinkEnd {
         ensures reserved { OnOk result (offers ≤ self.new.reserved) }
         ensures memory { OnErr result (self.old.reserved < offers) }
         ensures only_memory { IsOkUnless result LinkFault.Memory }
-        ensures as_before { self.new.image ≡ self.old.image }
+        ensures unchanged { self.new.image ≡ self.old.image }
         ensures none_lost { self.old.reserved ≤ self.new.reserved }
     {
         self.kept.reserve(offers)?;
@@ -152,9 +152,9 @@ impl LinkEnd {
         }
         let offered = self.last_number();
         match *frame {
-            Frame::Hello { last_taken, .. } | Frame::Ack { last_taken, .. }
+            Frame::Hello(Hello { last_taken, .. }) | Frame::Ack { last_taken, .. }
                 if last_taken > offered => { Err(LinkFault::AckOfUnsent) }
-            Frame::Hello { .. } => Ok(Arrival::Resume),
+            Frame::Hello(_) => Ok(Arrival::Resume),
             Frame::Ack { .. } => Ok(Arrival::Acked),
             Frame::Data { number, .. } if number <= self.taken => Ok(Arrival::Repeated),
             Frame::Data { number, .. } if number - self.taken == 1 => Ok(Arrival::Signal),
@@ -170,7 +170,7 @@ impl LinkEnd {
         ensures none_lost { self.old.reserved ≤ self.new.reserved }
     {
         match *frame {
-            Frame::Hello { last_taken, .. } => self.acknowledge(last_taken),
+            Frame::Hello(hello) => self.acknowledge(hello.last_taken),
             Frame::Data { number, .. } => self.taken = self.taken.max(number),
             Frame::Ack { last_taken, .. } => self.acknowledge(last_taken),
             Frame::Refuse { .. } => self.closed = true,
@@ -194,11 +194,11 @@ impl LinkEnd {
         if self.closed {
             return None;
         }
-        Some(Frame::Hello {
+        Some(Frame::Hello(Hello {
             federate: self.federate,
             incarnation: self.incarnation,
             last_taken: self.taken,
-        })
+        }))
     }
 
     /// All that is kept, as the frames that it was sent in; nothing where the end is closed.
@@ -245,11 +245,9 @@ impl LinkEnd {
         ensures { result ≡ is_own self.now.image.federate self.now.image.incarnation frame.now }
     {
         match *frame {
-            Frame::Hello {
-                federate,
-                incarnation,
-                ..
-            } => incarnation == self.incarnation && federate == self.federate,
+            Frame::Hello(hello) => {
+                hello.incarnation == self.incarnation && hello.federate == self.federate
+            }
             Frame::Data { incarnation, .. }
             | Frame::Ack { incarnation, .. }
             | Frame::Refuse { incarnation, .. } => incarnation == self.incarnation,

@@ -1,18 +1,18 @@
--- A file is one federation at most, and meets no refusal but want of memory.
+-- A file is one federation at most, and meets no refusal but out of memory.
 use Rattle.std.proofs.Common.{◌≡◌, ℕ, zero, suc, Result, Ok, Err, List, [], ◌∷◌, Some, refl, sym, ap, ◌∙◌, subst, arith}
 use Rattle.std.specs.Prelude.{slice_get, IfErr}
 use Rattle.toml.specs.Data.{Members}
 use Rattle.plan.specs.declared.draft.Federate.{Federate}
 use Rattle.plan.specs.declared.draft.Draft.{Draft}
 use Rattle.plan.specs.Legal.{IsLegal}
-use Rattle.program.specs.Behaviour.{Behaviour}
-use Rattle.program.specs.Spelled.{SpellsProgram}
-use Rattle.program.proofs.OneReading.{one_program}
-use Rattle.tables.specs.declared.fault.LoadFault.{LoadFault}
-use Rattle.tables.specs.declared.fault.LoadFault.TheVariants.{Memory}
+use Rattle.reactor_program.specs.Behaviour.{Behaviour}
+use Rattle.reactor_program.specs.Spelled.{SpellsProgram}
+use Rattle.reactor_program.proofs.OneReading.{one_program}
+use Rattle.loadfed.specs.declared.fault.LoadFault.{LoadFault}
+use Rattle.loadfed.specs.declared.fault.LoadFault.TheVariants.{Memory}
 use Rattle.loadfed.specs.Shape.{ProgramDraft, SaysFederation}
 use Rattle.loadfed.specs.ShapeFaults.{HasShapeFault}
-use Rattle.tables.specs.Documents.{IsDocument}
+use Rattle.loadfed_tables.specs.Documents.{IsDocument}
 use Rattle.loadfed.specs.Loaded.{SpellPrograms, SaysDraft, IsFederationFile, IsFaultAmong, HasLoadFault, out_of_memory, too_long, no_document, wrong_shape, illegal_plan, no_program, IsLoading}
 use Rattle.loadfed.proofs.OneReading.{one_draft, one_program_list}
 use Rattle.loadfed.proofs.NoFault.{no_shape_fault}
@@ -73,7 +73,7 @@ none_among fs ps bs fault h k =
     let z = spelled_at fs ps bs k.place k.federate k.program h k.federate_is k.program_is in
     k.refused.unspelled z.0 z.1
 
--- what stands against a federation file is want of memory
+-- what stands against a federation file is out of memory
 only_memory : (bytes : List ℕ) (d : Draft) (bs : List Behaviour) (fault : LoadFault) → IsFederationFile bytes d bs → HasLoadFault bytes fault → fault ≡ Memory
 only_memory bytes d bs fault file (out_of_memory memory few) = memory
 only_memory bytes d bs fault file (too_long h) =
@@ -84,7 +84,7 @@ only_memory bytes d bs fault file (too_long h) =
 only_memory bytes d bs fault file (no_document h) = absurd (h.none file.declared.file file.declared.document)
 only_memory bytes d bs fault file (wrong_shape h) =
     let same = one_document bytes h.file file.declared.file h.document file.declared.document in
-    absurd (no_shape_fault fault file.declared.file d file.drafts file.declared.says (subst (λ m. HasShapeFault m fault) same h.wrong))
+    absurd (no_shape_fault h.wrong file.declared.file d file.drafts file.declared.says (subst (λ m. HasShapeFault m h.wrong) same h.stands))
 only_memory bytes d bs fault file (illegal_plan h) =
     let same = same_draft bytes d h.draft file.drafts h.drafts file.declared h.declared in
     absurd (h.refused.illegal (subst IsLegal same file.legal))

@@ -5,16 +5,18 @@ use Rattle.toml.specs.Data.{Members}
 use Rattle.plan.specs.declared.draft.Draft.{Draft}
 use Rattle.plan.specs.declared.input.Input.{Input}
 use Rattle.plan.specs.declared.input.TheConstants.{MOST_INPUTS}
-use Rattle.faults.specs.declared.input_fault.InputFault.{InputFault}
-use Rattle.faults.specs.declared.input_fault.InputFault.TheVariants as input_fault
+use Rattle.plan.specs.declared.input_fault.InputFault.{InputFault}
+use Rattle.plan.specs.declared.input_fault.InputFault.TheVariants as input_fault
 use Rattle.plan.specs.External.{AreApart, AreInputsOf}
-use Rattle.tables.specs.declared.fault.LoadFault.{LoadFault}
-use Rattle.tables.specs.declared.fault.LoadFault.TheVariants.{NotToml, Memory}
-use Rattle.tables.specs.Documents.{IsDocument}
-use Rattle.loadfed.specs.Told.{fault_of_inputs}
+use Rattle.loadfed_tables.specs.declared.fault.TableFault.{TableFault}
+use Rattle.loadfed_tables.specs.declared.fault.TableFault.TheVariants as table_fault
+use Rattle.loadfed.specs.declared.fault.LoadFault.{LoadFault}
+use Rattle.loadfed.specs.declared.fault.LoadFault.TheVariants.{Memory}
+use Rattle.loadfed_tables.specs.Documents.{IsDocument}
+use Rattle.loadfed.specs.Errors.{fault_of_table, fault_of_inputs}
 use Rattle.loadfed.specs.declared.recorded.TheConstants.{MOST_INPUT_BYTES}
 use Rattle.loadfed.specs.InputShape.{SaysInput, SaysInputs, HasInputFault, HasInputsFault, SaysInputFile, AreKnown, IsFaultOfInputs, unknown_action, repeated_input, too_many, HasInputFileFault, out_of_memory, too_long, no_document, wrong_shape, no_inputs, IsInputLoading}
-use Rattle.tables.proofs.OneReading.{one_text, one_number, one_duration, one_microstep}
+use Rattle.loadfed_tables.proofs.OneReading.{one_text, one_number, one_duration, one_microstep}
 use Rattle.loadfed.proofs.OneReading.{one_each}
 use Rattle.loadfed.proofs.NoFault.{none_unknown, none_in_tables}
 use Rattle.loadfed.proofs.Accepted.{one_document}
@@ -30,7 +32,7 @@ one_input m i j h k =
     ∙ ap (λ x. input_with j.federate j.action j.tag.time x i.value) (one_microstep (codes "micro") m i.tag.microstep j.tag.microstep h.microstep_is k.microstep_is)
     ∙ ap (λ x. input_with j.federate j.action j.tag.time j.tag.microstep x) (one_number (codes "value") m i.value j.value h.value_is k.value_is)
 
-none_input : (fault : LoadFault) (m : Members) (i : Input) → SaysInput m i → HasInputFault m fault → ⊥
+none_input : (fault : TableFault) (m : Members) (i : Input) → SaysInput m i → HasInputFault m fault → ⊥
 none_input fault m i s (inl h) = none_unknown _ m fault s.keys h
 none_input fault m i s (inr (inl h)) = h.nothing i.federate s.federate_is
 none_input fault m i s (inr (inr (inl h))) = h.nothing i.action s.action_is
@@ -38,7 +40,7 @@ none_input fault m i s (inr (inr (inr (inl h)))) = h.nothing i.tag.time s.time_i
 none_input fault m i s (inr (inr (inr (inr (inl h))))) = h.nothing i.tag.microstep s.microstep_is
 none_input fault m i s (inr (inr (inr (inr (inr h))))) = h.nothing i.value s.value_is
 
-none_inputs : (fault : LoadFault) (m : Members) (is : List Input) → SaysInputs m is → HasInputsFault m fault → ⊥
+none_inputs : (fault : TableFault) (m : Members) (is : List Input) → SaysInputs m is → HasInputsFault m fault → ⊥
 none_inputs fault m is s (inl h) = none_unknown _ m fault s.keys h
 none_inputs fault m is s (inr h) = none_in_tables SaysInput HasInputFault fault (none_input fault) (codes "input") m is s.inputs_are h
 
@@ -53,7 +55,7 @@ none_of_inputs d is fault a (unknown_action told unknown) = unknown a.known
 none_of_inputs d is fault a (repeated_input told known repeated) = repeated a.apart
 none_of_inputs d is fault a (too_many told known apart many) = many a.few
 
--- what stands against an input file of the federation is want of memory
+-- what stands against an input file of the federation is out of memory
 only_memory : (d : Draft) (bytes : List ℕ) (is : List Input) (fault : LoadFault) → SaysInputFile bytes is → AreInputsOf d is → HasInputFileFault d bytes fault → fault ≡ Memory
 only_memory d bytes is fault file all (out_of_memory memory few) = memory
 only_memory d bytes is fault file all (too_long h) =
@@ -64,7 +66,7 @@ only_memory d bytes is fault file all (too_long h) =
 only_memory d bytes is fault file all (no_document h) = absurd (h.none file.file file.document)
 only_memory d bytes is fault file all (wrong_shape h) =
     let same = one_document bytes h.file file.file h.document file.document in
-    absurd (none_inputs fault file.file is file.says (subst (λ m. HasInputsFault m fault) same h.wrong))
+    absurd (none_inputs h.wrong file.file is file.says (subst (λ m. HasInputsFault m h.wrong) same h.stands))
 only_memory d bytes is fault file all (no_inputs h) =
     absurd (none_of_inputs d is fault all (subst (λ x. IsFaultOfInputs d x fault) (same_inputs bytes h.inputs is h.declared file) h.refused))
 
@@ -73,7 +75,7 @@ pub inputs_accepted : (d : Draft) (bytes : List ℕ) (r : Result (List Input) Lo
 inputs_accepted d bytes (Ok x) h is file all = tt
 inputs_accepted d bytes (Err fault) h is file all = only_memory d bytes is fault file all h
 
--- a fault of recorded inputs, which isn't want of memory, stands against them
+-- a fault of recorded inputs, which isn't out of memory, stands against them
 pub inputs_told : (d : Draft) (is : List Input) (reason : InputFault) → (reason ≡ input_fault.UnknownAction → ¬ (AreKnown d is))
     → (reason ≡ input_fault.RepeatedInput → AreKnown d is × ¬ (AllPairs AreApart is))
     → (reason ≡ input_fault.OverLimit → AreKnown d is × AllPairs AreApart is × ¬ (length is ≤ MOST_INPUTS))
@@ -84,16 +86,16 @@ inputs_told d is input_fault.OverLimit unknown repeated over = let h = over refl
 inputs_told d is input_fault.Memory unknown repeated over = inl refl
 
 -- an input file that isn't too long, and is no document
-pub input_table_told : (d : Draft) (bytes : List ℕ) (fault : LoadFault) → length bytes ≤ MOST_INPUT_BYTES
-    → (fault ≡ Memory) ⊎ ((fault ≡ NotToml) × ((file : Members) → ¬ (IsDocument bytes file))) → HasInputFileFault d bytes fault
-input_table_told d bytes fault few (inl memory) = out_of_memory memory few
-input_table_told d bytes fault few (inr h) = no_document (record { few = few; told = h.0; none = h.1 })
+pub input_table_told : (d : Draft) (bytes : List ℕ) (fault : TableFault) → length bytes ≤ MOST_INPUT_BYTES
+    → (fault ≡ table_fault.Memory) ⊎ ((fault ≡ table_fault.NotToml) × ((file : Members) → ¬ (IsDocument bytes file))) → HasInputFileFault d bytes (fault_of_table fault)
+input_table_told d bytes fault few (inl memory) = out_of_memory (ap fault_of_table memory) few
+input_table_told d bytes fault few (inr h) = no_document (record { few = few; told = ap fault_of_table h.0; none = h.1 })
 
-pub input_shape_told : (d : Draft) (bytes : List ℕ) (m file : Members) (fault : LoadFault) → m ≡ file → length bytes ≤ MOST_INPUT_BYTES → IsDocument bytes file
-    → (fault ≡ Memory) ⊎ HasInputsFault m fault → HasInputFileFault d bytes fault
-input_shape_told d bytes m file fault same few document (inl memory) = out_of_memory memory few
+pub input_shape_told : (d : Draft) (bytes : List ℕ) (m file : Members) (fault : TableFault) → m ≡ file → length bytes ≤ MOST_INPUT_BYTES → IsDocument bytes file
+    → (fault ≡ table_fault.Memory) ⊎ HasInputsFault m fault → HasInputFileFault d bytes (fault_of_table fault)
+input_shape_told d bytes m file fault same few document (inl memory) = out_of_memory (ap fault_of_table memory) few
 input_shape_told d bytes m file fault same few document (inr h) =
-    wrong_shape (record { few = few; file = file; document = document; wrong = subst (λ x. HasInputsFault x fault) same h })
+    wrong_shape (record { few = few; file = file; document = document; wrong = fault; told = refl; stands = subst (λ x. HasInputsFault x fault) same h })
 
 -- what a document's inputs are loaded as
 pub checked_told : (d : Draft) (bytes : List ℕ) (m file : Members) (is : List Input) (r : Result (List Input) LoadFault)

@@ -11,7 +11,7 @@ pub mod TableReadings
 pub mod ShapeReadings
 -- a file is one federation at most, which meets no refusal
 pub mod Accepted
--- how faults of the plan and of programs are told
+-- how faults of the plan and of programs are printed
 pub mod Planned
 -- an input file says one list of inputs
 pub mod InputReadings

@@ -3,14 +3,14 @@ use Rattle.std.proofs.Common.{ℕ, ◌≤◌, List, [], ◌∷◌, ◌++◌, len
 use Rattle.std.specs.Prelude.{All}
 use Rattle.std.specs.List.{AllZip}
 use Rattle.std.proofs.lemmas.List.Elements.{All-append, All-map, All-nil, All-cons}
-use Rattle.slots.specs.declared.slots.Slots.{Slots}
-use Rattle.slots.specs.declared.slots.Timer.{Timer}
+use Rattle.plan_slots.specs.declared.slots.Slots.{Slots}
+use Rattle.plan_slots.specs.declared.slots.Timer.{Timer}
 use Rattle.plan.specs.declared.draft.Federate.{Federate}
-use Rattle.slots.specs.Numbering.{timer_names, all_names}
-use Rattle.program.specs.declared.reaction_draft.ReactionDraft.{ReactionDraft}
-use Rattle.names.specs.Spelling.{is_name}
+use Rattle.plan_slots.specs.Numbering.{timer_names, all_names}
+use Rattle.reactor_program.specs.declared.reaction_draft.ReactionDraft.{ReactionDraft}
+use Rattle.plan_names.specs.Spelling.{is_name}
 use Rattle.toml.specs.Data.{Members}
-use Rattle.tables.specs.Tables.{SaysEach}
+use Rattle.loadfed_tables.specs.Tables.{SaysEach}
 use Rattle.loadfed.specs.Shape.{SaysTimer, SaysState, SaysReaction, ProgramDraft, SaysProgram, SaysSlots, SaysFederate, SaysFederates}
 use Rattle.loadfed.specs.Ready.{IsReady, AreReady}
 

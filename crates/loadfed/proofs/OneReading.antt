@@ -3,21 +3,21 @@ use Rattle.std.proofs.Common.{◌≡◌, ℕ, suc, ◌≤◌, ℤ, List, [], ◌
 use Rattle.std.specs.Prelude.{Result, Ok, Err, IfOk}
 use Rattle.std.proofs.lemmas.List.{length-map}
 use Rattle.std.specs.List.{AllZip}
-use Rattle.slots.specs.declared.slots.Slots.{Slots}
-use Rattle.slots.specs.declared.slots.Timer.{Timer}
+use Rattle.plan_slots.specs.declared.slots.Slots.{Slots}
+use Rattle.plan_slots.specs.declared.slots.Timer.{Timer}
 use Rattle.plan.specs.declared.draft.Federate.{Federate}
-use Rattle.names.specs.declared.port.PortName.{PortName}
+use Rattle.plan_names.specs.declared.port.PortName.{PortName}
 use Rattle.plan.specs.declared.draft.ConnectionDraft.{ConnectionDraft}
 use Rattle.plan.specs.declared.draft.Draft.{Draft}
-use Rattle.program.specs.declared.program.State.{State}
-use Rattle.program.specs.declared.reaction_draft.ReactionDraft.{ReactionDraft}
+use Rattle.reactor_program.specs.declared.program.State.{State}
+use Rattle.reactor_program.specs.declared.reaction_draft.ReactionDraft.{ReactionDraft}
 use Rattle.toml.specs.Data.{table, Members}
 use Rattle.toml.specs.View.{view}
 use Rattle.toml.specs.declared.value.Value.{Value}
-use Rattle.tables.specs.declared.fault.LoadFault.{LoadFault}
-use Rattle.tables.specs.Tables.{SaysArray, SaysTables, SaysEach}
+use Rattle.loadfed_tables.specs.declared.fault.TableFault.{TableFault}
+use Rattle.loadfed_tables.specs.Tables.{SaysArray, SaysTables, SaysEach}
 use Rattle.loadfed.specs.Shape.{SaysTimer, SaysState, SaysReaction, ProgramDraft, SaysProgram, wants_startup, SaysSlots, SaysFederate, SaysConnection, SaysFederates, SaysFederation}
-use Rattle.tables.proofs.OneReading.{one_text, one_number, one_duration, one_after, one_duration_or_zero, one_array, one_texts, one_tables, one_port}
+use Rattle.loadfed_tables.proofs.OneReading.{one_text, one_number, one_duration, one_after, one_duration_or_zero, one_array, one_texts, one_tables, one_port}
 
 one_zip : {X : Type 0} (R : Members → X → Type 0) → ((m : Members) (x y : X) → R m x → R m y → x ≡ y) → (ts : List Members) (xs ys : List X)
     → AllZip R ts xs → AllZip R ts ys → xs ≡ ys
@@ -52,7 +52,7 @@ few_said R key m values xs most few held says =
     omega (arith, length-map values view, length-map says.tables table)
 
 -- as many are read as there are entries
-pub each_few : {X : Type 0} {most : ℕ} (R : Members → X → Type 0) (key : List ℕ) (m : Members) (values : List Value) (r : Result (Vec X Global) LoadFault)
+pub each_few : {X : Type 0} {most : ℕ} (R : Members → X → Type 0) (key : List ℕ) (m : Members) (values : List Value) (r : Result (Vec X Global) TableFault)
     → length values ≤ most → SaysArray key m (map view values) → IfOk r (λ each. SaysEach R key m each.items) → IfOk r (λ each. length each.items ≤ most)
 each_few {X} {most} R key m values (Ok each) few held says = few_said R key m values each.items most few held says
 each_few R key m values (Err fault) few held says = says

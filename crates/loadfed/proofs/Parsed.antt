@@ -5,13 +5,13 @@ use Rattle.std.proofs.lemmas.List.{take_all}
 use Rattle.std.proofs.lemmas.List.Elements.{All-get_or}
 use Rattle.plan.specs.declared.draft.Federate.{Federate}
 use Rattle.plan.specs.declared.draft.Draft.{Draft}
-use Rattle.slots.specs.Limits.{IsWithinLimits}
+use Rattle.plan_slots.specs.Limits.{IsWithinLimits}
 use Rattle.plan.specs.Legal.{IsLegal}
 use Rattle.plan.specs.Naming.{AreDistinct}
-use Rattle.slots.specs.Numbering.{all_names}
-use Rattle.program.specs.Behaviour.{Behaviour}
-use Rattle.programs.specs.Programs.{HaveSlotsOf}
-use Rattle.program.specs.Spelled.{SpellsProgram, IsReadable}
+use Rattle.plan_slots.specs.Numbering.{all_names}
+use Rattle.reactor_program.specs.Behaviour.{Behaviour}
+use Rattle.reactor_programs.specs.Programs.{HaveSlotsOf}
+use Rattle.reactor_program.specs.Spelled.{SpellsProgram, IsReadable}
 use Rattle.loadfed.specs.Shape.{ProgramDraft}
 use Rattle.loadfed.specs.Ready.{IsReady, AreReady}
 use Rattle.loadfed.specs.Loaded.{SpellPrograms}

@@ -1,24 +1,26 @@
--- How faults of the plan and of programs are told.
-use Rattle.std.proofs.Common.{◌≡◌, ◌⊎◌, inl, inr, ℕ, ◌≤◌, length, Some, subst, sym, List, Result, Ok, Err, refl}
+-- How faults of the plan and of programs are printed.
+use Rattle.std.proofs.Common.{◌≡◌, ◌⊎◌, inl, inr, ℕ, ◌≤◌, length, Some, ap, subst, sym, List, Result, Ok, Err, refl}
 use Rattle.std.specs.Prelude.{◌≢◌, slice_get, IfOk, OnOk, IfErr}
 use Rattle.toml.specs.Data.{Members}
 use Rattle.plan.specs.Legal.{IsLegal}
 use Rattle.plan.specs.declared.draft.Federate.{Federate}
 use Rattle.plan.specs.declared.draft.Draft.{Draft}
-use Rattle.faults.specs.declared.plan_fault.PlanFault.{PlanFault}
-use Rattle.faults.specs.declared.plan_fault.PlanFault.TheVariants as plan_fault
+use Rattle.plan.specs.declared.plan_fault.PlanFault.{PlanFault}
+use Rattle.plan.specs.declared.plan_fault.PlanFault.TheVariants as plan_fault
 use Rattle.plan.specs.Faults.{StandsIn}
 use Rattle.plan.specs.Legal.{IsLegal}
-use Rattle.faults.specs.declared.program_fault.ProgramFault.{ProgramFault}
-use Rattle.faults.specs.declared.program_fault.ProgramFault.TheVariants as program_fault
-use Rattle.program.specs.Behaviour.{Behaviour}
-use Rattle.programs.specs.Programs.{AreProgramsOf}
-use Rattle.program.specs.Spelled.{SpellsProgram, IsFaultOf}
-use Rattle.tables.specs.declared.fault.LoadFault.{LoadFault}
-use Rattle.tables.specs.declared.fault.LoadFault.TheVariants.{NotToml, Plan, Program, Memory}
-use Rattle.loadfed.specs.Told.{fault_of_plan}
+use Rattle.reactor_program.specs.declared.program_fault.ProgramFault.{ProgramFault}
+use Rattle.reactor_program.specs.declared.program_fault.ProgramFault.TheVariants as program_fault
+use Rattle.reactor_program.specs.Behaviour.{Behaviour}
+use Rattle.reactor_programs.specs.Programs.{AreProgramsOf}
+use Rattle.reactor_program.specs.Spelled.{SpellsProgram, IsFaultOf}
+use Rattle.loadfed_tables.specs.declared.fault.TableFault.{TableFault}
+use Rattle.loadfed_tables.specs.declared.fault.TableFault.TheVariants as table_fault
+use Rattle.loadfed.specs.declared.fault.LoadFault.{LoadFault}
+use Rattle.loadfed.specs.declared.fault.LoadFault.TheVariants.{Plan, Program, Memory}
+use Rattle.loadfed.specs.Errors.{fault_of_table, fault_of_plan}
 use Rattle.loadfed.specs.Shape.{ProgramDraft, SaysFederation}
-use Rattle.tables.specs.Documents.{IsDocument}
+use Rattle.loadfed_tables.specs.Documents.{IsDocument}
 use Rattle.loadfed.specs.declared.federation.TheConstants.{MOST_BYTES}
 use Rattle.loadfed.specs.Loaded.{SpellPrograms, SaysDraft, IsFederationFile, IsPlanFault, IsProgramFault, IsFaultAmong, HasLoadFault, out_of_memory, no_document, wrong_shape, illegal_plan, no_program, IsLoading}
 use Rattle.loadfed.specs.ShapeFaults.{HasShapeFault}
@@ -26,7 +28,7 @@ use Rattle.loadfed.specs.ShapeFaults.{HasShapeFault}
 stands : (d : Draft) (reason : PlanFault) → StandsIn d reason → reason ≢ plan_fault.Memory → (IsLegal d → reason ≡ plan_fault.Memory) → IsPlanFault d (Plan reason)
 stands d reason there other only = record { reason = reason; told = refl; not_memory = other; stands = there; illegal = λ h. other (only h) }
 
--- a fault of the plan, which isn't want of memory, stands against a plan
+-- a fault of the plan, which isn't out of memory, stands against a plan
 pub plan_told : (d : Draft) (reason : PlanFault) → StandsIn d reason → (IsLegal d → reason ≡ plan_fault.Memory)
     → (fault_of_plan reason ≡ Memory) ⊎ IsPlanFault d (fault_of_plan reason)
 plan_told d plan_fault.NoFederate there only = inr (stands d plan_fault.NoFederate there (λ e. cc) only)
@@ -43,7 +45,7 @@ fails : (f : Federate) (p : ProgramDraft) (reason : ProgramFault) (fault : LoadF
     → ((b : Behaviour) → SpellsProgram f.slots p.states p.reactions b → reason ≡ program_fault.Memory) → IsProgramFault f p fault
 fails f p reason fault other told there only = record { reason = reason; told = told; not_memory = other; stands = there; unspelled = λ b says. other (only b says) }
 
--- a fault of a program, which isn't want of memory
+-- a fault of a program, which isn't out of memory
 pub program_told : (f : Federate) (p : ProgramDraft) (reason : ProgramFault) (fault : LoadFault) → IsFaultOf f.slots p.states p.reactions reason
     → ((b : Behaviour) → SpellsProgram f.slots p.states p.reactions b → reason ≡ program_fault.Memory)
     → (fault ≡ Memory) ⊎ (fault ≡ Program f.name reason) → (reason ≡ program_fault.Memory → fault ≡ Memory)
@@ -65,16 +67,16 @@ among_legal d e ps fault same legal (inl memory) = inl memory
 among_legal d e ps fault same legal (inr h) = inr (inr (legal, subst (λ x. IsFaultAmong x.federates ps fault) same h))
 
 -- a file that isn't too long, and is no document
-pub table_told : (bytes : List ℕ) (fault : LoadFault) → length bytes ≤ MOST_BYTES → (fault ≡ Memory) ⊎ ((fault ≡ NotToml) × ((file : Members) → ¬ (IsDocument bytes file)))
-    → HasLoadFault bytes fault
-table_told bytes fault few (inl memory) = out_of_memory memory few
-table_told bytes fault few (inr h) = no_document (record { few = few; told = h.0; none = h.1 })
+pub table_told : (bytes : List ℕ) (fault : TableFault) → length bytes ≤ MOST_BYTES
+    → (fault ≡ table_fault.Memory) ⊎ ((fault ≡ table_fault.NotToml) × ((file : Members) → ¬ (IsDocument bytes file))) → HasLoadFault bytes (fault_of_table fault)
+table_told bytes fault few (inl memory) = out_of_memory (ap fault_of_table memory) few
+table_told bytes fault few (inr h) = no_document (record { few = few; told = ap fault_of_table h.0; none = h.1 })
 
-pub shape_told : (bytes : List ℕ) (m file : Members) (fault : LoadFault) → m ≡ file → length bytes ≤ MOST_BYTES → IsDocument bytes file → (fault ≡ Memory) ⊎ HasShapeFault m fault
-    → HasLoadFault bytes fault
-shape_told bytes m file fault same few document (inl memory) = out_of_memory memory few
+pub shape_told : (bytes : List ℕ) (m file : Members) (fault : TableFault) → m ≡ file → length bytes ≤ MOST_BYTES → IsDocument bytes file
+    → (fault ≡ table_fault.Memory) ⊎ HasShapeFault m fault → HasLoadFault bytes (fault_of_table fault)
+shape_told bytes m file fault same few document (inl memory) = out_of_memory (ap fault_of_table memory) few
 shape_told bytes m file fault same few document (inr h) =
-    wrong_shape (record { few = few; file = file; document = document; wrong = subst (λ x. HasShapeFault x fault) same h })
+    wrong_shape (record { few = few; file = file; document = document; wrong = fault; told = refl; stands = subst (λ x. HasShapeFault x fault) same h })
 
 -- what a document's draft is loaded as
 pub loaded_told : (bytes : List ℕ) (m file : Members) (d : Draft) (drafts : List ProgramDraft) (r : Result (Draft × List Behaviour) LoadFault)

@@ -3,12 +3,12 @@ use Rattle.std.proofs.Common.{◌≡◌, ℕ, List, [], ◌∷◌, map, length, 
 use Rattle.std.specs.List.{AllZip}
 use Rattle.plan.specs.declared.draft.Federate.{Federate}
 use Rattle.toml.specs.Data.{Members}
-use Rattle.tables.specs.declared.fault.LoadFault.{LoadFault}
-use Rattle.tables.specs.Tables.{SaysName, SaysTexts, SaysEach}
+use Rattle.loadfed_tables.specs.declared.fault.TableFault.{TableFault}
+use Rattle.loadfed_tables.specs.Tables.{SaysName, SaysTexts, SaysEach}
 use Rattle.loadfed.specs.declared.federation_shape.FederateShape.{FederateShape}
 use Rattle.std.specs.Prelude.{Result, Ok, Err, IfOk}
 use Rattle.loadfed.specs.Shape.{SaysTriggers, SaysFederateName, ProgramDraft, SaysProgram, SaysFederate, SaysFederates}
-use Rattle.tables.proofs.OneReading.{one_text, one_texts}
+use Rattle.loadfed_tables.proofs.OneReading.{one_text, one_texts}
 
 pub texts_of_triggers : (m : Members) (ts : List (List ℕ)) → SaysTriggers m ts → (us : List (List ℕ)) × SaysTexts (codes "triggers") m us
 texts_of_triggers m ts h = (ts, h.0)
@@ -48,7 +48,7 @@ says_federates m shapes says = record {
 }
 
 -- federates, parted from their programs
-pub federates_parted : (m : Members) (shapes : List FederateShape) (r : Result (List Federate × Vec ProgramDraft Global) LoadFault)
+pub federates_parted : (m : Members) (shapes : List FederateShape) (r : Result (List Federate × Vec ProgramDraft Global) TableFault)
     → SaysEach SaysShape (codes "federate") m shapes
     → IfOk r (λ made. (made.0 ≡ map (λ s. s.federate) shapes) × (made.1.items ≡ map (λ s. s.program) shapes))
     → IfOk r (λ made. SaysFederates m made.0 made.1.items)

@@ -5,12 +5,12 @@ use Rattle.std.proofs.lemmas.List.{take_all, length-map, map-append}
 use Rattle.toml.specs.Data.{Data, table, Members}
 use Rattle.toml.specs.View.{view}
 use Rattle.toml.specs.declared.value.Value.{Value}
-use Rattle.tables.specs.declared.fault.LoadFault.{LoadFault}
-use Rattle.tables.specs.declared.fault.LoadFault.TheVariants.{Memory, OverLimit}
-use Rattle.tables.specs.Tables.{SaysArray, SaysTables, SaysEach}
-use Rattle.tables.specs.TableFaults.{IsWrongAt}
+use Rattle.loadfed_tables.specs.declared.fault.TableFault.{TableFault}
+use Rattle.loadfed_tables.specs.declared.fault.TableFault.TheVariants.{Memory, OverLimit}
+use Rattle.loadfed_tables.specs.Tables.{SaysArray, SaysTables, SaysEach}
+use Rattle.loadfed_tables.specs.TableFaults.{IsWrongAt}
 use Rattle.loadfed.specs.ShapeFaults.{HasTooMany, HasTablesFault}
-use Rattle.tables.proofs.KeyReadings.{view_at, views_more, table_entry}
+use Rattle.loadfed_tables.proofs.KeyReadings.{view_at, views_more, table_entry}
 
 -- these entries are tables, which say these
 pub record AreRead {X : Type 0} (Says : Members → X → Type 0) (entries : List Data) (xs : List X) : Type 0 where
@@ -56,12 +56,12 @@ read_all Says key m values xs i says read all = record {
   each = read.each;
 }
 
-pub array_told : (Has : Members → LoadFault → Type 0) (key : List ℕ) (m : Members) (fault : LoadFault) → (fault ≡ Memory) ⊎ IsWrongAt key (SaysArray key m) fault
+pub array_told : (Has : Members → TableFault → Type 0) (key : List ℕ) (m : Members) (fault : TableFault) → (fault ≡ Memory) ⊎ IsWrongAt key (SaysArray key m) fault
     → (fault ≡ Memory) ⊎ HasTablesFault Has key m fault
 array_told Has key m fault (inl memory) = inl memory
 array_told Has key m fault (inr wrong) = inr (inl (record { told = wrong.told; nothing = λ tables says. wrong.nothing (map table tables) says }))
 
-pub entry_told : (Has : Members → LoadFault → Type 0) (key : List ℕ) (m : Members) (values : List Value) (i : ℕ) (v : Value) (fault : LoadFault)
+pub entry_told : (Has : Members → TableFault → Type 0) (key : List ℕ) (m : Members) (values : List Value) (i : ℕ) (v : Value) (fault : TableFault)
     → SaysArray key m (map view values) → i < length values → v ≡ get_or values i v
     → (fault ≡ Memory) ⊎ IsWrongAt key (λ inner. view v ≡ table inner) fault → (fault ≡ Memory) ⊎ HasTablesFault Has key m fault
 entry_told Has key m values i v fault says low is (inl memory) = inl memory
@@ -70,7 +70,7 @@ entry_told Has key m values i v fault says low is (inr wrong) = inr (inl (record
   nothing = λ tables there. (let at = table_entry key m values i v says low is tables there in wrong.nothing at.0 at.1);
 }))
 
-pub inside_told : (Has : Members → LoadFault → Type 0) (key : List ℕ) (m : Members) (values : List Value) (i : ℕ) (v : Value) (inner : Members) (fault : LoadFault)
+pub inside_told : (Has : Members → TableFault → Type 0) (key : List ℕ) (m : Members) (values : List Value) (i : ℕ) (v : Value) (inner : Members) (fault : TableFault)
     → SaysArray key m (map view values) → i < length values → v ≡ get_or values i v → view v ≡ table inner
     → (fault ≡ Memory) ⊎ Has inner fault → (fault ≡ Memory) ⊎ HasTablesFault Has key m fault
 inside_told Has key m values i v inner fault says low is this (inl memory) = inl memory

@@ -5,12 +5,13 @@ use Rattle.plan.specs.declared.draft.Draft.{Draft}
 use Rattle.plan.specs.declared.input.Input.{Input}
 use Rattle.plan.specs.External.{found_action, AreApart, AreInputsOf}
 use Rattle.plan.specs.declared.input.TheConstants.{MOST_INPUTS}
-use Rattle.tables.specs.declared.fault.LoadFault.{LoadFault}
-use Rattle.tables.specs.declared.fault.LoadFault.TheVariants.{UnknownAction, RepeatedInput, OverLimit, Memory}
-use Rattle.tables.specs.Tables.{HasOnly, SaysText, SaysNumber, SaysDuration, SaysMicrostep, SaysEach}
-use Rattle.tables.specs.TableFaults.{IsWrongAt, HasUnknownKey}
+use Rattle.loadfed_tables.specs.declared.fault.TableFault.{TableFault}
+use Rattle.loadfed.specs.declared.fault.LoadFault.{LoadFault}
+use Rattle.loadfed.specs.declared.fault.LoadFault.TheVariants.{UnknownAction, RepeatedInput, OverLimit, Memory}
+use Rattle.loadfed_tables.specs.Tables.{HasOnly, SaysText, SaysNumber, SaysDuration, SaysMicrostep, SaysEach}
+use Rattle.loadfed_tables.specs.TableFaults.{IsWrongAt, HasUnknownKey}
 use Rattle.loadfed.specs.ShapeFaults.{HasTablesFault}
-use Rattle.tables.specs.Documents.{IsDocument}
+use Rattle.loadfed_tables.specs.Documents.{IsDocument}
 use Rattle.loadfed.specs.declared.recorded.TheConstants.{MOST_INPUT_BYTES}
 use Rattle.loadfed.specs.Loaded.{IsTooLong, IsNoDocument, HasFileFault}
 
@@ -37,7 +38,7 @@ pub record SaysInputs (members : Members) (inputs : List Input) : Type 0 where
   pub inputs_are : SaysEach SaysInput (codes "input") members inputs
 
 -- what is wrong with the shape of a recorded input, and at which key
-abbrev pub HasInputFault : Members → LoadFault → Type 0
+abbrev pub HasInputFault : Members → TableFault → Type 0
 HasInputFault members fault =
     HasUnknownKey input_keys members fault
     ⊎ (IsWrongAt (codes "federate") (SaysText (codes "federate") members) fault
@@ -47,7 +48,7 @@ HasInputFault members fault =
     ⊎ IsWrongAt (codes "value") (SaysNumber (codes "value") members) fault))))
 
 -- what is wrong with the shape of an input file, and at which key
-abbrev pub HasInputsFault : Members → LoadFault → Type 0
+abbrev pub HasInputsFault : Members → TableFault → Type 0
 HasInputsFault members fault = HasUnknownKey input_file_keys members fault ⊎ HasTablesFault HasInputFault (codes "input") members fault
 
 -- a file that isn't too long records these inputs

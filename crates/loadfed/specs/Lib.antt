@@ -1,6 +1,8 @@
 -- What the two files of a federation say.
--- how faults of the crates below are told
-pub mod Told
+-- refusals: their numbers and texts
+pub mod Numbers
+-- what faults of the crates below are as faults of files
+pub mod Errors
 -- faults, as a trait names them
 pub mod Refused
 -- what a federation file says, table by table

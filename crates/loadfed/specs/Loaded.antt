@@ -3,19 +3,21 @@ use Rattle.std.specs.Prelude.{◌≡◌, ◌≢◌, ℕ, ◌<◌, ◌≤◌, Lis
 use Rattle.toml.specs.Data.{Members}
 use Rattle.plan.specs.declared.draft.Federate.{Federate}
 use Rattle.plan.specs.declared.draft.Draft.{Draft}
-use Rattle.faults.specs.declared.plan_fault.PlanFault.{PlanFault}
-use Rattle.faults.specs.declared.plan_fault.PlanFault.TheVariants as plan_fault
+use Rattle.plan.specs.declared.plan_fault.PlanFault.{PlanFault}
+use Rattle.plan.specs.declared.plan_fault.PlanFault.TheVariants as plan_fault
 use Rattle.plan.specs.Legal.{IsLegal}
 use Rattle.plan.specs.Faults.{StandsIn}
-use Rattle.faults.specs.declared.program_fault.ProgramFault.{ProgramFault}
-use Rattle.faults.specs.declared.program_fault.ProgramFault.TheVariants as program_fault
-use Rattle.program.specs.Behaviour.{Behaviour}
-use Rattle.programs.specs.Programs.{AreProgramsOf}
-use Rattle.program.specs.Spelled.{SpellsProgram, IsFaultOf}
-use Rattle.tables.specs.declared.fault.LoadFault.{LoadFault}
-use Rattle.tables.specs.declared.fault.LoadFault.TheVariants.{NotToml, Plan, Program, OverLimit, Memory}
-use Rattle.tables.specs.Documents.{IsDocument}
+use Rattle.reactor_program.specs.declared.program_fault.ProgramFault.{ProgramFault}
+use Rattle.reactor_program.specs.declared.program_fault.ProgramFault.TheVariants as program_fault
+use Rattle.reactor_program.specs.Behaviour.{Behaviour}
+use Rattle.reactor_programs.specs.Programs.{AreProgramsOf}
+use Rattle.reactor_program.specs.Spelled.{SpellsProgram, IsFaultOf}
+use Rattle.loadfed_tables.specs.declared.fault.TableFault.{TableFault}
+use Rattle.loadfed.specs.declared.fault.LoadFault.{LoadFault}
+use Rattle.loadfed.specs.declared.fault.LoadFault.TheVariants.{NotToml, Plan, Program, OverLimit, Memory}
+use Rattle.loadfed_tables.specs.Documents.{IsDocument}
 use Rattle.loadfed.specs.declared.federation.TheConstants.{MOST_BYTES}
+use Rattle.loadfed.specs.Errors.{fault_of_table}
 use Rattle.loadfed.specs.Shape.{ProgramDraft, SaysFederation}
 use Rattle.loadfed.specs.ShapeFaults.{HasShapeFault}
 
@@ -52,13 +54,15 @@ pub record IsNoDocument (most : ℕ) (bytes : List ℕ) (fault : LoadFault) : Ty
   pub none : (file : Members) → IsDocument bytes file → ⊥
 
 -- a document with a fault in its tables
-pub record HasFileFault (Has : Members → LoadFault → Type 0) (most : ℕ) (bytes : List ℕ) (fault : LoadFault) : Type 0 where
+pub record HasFileFault (Has : Members → TableFault → Type 0) (most : ℕ) (bytes : List ℕ) (fault : LoadFault) : Type 0 where
   pub few : length bytes ≤ most
   pub file : Members
   pub document : IsDocument bytes file
-  pub wrong : Has file fault
+  pub wrong : TableFault
+  pub told : fault ≡ fault_of_table wrong
+  pub stands : Has file wrong
 
--- the draft isn't legal, for this reason, which isn't want of memory
+-- the draft isn't legal, for this reason, which isn't out of memory
 pub record IsPlanFault (d : Draft) (fault : LoadFault) : Type 0 where
   pub reason : PlanFault
   pub told : fault ≡ Plan reason
@@ -73,7 +77,7 @@ pub record HasPlanFault (bytes : List ℕ) (fault : LoadFault) : Type 0 where
   pub declared : SaysDraft bytes draft drafts
   pub refused : IsPlanFault draft fault
 
--- a federate's states and reactions spell no program, for this reason, which isn't want of memory
+-- a federate's states and reactions spell no program, for this reason, which isn't out of memory
 pub record IsProgramFault (f : Federate) (p : ProgramDraft) (fault : LoadFault) : Type 0 where
   pub reason : ProgramFault
   pub told : fault ≡ Program f.name reason

@@ -2,10 +2,10 @@
 use Rattle.std.specs.Prelude.{◌≤◌, List, length, All, IsTrue}
 use Rattle.std.specs.List.{AllZip}
 use Rattle.plan.specs.declared.draft.Federate.{Federate}
-use Rattle.slots.specs.Numbering.{all_names}
-use Rattle.names.specs.Spelling.{is_name}
-use Rattle.program.specs.Resolution.{state_names}
-use Rattle.program.specs.declared.limits.TheConstants.{MOST_STATES, MOST_REACTIONS, MOST_LINES}
+use Rattle.plan_slots.specs.Numbering.{all_names}
+use Rattle.plan_names.specs.Spelling.{is_name}
+use Rattle.reactor_program.specs.Resolution.{state_names}
+use Rattle.reactor_program.specs.declared.limits.TheConstants.{MOST_STATES, MOST_REACTIONS, MOST_LINES}
 use Rattle.loadfed.specs.Shape.{ProgramDraft}
 
 -- a federate's slots and states have names, and its program is within the limits

@@ -1,6 +1,6 @@
 -- Faults of files, as a trait names them.
-use Rattle.tables.specs.declared.fault.LoadFault.{LoadFault}
+use Rattle.loadfed_tables.specs.declared.fault.TableFault.{TableFault}
 
 -- a fault of a file
 abbrev pub Fault : Type 0
-Fault = LoadFault
+Fault = TableFault

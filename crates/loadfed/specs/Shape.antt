@@ -2,16 +2,16 @@
 use Rattle.std.specs.Prelude.{◌≡◌, ◌≢◌, ℕ, ◌≤◌, Bool, List, [], ◌∷◌, length, codes}
 use Rattle.std.specs.List.{AllZip, list_any}
 use Rattle.std.specs.Str.{bytes_eq}
-use Rattle.slots.specs.declared.slots.Slots.{Slots}
-use Rattle.slots.specs.declared.slots.Timer.{Timer}
+use Rattle.plan_slots.specs.declared.slots.Slots.{Slots}
+use Rattle.plan_slots.specs.declared.slots.Timer.{Timer}
 use Rattle.plan.specs.declared.draft.Federate.{Federate}
 use Rattle.plan.specs.declared.draft.ConnectionDraft.{ConnectionDraft}
 use Rattle.plan.specs.declared.draft.Draft.{Draft}
-use Rattle.program.specs.declared.program.State.{State}
-use Rattle.program.specs.declared.reaction_draft.ReactionDraft.{ReactionDraft}
+use Rattle.reactor_program.specs.declared.program.State.{State}
+use Rattle.reactor_program.specs.declared.reaction_draft.ReactionDraft.{ReactionDraft}
 use Rattle.toml.specs.Data.{Members}
-use Rattle.program.specs.declared.limits.TheConstants.{MOST_STATES, MOST_REACTIONS, MOST_LINES}
-use Rattle.tables.specs.Tables.{HasOnly, SaysNumber, SaysName, SaysPort, SaysDuration, MaySay, SaysDurationOrZero, SaysTexts, SaysNames, SaysTables, SaysEach}
+use Rattle.reactor_program.specs.declared.limits.TheConstants.{MOST_STATES, MOST_REACTIONS, MOST_LINES}
+use Rattle.loadfed_tables.specs.Tables.{HasOnly, SaysNumber, SaysName, SaysPort, SaysDuration, MaySay, SaysDurationOrZero, SaysTexts, SaysNames, SaysTables, SaysEach}
 
 -- the keys of a federation file
 abbrev pub file_keys : List (List ℕ)

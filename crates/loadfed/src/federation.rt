@@ -2,19 +2,20 @@ ghost use Rattle.std.specs.Prelude.{◌≡◌, ◌⊎◌, List, IfOk, IfErr, OnO
 ghost use Rattle.loadfed.specs.Ready.{AreReady};
 ghost use Rattle.plan.specs.declared.draft.Draft.{Draft};
 ghost use Rattle.plan.specs.Legal.{IsLegal};
-ghost use Rattle.program.specs.Behaviour.{Behaviour};
-ghost use Rattle.programs.specs.Programs.{AreProgramsOf};
-ghost use Rattle.program.specs.Spelled.{SpellsProgram, IsReadable};
+ghost use Rattle.reactor_program.specs.Behaviour.{Behaviour};
+ghost use Rattle.reactor_programs.specs.Programs.{AreProgramsOf};
+ghost use Rattle.reactor_program.specs.Spelled.{SpellsProgram, IsReadable};
 ghost use Rattle.loadfed.specs.Loaded.{SpellPrograms, IsFederationFile, IsPlanFault, IsProgramFault, IsFaultAmong, IsLoading};
 
+use crate::errors::{of_plan, of_program};
+use crate::fault::LoadFault;
 use crate::federation_shape::{Shape, federation_shape};
 use crate::program_shape::ProgramShape;
-use crate::told::{of_plan, of_program};
+use loadfed_tables::{Section, document};
 use plan::{Draft, Federate, Plan};
-use program::Program;
-use programs::Programs;
+use reactor_program::Program;
+use reactor_programs::Programs;
 use std::alloc::Global;
-use tables::{LoadFault, Section, document};
 
 /// The most bytes that a federation file has.
 pub const MOST_BYTES: usize = 1_048_576;
@@ -23,7 +24,7 @@ pub const MOST_BYTES: usize = 1_048_576;
 pub fn load(alloc: Global, bytes: &[u8]) -> Result<(Plan, Programs), LoadFault>
     ensures outcome { IsLoading bytes.now result }
 
-    // Of a file that is a federation want of memory alone is told.
+    // Of a file that is a federation out of memory alone is answered.
     ensures accepts { (d : Draft) (programs : List Behaviour) → IsFederationFile bytes.now d programs → IfErr result (λ fault. fault ≡ LoadFault.Memory) }
 {
     staged(alloc, bytes)
@@ -52,7 +53,7 @@ fn loaded(alloc: Global, shape: Shape) -> Result<(Plan, Programs), LoadFault>
     let Shape { draft, programs } = shape;
     let plan = planned(alloc, draft)?;
     // For the prover: the plan is legal.
-    plan.known();
+    plan.invariant();
     let programs = parsed(alloc, &plan, programs)?;
     match Programs::new(&plan, programs) {
         Some(programs) => Ok((plan, programs)),
@@ -78,7 +79,7 @@ fn parsed(alloc: Global, plan: &Plan, shapes: Vec<ProgramShape>) -> Result<Vec<P
     ensures refused { IfErr result (λ fault. (fault ≡ LoadFault.Memory) ⊎ IsFaultAmong plan.now.federates shapes.items fault) }
 {
     // For the prover: the plan is legal.
-    plan.known();
+    plan.invariant();
     let federates = plan.federates();
     let mut programs = Vec::new(alloc);
     let mut shapes = shapes.into_iter();

@@ -1,16 +1,17 @@
 ghost use Rattle.std.specs.Prelude.{◌≡◌, ◌⊎◌, map, IfOk, IfErr, codes};
-ghost use Rattle.tables.specs.Sections.{members_of};
+ghost use Rattle.loadfed_tables.specs.Sections.{members_of};
 ghost use Rattle.loadfed.specs.Shape.{SaysFederateName, SaysFederate, SaysProgram, SaysFederates, SaysFederation};
-ghost use Rattle.tables.specs.TableFaults.{IsWrongAt};
+ghost use Rattle.loadfed_tables.specs.TableFaults.{IsWrongAt};
 ghost use Rattle.loadfed.specs.ShapeFaults.{HasFederateFault, HasTablesFault, HasShapeFault};
 
 use crate::arrays::{FromTable, read_each};
 use crate::connection_shape::connections_shape;
 use crate::program_shape::ProgramShape;
 use crate::slots_shape::slots_shape;
-use plan::{Draft, Federate, Federates, Text};
+use loadfed_tables::{Section, TableFault};
+use plan::{Draft, Federate, Federates};
+use plan_names::Text;
 use std::alloc::Global;
-use tables::{LoadFault, Section};
 
 /// What a file declares: a draft, and states and reactions of each of its federates, in their order.
 #[derive(Drop)]
@@ -20,9 +21,9 @@ pub struct Shape {
 }
 
 /// The federation in a file's table.
-pub fn federation_shape(alloc: Global, file: &Section<'_>) -> Result<Shape, LoadFault>
+pub fn federation_shape(alloc: Global, file: &Section<'_>) -> Result<Shape, TableFault>
     ensures ok { IfOk result (λ shape. SaysFederation (members_of file.now) shape.draft shape.programs.items) }
-    ensures refused { IfErr result (λ fault. (fault ≡ LoadFault.Memory) ⊎ HasShapeFault (members_of file.now) fault) }
+    ensures refused { IfErr result (λ fault. (fault ≡ TableFault.Memory) ⊎ HasShapeFault (members_of file.now) fault) }
 {
     file.has_only(&["stop", "federate", "connection"])?;
     let stop = file.needed_duration("stop")?;
@@ -37,9 +38,12 @@ pub fn federation_shape(alloc: Global, file: &Section<'_>) -> Result<Shape, Load
 }
 
 /// The federates in a file's table, and their programs.
-fn federates(alloc: Global, file: &Section<'_>) -> Result<(Federates, Vec<ProgramShape>), LoadFault>
+fn federates(
+    alloc: Global,
+    file: &Section<'_>,
+) -> Result<(Federates, Vec<ProgramShape>), TableFault>
     ensures ok { IfOk result (λ made. SaysFederates (members_of file.now) made.0 made.1.items) }
-    ensures refused { IfErr result (λ fault. (fault ≡ LoadFault.Memory) ⊎ HasTablesFault HasFederateFault (codes "federate") (members_of file.now) fault) }
+    ensures refused { IfErr result (λ fault. (fault ≡ TableFault.Memory) ⊎ HasTablesFault HasFederateFault (codes "federate") (members_of file.now) fault) }
 {
     let shapes = read_each(alloc, file, "federate")?;
     parted(alloc, shapes)
@@ -49,9 +53,9 @@ fn federates(alloc: Global, file: &Section<'_>) -> Result<(Federates, Vec<Progra
 fn parted(
     alloc: Global,
     shapes: Vec<FederateShape>,
-) -> Result<(Federates, Vec<ProgramShape>), LoadFault>
+) -> Result<(Federates, Vec<ProgramShape>), TableFault>
     ensures ok { IfOk result (λ made. (made.0 ≡ map (λ shape. shape.federate) shapes.items) × (made.1.items ≡ map (λ shape. shape.program) shapes.items)) }
-    ensures refused { IfErr result (λ fault. fault ≡ LoadFault.Memory) }
+    ensures refused { IfErr result (λ fault. fault ≡ TableFault.Memory) }
 {
     let mut federates = Vec::new(alloc);
     let mut programs = Vec::new(alloc);
@@ -74,7 +78,7 @@ impl FromTable for FederateShape {
 
     ghost has_fault = { HasFederateFault };
 
-    fn from_table(alloc: Global, table: &Section<'_>) -> Result<FederateShape, LoadFault> {
+    fn from_table(alloc: Global, table: &Section<'_>) -> Result<FederateShape, TableFault> {
         table.has_only(&[
             "name", "inputs", "outputs", "actions", "physical", "timers", "state", "reaction",
         ])?;
@@ -89,13 +93,13 @@ impl FromTable for FederateShape {
 }
 
 /// A federate's name, which isn't that of the coordinator.
-fn federate_name(alloc: Global, section: &Section<'_>) -> Result<Text, LoadFault>
+fn federate_name(alloc: Global, section: &Section<'_>) -> Result<Text, TableFault>
     ensures ok { IfOk result (SaysFederateName (members_of section.now)) }
-    ensures refused { IfErr result (λ fault. (fault ≡ LoadFault.Memory) ⊎ IsWrongAt (codes "name") (SaysFederateName (members_of section.now)) fault) }
+    ensures refused { IfErr result (λ fault. (fault ≡ TableFault.Memory) ⊎ IsWrongAt (codes "name") (SaysFederateName (members_of section.now)) fault) }
 {
     let name = section.name("name")?;
     if name.is("coordinator") {
-        return Err(LoadFault::wrong_shape(alloc, "name"));
+        return Err(TableFault::wrong_shape(alloc, "name"));
     }
     Ok(name)
 }

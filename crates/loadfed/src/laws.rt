@@ -3,7 +3,7 @@
 ghost use Rattle.std.specs.Prelude.{◌≡◌, ℕ, List};
 ghost use Rattle.plan.specs.declared.draft.Draft.{Draft};
 ghost use Rattle.plan.specs.declared.input.Input.{Input};
-ghost use Rattle.program.specs.Behaviour.{Behaviour};
+ghost use Rattle.reactor_program.specs.Behaviour.{Behaviour};
 ghost use Rattle.loadfed.specs.Shape.{ProgramDraft};
 ghost use Rattle.loadfed.specs.Loaded.{SaysDraft, IsFederationFile};
 ghost use Rattle.loadfed.specs.InputShape.{SaysInputFile};

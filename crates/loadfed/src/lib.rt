@@ -2,19 +2,20 @@
 //!
 //! Promise to the layer above: `load` and `load_inputs` take exactly the texts that `specs/` says, and tell where a
 //! fault stands. Begin with `federation`, then `arrays`, which reads arrays of tables. Each table is read key by key,
-//! by the crate `tables`.
+//! by the crate `loadfed_tables`.
 #![tactic(auto)]
 
 mod arrays;
 mod connection_shape;
+mod errors;
+pub mod fault;
 pub mod federation;
 mod federation_shape;
 pub mod laws;
 mod program_shape;
 pub mod recorded;
 mod slots_shape;
-mod told;
 
+pub use fault::LoadFault;
 pub use federation::{MOST_BYTES, load};
 pub use recorded::{MOST_INPUT_BYTES, load_inputs};
-pub use tables::{LoadFault, fault};

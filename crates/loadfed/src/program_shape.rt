@@ -1,18 +1,18 @@
 ghost use Rattle.std.specs.Prelude.{◌≡◌, ◌≤◌, ◌⊎◌, IfOk, IfErr, length, codes};
-ghost use Rattle.program.specs.declared.limits.TheConstants.{MOST_STATES, MOST_REACTIONS, MOST_LINES};
-ghost use Rattle.tables.specs.Sections.{members_of};
-ghost use Rattle.tables.specs.Tables.{SaysTexts, SaysEach};
+ghost use Rattle.reactor_program.specs.declared.limits.TheConstants.{MOST_STATES, MOST_REACTIONS, MOST_LINES};
+ghost use Rattle.loadfed_tables.specs.Sections.{members_of};
+ghost use Rattle.loadfed_tables.specs.Tables.{SaysTexts, SaysEach};
 ghost use Rattle.loadfed.specs.Shape.{SaysState, SaysTriggers, SaysReaction, SaysProgram};
-ghost use Rattle.tables.specs.TableFaults.{IsWrongAt};
+ghost use Rattle.loadfed_tables.specs.TableFaults.{IsWrongAt};
 ghost use Rattle.loadfed.specs.ShapeFaults.{HasTooMany, HasStateFault, HasReactionFault, HasStatesFault, HasReactionsFault};
 
 use crate::arrays::{FromTable, read_each};
-use plan::Names;
-use program::limits::{MOST_LINES, MOST_REACTIONS, MOST_STATES};
-use program::{ReactionDraft, State};
+use loadfed_tables::{Section, TableFault};
+use plan_names::Names;
+use reactor_program::limits::{MOST_LINES, MOST_REACTIONS, MOST_STATES};
+use reactor_program::{ReactionDraft, State};
 use std::alloc::Global;
 use std::marker::Model;
-use tables::{LoadFault, Section};
 
 /// A federate's states and reactions as a file has them.
 #[derive(Drop)]
@@ -31,9 +31,9 @@ impl Model for ProgramShape {
 
 impl ProgramShape {
     /// The states and reactions in a federate's table.
-    pub fn read(alloc: Global, federate: &Section<'_>) -> Result<ProgramShape, LoadFault>
+    pub fn read(alloc: Global, federate: &Section<'_>) -> Result<ProgramShape, TableFault>
         ensures ok { IfOk result (SaysProgram (members_of federate.now)) }
-        ensures refused { IfErr result (λ fault. (fault ≡ LoadFault.Memory) ⊎ (HasStatesFault (members_of federate.now) fault ⊎ HasReactionsFault (members_of federate.now) fault)) }
+        ensures refused { IfErr result (λ fault. (fault ≡ TableFault.Memory) ⊎ (HasStatesFault (members_of federate.now) fault ⊎ HasReactionsFault (members_of federate.now) fault)) }
     {
         let states = states(alloc, federate)?;
         let reactions = reactions(alloc, federate)?;
@@ -55,14 +55,14 @@ impl ProgramShape {
     }
 }
 
-fn states(alloc: Global, federate: &Section<'_>) -> Result<Vec<State>, LoadFault>
+fn states(alloc: Global, federate: &Section<'_>) -> Result<Vec<State>, TableFault>
     ensures ok { IfOk result (λ states. SaysEach SaysState (codes "state") (members_of federate.now) states.items) }
     ensures few { IfOk result (λ states. length states.items ≤ MOST_STATES) }
-    ensures refused { IfErr result (λ fault. (fault ≡ LoadFault.Memory) ⊎ HasStatesFault (members_of federate.now) fault) }
+    ensures refused { IfErr result (λ fault. (fault ≡ TableFault.Memory) ⊎ HasStatesFault (members_of federate.now) fault) }
 {
     let values = federate.array("state")?;
     if values.len() > MOST_STATES {
-        return Err(LoadFault::OverLimit);
+        return Err(TableFault::OverLimit);
     }
     read_each(alloc, federate, "state")
 }
@@ -72,7 +72,7 @@ impl FromTable for State {
 
     ghost has_fault = { HasStateFault };
 
-    fn from_table(_alloc: Global, table: &Section<'_>) -> Result<State, LoadFault> {
+    fn from_table(_alloc: Global, table: &Section<'_>) -> Result<State, TableFault> {
         table.has_only(&["name", "value"])?;
         let name = table.name("name")?;
         let value = table.needed_number("value")?;
@@ -80,14 +80,14 @@ impl FromTable for State {
     }
 }
 
-fn reactions(alloc: Global, federate: &Section<'_>) -> Result<Vec<ReactionDraft>, LoadFault>
+fn reactions(alloc: Global, federate: &Section<'_>) -> Result<Vec<ReactionDraft>, TableFault>
     ensures ok { IfOk result (λ reactions. SaysEach SaysReaction (codes "reaction") (members_of federate.now) reactions.items) }
     ensures few { IfOk result (λ reactions. length reactions.items ≤ MOST_REACTIONS) }
-    ensures refused { IfErr result (λ fault. (fault ≡ LoadFault.Memory) ⊎ HasReactionsFault (members_of federate.now) fault) }
+    ensures refused { IfErr result (λ fault. (fault ≡ TableFault.Memory) ⊎ HasReactionsFault (members_of federate.now) fault) }
 {
     let values = federate.array("reaction")?;
     if values.len() > MOST_REACTIONS {
-        return Err(LoadFault::OverLimit);
+        return Err(TableFault::OverLimit);
     }
     read_each(alloc, federate, "reaction")
 }
@@ -97,7 +97,7 @@ impl FromTable for ReactionDraft {
 
     ghost has_fault = { HasReactionFault };
 
-    fn from_table(alloc: Global, table: &Section<'_>) -> Result<ReactionDraft, LoadFault> {
+    fn from_table(alloc: Global, table: &Section<'_>) -> Result<ReactionDraft, TableFault> {
         table.has_only(&["triggers", "body"])?;
         let triggers = triggers(alloc, table)?;
         let body = body(table)?;
@@ -106,27 +106,27 @@ impl FromTable for ReactionDraft {
 }
 
 /// The triggers in a reaction's table, of which there is at least one.
-fn triggers(alloc: Global, section: &Section<'_>) -> Result<Names, LoadFault>
+fn triggers(alloc: Global, section: &Section<'_>) -> Result<Names, TableFault>
     ensures ok { IfOk result (SaysTriggers (members_of section.now)) }
-    ensures refused { IfErr result (λ fault. (fault ≡ LoadFault.Memory) ⊎ IsWrongAt (codes "triggers") (SaysTriggers (members_of section.now)) fault) }
+    ensures refused { IfErr result (λ fault. (fault ≡ TableFault.Memory) ⊎ IsWrongAt (codes "triggers") (SaysTriggers (members_of section.now)) fault) }
 {
     let triggers = section.texts("triggers")?;
     if triggers.as_slice().is_empty() {
-        Err(LoadFault::wrong_shape(alloc, "triggers"))
+        Err(TableFault::wrong_shape(alloc, "triggers"))
     } else {
         Ok(triggers)
     }
 }
 
 /// The lines in a reaction's table.
-fn body(section: &Section<'_>) -> Result<Names, LoadFault>
+fn body(section: &Section<'_>) -> Result<Names, TableFault>
     ensures ok { IfOk result (SaysTexts (codes "body") (members_of section.now)) }
     ensures few { IfOk result (λ body. length body ≤ MOST_LINES) }
-    ensures refused { IfErr result (λ fault. (fault ≡ LoadFault.Memory) ⊎ (IsWrongAt (codes "body") (SaysTexts (codes "body") (members_of section.now)) fault ⊎ HasTooMany (codes "body") MOST_LINES (members_of section.now) fault)) }
+    ensures refused { IfErr result (λ fault. (fault ≡ TableFault.Memory) ⊎ (IsWrongAt (codes "body") (SaysTexts (codes "body") (members_of section.now)) fault ⊎ HasTooMany (codes "body") MOST_LINES (members_of section.now) fault)) }
 {
     let body = section.texts("body")?;
     if body.as_slice().len() > MOST_LINES {
-        Err(LoadFault::OverLimit)
+        Err(TableFault::OverLimit)
     } else {
         Ok(body)
     }

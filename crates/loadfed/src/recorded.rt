@@ -1,14 +1,15 @@
 ghost use Rattle.std.specs.Prelude.{◌≡◌, ◌⊎◌, List, IfOk, IfErr, codes};
 ghost use Rattle.plan.specs.declared.input.Input.{Input};
 ghost use Rattle.plan.specs.External.{AreInputsOf};
-ghost use Rattle.tables.specs.Sections.{members_of};
+ghost use Rattle.loadfed_tables.specs.Sections.{members_of};
 ghost use Rattle.loadfed.specs.InputShape.{SaysInput, SaysInputs, HasInputFault, HasInputsFault, SaysInputFile, IsFaultOfInputs, IsInputLoading};
 
 use crate::arrays::{FromTable, read_each};
-use crate::told::of_inputs;
+use crate::errors::of_inputs;
+use crate::fault::LoadFault;
+use loadfed_tables::{Section, TableFault, document};
 use plan::{Input, Inputs, Plan};
 use std::alloc::Global;
-use tables::{LoadFault, Section, document};
 use tag::FiniteTag;
 
 /// The most bytes that an input file has.
@@ -19,7 +20,7 @@ pub const MOST_INPUT_BYTES: usize = 8_388_608;
 pub fn load_inputs(alloc: Global, bytes: &[u8], plan: &Plan) -> Result<Inputs, LoadFault>
     ensures outcome { IsInputLoading plan.now bytes.now result }
 
-    // Of a file that records inputs of the plan want of memory alone is told.
+    // Of a file that records inputs of the plan out of memory alone is answered.
     ensures accepts { (inputs : List Input) → SaysInputFile bytes.now inputs → AreInputsOf plan.now inputs → IfErr result (λ fault. fault ≡ LoadFault.Memory) }
 {
     staged(alloc, bytes, plan)
@@ -48,9 +49,9 @@ fn checked(alloc: Global, plan: &Plan, inputs: Vec<Input>) -> Result<Inputs, Loa
 }
 
 /// The recorded inputs in a file's table.
-fn inputs_shape(alloc: Global, file: &Section<'_>) -> Result<Vec<Input>, LoadFault>
+fn inputs_shape(alloc: Global, file: &Section<'_>) -> Result<Vec<Input>, TableFault>
     ensures ok { IfOk result (λ inputs. SaysInputs (members_of file.now) inputs.items) }
-    ensures refused { IfErr result (λ fault. (fault ≡ LoadFault.Memory) ⊎ HasInputsFault (members_of file.now) fault) }
+    ensures refused { IfErr result (λ fault. (fault ≡ TableFault.Memory) ⊎ HasInputsFault (members_of file.now) fault) }
 {
     file.has_only(&["input"])?;
     read_each(alloc, file, "input")
@@ -61,7 +62,7 @@ impl FromTable for Input {
 
     ghost has_fault = { HasInputFault };
 
-    fn from_table(_alloc: Global, table: &Section<'_>) -> Result<Input, LoadFault> {
+    fn from_table(_alloc: Global, table: &Section<'_>) -> Result<Input, TableFault> {
         table.has_only(&["federate", "action", "time", "micro", "value"])?;
         let federate = table.copied_text("federate")?;
         let action = table.copied_text("action")?;

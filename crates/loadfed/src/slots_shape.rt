@@ -1,22 +1,23 @@
 ghost use Rattle.std.specs.Prelude.{◌≡◌, ◌⊎◌, IfOk, IfErr, codes};
-ghost use Rattle.tables.specs.Sections.{members_of};
+ghost use Rattle.loadfed_tables.specs.Sections.{members_of};
 ghost use Rattle.loadfed.specs.Shape.{SaysTimer, SaysSlots, has_startup, wants_startup};
 ghost use Rattle.loadfed.specs.ShapeFaults.{HasTimerFault, HasSlotsFault};
 
 use crate::arrays::{FromTable, read_each};
-use plan::{Slots, Text, Timer, Timers};
-use program::ReactionDraft;
+use loadfed_tables::{Section, TableFault};
+use plan::{Slots, Timer, Timers};
+use plan_names::Text;
+use reactor_program::ReactionDraft;
 use std::alloc::Global;
-use tables::{LoadFault, Section};
 
 /// The slots in a federate's table; its startup is set where one of its reactions, which are these, wants it.
 pub fn slots_shape(
     alloc: Global,
     federate: &Section<'_>,
     reactions: &[ReactionDraft],
-) -> Result<Slots, LoadFault>
+) -> Result<Slots, TableFault>
     ensures ok { IfOk result (SaysSlots reactions.now (members_of federate.now)) }
-    ensures refused { IfErr result (λ fault. (fault ≡ LoadFault.Memory) ⊎ HasSlotsFault (members_of federate.now) fault) }
+    ensures refused { IfErr result (λ fault. (fault ≡ TableFault.Memory) ⊎ HasSlotsFault (members_of federate.now) fault) }
 {
     let inputs = federate.names("inputs")?;
     let outputs = federate.names("outputs")?;
@@ -57,7 +58,7 @@ impl FromTable for Timer {
 
     ghost has_fault = { HasTimerFault };
 
-    fn from_table(_alloc: Global, table: &Section<'_>) -> Result<Timer, LoadFault> {
+    fn from_table(_alloc: Global, table: &Section<'_>) -> Result<Timer, TableFault> {
         table.has_only(&["name", "offset", "period"])?;
         let name = table.name("name")?;
         let offset = table.nanoseconds("offset")?;

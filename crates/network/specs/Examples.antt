@@ -25,7 +25,7 @@ gateway =
       rank = λ reactor. reactor;
       stop = at 10000000 0;
       external = outside (at 10000000 0) 1 2 (pos 0) ∷ outside (at 0 4294967295) 0 1 (pos 1) ∷ outside (at 1 0) 0 1 (pos 2) ∷ [];
-      opening = λ reactor. [];
+      initial = λ reactor. [];
       effect = gateway_effect;
     }
 

@@ -31,7 +31,7 @@ pub record Network : Type 0 where
   -- startups, firings of timers and recorded inputs, up to stop
   pub external : List Event
   -- each reactor's states at first
-  pub opening : ℕ → List ℤ
+  pub initial : ℕ → List ℤ
   -- what each reactor makes of its states and of what is present at its slots
   pub effect : ℕ → List ℤ → (ℕ → Option ℤ) → Effect
 

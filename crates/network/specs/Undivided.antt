@@ -30,8 +30,8 @@ pub record Undivided : Type 0 where
   pub rows : List Row
 
 -- before the first turn the external events are pending
-abbrev pub opening_of : Network → Undivided
-opening_of n = record { states = n.opening; pending = n.external; rows = [] }
+abbrev pub initial_of : Network → Undivided
+initial_of n = record { states = n.initial; pending = n.external; rows = [] }
 
 -- by these ranks, a reactor's turn at a tag is before another's: by tag, then by rank
 abbrev pub comes_before : (ℕ → ℕ) → ℕ → LogicalTime → ℕ → LogicalTime → Bool
@@ -117,7 +117,7 @@ turn_of n u = after_turn_of n u (first_of_turns n u.pending)
 
 -- after this many turns
 abbrev pub undivided_after : Network → ℕ → Undivided
-undivided_after n zero = opening_of n
+undivided_after n zero = initial_of n
 undivided_after n (suc turns) = turn_of n (undivided_after n turns)
 
 -- the rows after this many turns

@@ -15,7 +15,7 @@ wiring reactors connections stop =
       rank = λ reactor. 0;
       stop = stop;
       external = [];
-      opening = λ reactor. [];
+      initial = λ reactor. [];
       effect = λ reactor states inputs. record { states = []; outputs = λ port. None; schedulings = [] };
     }
 

@@ -17,7 +17,7 @@ use Rattle.node.specs.Step.{Station, refused, acts, takes, lets_in, comes, frame
 
 -- what stays as it is goes on
 stays : {View Row : Type 0} (core : Core View Row) (v : View) → GoesOn core v v
-stays core v = record { rows = ([], sym (append-nil (core.rows v))); opening = refl }
+stays core v = record { rows = ([], sym (append-nil (core.rows v))); initial = refl }
 
 moves : {View Row : Type 0} (core : Core View Row) (v : View) (m : Mail) (made : Made View) (b : Bool) → lacks_room m.ends made.sent ≡ b → GoesOn core v made.after →
     GoesOn core v (node_after v (ending_of m (outcome.Done made)))

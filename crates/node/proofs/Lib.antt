@@ -9,4 +9,4 @@ pub mod Calls
 -- Through every step a station's node goes on.
 pub mod Ahead
 -- Through every step what a station was made from stays.
-pub mod Openings
+pub mod Initial

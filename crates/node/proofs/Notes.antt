@@ -3,6 +3,7 @@ use Rattle.std.proofs.Common.{◌≡◌, ℕ, suc, zero, ◌+◌, ◌-◌, ◌�
 use Rattle.std.proofs.lemmas.List.{take_all}
 use Rattle.signal.specs.declared.signal.Signal.{Signal}
 use Rattle.signal.specs.declared.frame.Frame.{Frame}
+use Rattle.signal.specs.declared.frame.Hello as declared
 use Rattle.signal.specs.declared.frame.Frame.TheVariants.{Hello, Data, Ack, Refuse}
 use Rattle.link.specs.declared.arrival.Arrival.{Arrival}
 use Rattle.link.specs.declared.fault.LinkFault.{LinkFault}
@@ -34,10 +35,10 @@ pub open_for : (e : Image) (frame : Frame) → IsOk (answer_of e frame) → e.cl
 open_for e frame ok = (unless_refused (is_own e.federate e.incarnation frame) e.closed (answer_when_open (last_number e) e.taken frame) ok).0
 
 -- a Hello that isn't refused acknowledges what was offered
-pub hello_within : (e : Image) (f i n : ℕ) → IsOk (answer_of e (Hello f i n)) → n ≤ last_number e
-hello_within e f i n ok =
-    let o = unless_refused (is_own e.federate e.incarnation (Hello f i n)) e.closed (answer_when_open (last_number e) e.taken (Hello f i n)) ok in
-    let l = unless_more (nat_lt (last_number e) n) LinkFault.AckOfUnsent Arrival.Resume o.1 in
+pub hello_within : (e : Image) (hello : declared.Hello) → IsOk (answer_of e (Hello hello)) → hello.last_taken ≤ last_number e
+hello_within e hello ok =
+    let o = unless_refused (is_own e.federate e.incarnation (Hello hello)) e.closed (answer_when_open (last_number e) e.taken (Hello hello)) ok in
+    let l = unless_more (nat_lt (last_number e) hello.last_taken) LinkFault.AckOfUnsent Arrival.Resume o.1 in
     grind (arith, l)
 
 pub ack_within : (e : Image) (i n : ℕ) → IsOk (answer_of e (Ack i n)) → n ≤ last_number e
@@ -52,7 +53,7 @@ forgotten acknowledged n kept within = grind arith
 -- whether a frame changes an end, other than by a signal, shows in what is kept, and in whether it is closed
 pub changes_shown : (e : Image) (frame : Frame) → IsOk (answer_of e frame) →
     ((after_frame e frame).closed || nat_lt (length (after_frame e frame).kept) (length e.kept)) ≡ changes e frame
-changes_shown e (Hello f i n) ok = rw (open_for e (Hello f i n) ok, length-drop (n - e.acknowledged) e.kept) (forgotten e.acknowledged n (length e.kept) (hello_within e f i n ok))
+changes_shown e (Hello hello) ok = rw (open_for e (Hello hello) ok, length-drop (hello.last_taken - e.acknowledged) e.kept) (forgotten e.acknowledged hello.last_taken (length e.kept) (hello_within e hello ok))
 changes_shown e (Data i n signal) ok = rw (open_for e (Data i n signal) ok) (grind arith)
 changes_shown e (Ack i n) ok = rw (open_for e (Ack i n) ok, length-drop (n - e.acknowledged) e.kept) (forgotten e.acknowledged n (length e.kept) (ack_within e i n ok))
 changes_shown e (Refuse i n) ok = refl
@@ -65,8 +66,8 @@ numbered_drop (suc k) incarnation first (signal ∷ signals) =
 
 -- how much is kept after a Hello
 pub hello_keeps : (e : Image) (frame : Frame) → IsHello frame → IsOk (answer_of e frame) → length (after_frame e frame).kept ≤ length (resent_by e)
-hello_keeps e (Hello f i n) hello ok =
-    rw (open_for e (Hello f i n) ok, length-numbered e.incarnation (e.acknowledged + 1) e.kept, length-drop (n - e.acknowledged) e.kept) (omega arith)
+hello_keeps e (Hello greeted) hello ok =
+    rw (open_for e (Hello greeted) ok, length-numbered e.incarnation (e.acknowledged + 1) e.kept, length-drop (greeted.last_taken - e.acknowledged) e.kept) (omega arith)
 hello_keeps e (Data _ _ _) hello ok = elim hello [ ]
 hello_keeps e (Ack _ _) hello ok = elim hello [ ]
 hello_keeps e (Refuse _ _) hello ok = elim hello [ ]
@@ -74,16 +75,16 @@ hello_keeps e (Refuse _ _) hello ok = elim hello [ ]
 -- what is sent again after a Hello is the rest of what would have been sent before it
 pub resent_after : (e : Image) (frame : Frame) → IsHello frame → IsOk (answer_of e frame) →
     drop (length (resent_by e) - length (after_frame e frame).kept) (resent_by e) ≡ resent_by (after_frame e frame)
-resent_after e (Hello f i n) hello ok =
-    let within = hello_within e f i n ok in
-    let gone : length e.kept - (length e.kept - (n - e.acknowledged)) ≡ n - e.acknowledged = omega (arith, within) in
-    let first : (e.acknowledged + 1) + (n - e.acknowledged) ≡ max e.acknowledged n + 1 = omega arith in
+resent_after e (Hello greeted) hello ok =
+    let within = hello_within e greeted ok in
+    let gone : length e.kept - (length e.kept - (greeted.last_taken - e.acknowledged)) ≡ greeted.last_taken - e.acknowledged = omega (arith, within) in
+    let first : (e.acknowledged + 1) + (greeted.last_taken - e.acknowledged) ≡ max e.acknowledged greeted.last_taken + 1 = omega arith in
     rw (
-      open_for e (Hello f i n) ok,
+      open_for e (Hello greeted) ok,
       length-numbered e.incarnation (e.acknowledged + 1) e.kept,
-      length-drop (n - e.acknowledged) e.kept,
+      length-drop (greeted.last_taken - e.acknowledged) e.kept,
       gone,
-      numbered_drop (n - e.acknowledged) e.incarnation (e.acknowledged + 1) e.kept,
+      numbered_drop (greeted.last_taken - e.acknowledged) e.incarnation (e.acknowledged + 1) e.kept,
       first,
     ) refl
 resent_after e (Data _ _ _) hello ok = elim hello [ ]
@@ -117,7 +118,7 @@ pub same_end : (m : Mail) (peer : ℕ) (x y : Image) → slice_get m.ends peer �
 same_end m peer x y one other = some_is x y (sym one ∙ other)
 
 pub returned_hello : (e : Image) (frame : Frame) → IsHello frame → returned e frame ≡ resent_by e
-returned_hello e (Hello f i n) hello = refl
+returned_hello e (Hello greeted) hello = refl
 returned_hello e (Data _ _ _) hello = elim hello [ ]
 returned_hello e (Ack _ _) hello = elim hello [ ]
 returned_hello e (Refuse _ _) hello = elim hello [ ]

@@ -23,14 +23,14 @@ pub record Core (View Row : Type 0) : Type 0 where
   pub rows : View → List Row
   pub finished : View → Bool
   -- the node at the start, as it was made
-  pub opening : View → View
+  pub initial : View → View
   -- whether it may send these signals in one step
   pub may_send : View → List Post → Bool
 
 -- a node goes on: its rows stay and more may follow, and what it was made from stays
 pub record GoesOn {View Row : Type 0} (core : Core View Row) (before after : View) : Type 0 where
   pub rows : (more : List Row) × (core.rows after ≡ core.rows before ++ more)
-  pub opening : core.opening after ≡ core.opening before
+  pub initial : core.initial after ≡ core.initial before
 
 -- what every node owes: each step goes on
 pub record IsCore {View Row : Type 0} (core : Core View Row) : Type 0 where

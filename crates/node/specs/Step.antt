@@ -99,14 +99,14 @@ acknowledging s peer e frame = record { ends = s.ends; frames = addressed peer (
 
 -- whether a frame that isn't refused changes the end, other than by a signal
 abbrev pub changes : Image → Frame → Bool
-changes e (Hello _ _ n) = nat_lt e.acknowledged n
+changes e (Hello hello) = nat_lt e.acknowledged hello.last_taken
 changes e (Data _ _ _) = false
 changes e (Ack _ n) = nat_lt e.acknowledged n
 changes e (Refuse _ _) = true
 
 -- what is sent for a frame that isn't refused: all that is kept, to a Hello; what was taken last, to a repeated signal
 abbrev pub returned : Image → Frame → List Frame
-returned e (Hello _ _ _) = resent_by e
+returned e (Hello _) = resent_by e
 returned e (Data _ _ _) = ack_of e ∷ []
 returned e (Ack _ _) = []
 returned e (Refuse _ _) = []
@@ -128,8 +128,8 @@ lets_in core s peer e frame arrival = noted s peer e frame
 
 -- a stranger's Hello is answered by the one node that all others are linked to
 abbrev pub turned_away : (hub : Bool) → ℕ → Image → Frame → List Outgoing
-turned_away hub peer e (Hello _ i _) =
-    if hub && not (nat_eq i e.incarnation) then addressed peer (Refuse i (link.number_of LinkFault.Stranger) ∷ []) else []
+turned_away hub peer e (Hello hello) =
+    if hub && not (nat_eq hello.incarnation e.incarnation) then addressed peer (Refuse hello.incarnation (link.number_of LinkFault.Stranger) ∷ []) else []
 turned_away hub peer e frame = []
 
 -- what the end answers to a frame comes first
@@ -178,5 +178,5 @@ abbrev pub fresh : Image → Image
 fresh e = blank e.federate e.incarnation e.room
 
 -- the station at the start, as it was made
-abbrev pub opening_of : {View Row : Type 0} → Core View Row → Station View → Station View
-opening_of core s = record { node = core.opening s.node; ends = map fresh s.ends }
+abbrev pub initial_of : {View Row : Type 0} → Core View Row → Station View → Station View
+initial_of core s = record { node = core.initial s.node; ends = map fresh s.ends }

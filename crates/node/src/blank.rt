@@ -8,5 +8,5 @@ use std::alloc::Global;
 pub trait Blank: Node {
     /// A node of which nothing was asked, made from what this one was made from.
     fn blank(&self, alloc: Global) -> Result<Self, Memory>
-        ensures { IfOk result (λ node. node ≡ Self.core.opening self.now) };
+        ensures { IfOk result (λ node. node ≡ Self.core.initial self.now) };
 }

@@ -3,7 +3,7 @@ ghost use Rattle.std.specs.Prelude.{◌≡◌, List, [], false};
 ghost use Rattle.link.specs.Image.{Image};
 ghost use Rattle.node.specs.Mail.{lacks_room};
 ghost use Rattle.node.specs.Core.{GoesOn};
-ghost use Rattle.node.specs.Step.{Station, step_of, opening_of};
+ghost use Rattle.node.specs.Step.{Station, step_of, initial_of};
 ghost use Rattle.node.specs.declared.event.Event.{Event};
 
 use crate::node::Node;
@@ -20,8 +20,8 @@ pub fn steps_go_on<N: Node>()
     ensures { (s : Station N) (event : Event) → GoesOn N.core s.node (step_of N.core N.HUB s event).station.node }
 {}
 
-/// Through every step a station's opening stays.
+/// Through every step a station's initial state stays.
 #[tactic(none)]
-pub fn openings_stay<N: Node>()
-    ensures { (s : Station N) (event : Event) → opening_of N.core (step_of N.core N.HUB s event).station ≡ opening_of N.core s }
+pub fn initial_stations_stay<N: Node>()
+    ensures { (s : Station N) (event : Event) → initial_of N.core (step_of N.core N.HUB s event).station ≡ initial_of N.core s }
 {}

@@ -17,10 +17,10 @@ pub(crate) fn note(outbox: &mut Outbox, peer: usize, frame: &Frame) -> Result<Re
     requires ok { (e : Image) → slice_get outbox.old.mail.ends peer ≡ Some e → IsOk (answer_of e frame.now) }
     ensures reply { (e : Image) → slice_get outbox.old.mail.ends peer ≡ Some e → IfOk result (λ reply. said reply ≡ answer_with (changes e frame.now) (addressed peer (returned (after_frame e frame.now) frame.now))) }
     ensures received { OnOk result (outbox.new.mail ≡ received peer frame.now outbox.old.mail) }
-    ensures as_before { OnErr result (outbox.new.mail ≡ outbox.old.mail) }
+    ensures unchanged { OnErr result (outbox.new.mail ≡ outbox.old.mail) }
 {
     match *frame {
-        Frame::Hello { .. } => resume(outbox, peer, frame),
+        Frame::Hello(_) => resume(outbox, peer, frame),
         Frame::Data { .. } => repeat(outbox, peer, frame),
         Frame::Ack { .. } | Frame::Refuse { .. } => {
             let changed = take_in(outbox, peer, frame);
@@ -49,7 +49,7 @@ fn resume(outbox: &mut Outbox, peer: usize, frame: &Frame) -> Result<Reply, Memo
     requires hello { IsHello frame.now }
     ensures reply { (e : Image) → slice_get outbox.old.mail.ends peer ≡ Some e → IfOk result (λ reply. said reply ≡ answer_with (changes e frame.now) (addressed peer (returned (after_frame e frame.now) frame.now))) }
     ensures received { OnOk result (outbox.new.mail ≡ received peer frame.now outbox.old.mail) }
-    ensures as_before { OnErr result (outbox.new.mail ≡ outbox.old.mail) }
+    ensures unchanged { OnErr result (outbox.new.mail ≡ outbox.old.mail) }
 {
     let Ok(kept) = outbox.at(peer).resend() else {
         return Err(Memory);
@@ -68,7 +68,7 @@ fn repeat(outbox: &mut Outbox, peer: usize, frame: &Frame) -> Result<Reply, Memo
     requires data { IsData frame.now }
     ensures reply { (e : Image) → slice_get outbox.old.mail.ends peer ≡ Some e → IfOk result (λ reply. said reply ≡ answer_with (changes e frame.now) (addressed peer (returned (after_frame e frame.now) frame.now))) }
     ensures received { OnOk result (outbox.new.mail ≡ received peer frame.now outbox.old.mail) }
-    ensures as_before { OnErr result (outbox.new.mail ≡ outbox.old.mail) }
+    ensures unchanged { OnErr result (outbox.new.mail ≡ outbox.old.mail) }
 {
     let mut frames = Vec::with_capacity(outbox.alloc(), 1)?;
     outbox.receive(peer, frame);

@@ -12,7 +12,7 @@ use crate::outbox::Outbox;
 use crate::outgoing::Outgoing;
 use crate::reply::Reply;
 use link::{LinkEnd, LinkFault};
-use signal::Frame;
+use signal::{Frame, Hello};
 use std::alloc::Global;
 
 // What changed something or not, and sends these.
@@ -65,7 +65,7 @@ pub(crate) fn turn_away(
                 incarnation: own,
                 ..
             },
-            Frame::Hello { incarnation, .. },
+            Frame::Hello(Hello { incarnation, .. }),
         ) if hub && incarnation != own => {
             let refusal = LinkFault::Stranger.number();
             one(

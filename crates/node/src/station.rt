@@ -73,7 +73,7 @@ impl<N: Node> Station<N> {
     /// Makes one step. Without memory nothing has changed, and the same event may come again.
     pub fn step(&mut self, event: Event) -> Result<Reply, Memory>
         ensures ended { IfOk result (λ reply. record { station = self.new; answer = said reply } ≡ step_of N.core N.HUB self.old event) }
-        ensures as_before { OnErr result (self.new ≡ self.old) }
+        ensures unchanged { OnErr result (self.new ≡ self.old) }
     {
         match event {
             Event::Frame(peer, frame) => self.receive(peer, &frame),
@@ -87,7 +87,7 @@ impl<N: Node> Station<N> {
     // A frame of a peer.
     fn receive(&mut self, peer: usize, frame: &Frame) -> Result<Reply, Memory>
         ensures ended { IfOk result (λ reply. record { station = self.new; answer = said reply } ≡ frame_comes N.core N.HUB self.old peer frame.now (slice_get self.old.ends peer)) }
-        ensures as_before { OnErr result (self.new ≡ self.old) }
+        ensures unchanged { OnErr result (self.new ≡ self.old) }
     {
         let alloc = self.outbox.alloc();
         let Some(end) = self.outbox.end(peer) else {
@@ -107,7 +107,7 @@ impl<N: Node> Station<N> {
         requires there { peer < length self.old.ends }
         requires answered { (e : Image) → slice_get self.old.ends peer ≡ Some e → answer_of e frame.now ≡ Ok arrival }
         ensures ended { (e : Image) → slice_get self.old.ends peer ≡ Some e → IfOk result (λ reply. record { station = self.new; answer = said reply } ≡ lets_in N.core self.old peer e frame.now arrival) }
-        ensures as_before { OnErr result (self.new ≡ self.old) }
+        ensures unchanged { OnErr result (self.new ≡ self.old) }
     {
         match (*frame, arrival) {
             (
@@ -134,7 +134,7 @@ impl<N: Node> Station<N> {
         requires data { frame.now ≡ Frames.Data incarnation number signal }
         requires in_turn { (e : Image) → slice_get self.old.ends peer ≡ Some e → answer_of e (Frames.Data incarnation number signal) ≡ Ok Arrivals.Signal }
         ensures ended { (e : Image) → slice_get self.old.ends peer ≡ Some e → IfOk result (λ reply. record { station = self.new; answer = said reply } ≡ lets_in N.core self.old peer e (Frames.Data incarnation number signal) Arrivals.Signal) }
-        ensures as_before { OnErr result (self.new ≡ self.old) }
+        ensures unchanged { OnErr result (self.new ≡ self.old) }
     {
         self.outbox.begin(
             peer,
@@ -167,7 +167,7 @@ impl<N: Node> Station<N> {
     // What a peer hasn't acknowledged is sent again.
     fn resend(&mut self, peer: usize) -> Result<Reply, Memory>
         ensures ended { IfOk result (λ reply. record { station = self.new; answer = said reply } ≡ resends self.old peer (slice_get self.old.ends peer)) }
-        ensures as_before { OnErr result (self.new ≡ self.old) }
+        ensures unchanged { OnErr result (self.new ≡ self.old) }
     {
         let alloc = self.outbox.alloc();
         let Some(end) = self.outbox.end(peer) else {
@@ -184,7 +184,7 @@ impl<N: Node> Station<N> {
     // A new connection to a peer.
     fn greet(&mut self, peer: usize) -> Result<Reply, Memory>
         ensures ended { IfOk result (λ reply. record { station = self.new; answer = said reply } ≡ greets self.old peer (slice_get self.old.ends peer)) }
-        ensures as_before { OnErr result (self.new ≡ self.old) }
+        ensures unchanged { OnErr result (self.new ≡ self.old) }
     {
         let alloc = self.outbox.alloc();
         let Some(end) = self.outbox.end(peer) else {
@@ -199,7 +199,7 @@ impl<N: Node> Station<N> {
     // The node says what comes next.
     fn announce(&mut self) -> Result<Reply, Memory>
         ensures ended { IfOk result (λ reply. record { station = self.new; answer = said reply } ≡ acts self.old (ending_of (unsent self.old) (N.core.announce self.old.node))) }
-        ensures as_before { OnErr result (self.new ≡ self.old) }
+        ensures unchanged { OnErr result (self.new ≡ self.old) }
     {
         let answer = self.node.announce(&mut self.outbox);
         tell(&mut self.outbox, answer)
@@ -208,7 +208,7 @@ impl<N: Node> Station<N> {
     // The node runs what comes next.
     fn advance(&mut self) -> Result<Reply, Memory>
         ensures ended { IfOk result (λ reply. record { station = self.new; answer = said reply } ≡ acts self.old (ending_of (unsent self.old) (N.core.advance self.old.node))) }
-        ensures as_before { OnErr result (self.new ≡ self.old) }
+        ensures unchanged { OnErr result (self.new ≡ self.old) }
     {
         let answer = self.node.advance(&mut self.outbox);
         tell(&mut self.outbox, answer)

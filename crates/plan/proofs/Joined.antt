@@ -7,18 +7,18 @@ use Rattle.std.proofs.lemmas.List.{length-map, drop_more, get_or_default, take_a
 use Rattle.std.proofs.lemmas.List.Elements.{All-head, All-tail}
 use Rattle.std.proofs.lemmas.Option.{slice_get_within, slice_get-get_or}
 use Rattle.network.specs.Connection.{Connection}
-use Rattle.slots.specs.declared.slots.Slots.{Slots}
+use Rattle.plan_slots.specs.declared.slots.Slots.{Slots}
 use Rattle.plan.specs.declared.draft.Federate.{Federate}
-use Rattle.names.specs.declared.port.PortName.{PortName}
+use Rattle.plan_names.specs.declared.port.PortName.{PortName}
 use Rattle.plan.specs.declared.draft.ConnectionDraft.{ConnectionDraft}
 use Rattle.plan.specs.declared.draft.Draft.{Draft}
-use Rattle.names.specs.Naming.{place_of}
-use Rattle.slots.specs.Numbering.{first_input}
+use Rattle.plan_names.specs.Naming.{place_of}
+use Rattle.plan_slots.specs.Numbering.{first_input}
 use Rattle.plan.specs.Federation.{Found, federate_names, federate_number, place_in, found_in, found_output, found_input, delay_after, connection_of, connections_of}
 use Rattle.plan.specs.Faults.{ArePortsThere, HasTwoSources}
-use Rattle.paths.specs.Sources.{EndsTwice}
-use Rattle.names.proofs.Places.{slice_get-place_of}
-use Rattle.names.proofs.Twice.{mapped_at}
+use Rattle.plan_paths.specs.Sources.{EndsTwice}
+use Rattle.plan_names.proofs.Places.{slice_get-place_of}
+use Rattle.plan_names.proofs.Twice.{mapped_at}
 
 -- ---- what was found
 

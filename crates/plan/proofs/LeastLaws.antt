@@ -10,12 +10,12 @@ use Rattle.network.proofs.Tables.{each_contained}
 use Rattle.plan.specs.declared.draft.ConnectionDraft.{ConnectionDraft}
 use Rattle.plan.specs.declared.draft.Draft.{Draft}
 use Rattle.plan.specs.Federation.{delay_after, connection_of, connections_of, federate_count}
-use Rattle.paths.specs.Least.{IsTotalWithin, IsLeastTable}
+use Rattle.plan_paths.specs.Least.{IsTotalWithin, IsLeastTable}
 use Rattle.plan.specs.Least.{least_of}
 use Rattle.plan.specs.Legal.{IsLegal}
 use Rattle.plan.proofs.Joined.{Joins, joins_from_connection_of}
 use Rattle.plan.proofs.Plans.{ends_below}
-use Rattle.paths.proofs.LeastTotals.{attained, least_is, within_direct, within_onward}
+use Rattle.plan_paths.proofs.LeastTotals.{attained, least_is, within_direct, within_onward}
 
 -- ---- delays of connections
 

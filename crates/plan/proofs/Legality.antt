@@ -3,8 +3,8 @@ use Rattle.std.proofs.Common.{◌≡◌, ℕ, ◌<◌, List}
 use Rattle.std.specs.Prelude.{Contains, IsTrue}
 use Rattle.tag.specs.LogicalTime.{origin}
 use Rattle.network.specs.Connection.{Connection, IsPath, total_of}
-use Rattle.paths.specs.Levels.{is_immediate, IsLevel}
-use Rattle.paths.proofs.Rising as rising
+use Rattle.plan_paths.specs.Levels.{is_immediate, IsLevel}
+use Rattle.plan_paths.proofs.Rising as rising
 use Rattle.plan.specs.declared.draft.Draft.{Draft}
 use Rattle.plan.specs.Federation.{connections_of, federate_count, level_of, rank_of}
 use Rattle.plan.specs.Legal.{IsLegal}

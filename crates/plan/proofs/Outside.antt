@@ -6,12 +6,12 @@ use Rattle.std.proofs.lemmas.List.Elements.{filter-append}
 use Rattle.std.proofs.lemmas.Nat.{le-div}
 use Rattle.tag.specs.LogicalTime.{LogicalTime, origin}
 use Rattle.network.specs.Event.{Event}
-use Rattle.slots.specs.declared.slots.Slots.{Slots}
-use Rattle.slots.specs.declared.slots.Timer.{Timer}
+use Rattle.plan_slots.specs.declared.slots.Slots.{Slots}
+use Rattle.plan_slots.specs.declared.slots.Timer.{Timer}
 use Rattle.plan.specs.declared.draft.Federate.{Federate}
 use Rattle.plan.specs.declared.draft.Draft.{Draft}
 use Rattle.plan.specs.declared.input.Input.{Input}
-use Rattle.slots.specs.Numbering.{startup_slot, first_timer}
+use Rattle.plan_slots.specs.Numbering.{startup_slot, first_timer}
 use Rattle.plan.specs.External.{outside, times_from, firing_count, firing_times, firings_from, startup_of, own_events, own_events_from, own_events_in, is_for, external_of, external_to, FiresAt}
 
 -- ---- one federate's events

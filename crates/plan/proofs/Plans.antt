@@ -9,22 +9,22 @@ use Rattle.network.specs.Connection.{Connection}
 use Rattle.network.specs.Lawful.{EndApart}
 use Rattle.network.proofs.Items.{All-filter_map}
 use Rattle.plan.specs.declared.draft.Federate.{Federate}
-use Rattle.names.specs.declared.port.PortName.{PortName}
+use Rattle.plan_names.specs.declared.port.PortName.{PortName}
 use Rattle.plan.specs.declared.draft.ConnectionDraft.{ConnectionDraft}
 use Rattle.plan.specs.declared.draft.Draft.{Draft}
-use Rattle.faults.specs.declared.plan_fault.PlanFault.{PlanFault}
-use Rattle.faults.specs.declared.plan_fault.PlanFault.TheVariants.{NoFederate, UnknownName, TwoSources, ZeroDelayCycle, OverLimit, BadTimer, Memory, RepeatedName}
-use Rattle.names.specs.Naming.{AreDistinct, StandsTwice}
-use Rattle.slots.specs.Numbering.{all_names, first_input}
+use Rattle.plan.specs.declared.plan_fault.PlanFault.{PlanFault}
+use Rattle.plan.specs.declared.plan_fault.PlanFault.TheVariants.{NoFederate, UnknownName, TwoSources, ZeroDelayCycle, OverLimit, BadTimer, Memory, RepeatedName}
+use Rattle.plan_names.specs.Naming.{AreDistinct, StandsTwice}
+use Rattle.plan_slots.specs.Numbering.{all_names, first_input}
 use Rattle.plan.specs.Federation.{Found, federate_names, found_input, found_output, connection_of, connections_of, federate_count}
-use Rattle.paths.specs.Levels.{level_within, before_by}
-use Rattle.paths.specs.Least.{IsLeastTable}
-use Rattle.paths.specs.Cycles.{HasNoImmediateCycle}
+use Rattle.plan_paths.specs.Levels.{level_within, before_by}
+use Rattle.plan_paths.specs.Least.{IsLeastTable}
+use Rattle.plan_paths.specs.Cycles.{HasNoImmediateCycle}
 use Rattle.plan.specs.Legal.{IsLegal}
 use Rattle.plan.specs.Planned.{IsPlanned}
 use Rattle.plan.specs.Faults.{StandsIn, HasTwoSources, IsUnknown, IsRepeated, IsWithinAllLimits, AreTimersInRange, HasDistinctNames, ArePortsThere, IsNamedCycle}
 use Rattle.plan.proofs.Joined.{Joins, joins_at, length-connections_of, nowhere, joins_from_connection_of, found_at}
-use Rattle.paths.proofs.Levels.{EndsBelow}
+use Rattle.plan_paths.proofs.Levels.{EndsBelow}
 
 -- ---- ends of connections
 
@@ -82,7 +82,7 @@ planned_from d cs es rs n legal cs_is es_is n_is len ranks fs ls fs_is delays = 
   delays = subst (λ m. IsLeastTable (connections_of d) m ls) n_is (subst (λ gs. IsLeastTable gs n ls) fs_is delays);
 }
 
--- ---- no fault but want of memory is in a legal draft
+-- ---- no fault but out of memory is in a legal draft
 
 unmapped : {X Y : Type 0} (f : X → Y) (xs : List X) (k : ℕ) (y : Y) → slice_get (map f xs) k ≡ Some y
     → (x : X) × (slice_get xs k ≡ Some x) × (f x ≡ y)

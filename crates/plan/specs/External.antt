@@ -5,13 +5,13 @@ use Rattle.std.specs.List.{filter_map}
 use Rattle.tag.specs.LogicalTime.{LogicalTime, origin, is_at_most, IsFinite}
 use Rattle.network.specs.Event.{Event}
 pub use Rattle.network.specs.Event.{outside}
-use Rattle.slots.specs.declared.slots.Slots.{Slots}
-use Rattle.slots.specs.declared.slots.Timer.{Timer}
+use Rattle.plan_slots.specs.declared.slots.Slots.{Slots}
+use Rattle.plan_slots.specs.declared.slots.Timer.{Timer}
 use Rattle.plan.specs.declared.draft.Federate.{Federate}
 use Rattle.plan.specs.declared.draft.Draft.{Draft}
 use Rattle.plan.specs.declared.input.Input.{Input}
 use Rattle.plan.specs.declared.input.TheConstants.{MOST_INPUTS}
-use Rattle.slots.specs.Numbering.{startup_slot, first_timer, first_physical}
+use Rattle.plan_slots.specs.Numbering.{startup_slot, first_timer, first_physical}
 use Rattle.plan.specs.Federation.{Found, found_in, stop_of}
 
 -- so many times, each a period after the one before

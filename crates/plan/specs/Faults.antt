@@ -1,16 +1,16 @@
 -- What each refusal says of a draft.
 use Rattle.std.specs.Prelude.{◌≡◌, ℕ, ◌<◌, ◌≤◌, ◌⊎◌, List, [], length, map, All, Any, IsSome, None, Some, slice_get}
 use Rattle.network.specs.Connection.{Connection}
-use Rattle.paths.specs.Cycles.{HasNoCycleAt, IsCycleFrom}
-use Rattle.names.specs.declared.port.PortName.{PortName}
+use Rattle.plan_paths.specs.Cycles.{HasNoCycleAt, IsCycleFrom}
+use Rattle.plan_names.specs.declared.port.PortName.{PortName}
 use Rattle.plan.specs.declared.draft.Draft.{Draft}
-use Rattle.faults.specs.declared.plan_fault.PlanFault.{PlanFault}
-use Rattle.faults.specs.declared.plan_fault.PlanFault.TheVariants.{NoFederate, UnknownName, TwoSources, ZeroDelayCycle, OverLimit, BadTimer, Memory, RepeatedName}
+use Rattle.plan.specs.declared.plan_fault.PlanFault.{PlanFault}
+use Rattle.plan.specs.declared.plan_fault.PlanFault.TheVariants.{NoFederate, UnknownName, TwoSources, ZeroDelayCycle, OverLimit, BadTimer, Memory, RepeatedName}
 use Rattle.plan.specs.declared.limits.TheConstants.{MOST_FEDERATES, MOST_CONNECTIONS}
-use Rattle.names.specs.Naming.{AreDistinct, StandsTwice}
-use Rattle.slots.specs.Numbering.{all_names}
+use Rattle.plan_names.specs.Naming.{AreDistinct, StandsTwice}
+use Rattle.plan_slots.specs.Numbering.{all_names}
 use Rattle.plan.specs.Federation.{federate_names, found_output, found_input, connections_of}
-use Rattle.slots.specs.Limits.{IsWithinLimits, IsTimerInRange}
+use Rattle.plan_slots.specs.Limits.{IsWithinLimits, IsTimerInRange}
 
 -- a connection names this port, and it isn't there
 abbrev pub IsUnknown : Draft → PortName → Type 0
@@ -56,7 +56,7 @@ pub record IsNamedCycle (d : Draft) (names : List (List ℕ)) : Type 0 where
   pub none_lower : (lower : ℕ) → lower < start → HasNoCycleAt (connections_of d) lower
   pub named : map (λ name. Some name) names ≡ map (λ c. slice_get (federate_names d.federates) c.source) path
 
--- the fault is in the draft; of want of memory no draft says anything
+-- the fault is in the draft; of out of memory no draft says anything
 abbrev pub StandsIn : Draft → PlanFault → Type 0
 StandsIn d NoFederate = d.federates ≡ []
 StandsIn d (UnknownName p) = IsUnknown d p
@@ -67,7 +67,7 @@ StandsIn d BadTimer = ¬ AreTimersInRange d
 StandsIn d Memory = Unit {0}
 StandsIn d (RepeatedName name) = IsRepeated d name
 
--- a cycle without any delay that is in the draft, or want of memory
+-- a cycle without any delay that is in the draft, or out of memory
 abbrev pub IsCycleRefusal : Draft → PlanFault → Type 0
 IsCycleRefusal d (ZeroDelayCycle names) = IsNamedCycle d names
 IsCycleRefusal d Memory = Unit {0}

@@ -4,14 +4,14 @@ use Rattle.std.specs.Option.{option_map, option_and_then}
 use Rattle.std.specs.List.{filter_map}
 use Rattle.tag.specs.LogicalTime.{LogicalTime, origin, delay_of}
 use Rattle.network.specs.Connection.{Connection}
-use Rattle.paths.specs.Levels.{level_within, before_by}
-use Rattle.slots.specs.declared.slots.Slots.{Slots}
+use Rattle.plan_paths.specs.Levels.{level_within, before_by}
+use Rattle.plan_slots.specs.declared.slots.Slots.{Slots}
 use Rattle.plan.specs.declared.draft.Federate.{Federate}
-use Rattle.names.specs.declared.port.PortName.{PortName}
+use Rattle.plan_names.specs.declared.port.PortName.{PortName}
 use Rattle.plan.specs.declared.draft.ConnectionDraft.{ConnectionDraft}
 use Rattle.plan.specs.declared.draft.Draft.{Draft}
-use Rattle.names.specs.Naming.{place_of}
-use Rattle.slots.specs.Numbering.{first_input}
+use Rattle.plan_names.specs.Naming.{place_of}
+use Rattle.plan_slots.specs.Numbering.{first_input}
 
 -- the names of federates, in their order
 abbrev pub federate_names : List Federate → List (List ℕ)

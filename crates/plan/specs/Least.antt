@@ -1,7 +1,7 @@
 -- Least delays: how much later, at the least, what leaves one federate can arrive at another.
 use Rattle.std.specs.Prelude.{ℕ, Option}
 use Rattle.tag.specs.LogicalTime.{LogicalTime}
-use Rattle.paths.specs.Least.{least_within}
+use Rattle.plan_paths.specs.Least.{least_within}
 use Rattle.plan.specs.declared.draft.Draft.{Draft}
 use Rattle.plan.specs.Federation.{connections_of, federate_count}
 

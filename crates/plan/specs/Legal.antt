@@ -1,12 +1,12 @@
 -- Legal federations.
 use Rattle.std.specs.Prelude.{◌^◌, ◌<◌, ◌≤◌, length, All, AllPairs, IsSome, IfSome}
 use Rattle.network.specs.Lawful.{EndApart}
-use Rattle.paths.specs.Cycles.{HasNoImmediateCycle}
-use Rattle.slots.specs.Limits.{IsWithinLimits, IsTimerInRange}
+use Rattle.plan_paths.specs.Cycles.{HasNoImmediateCycle}
+use Rattle.plan_slots.specs.Limits.{IsWithinLimits, IsTimerInRange}
 use Rattle.plan.specs.declared.draft.Draft.{Draft}
 use Rattle.plan.specs.declared.limits.TheConstants.{MOST_FEDERATES, MOST_CONNECTIONS}
-use Rattle.names.specs.Naming.{AreDistinct}
-use Rattle.slots.specs.Numbering.{all_names}
+use Rattle.plan_names.specs.Naming.{AreDistinct}
+use Rattle.plan_slots.specs.Numbering.{all_names}
 use Rattle.plan.specs.Federation.{federate_names, found_output, found_input, connections_of}
 
 -- a draft that is a federation: within its limits, with names and ports as they must be, and without a cycle of no delay

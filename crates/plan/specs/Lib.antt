@@ -1,4 +1,8 @@
 -- Federations: what is declared, what is legal, and what it means in numbers.
+-- the refusals of a draft: their numbers and texts
+pub mod PlanFaults
+-- those of recorded inputs
+pub mod InputFaults
 -- names in a list
 pub mod Naming
 -- connections by number, and levels and ranks

@@ -1,2 +1,2 @@
 -- Names in a list, and where a name stands.
-pub use Rattle.names.specs.Naming.{place_of, AreDistinct}
+pub use Rattle.plan_names.specs.Naming.{place_of, AreDistinct}

@@ -2,7 +2,7 @@
 use Rattle.std.specs.Prelude.{◌≡◌, ℕ, ◌<◌, List, length, slice_index, Option}
 use Rattle.tag.specs.LogicalTime.{LogicalTime}
 use Rattle.network.specs.Connection.{Connection}
-use Rattle.paths.specs.Least.{IsLeastTable}
+use Rattle.plan_paths.specs.Least.{IsLeastTable}
 use Rattle.plan.specs.declared.draft.Draft.{Draft}
 use Rattle.plan.specs.Federation.{connections_of, rank_of, federate_count}
 use Rattle.plan.specs.Legal.{IsLegal}

@@ -2,11 +2,11 @@ ghost use Rattle.std.specs.Prelude.{◌≡◌, ◌<◌, ◌^◌, All, IfSome, If
 ghost use Rattle.plan.specs.Federation.{connections_of, delay_after};
 ghost use Rattle.plan.specs.Faults.{ArePortsThere, StandsIn};
 
+use crate::PlanFault;
 use crate::draft::Draft;
 use crate::lookup::{found_input, found_output};
-use faults::PlanFault;
-use paths::Connection;
-use slots::Slots;
+use plan_paths::Connection;
+use plan_slots::Slots;
 use std::alloc::Global;
 use tag::{Delay, Time};
 

@@ -1,12 +1,12 @@
 ghost use Rattle.std.specs.Prelude.{◌≡◌, ◌<◌, map, length, slice_get, All, IfOk, OnOk, IfErr};
-ghost use Rattle.paths.specs.Cycles.{HasNoImmediateCycle};
+ghost use Rattle.plan_paths.specs.Cycles.{HasNoImmediateCycle};
 ghost use Rattle.plan.specs.Federation.{connections_of, federate_names};
 ghost use Rattle.plan.specs.Faults.{IsCycleRefusal};
 
+use crate::PlanFault;
 use crate::draft::{Draft, Federate};
-use faults::PlanFault;
-use names::Names;
-use paths::{Connection, lowest_cycle};
+use plan_names::Names;
+use plan_paths::{Connection, lowest_cycle};
 use std::alloc::{AllocError, Global};
 
 /// The names of the federates from which these connections go.

@@ -1,7 +1,7 @@
 ghost use Rattle.std.specs.Prelude.{◌≡◌};
 
-use names::{Named, PortName, Text};
-use slots::Slots;
+use plan_names::{Named, PortName, Text};
+use plan_slots::Slots;
 use std::marker::Model;
 use tag::Time;
 

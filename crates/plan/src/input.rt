@@ -4,12 +4,12 @@ ghost use Rattle.plan.specs.External.{found_action, AreApart};
 ghost use Rattle.plan.specs.declared.input.TheConstants.{MOST_INPUTS};
 ghost use Rattle.plan.specs.Occurrences.{occurrence_of};
 
+use crate::InputFault;
 use crate::draft::Federate;
 use crate::lookup::found_action;
 use crate::plan::Plan;
-use faults::InputFault;
 use indexmap::IndexSet;
-use names::Text;
+use plan_names::Text;
 use std::alloc::{AllocError, Global};
 use std::marker::Model;
 use tag::FiniteTag;
@@ -51,7 +51,7 @@ impl Inputs {
         ensures ok { IfOk result (λ checked. checked ≡ inputs.items) }
         ensures known { OnOk result (AreInputsOf plan.now inputs.items) }
 
-        // Of inputs that are all right want of memory alone is told.
+        // Of inputs that are all right out of memory alone is answered.
         ensures accepts { AreInputsOf plan.now inputs.items → IfErr result (λ e. e ≡ InputFault.Memory) }
         ensures unknown { result ≡ Err InputFault.UnknownAction → ¬ (All (λ i. IsSome (found_action plan.now.federates i)) inputs.items) }
         ensures repeated { result ≡ Err InputFault.RepeatedInput → All (λ i. IsSome (found_action plan.now.federates i)) inputs.items × ¬ (AllPairs AreApart inputs.items) }
@@ -84,7 +84,7 @@ fn know_tags(inputs: &[Input])
     ensures { All (λ i. IsFinite i.tag) inputs.now }
 {
     for input in inputs {
-        input.tag.known();
+        input.tag.invariant();
     }
 }
 

@@ -3,11 +3,11 @@ ghost use Rattle.std.specs.Prelude.{◌≡◌, ◌↔◌, ℕ, ◌<◌, List, Al
 ghost use Rattle.tag.specs.LogicalTime.{LogicalTime, origin, sum_of};
 ghost use Rattle.network.specs.Connection.{Connection, IsPath, total_of, IsLeastDelay, IsUnreachable};
 ghost use Rattle.network.specs.Tables.{IsWithin};
-ghost use Rattle.paths.specs.Levels.{IsLevel};
-ghost use Rattle.paths.specs.Least.{IsTotalWithin};
+ghost use Rattle.plan_paths.specs.Levels.{IsLevel};
+ghost use Rattle.plan_paths.specs.Least.{IsTotalWithin};
 ghost use Rattle.plan.specs.declared.draft.Draft.{Draft};
 ghost use Rattle.plan.specs.declared.input.Input.{Input};
-ghost use Rattle.slots.specs.declared.slots.Timer.{Timer};
+ghost use Rattle.plan_slots.specs.declared.slots.Timer.{Timer};
 ghost use Rattle.plan.specs.External.{external_of, external_to, is_for, firing_times, FiresAt};
 ghost use Rattle.plan.specs.Federation.{connections_of, level_of, rank_of, federate_count};
 ghost use Rattle.plan.specs.declared.limits.TheConstants.{MOST_FEDERATES};
@@ -27,7 +27,7 @@ pub fn ranks_rise()
 {}
 
 /// No two federates have one rank, and ranks are below the number of federates.
-#[tactic(auto, using(paths::proofs::Paths::ranks_differ))]
+#[tactic(auto, using(plan_paths::proofs::Paths::ranks_differ))]
 pub fn ranks_are_places()
     ensures below { (d : Draft) (i : ℕ) → i < federate_count d → rank_of d i < federate_count d }
     ensures apart { (d : Draft) (i j : ℕ) → i < federate_count d → j < federate_count d → rank_of d i ≡ rank_of d j → i ≡ j }

@@ -3,14 +3,14 @@ ghost use Rattle.plan.specs.Federation.{connections_of};
 ghost use Rattle.plan.specs.Legal.{IsLegal};
 ghost use Rattle.plan.specs.Faults.{IsWithinAllLimits, AreTimersInRange, StandsIn};
 
+use crate::PlanFault;
 use crate::connect::connect;
 use crate::cycle::refuse_cycle;
 use crate::draft::Draft;
 use crate::limits::refuse_out_of_range;
 use crate::repeated::refuse_repeated;
 use crate::sources::refuse_two_sources;
-use faults::PlanFault;
-use paths::Connection;
+use plan_paths::Connection;
 use std::alloc::Global;
 
 /// The connections of a legal draft, by number; of the faults of any other it tells one.

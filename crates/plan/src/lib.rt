@@ -1,25 +1,26 @@
 //! A federation that was checked: its federates, connections and ranks, and recorded inputs.
 //!
-//! Promise to the layer above: a `Plan` is a legal draft (`specs/Legal`). Begin with `draft`, then `plan`.
+//! Promise to the layer above: a `Plan` is a legal draft (`specs/Legal`), and each refusal of a draft or of recorded inputs is
+//! printed as its number, its name and what it is about (`specs/PlanFaults`, `specs/InputFaults`). Begin with `draft`, then `plan`.
 #![tactic(auto)]
 
 mod connect;
 mod cycle;
 pub mod draft;
 pub mod input;
+pub mod input_fault;
 pub mod laws;
 mod legal;
 pub mod limits;
 mod lookup;
 pub mod plan;
+pub mod plan_fault;
 mod repeated;
 mod sources;
 
 pub use draft::{ConnectionDraft, Connections, Draft, Federate, Federates};
-pub use faults::{InputFault, PlanFault, input_fault, plan_fault};
 pub use input::{Input, Inputs};
-pub use names::{Named, Names, PortName, Text, named, place_of, port, text};
-pub use paths::connection;
-pub use paths::connection::Connection;
+pub use input_fault::InputFault;
 pub use plan::Plan;
-pub use slots::{Slots, Timer, Timers};
+pub use plan_fault::PlanFault;
+pub use plan_slots::{Slots, Timer, Timers};

@@ -1,12 +1,12 @@
 ghost use Rattle.std.specs.Prelude.{◌≡◌, ◌<◌, ◌↔◌, length, IsTrue, All, OnOk, IfErr};
-ghost use Rattle.slots.specs.Limits.{IsWithinLimits, IsTimerInRange};
+ghost use Rattle.plan_slots.specs.Limits.{IsWithinLimits, IsTimerInRange};
 ghost use Rattle.plan.specs.Faults.{IsWithinAllLimits, AreTimersInRange, StandsIn};
 
+use crate::PlanFault;
 use crate::draft::{Draft, Federate};
-use faults::PlanFault;
 use network::limits::MOST_REACTORS;
-use slots::Timer;
-use slots::limits::{is_in_range, is_within_limits};
+use plan_slots::Timer;
+use plan_slots::limits::{is_in_range, is_within_limits};
 
 /// Each is a reactor of the network.
 pub const MOST_FEDERATES: usize = MOST_REACTORS;

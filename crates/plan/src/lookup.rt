@@ -4,7 +4,7 @@ ghost use Rattle.plan.specs.External.{found_action};
 
 use crate::draft::Federate;
 use crate::input::Input;
-use names::{PortName, Text, place_of};
+use plan_names::{PortName, Text, place_of};
 use std::marker::Model;
 
 /// Where a port or an action was found: the federate's number, and the place among its names of that kind.

@@ -1,6 +1,6 @@
 ghost use Rattle.std.specs.Prelude.{◌≡◌, ◌<◌, length, OnOk, IfOk, IfErr, IfSome, MatchOption};
 ghost use Rattle.network.specs.Connection.{IsLeastDelay, IsUnreachable};
-ghost use Rattle.paths.specs.Least.{IsTotalWithin};
+ghost use Rattle.plan_paths.specs.Least.{IsTotalWithin};
 ghost use Rattle.plan.specs.Federation.{connections_of, rank_of, stop_of, federate_count};
 ghost use Rattle.plan.specs.declared.limits.TheConstants.{MOST_FEDERATES};
 ghost use Rattle.plan.specs.Least.{least_of};
@@ -8,15 +8,15 @@ ghost use Rattle.plan.specs.Faults.{IsWithinAllLimits, AreTimersInRange};
 ghost use Rattle.plan.specs.External.{found_action, physical_slot};
 ghost use Rattle.std.specs.Option.{option_map};
 
+use crate::PlanFault;
 use crate::draft::{Draft, Federate};
 use crate::input::Input;
 use crate::legal::legal_connections;
 use crate::lookup::found_action;
-use faults::PlanFault;
-use paths::{Connection, LeastDelays, ranks};
+use plan_paths::{Connection, LeastDelays, ranks};
 use std::alloc::Global;
 use std::marker::Model;
-use tag::{Delay, Tag, Time};
+use tag::{Delay, FiniteTag, Tag, Time};
 
 /// A legal federation. Contracts see the draft that it was made of.
 #[derive(Drop)]
@@ -48,7 +48,7 @@ impl Plan {
         ensures ok { IfOk result (λ plan. plan ≡ draft) }
         ensures legal { OnOk result (IsLegal draft) }
 
-        // Of a legal draft want of memory alone is told.
+        // Of a legal draft out of memory alone is answered.
         ensures accepts { IsLegal draft → IfErr result (λ e. e ≡ PlanFault.Memory) }
         ensures fault { IfErr result (StandsIn draft) }
 
@@ -77,7 +77,7 @@ impl Plan {
     }
 
     /// What every plan keeps.
-    pub fn known(&self)
+    pub fn invariant(&self)
         ensures { IsLegal self.now }
     {
         // For the prover: the plan keeps it.
@@ -137,6 +137,13 @@ impl Plan {
         ensures { result ≡ self.now.stop }
     {
         self.draft.stop
+    }
+
+    /// The last tag at which anything runs, which is finite.
+    pub fn stop_tag(&self) -> FiniteTag
+        ensures { result ≡ stop_of self.now }
+    {
+        FiniteTag::new(self.draft.stop, 0)
     }
 
     /// The last tag at which anything runs.

@@ -1,13 +1,13 @@
 ghost use Rattle.std.specs.Prelude.{◌≡◌, map, IfOk, OnOk, IfErr, MatchOption};
-ghost use Rattle.names.specs.Naming.{AreDistinct, StandsTwice};
-ghost use Rattle.slots.specs.Numbering.{all_names};
+ghost use Rattle.plan_names.specs.Naming.{AreDistinct, StandsTwice};
+ghost use Rattle.plan_slots.specs.Numbering.{all_names};
 ghost use Rattle.plan.specs.Federation.{federate_names};
 ghost use Rattle.plan.specs.Faults.{StandsIn, HasDistinctNames};
 
+use crate::PlanFault;
 use crate::draft::{Draft, Federate};
-use faults::PlanFault;
-use names::{Text, push_names, repeated};
-use slots::Slots;
+use plan_names::{Text, push_names, repeated};
+use plan_slots::Slots;
 use std::alloc::{AllocError, Global};
 
 fn names_of_federates<'a>(
@@ -22,7 +22,7 @@ fn names_of_federates<'a>(
 }
 
 /// The names of all slots and outputs.
-#[tactic(auto, using(names::proofs::Places::same_names))]
+#[tactic(auto, using(plan_names::proofs::Places::same_names))]
 fn names_of_slots<'a>(alloc: Global, slots: &'a Slots) -> Result<Vec<&'a Text>, AllocError>
     ensures { IfOk result (λ v. map (λ n. n.now) v.items ≡ all_names slots.now) }
 {

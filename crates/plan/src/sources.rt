@@ -4,9 +4,9 @@ ghost use Rattle.plan.specs.declared.limits.TheConstants.{MOST_CONNECTIONS};
 ghost use Rattle.network.specs.Lawful.{EndApart};
 ghost use Rattle.plan.specs.Faults.{ArePortsThere, StandsIn};
 
+use crate::PlanFault;
 use crate::draft::Draft;
-use faults::PlanFault;
-use paths::{Connection, second_source};
+use plan_paths::{Connection, second_source};
 
 /// Refuses a draft, whose connections by number these are, in which a port has two sources.
 pub(crate) fn refuse_two_sources(draft: &Draft, connections: &[Connection]) -> Result<(), PlanFault>

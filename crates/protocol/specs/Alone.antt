@@ -5,7 +5,7 @@ use Rattle.std.specs.List.{last_or}
 use Rattle.tag.specs.LogicalTime.{LogicalTime, IsLogicalTime, IsFinite, is_before, is_at_most, is_past, is_reached}
 use Rattle.network.specs.Network.{Network}
 use Rattle.network.specs.Undivided.{Row}
-use Rattle.network.specs.Undone.{Held, is_held_before}
+use Rattle.network.specs.Undone.{PendingEvent, is_held_before}
 use Rattle.signal.specs.declared.signal.Signal.{Signal}
 use Rattle.signal.specs.declared.signal.Signal.TheVariants.{Net, Ltc, Tag, Msg}
 use Rattle.protocol.specs.Federate.{Federate}
@@ -16,7 +16,7 @@ abbrev pub last_row_tag : List Row → Option LogicalTime
 last_row_tag rows = option_map (λ row. row.tag) (last_or None rows)
 
 -- an event that is still to run: later than what is completed, up to stop, at a slot that is there
-pub record IsStillToRun (n : Network) (j : ℕ) (completed : Option LogicalTime) (e : Held) : Type 0 where
+pub record IsStillToRun (n : Network) (j : ℕ) (completed : Option LogicalTime) (e : PendingEvent) : Type 0 where
   pub finite : IsFinite e.tag
   pub later : IsTrue (is_past completed e.tag)
   pub in_time : IsTrue (is_at_most e.tag n.stop)

@@ -31,7 +31,7 @@ counter =
       rank = λ reactor. reactor;
       stop = at 20000000 0;
       external = outside (at 0 0) 0 0 (pos 0) ∷ outside (at 10000000 0) 0 0 (pos 0) ∷ outside (at 20000000 0) 0 0 (pos 0) ∷ [];
-      opening = λ reactor. pos 0 ∷ [];
+      initial = λ reactor. pos 0 ∷ [];
       effect = counter_effect;
     }
 

@@ -9,12 +9,12 @@ use Rattle.signal.specs.declared.signal.Signal.{Signal}
 use Rattle.signal.specs.declared.signal.Signal.TheVariants.{Net, Ltc, Tag, Msg}
 use Rattle.protocol.specs.declared.refusal.Refusal.TheVariants.{Late, OldGrant, WrongSignal}
 use Rattle.protocol.specs.Outcome.{Outcome, Refused, Nothing, Done}
-use Rattle.network.specs.Undone.{Held, held_of, put, put_all, look, first_tag, drop_up_to}
+use Rattle.network.specs.Undone.{PendingEvent, pending_event_of, put, put_all, look, first_tag, drop_up_to}
 
 -- granted: up to which tag it may run. completed: the last tag that it ran. announced: the last NET, if no tag was run since
 pub record Federate : Type 0 where
   pub states : List ℤ
-  pub undone : List Held
+  pub undone : List PendingEvent
   pub granted : Option LogicalTime
   pub completed : Option LogicalTime
   pub announced : Option LogicalTime
@@ -26,11 +26,11 @@ pub record Stepped : Type 0 where
   pub sent : List Signal
 
 -- at first its own external events are undone
-abbrev pub opening_federate : Network → ℕ → Federate
-opening_federate n j =
+abbrev pub initial_federate : Network → ℕ → Federate
+initial_federate n j =
     record {
-      states = n.opening j;
-      undone = put_all (map held_of (filter (λ e. nat_eq e.reactor j) n.external)) [];
+      states = n.initial j;
+      undone = put_all (map pending_event_of (filter (λ e. nat_eq e.reactor j) n.external)) [];
       granted = None;
       completed = None;
       announced = None;
@@ -80,11 +80,11 @@ abbrev pub effect_of : Network → ℕ → Federate → LogicalTime → Effect
 effect_of n j f tag = n.effect j f.states (look f.undone tag)
 
 -- what a scheduling makes present
-abbrev pub scheduled_at : LogicalTime → Scheduling → Held
+abbrev pub scheduled_at : LogicalTime → Scheduling → PendingEvent
 scheduled_at tag s = record { tag = sum_of tag s.delay; slot = s.slot; value = s.value }
 
 -- what a turn schedules, as far as it isn't later than stop
-abbrev pub scheduled_by : Network → LogicalTime → Effect → List Held
+abbrev pub scheduled_by : Network → LogicalTime → Effect → List PendingEvent
 scheduled_by n tag effect = filter (λ e. is_at_most e.tag n.stop) (map (scheduled_at tag) effect.schedulings)
 
 -- the message of a value at a connection's port, unless it is later than stop

@@ -1,5 +1,5 @@
 -- The two sides of a federation, step by step on signals, and the machine that both make with the queues between them.
--- the refusals: their numbers, and how they are told
+-- the refusals: their numbers, and how they are printed
 pub mod Refusals
 -- how a step ends
 pub mod Outcome

@@ -3,8 +3,8 @@ use Rattle.std.specs.Prelude.{ℕ, Bool, true, false, nat_eq, if◌then◌else�
 use Rattle.network.specs.Network.{Network, with_one}
 use Rattle.signal.specs.declared.signal.Signal.{Signal}
 use Rattle.protocol.specs.Outcome.{Outcome, Nothing, Done, made_or, with_made}
-use Rattle.protocol.specs.Federate.{Federate, Stepped, opening_federate, federate_accepts, federate_announces, federate_advances}
-use Rattle.protocol.specs.Standing.{Standing, opening_standing}
+use Rattle.protocol.specs.Federate.{Federate, Stepped, initial_federate, federate_accepts, federate_announces, federate_advances}
+use Rattle.protocol.specs.Standing.{Standing, initial_standing}
 use Rattle.protocol.specs.declared.post.Post.{Post}
 use Rattle.protocol.specs.Coordinator.{Coordinated, coordinator_accepts}
 use Rattle.protocol.specs.Grant.{Rule}
@@ -27,9 +27,9 @@ pub data Move : Type 0 where
   Advance : (by : ℕ) → Move
   Lose : (which : ℕ) → Move
 
-abbrev pub opening_member : Network → ℕ → Member
-opening_member n j =
-    record { standing = opening_standing; federate = opening_federate n j; up = []; down = []; lost = false }
+abbrev pub initial_member : Network → ℕ → Member
+initial_member n j =
+    record { standing = initial_standing; federate = initial_federate n j; up = []; down = []; lost = false }
 
 -- with one member replaced
 abbrev pub with_member : (ℕ → Member) → ℕ → Member → ℕ → Member
@@ -79,6 +79,6 @@ outcome_of n rule members (Lose i) = Done (with_member members i (record (member
 
 -- after these moves, listed newest first. The rule may be another at each move: it goes by how many there were before
 abbrev pub after_moves : Network → (ℕ → Rule) → List Move → ℕ → Member
-after_moves n rules [] = opening_member n
+after_moves n rules [] = initial_member n
 after_moves n rules (move ∷ earlier) =
     made_or (after_moves n rules earlier) (outcome_of n (rules (length earlier)) (after_moves n rules earlier) move)

@@ -1,4 +1,4 @@
--- The refusals: their numbers, and how they are told.
+-- The refusals: their numbers, and how they are printed.
 use Rattle.std.specs.Prelude.{ℕ, List, codes}
 use Rattle.signal.specs.Fault.{told}
 use Rattle.protocol.specs.declared.refusal.Refusal.{Refusal}

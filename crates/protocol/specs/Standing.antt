@@ -12,8 +12,8 @@ pub record Standing : Type 0 where
   pub next : LogicalTime
   pub transit : List LogicalTime
 
-abbrev pub opening_standing : Standing
-opening_standing = record { completed = None; granted = None; announced = false; next = origin; transit = [] }
+abbrev pub initial_standing : Standing
+initial_standing = record { completed = None; granted = None; announced = false; next = origin; transit = [] }
 
 -- the least of a tag and of these
 abbrev pub least_with : LogicalTime → List LogicalTime → LogicalTime

@@ -4,14 +4,14 @@ use Rattle.tag.specs.LogicalTime.{forever, is_same}
 use Rattle.network.specs.Network.{Network}
 use Rattle.signal.specs.declared.signal.Signal.{Signal}
 use Rattle.protocol.specs.Outcome.{Outcome, with_made}
-use Rattle.protocol.specs.Standing.{Standing, opening_standing}
+use Rattle.protocol.specs.Standing.{Standing, initial_standing}
 use Rattle.protocol.specs.Grant.{Rule, all_below}
 use Rattle.protocol.specs.declared.post.Post.{Post}
 use Rattle.protocol.specs.Coordinator.{Coordinated, coordinator_accepts}
 
--- a federate's standing; beyond the list's end it is the opening one
+-- a federate's standing; beyond the list's end it is the initial one
 abbrev pub standing_at : List Standing → ℕ → Standing
-standing_at standings j = get_or standings j opening_standing
+standing_at standings j = get_or standings j initial_standing
 
 -- the standings of the first `count` federates
 abbrev pub standings_listed : ℕ → (ℕ → Standing) → List Standing

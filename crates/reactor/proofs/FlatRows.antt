@@ -7,7 +7,7 @@ use Rattle.std.proofs.Math.Seq.{take-length}
 use Rattle.network.specs.Event.{Entry}
 use Rattle.reactor.specs.declared.rows.Span.{Span}
 use Rattle.reactor.specs.Rows.{row_in, IsSpanIn}
-use Rattle.program.proofs.Present.{all_more}
+use Rattle.reactor_program.proofs.Present.{all_more}
 
 between_kept : (xs ys : List Entry) (i j : ℕ) → j ≤ length xs → between i j (xs ++ ys) ≡ between i j xs
 between_kept xs ys i j within = between_is (xs ++ ys) i j ∙ ap (λ zs. drop i zs) (take-append-le j xs ys within) ∙ sym (between_is xs i j)

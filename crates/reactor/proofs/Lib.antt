@@ -9,7 +9,7 @@ pub mod Stepped
 -- what is present, put into registers
 pub mod Registers
 -- the registers that turns begin with
-pub mod Opened
+pub mod Initial
 -- literals behind others
 pub mod Literals
 -- steps do what their lines say

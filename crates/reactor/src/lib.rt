@@ -3,7 +3,7 @@
 //! Promise to the layer above: `Reactor::run` is the effect of `specs/Effect`. Begin with `reactor`, then `specs/Effect`.
 //! A reactor runs a program's lines as steps on numbers that lie side by side: `step` and `specs/Steps` say what these do,
 //! `resolve` makes them of lines, and a `turn_room` keeps what a turn needs for the next one. Programs and how they are read
-//! stand in the crate `program`, whose types are given on here.
+//! stand in the crate `reactor_program`.
 #![tactic(auto)]
 
 pub mod memory;
@@ -17,11 +17,8 @@ pub mod turn;
 pub mod turn_room;
 
 pub use memory::Memory;
-pub use program::{
-    Body, Entries, Entry, Expression, Line, Operand, Operator, Program, ProgramFault, Reaction,
-    ReactionDraft, State, Statement, Triggers,
-};
 pub use reactor::Reactor;
+pub use reactor_program::{Program, ProgramFault};
 pub use row::Row;
 pub use rows::{RowView, Rows};
 pub use turn::{Scheduling, Schedulings, Turn};

@@ -1,12 +1,12 @@
 ghost use Rattle.std.specs.Prelude.{◌≡◌};
-ghost use Rattle.faults.specs.ProgramFaults.{fault_number};
-ghost use Rattle.faults.specs.declared.program_fault.ProgramFault.TheVariants as ProgramFaults;
+ghost use Rattle.reactor_program.specs.ProgramFaults.{fault_number};
+ghost use Rattle.reactor_program.specs.declared.program_fault.ProgramFault.TheVariants as ProgramFaults;
 
-use faults::ProgramFault;
+use reactor_program::ProgramFault;
 use std::alloc::{AllocError, AllocFailed};
 use std::fmt;
 
-/// An allocation failed, for a turn or for what is made before the first. The machine caused it; what was lent is as it was, and
+/// An allocation failed, for a turn or for what is made before the first. The machine caused it; what was passed in is as it was, and
 /// the same call may be made again.
 #[derive(Clone, Copy, Debug, PartialEq, Eq)]
 pub struct Memory;
@@ -22,7 +22,7 @@ impl Memory {
 
 impl fmt::Display for Memory {
     ghost use Rattle.std.specs.Prelude.{Some};
-    ghost use Rattle.faults.specs.ProgramFaults.{printed_memory};
+    ghost use Rattle.reactor_program.specs.ProgramFaults.{printed_memory};
 
     ghost output = { λ _. Some printed_memory };
 

@@ -3,7 +3,7 @@ ghost use Rattle.std.specs.Prelude.{◌≡◌, ◌+◌, ◌<◌, ◌≤◌, ◌+
 ghost use Rattle.std.specs.Vec.{vec_len, vec_capacity};
 
 use crate::memory::Memory;
-use program::Entry;
+use reactor_program::Entry;
 use std::alloc::Global;
 use std::marker::Model;
 use tag::Tag;

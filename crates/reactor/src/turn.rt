@@ -1,6 +1,6 @@
 ghost use Rattle.std.specs.Prelude.{◌≡◌};
 
-use program::{Entries, Entry};
+use reactor_program::{Entries, Entry};
 use std::marker::Model;
 use tag::Delay;
 

@@ -6,7 +6,7 @@ use crate::memory::Memory;
 use crate::running::RunningTurn;
 use crate::step::ReactionSteps;
 use crate::turn::{Scheduling, Schedulings, Turn};
-use program::{Entries, Entry};
+use reactor_program::{Entries, Entry};
 use std::alloc::Global;
 use std::marker::Model;
 

@@ -6,29 +6,29 @@ use Rattle.std.proofs.lemmas.List.{length-map, length-replicate}
 use Rattle.std.proofs.lemmas.List.FromFn.{length-map-range_with_len}
 use Rattle.plan.specs.External.{AreInputsOf}
 use Rattle.plan.specs.Federation.{federate_count}
-use Rattle.programs.specs.Programs.{AreProgramsOf}
+use Rattle.reactor_programs.specs.Programs.{AreProgramsOf}
 use Rattle.node.specs.declared.event.Event.{Event}
-use Rattle.search.specs.Journals.{IsFound}
-use Rattle.search.specs.declared.found.Found.{Found}
-use Rattle.search.specs.Reading.{Position, IsReading, GrewTo}
+use Rattle.recorder_search.specs.Journals.{IsFound}
+use Rattle.recorder_search.specs.declared.found.Found.{Found}
+use Rattle.recorder_search.specs.Reading.{Position, IsReading, GrewTo}
 use Rattle.world.specs.World.{WorldView}
-use Rattle.reports.specs.declared.report.Report.{Report}
-use Rattle.reports.specs.Reports.{all_journals, journal_of, report_of}
-use Rattle.recorder.specs.Begun.{IsAhead, IsBegun}
+use Rattle.recorder_reports.specs.declared.report.Report.{Report}
+use Rattle.recorder_reports.specs.Reports.{all_journals, journal_of, report_of}
+use Rattle.recorder.specs.Incremental.{IsAhead, IsIncremental}
 use Rattle.recorder.specs.Known.{events_of}
-use Rattle.auditor.specs.Placing.{world_motion}
+use Rattle.recorder.specs.Placing.{world_motion}
 
 -- what is known is read on
 pub reads_on : {E : Type 0} (r : Result (Unit {0}) E) (known : List (Vec Event)) (journals : List (List Event)) (before after : WorldView) (read more : List ℕ) →
     journals ≡ events_of known →
-    OnOk r ((opening : WorldView) → IsReading world_motion opening journals (record { state = before; read = read }) →
-    IsReading world_motion opening journals (record { state = after; read = more })) →
+    OnOk r ((initial : WorldView) → IsReading world_motion initial journals (record { state = before; read = read }) →
+    IsReading world_motion initial journals (record { state = after; read = more })) →
     OnOk r (length more ≡ length read) →
-    OnOk r ((opening : WorldView) → IsAhead opening before read known → IsAhead opening after more known)
-reads_on (Ok u) known journals before after read more are reading sized = λ opening ahead. record {
+    OnOk r ((initial : WorldView) → IsAhead initial before read known → IsAhead initial after more known)
+reads_on (Ok u) known journals before after read more are reading sized = λ initial ahead. record {
   sized = sized ∙ ahead.sized;
-  reading = subst (λ js. IsReading world_motion opening js (record { state = after; read = more })) are
-      (reading opening (subst (λ js. IsReading world_motion opening js (record { state = before; read = read })) (sym are) ahead.reading));
+  reading = subst (λ js. IsReading world_motion initial js (record { state = after; read = more })) are
+      (reading initial (subst (λ js. IsReading world_motion initial js (record { state = before; read = read })) (sym are) ahead.reading));
 }
 reads_on (Err e) known journals before after read more are reading sized = tt
 
@@ -42,20 +42,20 @@ grown (journal ∷ journals) (suc place) events (suc k) = grown journals place e
 
 -- what is said where what is read of journals is read of longer ones
 abbrev pub StaysRead : Type 0
-StaysRead = (opening : WorldView) (journals longer : List (List Event)) (p : Position WorldView) → GrewTo journals longer →
-    IsReading world_motion opening journals p → IsReading world_motion opening longer p
+StaysRead = (initial : WorldView) (journals longer : List (List Event)) (p : Position WorldView) → GrewTo journals longer →
+    IsReading world_motion initial journals p → IsReading world_motion initial longer p
 
-module _ (opening made : WorldView) (read : List ℕ) (known more : List (Vec Event)) (is_given_up : Bool) (begun : IsBegun opening made read known is_given_up) where
+module _ (initial made : WorldView) (read : List ℕ) (known more : List (Vec Event)) (is_given_up : Bool) (begun : IsIncremental initial made read known is_given_up) where
   -- it is begun with more events of a journal, or with the same where there is no memory for them
   pub begun_more : {E : Type 0} (r : Result (Unit {0}) E) (place : ℕ) (events : List Event) → StaysRead →
       OnOk r (events_of more ≡ set (events_of known) place (get_or (events_of known) place [] ++ events)) → OnErr r (events_of more ≡ events_of known) →
-      IsBegun opening made read more is_given_up
+      IsIncremental initial made read more is_given_up
   begun_more (Ok u) place events stays added same = record {
     programs = begun.programs;
     inputs = begun.inputs;
     ahead = λ going. record {
       sized = (begun.ahead going).sized;
-      reading = stays opening (events_of known) (events_of more) (record { state = made; read = read })
+      reading = stays initial (events_of known) (events_of more) (record { state = made; read = read })
           (subst (λ js. GrewTo (events_of known) js) (sym added) (grown (events_of known) place events)) (begun.ahead going).reading;
     };
   }
@@ -64,31 +64,31 @@ module _ (opening made : WorldView) (read : List ℕ) (known more : List (Vec Ev
     inputs = begun.inputs;
     ahead = λ going. record {
       sized = (begun.ahead going).sized;
-      reading = subst (λ js. IsReading world_motion opening js (record { state = made; read = read })) (sym same) (begun.ahead going).reading;
+      reading = subst (λ js. IsReading world_motion initial js (record { state = made; read = read })) (sym same) (begun.ahead going).reading;
     };
   }
 
   -- or after what is known was read on
   pub begun_on : {E : Type 0} (r : Result (Unit {0}) E) (after : WorldView) (further : List ℕ) → is_given_up ≡ false → is_err r ≡ false →
-      OnOk r ((o : WorldView) → IsAhead o made read known → IsAhead o after further known) → IsBegun opening after further known is_given_up
+      OnOk r ((o : WorldView) → IsAhead o made read known → IsAhead o after further known) → IsIncremental initial after further known is_given_up
   begun_on (Ok u) after further going good on = record {
     programs = begun.programs;
     inputs = begun.inputs;
-    ahead = λ still. on opening (begun.ahead still);
+    ahead = λ still. on initial (begun.ahead still);
   }
   begun_on (Err e) after further going good on = absurd (let no : true ≡ false = good in cc)
 
--- at the opening nothing is read
-pub begun_new : (opening made : WorldView) (read : List ℕ) (known : List (Vec Event)) (count : ℕ) → AreProgramsOf opening.draft opening.programs →
-    AreInputsOf opening.draft opening.inputs → made ≡ opening → read ≡ replicate (count + 1) 0 → count ≡ federate_count opening.draft →
+-- before the first step nothing is read
+pub begun_new : (initial made : WorldView) (read : List ℕ) (known : List (Vec Event)) (count : ℕ) → AreProgramsOf initial.draft initial.programs →
+    AreInputsOf initial.draft initial.inputs → made ≡ initial → read ≡ replicate (count + 1) 0 → count ≡ federate_count initial.draft →
     ((o : WorldView) (journals : List (List Event)) (n : ℕ) → IsReading world_motion o journals (record { state = o; read = replicate n 0 })) →
-    IsBegun opening made read known false
-begun_new opening made read known count are given there none counted law = record {
+    IsIncremental initial made read known false
+begun_new initial made read known count are given there none counted law = record {
   programs = are;
   inputs = given;
   ahead = λ going. record {
     sized = ap (length {A = ℕ}) none ∙ length-replicate (count + 1) 0 ∙ ap (λ n. n + 1) counted;
-    reading = rw (there, none) (law opening (events_of known) (count + 1));
+    reading = rw (there, none) (law initial (events_of known) (count + 1));
   };
 }
 
@@ -101,20 +101,20 @@ journals_counted f journals count reports coordinator are =
     let federates = length-map-range_with_len (λ j. journal_of (report_of reports j)) 0 count in
     omega arith
 
--- where what is known is a beginning of these journals, and reading ends after what is read, the search has ended
-pub read_on_longer : {E : Type 0} (opening made : WorldView) (read : List ℕ) (known : List (Vec Event)) (journals : List (List Event)) (r : Result (WorldView × Found) E) →
-    StaysRead → IsAhead opening made read known → GrewTo (events_of known) journals →
+-- where what is known is a prefix of these journals, and reading ends after what is read, the search has ended
+pub read_on_longer : {E : Type 0} (initial made : WorldView) (read : List ℕ) (known : List (Vec Event)) (journals : List (List Event)) (r : Result (WorldView × Found) E) →
+    StaysRead → IsAhead initial made read known → GrewTo (events_of known) journals →
     IfOk r (λ ended. (o : WorldView) → IsReading world_motion o journals (record { state = made; read = read }) → IsFound world_motion o journals ended.0 ended.1) →
-    IfOk r (λ ended. IsFound world_motion opening journals ended.0 ended.1)
-read_on_longer opening made read known journals (Ok ended) stays ahead grew ends =
-    ends opening (stays opening (events_of known) journals (record { state = made; read = read }) grew ahead.reading)
-read_on_longer opening made read known journals (Err e) stays ahead grew ends = tt
+    IfOk r (λ ended. IsFound world_motion initial journals ended.0 ended.1)
+read_on_longer initial made read known journals (Ok ended) stays ahead grew ends =
+    ends initial (stays initial (events_of known) journals (record { state = made; read = read }) grew ahead.reading)
+read_on_longer initial made read known journals (Err e) stays ahead grew ends = tt
 
--- or where nothing was read at the opening
-pub read_from_opening : {E : Type 0} (opening made : WorldView) (read : List ℕ) (count : ℕ) (journals : List (List Event)) (r : Result (WorldView × Found) E) →
+-- or where nothing was read before the first step
+pub read_from_initial : {E : Type 0} (initial made : WorldView) (read : List ℕ) (count : ℕ) (journals : List (List Event)) (r : Result (WorldView × Found) E) →
     ((o : WorldView) (js : List (List Event)) (n : ℕ) → IsReading world_motion o js (record { state = o; read = replicate n 0 })) →
-    made ≡ opening → read ≡ replicate count 0 →
+    made ≡ initial → read ≡ replicate count 0 →
     IfOk r (λ ended. (o : WorldView) → IsReading world_motion o journals (record { state = made; read = read }) → IsFound world_motion o journals ended.0 ended.1) →
-    IfOk r (λ ended. IsFound world_motion opening journals ended.0 ended.1)
-read_from_opening opening made read count journals (Ok ended) law there none ends = ends opening (rw (there, none) (law opening journals count))
-read_from_opening opening made read count journals (Err e) law there none ends = tt
+    IfOk r (λ ended. IsFound world_motion initial journals ended.0 ended.1)
+read_from_initial initial made read count journals (Ok ended) law there none ends = ends initial (rw (there, none) (law initial journals count))
+read_from_initial initial made read count journals (Err e) law there none ends = tt

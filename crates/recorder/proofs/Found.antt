@@ -2,10 +2,10 @@
 use Rattle.std.proofs.Common.{◌≡◌, ℕ, zero, suc, ◌<◌, List, [], ◌∷◌, length, refl, arith, None}
 use Rattle.std.specs.Prelude.{slice_get, option_map}
 use Rattle.std.proofs.lemmas.Bool.Decides.{nat_tests}
-use Rattle.reports.specs.declared.report.Report.{Report}
-use Rattle.reports.specs.declared.unproved.Unproved.{Unproved}
-use Rattle.reports.specs.declared.unproved.Unproved.TheVariants.{Stranger, Double, Missing, Stuck, Mismatch, Memory}
-use Rattle.reports.specs.Reports.{how_many, report_of, IsIncomplete}
+use Rattle.recorder_reports.specs.declared.report.Report.{Report}
+use Rattle.recorder_reports.specs.declared.unproved.Unproved.{Unproved}
+use Rattle.recorder_reports.specs.declared.unproved.Unproved.TheVariants.{Stranger, Double, Missing, Stuck, Mismatch, Memory}
+use Rattle.recorder_reports.specs.Reports.{how_many, report_of, IsIncomplete}
 use Rattle.recorder.specs.Audited.{Claim, IsUnproved}
 use Rattle.plan.specs.Federation.{federate_count}
 

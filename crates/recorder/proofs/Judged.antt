@@ -4,17 +4,17 @@ use Rattle.std.specs.Prelude.{◌↔◌}
 use Rattle.plan.specs.External.{AreInputsOf}
 use Rattle.plan.specs.Federation.{federate_count}
 use Rattle.plan.specs.Legal.{IsLegal}
-use Rattle.programs.specs.Programs.{AreProgramsOf}
+use Rattle.reactor_programs.specs.Programs.{AreProgramsOf}
 use Rattle.node.specs.declared.event.Event.{Event}
-use Rattle.cores.specs.CoordinatorCore.{coordinator_core}
-use Rattle.schedule.specs.declared.step.Step.{Step}
-use Rattle.search.specs.Motion.{after_all}
-use Rattle.search.specs.declared.found.Found.{Found}
-use Rattle.search.specs.declared.found.Found.TheVariants.{All as Whole, Stuck}
+use Rattle.node_cores.specs.CoordinatorCore.{coordinator_core}
+use Rattle.world_stations.specs.declared.step.Step.{Step}
+use Rattle.recorder_search.specs.Motion.{after_all}
+use Rattle.recorder_search.specs.declared.found.Found.{Found}
+use Rattle.recorder_search.specs.declared.found.Found.TheVariants.{All as Whole, Stuck}
 use Rattle.world.specs.World.{WorldView, stations_of}
-use Rattle.reports.specs.declared.report.Report.{Report}
-use Rattle.reports.specs.Reports.{AreComplete}
-use Rattle.auditor.specs.Placing.{world_motion}
+use Rattle.recorder_reports.specs.declared.report.Report.{Report}
+use Rattle.recorder_reports.specs.Reports.{AreComplete}
+use Rattle.recorder.specs.Placing.{world_motion}
 use Rattle.recorder.specs.Audited.{Claim, world_of, claim_of, AgreesWith, HasReportedRows, HasSearched, IsFirstApart, IsMismatch, IsProvedBy, IsFinishedBy}
 use Rattle.recorder.proofs.Proved.{after_world, coordinator_there, proved}
 

@@ -1,5 +1,7 @@
--- Lists of events that are beginnings of journals.
-mod Beginnings
+-- Which step an event at a node can be.
+mod Placing
+-- Lists of events that are prefixes of journals.
+mod Prefixes
 -- What a list of steps that agrees with the journals, and gives the reported rows, proves.
 mod Proved
 -- Reports that are found.

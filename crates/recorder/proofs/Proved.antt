@@ -4,34 +4,34 @@ use Rattle.std.specs.Prelude.{slice_get, ◌||◌}
 use Rattle.std.specs.List.{list_any}
 use Rattle.std.proofs.lemmas.Bool.Decides.{nat_tests}
 use Rattle.network.specs.Undivided.{Row, whole, part}
-use Rattle.order.specs.Settled.{BeginsWith}
-use Rattle.laws.specs.Rows.{HasEveryRow}
+use Rattle.network_laws.specs.Settled.{BeginsWith}
+use Rattle.protocol_laws.specs.Rows.{HasEveryRow}
 use Rattle.plan.specs.External.{AreInputsOf}
 use Rattle.plan.specs.Federation.{federate_count}
 use Rattle.plan.specs.Legal.{IsLegal}
-use Rattle.programs.specs.Programs.{AreProgramsOf}
-use Rattle.federation.specs.Network.{network_of}
-use Rattle.federation.proofs.LawfulNetwork.{gives_lawful_with}
+use Rattle.reactor_programs.specs.Programs.{AreProgramsOf}
+use Rattle.plan_network.specs.Network.{network_of}
+use Rattle.plan_network.proofs.LawfulNetwork.{gives_lawful_with}
 use Rattle.node.specs.declared.event.Event.{Event}
 use Rattle.node.specs.declared.node_id.NodeId.{NodeId}
 use Rattle.node.specs.declared.node_id.NodeId.TheVariants.{Coordinator, Federate}
 use Rattle.node.specs.Core.{Core}
 use Rattle.node.specs.Step.{Station, step_of}
 use Rattle.desk.specs.Replay as replayed
-use Rattle.cores.specs.FederateCore.{FederateNode, federate_core}
-use Rattle.cores.specs.CoordinatorCore.{coordinator_core}
-use Rattle.schedule.specs.declared.step.Step.{Step}
-use Rattle.schedule.specs.declared.step.Step.TheVariants.{Deliver, Resend, Reconnect, Announce, Advance, Forget}
-use Rattle.schedule.specs.World.{Occurrence, occurrence_of, at_federate, at_node, happens}
-use Rattle.schedule.specs.Kept.{is_forget}
-use Rattle.schedule.specs.Federation.{Federation, opening_world, step_in}
-use Rattle.schedule.proofs.Worlds.{stands, listed_so, one_more}
-use Rattle.schedule.proofs.Rows.{rows_begin, all_kept, finished_rows}
-use Rattle.search.specs.Motion.{after_all}
-use Rattle.search.specs.Journals.{event_at, events_at}
+use Rattle.node_cores.specs.FederateCore.{FederateNode, federate_core}
+use Rattle.node_cores.specs.CoordinatorCore.{coordinator_core}
+use Rattle.world_stations.specs.declared.step.Step.{Step}
+use Rattle.world_stations.specs.declared.step.Step.TheVariants.{Deliver, Resend, Reconnect, Announce, Advance, Forget}
+use Rattle.world_stations.specs.World.{Occurrence, occurrence_of, at_federate, at_node, happens}
+use Rattle.world_stations.specs.Kept.{is_forget}
+use Rattle.world_stations.specs.Federation.{Federation, initial_world, step_in}
+use Rattle.world_stations.proofs.Worlds.{stands, listed_so, one_more}
+use Rattle.world_stations.proofs.Rows.{rows_begin, all_kept, finished_rows}
+use Rattle.recorder_search.specs.Motion.{after_all}
+use Rattle.recorder_search.specs.Journals.{event_at, events_at}
 use Rattle.world.specs.World.{WorldView, stations_of, with_step, with_steps}
-use Rattle.reports.specs.Reports.{AreComplete}
-use Rattle.auditor.specs.Placing.{world_motion}
+use Rattle.recorder_reports.specs.Reports.{AreComplete}
+use Rattle.recorder.specs.Placing.{world_motion}
 use Rattle.recorder.specs.Audited.{Claim, world_of, AgreesWith, HasReportedRows, IsProvedBy}
 
 -- steps, made one after the other, are appended
@@ -84,10 +84,10 @@ coordinator_replays w (step ∷ steps) none =
 
 -- where steps agree with a claim's journals, the coordinator's station after them is the replay of its journal
 pub coordinator_there : (c : Claim) (steps : List Step) → AgreesWith c steps →
-    (stations_of (world_of c steps)).coordinator ≡ replayed.after_all coordinator_core true (opening_world c.draft c.programs c.inputs).coordinator c.coordinator
+    (stations_of (world_of c steps)).coordinator ≡ replayed.after_all coordinator_core true (initial_world c.draft c.programs c.inputs).coordinator c.coordinator
 coordinator_there c steps agrees =
     ap (λ v. (stations_of v).coordinator) (sym (after_world (world_of c []) steps)) ∙ coordinator_replays (world_of c []) steps agrees.none_forgets
-    ∙ ap (replayed.after_all coordinator_core true (opening_world c.draft c.programs c.inputs).coordinator) (agrees.events Coordinator)
+    ∙ ap (replayed.after_all coordinator_core true (initial_world c.draft c.programs c.inputs).coordinator) (agrees.events Coordinator)
 
 module _ (c : Claim) (legal : IsLegal c.draft) (are : AreProgramsOf c.draft c.programs) (given : AreInputsOf c.draft c.inputs) where
   -- there are as many federates as the plan has
@@ -104,7 +104,7 @@ module _ (c : Claim) (legal : IsLegal c.draft) (are : AreProgramsOf c.draft c.pr
         complete = complete;
         agrees = agrees;
         rows = rows;
-        beginning = λ j below.
+        prefix = λ j below.
             let P : List Row → Type 0 = λ x. (turns : ℕ) × BeginsWith (part j (whole (network_of c.draft c.programs c.inputs) turns)) x in
             subst P (sym (rows j below)) (rows_begin c.draft c.programs c.inputs steps j lawful below (all_kept c.draft c.programs c.inputs steps none j));
         whole_run = λ finished j below.

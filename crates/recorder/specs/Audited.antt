@@ -1,28 +1,28 @@
 -- What an audit answers.
 use Rattle.std.specs.Prelude.{◌≡◌, ◌↔◌, ℕ, ◌<◌, true, List, []}
 use Rattle.network.specs.Undivided.{whole, part}
-use Rattle.order.specs.Settled.{BeginsWith}
-use Rattle.laws.specs.Rows.{HasEveryRow}
+use Rattle.network_laws.specs.Settled.{BeginsWith}
+use Rattle.protocol_laws.specs.Rows.{HasEveryRow}
 use Rattle.plan.specs.declared.draft.Draft.{Draft}
 use Rattle.plan.specs.declared.input.Input.{Input}
 use Rattle.plan.specs.Federation.{federate_count}
-use Rattle.program.specs.Behaviour.{Behaviour}
-use Rattle.federation.specs.Network.{network_of}
+use Rattle.reactor_program.specs.Behaviour.{Behaviour}
+use Rattle.plan_network.specs.Network.{network_of}
 use Rattle.node.specs.declared.event.Event.{Event}
 use Rattle.desk.specs.Replay as replayed
-use Rattle.cores.specs.CoordinatorCore.{coordinator_core}
-use Rattle.schedule.specs.declared.step.Step.{Step}
-use Rattle.schedule.specs.Federation.{opening_world, rows_in}
-use Rattle.search.specs.Journals.{Agrees, IsStuck, IsFound}
-use Rattle.search.specs.declared.found.Found.{Found}
+use Rattle.node_cores.specs.CoordinatorCore.{coordinator_core}
+use Rattle.world_stations.specs.declared.step.Step.{Step}
+use Rattle.world_stations.specs.Federation.{initial_world, rows_in}
+use Rattle.recorder_search.specs.Journals.{Agrees, IsStuck, IsFound}
+use Rattle.recorder_search.specs.declared.found.Found.{Found}
 use Rattle.world.specs.World.{WorldView, stations_of}
 use Rattle.recorder.specs.declared.audited_run.AuditedRun.{AuditedRun}
-use Rattle.reports.specs.declared.report.Report.{Report}
-use Rattle.reports.specs.declared.unproved.Unproved.{Unproved}
-use Rattle.reports.specs.declared.unproved.Unproved.TheVariants.{Stranger, Double, Missing, Stuck, Mismatch, Memory}
-use Rattle.reports.specs.Reports.{reported_rows, all_journals, AreComplete, IsIncomplete}
-use Rattle.auditor.specs.Placing.{world_motion}
-use Rattle.reports.specs.Difference.{DifferAt}
+use Rattle.recorder_reports.specs.declared.report.Report.{Report}
+use Rattle.recorder_reports.specs.declared.unproved.Unproved.{Unproved}
+use Rattle.recorder_reports.specs.declared.unproved.Unproved.TheVariants.{Stranger, Double, Missing, Stuck, Mismatch, Memory}
+use Rattle.recorder_reports.specs.Reports.{reported_rows, all_journals, AreComplete, IsIncomplete}
+use Rattle.recorder.specs.Placing.{world_motion}
+use Rattle.recorder_reports.specs.Difference.{DifferAt}
 
 -- what is audited: a federation, its federates' reports, and the coordinator's journal
 pub record Claim : Type 0 where
@@ -45,7 +45,7 @@ claim_of w reports coordinator =
 abbrev pub HasSearched : Claim → WorldView → Found → Type 0
 HasSearched c w found = IsFound world_motion (world_of c []) (all_journals (federate_count c.draft) c.reports c.coordinator) w found
 
--- each node's events are its journal, where these steps are made one after the other from the opening, and nobody forgets
+-- each node's events are its journal, where these steps are made one after the other from the initial world, and nobody forgets
 abbrev pub AgreesWith : Claim → List Step → Type 0
 AgreesWith c steps = Agrees world_motion (world_of c []) steps (all_journals (federate_count c.draft) c.reports c.coordinator)
 
@@ -59,10 +59,10 @@ pub record IsFirstApart (w : WorldView) (reports : List Report) (j row : ℕ) : 
   pub earlier : (k : ℕ) → k < j → HasReportedRows w reports k
   pub differ : DifferAt (reported_rows reports j) (rows_in (stations_of w) j) row
 
--- the coordinator's journal, replayed from the opening, gives a coordinator that says that all is finished
+-- the coordinator's journal, replayed from its initial state, gives a coordinator that says that all is finished
 abbrev pub IsFinishedBy : Claim → Type 0
 IsFinishedBy c =
-    coordinator_core.finished (replayed.after_all coordinator_core true (opening_world c.draft c.programs c.inputs).coordinator c.coordinator).node ≡ true
+    coordinator_core.finished (replayed.after_all coordinator_core true (initial_world c.draft c.programs c.inputs).coordinator c.coordinator).node ≡ true
 
 -- the reports are proved by these steps:
 pub record IsProvedBy (c : Claim) (steps : List Step) : Type 0 where
@@ -72,8 +72,8 @@ pub record IsProvedBy (c : Claim) (steps : List Step) : Type 0 where
   pub agrees : AgreesWith c steps
   -- each federate's rows there are those that it reports
   pub rows : (j : ℕ) → j < federate_count c.draft → HasReportedRows (world_of c steps) c.reports j
-  -- they are a beginning of its part of what the undivided program computes
-  pub beginning : (j : ℕ) → j < federate_count c.draft →
+  -- they are a prefix of its part of what the undivided program computes
+  pub prefix : (j : ℕ) → j < federate_count c.draft →
       (turns : ℕ) × BeginsWith (part j (whole (network_of c.draft c.programs c.inputs) turns)) (reported_rows c.reports j)
   -- and where the coordinator's journal gives a finished one, none of them is missing
   pub whole_run : IsFinishedBy c → (j : ℕ) → j < federate_count c.draft →

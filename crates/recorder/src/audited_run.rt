@@ -1,4 +1,4 @@
-use schedule::Step;
+use world_stations::Step;
 
 /// What an audit made of reports that it proved.
 #[derive(Debug, Drop)]

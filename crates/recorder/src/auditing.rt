@@ -1,20 +1,20 @@
 ghost use Rattle.std.specs.Prelude.{IfOk, IfErr};
 ghost use Rattle.plan.specs.External.{AreInputsOf};
-ghost use Rattle.programs.specs.Programs.{AreProgramsOf};
+ghost use Rattle.reactor_programs.specs.Programs.{AreProgramsOf};
 ghost use Rattle.recorder.specs.Audited.{IsProvedBy, HasEnded, IsUnproved};
 
 use crate::audited_run::AuditedRun;
-use crate::begun::BegunAudit;
+use crate::incremental::IncrementalAudit;
 use node::Event;
 use plan::{Inputs, Plan};
-use programs::Programs;
-use reports::{Report, Unproved, refuse_incomplete};
-use schedule::Step;
+use reactor_programs::Programs;
+use recorder_reports::{Report, Unproved, refuse_incomplete};
 use std::alloc::Global;
+use world_stations::Step;
 
 /// Makes a world anew from what each node wrote down, and compares its rows with those of the reports. An Ok is the list of its
 /// steps: nobody forgets in it, each node's events are its journal, and each federate's rows are those that it reports. So they
-/// are a beginning of its part of what the undivided program computes, and all of it where the coordinator's journal gives a
+/// are a prefix of its part of what the undivided program computes, and all of it where the coordinator's journal gives a
 /// finished one. In a run of honest nodes it takes time in proportion to the journals.
 pub fn audit(
     alloc: Global,
@@ -52,5 +52,9 @@ pub fn audit_run(
     if let Err(fault) = refuse_incomplete(plan.federate_count(), reports) {
         return Err(fault);
     }
-    BegunAudit::new(alloc, plan, programs, inputs)?.conclude_complete(alloc, reports, coordinator)
+    IncrementalAudit::new(alloc, plan, programs, inputs)?.conclude_complete(
+        alloc,
+        reports,
+        coordinator,
+    )
 }

@@ -3,19 +3,19 @@ ghost use Rattle.std.specs.Prelude.{◌≡◌, ℕ, ◌<◌, ◌≤◌, List, le
 ghost use Rattle.plan.specs.External.{AreInputsOf};
 ghost use Rattle.plan.specs.Federation.{federate_count};
 ghost use Rattle.plan.specs.Legal.{IsLegal};
-ghost use Rattle.programs.specs.Programs.{AreProgramsOf};
-ghost use Rattle.cores.specs.CoordinatorCore.{coordinator_core};
-ghost use Rattle.schedule.specs.Federation.{rows_in};
-ghost use Rattle.search.specs.declared.found.Found.TheVariants as Ends;
+ghost use Rattle.reactor_programs.specs.Programs.{AreProgramsOf};
+ghost use Rattle.node_cores.specs.CoordinatorCore.{coordinator_core};
+ghost use Rattle.world_stations.specs.Federation.{rows_in};
+ghost use Rattle.recorder_search.specs.declared.found.Found.TheVariants as Ends;
 ghost use Rattle.world.specs.World.{stations_of};
-ghost use Rattle.reports.specs.Reports.{how_many, reported_rows, AreComplete};
-ghost use Rattle.reports.specs.Difference.{DifferAt};
+ghost use Rattle.recorder_reports.specs.Reports.{how_many, reported_rows, AreComplete};
+ghost use Rattle.recorder_reports.specs.Difference.{DifferAt};
 ghost use Rattle.recorder.specs.Audited.{HasReportedRows, IsFirstApart, HasEnded, IsUnproved, HasSearched, claim_of};
 ghost use Rattle.node.specs.declared.event.Event.{Event};
 
 use crate::audited_run::AuditedRun;
-use reports::{Report, Unproved, first_difference, report_of};
-use search::Found;
+use recorder_reports::{Report, Unproved, first_difference, report_of};
+use recorder_search::Found;
 use world::World;
 
 // What is to be said of complete reports, in the world in which a search for their journals ended, whatever the coordinator's is.

@@ -1,7 +1,7 @@
 //! What is known of journals while their nodes still write them.
 ghost use Rattle.std.specs.Prelude.{◌≡◌, ◌↔◌, ◌++◌, [], length, map, set, get_or, true, IsTrue, IfOk, OnOk, OnErr};
-ghost use Rattle.search.specs.Reading.{GrewTo};
-ghost use Rattle.order.specs.Settled.{BeginsWith};
+ghost use Rattle.recorder_search.specs.Reading.{GrewTo};
+ghost use Rattle.network_laws.specs.Settled.{BeginsWith};
 ghost use Rattle.recorder.specs.Known.{events_of};
 
 use node::Event;
@@ -23,7 +23,7 @@ pub(crate) fn add_to(
     events: &[Event],
 ) -> Result<(), AllocError>
     ensures added { OnOk result (events_of known.new.items ≡ set (events_of known.old.items) place (get_or (events_of known.old.items) place [] ++ events.now)) }
-    ensures as_before { OnErr result (events_of known.new.items ≡ events_of known.old.items) }
+    ensures unchanged { OnErr result (events_of known.new.items ≡ events_of known.old.items) }
 {
     match known.get_mut(place) {
         Some(journal) => journal.extend_from_slice(events),
@@ -42,23 +42,23 @@ pub(crate) fn slices_of(alloc: Global, known: &[Vec<Event>]) -> Result<Vec<&[Eve
     Ok(journals)
 }
 
-// Whether all that is known is a beginning of these journals.
-pub(crate) fn are_beginnings(known: &[Vec<Event>], journals: &[&[Event]]) -> bool
+// Whether all that is known is a prefix of these journals.
+pub(crate) fn are_prefixes(known: &[Vec<Event>], journals: &[&[Event]]) -> bool
     ensures { result ≡ true → GrewTo (events_of known.now) (map (λ j. j.now) journals.now) }
 {
     if known.len() > journals.len() {
         return false;
     }
     for place in 0..known.len() {
-        if !is_beginning(&known[place], journals[place]) {
+        if !is_prefix(&known[place], journals[place]) {
             return false;
         }
     }
     true
 }
 
-// Whether these events are a beginning of a journal.
-fn is_beginning(events: &[Event], journal: &[Event]) -> bool
+// Whether these events are a prefix of a journal.
+fn is_prefix(events: &[Event], journal: &[Event]) -> bool
     ensures { IsTrue result ↔ BeginsWith journal.now events.now }
 {
     if events.len() > journal.len() {

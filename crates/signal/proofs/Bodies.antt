@@ -11,6 +11,7 @@ use Rattle.tag.specs.LogicalTime.{LogicalTime, IsLogicalTime, IsFinite, forever}
 use Rattle.signal.specs.declared.signal.Signal.{Signal}
 use Rattle.signal.specs.declared.signal.Signal.TheVariants.{Net, Ltc, Tag, Msg}
 use Rattle.signal.specs.declared.frame.Frame.{Frame}
+use Rattle.signal.specs.declared.frame.Hello as declared
 use Rattle.signal.specs.declared.frame.Frame.TheVariants.{Hello, Data, Ack, Refuse}
 use Rattle.signal.specs.Signal.{point_bytes, tag_bytes}
 use Rattle.signal.specs.Frame.{body_of, IsFrame}
@@ -32,7 +33,7 @@ signal_of body =
 abbrev pub frame_of : List ℕ → Frame
 frame_of body =
     let kind = slice_index body 0 in
-    if kind == 1 then Hello (number_at 2 2 body) (number_at 4 4 body) (number_at 8 8 body)
+    if kind == 1 then Hello (record { federate = number_at 2 2 body; incarnation = number_at 4 4 body; last_taken = number_at 8 8 body })
     else if kind == 2 then Data (number_at 1 4 body) (number_at 5 8 body) (signal_of body)
     else if kind == 3 then Ack (number_at 1 4 body) (number_at 5 8 body)
     else Refuse (number_at 1 4 body) (number_at 5 2 body)
@@ -88,12 +89,12 @@ tag_numbers g h =
 abbrev data_of : ℕ → ℕ → ℕ → List ℕ → List ℕ
 data_of incarnation number kind fields = 2 ∷ big_bytes 4 incarnation ++ big_bytes 8 number ++ kind ∷ fields
 
-hello_again : (version federate incarnation last_taken : ℕ) → IsFrame (Hello federate incarnation last_taken)
-    → frame_of (body_of version (Hello federate incarnation last_taken)) ≡ Hello federate incarnation last_taken
-hello_again version federate incarnation last_taken h =
-    let a = big_number-reads_back 2 federate (big_bytes 4 incarnation ++ big_bytes 8 last_taken) h.0 in
-    let b = big_number-reads_back 4 incarnation (big_bytes 8 last_taken) h.1 in
-    let d = big_number-reads_back 8 last_taken [] h.2 in
+hello_again : (version : ℕ) (hello : declared.Hello) → IsFrame (Hello hello)
+    → frame_of (body_of version (Hello hello)) ≡ Hello hello
+hello_again version hello h =
+    let a = big_number-reads_back 2 hello.federate (big_bytes 4 hello.incarnation ++ big_bytes 8 hello.last_taken) h.0 in
+    let b = big_number-reads_back 4 hello.incarnation (big_bytes 8 hello.last_taken) h.1 in
+    let d = big_number-reads_back 8 hello.last_taken [] h.2 in
     rw (a, b, d) refl
 
 ack_again : (version incarnation last_taken : ℕ) → IsFrame (Ack incarnation last_taken)
@@ -200,14 +201,14 @@ message_tells version incarnation number connection g value h =
       length_fits = ap (λ (b : List ℕ). is_length (length (data_of incarnation number 4 (big_bytes 2 connection ++ b ++ big_bytes 8 (cast_unsigned w64 value))))) x.bytes;
     }
 
-hello_tells : (version federate incarnation last_taken : ℕ) → 0 < version → IsFrame (Hello federate incarnation last_taken) → Tells (body_of version (Hello federate incarnation last_taken)) (Hello federate incarnation last_taken)
-hello_tells version federate incarnation last_taken one h =
+hello_tells : (version : ℕ) (hello : declared.Hello) → 0 < version → IsFrame (Hello hello) → Tells (body_of version (Hello hello)) (Hello hello)
+hello_tells version hello one h =
     let told : eqb version 0 ≡ false = grind (arith, nat_tests) in
-    record { frame_is = hello_again version federate incarnation last_taken h; faultless = rw told refl; length_fits = refl }
+    record { frame_is = hello_again version hello h; faultless = rw told refl; length_fits = refl }
 
 -- a body that spells a frame tells it
 pub body_tells : (version : ℕ) (frame : Frame) → 0 < version → IsFrame frame → Tells (body_of version frame) frame
-body_tells version (Hello federate incarnation last_taken) one h = hello_tells version federate incarnation last_taken one h
+body_tells version (Hello hello) one h = hello_tells version hello one h
 body_tells version (Data incarnation number (Net g)) one h = net_tells version incarnation number g h
 body_tells version (Data incarnation number (Ltc g)) one h = ltc_tells version incarnation number g h
 body_tells version (Data incarnation number (Tag g)) one h = grant_tells version incarnation number g h

@@ -1,4 +1,4 @@
--- What is wrong with the bytes that stand where a frame should begin, and how each fault is told.
+-- What is wrong with the bytes that stand where a frame should begin, and how each fault is printed.
 use Rattle.std.specs.Prelude.{ℕ, ◌+◌, List, ◌++◌, codes, length, take, drop, slice_index, Bool, nat_lt, nat_le, ◌==◌, ◌&&◌, ◌||◌, not, if◌then◌else◌, Option, Some, None}
 use Rattle.std.specs.Fmt.{decimal}
 use Rattle.byteorder.specs.Endian.{big_number}
@@ -21,7 +21,7 @@ name_of BadKind = codes "BadKind"
 name_of BadTag = codes "BadTag"
 name_of Trailing = codes "Trailing"
 
--- the number of want of memory
+-- the number of the out-of-memory fault
 abbrev pub memory_number : ℕ
 memory_number = 44
 
@@ -33,7 +33,7 @@ told number name = decimal number ++ (codes " " ++ name)
 abbrev pub text_of : FrameFault → List ℕ
 text_of fault = told (number_of fault) (name_of fault)
 
--- what is printed of want of memory
+-- what is printed of the out-of-memory fault
 abbrev pub memory_text : List ℕ
 memory_text = told memory_number (codes "Memory")
 

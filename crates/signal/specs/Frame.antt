@@ -8,7 +8,7 @@ use Rattle.signal.specs.Signal.{signal_bytes, IsSignal}
 
 -- the body of a frame: its kind, for a Hello a version, and then its fields
 abbrev pub body_of : ℕ → Frame → List ℕ
-body_of version (Hello federate incarnation last_taken) = HELLO_KIND ∷ version ∷ big_bytes 2 federate ++ big_bytes 4 incarnation ++ big_bytes 8 last_taken
+body_of version (Hello hello) = HELLO_KIND ∷ version ∷ big_bytes 2 hello.federate ++ big_bytes 4 hello.incarnation ++ big_bytes 8 hello.last_taken
 body_of version (Data incarnation number signal) = DATA_KIND ∷ big_bytes 4 incarnation ++ big_bytes 8 number ++ signal_bytes signal
 body_of version (Ack incarnation last_taken) = ACK_KIND ∷ big_bytes 4 incarnation ++ big_bytes 8 last_taken
 body_of version (Refuse incarnation refusal) = REFUSE_KIND ∷ big_bytes 4 incarnation ++ big_bytes 2 refusal
@@ -23,7 +23,7 @@ frame_bytes frame = framed (body_of VERSION frame)
 
 -- what has a spelling: every frame of the program
 abbrev pub IsFrame : Frame → Type 0
-IsFrame (Hello federate incarnation last_taken) = (federate < 2 ^ 16) × (incarnation < 2 ^ 32) × (last_taken < 2 ^ 64)
+IsFrame (Hello hello) = (hello.federate < 2 ^ 16) × (hello.incarnation < 2 ^ 32) × (hello.last_taken < 2 ^ 64)
 IsFrame (Data incarnation number signal) = (incarnation < 2 ^ 32) × (number < 2 ^ 64) × IsSignal signal
 IsFrame (Ack incarnation last_taken) = (incarnation < 2 ^ 32) × (last_taken < 2 ^ 64)
 IsFrame (Refuse incarnation refusal) = (incarnation < 2 ^ 32) × (refusal < 2 ^ 16)

@@ -6,7 +6,7 @@ ghost use Rattle.signal.specs.Fault.{body_fault};
 ghost use Rattle.signal.specs.declared.wire.TheConstants.{ACK_KIND, DATA_KIND, HELLO_KIND, REFUSE_KIND};
 
 use crate::fault::FrameFault;
-use crate::frame::Frame;
+use crate::frame::{Frame, Hello};
 use crate::numbers::{take_u16, take_u32, take_u64};
 use crate::reading::{check_size, signal_of};
 use crate::wire::{
@@ -41,11 +41,11 @@ fn hello_of(body: &[u8]) -> Result<Frame, FrameFault>
     let (federate, rest) = take_u16(&body[2..]);
     let (incarnation, rest) = take_u32(rest);
     let (last_taken, _) = take_u64(rest);
-    Ok(Frame::Hello {
+    Ok(Frame::Hello(Hello {
         federate,
         incarnation,
         last_taken,
-    })
+    }))
 }
 
 fn data_of(body: &[u8]) -> Result<Frame, FrameFault>

@@ -20,7 +20,7 @@ pub mod wire;
 pub mod write;
 
 pub use fault::FrameFault;
-pub use frame::Frame;
+pub use frame::{Frame, Hello};
 pub use memory::Memory;
 pub use reader::FrameReader;
 pub use signal::Signal;

@@ -52,7 +52,7 @@ impl FrameReader {
         if self.fault.is_some() || bytes.is_empty() {
             return Ok(());
         }
-        self.let_go();
+        self.discard();
         self.buffer.extend_from_slice(bytes)?;
         Ok(())
     }
@@ -87,7 +87,7 @@ impl FrameReader {
 
     // Lets go of the bytes that were read, once they are as many as those that are left: so no more
     // bytes are ever moved than are let go.
-    fn let_go(&mut self)
+    fn discard(&mut self)
         ensures { self.new ≡ self.old }
     {
         let held = self.buffer.len() - self.position;

@@ -26,7 +26,7 @@ fn finite_tag_of(bytes: &[u8]) -> Result<FiniteTag, FrameFault>
     match Time::new(time) {
         Some(time) => {
             let tag = FiniteTag::new(time, microstep);
-            tag.known();
+            tag.invariant();
             Ok(tag)
         }
         None => Err(FrameFault::BadTag),
@@ -46,7 +46,7 @@ fn tag_of(bytes: &[u8]) -> Result<tag::Tag, FrameFault>
         None if time == FOREVER_TIME && microstep == FOREVER_MICROSTEP => tag::Tag::FOREVER,
         None => return Err(FrameFault::BadTag),
     };
-    tag.known();
+    tag.invariant();
     Ok(tag)
 }
 

@@ -21,7 +21,7 @@ impl Signal {
     ghost use Rattle.signal.specs.Signal.{IsSignal};
 
     /// What every signal keeps.
-    pub fn known(self)
+    pub fn invariant(self)
         ensures { IsSignal self }
     {}
 }

@@ -6,7 +6,7 @@ ghost use Rattle.signal.specs.Signal.{point_bytes, tag_bytes};
 ghost use Rattle.signal.specs.Frame.{framed, frame_bytes, Spells};
 ghost use Rattle.signal.specs.declared.wire.TheConstants.{DATA_KIND, MSG_KIND};
 
-use crate::frame::Frame;
+use crate::frame::{Frame, Hello};
 use crate::memory::Memory;
 use crate::signal::Signal;
 use crate::wire::{
@@ -23,13 +23,9 @@ pub fn write_frame(frame: &Frame, bytes: &mut Vec<u8>) -> Result<(), Memory>
     ensures unchanged { OnErr result (bytes.new.items ≡ bytes.old.items) }
     ensures readable { Spells (frame_bytes frame.now) frame.now }
 {
-    frame.known();
+    frame.invariant();
     match *frame {
-        Frame::Hello {
-            federate,
-            incarnation,
-            last_taken,
-        } => append(bytes, &hello_bytes(federate, incarnation, last_taken)),
+        Frame::Hello(hello) => append(bytes, &hello_bytes(hello)),
         Frame::Data {
             incarnation,
             number,
@@ -54,16 +50,16 @@ fn append(bytes: &mut Vec<u8>, more: &[u8]) -> Result<(), Memory>
     Ok(())
 }
 
-fn hello_bytes(federate: u16, incarnation: u32, last_taken: u64) -> [u8; 20]
-    ensures { result ≡ frame_bytes (Frame.Hello federate incarnation last_taken) }
+fn hello_bytes(hello: Hello) -> [u8; 20]
+    ensures { result ≡ frame_bytes (Frame.Hello hello) }
 {
     let mut bytes = [0; 20];
     bytes[3] = HELLO_SIZE as u8;
     bytes[4] = HELLO_KIND;
     bytes[5] = VERSION;
-    BigEndian::write_u16(&mut bytes[6..], federate);
-    BigEndian::write_u32(&mut bytes[8..], incarnation);
-    BigEndian::write_u64(&mut bytes[12..], last_taken);
+    BigEndian::write_u16(&mut bytes[6..], hello.federate);
+    BigEndian::write_u32(&mut bytes[8..], hello.incarnation);
+    BigEndian::write_u64(&mut bytes[12..], hello.last_taken);
     bytes
 }
 
@@ -132,7 +128,7 @@ fn write_data(
 fn numbers_of(tag: tag::Tag) -> (u64, u32)
     ensures { tag_bytes tag ≡ point_bytes result.0 result.1 }
 {
-    tag.known();
+    tag.invariant();
     if tag.is_forever() {
         (FOREVER_TIME, FOREVER_MICROSTEP)
     } else {

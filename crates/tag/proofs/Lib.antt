@@ -4,3 +4,5 @@ pub mod Order
 pub mod SumLaws
 -- Totals of paths.
 pub mod Paths
+-- The greatest unit that divides a time.
+mod Units

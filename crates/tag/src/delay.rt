@@ -96,7 +96,7 @@ impl Delay {
     }
 
     /// What every delay keeps.
-    pub fn known(self)
+    pub fn invariant(self)
         ensures { IsLogicalTime self }
     {}
 }

@@ -1,4 +1,5 @@
 ghost use Rattle.std.specs.Prelude.{◌≡◌, ◌^◌, ◌<◌, ◌↔◌, IsSome, IfSome};
+ghost use Rattle.tag.specs.LogicalTime.{is_past};
 
 use crate::tag::Tag;
 use crate::time::Time;
@@ -64,7 +65,7 @@ impl FiniteTag {
     }
 
     /// What every such tag keeps.
-    pub fn known(self)
+    pub fn invariant(self)
         ensures { IsFinite self }
     {}
 }
@@ -77,5 +78,15 @@ impl fmt::Display for FiniteTag {
 
     fn fmt<W: fmt::Write>(&self, f: &mut fmt::Formatter<W>) -> fmt::Result {
         fmt::Display::fmt(&self.tag(), f)
+    }
+}
+
+/// Whether a tag is later than one before it; none is before all.
+pub fn is_past(last: Option<FiniteTag>, tag: Tag) -> bool
+    ensures { result ≡ is_past last tag }
+{
+    match last {
+        Some(last) => last.tag() < tag,
+        None => true,
     }
 }

@@ -12,7 +12,7 @@ pub mod tag;
 pub mod time;
 
 pub use delay::Delay;
-pub use finite_tag::FiniteTag;
+pub use finite_tag::{FiniteTag, is_past};
 pub use sums::{plus, pred, succ, then};
 pub use tag::{Tag, greater, lesser};
-pub use time::Time;
+pub use time::{Time, in_units};

@@ -10,7 +10,7 @@ pub fn plus(tag: Tag, delay: Delay) -> Tag
     ensures { result ≡ sum_of tag delay }
 {
     // For the prover: a tag is at most FOREVER.
-    tag.known();
+    tag.invariant();
     match sum(tag.time(), tag.microstep(), delay) {
         Some((time, microstep)) => Tag::new(time, microstep),
         None => Tag::FOREVER,
@@ -22,7 +22,7 @@ pub fn then(first: Delay, second: Delay) -> Delay
     ensures { result ≡ sum_of first second }
 {
     // For the prover: a delay is at most FOREVER.
-    first.known();
+    first.invariant();
     match sum(first.time(), first.microstep(), second) {
         Some((time, microstep)) => Delay::new(time, microstep),
         None => Delay::FOREVER,
@@ -41,7 +41,7 @@ pub fn pred(tag: Tag) -> Option<Tag>
     ensures { result ≡ tag_before tag }
 {
     // For the prover: a tag is at most FOREVER.
-    tag.known();
+    tag.invariant();
     let (time, microstep) = match tag.microstep().checked_sub(1) {
         Some(microstep) => (tag.time(), microstep),
         None => (tag.time().checked_sub(1)?, u32::MAX),
@@ -55,7 +55,7 @@ fn sum(time: u64, microstep: u32, delay: Delay) -> Option<(Time, u32)>
     ensures { let g : LogicalTime = record { time = time; microstep = microstep } in MatchOption result (sum_of g delay ≡ forever) (λ s. record { time = s.0; microstep = s.1 } ≡ sum_of g delay) }
 {
     // For the prover: a delay is at most FOREVER.
-    delay.known();
+    delay.invariant();
     let (time, microstep) = if delay.time() > 0 {
         (time + delay.time(), delay.microstep())
     } else {

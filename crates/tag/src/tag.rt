@@ -58,7 +58,7 @@ impl Tag {
         ensures { result ≡ delay }
     {
         // For the prover: a delay is at most FOREVER.
-        delay.known();
+        delay.invariant();
         Tag {
             time: delay.time(),
             microstep: delay.microstep(),
@@ -85,7 +85,7 @@ impl Tag {
     }
 
     /// What every tag keeps.
-    pub fn known(self)
+    pub fn invariant(self)
         ensures { IsLogicalTime self }
     {}
 }

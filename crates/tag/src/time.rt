@@ -64,18 +64,19 @@ impl fmt::Display for Time {
     }
 }
 
-/// A time in ns as so many of the greatest unit that divides it.
-fn in_units(time: u64) -> (u64, &'static str)
+/// A time in ns as a count of the greatest unit that divides it. The unit is sought from ns on, since most times are of a small one.
+#[tactic(auto, using(crate::proofs::Units::in_ns, crate::proofs::Units::in_us, crate::proofs::Units::in_ms))]
+pub fn in_units(time: u64) -> (u64, &'static str)
     requires { 0 < time }
     ensures { decimal result.0 ++ (codes " " ++ result.1.now) ≡ printed_time time }
 {
-    if time % 1_000_000_000 == 0 {
-        (time / 1_000_000_000, "s")
-    } else if time % 1_000_000 == 0 {
-        (time / 1_000_000, "ms")
-    } else if time % 1_000 == 0 {
-        (time / 1_000, "us")
-    } else {
+    if time % 1_000 != 0 {
         (time, "ns")
+    } else if time % 1_000_000 != 0 {
+        (time / 1_000, "us")
+    } else if time % 1_000_000_000 != 0 {
+        (time / 1_000_000, "ms")
+    } else {
+        (time / 1_000_000_000, "s")
     }
 }

@@ -5,8 +5,8 @@ use Rattle.network.specs.Event.{Event}
 use Rattle.network.specs.Lawful.{IsLawful}
 use Rattle.network.specs.Network.{Network}
 use Rattle.network.specs.Undivided.{Undivided, first_of_turns, undivided_after}
-use Rattle.order.proofs.Keys.{low_rank}
-use Rattle.order.proofs.Standing.{Least, FirstIs, reached, first_standing, due_least}
+use Rattle.network_laws.proofs.Keys.{low_rank}
+use Rattle.network_laws.proofs.Standing.{Least, FirstIs, reached, first_standing, due_least}
 
 -- where something is still pending, few turns were made
 pub turns_are_few :

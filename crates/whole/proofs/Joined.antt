@@ -7,7 +7,7 @@ use Rattle.std.proofs.lemmas.Option.{slice_get_within}
 use Rattle.tag.specs.LogicalTime.{LogicalTime}
 use Rattle.network.specs.Connection.{Connection}
 use Rattle.network.specs.Undivided.{message_of, carried_by}
-use Rattle.slots.specs.declared.slots.Slots.{Slots}
+use Rattle.plan_slots.specs.declared.slots.Slots.{Slots}
 use Rattle.plan.specs.declared.draft.Federate.{Federate}
 use Rattle.plan.specs.declared.draft.ConnectionDraft.{ConnectionDraft}
 use Rattle.plan.specs.declared.draft.Draft.{Draft}

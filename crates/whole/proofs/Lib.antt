@@ -17,7 +17,7 @@ pub mod Few
 -- a schedule after a turn
 pub mod Schedules
 -- agendas before the first turn
-pub mod Openings
+pub mod InitialAgendas
 -- what a turn puts is what it makes
 pub mod PutMade
 -- the beginning, and a turn

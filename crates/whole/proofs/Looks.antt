@@ -6,15 +6,15 @@ use Rattle.std.proofs.lemmas.Bool.{and_parts, or_left, and_from, false_from_ne_t
 use Rattle.std.proofs.lemmas.Bool.Decides.{nat_tests}
 use Rattle.tag.specs.LogicalTime.{LogicalTime, forever, is_before, is_same}
 use Rattle.tag.proofs.Order.{same_is_equal, same_itself, before_transitive, before_irreflexive, before_forever}
-use Rattle.network.specs.Undone.{Held, look, is_held_before, Rises}
-use Rattle.order.proofs.Lists.{each_more}
-use Rattle.agenda.specs.Agenda.{Agenda, IsInTime, IsAgenda, least_in}
+use Rattle.network.specs.Undone.{PendingEvent, look, is_held_before, Rises}
+use Rattle.network_laws.proofs.Lists.{each_more}
+use Rattle.reactor_agenda.specs.Agenda.{Agenda, IsInTime, IsAgenda, least_in}
 
 pub none_some : {X : Type 0} (v : X) → None ≡ Some v → ⊥
 none_some v e = cc
 
 -- an event is found on the list that begins with it
-pub first_found : (x : Held) (rest : List Held) → look (x ∷ rest) x.tag x.slot ≡ Some x.value
+pub first_found : (x : PendingEvent) (rest : List PendingEvent) → look (x ∷ rest) x.tag x.slot ≡ Some x.value
 first_found x rest =
     let here : (is_same x.tag x.tag && nat_eq x.slot x.slot) ≡ true = and_from (is_same x.tag x.tag) (nat_eq x.slot x.slot) (same_itself x.tag) (eq-eqb x.slot x.slot refl) in
     ap (λ (b : Bool). if b then Some x.value else look rest x.tag x.slot) here
@@ -27,7 +27,7 @@ found_if : (b : Bool) (v : ℤ) (o : Option ℤ) → IsSome o → IsSome (if b t
 found_if true v o h = (v, refl)
 found_if false v o h = h
 
-pub all_found : (u : List Held) → AllByRecursion (λ e. IsSome (look u e.tag e.slot)) u
+pub all_found : (u : List PendingEvent) → AllByRecursion (λ e. IsSome (look u e.tag e.slot)) u
 all_found [] = tt
 all_found (x ∷ rest) = (
   (x.value, first_found x rest),
@@ -35,11 +35,11 @@ all_found (x ∷ rest) = (
       (λ e h. found_if (is_same x.tag e.tag && nat_eq x.slot e.slot) x.value (look rest e.tag e.slot) h) rest (all_found rest),
 )
 
-not_sooner : (x y : Held) → IsTrue (is_held_before x y) → is_before y.tag x.tag ≡ false
+not_sooner : (x y : PendingEvent) → IsTrue (is_held_before x y) → is_before y.tag x.tag ≡ false
 not_sooner x y h = grind (arith, nat_tests)
 
 -- what is found in a list without earlier events isn't earlier
-pub found_later : (g : LogicalTime) (u : List Held) → AllByRecursion (λ e. is_before e.tag g ≡ false) u → (t : LogicalTime) (slot : ℕ) (v : ℤ) → look u t slot ≡ Some v → is_before t g ≡ false
+pub found_later : (g : LogicalTime) (u : List PendingEvent) → AllByRecursion (λ e. is_before e.tag g ≡ false) u → (t : LogicalTime) (slot : ℕ) (v : ℤ) → look u t slot ≡ Some v → is_before t g ≡ false
 found_later g [] a t slot v h = absurd (none_some v h)
 found_later g (x ∷ rest) a t slot v h = by_test (is_same x.tag t && nat_eq x.slot slot) refl (found_later g rest a.1 t slot v) h
   where
@@ -48,7 +48,7 @@ found_later g (x ∷ rest) a t slot v h = by_test (is_same x.tag t && nat_eq x.s
     by_test false e more k = more k
 
 -- nothing is found before the least tag
-pub found_after_least : (u : List Held) → Rises u → (t : LogicalTime) (slot : ℕ) (v : ℤ) → look u t slot ≡ Some v → is_before t (least_in u) ≡ false
+pub found_after_least : (u : List PendingEvent) → Rises u → (t : LogicalTime) (slot : ℕ) (v : ℤ) → look u t slot ≡ Some v → is_before t (least_in u) ≡ false
 found_after_least [] r t slot v h = absurd (none_some v h)
 found_after_least (x ∷ rest) r t slot v h =
     found_later x.tag (x ∷ rest) (before_irreflexive x.tag, each_more (λ e. IsTrue (is_held_before x e)) (λ e. is_before e.tag x.tag ≡ false) (λ e k. not_sooner x e k) rest r.0) t slot v h
@@ -57,12 +57,12 @@ found_after_least (x ∷ rest) r t slot v h =
 pub none_before_forever : (a : Agenda) → IsAgenda a → is_before (least_in a.undone) forever ≡ false → (t : LogicalTime) (slot : ℕ) → look a.undone t slot ≡ None
 none_before_forever a k h t slot = by_list a.undone k.in_time h
   where
-    by_list : (u : List Held) → AllByRecursion (IsInTime a.stop) u → is_before (least_in u) forever ≡ false → look u t slot ≡ None
+    by_list : (u : List PendingEvent) → AllByRecursion (IsInTime a.stop) u → is_before (least_in u) forever ≡ false → look u t slot ≡ None
     by_list [] w h = refl
     by_list (x ∷ rest) w h = let yes = before_forever x.tag w.0.finite in absurd cc
 
 -- where it isn't FOREVER, something is found there
-pub least_found : (u : List Held) → (least_in u ≡ forever → ⊥) → (slot : ℕ) × (v : ℤ) × (look u (least_in u) slot ≡ Some v)
+pub least_found : (u : List PendingEvent) → (least_in u ≡ forever → ⊥) → (slot : ℕ) × (v : ℤ) × (look u (least_in u) slot ≡ Some v)
 least_found [] h = absurd (h refl)
 least_found (x ∷ rest) h = (x.slot, x.value, first_found x rest)
 

@@ -8,11 +8,11 @@ use Rattle.std.proofs.lemmas.Option.{slice_get-get_or}
 use Rattle.tag.specs.LogicalTime.{LogicalTime, is_before, is_same}
 use Rattle.tag.proofs.Order.{before_transitive, same_is_equal, same_itself}
 use Rattle.network.specs.Connection.{Connection}
-use Rattle.agenda.specs.Agenda.{Agenda, least_in}
+use Rattle.reactor_agenda.specs.Agenda.{Agenda, least_in}
 use Rattle.whole.specs.declared.targets.Target.{Target}
 use Rattle.whole.specs.declared.nexts.Next.{Next}
 use Rattle.whole.specs.Targets.{all_shown, shown}
-use Rattle.whole.specs.Made.{has_target, least_on}
+use Rattle.whole.specs.Construction.{has_target, least_on}
 use Rattle.whole.specs.Next.{is_earlier, renewed}
 use Rattle.network.proofs.Items.{get_set_within, get_set_other}
 

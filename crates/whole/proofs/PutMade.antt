@@ -10,45 +10,45 @@ use Rattle.network.specs.Connection.{Connection}
 use Rattle.network.specs.Event.{Event, value_at}
 use Rattle.network.specs.Network.{Scheduling}
 use Rattle.network.specs.Undivided.{message_of, carried_by, scheduled_from}
-use Rattle.network.specs.Undone.{Held, held_of}
-use Rattle.agenda.specs.Agenda.{in_time}
+use Rattle.network.specs.Undone.{PendingEvent, pending_event_of}
+use Rattle.reactor_agenda.specs.Agenda.{in_time}
 use Rattle.whole.specs.Targets.{between}
-use Rattle.whole.specs.Made.{TurnMade, held_if, carried_over, deferred_by, put_to}
+use Rattle.whole.specs.Construction.{TurnMade, held_if, carried_over, deferred_by, put_to}
 
-abbrev no_held : List Held
+abbrev no_held : List PendingEvent
 no_held = []
 
 -- what of these events goes to a federate, up to a tag
-abbrev pub held_up_to : LogicalTime → ℕ → List Event → List Held
-held_up_to stop a es = map held_of (filter (λ e. nat_eq e.reactor a) (filter (λ e. is_at_most e.tag stop) es))
+abbrev pub held_up_to : LogicalTime → ℕ → List Event → List PendingEvent
+held_up_to stop a es = map pending_event_of (filter (λ e. nat_eq e.reactor a) (filter (λ e. is_at_most e.tag stop) es))
 
 held-append : (stop : LogicalTime) (a : ℕ) (xs ys : List Event) → held_up_to stop a (xs ++ ys) ≡ held_up_to stop a xs ++ held_up_to stop a ys
 held-append stop a xs ys =
     let up_to : Event → Bool = λ e. is_at_most e.tag stop in
     let mine : Event → Bool = λ e. nat_eq e.reactor a in
-    ap (λ es. map held_of (filter mine es)) (filter-append up_to xs ys)
-    ∙ (ap (map held_of) (filter-append mine (filter up_to xs) (filter up_to ys))
-    ∙ map-append held_of (filter mine (filter up_to xs)) (filter mine (filter up_to ys)))
+    ap (λ es. map pending_event_of (filter mine es)) (filter-append up_to xs ys)
+    ∙ (ap (map pending_event_of) (filter-append mine (filter up_to xs) (filter up_to ys))
+    ∙ map-append pending_event_of (filter mine (filter up_to xs)) (filter mine (filter up_to ys)))
 
 none_if : (b : Bool) → (if b then no_held else no_held) ≡ no_held
 none_if true = refl
 none_if false = refl
 
-one_held : (stop tag : LogicalTime) (target slot : ℕ) (e : Event) (v : ℤ) (a : ℕ) → e.tag ≡ tag → e.reactor ≡ target → held_of e ≡ record { tag = tag; slot = slot; value = v } → (b : Bool) → is_at_most tag stop ≡ b →
+one_held : (stop tag : LogicalTime) (target slot : ℕ) (e : Event) (v : ℤ) (a : ℕ) → e.tag ≡ tag → e.reactor ≡ target → pending_event_of e ≡ record { tag = tag; slot = slot; value = v } → (b : Bool) → is_at_most tag stop ≡ b →
     held_up_to stop a (e ∷ []) ≡ (if nat_eq target a then in_time stop (record { tag = tag; slot = slot; value = v } ∷ []) else [])
 one_held stop tag target slot e v a p q r true h =
     let up_to : Event → Bool = λ e. is_at_most e.tag stop in
     let early : is_at_most e.tag stop ≡ true = ap (λ g. is_at_most g stop) p ∙ h in
-    ap (λ b. map held_of (filter (λ x. nat_eq x.reactor a) (cond b (e ∷ []) []))) early
-    ∙ (ap (λ b. map held_of (cond b (e ∷ []) [])) (ap (λ k. nat_eq k a) q) ∙ (by_test (nat_eq target a)
+    ap (λ b. map pending_event_of (filter (λ x. nat_eq x.reactor a) (cond b (e ∷ []) []))) early
+    ∙ (ap (λ b. map pending_event_of (cond b (e ∷ []) [])) (ap (λ k. nat_eq k a) q) ∙ (by_test (nat_eq target a)
     ∙ sym (ap (λ b. if nat_eq target a then cond b (record { tag = tag; slot = slot; value = v } ∷ []) [] else []) h)))
   where
-    by_test : (b : Bool) → map held_of (cond b (e ∷ []) []) ≡ (if b then record { tag = tag; slot = slot; value = v } ∷ [] else [])
+    by_test : (b : Bool) → map pending_event_of (cond b (e ∷ []) []) ≡ (if b then record { tag = tag; slot = slot; value = v } ∷ [] else [])
     by_test true = ap (λ x. x ∷ []) r
     by_test false = refl
 one_held stop tag target slot e v a p q r false h =
     let late : is_at_most e.tag stop ≡ false = ap (λ g. is_at_most g stop) p ∙ h in
-    ap (λ b. map held_of (filter (λ x. nat_eq x.reactor a) (cond b (e ∷ []) []))) late
+    ap (λ b. map pending_event_of (filter (λ x. nat_eq x.reactor a) (cond b (e ∷ []) []))) late
     ∙ (sym (none_if (nat_eq target a)) ∙ sym (ap (λ b. if nat_eq target a then cond b (record { tag = tag; slot = slot; value = v } ∷ []) [] else []) h))
 
 -- what one connection carries
@@ -103,16 +103,16 @@ still_in_time stop a [] = refl
 still_in_time stop a (e ∷ es) = by_test (is_at_most e.tag stop) refl (nat_eq e.reactor a) refl (still_in_time stop a es)
   where
     by_test : (b : Bool) → is_at_most e.tag stop ≡ b → (d : Bool) → nat_eq e.reactor a ≡ d → in_time stop (held_up_to stop a es) ≡ held_up_to stop a es →
-        in_time stop (map held_of (filter (λ x. nat_eq x.reactor a) (cond b (e ∷ filter (λ x. is_at_most x.tag stop) es) (filter (λ x. is_at_most x.tag stop) es))))
-        ≡ map held_of (filter (λ x. nat_eq x.reactor a) (cond b (e ∷ filter (λ x. is_at_most x.tag stop) es) (filter (λ x. is_at_most x.tag stop) es)))
+        in_time stop (map pending_event_of (filter (λ x. nat_eq x.reactor a) (cond b (e ∷ filter (λ x. is_at_most x.tag stop) es) (filter (λ x. is_at_most x.tag stop) es))))
+        ≡ map pending_event_of (filter (λ x. nat_eq x.reactor a) (cond b (e ∷ filter (λ x. is_at_most x.tag stop) es) (filter (λ x. is_at_most x.tag stop) es)))
     by_test false p d q h = h
     by_test true p true q h =
-        ap (λ c. in_time stop (map held_of (cond c (e ∷ filter (λ x. nat_eq x.reactor a) (filter (λ x. is_at_most x.tag stop) es)) (filter (λ x. nat_eq x.reactor a) (filter (λ x. is_at_most x.tag stop) es))))) q
-        ∙ (ap (λ c. cond c (held_of e ∷ in_time stop (held_up_to stop a es)) (in_time stop (held_up_to stop a es))) p ∙ (ap (λ r. held_of e ∷ r) h
-        ∙ sym (ap (λ c. map held_of (cond c (e ∷ filter (λ x. nat_eq x.reactor a) (filter (λ x. is_at_most x.tag stop) es)) (filter (λ x. nat_eq x.reactor a) (filter (λ x. is_at_most x.tag stop) es)))) q)))
+        ap (λ c. in_time stop (map pending_event_of (cond c (e ∷ filter (λ x. nat_eq x.reactor a) (filter (λ x. is_at_most x.tag stop) es)) (filter (λ x. nat_eq x.reactor a) (filter (λ x. is_at_most x.tag stop) es))))) q
+        ∙ (ap (λ c. cond c (pending_event_of e ∷ in_time stop (held_up_to stop a es)) (in_time stop (held_up_to stop a es))) p ∙ (ap (λ r. pending_event_of e ∷ r) h
+        ∙ sym (ap (λ c. map pending_event_of (cond c (e ∷ filter (λ x. nat_eq x.reactor a) (filter (λ x. is_at_most x.tag stop) es)) (filter (λ x. nat_eq x.reactor a) (filter (λ x. is_at_most x.tag stop) es)))) q)))
     by_test true p false q h =
-        ap (λ c. in_time stop (map held_of (cond c (e ∷ filter (λ x. nat_eq x.reactor a) (filter (λ x. is_at_most x.tag stop) es)) (filter (λ x. nat_eq x.reactor a) (filter (λ x. is_at_most x.tag stop) es))))) q
-        ∙ (h ∙ sym (ap (λ c. map held_of (cond c (e ∷ filter (λ x. nat_eq x.reactor a) (filter (λ x. is_at_most x.tag stop) es)) (filter (λ x. nat_eq x.reactor a) (filter (λ x. is_at_most x.tag stop) es)))) q))
+        ap (λ c. in_time stop (map pending_event_of (cond c (e ∷ filter (λ x. nat_eq x.reactor a) (filter (λ x. is_at_most x.tag stop) es)) (filter (λ x. nat_eq x.reactor a) (filter (λ x. is_at_most x.tag stop) es))))) q
+        ∙ (h ∙ sym (ap (λ c. map pending_event_of (cond c (e ∷ filter (λ x. nat_eq x.reactor a) (filter (λ x. is_at_most x.tag stop) es)) (filter (λ x. nat_eq x.reactor a) (filter (λ x. is_at_most x.tag stop) es)))) q))
 
 pub put_in_time : (t : TurnMade) (a : ℕ) (cs : List Connection) →
     in_time t.stop (put_to t (a, between t.federate a cs)) ≡ held_up_to t.stop a (flat_map (carried_by t.federate t.tag (value_at t.outputs)) cs ++ scheduled_from t.federate t.tag 0 t.schedulings)

@@ -10,11 +10,11 @@ use Rattle.std.proofs.lemmas.Option.{slice_get-get_or, slice_get-map}
 use Rattle.tag.specs.LogicalTime.{LogicalTime}
 use Rattle.network.specs.Connection.{Connection}
 use Rattle.network.proofs.Items.{get_set_within, get_set_other}
-use Rattle.network.specs.Undone.{Held, put_all, drop_up_to}
-use Rattle.agenda.specs.Agenda.{Agenda, in_time}
+use Rattle.network.specs.Undone.{PendingEvent, put_all, drop_up_to}
+use Rattle.reactor_agenda.specs.Agenda.{Agenda, in_time}
 use Rattle.whole.specs.declared.targets.Target.{Target}
 use Rattle.whole.specs.Targets.{shown, all_shown, AreApart}
-use Rattle.whole.specs.Made.{TurnMade, Kept, put_to, has_target, kept_on, dropped, after_put, after_puts, after_turn}
+use Rattle.whole.specs.Construction.{TurnMade, Kept, put_to, has_target, kept_on, dropped, after_put, after_puts, after_turn}
 
 same_map : {X Y : Type 0} (f g : X → Y) → ((x : X) → f x ≡ g x) → (o : Option X) → option_map f o ≡ option_map g o
 same_map f g h None = refl
@@ -107,7 +107,7 @@ put_step t target rest old new x put there is so_far f = elim (cases_eq f target
 ]
 
 -- the same, of the code's targets
-pub put_first : (t : TurnMade) (targets : List Target) (target : Target) (old new : List Agenda) (x put : Agenda) (events : List Held) → 1 ≤ length targets → target ≡ get_or targets 0 target → target.federate < length old →
+pub put_first : (t : TurnMade) (targets : List Target) (target : Target) (old new : List Agenda) (x put : Agenda) (events : List PendingEvent) → 1 ≤ length targets → target ≡ get_or targets 0 target → target.federate < length old →
     kept_on put ≡ record { stop = (get_or old target.federate x).stop; undone = put_all (in_time (get_or old target.federate x).stop events) (get_or old target.federate x).undone } → events ≡ put_to t (shown target) →
     ((f : ℕ) → slice_get (map kept_on new) f ≡ option_map (after_puts t (all_shown (all_but_first targets)) f) (slice_get (map kept_on (set old target.federate put)) f)) →
     (f : ℕ) → slice_get (map kept_on new) f ≡ option_map (after_puts t (all_shown targets) f) (slice_get (map kept_on old) f)
@@ -129,7 +129,7 @@ without_first t target rest f o none =
 
 -- the same, of the code's targets
 pub put_none :
-    {X E : Type 0} (answer : Result X E) (t : TurnMade) (targets : List Target) (target : Target) (old new : List Agenda) (events : List Held) (test : Bool) (count : ℕ) →
+    {X E : Type 0} (answer : Result X E) (t : TurnMade) (targets : List Target) (target : Target) (old new : List Agenda) (events : List PendingEvent) (test : Bool) (count : ℕ) →
     1 ≤ length targets → target ≡ get_or targets 0 target → events ≡ put_to t (shown target) → test ≡ nat_eq count 0 → test ≡ true → count ≡ length events →
     OnOk answer ((f : ℕ) → slice_get (map kept_on new) f ≡ option_map (after_puts t (all_shown (all_but_first targets)) f) (slice_get (map kept_on old) f)) →
     OnOk answer ((f : ℕ) → slice_get (map kept_on new) f ≡ option_map (after_puts t (all_shown targets) f) (slice_get (map kept_on old) f))

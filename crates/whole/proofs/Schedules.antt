@@ -10,16 +10,16 @@ use Rattle.std.proofs.lemmas.Option.{slice_get-get_or, slice_get-map, slice_get_
 use Rattle.std.proofs.Math.Bool.{or-false}
 use Rattle.tag.specs.LogicalTime.{LogicalTime, forever, is_before, is_same}
 use Rattle.network.specs.Connection.{Connection}
-use Rattle.network.specs.Undone.{Held, look, put_all, drop_up_to}
-use Rattle.order.proofs.Lists.{each_append, from_each}
-use Rattle.order.proofs.LookUps.{look_dropped, look_later}
+use Rattle.network.specs.Undone.{PendingEvent, look, put_all, drop_up_to}
+use Rattle.network_laws.proofs.Lists.{each_append, from_each}
+use Rattle.network_laws.proofs.LookUps.{look_dropped, look_later}
 use Rattle.plan.specs.declared.draft.Draft.{Draft}
 use Rattle.plan.specs.Federation.{federate_count, connections_of, rank_of, stop_of}
-use Rattle.agenda.specs.Agenda.{Agenda, IsAgenda, in_time, least_in}
+use Rattle.reactor_agenda.specs.Agenda.{Agenda, IsAgenda, in_time, least_in}
 use Rattle.whole.specs.declared.targets.Target.{Target}
 use Rattle.whole.specs.declared.nexts.Next.{Next}
 use Rattle.whole.specs.Targets.{between, is_some, is_target, target_if, targets_below, all_shown, AreApart}
-use Rattle.whole.specs.Made.{TurnMade, Kept, put_to, after_put, after_puts, after_turn, dropped, has_target, kept_on, least_on}
+use Rattle.whole.specs.Construction.{TurnMade, Kept, put_to, after_put, after_puts, after_turn, dropped, has_target, kept_on, least_on}
 use Rattle.whole.specs.Next.{is_earlier, IsFirstAt, renewed}
 use Rattle.whole.specs.Schedule.{Schedule, undone_of, list_or_none, IsDueFirst, IsDone, found_after, IsAfterTurn, next_on, IsAgendaUpTo, for_each, IsSchedule}
 use Rattle.whole.proofs.Looks.{found_after_least, none_before_forever, least_found, not_first}
@@ -129,7 +129,7 @@ nothing_put t cs f h =
     let parts = or_parts (nat_eq f t.federate) (is_some (between t.federate f cs)) h in
     none_of (nat_eq f t.federate) (between t.federate f cs) parts.0 parts.1
   where
-    none_of : (b : Bool) (between_them : List Connection) → b ≡ false → is_some between_them ≡ false → flat_map (λ c. Rattle.whole.specs.Made.carried_over t c) between_them ++ (if b then flat_map (λ s. Rattle.whole.specs.Made.deferred_by t s) t.schedulings else []) ≡ []
+    none_of : (b : Bool) (between_them : List Connection) → b ≡ false → is_some between_them ≡ false → flat_map (λ c. Rattle.whole.specs.Construction.carried_over t c) between_them ++ (if b then flat_map (λ s. Rattle.whole.specs.Construction.deferred_by t s) t.schedulings else []) ≡ []
     none_of true l e k = absurd cc
     none_of false [] e k = refl
     none_of false (c ∷ rest) e k = absurd cc
@@ -139,7 +139,7 @@ puts_undone : (t : TurnMade) (cs : List Connection) (f : ℕ) (a : Kept) (stop :
 puts_undone t cs f a stop e true h = ap (λ s. put_all (in_time s (put_to t (f, between t.federate f cs))) a.undone) e
 puts_undone t cs f a stop e false h = sym (ap (λ es. put_all (in_time stop es) a.undone) (nothing_put t cs f h))
 
-found_by : (t : TurnMade) (u : List Held) (tag : LogicalTime) (slot : ℕ) (own later : Bool) → is_before t.tag tag ≡ later →
+found_by : (t : TurnMade) (u : List PendingEvent) (tag : LogicalTime) (slot : ℕ) (own later : Bool) → is_before t.tag tag ≡ later →
     look (if own then drop_up_to t.tag u else u) tag slot ≡ (if own && not later then None else look u tag slot)
 found_by t u tag slot false later e = refl
 found_by t u tag slot true true e = look_later t.tag tag slot u e
@@ -154,7 +154,7 @@ pub found_on : (t : TurnMade) (d : Draft) (f : ℕ) (a : Kept) → f < federate_
     look (after_turn t (targets_below (connections_of d) t.federate (federate_count d)) f a).undone tag slot ≡ found_after t d a.undone f tag slot
 found_on t d f a h e tag slot =
     let targets = targets_below (connections_of d) t.federate (federate_count d) in
-    let put : List Held = put_all (in_time (stop_of d) (put_to t (f, between t.federate f (connections_of d)))) a.undone in
+    let put : List PendingEvent = put_all (in_time (stop_of d) (put_to t (f, between t.federate f (connections_of d)))) a.undone in
     let puts : (after_puts t targets f a).undone ≡ put =
     ap (λ (x : Kept). x.undone) (puts_are t (connections_of d) t.federate (federate_count d) f a h)
     ∙ puts_undone t (connections_of d) f a (stop_of d) e (is_target (connections_of d) t.federate f) refl in
@@ -235,7 +235,7 @@ up_to_kept stop old new e before =
       up_to = sym same ∙ before.up_to;
       agenda = record {
         rises = subst Rattle.network.specs.Undone.Rises undone before.agenda.rises;
-        in_time = subst (λ s. AllByRecursion (Rattle.agenda.specs.Agenda.IsInTime s) new.undone) same (subst (AllByRecursion (Rattle.agenda.specs.Agenda.IsInTime old.stop)) undone before.agenda.in_time);
+        in_time = subst (λ s. AllByRecursion (Rattle.reactor_agenda.specs.Agenda.IsInTime s) new.undone) same (subst (AllByRecursion (Rattle.reactor_agenda.specs.Agenda.IsInTime old.stop)) undone before.agenda.in_time);
       };
     }
 

@@ -16,34 +16,34 @@ use Rattle.network.specs.Lawful.{IsLawful}
 use Rattle.network.specs.Network.{Network, Effect}
 use Rattle.network.specs.Undivided as undivided
 use Rattle.network.specs.Undivided.{Undivided, Row, comes_before, first_of_turns, with_states, after_turn_at, after_turn_of, turn_of, undivided_after, made_by, carried_by, scheduled_from}
-use Rattle.network.specs.Undone.{Held, look, put_all}
-use Rattle.order.specs.Newest.{or_else}
-use Rattle.order.specs.Pending.{IsNext}
-use Rattle.order.proofs.LookUps.{last_held, look_put_all, or_nothing}
-use Rattle.order.proofs.PendingSlots.{next_turn, own_is_gone, made_is_newer, quiet_is_done, present_is_sound}
-use Rattle.order.proofs.InOrder.{held_for, found_as_present, made_in_order, external_in_order}
-use Rattle.order.proofs.Lists.{each_more}
-use Rattle.slots.specs.declared.slots.Slots.{Slots}
+use Rattle.network.specs.Undone.{PendingEvent, look, put_all}
+use Rattle.network_laws.specs.Newest.{or_else}
+use Rattle.network_laws.specs.Pending.{IsNext}
+use Rattle.network_laws.proofs.LookUps.{last_held, look_put_all, or_nothing}
+use Rattle.network_laws.proofs.PendingSlots.{next_turn, own_is_gone, made_is_newer, quiet_is_done, present_is_sound}
+use Rattle.network_laws.proofs.InOrder.{held_for, found_as_present, made_in_order, external_in_order}
+use Rattle.network_laws.proofs.Lists.{each_more}
+use Rattle.plan_slots.specs.declared.slots.Slots.{Slots}
 use Rattle.plan.specs.declared.draft.Federate.{Federate}
 use Rattle.plan.specs.declared.draft.Draft.{Draft}
 use Rattle.plan.specs.declared.input.Input.{Input}
 use Rattle.plan.specs.Federation.{federate_count, connections_of, rank_of, stop_of}
-use Rattle.slots.specs.Numbering.{slot_count}
+use Rattle.plan_slots.specs.Numbering.{slot_count}
 use Rattle.plan.specs.External.{external_of}
-use Rattle.program.specs.Behaviour.{Behaviour}
-use Rattle.federation.specs.Network.{network_of, slots_of, ports_of, effect_by, opening_by}
-use Rattle.programs.specs.Programs.{HaveProgramsOf, HaveSlotsOf}
-use Rattle.reactor.specs.Effect.{opening_states, effect_of}
+use Rattle.reactor_program.specs.Behaviour.{Behaviour}
+use Rattle.plan_network.specs.Network.{network_of, slots_of, ports_of, effect_by, initial_by}
+use Rattle.reactor_programs.specs.Programs.{HaveProgramsOf, HaveSlotsOf}
+use Rattle.reactor.specs.Effect.{initial_states, effect_of}
 use Rattle.reactor.specs.Turn.{Reactor}
-use Rattle.agenda.specs.Agenda.{in_time}
+use Rattle.reactor_agenda.specs.Agenda.{in_time}
 use Rattle.whole.specs.Progress.{Progress, later_by}
-use Rattle.whole.specs.Kept.{states_of, states_in, programs_in, HoldsPending, IsAfterTurns, HasSlotsOf}
-use Rattle.whole.specs.Made.{TurnMade, put_to}
+use Rattle.whole.specs.Invariant.{states_of, states_in, programs_in, HoldsPending, IsAfterTurns, HasSlotsOf}
+use Rattle.whole.specs.Construction.{TurnMade, put_to}
 use Rattle.whole.specs.Targets.{between}
-use Rattle.whole.specs.Schedule.{Schedule, undone_of, opening_undone, IsDueFirst, IsDone, found_after, IsAfterTurn}
+use Rattle.whole.specs.Schedule.{Schedule, undone_of, initial_undone, IsDueFirst, IsDone, found_after, IsAfterTurn}
 use Rattle.whole.proofs.Few.{turns_are_few}
 use Rattle.whole.proofs.Joined.{carried-agrees}
-use Rattle.agenda.proofs.Listed.{listed_value}
+use Rattle.reactor_agenda.proofs.Listed.{listed_value}
 use Rattle.whole.proofs.Looks.{all_found, none_some}
 use Rattle.whole.proofs.PutMade.{held_up_to, put_in_time}
 use Rattle.network.proofs.Items.{get_set_within, get_set_other}
@@ -114,7 +114,7 @@ pub record IsTurnMade (d : Draft) (r : Reactor) (s : Schedule) (t : TurnMade) (s
   pub schedulings : t.schedulings ≡ (effect_on r s t.federate t.tag).schedulings
   pub new_states : states ≡ (effect_on r s t.federate t.tag).states
 
-module _ (d : Draft) (inputs : List Input) (reactors : List Reactor) (s : Schedule) (gone : ℕ) (rows : List Row) (kept : IsAfterTurns d inputs reactors s gone rows) where
+module _ (d : Draft) (inputs : List Input) (reactors : List Reactor) (s : Schedule) (discarded : ℕ) (rows : List Row) (kept : IsAfterTurns d inputs reactors s discarded rows) where
   abbrev programs : List Behaviour
   programs = programs_in reactors
 
@@ -122,7 +122,7 @@ module _ (d : Draft) (inputs : List Input) (reactors : List Reactor) (s : Schedu
   n = network_of d programs inputs
 
   abbrev turns : ℕ
-  turns = gone + length rows
+  turns = discarded + length rows
 
   abbrev u : Undivided
   u = undivided_after n turns
@@ -148,7 +148,7 @@ module _ (d : Draft) (inputs : List Input) (reactors : List Reactor) (s : Schedu
       }
 
   -- what is undone is at slots that are there
-  found_within : (f : ℕ) → f < federate_count d → (e : Held) → ((v : ℤ) × (look (undone_of s f) e.tag e.slot ≡ Some v)) → e.slot < n.slots f
+  found_within : (f : ℕ) → f < federate_count d → (e : PendingEvent) → ((v : ℤ) × (look (undone_of s f) e.tag e.slot ≡ Some v)) → e.slot < n.slots f
   found_within f h e found = present_is_sound n kept.lawful turns f e.tag e.slot found.0 (sym (kept.pending f e.tag e.slot h) ∙ found.1)
 
   pub undone_within : (f : ℕ) → f < federate_count d → AllByRecursion (λ e. e.slot < n.slots f) (undone_of s f)
@@ -197,8 +197,8 @@ module _ (d : Draft) (inputs : List Input) (reactors : List Reactor) (s : Schedu
         ∙ (ap (with_states (states_in reactors) t.federate) (sym made.new_states)
         ∙ sym (states_in-set reactors t.federate next (rw (reactor_count d reactors kept.programs) there))))
 
-    rows_after : (undivided_after n (turns + 1)).rows ≡ kept.let_go ++ (rows ++ row ∷ [])
-    rows_after = ap (λ (x : Undivided). x.rows) turn ∙ ((λ i. kept.all_rows i ++ row_is i ∷ []) ∙ append_assoc kept.let_go rows (row ∷ []))
+    rows_after : (undivided_after n (turns + 1)).rows ≡ kept.discard ++ (rows ++ row ∷ [])
+    rows_after = ap (λ (x : Undivided). x.rows) turn ∙ ((λ i. kept.all_rows i ++ row_is i ∷ []) ∙ append_assoc kept.discard rows (row ∷ []))
 
     carried : flat_map (carried_by t.federate t.tag (value_at t.outputs)) (connections_of d) ≡ flat_map (carried_by t.federate t.tag (effect_on r s t.federate t.tag).outputs) (connections_of d)
     carried =
@@ -248,17 +248,17 @@ module _ (d : Draft) (inputs : List Input) (reactors : List Reactor) (s : Schedu
     few_turns (Some e) q = turns_are_few n kept.lawful turns e q
     few_turns None q = absurd (due_is_pending t.federate t.tag due (first_of_none n u.pending q))
 
-    pub kept_turn : IsAfterTurns d inputs (set reactors t.federate next) after gone (rows ++ row ∷ [])
+    pub kept_turn : IsAfterTurns d inputs (set reactors t.federate next) after discarded (rows ++ row ∷ [])
     kept_turn =
         let is : get_or reactors t.federate r ≡ r = get_or_from_slice_get reactors t.federate r r mine in
         let same : programs_in (set reactors t.federate next) ≡ programs = map-set_same (λ x. x.behaviour) reactors t.federate next r (ap (λ x. x.behaviour) (sym is)) in
-        let count : gone + length (rows ++ row ∷ []) ≡ turns + 1 = rw (length-append rows (row ∷ [])) (omega arith) in
+        let count : discarded + length (rows ++ row ∷ []) ≡ turns + 1 = rw (length-append rows (row ∷ [])) (omega arith) in
         let few = few_turns (first_of_turns n u.pending) refl in
         record {
           programs = rw same kept.programs;
           lawful = rw same kept.lawful;
           draft = changed.draft ∙ kept.draft;
-          let_go = kept.let_go;
+          discard = kept.discard;
           as_many = kept.as_many;
           states = rw (same, count) states_after;
           all_rows = rw (same, count) rows_after;
@@ -279,11 +279,11 @@ programs_in-set reactors k r next is same = map-set_same (λ x. x.behaviour) rea
 
 -- a reactor that opens
 abbrev pub opened : Behaviour → Reactor
-opened b = record { behaviour = b; states = opening_states b }
+opened b = record { behaviour = b; states = initial_states b }
 
-opening-states : (o : Option Behaviour) → opening_by o ≡ states_of (option_map opened o)
-opening-states None = refl
-opening-states (Some b) = refl
+initial-states : (o : Option Behaviour) → initial_by o ≡ states_of (option_map opened o)
+initial-states None = refl
+initial-states (Some b) = refl
 
 programs_in-opened : (programs : List Behaviour) → programs_in (map opened programs) ≡ programs
 programs_in-opened [] = refl
@@ -293,22 +293,22 @@ pub opened-programs : (programs : List Behaviour) (reactors : List Reactor) → 
 opened-programs programs reactors is = ap (λ rs. programs_in rs) is ∙ programs_in-opened programs
 
 -- before the first turn
-pub kept_opening :
+pub kept_initial :
     (d : Draft) (inputs : List Input) (behaviours : List Behaviour) (reactors : List Reactor) (s : Schedule) (rows : List Row) →
     HaveSlotsOf d.federates behaviours → IsLawful (network_of d behaviours inputs) → reactors ≡ map opened behaviours → s.draft ≡ d →
-    ((federate : ℕ) (tag : LogicalTime) (slot : ℕ) → federate < federate_count d → look (undone_of s federate) tag slot ≡ look (opening_undone d inputs federate) tag slot) →
+    ((federate : ℕ) (tag : LogicalTime) (slot : ℕ) → federate < federate_count d → look (undone_of s federate) tag slot ≡ look (initial_undone d inputs federate) tag slot) →
     rows ≡ [] → IsAfterTurns d inputs reactors s 0 rows
-kept_opening d inputs behaviours reactors s rows are lawful is_reactors is_draft undone is_rows =
+kept_initial d inputs behaviours reactors s rows are lawful is_reactors is_draft undone is_rows =
     let same : programs_in reactors ≡ behaviours = opened-programs behaviours reactors is_reactors in
-    let states : (λ j. opening_by (slice_get behaviours j)) ≡ states_in reactors =
-    (fun_ext λ j. opening-states (slice_get behaviours j) ∙ ap (λ o. states_of o) (sym (slice_get-map opened behaviours j))) ∙ ap states_in (sym is_reactors) in
+    let states : (λ j. initial_by (slice_get behaviours j)) ≡ states_in reactors =
+    (fun_ext λ j. initial-states (slice_get behaviours j) ∙ ap (λ o. states_of o) (sym (slice_get-map opened behaviours j))) ∙ ap states_in (sym is_reactors) in
     let pending : (federate : ℕ) (tag : LogicalTime) (slot : ℕ) → federate < federate_count d → look (undone_of s federate) tag slot ≡ present_at (external_of d inputs) federate tag slot =
     λ f tag slot h. undone f tag slot h ∙ (look_put_all (held_for f (external_of d inputs)) [] tag slot ∙ (or_nothing (last_held (held_for f (external_of d inputs)) tag slot) ∙ found_as_present (external_of d inputs) (external_in_order (external_of d inputs) lawful.external_apart) f tag slot)) in
     record {
       programs = rw same are;
       lawful = rw same lawful;
       draft = is_draft;
-      let_go = [];
+      discard = [];
       as_many = refl;
       states = rw (same, is_rows) states;
       all_rows = rw is_rows refl;
@@ -317,16 +317,16 @@ kept_opening d inputs behaviours reactors s rows are lawful is_reactors is_draft
     }
 
 -- all rows are let go
-pub kept_let_go : (d : Draft) (inputs : List Input) (reactors : List Reactor) (s : Schedule) (gone : ℕ) (rows : List Row) →
-    IsAfterTurns d inputs reactors s gone rows → IsAfterTurns d inputs reactors s (gone + length rows) []
-kept_let_go d inputs reactors s gone rows kept =
-    let all : List Row = kept.let_go ++ rows in
+pub kept_let_go : (d : Draft) (inputs : List Input) (reactors : List Reactor) (s : Schedule) (discarded : ℕ) (rows : List Row) →
+    IsAfterTurns d inputs reactors s discarded rows → IsAfterTurns d inputs reactors s (discarded + length rows) []
+kept_let_go d inputs reactors s discarded rows kept =
+    let all : List Row = kept.discard ++ rows in
     record {
       programs = kept.programs;
       lawful = kept.lawful;
       draft = kept.draft;
-      let_go = all;
-      as_many = length-append kept.let_go rows ∙ ap (λ k. k + length rows) kept.as_many;
+      discard = all;
+      as_many = length-append kept.discard rows ∙ ap (λ k. k + length rows) kept.as_many;
       states = rw add-zero kept.states;
       all_rows = rw add-zero kept.all_rows ∙ sym (append-nil all);
       pending = rw add-zero kept.pending;
@@ -335,11 +335,11 @@ kept_let_go d inputs reactors s gone rows kept =
 
 pub later_by-none : (p : Progress) → p ≡ later_by 0 p
 later_by-none p =
-    let with_turns : ℕ → Progress = λ k. record { draft = p.draft; programs = p.programs; inputs = p.inputs; turns = k; gone = p.gone } in
+    let with_turns : ℕ → Progress = λ k. record { draft = p.draft; programs = p.programs; inputs = p.inputs; turns = k; discarded = p.discarded } in
     ap with_turns (sym (add-zero p.turns))
 
 pub later_by-more : (p : Progress) (k : ℕ) → later_by 1 (later_by k p) ≡ later_by (k + 1) p
 later_by-more p k =
-    let with_turns : ℕ → Progress = λ j. record { draft = p.draft; programs = p.programs; inputs = p.inputs; turns = j; gone = p.gone } in
+    let with_turns : ℕ → Progress = λ j. record { draft = p.draft; programs = p.programs; inputs = p.inputs; turns = j; discarded = p.discarded } in
     let sums : p.turns + k + 1 ≡ p.turns + (k + 1) = omega arith in
     ap with_turns sums

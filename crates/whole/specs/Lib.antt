@@ -2,14 +2,14 @@
 -- to which federates a turn puts events
 pub mod Targets
 -- what a turn puts there
-pub mod Made
+pub mod Construction
 -- which turn is next
 pub mod Next
 -- what is undone of each federate, and how a turn changes it
 pub mod Schedule
 -- agendas before the first turn
-pub mod Opening
+pub mod Initial
 -- what such a program shows
 pub mod Progress
 -- what it keeps
-pub mod Kept
+pub mod Invariant

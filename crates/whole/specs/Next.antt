@@ -1,9 +1,9 @@
 -- Of each federate the tag of its next event, and which of them comes first.
 use Rattle.std.specs.Prelude.{◌≡◌, ℕ, ◌<◌, ◌≤◌, ◌+◌, ◌*◌, Bool, false, ◌&&◌, ◌||◌, nat_lt, if◌then◌else◌, List, length, slice_get, Some}
 use Rattle.tag.specs.LogicalTime.{is_before, is_same}
-use Rattle.agenda.specs.Agenda.{Agenda}
+use Rattle.reactor_agenda.specs.Agenda.{Agenda}
 use Rattle.whole.specs.declared.nexts.Next.{Next}
-use Rattle.whole.specs.Made.{least_on}
+use Rattle.whole.specs.Construction.{least_on}
 
 -- the first is before the second: by tag, then by rank
 abbrev pub is_earlier : Next → Next → Bool

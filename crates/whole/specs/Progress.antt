@@ -5,8 +5,8 @@ use Rattle.network.specs.Network.{Network}
 use Rattle.network.specs.Undivided.{Undivided, Row, undivided_after, whole}
 use Rattle.plan.specs.declared.draft.Draft.{Draft}
 use Rattle.plan.specs.declared.input.Input.{Input}
-use Rattle.program.specs.Behaviour.{Behaviour}
-use Rattle.federation.specs.Network.{network_of}
+use Rattle.reactor_program.specs.Behaviour.{Behaviour}
+use Rattle.plan_network.specs.Network.{network_of}
 
 -- what an undivided program was made from, how many turns were made, and of how many, the first ones, the rows were let go
 pub record Progress : Type 0 where
@@ -14,7 +14,7 @@ pub record Progress : Type 0 where
   pub programs : List Behaviour
   pub inputs : List Input
   pub turns : ℕ
-  pub gone : ℕ
+  pub discarded : ℕ
 
 -- the network of the federation with its programs and recorded inputs
 abbrev pub network_in : Progress → Network
@@ -30,7 +30,7 @@ all_rows_in p = whole (network_in p) p.turns
 
 -- those that weren't let go
 abbrev pub rows_in : Progress → List Row
-rows_in p = drop p.gone (all_rows_in p)
+rows_in p = drop p.discarded (all_rows_in p)
 
 -- what is pending after the turns made
 abbrev pub pending_in : Progress → List Event
@@ -38,4 +38,4 @@ pending_in p = (undivided_in p).pending
 
 -- so many turns later
 abbrev pub later_by : ℕ → Progress → Progress
-later_by turns p = record { draft = p.draft; programs = p.programs; inputs = p.inputs; turns = p.turns + turns; gone = p.gone }
+later_by turns p = record { draft = p.draft; programs = p.programs; inputs = p.inputs; turns = p.turns + turns; discarded = p.discarded }

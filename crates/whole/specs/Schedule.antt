@@ -3,33 +3,33 @@ use Rattle.std.specs.Prelude.{◌≡◌, ℕ, ◌<◌, ℤ, false, ◌&&◌, not
 use Rattle.tag.specs.LogicalTime.{LogicalTime, is_before}
 use Rattle.network.specs.Connection.{Connection}
 use Rattle.network.specs.Undivided.{comes_before}
-use Rattle.network.specs.Undone.{Held, look, put_all, held_of}
+use Rattle.network.specs.Undone.{PendingEvent, look, put_all, pending_event_of}
 use Rattle.plan.specs.declared.draft.Draft.{Draft}
 use Rattle.plan.specs.declared.input.Input.{Input}
 use Rattle.plan.specs.External.{external_of, is_for}
 use Rattle.plan.specs.Federation.{federate_count, connections_of, rank_of, stop_of}
-use Rattle.agenda.specs.Agenda.{Agenda, IsAgenda, in_time}
+use Rattle.reactor_agenda.specs.Agenda.{Agenda, IsAgenda, in_time}
 use Rattle.whole.specs.declared.nexts.Next.{Next}
 use Rattle.whole.specs.Targets.{between, targets_below}
-use Rattle.whole.specs.Made.{TurnMade, put_to, least_on}
+use Rattle.whole.specs.Construction.{TurnMade, put_to, least_on}
 
 -- of a federation, what is undone of each federate
 pub record Schedule : Type 0 where
   pub draft : Draft
-  pub undone : List (List Held)
+  pub undone : List (List PendingEvent)
 
 -- a list, if it is there
-abbrev pub list_or_none : Option (List Held) → List Held
+abbrev pub list_or_none : Option (List PendingEvent) → List PendingEvent
 list_or_none None = []
 list_or_none (Some undone) = undone
 
 -- what is undone of one federate
-abbrev pub undone_of : Schedule → ℕ → List Held
+abbrev pub undone_of : Schedule → ℕ → List PendingEvent
 undone_of s federate = list_or_none (slice_get s.undone federate)
 
 -- what comes to a federate from outside, up to stop
-abbrev pub opening_undone : Draft → List Input → ℕ → List Held
-opening_undone d inputs federate = put_all (map held_of (filter (is_for federate) (external_of d inputs))) []
+abbrev pub initial_undone : Draft → List Input → ℕ → List PendingEvent
+initial_undone d inputs federate = put_all (map pending_event_of (filter (is_for federate) (external_of d inputs))) []
 
 -- something is present for the federate at the tag, and nothing for an earlier turn
 pub record IsDueFirst (s : Schedule) (federate : ℕ) (tag : LogicalTime) : Type 0 where
@@ -48,7 +48,7 @@ IsFirstDue s None = IsDone s
 IsFirstDue s (Some next) = IsDueFirst s next.federate next.tag
 
 -- after a turn: of its federate nothing is undone up to its tag; elsewhere what was put counts, or else what was undone
-abbrev pub found_after : TurnMade → Draft → List Held → ℕ → LogicalTime → ℕ → Option ℤ
+abbrev pub found_after : TurnMade → Draft → List PendingEvent → ℕ → LogicalTime → ℕ → Option ℤ
 found_after t d undone federate tag slot =
     if nat_eq federate t.federate && not (is_before t.tag tag) then None
     else look (put_all (in_time (stop_of d) (put_to t (federate, between t.federate federate (connections_of d)))) undone) tag slot

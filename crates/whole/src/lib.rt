@@ -3,9 +3,9 @@
 //! Promise to the layer above: after `turns` the rows are those of the definition `whole`. Begin with `whole`, then `specs/Progress`.
 #![tactic(auto)]
 
+mod initial;
 mod made;
 mod nexts;
-mod opening;
 mod schedule;
 mod targets;
 pub mod whole;

@@ -1,15 +1,16 @@
 ghost use Rattle.std.specs.Prelude.{◌≡◌, ℕ, ◌<◌, ◌++◌, ◌∷◌, [], length, map, All, OnOk, OnErr, Some, false, slice_get};
 ghost use Rattle.std.specs.List.{flat_map};
 ghost use Rattle.std.specs.Option.{option_map};
-ghost use Rattle.agenda.specs.Agenda.{in_time};
-ghost use Rattle.whole.specs.Made.{held_if, carried_over, deferred_by, own_deferred, put_to, after_puts, has_target, kept_on};
+ghost use Rattle.reactor_agenda.specs.Agenda.{in_time};
+ghost use Rattle.whole.specs.Construction.{held_if, carried_over, deferred_by, own_deferred, put_to, after_puts, has_target, kept_on};
 ghost use Rattle.whole.specs.Targets.{shown, all_shown, AreApart};
 
 use crate::targets::Target;
-use agenda::{Agenda, Held};
-use plan::Connection;
-use program::entry::value_at;
-use reactor::{Entry, Memory, Rows, Scheduling};
+use plan_paths::Connection;
+use reactor::{Memory, Rows, Scheduling};
+use reactor_agenda::{Agenda, PendingEvent};
+use reactor_program::Entry;
+use reactor_program::entry::value_at;
 use std::marker::Model;
 use tag::{FiniteTag, Tag, plus};
 
@@ -26,7 +27,7 @@ pub struct TurnMade<'t> {
 }
 
 impl<'t> Model for TurnMade<'t> {
-    ghost use Rattle.whole.specs.Made.{TurnMade as TurnMadeOf};
+    ghost use Rattle.whole.specs.Construction.{TurnMade as TurnMadeOf};
 
     ghost Value = { TurnMadeOf };
 
@@ -37,7 +38,7 @@ impl<'t> Model for TurnMade<'t> {
 pub fn put_made(
     agendas: &mut [Agenda],
     rows: &mut Rows,
-    events: &mut Vec<Held>,
+    events: &mut Vec<PendingEvent>,
     targets: &[Target],
     turn: &TurnMade<'_>,
 ) -> Result<(), Memory>
@@ -74,7 +75,11 @@ pub fn put_made(
 }
 
 /// What a turn puts to a target, in place of what `events` held.
-fn made_for(events: &mut Vec<Held>, turn: &TurnMade<'_>, target: &Target) -> Result<(), Memory>
+fn made_for(
+    events: &mut Vec<PendingEvent>,
+    turn: &TurnMade<'_>,
+    target: &Target,
+) -> Result<(), Memory>
     ensures { OnOk result (events.new.items ≡ put_to turn.now (shown target.now)) }
 {
     events.clear();
@@ -86,7 +91,7 @@ fn made_for(events: &mut Vec<Held>, turn: &TurnMade<'_>, target: &Target) -> Res
 }
 
 fn add_carried(
-    events: &mut Vec<Held>,
+    events: &mut Vec<PendingEvent>,
     turn: &TurnMade<'_>,
     connections: &[Connection],
 ) -> Result<(), Memory>
@@ -100,7 +105,7 @@ fn add_carried(
 
 /// Adds what a connection carries of a turn's outputs.
 fn add_carried_over(
-    events: &mut Vec<Held>,
+    events: &mut Vec<PendingEvent>,
     turn: &TurnMade<'_>,
     connection: Connection,
 ) -> Result<(), Memory>
@@ -113,7 +118,7 @@ fn add_carried_over(
     add(events, turn.stop, arrival, connection.slot(), value)
 }
 
-fn add_deferred(events: &mut Vec<Held>, turn: &TurnMade<'_>) -> Result<(), Memory>
+fn add_deferred(events: &mut Vec<PendingEvent>, turn: &TurnMade<'_>) -> Result<(), Memory>
     ensures { OnOk result (events.new.items ≡ events.old.items ++ flat_map (deferred_by turn.now) turn.now.schedulings) }
 {
     for scheduling in turn.schedulings {
@@ -124,7 +129,7 @@ fn add_deferred(events: &mut Vec<Held>, turn: &TurnMade<'_>) -> Result<(), Memor
 
 /// Adds the event of a scheduling.
 fn add_deferred_by(
-    events: &mut Vec<Held>,
+    events: &mut Vec<PendingEvent>,
     turn: &TurnMade<'_>,
     scheduling: Scheduling,
 ) -> Result<(), Memory>
@@ -142,7 +147,7 @@ fn add_deferred_by(
 
 /// Adds an event, unless it is later than stop.
 fn add(
-    events: &mut Vec<Held>,
+    events: &mut Vec<PendingEvent>,
     stop: FiniteTag,
     tag: Tag,
     slot: usize,
@@ -153,9 +158,9 @@ fn add(
     if tag > stop.tag() {
         return Ok(());
     }
-    stop.known();
+    stop.invariant();
     match FiniteTag::of(tag) {
-        Some(finite) => events.push(Held::new(finite, slot, value))?,
+        Some(finite) => events.push(PendingEvent::new(finite, slot, value))?,
         None => {}
     }
     Ok(())

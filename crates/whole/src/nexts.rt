@@ -1,17 +1,17 @@
 ghost use Rattle.std.specs.Prelude.{◌≡◌, ℕ, ◌<◌, ◌≤◌, ◌+◌, ◌*◌, ◌/◌, length, List, All, IfOk, IsTrue, true, Some, slice_get, slice_set};
 ghost use Rattle.std.specs.Option.{option_map};
 ghost use Rattle.whole.specs.declared.nexts.Next.{Next as NextOf};
-ghost use Rattle.whole.specs.Made.{has_target, least_on};
+ghost use Rattle.whole.specs.Construction.{has_target, least_on};
 ghost use Rattle.whole.specs.Next.{is_earlier, IsFirstAmong, AreFirsts, renewed};
 ghost use Rattle.whole.specs.Targets.{all_shown};
 ghost use Rattle.whole.specs.Schedule.{next_on, for_each};
-ghost use Rattle.agenda.specs.Agenda.{Agenda as AgendaOf, IsAgenda};
+ghost use Rattle.reactor_agenda.specs.Agenda.{Agenda as AgendaOf, IsAgenda};
 ghost use Rattle.plan.specs.Federation.{federate_count};
 
 use crate::targets::Target;
-use agenda::Agenda;
 use plan::Plan;
 use reactor::Memory;
+use reactor_agenda::Agenda;
 use std::alloc::Global;
 use std::marker::Model;
 use tag::Tag;
@@ -192,7 +192,7 @@ pub fn renew(nexts: &mut Nexts, agendas: &[Agenda], targets: &[Target])
     for target in targets {
         let federate = target.federate;
         let agenda = &agendas[federate];
-        agenda.known();
+        agenda.invariant();
         let tag = agenda.least();
         nexts.set_tag(federate, tag);
     }

@@ -1,7 +1,7 @@
 ghost use Rattle.std.specs.Prelude.{◌≡◌, ℕ, ◌<◌, ◌++◌, ◌∷◌, [], length, map, All, IfOk, OnOk, OnErr, true, Some, slice_get};
 ghost use Rattle.std.specs.Option.{option_map};
-ghost use Rattle.agenda.specs.Agenda.{Agenda as AgendaOf, IsAgenda};
-ghost use Rattle.whole.specs.Made.{after_turn, has_target, kept_on};
+ghost use Rattle.reactor_agenda.specs.Agenda.{Agenda as AgendaOf, IsAgenda};
+ghost use Rattle.whole.specs.Construction.{after_turn, has_target, kept_on};
 ghost use Rattle.whole.specs.Next.{renewed};
 ghost use Rattle.whole.specs.Targets.{all_shown, AreApart};
 ghost use Rattle.tag.specs.LogicalTime.{LogicalTime};
@@ -10,13 +10,14 @@ ghost use Rattle.plan.specs.Federation.{federate_count, stop_of};
 ghost use Rattle.network.specs.Event.{listed};
 ghost use Rattle.std.specs.List.{AllByRecursion};
 
+use crate::initial::{initial_agendas, put_inputs};
 use crate::made::{TurnMade, put_made};
 use crate::nexts::{Next, Nexts, renew};
-use crate::opening::{opening_agendas, put_inputs};
 use crate::targets::{Target, all_targets};
-use agenda::{Agenda, Held};
 use plan::{Inputs, Plan};
-use reactor::{Entry, Memory, Rows};
+use reactor::{Memory, Rows};
+use reactor_agenda::{Agenda, PendingEvent};
+use reactor_program::Entry;
 use std::alloc::Global;
 use std::marker::Model;
 use tag::Tag;
@@ -31,7 +32,7 @@ pub struct Schedule<'p> {
     /// To which federates each puts events.
     targets: Vec<Vec<Target>>,
     /// Room for what a turn puts.
-    events: Vec<Held>,
+    events: Vec<PendingEvent>,
 }
 
 impl<'p> Model for Schedule<'p> {
@@ -47,15 +48,15 @@ impl<'p> Model for Schedule<'p> {
 }
 
 impl<'p> Schedule<'p> {
-    ghost use Rattle.whole.specs.Schedule.{undone_of, opening_undone, IsFirstDue, IsAfterTurn};
+    ghost use Rattle.whole.specs.Schedule.{undone_of, initial_undone, IsFirstDue, IsAfterTurn};
 
     /// What comes from outside is undone, up to stop.
     pub fn new(alloc: Global, plan: &'p Plan, inputs: &Inputs) -> Result<Schedule<'p>, Memory>
         ensures draft { IfOk result (λ schedule. schedule.draft ≡ plan.now) }
-        ensures undone { IfOk result (λ schedule. (federate : ℕ) (tag : LogicalTime) (slot : ℕ) → federate < federate_count plan.now → look (undone_of schedule federate) tag slot ≡ look (opening_undone plan.now inputs.now federate) tag slot) }
+        ensures undone { IfOk result (λ schedule. (federate : ℕ) (tag : LogicalTime) (slot : ℕ) → federate < federate_count plan.now → look (undone_of schedule federate) tag slot ≡ look (initial_undone plan.now inputs.now federate) tag slot) }
     {
-        plan.known();
-        let mut agendas = opening_agendas(alloc, plan)?;
+        plan.invariant();
+        let mut agendas = initial_agendas(alloc, plan)?;
         put_inputs(alloc, agendas.as_mut_slice(), plan, inputs)?;
         let nexts = Nexts::new(alloc, plan, agendas.as_slice())?;
         let targets = all_targets(alloc, plan)?;
@@ -72,7 +73,7 @@ impl<'p> Schedule<'p> {
     pub fn first(&self) -> Option<Next>
         ensures { IsFirstDue self.now result }
     {
-        self.plan.known();
+        self.plan.invariant();
         let first = self.nexts.first();
         if first.tag.is_forever() {
             None
@@ -118,7 +119,7 @@ fn put_turn(
     agendas: &mut [Agenda],
     nexts: &mut Nexts,
     rows: &mut Rows,
-    events: &mut Vec<Held>,
+    events: &mut Vec<PendingEvent>,
     targets: &[Target],
     turn: &TurnMade<'_>,
 ) -> Result<(), Memory>

@@ -4,7 +4,8 @@ ghost use Rattle.whole.specs.Schedule.{for_each};
 ghost use Rattle.plan.specs.Federation.{federate_count, connections_of};
 ghost use Rattle.whole.specs.Targets.{between, is_some, all_shown, targets_below};
 
-use plan::{Connection, Plan};
+use plan::Plan;
+use plan_paths::Connection;
 use reactor::Memory;
 use std::alloc::Global;
 

@@ -1,15 +1,15 @@
 ghost use Rattle.std.specs.Prelude.{◌≡◌, ◌≢◌, ℕ, ◌+◌, ◌<◌, ◌≤◌, [], IfOk, OnErr, MatchBool};
 ghost use Rattle.plan.specs.External.{AreInputsOf};
-ghost use Rattle.programs.specs.Programs.{AreProgramsOf};
+ghost use Rattle.reactor_programs.specs.Programs.{AreProgramsOf};
 
 use crate::made::TurnMade;
 use crate::schedule::Schedule;
 use plan::{Inputs, Plan};
-use programs::Programs;
-use reactor::{Entry, Memory, Reactor, Rows, TurnRoom};
+use reactor::{Memory, Reactor, Rows, TurnRoom};
+use reactor_program::Entry;
+use reactor_programs::Programs;
 use std::alloc::Global;
 use std::marker::Model;
-use tag::FiniteTag;
 
 /// The undivided program of a plan with its programs and inputs. Contracts see what it was made from, how many turns were made,
 /// and of how many of them the rows were let go.
@@ -25,19 +25,19 @@ pub struct Whole<'a> {
     /// One for each turn whose row wasn't let go.
     rows: Rows,
     /// How many rows were let go.
-    gone: u128,
+    discarded: u128,
 }
 
 impl<'a> Model for Whole<'a> {
     ghost use Rattle.std.specs.Prelude.{◌+◌, length};
     ghost use Rattle.whole.specs.Progress.{Progress};
-    ghost use Rattle.whole.specs.Kept.{programs_in, IsAfterTurns};
+    ghost use Rattle.whole.specs.Invariant.{programs_in, IsAfterTurns};
 
     ghost Value = { Progress };
 
-    ghost view = { λ w. record { draft = w.plan.now; programs = programs_in w.reactors.items; inputs = w.inputs.now; turns = w.gone + length w.rows; gone = w.gone } };
+    ghost view = { λ w. record { draft = w.plan.now; programs = programs_in w.reactors.items; inputs = w.inputs.now; turns = w.discarded + length w.rows; discarded = w.discarded } };
 
-    ghost invariant = { λ w. IsAfterTurns w.plan.now w.inputs.now w.reactors.items w.schedule w.gone w.rows };
+    ghost invariant = { λ w. IsAfterTurns w.plan.now w.inputs.now w.reactors.items w.schedule w.discarded w.rows };
 }
 
 impl<'a> Whole<'a> {
@@ -53,9 +53,9 @@ impl<'a> Whole<'a> {
     ) -> Result<Whole<'a>, Memory>
         requires programs { AreProgramsOf plan.now programs.now }
         requires inputs { AreInputsOf plan.now inputs.now }
-        ensures { IfOk result (λ whole. whole ≡ record { draft = plan.now; programs = programs.now; inputs = inputs.now; turns = 0; gone = 0 }) }
+        ensures { IfOk result (λ whole. whole ≡ record { draft = plan.now; programs = programs.now; inputs = inputs.now; turns = 0; discarded = 0 }) }
     {
-        plan.known();
+        plan.invariant();
         let mut reactors = Vec::new(alloc);
         for program in programs.as_slice() {
             reactors.push(Reactor::new(alloc, program)?)?;
@@ -68,7 +68,7 @@ impl<'a> Whole<'a> {
             present: Vec::new(alloc),
             room: TurnRoom::new(alloc),
             rows: Rows::new(alloc),
-            gone: 0,
+            discarded: 0,
         })
     }
 
@@ -92,16 +92,16 @@ impl<'a> Whole<'a> {
     /// One for each turn, oldest first, without those that were let go.
     pub fn rows(&self) -> &Rows
         ensures rows { result.now ≡ rows_in self.now }
-        ensures one_for_each_turn { length result.now + self.now.gone ≡ self.now.turns }
+        ensures one_for_each_turn { length result.now + self.now.discarded ≡ self.now.turns }
     {
         &self.rows
     }
 
     /// Lets go of all rows so far, and keeps their room for those of the next turns. It takes no memory.
-    pub fn let_go(&mut self)
-        ensures { self.new ≡ record self.old { gone = self.old.turns } }
+    pub fn discard(&mut self)
+        ensures { self.new ≡ record self.old { discarded = self.old.turns } }
     {
-        self.gone += self.rows.len() as u128;
+        self.discarded += self.rows.len() as u128;
         self.rows.clear();
     }
 
@@ -115,14 +115,14 @@ impl<'a> Whole<'a> {
             return Ok(false);
         };
         let federate = next.federate;
-        self.plan.known();
+        self.plan.invariant();
         self.schedule.at(federate, next.tag, &mut self.present)?;
         let reactor = &self.reactors[federate];
         reactor.run_in(self.present.as_slice(), &mut self.room)?;
         let turn = TurnMade {
             federate,
             tag: next.tag,
-            stop: FiniteTag::new(self.plan.stop_time(), 0),
+            stop: self.plan.stop_tag(),
             inputs: self.present.as_slice(),
             outputs: self.room.outputs(),
             schedulings: self.room.schedulings(),

@@ -1,18 +1,24 @@
-//! A federation in threads: all workers of all its nodes, each in a thread of its own, until the run is to end.
+//! A federation in threads: all workers of all its nodes, each in a thread of its own, until the run is to end; and the nodes'
+//! desks, for one run.
 //!
-//! Promise to the layer above: each desk that `Nodes::gather` of `crews` gives after a run has the journal that its workers'
-//! shares say, and so its station is the replay of it. Nothing is said of when a run ends.
+//! Promise to the layer above: as many desks are gathered as were shared; each keeps what every desk keeps, that its station is
+//! the replay of its journal; and each one's journal is what the shares of its node's workers say (`specs/Gathered`). Nothing is
+//! said of when a run ends.
 //!
-//! What workers do is said by `workers`, what connections are by `transports`, how a thread's job is started by `crews`; what a
-//! caller of a run needs of them is here under the same names. Begin with `running`.
+//! What workers do is said by `wires_workers`, what connections are by `wires_transports`. Begin with `running`, then `nodes` and
+//! `job`; `node_workers` is what a node's workers are passed.
 #![tactic(auto)]
 
+pub mod job;
+pub mod node_workers;
+pub mod nodes;
+pub mod run_fault;
 pub mod running;
 
-pub use crews::{Gathered, Left, Nodes, RunFault, job, nodes, run_fault};
-pub use running::{Line, run, run_over_tcp};
-pub use transports::{
-    Arrived, Broken, Connection, Cut, Dial, Ending, Entrance, Failures, Memory, MemoryCut,
-    MemoryTransport, TcpCut, TcpDial, TcpEntrance, TcpTransport, Transport, pair,
-};
-pub use workers::{Context, Gate, Hint, Hints, Next, Open, Outlet, Pace, Point};
+pub use job::{Job, Work, WorkerResult, start};
+pub use node_workers::{NodeWorkers, channels};
+pub use nodes::{Gathered, Nodes};
+pub use run_fault::{Cause, RunFault};
+pub use running::{Endpoint, run, run_over_tcp};
+pub use wires_transports::Transport;
+pub use wires_workers::{Gate, Point};

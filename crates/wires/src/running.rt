@@ -1,9 +1,9 @@
 //! All workers of a federation's nodes, each in a thread of its own.
 //!
-//! A member has three threads: one reads, one writes, one runs. The hub has two for each member, which read and write, and one
+//! A federate has three threads: one reads, one writes, one runs. The coordinator has two for each federate, which read and write, and one
 //! more that lets connections in. They end in any case: a runner sees within its turns that the run is to end, then writers
 //! do, then readers come to the end of what was sent.
-use crews::{Crew, Job, Left, Nodes, RunFault, channels, start};
+use crate::{Cause, Job, NodeWorkers, Nodes, RunFault, WorkerResult, channels, start};
 use crossbeam_channel::Receiver;
 use desk::Shared;
 use node::{Node, NodeId};
@@ -12,47 +12,47 @@ use std::net::{Net, TcpListener, TcpStream};
 use std::sync::Wait;
 use std::thread::Threads;
 use std::time::Clock;
-use transports::{
-    Arrived, Cut, Dial, Ending, Entrance, TcpCut, TcpDial, TcpEntrance, TcpTransport, Transport,
+use wires_transports::{
+    Accepted, Acceptor, Cut, Dial, Ending, TcpAcceptor, TcpCut, TcpDial, TcpTransport, Transport,
     listen,
 };
-use workers::{Gate, Outlet};
+use wires_workers::{Gate, WriterQueue};
 
-/// How a member connects to the hub. A run has a line for each member, in their order. The thread that makes a member's
+/// How a federate connects to the coordinator. A run has one for each federate, in their order. The thread that makes a federate's
 /// connections owns `dial` and lets it go at its end: what that holds, as the other end of `arrivals`, ends with it.
 #[derive(Drop)]
-pub struct Line<D: Drop, T: Drop, C: Drop> {
+pub struct Endpoint<D: Drop, T: Drop, C: Drop> {
     pub dial: D,
-    /// Where the hub's ends of its connections come.
-    pub arrivals: Receiver<Arrived<T, C>>,
+    /// Where the coordinator's ends of its connections come.
+    pub arrivals: Receiver<Accepted<T, C>>,
 }
 
-// A member's node, and where the hub's ends of its connections come.
+// A federate's node, and where the coordinator's ends of its connections come.
 #[derive(Drop)]
 struct Linked<'n, M: Node, T: Drop, C: Drop> {
-    crew: Crew<'n, M, T, C>,
-    arrivals: Receiver<Arrived<T, C>>,
+    workers: NodeWorkers<'n, M, T, C>,
+    arrivals: Receiver<Accepted<T, C>>,
 }
 
-// How connections are made: each member's way to the hub, and the hub's entrance.
+// How connections are made: each federate's way to the coordinator, and the coordinator's acceptor.
 #[derive(Drop)]
-struct Ways<D: Drop, E: Drop> {
+struct Dialers<D: Drop, E: Drop> {
     dials: Vec<D>,
-    entrance: E,
+    acceptor: E,
 }
 
-// What all jobs of a run are lent.
+// What all jobs of a run are passed.
 #[derive(Drop)]
-struct Lent<'a, 'n, H: Node, M: Node, G: Gate, T: Drop, C: Drop> {
-    hub: &'a Crew<'n, H, T, C>,
-    members: &'a [Linked<'n, M, T, C>],
+struct RunContext<'a, 'n, H: Node, M: Node, G: Gate, T: Drop, C: Drop> {
+    coordinator: &'a NodeWorkers<'n, H, T, C>,
+    federates: &'a [Linked<'n, M, T, C>],
     gate: &'a G,
     ending: &'a Ending,
     turns: u32,
 }
 
-/// Runs a federation in threads, until the hub is finished or a member's runner has made so many turns; what its workers left. All
-/// of them have ended when it returns, and the run is at its end. Where a thread can't be started, the others end: `NotFinished`.
+/// Runs a federation in threads, until the coordinator is finished or a federate's runner has made so many turns; what its workers leave. All
+/// of them have ended when it returns, and the run is at its end. Where a thread can't be started, the others end: `NoThread`.
 pub fn run<
     R: Threads + Wait + Clock + Sync,
     H: Node + Send,
@@ -61,22 +61,22 @@ pub fn run<
     T: Transport + Send,
     C: Cut + Send + Sync,
     D: Dial<T, C> + Drop + Send,
-    E: Entrance + Send,
+    E: Acceptor + Send,
 >(
     rt: &R,
     alloc: Global,
     nodes: &Nodes<H, M>,
-    lines: Vec<Line<D, T, C>>,
-    entrance: E,
+    lines: Vec<Endpoint<D, T, C>>,
+    acceptor: E,
     gate: &G,
     turns: u32,
-) -> Result<Vec<Option<Left>>, RunFault> {
-    let left = run_lines(rt, alloc, nodes, lines, entrance, gate, turns);
+) -> Result<Vec<Option<WorkerResult>>, RunFault> {
+    let results = run_lines(rt, alloc, nodes, lines, acceptor, gate, turns);
     nodes.ending.set();
-    left
+    results
 }
 
-// Runs a federation whose members have these lines.
+// Runs a federation whose federates have these lines.
 fn run_lines<
     R: Threads + Wait + Clock + Sync,
     H: Node + Send,
@@ -85,49 +85,64 @@ fn run_lines<
     T: Transport + Send,
     C: Cut + Send + Sync,
     D: Dial<T, C> + Drop + Send,
-    E: Entrance + Send,
+    E: Acceptor + Send,
 >(
     rt: &R,
     alloc: Global,
     nodes: &Nodes<H, M>,
-    lines: Vec<Line<D, T, C>>,
-    entrance: E,
+    lines: Vec<Endpoint<D, T, C>>,
+    acceptor: E,
     gate: &G,
     turns: u32,
-) -> Result<Vec<Option<Left>>, RunFault> {
-    let hub = Crew::new(alloc, NodeId::Coordinator, &nodes.hub, lines.len(), false)?;
-    let (members, dials) = split(alloc, nodes, lines)?;
-    let ways = Ways { dials, entrance };
-    run_all(rt, alloc, &hub, &members, ways, gate, turns, &nodes.ending)
+) -> Result<Vec<Option<WorkerResult>>, RunFault> {
+    let coordinator = NodeWorkers::new(
+        alloc,
+        NodeId::Coordinator,
+        &nodes.coordinator,
+        lines.len(),
+        false,
+    )?;
+    let (federates, dials) = split(alloc, nodes, lines)?;
+    let dialers = Dialers { dials, acceptor };
+    run_all(
+        rt,
+        alloc,
+        &coordinator,
+        &federates,
+        dialers,
+        gate,
+        turns,
+        &nodes.ending,
+    )
 }
 
-// The members, and how they connect to the hub.
+// The federates, and how they connect to the coordinator.
 fn split<'n, H: Node, M: Node, T: Drop, C: Drop, D: Drop>(
     alloc: Global,
     nodes: &'n Nodes<H, M>,
-    lines: Vec<Line<D, T, C>>,
+    lines: Vec<Endpoint<D, T, C>>,
 ) -> Result<(Vec<Linked<'n, M, T, C>>, Vec<D>), RunFault> {
-    let mut members = Vec::with_capacity(alloc, lines.len())?;
+    let mut federates = Vec::with_capacity(alloc, lines.len())?;
     let mut dials = Vec::with_capacity(alloc, lines.len())?;
-    for (number, (line, shared)) in lines.into_iter().zip(&nodes.members).enumerate() {
+    for (number, (line, shared)) in lines.into_iter().zip(&nodes.federates).enumerate() {
         dials.push(line.dial)?;
-        members.push(link(alloc, number, shared, line.arrivals)?)?;
+        federates.push(link(alloc, number, shared, line.arrivals)?)?;
     }
-    Ok((members, dials))
+    Ok((federates, dials))
 }
 
-// The member of this number, and where the hub's ends of its connections come.
+// The federate of this number, and where the coordinator's ends of its connections come.
 fn link<'n, M: Node, T: Drop, C: Drop>(
     alloc: Global,
     number: usize,
     shared: &'n Shared<M>,
-    arrivals: Receiver<Arrived<T, C>>,
+    arrivals: Receiver<Accepted<T, C>>,
 ) -> Result<Linked<'n, M, T, C>, RunFault> {
-    let crew = Crew::new(alloc, NodeId::Federate(number), shared, 1, true)?;
-    Ok(Linked { crew, arrivals })
+    let workers = NodeWorkers::new(alloc, NodeId::Federate(number), shared, 1, true)?;
+    Ok(Linked { workers, arrivals })
 }
 
-// Runs all workers; what they left.
+// Runs all workers; what they leave.
 fn run_all<
     'a,
     'n,
@@ -138,54 +153,54 @@ fn run_all<
     T: Transport + Send,
     C: Cut + Send + Sync,
     D: Dial<T, C> + Drop + Send,
-    E: Entrance + Send,
+    E: Acceptor + Send,
 >(
     rt: &R,
     alloc: Global,
-    hub: &'a Crew<'n, H, T, C>,
-    members: &'a [Linked<'n, M, T, C>],
-    ways: Ways<D, E>,
+    coordinator: &'a NodeWorkers<'n, H, T, C>,
+    federates: &'a [Linked<'n, M, T, C>],
+    dialers: Dialers<D, E>,
     gate: &'a G,
     turns: u32,
     ending: &'a Ending,
-) -> Result<Vec<Option<Left>>, RunFault> {
-    if members.is_empty() {
+) -> Result<Vec<Option<WorkerResult>>, RunFault> {
+    if federates.is_empty() {
         ending.set();
     }
-    let lent = Lent {
-        hub,
-        members,
+    let run = RunContext {
+        coordinator,
+        federates,
         gate,
         ending,
         turns,
     };
-    let jobs = jobs_of(alloc, &lent, ways)?;
+    let jobs = jobs_of(alloc, &run, dialers)?;
     start(rt, alloc, jobs, ending)
 }
 
 // The jobs of a run, in the order in which they are started.
 fn jobs_of<'a, 'n, H: Node, M: Node, G: Gate, T: Drop, C: Drop, D: Drop, E: Drop>(
     alloc: Global,
-    lent: &Lent<'a, 'n, H, M, G, T, C>,
-    ways: Ways<D, E>,
+    run: &RunContext<'a, 'n, H, M, G, T, C>,
+    dialers: Dialers<D, E>,
 ) -> Result<Vec<Job<'a, H, M, G, T, C, D, E>>, RunFault> {
     let mut jobs = Vec::new(alloc);
-    let Ways { dials, entrance } = ways;
-    jobs.push(Job::LetIn(entrance, lent.ending))?;
-    add_workers(&mut jobs, lent)?;
-    add_readers(&mut jobs, lent, dials)?;
+    let Dialers { dials, acceptor } = dialers;
+    jobs.push(Job::LetIn(acceptor, run.ending))?;
+    add_workers(&mut jobs, run)?;
+    add_readers(&mut jobs, run, dials)?;
     Ok(jobs)
 }
 
-// Adds the hub's writers, then each member's writers and runner.
+// Adds the coordinator's writers, then each federate's writers and runner.
 fn add_workers<'a, 'n, H: Node, M: Node, G: Gate, T: Drop, C: Drop, D: Drop, E: Drop>(
     jobs: &mut Vec<Job<'a, H, M, G, T, C, D, E>>,
-    lent: &Lent<'a, 'n, H, M, G, T, C>,
+    run: &RunContext<'a, 'n, H, M, G, T, C>,
 ) -> Result<(), RunFault> {
-    add_writers(jobs, &lent.hub.writers, lent.ending)?;
-    for member in lent.members {
-        add_writers(jobs, &member.crew.writers, lent.ending)?;
-        add_runner(jobs, lent, &member.crew)?;
+    add_writers(jobs, &run.coordinator.writers, run.ending)?;
+    for federate in run.federates {
+        add_writers(jobs, &federate.workers.writers, run.ending)?;
+        add_runner(jobs, run, &federate.workers)?;
     }
     Ok(())
 }
@@ -193,7 +208,7 @@ fn add_workers<'a, 'n, H: Node, M: Node, G: Gate, T: Drop, C: Drop, D: Drop, E: 
 // Adds a node's writers.
 fn add_writers<'a, H: Node, M: Node, G: Gate, T: Drop, C: Drop, D: Drop, E: Drop>(
     jobs: &mut Vec<Job<'a, H, M, G, T, C, D, E>>,
-    writers: &'a [Outlet<T, C>],
+    writers: &'a [WriterQueue<T, C>],
     ending: &'a Ending,
 ) -> Result<(), RunFault> {
     for writer in writers {
@@ -202,28 +217,28 @@ fn add_writers<'a, H: Node, M: Node, G: Gate, T: Drop, C: Drop, D: Drop, E: Drop
     Ok(())
 }
 
-// Adds a member's runner.
+// Adds a federate's runner.
 fn add_runner<'a, 'n, H: Node, M: Node, G: Gate, T: Drop, C: Drop, D: Drop, E: Drop>(
     jobs: &mut Vec<Job<'a, H, M, G, T, C, D, E>>,
-    lent: &Lent<'a, 'n, H, M, G, T, C>,
-    crew: &'a Crew<'n, M, T, C>,
+    run: &RunContext<'a, 'n, H, M, G, T, C>,
+    workers: &'a NodeWorkers<'n, M, T, C>,
 ) -> Result<(), RunFault> {
-    if let Some(hints) = &crew.runner {
-        jobs.push(Job::Run(crew.context(lent.gate, lent.ending), hints, lent.turns))?;
+    if let Some(wake_ups) = &workers.runner {
+        jobs.push(Job::Run(workers.context(run.gate, run.ending), wake_ups, run.turns))?;
     }
     Ok(())
 }
 
-// Adds for each member the hub's reader, and after it the member's own.
+// Adds for each federate the coordinator's reader, and after it the federate's own.
 fn add_readers<'a, 'n, H: Node, M: Node, G: Gate, T: Drop, C: Drop, D: Drop, E: Drop>(
     jobs: &mut Vec<Job<'a, H, M, G, T, C, D, E>>,
-    lent: &Lent<'a, 'n, H, M, G, T, C>,
+    run: &RunContext<'a, 'n, H, M, G, T, C>,
     dials: Vec<D>,
 ) -> Result<(), RunFault> {
-    for (number, (member, dial)) in lent.members.iter().zip(dials).enumerate() {
-        let hub = lent.hub.context(lent.gate, lent.ending);
-        jobs.push(Job::Read(hub, number, &member.arrivals))?;
-        let own = member.crew.context(lent.gate, lent.ending);
+    for (number, (federate, dial)) in run.federates.iter().zip(dials).enumerate() {
+        let coordinator = run.coordinator.context(run.gate, run.ending);
+        jobs.push(Job::Read(coordinator, number, &federate.arrivals))?;
+        let own = federate.workers.context(run.gate, run.ending);
         jobs.push(Job::Connect(own, dial))?;
     }
     Ok(())
@@ -241,9 +256,9 @@ pub fn run_over_tcp<
     nodes: &Nodes<H, M>,
     gate: &G,
     turns: u32,
-) -> Result<Vec<Option<Left>>, RunFault> {
-    match open(rt, alloc, nodes.members.len()) {
-        Ok((lines, entrance)) => run(rt, alloc, nodes, lines, entrance, gate, turns),
+) -> Result<Vec<Option<WorkerResult>>, RunFault> {
+    match open(rt, alloc, nodes.federates.len()) {
+        Ok((lines, acceptor)) => run(rt, alloc, nodes, lines, acceptor, gate, turns),
         Err(fault) => {
             nodes.ending.set();
             Err(fault)
@@ -251,23 +266,29 @@ pub fn run_over_tcp<
     }
 }
 
-// An entrance on a port that the system gives, and for each of so many members a line to it.
+// An acceptor on a port that the system gives, and for each of so many federates a line to it.
 fn open<'a, R: Net<Stream = TcpStream, Listener = TcpListener>>(
     rt: &'a R,
     alloc: Global,
     count: usize,
-) -> Result<(Vec<Line<TcpDial<'a, R>, TcpTransport, TcpCut>>, TcpEntrance), RunFault> {
+) -> Result<
+    (
+        Vec<Endpoint<TcpDial<'a, R>, TcpTransport, TcpCut>>,
+        TcpAcceptor,
+    ),
+    RunFault,
+> {
     let Ok(listener) = listen(rt) else {
-        return Err(RunFault::NotFinished);
+        return Err(RunFault::NotFinished(Cause::NoListener));
     };
     let Ok(address) = listener.local_addr() else {
-        return Err(RunFault::NotFinished);
+        return Err(RunFault::NotFinished(Cause::NoListener));
     };
     let (readers, arrivals) = channels(alloc, count)?;
     let mut lines = Vec::with_capacity(alloc, count)?;
     for arrivals in arrivals {
         let dial = TcpDial { net: rt, address };
-        lines.push(Line { dial, arrivals })?;
+        lines.push(Endpoint { dial, arrivals })?;
     }
-    Ok((lines, TcpEntrance::new(alloc, listener, readers)?))
+    Ok((lines, TcpAcceptor::new(alloc, listener, readers)?))
 }

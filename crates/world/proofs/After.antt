@@ -6,16 +6,16 @@ use Rattle.std.proofs.lemmas.List.Folds.{list_any-append}
 use Rattle.std.proofs.Math.Bool.{or-false}
 use Rattle.plan.specs.declared.draft.Draft.{Draft}
 use Rattle.plan.specs.declared.input.Input.{Input}
-use Rattle.program.specs.Behaviour.{Behaviour}
-use Rattle.cores.specs.FederateCore.{FederateNode}
-use Rattle.cores.specs.CoordinatorCore.{CoordinatorNode}
-use Rattle.schedule.specs.declared.step.Step.{Step}
-use Rattle.schedule.specs.declared.outcome.Outcome.{Outcome}
-use Rattle.schedule.specs.Kept.{is_forget}
-use Rattle.schedule.specs.World.{Applied}
-use Rattle.schedule.specs.Federation.{Federation, world_after, step_in}
-use Rattle.schedule.proofs.Worlds.{listed_so, one_more}
-use Rattle.world.specs.Made.{IsMade}
+use Rattle.reactor_program.specs.Behaviour.{Behaviour}
+use Rattle.node_cores.specs.FederateCore.{FederateNode}
+use Rattle.node_cores.specs.CoordinatorCore.{CoordinatorNode}
+use Rattle.world_stations.specs.declared.step.Step.{Step}
+use Rattle.world_stations.specs.declared.outcome.Outcome.{Outcome}
+use Rattle.world_stations.specs.Kept.{is_forget}
+use Rattle.world_stations.specs.World.{Applied}
+use Rattle.world_stations.specs.Federation.{Federation, world_after, step_in}
+use Rattle.world_stations.proofs.Worlds.{listed_so, one_more}
+use Rattle.world.specs.Invariant.{IsMade}
 
 -- the world after one more step of it
 record IsStepped (d : Draft) (programs : List Behaviour) (inputs : List Input) (stations later : Federation) (step : Step) (o : Outcome) : Type 0 where

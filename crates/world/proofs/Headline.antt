@@ -1,18 +1,18 @@
 -- What holds of every world, by the laws of a federation's worlds.
 use Rattle.std.proofs.Common.{◌≡◌, List, sym, subst}
 use Rattle.plan.specs.Federation.{federate_count}
-use Rattle.federation.proofs.LawfulNetwork.{gives_lawful_with}
-use Rattle.cores.specs.FederateCore.{federate_core}
-use Rattle.cores.specs.CoordinatorCore.{coordinator_core}
-use Rattle.schedule.specs.declared.limits.TheConstants.{LINK_ROOM}
-use Rattle.schedule.specs.declared.step.Step.{Step}
-use Rattle.schedule.specs.declared.outcome.Outcome.{Outcome}
-use Rattle.schedule.specs.Federation.{opening_coordinator, opening_member, step_in, IsPlain}
-use Rattle.schedule.proofs.InOrder.{taken_in_order}
-use Rattle.schedule.proofs.Late.{nothing_late}
-use Rattle.schedule.proofs.Rows.{rows_begin, stuck_rows, finished_rows}
-use Rattle.schedule.proofs.Worlds.{refusals_are_plain}
-use Rattle.world.specs.Made.{IsFederation}
+use Rattle.plan_network.proofs.LawfulNetwork.{gives_lawful_with}
+use Rattle.node_cores.specs.FederateCore.{federate_core}
+use Rattle.node_cores.specs.CoordinatorCore.{coordinator_core}
+use Rattle.world_stations.specs.declared.limits.TheConstants.{LINK_ROOM}
+use Rattle.world_stations.specs.declared.step.Step.{Step}
+use Rattle.world_stations.specs.declared.outcome.Outcome.{Outcome}
+use Rattle.world_stations.specs.Federation.{initial_coordinator, initial_member, step_in, IsPlain}
+use Rattle.world_stations.proofs.InOrder.{taken_in_order}
+use Rattle.world_stations.proofs.Late.{nothing_late}
+use Rattle.world_stations.proofs.Rows.{rows_begin, stuck_rows, finished_rows}
+use Rattle.world_stations.proofs.Worlds.{refusals_are_plain}
+use Rattle.world.specs.Invariant.{IsFederation}
 use Rattle.world.specs.World.{WorldView, stations_of, with_steps}
 use Rattle.world.specs.Faithful.{IsFaithful, ArePlain}
 
@@ -21,10 +21,10 @@ faithful w fit =
     let lawful = gives_lawful_with w.draft w.programs w.inputs fit.legal fit.programs_fit fit.inputs_fit in
     record {
       nothing_late = λ j. nothing_late w.draft w.programs w.inputs w.steps j lawful;
-      beginning = λ j below kept. rows_begin w.draft w.programs w.inputs w.steps j lawful below kept;
+      prefix = λ j below kept. rows_begin w.draft w.programs w.inputs w.steps j lawful below kept;
       stuck = λ stuck j below. stuck_rows w.draft w.programs w.inputs w.steps j lawful stuck below;
       finished = λ finished j below. finished_rows w.draft w.programs w.inputs w.steps j lawful finished below;
-      in_order = taken_in_order coordinator_core federate_core (opening_coordinator w.draft) (federate_count w.draft) (opening_member w.draft w.programs w.inputs) LINK_ROOM w.steps;
+      in_order = taken_in_order coordinator_core federate_core (initial_coordinator w.draft) (federate_count w.draft) (initial_member w.draft w.programs w.inputs) LINK_ROOM w.steps;
     }
 
 pub plain : (w : WorldView) → IsFederation w → ArePlain w

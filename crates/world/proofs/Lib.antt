@@ -5,7 +5,7 @@ pub mod Seen
 -- One more step.
 pub mod After
 -- The stations before the first step.
-pub mod Opening
+pub mod InitialStations
 -- A federate that isn't there has nothing to announce and nothing to run.
 pub mod Silence
 -- When a world is stuck.

@@ -3,11 +3,11 @@ use Rattle.std.proofs.Common.{◌≡◌, Bool, List, subst}
 use Rattle.std.specs.List.{list_any}
 use Rattle.plan.specs.declared.draft.Draft.{Draft}
 use Rattle.plan.specs.declared.input.Input.{Input}
-use Rattle.program.specs.Behaviour.{Behaviour}
-use Rattle.schedule.specs.Kept.{is_forget}
-use Rattle.schedule.specs.Federation.{Federation}
+use Rattle.reactor_program.specs.Behaviour.{Behaviour}
+use Rattle.world_stations.specs.Kept.{is_forget}
+use Rattle.world_stations.specs.Federation.{Federation}
 use Rattle.world.specs.World.{WorldView, stations_of}
-use Rattle.world.specs.Made.{IsFederation, IsMade}
+use Rattle.world.specs.Invariant.{IsFederation, IsMade}
 
 -- what the fields are, by the value
 pub record IsSeen (v : WorldView) (stations : Federation) (forgotten : Bool) : Type 0 where

@@ -3,11 +3,11 @@ use Rattle.std.proofs.Common.{◌≡◌, ℕ, Bool, true, false, length, slice_g
 use Rattle.node.specs.declared.event.Event.{Event}
 use Rattle.node.specs.declared.event.Event.TheVariants as event
 use Rattle.node.specs.declared.node_id.NodeId.TheVariants.{Federate}
-use Rattle.cores.specs.FederateCore.{federate_core}
-use Rattle.cores.specs.CoordinatorCore.{coordinator_core}
-use Rattle.schedule.specs.declared.outcome.Outcome.TheVariants as outcome
-use Rattle.schedule.specs.World.{happens}
-use Rattle.schedule.specs.Federation.{Federation}
+use Rattle.node_cores.specs.FederateCore.{federate_core}
+use Rattle.node_cores.specs.CoordinatorCore.{coordinator_core}
+use Rattle.world_stations.specs.declared.outcome.Outcome.TheVariants as outcome
+use Rattle.world_stations.specs.World.{happens}
+use Rattle.world_stations.specs.Federation.{Federation}
 use Rattle.world.specs.Quiet.{IsSilent}
 
 absent : (w : Federation) (j : ℕ) (e : Event) (b : Bool) → slice_get w.federates j ≡ None →

@@ -1,19 +1,19 @@
 -- When a world is stuck: nobody forgot, and nothing is left to be done at any federate.
 use Rattle.std.proofs.Common.{◌≡◌, ℕ, ◌<◌, ◌≤◌, inl, inr, false, slice_get, None, ◌↔◌, ap, ◌∙◌, arith}
 use Rattle.plan.specs.Federation.{federate_count}
-use Rattle.federation.proofs.LawfulNetwork.{gives_lawful_with}
+use Rattle.plan_network.proofs.LawfulNetwork.{gives_lawful_with}
 use Rattle.std.specs.List.{list_any}
 use Rattle.std.proofs.lemmas.Bool.{cases_lt}
-use Rattle.schedule.specs.declared.dir.Dir.{Dir}
-use Rattle.schedule.specs.declared.dir.Dir.TheVariants.{Up, Down}
-use Rattle.schedule.specs.Kept.{is_forget}
-use Rattle.schedule.specs.Federation.{Federation, IsStuck}
-use Rattle.schedule.proofs.Emptied.{shows_at_the_ends}
-use Rattle.schedule.proofs.Shown.{nothing_beyond}
-use Rattle.schedule.proofs.Worlds.{stands, listed_so}
-use Rattle.world.specs.Made.{IsFederation}
+use Rattle.world_stations.specs.declared.dir.Dir.{Dir}
+use Rattle.world_stations.specs.declared.dir.Dir.TheVariants.{Up, Down}
+use Rattle.world_stations.specs.Kept.{is_forget}
+use Rattle.world_stations.specs.Federation.{Federation, IsStuck}
+use Rattle.world_stations.proofs.Emptied.{shows_at_the_ends}
+use Rattle.world_stations.proofs.Shown.{nothing_beyond}
+use Rattle.world_stations.proofs.Worlds.{stands, listed_so}
+use Rattle.world.specs.Invariant.{IsFederation}
 use Rattle.world.specs.World.{WorldView, stations_of}
-use Rattle.stage.specs.Acknowledged.{KeepsNone}
+use Rattle.world_stations.specs.Acknowledged.{KeepsNone}
 use Rattle.world.specs.Quiet.{IsQuiet}
 use Rattle.world.proofs.Silence.{silent_where_none}
 

@@ -5,4 +5,4 @@ pub mod Faithful
 -- A federate for which nothing is left to be done.
 pub mod Quiet
 -- What every world keeps.
-pub mod Made
+pub mod Invariant

@@ -1,9 +1,9 @@
 -- A federate for which nothing is left to be done.
 use Rattle.std.specs.Prelude.{◌≡◌, ℕ}
-use Rattle.schedule.specs.declared.step.Step.TheVariants.{Announce, Advance}
-use Rattle.schedule.specs.declared.outcome.Outcome.TheVariants.{Nothing}
-use Rattle.schedule.specs.Federation.{Federation, step_in}
-use Rattle.stage.specs.Acknowledged.{IsAcknowledged}
+use Rattle.world_stations.specs.declared.step.Step.TheVariants.{Announce, Advance}
+use Rattle.world_stations.specs.declared.outcome.Outcome.TheVariants.{Nothing}
+use Rattle.world_stations.specs.Federation.{Federation, step_in}
+use Rattle.world_stations.specs.Acknowledged.{IsAcknowledged}
 
 -- federate j has nothing to announce and nothing to run
 pub record IsSilent (w : Federation) (j : ℕ) : Type 0 where

@@ -2,9 +2,9 @@
 use Rattle.std.specs.Prelude.{List, [], ◌∷◌, ◌++◌}
 use Rattle.plan.specs.declared.draft.Draft.{Draft}
 use Rattle.plan.specs.declared.input.Input.{Input}
-use Rattle.program.specs.Behaviour.{Behaviour}
-use Rattle.schedule.specs.declared.step.Step.{Step}
-use Rattle.schedule.specs.Federation.{Federation, world_after}
+use Rattle.reactor_program.specs.Behaviour.{Behaviour}
+use Rattle.world_stations.specs.declared.step.Step.{Step}
+use Rattle.world_stations.specs.Federation.{Federation, world_after}
 
 -- what a federation is made of, and the steps made, oldest first
 pub record WorldView : Type 0 where

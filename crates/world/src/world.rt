@@ -3,29 +3,28 @@ ghost use Rattle.std.specs.List.{list_any};
 ghost use Rattle.link.specs.Image.{room_left};
 ghost use Rattle.plan.specs.External.{AreInputsOf};
 ghost use Rattle.plan.specs.Federation.{federate_count};
-ghost use Rattle.programs.specs.Programs.{AreProgramsOf};
-ghost use Rattle.cores.specs.CoordinatorCore.{coordinator_core};
-ghost use Rattle.schedule.specs.Federation.{step_in, IsPlain, IsStuck};
-ghost use Rattle.schedule.specs.Kept.{is_kept, is_forget, is_forget_of};
-ghost use Rattle.schedule.specs.Taken.{sender};
-ghost use Rattle.schedule.specs.World.{frames_in, frame_at};
+ghost use Rattle.reactor_programs.specs.Programs.{AreProgramsOf};
+ghost use Rattle.node_cores.specs.CoordinatorCore.{coordinator_core};
+ghost use Rattle.world_stations.specs.Federation.{step_in, IsPlain, IsStuck};
+ghost use Rattle.world_stations.specs.Kept.{is_kept, is_forget, is_forget_of};
+ghost use Rattle.world_stations.specs.Taken.{sender};
+ghost use Rattle.world_stations.specs.World.{frames_in, frame_at};
 ghost use Rattle.world.specs.World.{stations_of, with_step, with_steps};
-ghost use Rattle.world.specs.Made.{IsFederation};
+ghost use Rattle.world.specs.Invariant.{IsFederation};
 ghost use Rattle.world.specs.Faithful.{IsFaithful, ArePlain};
 ghost use Rattle.world.specs.Quiet.{IsQuiet, IsSilent};
 
-use crate::opened::{new_hub, new_members};
+use crate::initial::{new_coordinator, new_federates};
 use coordinator::Coordinator;
 use federate::Federate;
 use node::Node;
 use plan::{Inputs, Plan};
-use programs::Programs;
 use reactor::Rows;
-use schedule::{Dir, Outcome, Step};
+use reactor_programs::Programs;
 use signal::Frame;
-use stage::{Memory, Stations};
 use std::alloc::Global;
 use std::marker::Model;
+use world_stations::{Dir, Memory, Outcome, Stations, Step};
 
 /// A world of a federation: its coordinator, its federates, and all frames that they ever sent. Contracts see what it was made
 /// from and the steps made: all else follows from them.
@@ -42,7 +41,7 @@ pub struct World<'a> {
 
 impl<'a> Model for World<'a> {
     ghost use Rattle.world.specs.World.{WorldView};
-    ghost use Rattle.world.specs.Made.{IsMade};
+    ghost use Rattle.world.specs.Invariant.{IsMade};
 
     ghost Value = { WorldView };
 
@@ -68,9 +67,9 @@ impl<'a> World<'a> {
         requires inputs { AreInputsOf plan.now inputs.now }
         ensures { IfOk result (λ world. world ≡ record { draft = plan.now; programs = programs.now; inputs = inputs.now; steps = [] }) }
     {
-        plan.known();
-        let coordinator = new_hub(alloc, plan)?;
-        let federates = new_members(alloc, plan, programs, inputs)?;
+        plan.invariant();
+        let coordinator = new_coordinator(alloc, plan)?;
+        let federates = new_federates(alloc, plan, programs, inputs)?;
         let made = Stations::new(alloc, coordinator, federates)?;
         let stations = Box::new(alloc, made)?;
         Ok(World {
@@ -83,7 +82,7 @@ impl<'a> World<'a> {
     }
 
     /// What holds of every world.
-    pub fn known(&self)
+    pub fn invariant(&self)
         ensures { IsFaithful self.now }
     {
         let _ = &self.plan;
@@ -95,7 +94,7 @@ impl<'a> World<'a> {
         ensures done { OnOk result (self.new ≡ with_step self.old step) }
         ensures told { IfOk result (λ outcome. outcome ≡ (step_in (stations_of self.old) step).outcome) }
         ensures plain { IfOk result IsPlain }
-        ensures as_before { OnErr result (self.new ≡ self.old) }
+        ensures unchanged { OnErr result (self.new ≡ self.old) }
         ensures faithful { IsFaithful self.new }
     {
         let outcome = self.stations.apply(step)?;

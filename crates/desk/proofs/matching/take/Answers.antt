@@ -5,6 +5,6 @@ use Rattle.desk.proofs.matching.take.Goals as goal
 pub returns-clause-none : goal.returns-clause-none
 returns-clause-none c =
     λ _ journal is.
-    rw (← (c.loop-position.invariant.same ∙ c.if-take_at.ensures.as_before refl))
+    rw (← (c.loop-position.invariant.same ∙ c.if-take_at.ensures.unchanged refl))
     (no_step_back journal c.args.slip.now c.loop-position.shares
     (none_of_all c.loop-position.shares c.args.slip.now c.loop-position.position (omega arith) c.loop-position.invariant.none) is)

@@ -1,7 +1,7 @@
 use Rattle.std.proofs.Common.{◌≡◌, ◌++◌, [], map, take}
 use Rattle.network.specs.Event.{value_at}
-use Rattle.federation.specs.Network.{network_of}
-use Rattle.cores.specs.FederateCore.{to_coordinator}
+use Rattle.plan_network.specs.Network.{network_of}
+use Rattle.node_cores.specs.FederateCore.{to_coordinator}
 use Rattle.federate.specs.Outlets.{messages_by}
 use Rattle.federate.proofs.messages.add_messages.Given as goal
 

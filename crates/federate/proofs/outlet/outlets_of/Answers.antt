@@ -6,7 +6,7 @@ use Rattle.federate.proofs.outlet.outlets_of.Goals.{then-source-federate+in_ok-p
 
 pub overflow_cast-number : goal.overflow_cast-number
 overflow_cast-number c =
-    let few = few_connections c.args.plan.now c.known.ensures in
+    let few = few_connections c.args.plan.now c.invariant.ensures in
     let within : c.loop-number.number < length (connections_of c.args.plan.now) = rw (← c.connections-connection-items.ensures) c.loop-number-test.true in
     omega arith
 

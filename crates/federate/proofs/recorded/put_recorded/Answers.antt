@@ -1,5 +1,5 @@
 use Rattle.std.proofs.Common.{◌∙◌, ap, sym, [], ◌∷◌, map, length, ◌<◌}
-use Rattle.network.specs.Undone.{put_all, held_of}
+use Rattle.network.specs.Undone.{put_all, pending_event_of}
 use Rattle.plan.specs.External.{input_events_to}
 use Rattle.federate.proofs.RecordedInputs.{put_more}
 use Rattle.federate.proofs.recorded.put_recorded.Goals as goal
@@ -11,6 +11,6 @@ loop-input-preserved c =
     record {
       stop = c.in_ok-put_own.ensures.stop ∙ c.loop-input.invariant.stop;
       undone = c.in_ok-put_own.ensures.undone
-          ∙ ap (put_all (map held_of (input_events_to c.args.plan.now (c.input-item.result ∷ []) c.args.federate))) c.loop-input.invariant.undone
+          ∙ ap (put_all (map pending_event_of (input_events_to c.args.plan.now (c.input-item.result ∷ []) c.args.federate))) c.loop-input.invariant.undone
           ∙ sym (put_more c.args.plan.now c.args.inputs.now c.loop-input.input-index c.input-item.result c.args.federate c.args.agenda.now.undone within is);
     }

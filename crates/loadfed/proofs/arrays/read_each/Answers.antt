@@ -1,5 +1,5 @@
 use Rattle.std.proofs.lemmas.Result.{err_from_is_err_and}
-use Rattle.tables.specs.Sections.{members_of}
+use Rattle.loadfed_tables.specs.Sections.{members_of}
 use Rattle.loadfed.proofs.TableReadings.{read_none, read_more, read_all, array_told, entry_told, inside_told}
 use Rattle.loadfed.proofs.arrays.read_each.Goals as goal
 

@@ -3,7 +3,7 @@ use Rattle.std.proofs.lemmas.Bool.{false≢true}
 use Rattle.std.proofs.lemmas.Result.{err_from_is_err_and}
 use Rattle.plan.specs.declared.draft.Draft.{Draft}
 use Rattle.loadfed.specs.Ready.{AreReady}
-use Rattle.tables.proofs.Refusals.{first_of}
+use Rattle.loadfed_tables.proofs.Refusals.{first_of}
 use Rattle.loadfed.proofs.Parsed.{have_slots}
 use Rattle.loadfed.proofs.Planned.{among_legal}
 use Rattle.loadfed.proofs.federation.loaded.Goals as goal

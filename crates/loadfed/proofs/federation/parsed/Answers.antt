@@ -24,7 +24,7 @@ program-requires c =
     let inv = rw c.federates-federates.ensures at c.loop-federate.invariant.1 in
     let low = rw c.federates-federates.ensures at c.loop-federate-test.true in
     let here = rw c.federates-federates.ensures at c.federate-item.is in
-    readable c.args.plan.now c.args.shapes.items (into_iter_items c.loop-federate.shapes) (into_iter_items c.next.new.self) c.loop-federate.programs.items c.loop-federate.federate-index c.federate-item.result c.in-Some.shape c.known.ensures c.requires inv c.in-Some.ensures.cases.0 low here
+    readable c.args.plan.now c.args.shapes.items (into_iter_items c.loop-federate.shapes) (into_iter_items c.next.new.self) c.loop-federate.programs.items c.loop-federate.federate-index c.federate-item.result c.in-Some.shape c.invariant.ensures c.requires inv c.in-Some.ensures.cases.0 low here
 
 pub returns-in_err-program-in-Some-clause-refused : goal.returns-in_err-program-in-Some-clause-refused
 returns-in_err-program-in-Some-clause-refused c =

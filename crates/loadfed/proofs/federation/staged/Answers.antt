@@ -1,7 +1,7 @@
 use Rattle.std.proofs.Common.{◌<◌, ◌≤◌, length, refl, arith}
 use Rattle.std.proofs.lemmas.Result.{err_from_is_err_and}
 use Rattle.toml.specs.View.{table_view}
-use Rattle.tables.specs.Sections.{members_of}
+use Rattle.loadfed_tables.specs.Sections.{members_of}
 use Rattle.loadfed.specs.declared.federation.TheConstants.{MOST_BYTES}
 use Rattle.loadfed.specs.Loaded.{too_long}
 use Rattle.loadfed.proofs.Names.{all_ready}

@@ -1,6 +1,6 @@
 use Rattle.std.proofs.lemmas.Result.{err_from_is_err_and}
-use Rattle.tables.specs.Sections.{members_of}
-use Rattle.tables.proofs.Refusals.{weaker, told}
+use Rattle.loadfed_tables.specs.Sections.{members_of}
+use Rattle.loadfed_tables.proofs.Refusals.{weaker, told}
 use Rattle.loadfed.proofs.ShapeReadings.{name_of_federate, no_federate_name}
 use Rattle.loadfed.proofs.federation_shape.federate_name.Goals as goal
 

@@ -1,9 +1,9 @@
 use Rattle.std.proofs.lemmas.Result.{err_from_is_err_and}
 use Rattle.std.proofs.Common.{codes}
-use Rattle.tables.specs.Sections.{members_of}
+use Rattle.loadfed_tables.specs.Sections.{members_of}
 use Rattle.loadfed.specs.ShapeFaults.{HasFederateFault, HasTablesFault}
 use Rattle.loadfed.proofs.ShapeReadings.{federates_parted}
-use Rattle.tables.proofs.Refusals.{memory_alone}
+use Rattle.loadfed_tables.proofs.Refusals.{memory_alone}
 use Rattle.loadfed.proofs.federation_shape.federates.Goals as goal
 
 pub returns-in_err-shapes-clause-refused : goal.returns-in_err-shapes-clause-refused

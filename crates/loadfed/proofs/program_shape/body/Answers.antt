@@ -1,5 +1,5 @@
 use Rattle.std.proofs.lemmas.Result.{err_from_is_err_and}
-use Rattle.tables.proofs.Refusals.{first_of}
+use Rattle.loadfed_tables.proofs.Refusals.{first_of}
 use Rattle.loadfed.proofs.program_shape.body.Goals as goal
 
 pub returns-in_err-body-clause-refused : goal.returns-in_err-body-clause-refused

@@ -1,11 +1,11 @@
 use Rattle.std.proofs.lemmas.Result.{err_from_is_err_and}
 use Rattle.std.proofs.Common.{codes, arith}
-use Rattle.tables.specs.Sections.{members_of}
+use Rattle.loadfed_tables.specs.Sections.{members_of}
 use Rattle.loadfed.specs.Shape.{SaysState}
 use Rattle.loadfed.specs.ShapeFaults.{HasStateFault}
 use Rattle.loadfed.proofs.TableReadings.{array_told}
 use Rattle.loadfed.proofs.OneReading.{each_few}
-use Rattle.tables.proofs.Refusals.{second_of}
+use Rattle.loadfed_tables.proofs.Refusals.{second_of}
 use Rattle.loadfed.proofs.program_shape.states.Goals as goal
 
 pub returns-clause-few : goal.returns-clause-few

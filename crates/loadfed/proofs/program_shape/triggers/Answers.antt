@@ -1,8 +1,8 @@
 use Rattle.std.proofs.Common.{◌≡◌, length, sym, ◌∙◌, arith}
 use Rattle.std.proofs.lemmas.Bool.Decides.{nat_tests}
 use Rattle.std.proofs.lemmas.Result.{err_from_is_err_and}
-use Rattle.tables.specs.Sections.{members_of}
-use Rattle.tables.proofs.Refusals.{weaker, told}
+use Rattle.loadfed_tables.specs.Sections.{members_of}
+use Rattle.loadfed_tables.proofs.Refusals.{weaker, told}
 use Rattle.std.proofs.lemmas.List.{nil_from_length}
 use Rattle.loadfed.proofs.ShapeReadings.{texts_of_triggers, no_triggers}
 use Rattle.loadfed.proofs.program_shape.triggers.Goals as goal

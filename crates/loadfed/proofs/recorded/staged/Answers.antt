@@ -1,7 +1,7 @@
 use Rattle.std.proofs.Common.{◌<◌, ◌≤◌, length, refl, arith}
 use Rattle.std.proofs.lemmas.Result.{err_from_is_err_and}
 use Rattle.toml.specs.View.{table_view}
-use Rattle.tables.specs.Sections.{members_of}
+use Rattle.loadfed_tables.specs.Sections.{members_of}
 use Rattle.loadfed.specs.declared.recorded.TheConstants.{MOST_INPUT_BYTES}
 use Rattle.loadfed.specs.InputShape.{too_long}
 use Rattle.loadfed.proofs.InputReadings.{input_table_told, input_shape_told, checked_told}

@@ -25,7 +25,7 @@ returns-then-is_err-clause-none_lost c p =
 pub returns-then-is_err-clause-images : goal.returns-then-is_err-clause-images
 returns-then-is_err-clause-images c =
     let found : slice_get c.args.ends.now.items c.args.peer ≡ Some c.in-Some.end.now = grind (arith, found_at, c.in-Some.ensures) in
-    images_same c.args.ends.now.items c.args.peer c.in-Some.end.now c.reserve.new.self found c.reserve.ensures.as_before
+    images_same c.args.ends.now.items c.args.peer c.in-Some.end.now c.reserve.new.self found c.reserve.ensures.unchanged
 
 pub returns-clause-answer : goal.returns-clause-answer
 returns-clause-answer c _ =
@@ -48,4 +48,4 @@ returns-clause-none_lost c p =
 pub returns-clause-images : goal.returns-clause-images
 returns-clause-images c =
     let found : slice_get c.args.ends.now.items c.args.peer ≡ Some c.in-Some.end.now = grind (arith, found_at, c.in-Some.ensures) in
-    images_same c.args.ends.now.items c.args.peer c.in-Some.end.now c.reserve.new.self found c.reserve.ensures.as_before
+    images_same c.args.ends.now.items c.args.peer c.in-Some.end.now c.reserve.new.self found c.reserve.ensures.unchanged

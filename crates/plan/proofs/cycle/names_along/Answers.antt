@@ -4,7 +4,7 @@ use Rattle.plan.specs.declared.draft.Federate.{Federate}
 use Rattle.plan.specs.Federation.{federate_names}
 use Rattle.network.specs.Connection.{Connection}
 use Rattle.plan.proofs.Cycles.{mapped_more}
-use Rattle.names.proofs.Twice.{mapped_at}
+use Rattle.plan_names.proofs.Twice.{mapped_at}
 use Rattle.plan.proofs.cycle.names_along.Goals as goal
 
 pub loop-connection-preserved : goal.loop-connection-preserved

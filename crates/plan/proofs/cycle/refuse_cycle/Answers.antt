@@ -1,7 +1,7 @@
 use Rattle.std.proofs.Common.{rules, ◌<◌, ℕ, ap, sym, length, subst}
 use Rattle.std.specs.Prelude.{All}
-use Rattle.paths.specs.Cycles.{HasNoCycleAt, IsCycleFrom}
-use Rattle.paths.proofs.Cycles.{sources_on_path}
+use Rattle.plan_paths.specs.Cycles.{HasNoCycleAt, IsCycleFrom}
+use Rattle.plan_paths.proofs.Cycles.{sources_on_path}
 use Rattle.plan.proofs.Plans.{ends_below_at}
 use Rattle.plan.proofs.cycle.refuse_cycle.Goals as goal
 

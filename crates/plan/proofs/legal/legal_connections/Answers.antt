@@ -1,7 +1,7 @@
 use Rattle.std.proofs.Common.{◌∙◌, ◌<◌, ◌^◌, subst}
 use Rattle.std.specs.Prelude.{AllPairs}
 use Rattle.network.specs.Lawful.{EndApart}
-use Rattle.paths.specs.Cycles.{HasNoImmediateCycle}
+use Rattle.plan_paths.specs.Cycles.{HasNoImmediateCycle}
 use Rattle.plan.specs.Federation.{connections_of}
 use Rattle.plan.proofs.Plans.{legal_from}
 use Rattle.plan.proofs.legal.legal_connections.Goals as goal

@@ -1,5 +1,5 @@
 use Rattle.std.proofs.Common.{arith, rules, ◌<◌, ap, length, ◌∙◌, get_or}
-use Rattle.paths.specs.Sources.{EndsTwice}
+use Rattle.plan_paths.specs.Sources.{EndsTwice}
 use Rattle.plan.proofs.Joined.{length-connections_of, two_sources}
 use Rattle.plan.proofs.sources.refuse_two_sources.Goals as goal
 

@@ -7,7 +7,7 @@ use Rattle.signal.proofs.write.write_frame.Goals as goal
 
 pub returns-in-Hello-clause-written : goal.returns-in-Hello-clause-written
 returns-in-Hello-clause-written c =
-    written_as c.args.frame.now (Hello c.in-Hello.federate c.in-Hello.incarnation c.in-Hello.last_taken) c.hello_bytes.result c.args.bytes.now.items c.append.new.bytes.items c.append.result
+    written_as c.args.frame.now (Hello c.in-Hello.hello) c.hello_bytes.result c.args.bytes.now.items c.append.new.bytes.items c.append.result
     c.in-Hello.is c.hello_bytes.ensures c.append.ensures.written
 
 pub returns-in-Data-clause-written : goal.returns-in-Data-clause-written

@@ -1,7 +1,7 @@
 use Rattle.std.proofs.Common.{ap, ◌∙◌, arith}
 use Rattle.std.proofs.lemmas.List.{length-set}
 use Rattle.whole.specs.declared.targets.Target.{Target}
-use Rattle.whole.specs.Made.{kept_on}
+use Rattle.whole.specs.Construction.{kept_on}
 use Rattle.whole.proofs.Putting.{put_first, put_none, put_back, first_apart, not_target}
 use Rattle.network.proofs.Items.{get_set_other}
 use Rattle.whole.proofs.made.+put_made.Goals as goal

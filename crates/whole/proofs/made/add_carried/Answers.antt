@@ -1,5 +1,5 @@
 use Rattle.std.proofs.Common.{arith}
-use Rattle.whole.specs.Made.{carried_over}
+use Rattle.whole.specs.Construction.{carried_over}
 use Rattle.whole.proofs.Steps.{collected}
 use Rattle.whole.proofs.made.add_carried.Goals as goal
 

@@ -1,6 +1,6 @@
 use Rattle.std.proofs.Common.{◌≡◌, ◌++◌, take}
 use Rattle.std.specs.List.{flat_map}
-use Rattle.whole.specs.Made.{carried_over}
+use Rattle.whole.specs.Construction.{carried_over}
 use Rattle.whole.proofs.made.add_carried.Given as goal
 
 abbrev pub invariant-loop-connection : goal.invariant-loop-connection

@@ -1,5 +1,5 @@
 use Rattle.std.proofs.Common.{length, get_or, ap, ◌∙◌, arith}
-use Rattle.whole.specs.Made.{TurnMade, deferred_by}
+use Rattle.whole.specs.Construction.{TurnMade, deferred_by}
 use Rattle.whole.proofs.Steps.{collected}
 use Rattle.whole.proofs.made.add_deferred.Goals as goal
 

@@ -1,6 +1,6 @@
 use Rattle.std.proofs.Common.{◌≡◌, ◌++◌, take}
 use Rattle.std.specs.List.{flat_map}
-use Rattle.whole.specs.Made.{deferred_by}
+use Rattle.whole.specs.Construction.{deferred_by}
 use Rattle.whole.proofs.made.add_deferred.Given as goal
 
 abbrev pub invariant-loop-scheduling : goal.invariant-loop-scheduling

@@ -1,8 +1,8 @@
 use Rattle.std.proofs.Common.{rules, ap, ◌∙◌, arith, subst}
 use Rattle.std.proofs.lemmas.List.{take_all}
-use Rattle.agenda.specs.Agenda.{IsAgenda}
+use Rattle.reactor_agenda.specs.Agenda.{IsAgenda}
 use Rattle.whole.specs.declared.targets.Target.{Target}
-use Rattle.whole.specs.Made.{has_target}
+use Rattle.whole.specs.Construction.{has_target}
 use Rattle.whole.specs.Targets.{all_shown}
 use Rattle.whole.proofs.NextTurns.{renewed_to, known_step}
 use Rattle.whole.proofs.nexts.renew.Goals as goal
@@ -21,7 +21,7 @@ loop-target-preserved c =
       more.0 ∙ same,
       more.1,
       known_step IsAgenda c.args.agendas.now c.args.targets.now c.loop-target.target-index c.target-item.result c.index-agendas-federate.result
-          (omega arith) c.target-item.is (omega (arith, low_too, at)) (subst IsAgenda c.index-agendas-federate.is c.known.ensures) c.loop-target.invariant.2,
+          (omega arith) c.target-item.is (omega (arith, low_too, at)) (subst IsAgenda c.index-agendas-federate.is c.invariant.ensures) c.loop-target.invariant.2,
     )
 
 pub returns-clause-known : goal.returns-clause-known

@@ -1,7 +1,7 @@
 use Rattle.std.proofs.Common.{◌≡◌, ℕ, true, Some, length, take, slice_get}
 use Rattle.std.specs.Option.{option_map}
-use Rattle.agenda.specs.Agenda.{Agenda, IsAgenda}
-use Rattle.whole.specs.Made.{has_target}
+use Rattle.reactor_agenda.specs.Agenda.{Agenda, IsAgenda}
+use Rattle.whole.specs.Construction.{has_target}
 use Rattle.whole.specs.Next.{renewed}
 use Rattle.whole.specs.Targets.{all_shown}
 use Rattle.whole.proofs.nexts.renew.Given as goal

@@ -2,7 +2,7 @@ use Rattle.std.proofs.Common.{ℕ, ◌<◌, Bool, sym, ◌∙◌, arith}
 use Rattle.std.specs.Prelude.{◌&&◌}
 use Rattle.tag.specs.LogicalTime.{forever, is_same}
 use Rattle.protocol.specs.Standings.{standing_at}
-use Rattle.laws.proofs.Eligibility.{all_below_from}
+use Rattle.protocol_laws.proofs.Eligibility.{all_below_from}
 use Rattle.coordinator.proofs.Keeping.{below_fails}
 use Rattle.coordinator.proofs.state.State.is_finished.Goals as goal
 

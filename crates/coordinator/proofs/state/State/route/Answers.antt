@@ -14,42 +14,42 @@ use Rattle.coordinator.proofs.state.State.route.Goals as goal
 
 pub granted-requires : goal.granted-requires
 granted-requires c =
-    target_is_there c.args.self.now.table c.args.number c.target-target.result c.args.over c.in-Some.connection c.known.ensures c.requires.over c.in-Some.is c.target-target.ensures
+    target_is_there c.args.self.now.table c.args.number c.target-target.result c.args.over c.in-Some.connection c.invariant.ensures c.requires.over c.in-Some.is c.target-target.ensures
 
 pub next-next-requires : goal.next-next-requires
 next-next-requires c =
-    target_is_there c.args.self.now.table c.args.number c.target-target.result c.args.over c.in-Some.connection c.known.ensures c.requires.over c.in-Some.is c.target-target.ensures
+    target_is_there c.args.self.now.table c.args.number c.target-target.result c.args.over c.in-Some.connection c.invariant.ensures c.requires.over c.in-Some.is c.target-target.ensures
 
 pub note_next-requires : goal.note_next-requires
 note_next-requires c =
-    target_is_there c.args.self.now.table c.args.number c.target-target.result c.args.over c.in-Some.connection c.known.ensures c.requires.over c.in-Some.is c.target-target.ensures
+    target_is_there c.args.self.now.table c.args.number c.target-target.result c.args.over c.in-Some.connection c.invariant.ensures c.requires.over c.in-Some.is c.target-target.ensures
 
 pub prepare-requires : goal.prepare-requires
 prepare-requires c =
     let r = c.args.self.now.table in
     let j = c.target-target.result in
-    let there = target_is_there r c.args.number j c.args.over c.in-Some.connection c.known.ensures c.requires.over c.in-Some.is c.target-target.ensures in
+    let there = target_is_there r c.args.number j c.args.over c.in-Some.connection c.invariant.ensures c.requires.over c.in-Some.is c.target-target.ensures in
     rw (ap (λ x. x.wires.federates) c.note_next.ensures) there
 
 pub set_next-requires : goal.set_next-requires
 set_next-requires c =
     let r = c.args.self.now.table in
     let j = c.target-target.result in
-    let there = target_is_there r c.args.number j c.args.over c.in-Some.connection c.known.ensures c.requires.over c.in-Some.is c.target-target.ensures in
+    let there = target_is_there r c.args.number j c.args.over c.in-Some.connection c.invariant.ensures c.requires.over c.in-Some.is c.target-target.ensures in
     rw (ap (λ x. x.wires.federates) c.note_next.ensures) there
 
 pub add_transit-requires : goal.add_transit-requires
 add_transit-requires c =
     let r = c.args.self.now.table in
     let j = c.target-target.result in
-    let there = target_is_there r c.args.number j c.args.over c.in-Some.connection c.known.ensures c.requires.over c.in-Some.is c.target-target.ensures in
+    let there = target_is_there r c.args.number j c.args.over c.in-Some.connection c.invariant.ensures c.requires.over c.in-Some.is c.target-target.ensures in
     rw (ap (λ x. x.wires.federates) c.note_next.ensures) there
 
 pub set_next-requires-then-is_err : goal.set_next-requires-then-is_err
 set_next-requires-then-is_err c =
     let r = c.args.self.now.table in
     let j = c.target-target.result in
-    let there = target_is_there r c.args.number j c.args.over c.in-Some.connection c.known.ensures c.requires.over c.in-Some.is c.target-target.ensures in
+    let there = target_is_there r c.args.number j c.args.over c.in-Some.connection c.invariant.ensures c.requires.over c.in-Some.is c.target-target.ensures in
     let same = err_of c.add_transit.result (sym c.is_err.ensures.value ∙ c.if-is_err.true) c.add_transit.ensures.err in
     rw (ap (λ x. x.wires.federates) same, ap (λ x. x.wires.federates) c.note_next.ensures) there
 
@@ -59,15 +59,15 @@ returns-in-Err c =
     let j = c.target-target.result in
     let s = standing_at r.standings j in
     let message = Msg c.args.number c.args.tag c.args.value in
-    let there = target_is_there r c.args.number j c.args.over c.in-Some.connection c.known.ensures c.requires.over c.in-Some.is c.target-target.ensures in
+    let there = target_is_there r c.args.number j c.args.over c.in-Some.connection c.invariant.ensures c.requires.over c.in-Some.is c.target-target.ensures in
     let taken = message_passed r c.note_next.new.table c.args.peer j c.args.number c.source.result c.args.value c.args.tag c.tag.result c.tag-2.result c.tag-3.result c.next-next.result c.lesser.result c.stop.result
-    c.granted.result c.args.over c.in-Some.connection c.is_in_time.result c.is_past.result c.known.ensures c.requires.settled c.requires.over c.in-Some.is c.source.ensures c.if-source-peer.false c.target-target.ensures
+    c.granted.result c.args.over c.in-Some.connection c.is_in_time.result c.is_past.result c.invariant.ensures c.requires.settled c.requires.over c.in-Some.is c.source.ensures c.if-source-peer.false c.target-target.ensures
     c.tag.ensures c.stop.ensures c.is_in_time.ensures c.if-not-is_in_time.false c.granted.ensures c.tag-2.ensures c.is_past.ensures c.if-not-is_past.false c.next-next.ensures c.tag-3.ensures c.lesser.ensures
     c.note_next.ensures in
     let first = c.in_ok-push.ensures.items ∙
     (ap (λ xs. xs ++ record { peer = j; signal = Msg c.args.number c.args.tag (to_z w64 (of_z w64 c.args.value)) } ∷ []) c.clear.ensures.items ∙
     ap (λ v. record { peer = c.target-target.result; signal = Msg c.args.number c.args.tag v } ∷ []) (to_z-of_z w64 c.args.value c.ranges.value)) in
-    let back = message_back r c.note_next.new.table c.set_next.new.self j c.set_next.new.self.looks c.args.tag c.next-next.result c.known.ensures there taken.wires taken.standings
+    let back = message_back r c.note_next.new.table c.set_next.new.self j c.set_next.new.self.looks c.args.tag c.next-next.result c.invariant.ensures there taken.wires taken.standings
     c.next-next.ensures c.set_next.ensures.value in
     failed_step r c.note_next.new.table c.set_next.new.self c.args.outbox.now.mail c.prepare.new.outbox.mail c.args.peer j message
     (routed (standing_at r.standings) message j c.args.tag) (record s { next = lesser s.next c.args.tag }) (after_message s c.args.tag) c.push.new.self.items c.in-Err.fault taken first
@@ -79,16 +79,16 @@ returns-then-is_err c =
     let j = c.target-target.result in
     let s = standing_at r.standings j in
     let message = Msg c.args.number c.args.tag c.args.value in
-    let there = target_is_there r c.args.number j c.args.over c.in-Some.connection c.known.ensures c.requires.over c.in-Some.is c.target-target.ensures in
+    let there = target_is_there r c.args.number j c.args.over c.in-Some.connection c.invariant.ensures c.requires.over c.in-Some.is c.target-target.ensures in
     let taken = message_passed r c.note_next.new.table c.args.peer j c.args.number c.source.result c.args.value c.args.tag c.tag.result c.tag-2.result c.tag-3.result c.next-next.result c.lesser.result c.stop.result
-    c.granted.result c.args.over c.in-Some.connection c.is_in_time.result c.is_past.result c.known.ensures c.requires.settled c.requires.over c.in-Some.is c.source.ensures c.if-source-peer.false c.target-target.ensures
+    c.granted.result c.args.over c.in-Some.connection c.is_in_time.result c.is_past.result c.invariant.ensures c.requires.settled c.requires.over c.in-Some.is c.source.ensures c.if-source-peer.false c.target-target.ensures
     c.tag.ensures c.stop.ensures c.is_in_time.ensures c.if-not-is_in_time.false c.granted.ensures c.tag-2.ensures c.is_past.ensures c.if-not-is_past.false c.next-next.ensures c.tag-3.ensures c.lesser.ensures
     c.note_next.ensures in
     let first = c.in_ok-push.ensures.items ∙
     (ap (λ xs. xs ++ record { peer = j; signal = Msg c.args.number c.args.tag (to_z w64 (of_z w64 c.args.value)) } ∷ []) c.clear.ensures.items ∙
     ap (λ v. record { peer = c.target-target.result; signal = Msg c.args.number c.args.tag v } ∷ []) (to_z-of_z w64 c.args.value c.ranges.value)) in
     let same = err_of c.add_transit.result (sym c.is_err.ensures.value ∙ c.if-is_err.true) c.add_transit.ensures.err in
-    let back = message_back r c.add_transit.new.self c.set_next-then-is_err.new.self j c.set_next-then-is_err.new.self.looks c.args.tag c.next-next.result c.known.ensures there
+    let back = message_back r c.add_transit.new.self c.set_next-then-is_err.new.self j c.set_next-then-is_err.new.self.looks c.args.tag c.next-next.result c.invariant.ensures there
     (ap (λ x. x.wires) same ∙ taken.wires) (ap (λ x. x.standings) same ∙ taken.standings) c.next-next.ensures c.set_next-then-is_err.ensures.value in
     failed_step r c.note_next.new.table c.set_next-then-is_err.new.self c.args.outbox.now.mail c.prepare.new.outbox.mail c.args.peer j message
     (routed (standing_at r.standings) message j c.args.tag) (record s { next = lesser s.next c.args.tag }) (after_message s c.args.tag) c.push.new.self.items fault.Memory taken first
@@ -100,7 +100,7 @@ send-requires-clause-peers c =
     let j = c.target-target.result in
     let s = standing_at r.standings j in
     let message = Msg c.args.number c.args.tag c.args.value in
-    let there = target_is_there r c.args.number j c.args.over c.in-Some.connection c.known.ensures c.requires.over c.in-Some.is c.target-target.ensures in
+    let there = target_is_there r c.args.number j c.args.over c.in-Some.connection c.invariant.ensures c.requires.over c.in-Some.is c.target-target.ensures in
     let add = ok_of c.add_transit.result (sym c.is_err.ensures.value ∙ c.if-is_err.false) c.add_transit.ensures.ok in
     let many : c.add_transit.new.self.wires.federates ≡ c.args.self.now.table.wires.federates = ap (λ x. x.wires.federates) add ∙ ap (λ x. x.wires.federates) c.note_next.ensures in
     let put = c.in_ok-push.ensures.items ∙ ap (λ xs. xs ++ record { peer = j; signal = Msg c.args.number c.args.tag (to_z w64 (of_z w64 c.args.value)) } ∷ []) c.clear.ensures.items in
@@ -115,16 +115,16 @@ returns c =
     let j = c.target-target.result in
     let s = standing_at r.standings j in
     let message = Msg c.args.number c.args.tag c.args.value in
-    let there = target_is_there r c.args.number j c.args.over c.in-Some.connection c.known.ensures c.requires.over c.in-Some.is c.target-target.ensures in
+    let there = target_is_there r c.args.number j c.args.over c.in-Some.connection c.invariant.ensures c.requires.over c.in-Some.is c.target-target.ensures in
     let taken = message_passed r c.note_next.new.table c.args.peer j c.args.number c.source.result c.args.value c.args.tag c.tag.result c.tag-2.result c.tag-3.result c.next-next.result c.lesser.result c.stop.result
-    c.granted.result c.args.over c.in-Some.connection c.is_in_time.result c.is_past.result c.known.ensures c.requires.settled c.requires.over c.in-Some.is c.source.ensures c.if-source-peer.false c.target-target.ensures
+    c.granted.result c.args.over c.in-Some.connection c.is_in_time.result c.is_past.result c.invariant.ensures c.requires.settled c.requires.over c.in-Some.is c.source.ensures c.if-source-peer.false c.target-target.ensures
     c.tag.ensures c.stop.ensures c.is_in_time.ensures c.if-not-is_in_time.false c.granted.ensures c.tag-2.ensures c.is_past.ensures c.if-not-is_past.false c.next-next.ensures c.tag-3.ensures c.lesser.ensures
     c.note_next.ensures in
     let first = c.in_ok-push.ensures.items ∙
     (ap (λ xs. xs ++ record { peer = j; signal = Msg c.args.number c.args.tag (to_z w64 (of_z w64 c.args.value)) } ∷ []) c.clear.ensures.items ∙
     ap (λ v. record { peer = c.target-target.result; signal = Msg c.args.number c.args.tag v } ∷ []) (to_z-of_z w64 c.args.value c.ranges.value)) in
     let add = ok_of c.add_transit.result (sym c.is_err.ensures.value ∙ c.if-is_err.false) c.add_transit.ensures.ok in
-    let added = message_added r c.note_next.new.table c.add_transit.new.self j c.args.tag c.known.ensures there taken.wires taken.standings add in
+    let added = message_added r c.note_next.new.table c.add_transit.new.self j c.args.tag c.invariant.ensures there taken.wires taken.standings add in
     finished_step r c.note_next.new.table c.add_transit.new.self c.send.new.table c.args.outbox.now.mail c.prepare.new.outbox.mail c.send.new.outbox.mail c.args.peer j message
     (routed (standing_at r.standings) message j c.args.tag) (record s { next = lesser s.next c.args.tag }) (after_message s c.args.tag) c.push.new.self.items c.as_slice.result.now taken first (message_first j c.args.number c.args.tag c.args.value)
     added.0 added.1 (c.as_slice.ensures.value ∙ c.in_default-prepare.ensures.posts) c.prepare.ensures.mail

@@ -13,16 +13,16 @@ pub returns-then-peer-federates : goal.returns-then-peer-federates
 returns-then-peer-federates c =
     let l : c.args.self.now.table.wires.federates ≤ c.args.peer = omega arith in
     let in_time = in_time_is c.args.tag c.tag.result c.args.self.now.table.wires.stop c.stop.result c.is_in_time.result c.tag.ensures c.stop.ensures c.is_in_time.ensures c.if-not-is_in_time.false in
-    stranger_ltc c.args.self.now.table c.args.outbox.now.mail c.args.peer c.args.tag c.known.ensures c.requires.settled l in_time
+    stranger_ltc c.args.self.now.table c.args.outbox.now.mail c.args.peer c.args.tag c.invariant.ensures c.requires.settled l in_time
 
 pub returns-in-Err : goal.returns-in-Err
 returns-in-Err c =
     let r = c.args.self.now.table in
     let s = standing_at r.standings c.args.peer in
     let there : c.args.peer < c.args.self.now.table.wires.federates = omega arith in
-    let taken = ltc_passed r c.set_completed.new.self c.args.peer c.args.tag c.tag.result c.tag-2.result c.stop.result c.completed.result c.is_in_time.result c.is_past.result c.known.ensures c.requires.settled there
+    let taken = ltc_passed r c.set_completed.new.self c.args.peer c.args.tag c.tag.result c.tag-2.result c.stop.result c.completed.result c.is_in_time.result c.is_past.result c.invariant.ensures c.requires.settled there
     c.tag.ensures c.stop.ensures c.is_in_time.ensures c.if-not-is_in_time.false c.completed.ensures c.tag-2.ensures c.is_past.ensures c.if-not-is_past.false c.set_completed.ensures.value in
-    let back = ltc_back r c.set_completed.new.self c.set_completed-in-Err.new.self c.args.peer c.set_completed-in-Err.new.self.looks c.args.tag c.completed-completed.result c.known.ensures there taken.wires taken.standings
+    let back = ltc_back r c.set_completed.new.self c.set_completed-in-Err.new.self c.args.peer c.set_completed-in-Err.new.self.looks c.args.tag c.completed-completed.result c.invariant.ensures there taken.wires taken.standings
     c.completed-completed.ensures c.set_completed-in-Err.ensures.value in
     failed_step r c.set_completed.new.self c.set_completed-in-Err.new.self c.args.outbox.now.mail c.prepare.new.outbox.mail c.args.peer c.args.peer (Ltc c.args.tag)
     (noted (standing_at r.standings) c.args.peer (after_ltc s c.args.tag)) (record s { completed = Some c.args.tag }) (after_ltc s c.args.tag) c.clear.new.self.items c.in-Err.fault taken c.clear.ensures.items
@@ -39,9 +39,9 @@ returns c =
     let r = c.args.self.now.table in
     let s = standing_at r.standings c.args.peer in
     let there : c.args.peer < c.args.self.now.table.wires.federates = omega arith in
-    let taken = ltc_passed r c.set_completed.new.self c.args.peer c.args.tag c.tag.result c.tag-2.result c.stop.result c.completed.result c.is_in_time.result c.is_past.result c.known.ensures c.requires.settled there
+    let taken = ltc_passed r c.set_completed.new.self c.args.peer c.args.tag c.tag.result c.tag-2.result c.stop.result c.completed.result c.is_in_time.result c.is_past.result c.invariant.ensures c.requires.settled there
     c.tag.ensures c.stop.ensures c.is_in_time.ensures c.if-not-is_in_time.false c.completed.ensures c.tag-2.ensures c.is_past.ensures c.if-not-is_past.false c.set_completed.ensures.value in
-    let dropped = ltc_dropped r c.set_completed.new.self c.drop_transit.new.self c.args.peer c.args.tag c.known.ensures there taken.wires taken.standings c.drop_transit.ensures in
+    let dropped = ltc_dropped r c.set_completed.new.self c.drop_transit.new.self c.args.peer c.args.tag c.invariant.ensures there taken.wires taken.standings c.drop_transit.ensures in
     finished_step r c.set_completed.new.self c.drop_transit.new.self c.send.new.table c.args.outbox.now.mail c.prepare.new.outbox.mail c.send.new.outbox.mail c.args.peer c.args.peer (Ltc c.args.tag)
     (noted (standing_at r.standings) c.args.peer (after_ltc s c.args.tag)) (record s { completed = Some c.args.tag }) (after_ltc s c.args.tag) c.clear.new.self.items c.as_slice.result.now taken c.clear.ensures.items nothing_first
     dropped.0 dropped.1 (c.as_slice.ensures.value ∙ c.in_default.ensures.posts) c.prepare.ensures.mail

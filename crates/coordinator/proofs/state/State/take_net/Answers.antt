@@ -14,7 +14,7 @@ pub returns-then-peer-federates : goal.returns-then-peer-federates
 returns-then-peer-federates c =
     let l : c.args.self.now.table.wires.federates ≤ c.args.peer = omega arith in
     let in_time = next_in_time_is c.args.tag c.args.self.now.table.wires.stop c.stop.result c.is_next_in_time.result c.stop.ensures c.is_next_in_time.ensures c.if-not-is_next_in_time.false in
-    stranger_net c.args.self.now.table c.args.outbox.now.mail c.args.peer c.args.tag c.known.ensures c.requires.settled l in_time
+    stranger_net c.args.self.now.table c.args.outbox.now.mail c.args.peer c.args.tag c.invariant.ensures c.requires.settled l in_time
 
 pub returns-in-Err : goal.returns-in-Err
 returns-in-Err c =
@@ -22,10 +22,10 @@ returns-in-Err c =
     let s = standing_at r.standings c.args.peer in
     let there : c.args.peer < c.args.self.now.table.wires.federates = omega arith in
     let taken = net_passed r c.note_next.new.table c.note_announced.new.table c.args.peer c.args.tag c.lesser_with-least.result c.stop.result c.least_transit.result c.completed.result c.is_next_in_time.result c.is_past.result
-    c.known.ensures c.requires.settled there c.stop.ensures c.is_next_in_time.ensures c.if-not-is_next_in_time.false c.completed.ensures c.is_past.ensures c.if-not-is_past.false c.least_transit.ensures.least
+    c.invariant.ensures c.requires.settled there c.stop.ensures c.is_next_in_time.ensures c.if-not-is_next_in_time.false c.completed.ensures c.is_past.ensures c.if-not-is_past.false c.least_transit.ensures.least
     c.lesser_with-least.ensures c.note_next.ensures c.note_announced.ensures in
     let back = net_back r c.note_announced.new.table c.set_announced.new.self c.set_next.new.self c.args.peer c.set_announced.new.self.looks c.set_next.new.self.looks
-    c.announced-announced.result c.next-next.result (after_net s c.args.tag) c.known.ensures there taken.wires taken.standings refl c.announced-announced.ensures c.next-next.ensures
+    c.announced-announced.result c.next-next.result (after_net s c.args.tag) c.invariant.ensures there taken.wires taken.standings refl c.announced-announced.ensures c.next-next.ensures
     c.set_announced.ensures.value c.set_next.ensures.value in
     failed_step r c.note_announced.new.table c.set_next.new.self c.args.outbox.now.mail c.prepare.new.outbox.mail c.args.peer c.args.peer (Net c.args.tag)
     (noted (standing_at r.standings) c.args.peer (after_net s c.args.tag)) (after_net s c.args.tag) (after_net s c.args.tag) c.clear.new.self.items c.in-Err.fault taken c.clear.ensures.items
@@ -42,7 +42,7 @@ returns c =
     let s = standing_at r.standings c.args.peer in
     let there : c.args.peer < c.args.self.now.table.wires.federates = omega arith in
     let taken = net_passed r c.note_next.new.table c.note_announced.new.table c.args.peer c.args.tag c.lesser_with-least.result c.stop.result c.least_transit.result c.completed.result c.is_next_in_time.result c.is_past.result
-    c.known.ensures c.requires.settled there c.stop.ensures c.is_next_in_time.ensures c.if-not-is_next_in_time.false c.completed.ensures c.is_past.ensures c.if-not-is_past.false c.least_transit.ensures.least
+    c.invariant.ensures c.requires.settled there c.stop.ensures c.is_next_in_time.ensures c.if-not-is_next_in_time.false c.completed.ensures c.is_past.ensures c.if-not-is_past.false c.least_transit.ensures.least
     c.lesser_with-least.ensures c.note_next.ensures c.note_announced.ensures in
     finished_step r c.note_announced.new.table c.note_announced.new.table c.send.new.table c.args.outbox.now.mail c.prepare.new.outbox.mail c.send.new.outbox.mail c.args.peer c.args.peer (Net c.args.tag)
     (noted (standing_at r.standings) c.args.peer (after_net s c.args.tag)) (after_net s c.args.tag) (after_net s c.args.tag) c.clear.new.self.items c.as_slice.result.now taken c.clear.ensures.items nothing_first

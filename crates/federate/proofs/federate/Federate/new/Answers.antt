@@ -1,17 +1,17 @@
 use Rattle.plan.specs.Federation.{stop_of}
 use Rattle.std.proofs.Common.{refl, ◌≡◌, ◌<◌, ◌∙◌, sym, ap, subst, Some, length, slice_get, arith}
-use Rattle.program.specs.Behaviour.{Behaviour, IsWellFormed}
-use Rattle.federation.specs.Network.{network_of}
+use Rattle.reactor_program.specs.Behaviour.{Behaviour, IsWellFormed}
+use Rattle.plan_network.specs.Network.{network_of}
 use Rattle.std.proofs.lemmas.Option.{slice_get_read}
-use Rattle.program.proofs.Zips.{all_zip_lengths}
-use Rattle.federation.proofs.LawfulNetwork.{gives_lawful}
+use Rattle.reactor_program.proofs.Zips.{all_zip_lengths}
+use Rattle.plan_network.proofs.LawfulNetwork.{gives_lawful}
 use Rattle.plan.specs.declared.draft.Federate as declared
 use Rattle.protocol.specs.Federate as protocol
 use Rattle.protocol.specs.Alone.{IsFederate}
-use Rattle.laws.proofs.FederateAlone.{opening_is_federate}
-use Rattle.cores.specs.FederateCore.{FederateNode}
-use Rattle.agenda.specs.Agenda.{Agenda, own_undone}
-use Rattle.federate.proofs.Openings.{opened_is}
+use Rattle.protocol_laws.proofs.FederateAlone.{initial_is_federate}
+use Rattle.node_cores.specs.FederateCore.{FederateNode}
+use Rattle.reactor_agenda.specs.Agenda.{Agenda, own_undone}
+use Rattle.federate.proofs.Initial.{opened_is}
 use Rattle.federate.proofs.federate.Federate.new.Goals as goal
 
 pub bounds-as_slice-number : goal.bounds-as_slice-number
@@ -30,20 +30,20 @@ invariant_of-result-2 c =
     let federate : slice_get d.federates c.args.number ≡ Some c.index-federates-number.result =
     slice_get_read d.federates (length d.federates) c.args.number c.index-federates-number.result refl c.requires.there (rw c.federates.ensures at c.index-federates-number.is) in
     let undone : c.in_ok-agenda.agenda.undone ≡ own_undone (stop_of d) c.index-federates-number.result.slots =
-    rw (c.in_ok-agenda.ensures, c.stop_of.ensures, ← c.index-federates-number.is) refl in
+    rw (c.in_ok-agenda.ensures, c.stop_tag.ensures, ← c.index-federates-number.is) refl in
     let opened = opened_is d programs c.args.inputs.now c.args.number c.index-as_slice-number.result c.index-federates-number.result c.in_ok-new.field-0 _ c.put_recorded.new.agenda
     c.in_ok-agenda.agenda.undone c.new-3.result program federate c.in_ok-new.ensures c.agenda.view_is c.in_ok-put_recorded.ensures.undone
     undone c.new-3.ensures in
     record {
-      legal = c.known.ensures;
+      legal = c.invariant.ensures;
       programs_fit = c.requires.programs;
       inputs_fit = c.requires.inputs;
       there = c.requires.there;
       program_is = program ∙ ap (λ r. Some r.behaviour) (sym c.in_ok-new.ensures);
-      stop_is = ap (λ (a : Agenda). a.stop) c.agenda.view_is ∙ c.in_ok-put_recorded.ensures.stop ∙ ap (λ (a : Agenda). a.stop) c.in_ok-agenda.ensures ∙ c.stop_of.ensures;
+      stop_is = ap (λ (a : Agenda). a.stop) c.agenda.view_is ∙ c.in_ok-put_recorded.ensures.stop ∙ ap (λ (a : Agenda). a.stop) c.in_ok-agenda.ensures ∙ c.stop_tag.ensures;
       outlets_are = c.in_ok-outlets_of.ensures;
       alone = subst (IsFederate (network_of d programs c.args.inputs.now) c.args.number) (sym opened)
-          (opening_is_federate (network_of d programs c.args.inputs.now) c.args.number (gives_lawful d programs c.args.inputs.now c.known.ensures c.requires.programs c.requires.inputs));
+          (initial_is_federate (network_of d programs c.args.inputs.now) c.args.number (gives_lawful d programs c.args.inputs.now c.invariant.ensures c.requires.programs c.requires.inputs));
     }
 
 pub returns : goal.returns
@@ -57,7 +57,7 @@ returns c =
     let federate : slice_get d.federates c.args.number ≡ Some c.index-federates-number.result =
     slice_get_read d.federates (length d.federates) c.args.number c.index-federates-number.result refl c.requires.there (rw c.federates.ensures at c.index-federates-number.is) in
     let undone : c.in_ok-agenda.agenda.undone ≡ own_undone (stop_of d) c.index-federates-number.result.slots =
-    rw (c.in_ok-agenda.ensures, c.stop_of.ensures, ← c.index-federates-number.is) refl in
+    rw (c.in_ok-agenda.ensures, c.stop_tag.ensures, ← c.index-federates-number.is) refl in
     let opened = opened_is d programs c.args.inputs.now c.args.number c.index-as_slice-number.result c.index-federates-number.result c.in_ok-new.field-0 _ c.put_recorded.new.agenda
     c.in_ok-agenda.agenda.undone c.new-3.result program federate c.in_ok-new.ensures c.agenda.view_is c.in_ok-put_recorded.ensures.undone
     undone c.new-3.ensures in

@@ -3,9 +3,9 @@ use Rattle.protocol.specs.Federate.{turn_at}
 use Rattle.protocol.specs.Outcome.{Done}
 use Rattle.node.specs.Mail.{Mail, lacks_room, all_posted}
 use Rattle.node.specs.Core.{IsCall}
-use Rattle.federation.specs.Network.{network_of}
-use Rattle.cores.specs.FederateCore.{FederateNode, made_by, advances}
-use Rattle.federate.specs.Kept.{standing}
+use Rattle.plan_network.specs.Network.{network_of}
+use Rattle.node_cores.specs.FederateCore.{FederateNode, made_by, advances}
+use Rattle.federate.specs.Invariant.{standing}
 use Rattle.federate.specs.Turn.{due_in, IsPrepared}
 use Rattle.federate.proofs.Calls.{advance_in_order, advances_done, not_reserved, done_call}
 use Rattle.federate.proofs.Turns.{slots_below, all_later, posts_are, advances_due, stands, keeps_on}
@@ -17,16 +17,16 @@ prepare-requires c =
     slots_below s.plan.now s.programs.now s.inputs.now s.number s.reactor s.outlets.items s.agenda s.granted s.completed s.announced s.rows c.self.invariant
 
 pub returns-in_err-prepare-clause-lawful : goal.returns-in_err-prepare-clause-lawful
-returns-in_err-prepare-clause-lawful c = advance_in_order c.args.self.now c.known.ensures
+returns-in_err-prepare-clause-lawful c = advance_in_order c.args.self.now c.invariant.ensures
 
 pub returns-in_err-reserve_all-clause-lawful : goal.returns-in_err-reserve_all-clause-lawful
-returns-in_err-reserve_all-clause-lawful c = advance_in_order c.args.self.now c.known.ensures
+returns-in_err-reserve_all-clause-lawful c = advance_in_order c.args.self.now c.invariant.ensures
 
 pub returns-in_err-take_in-clause-lawful : goal.returns-in_err-take_in-clause-lawful
-returns-in_err-take_in-clause-lawful c = advance_in_order c.args.self.now c.known.ensures
+returns-in_err-take_in-clause-lawful c = advance_in_order c.args.self.now c.invariant.ensures
 
 pub returns-clause-lawful : goal.returns-clause-lawful
-returns-clause-lawful c = advance_in_order c.args.self.now c.known.ensures
+returns-clause-lawful c = advance_in_order c.args.self.now c.invariant.ensures
 
 pub returns-in_err-reserve_all-clause-call : goal.returns-in_err-reserve_all-clause-call
 returns-in_err-reserve_all-clause-call c =

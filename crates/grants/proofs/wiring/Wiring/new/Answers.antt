@@ -6,16 +6,16 @@ use Rattle.grants.proofs.wiring.Wiring.new.Goals as goal
 
 pub returns : goal.returns
 returns c =
-    let stop : c.new-stop.result ≡ stop_of c.args.plan.now = c.new-stop.ensures ∙ ap (λ t. record { time = t; microstep = 0 }) c.stop_time.ensures in
-    wires_made c.args.plan.now c.in_ok-routes.routes.items c.in_ok-connections.connections.items c.new-stop.result c.in_ok-routes.ensures
+    let stop : c.stop_tag-stop.result ≡ stop_of c.args.plan.now = c.stop_tag-stop.ensures in
+    wires_made c.args.plan.now c.in_ok-routes.routes.items c.in_ok-connections.connections.items c.stop_tag-stop.result c.in_ok-routes.ensures
     (c.in_ok-connections.ensures ∙ c.connections.ensures) stop
 
 pub invariant_of-result : goal.invariant_of-result
 invariant_of-result c =
-    let stop : c.new-stop.result ≡ stop_of c.args.plan.now = c.new-stop.ensures ∙ ap (λ t. record { time = t; microstep = 0 }) c.stop_time.ensures in
-    let made : record { federates = length c.in_ok-routes.routes.items; connections = c.in_ok-connections.connections.items; stop = c.new-stop.result } ≡ wires_of c.args.plan.now =
-    wires_made c.args.plan.now c.in_ok-routes.routes.items c.in_ok-connections.connections.items c.new-stop.result c.in_ok-routes.ensures
+    let stop : c.stop_tag-stop.result ≡ stop_of c.args.plan.now = c.stop_tag-stop.ensures in
+    let made : record { federates = length c.in_ok-routes.routes.items; connections = c.in_ok-connections.connections.items; stop = c.stop_tag-stop.result } ≡ wires_of c.args.plan.now =
+    wires_made c.args.plan.now c.in_ok-routes.routes.items c.in_ok-connections.connections.items c.stop_tag-stop.result c.in_ok-routes.ensures
     (c.in_ok-connections.ensures ∙ c.connections.ensures) stop in
     wires_made_are c.args.plan.now c.in_ok-routes.routes.items
-    (record { federates = length c.in_ok-routes.routes.items; connections = c.in_ok-connections.connections.items; stop = c.new-stop.result }) c.known.ensures
+    (record { federates = length c.in_ok-routes.routes.items; connections = c.in_ok-connections.connections.items; stop = c.stop_tag-stop.result }) c.invariant.ensures
     c.in_ok-routes.ensures made

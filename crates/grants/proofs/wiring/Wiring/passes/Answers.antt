@@ -6,7 +6,7 @@ use Rattle.grants.specs.Bounds.{first_incoming, first_upstream}
 use Rattle.grants.specs.Wires.{AreWires, least_by, network_by}
 use Rattle.grants.specs.Routes.{Routed, upstream_of}
 use Rattle.grants.proofs.Arrivals.{bound_is}
-use Rattle.laws.proofs.SafeGrants.{greater_from_second}
+use Rattle.protocol_laws.proofs.SafeGrants.{greater_from_second}
 use Rattle.grants.proofs.Passing.{passes_other}
 use Rattle.grants.proofs.Routed.{routes_are, upstream_there, incoming_there}
 use Rattle.grants.proofs.wiring.Wiring.passes.Goals as goal

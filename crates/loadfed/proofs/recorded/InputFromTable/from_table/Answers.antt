@@ -1,5 +1,5 @@
 use Rattle.std.proofs.lemmas.Result.{err_from_is_err_and}
-use Rattle.tables.proofs.Refusals.{first_of, second_of}
+use Rattle.loadfed_tables.proofs.Refusals.{first_of, second_of}
 use Rattle.loadfed.proofs.recorded.InputFromTable.from_table.Goals as goal
 
 pub returns-in_err-has_only-clause-refused : goal.returns-in_err-has_only-clause-refused

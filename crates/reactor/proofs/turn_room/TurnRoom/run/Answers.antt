@@ -6,7 +6,7 @@ use Rattle.reactor.specs.Entries.{value_in}
 use Rattle.reactor.specs.Running.{machine_of, turn_made}
 use Rattle.reactor.specs.Turn.{Turn}
 use Rattle.reactor.proofs.Registers.{operands_length}
-use Rattle.reactor.proofs.Opened.{behind, states_in, all_registers}
+use Rattle.reactor.proofs.Initial.{behind, states_in, all_registers}
 use Rattle.reactor.proofs.turn_room.TurnRoom.run.Goals as goal
 
 abbrev ListedAs : List Entry → List (Option ℤ) → Type 0

@@ -7,7 +7,7 @@ use Rattle.whole.proofs.schedule.Schedule.first.Goals as goal
 
 pub first-first-requires : goal.first-first-requires
 first-first-requires c =
-    some_next c.self.inside.plan.now c.self.inside.agendas.items c.self.inside.nexts (map (λ ts. all_shown ts.items) c.self.inside.targets.items) c.self.invariant c.known.ensures.some_federate
+    some_next c.self.inside.plan.now c.self.inside.agendas.items c.self.inside.nexts (map (λ ts. all_shown ts.items) c.self.inside.targets.items) c.self.invariant c.invariant.ensures.some_federate
 
 pub returns-then-is_forever : goal.returns-then-is_forever
 returns-then-is_forever c =

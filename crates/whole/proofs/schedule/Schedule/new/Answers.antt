@@ -1,7 +1,7 @@
 use Rattle.std.proofs.Common.{◌≡◌, List, length, map, ap, sym, ◌∙◌}
 use Rattle.std.proofs.lemmas.Option.{slice_get-map}
 use Rattle.network.specs.Undone.{look}
-use Rattle.agenda.specs.Agenda.{Agenda}
+use Rattle.reactor_agenda.specs.Agenda.{Agenda}
 use Rattle.whole.specs.Targets.{all_shown}
 use Rattle.whole.specs.Schedule.{Schedule, undone_of, next_on, for_each}
 use Rattle.whole.proofs.Putting.{written}

@@ -3,9 +3,9 @@ use Rattle.std.specs.List.{AllByRecursion}
 use Rattle.network.specs.Connection.{Connection}
 use Rattle.plan.specs.declared.draft.Draft.{Draft}
 use Rattle.plan.specs.Federation.{federate_count, connections_of}
-use Rattle.agenda.specs.Agenda.{Agenda}
+use Rattle.reactor_agenda.specs.Agenda.{Agenda}
 use Rattle.whole.specs.Targets.{all_shown, targets_below, AreApart}
-use Rattle.whole.specs.Made.{TurnMade}
+use Rattle.whole.specs.Construction.{TurnMade}
 use Rattle.whole.specs.Schedule.{Schedule, IsAfterTurn}
 use Rattle.whole.proofs.Putting.{written, on_err}
 use Rattle.whole.proofs.Schedules.{targets_at, wires_many, all_there, targets_are_below, targets_are_apart, nexts_many, kept_same, undone_same, after_put_turn}
@@ -57,7 +57,7 @@ invariant_of-self c =
     let wires = map (λ ts. all_shown ts.items) c.self.inside.targets.items in
     let many : length c.put_turn.new.agendas ≡ length c.self.inside.agendas.items = c.put_turn.ensures.length ∙ ap length c.as_mut_slice.ensures.value in
     let nexts_are : c.put_turn.new.nexts ≡ c.self.inside.nexts = c.in_err-put_turn.ensures.no_next in
-    let alike = c.in_err-put_turn.ensures.err ∙ ap (map Rattle.whole.specs.Made.kept_on) c.as_mut_slice.ensures.value in
+    let alike = c.in_err-put_turn.ensures.err ∙ ap (map Rattle.whole.specs.Construction.kept_on) c.as_mut_slice.ensures.value in
     rw (
       written c.self.inside.agendas.items c.put_turn.new.agendas c.self.inside.agendas.len c.self.inside.agendas.ok.0 many,
       nexts_are,
@@ -67,7 +67,7 @@ invariant_of-self c =
 pub returns-in_err-put_turn-clause-err : goal.returns-in_err-put_turn-clause-err
 returns-in_err-put_turn-clause-err c =
     let many : length c.put_turn.new.agendas ≡ length c.self.inside.agendas.items = c.put_turn.ensures.length ∙ ap length c.as_mut_slice.ensures.value in
-    let alike = c.in_err-put_turn.ensures.err ∙ ap (map Rattle.whole.specs.Made.kept_on) c.as_mut_slice.ensures.value in
+    let alike = c.in_err-put_turn.ensures.err ∙ ap (map Rattle.whole.specs.Construction.kept_on) c.as_mut_slice.ensures.value in
     let shown : List Agenda → Schedule = λ xs. record { draft = c.self.inside.plan.now; undone = map (λ x. x.undone) xs } in
     on_err c.from_residual.result _
     (ap shown (written c.self.inside.agendas.items c.put_turn.new.agendas c.self.inside.agendas.len c.self.inside.agendas.ok.0 many)

@@ -6,16 +6,16 @@ use Rattle.std.proofs.lemmas.Option.{slice_get-get_or}
 use Rattle.network.specs.Event.{listed, value_at}
 use Rattle.network.specs.Undone.{look}
 use Rattle.plan.specs.Federation.{federate_count}
-use Rattle.slots.specs.Numbering.{slot_count}
-use Rattle.program.specs.Behaviour.{Behaviour}
+use Rattle.plan_slots.specs.Numbering.{slot_count}
+use Rattle.reactor_program.specs.Behaviour.{Behaviour}
 use Rattle.reactor.specs.Entries.{AgreesBelow}
-use Rattle.federation.specs.Network.{slots_of}
+use Rattle.plan_network.specs.Network.{slots_of}
 use Rattle.reactor.specs.Turn.{Reactor, turn_of}
-use Rattle.whole.specs.Kept.{programs_in, HasSlotsOf}
-use Rattle.whole.specs.Made.{TurnMade}
+use Rattle.whole.specs.Invariant.{programs_in, HasSlotsOf}
+use Rattle.whole.specs.Construction.{TurnMade}
 use Rattle.whole.specs.Progress.{Progress, pending_in, later_by}
 use Rattle.whole.specs.Schedule.{undone_of}
-use Rattle.agenda.proofs.Listed.{listed_value}
+use Rattle.reactor_agenda.proofs.Listed.{listed_value}
 use Rattle.whole.proofs.Turns.{IsTurnMade, done_is_done, due_is_pending, on_err, undone_within, kept_turn, reactor_count, has_slots, slots-given, same-element, programs_in-set}
 use Rattle.whole.proofs.whole.Whole.turn.Goals as goal
 
@@ -24,7 +24,7 @@ returns-in_default-clause-made c =
     let IsOver : Progress → Type 0 = λ p. pending_in p ≡ [] in (
       refl,
       subst IsOver c.self.view_is
-          (done_is_done c.self.inside.plan.now c.self.inside.inputs.now c.self.inside.reactors.items c.self.inside.schedule c.self.inside.gone c.self.inside.rows c.self.invariant c.in_default.ensures),
+          (done_is_done c.self.inside.plan.now c.self.inside.inputs.now c.self.inside.reactors.items c.self.inside.schedule c.self.inside.discarded c.self.inside.rows c.self.invariant c.in_default.ensures),
     )
 
 pub returns-in_err-at-clause-pending : goal.returns-in_err-at-clause-pending
@@ -32,7 +32,7 @@ returns-in_err-at-clause-pending c =
     let IsPending : Progress → Type 0 = λ p. pending_in p ≢ [] in
     on_err c.from_residual.result
     (subst IsPending c.self.view_is
-    (due_is_pending c.self.inside.plan.now c.self.inside.inputs.now c.self.inside.reactors.items c.self.inside.schedule c.self.inside.gone c.self.inside.rows c.self.invariant
+    (due_is_pending c.self.inside.plan.now c.self.inside.inputs.now c.self.inside.reactors.items c.self.inside.schedule c.self.inside.discarded c.self.inside.rows c.self.invariant
     c.in-Some.next.federate c.in-Some.next.tag c.in-Some.ensures))
 
 pub returns-in_err-run_in-clause-pending : goal.returns-in_err-run_in-clause-pending
@@ -40,7 +40,7 @@ returns-in_err-run_in-clause-pending c =
     let IsPending : Progress → Type 0 = λ p. pending_in p ≢ [] in
     on_err c.from_residual-in_err-run_in.result
     (subst IsPending c.self.view_is
-    (due_is_pending c.self.inside.plan.now c.self.inside.inputs.now c.self.inside.reactors.items c.self.inside.schedule c.self.inside.gone c.self.inside.rows c.self.invariant
+    (due_is_pending c.self.inside.plan.now c.self.inside.inputs.now c.self.inside.reactors.items c.self.inside.schedule c.self.inside.discarded c.self.inside.rows c.self.invariant
     c.in-Some.next.federate c.in-Some.next.tag c.in-Some.ensures))
 
 pub returns-in_err-put-clause-pending : goal.returns-in_err-put-clause-pending
@@ -48,7 +48,7 @@ returns-in_err-put-clause-pending c =
     let IsPending : Progress → Type 0 = λ p. pending_in p ≢ [] in
     on_err c.from_residual-in_err-put.result
     (subst IsPending c.self.view_is
-    (due_is_pending c.self.inside.plan.now c.self.inside.inputs.now c.self.inside.reactors.items c.self.inside.schedule c.self.inside.gone c.self.inside.rows c.self.invariant
+    (due_is_pending c.self.inside.plan.now c.self.inside.inputs.now c.self.inside.reactors.items c.self.inside.schedule c.self.inside.discarded c.self.inside.rows c.self.invariant
     c.in-Some.next.federate c.in-Some.next.tag c.in-Some.ensures))
 
 pub index-reactor-requires : goal.index-reactor-requires
@@ -91,7 +91,7 @@ invariant_of-self-2 c =
     let slots : HasSlotsOf d f r = has_slots d reactors f r kept.programs mine in
     let count : slots_of (slice_get d.federates f) ≡ slot_count r.behaviour.slots = slots-given (slice_get d.federates f) r.behaviour.slots slots in
     let entries : c.at.new.entries.items ≡ listed (slot_count r.behaviour.slots) present =
-    c.in_ok-at.ensures (slots_of (slice_get d.federates f)) (undone_within d c.self.inside.inputs.now reactors s c.self.inside.gone c.self.inside.rows kept f there)
+    c.in_ok-at.ensures (slots_of (slice_get d.federates f)) (undone_within d c.self.inside.inputs.now reactors s c.self.inside.discarded c.self.inside.rows kept f there)
     ∙ ap (λ k. listed k present) count in
     let agrees : AgreesBelow (slot_count r.behaviour.slots) (value_at c.as_slice.result.now) present =
     rw (c.as_slice.ensures.value, entries) (listed_value (slot_count r.behaviour.slots) present) in
@@ -99,13 +99,13 @@ invariant_of-self-2 c =
     let t : TurnMade = record {
       federate = f;
       tag = g;
-      stop = c.new.result;
+      stop = c.stop_tag.result;
       inputs = c.as_slice-2.result.now;
       outputs = c.outputs.result.now;
       schedulings = c.schedulings.result.now;
     } in
     let made : IsTurnMade d r s t c.run_in.new.room.states = record {
-      stop = c.new.ensures ∙ ap (λ time. record { time = time; microstep = 0 }) c.stop_time.ensures;
+      stop = c.stop_tag.ensures;
       inputs = c.as_slice-2.ensures.value ∙ entries;
       outputs = c.outputs.ensures ∙ ap (λ x. x.outputs) turn;
       schedulings = c.schedulings.ensures ∙ ap (λ x. x.schedulings) turn;
@@ -115,7 +115,7 @@ invariant_of-self-2 c =
     let is : c.commit_from.new.self ≡ record { behaviour = r.behaviour; states = c.run_in.new.room.states } =
     c.commit_from.ensures ∙ ap (λ (x : Reactor). record { behaviour = x.behaviour; states = c.run_in.new.room.states }) (sym same) in
     rw (is, c.in_ok-put.ensures.row)
-    (kept_turn d c.self.inside.inputs.now reactors s c.self.inside.gone c.self.inside.rows kept t c.put.new.self r c.run_in.new.room.states c.in-Some.ensures c.in_ok-put.ensures.put mine made)
+    (kept_turn d c.self.inside.inputs.now reactors s c.self.inside.discarded c.self.inside.rows kept t c.put.new.self r c.run_in.new.room.states c.in-Some.ensures c.in_ok-put.ensures.put mine made)
 
 pub returns-clause-made : goal.returns-clause-made
 returns-clause-made c =
@@ -124,14 +124,14 @@ returns-clause-made c =
       programs = programs;
       inputs = c.self.inside.inputs.now;
       turns = turns;
-      gone = c.self.inside.gone;
+      discarded = c.self.inside.discarded;
     } in
     let programs = programs_in-set c.self.inside.reactors.items c.in-Some.next.federate c.index_mut-reactor.result.now c.commit_from.new.self
     c.index_mut-reactor.ensures.value (ap (λ (r : Reactor). r.behaviour) c.commit_from.ensures) in
     let one_more : length c.put.new.rows ≡ length c.self.inside.rows + 1 =
     ap length c.in_ok-put.ensures.row ∙ length-append c.self.inside.rows _ in
-    let turns : c.self.inside.gone + length c.put.new.rows ≡ c.self.inside.gone + length c.self.inside.rows + 1 = omega (arith, one_more) in
+    let turns : c.self.inside.discarded + length c.put.new.rows ≡ c.self.inside.discarded + length c.self.inside.rows + 1 = omega (arith, one_more) in
     let IsLater : Progress → Type 0 = λ p.
-    shown (programs_in (slice_set c.self.inside.reactors.items c.in-Some.next.federate c.commit_from.new.self)) (c.self.inside.gone + length c.put.new.rows) ≡ later_by 1 p in
+    shown (programs_in (slice_set c.self.inside.reactors.items c.in-Some.next.federate c.commit_from.new.self)) (c.self.inside.discarded + length c.put.new.rows) ≡ later_by 1 p in
     subst IsLater c.self.view_is
-    (ap (λ ps. shown ps (c.self.inside.gone + length c.put.new.rows)) programs ∙ ap (λ k. shown (programs_in c.self.inside.reactors.items) k) turns)
+    (ap (λ ps. shown ps (c.self.inside.discarded + length c.put.new.rows)) programs ∙ ap (λ k. shown (programs_in c.self.inside.reactors.items) k) turns)

@@ -1,8 +1,8 @@
 use Rattle.std.proofs.Common.{◌≡◌, ap, ◌∙◌}
-use Rattle.cores.specs.FederateCore.{FederateNode}
-use Rattle.cores.specs.CoordinatorCore.{CoordinatorNode}
-use Rattle.schedule.specs.World.{Applied}
-use Rattle.schedule.specs.Federation.{Federation, step_in}
+use Rattle.node_cores.specs.FederateCore.{FederateNode}
+use Rattle.node_cores.specs.CoordinatorCore.{CoordinatorNode}
+use Rattle.world_stations.specs.World.{Applied}
+use Rattle.world_stations.specs.Federation.{Federation, step_in}
 use Rattle.world.specs.World.{stations_of}
 use Rattle.world.proofs.Headline.{faithful, plain_next}
 use Rattle.world.proofs.After.{made_after}

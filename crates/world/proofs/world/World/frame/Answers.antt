@@ -1,6 +1,6 @@
 use Rattle.std.proofs.Common.{ap, ◌∙◌}
-use Rattle.schedule.specs.World.{frames_in, frame_at}
-use Rattle.schedule.specs.Federation.{Federation}
+use Rattle.world_stations.specs.World.{frames_in, frame_at}
+use Rattle.world_stations.specs.Federation.{Federation}
 use Rattle.world.proofs.Seen.{seen}
 use Rattle.world.proofs.world.World.frame.Goals as goal
 

@@ -1,7 +1,7 @@
 use Rattle.std.proofs.Common.{ap, ◌∙◌, option_map}
 use Rattle.link.specs.Image.{room_left}
-use Rattle.schedule.specs.Taken.{sender}
-use Rattle.schedule.specs.Federation.{Federation}
+use Rattle.world_stations.specs.Taken.{sender}
+use Rattle.world_stations.specs.Federation.{Federation}
 use Rattle.world.proofs.Seen.{seen}
 use Rattle.world.proofs.world.World.room_left.Goals as goal
 

@@ -1,6 +1,6 @@
 use Rattle.std.proofs.Common.{◌≡◌, false, sym, ◌∙◌}
 use Rattle.std.specs.List.{list_any}
-use Rattle.schedule.specs.Kept.{is_forget}
+use Rattle.world_stations.specs.Kept.{is_forget}
 use Rattle.world.proofs.Seen.{seen}
 use Rattle.world.proofs.Stuck.{stuck_is}
 use Rattle.world.proofs.world.World.stuck.Goals as goal

@@ -1,6 +1,6 @@
 use Rattle.std.proofs.Common.{ap, ◌∙◌, length, option_map}
-use Rattle.schedule.specs.Taken.{sender}
-use Rattle.schedule.specs.Federation.{Federation}
+use Rattle.world_stations.specs.Taken.{sender}
+use Rattle.world_stations.specs.Federation.{Federation}
 use Rattle.world.proofs.Seen.{seen}
 use Rattle.world.proofs.world.World.unacked.Goals as goal
 

@@ -1,6 +1,0 @@
-use Rattle.std.proofs.Common.{◌≡◌, drop}
-use Rattle.agenda.specs.Kept.{first_firing}
-use Rattle.agenda.proofs.timers.first_firing.Given as goal
-
-abbrev pub invariant-loop-place : goal.invariant-loop-place
-invariant-loop-place l = l.first ≡ first_firing (drop l.place l.timers)

@@ -1,3 +1,0 @@
--- Lemmas.
--- reports that are believed
-mod Believed

@@ -1,2 +1,0 @@
--- Which step an event at a node can be.
-mod Placing

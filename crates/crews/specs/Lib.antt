@@ -1,2 +1,0 @@
--- How it is told that a run gives no desks.
-pub mod Fault

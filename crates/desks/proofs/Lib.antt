@@ -1,3 +1,0 @@
--- Lemmas.
--- desks to which nothing came, and their ends
-mod Unused

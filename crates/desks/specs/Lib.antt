@@ -1,2 +1,0 @@
--- Desks to which nothing came.
-pub mod Opened

@@ -1,5 +1,0 @@
-use Rattle.durations.proofs.ReadBack.{printed_time_spelled}
-use Rattle.durations.proofs.laws.printed_times_spell_themselves.Goals as goal
-
-pub returns : goal.returns
-returns c = printed_time_spelled

@@ -1,3 +1,0 @@
--- Lemmas.
--- reports that aren't taken, and those that are
-mod Refused

@@ -1,0 +1,26 @@
+-- What a run printed stays printed where a writer keeps its bytes.
+use Rattle.std.proofs.Common.{ℕ, List, Option}
+use Rattle.std.specs.Io.KnownBytes.{Keeps}
+use Rattle.std.proofs.KnownBytes.{Appends-kept}
+use Rattle.plan.specs.declared.draft.Draft.{Draft}
+use Rattle.plan.specs.declared.input.Input.{Input}
+use Rattle.reactor_program.specs.Behaviour.{Behaviour}
+use Rattle.fedrun_run.specs.Printed.{PrintsAudited}
+
+pub audited_kept :
+    (d : Draft) (programs : List Behaviour) (inputs : List Input) (before mid after : Option (List ℕ)) →
+    PrintsAudited d programs inputs before mid → Keeps mid after → PrintsAudited d programs inputs before after
+audited_kept d programs inputs before mid after audited kept =
+    let prints = audited.prints in
+    record {
+      reports = audited.reports;
+      coordinator = audited.coordinator;
+      prints = record {
+        steps = prints.steps;
+        proved = prints.proved;
+        finished = prints.finished;
+        prefix = prints.prefix;
+        whole_part = prints.whole_part;
+        printed = Appends-kept before mid after _ prints.printed kept;
+      };
+    }

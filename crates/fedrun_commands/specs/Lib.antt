@@ -1,0 +1,7 @@
+-- What the program answers.
+-- exit statuses, and how faults are printed
+pub mod Faults
+-- what is printed where all went well
+pub mod Printed
+-- which fault stands where not
+pub mod Refused

@@ -1,0 +1,15 @@
+//! The commands of the program `fedrun`: from words, files and writers to what is printed and told, and the exit status.
+//!
+//! Promise to the layer above: with status 0, what the words ask for was printed (`specs/Printed`); with another status, a fault
+//! stands (`specs/Refused`), and it is told on one line (`specs/Faults`). Begin with `command` in `answering.rt`, then `requests.rt`.
+//! What `whole` and `check` do stands in `fedrun_whole`.
+#![tactic(auto)]
+
+pub mod answering;
+pub mod fault;
+mod printing;
+mod requests;
+mod schedules;
+
+pub use answering::{Answered, answer, command, refuse};
+pub use fault::Fault;

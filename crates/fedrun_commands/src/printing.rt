@@ -1,0 +1,96 @@
+//! What a request prints, once its files are read.
+ghost use Rattle.std.specs.Prelude.{◌≡◌, IfErr, OnOk};
+ghost use Rattle.std.specs.Io.KnownBytes.{Keeps};
+ghost use Rattle.plan.specs.External.{AreInputsOf};
+ghost use Rattle.reactor_programs.specs.Programs.{AreProgramsOf};
+ghost use Rattle.fedrun_replay.specs.Replayed.{IsReplayed};
+ghost use Rattle.fedrun_run.specs.Printed.{PrintsAudited};
+ghost use Rattle.fedrun_commands.specs.Faults.{status_of};
+ghost use Rattle.fedrun_commands.specs.Refused.{cannot_write, IsReplayFault, IsRunFault};
+
+use crate::fault::Fault;
+use fedrun_files::Sources;
+use fedrun_replay::{ReplayFault, replay};
+use fedrun_run::{AuditedFault, print_audited_run};
+use fedrun_script::Script;
+use std::alloc::Global;
+use std::io::Write;
+use std::net::{Net, TcpListener, TcpStream};
+use std::sync::Wait;
+use std::thread::Threads;
+use std::time::Clock;
+
+/// Plays a schedule and prints what `replay` does. Where there is no memory for a step, the refused steps before it are written.
+pub(crate) fn print_replay<O: Write>(
+    alloc: Global,
+    sources: &Sources,
+    script: &Script,
+    until_stuck: Option<u32>,
+    out: &mut O,
+) -> Result<(), Fault<'static>>
+    requires programs { AreProgramsOf sources.now.plan sources.now.programs }
+    requires inputs { AreInputsOf sources.now.plan sources.now.inputs }
+    ensures ok { OnOk result (IsReplayed sources.now.plan sources.now.programs sources.now.inputs until_stuck (O.contents out.old) (O.contents out.new)) }
+    ensures stands { IfErr result (IsReplayFault sources.now (O.contents out.old) (O.contents out.new)) }
+    ensures late { IfErr result (λ fault. status_of fault ≡ 3) }
+{
+    match replay(
+        alloc,
+        out,
+        &sources.plan,
+        &sources.programs,
+        &sources.inputs,
+        script,
+        until_stuck,
+    ) {
+        Ok(()) => flush(out),
+        Err(ReplayFault::World(memory)) => {
+            flush(out)?;
+            Err(Fault::World(memory))
+        }
+        Err(ReplayFault::CannotWrite) => Err(cannot_write()),
+    }
+}
+
+/// Runs the federation in threads, audits the run, and prints the rows.
+pub(crate) fn print_run<
+    R: Threads + Wait + Clock + Net<Stream = TcpStream, Listener = TcpListener> + Sync,
+    O: Write,
+>(rt: &R, alloc: Global, sources: &Sources, turns: u32, out: &mut O) -> Result<(), Fault<'static>>
+    requires programs { AreProgramsOf sources.now.plan sources.now.programs }
+    requires inputs { AreInputsOf sources.now.plan sources.now.inputs }
+    ensures ok { OnOk result (PrintsAudited sources.now.plan sources.now.programs sources.now.inputs (O.contents out.old) (O.contents out.new)) }
+    ensures stands { IfErr result (IsRunFault sources.now (O.contents out.old) (O.contents out.new)) }
+    ensures late { IfErr result (λ fault. status_of fault ≡ 3) }
+{
+    match print_audited_run(
+        rt,
+        alloc,
+        &sources.plan,
+        &sources.programs,
+        &sources.inputs,
+        turns,
+        out,
+    ) {
+        Ok(()) => flush(out),
+        Err(AuditedFault::NotFinished(_)) => Err(Fault::NotFinished),
+        Err(AuditedFault::Unproved(failure)) => Err(Fault::Unproved(failure)),
+        Err(AuditedFault::Memory) => Err(Fault::Run(desk::Memory)),
+        Err(AuditedFault::CannotWrite) => Err(cannot_write()),
+    }
+}
+
+/// Sends on what was written.
+fn flush<O: Write>(out: &mut O) -> Result<(), Fault<'static>>
+    ensures kept { Keeps (O.contents out.old) (O.contents out.new) }
+    ensures err { IfErr result (λ fault. fault ≡ cannot_write) }
+{
+    out.flush().map_err(|_| cannot_write())
+}
+
+/// Standard output takes no more.
+fn cannot_write() -> Fault<'static>
+    ensures { result ≡ cannot_write }
+{
+    Fault::Undivided(fedrun_whole::Fault::CannotWrite)
+}

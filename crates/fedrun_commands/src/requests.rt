@@ -1,0 +1,147 @@
+//! Each request: its files are read first, and then it prints.
+ghost use Rattle.std.specs.Prelude.{◌≡◌, ◌≢◌, IfErr, OnOk};
+ghost use Rattle.fedrun_files.specs.Answers.{Answers};
+ghost use Rattle.fedrun_commands.specs.Faults.{status_of};
+ghost use Rattle.fedrun_commands.specs.Printed.{PrintsFor, PrintsAnswer};
+ghost use Rattle.fedrun_commands.specs.Refused.{IsFaultOf, Stands};
+
+use crate::fault::Fault;
+use crate::printing::{print_replay, print_run};
+use crate::schedules::read_schedule;
+use fedrun_files::{Files, read_sources};
+use fedrun_words::Request;
+use std::alloc::Global;
+use std::io::Write;
+use std::net::{Net, TcpListener, TcpStream};
+use std::sync::Wait;
+use std::thread::Threads;
+use std::time::Clock;
+
+/// Does what the words ask for.
+#[tactic(auto, using(fedrun_files::proofs::InTurn::none_answered))]
+pub(crate) fn perform<
+    'a,
+    R: AllocGlobal
+        + Threads
+        + Wait
+        + Clock
+        + Net<Stream = TcpStream, Listener = TcpListener>
+        + Sync,
+    F: Files,
+    O: Write,
+>(rt: &R, words: &'a [String], files: &mut F, out: &mut O) -> Result<(), Fault<'a>>
+    ensures ok { OnOk result (PrintsAnswer (F.contents files.old) (O.contents out.old) (O.contents out.new)) }
+    ensures stands { IfErr result (Stands (F.contents files.old) (Answers (F.answers files.old) (F.answers files.new)) (O.contents out.old) (O.contents out.new)) }
+    ensures untouched { IfErr result (λ fault. status_of fault ≢ 3 → out.new ≡ out.old) }
+{
+    let alloc = rt.alloc();
+    let request = match fedrun_whole::requested(alloc, words) {
+        Ok(request) => request,
+        Err(fault) => return Err(Fault::Undivided(fault)),
+    };
+    match request {
+        Request::Whole {
+            federation,
+            inputs,
+            turns,
+        } => whole(alloc, federation, inputs, turns, files, out),
+        Request::Check { federation } => check(alloc, federation, files, out),
+        Request::Replay {
+            federation,
+            inputs,
+            schedule,
+            until_stuck,
+        } => replay(alloc, federation, inputs, schedule, until_stuck, files, out),
+        Request::Run {
+            federation,
+            inputs,
+            turns,
+        } => run(rt, alloc, federation, inputs, turns, files, out),
+    }
+}
+
+/// Prints the rows of the undivided program after at most so many turns.
+fn whole<'a, F: Files, O: Write>(
+    alloc: Global,
+    federation: &'a str,
+    inputs: &'a str,
+    turns: u32,
+    files: &mut F,
+    out: &mut O,
+) -> Result<(), Fault<'a>>
+    ensures ok { OnOk result (PrintsFor (F.contents files.old) (Request.Whole federation.entry inputs.entry turns) (O.contents out.old) (O.contents out.new)) }
+    ensures stands { IfErr result (IsFaultOf (F.contents files.old) (Answers (F.answers files.old) (F.answers files.new)) (O.contents out.old) (O.contents out.new) (Request.Whole federation.entry inputs.entry turns)) }
+    ensures untouched { IfErr result (λ fault. status_of fault ≢ 3 → out.new ≡ out.old) }
+{
+    match fedrun_whole::whole(alloc, federation, inputs, turns, files, out) {
+        Ok(()) => Ok(()),
+        Err(fault) => Err(Fault::Undivided(fault)),
+    }
+}
+
+/// Runs the federation in threads, of which each makes so many turns at most, and prints the rows that the audit proved.
+fn run<
+    'a,
+    R: Threads + Wait + Clock + Net<Stream = TcpStream, Listener = TcpListener> + Sync,
+    F: Files,
+    O: Write,
+>(
+    rt: &R,
+    alloc: Global,
+    federation: &'a str,
+    inputs: &'a str,
+    turns: u32,
+    files: &mut F,
+    out: &mut O,
+) -> Result<(), Fault<'a>>
+    ensures ok { OnOk result (PrintsFor (F.contents files.old) (Request.Run federation.entry inputs.entry turns) (O.contents out.old) (O.contents out.new)) }
+    ensures stands { IfErr result (IsFaultOf (F.contents files.old) (Answers (F.answers files.old) (F.answers files.new)) (O.contents out.old) (O.contents out.new) (Request.Run federation.entry inputs.entry turns)) }
+    ensures untouched { IfErr result (λ fault. status_of fault ≢ 3 → out.new ≡ out.old) }
+{
+    match read_sources(alloc, federation, inputs, files) {
+        Ok(sources) => print_run(rt, alloc, &sources, turns, out),
+        Err(fault) => Err(Fault::Undivided(fedrun_whole::Fault::Source(fault))),
+    }
+}
+
+/// Prints what a schedule's world refuses, and the rows after it.
+#[tactic(auto, using(fedrun_files::proofs::InTurn::answered_in_turn))]
+fn replay<'a, F: Files, O: Write>(
+    alloc: Global,
+    federation: &'a str,
+    inputs: &'a str,
+    schedule: &'a str,
+    until_stuck: Option<u32>,
+    files: &mut F,
+    out: &mut O,
+) -> Result<(), Fault<'a>>
+    ensures ok { OnOk result (PrintsFor (F.contents files.old) (Request.Replay federation.entry inputs.entry schedule.entry until_stuck) (O.contents out.old) (O.contents out.new)) }
+    ensures stands { IfErr result (IsFaultOf (F.contents files.old) (Answers (F.answers files.old) (F.answers files.new)) (O.contents out.old) (O.contents out.new) (Request.Replay federation.entry inputs.entry schedule.entry until_stuck)) }
+    ensures untouched { IfErr result (λ fault. status_of fault ≢ 3 → out.new ≡ out.old) }
+{
+    let sources = match read_sources(alloc, federation, inputs, files) {
+        Ok(sources) => sources,
+        Err(fault) => return Err(Fault::Undivided(fedrun_whole::Fault::Source(fault))),
+    };
+    match read_schedule(alloc, schedule, &sources.plan, files) {
+        Ok(script) => print_replay(alloc, &sources, &script, until_stuck, out),
+        Err(fault) => Err(fault),
+    }
+}
+
+/// Prints the plan.
+fn check<'a, F: Files, O: Write>(
+    alloc: Global,
+    federation: &'a str,
+    files: &mut F,
+    out: &mut O,
+) -> Result<(), Fault<'a>>
+    ensures ok { OnOk result (PrintsFor (F.contents files.old) (Request.Check federation.entry) (O.contents out.old) (O.contents out.new)) }
+    ensures stands { IfErr result (IsFaultOf (F.contents files.old) (Answers (F.answers files.old) (F.answers files.new)) (O.contents out.old) (O.contents out.new) (Request.Check federation.entry)) }
+    ensures untouched { IfErr result (λ fault. status_of fault ≢ 3 → out.new ≡ out.old) }
+{
+    match fedrun_whole::check(alloc, federation, files, out) {
+        Ok(()) => Ok(()),
+        Err(fault) => Err(Fault::Undivided(fault)),
+    }
+}

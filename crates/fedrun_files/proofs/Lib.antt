@@ -1,0 +1,7 @@
+-- Lemmas.
+-- answers one after the other
+pub mod InTurn
+-- faults of files whose bytes are known
+pub mod KnownFiles
+-- faults where other files were asked for before
+pub mod FaultsInTurn

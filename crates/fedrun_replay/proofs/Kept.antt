@@ -1,0 +1,45 @@
+-- What a replay printed stays printed where a writer keeps its bytes.
+use Rattle.std.proofs.Common.{ℕ, List, Option, None, Some}
+use Rattle.std.specs.Io.KnownBytes.{Keeps}
+use Rattle.std.proofs.KnownBytes.{Appends-kept}
+use Rattle.plan.specs.declared.draft.Draft.{Draft}
+use Rattle.plan.specs.declared.input.Input.{Input}
+use Rattle.reactor_program.specs.Behaviour.{Behaviour}
+use Rattle.world.specs.World.{WorldView}
+use Rattle.fedrun_replay.specs.Replayed.{IsEnded, IsReplayed, IsBrokenOff}
+use Rattle.fedrun_replay.specs.declared.fault.ReplayFault.{ReplayFault}
+use Rattle.fedrun_replay.specs.declared.fault.ReplayFault.TheVariants.{World, CannotWrite}
+
+ended_kept : (closing : Option ℕ) (w : WorldView) (before mid after : Option (List ℕ)) → IsEnded closing w before mid → Keeps mid after
+    → IsEnded closing w before after
+ended_kept None w before mid after ended kept = Appends-kept before mid after _ ended kept
+ended_kept (Some most) w before mid after ended kept =
+    record { is_stuck = ended.is_stuck; tells = ended.tells; printed = Appends-kept before mid after _ ended.printed kept }
+
+-- all of a replay
+pub replayed_kept :
+    (d : Draft) (programs : List Behaviour) (inputs : List Input) (closing : Option ℕ) (before mid after : Option (List ℕ)) →
+    IsReplayed d programs inputs closing before mid → Keeps mid after → IsReplayed d programs inputs closing before after
+replayed_kept d programs inputs closing before mid after replayed kept =
+    record {
+      last = replayed.last;
+      played = replayed.played;
+      plays = replayed.plays;
+      ended = ended_kept closing replayed.last replayed.played mid after replayed.ended kept;
+      faithful = replayed.faithful;
+    }
+
+-- the refused steps of one that broke off
+pub broken_off_kept :
+    (d : Draft) (programs : List Behaviour) (inputs : List Input) (why : ReplayFault) (before mid after : Option (List ℕ)) →
+    IsBrokenOff d programs inputs before mid why → Keeps mid after → IsBrokenOff d programs inputs before after why
+broken_off_kept d programs inputs (World memory) before mid after broken kept =
+    let plays = broken.1 in (
+      broken.0,
+      record {
+        made = plays.made;
+        later_is = plays.later_is;
+        printed = Appends-kept before mid after _ plays.printed kept;
+      },
+    )
+broken_off_kept d programs inputs CannotWrite before mid after broken kept = tt

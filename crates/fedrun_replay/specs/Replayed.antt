@@ -1,0 +1,61 @@
+-- All that a replay prints: the refused steps, how the closing rounds ended, and each federate's history.
+use Rattle.std.specs.Prelude.{◌≡◌, ◌↔◌, ℕ, Bool, IsTrue, if◌then◌else◌, List, [], ◌++◌, Option, None, Some, codes}
+use Rattle.std.specs.Fmt.{decimal}
+use Rattle.std.specs.Io.KnownBytes.{Appends}
+use Rattle.plan.specs.declared.draft.Draft.{Draft}
+use Rattle.plan.specs.declared.input.Input.{Input}
+use Rattle.plan.specs.Federation.{federate_count}
+use Rattle.reactor_program.specs.Behaviour.{Behaviour}
+use Rattle.world_stations.specs.Kept.{is_kept}
+use Rattle.world_stations.specs.Federation.{IsStuck, rows_in}
+use Rattle.fedrun_text.specs.RowText.{printed_rows}
+use Rattle.fedrun_text.specs.PlanText.{federate_name, printed_each}
+use Rattle.world.specs.World.{WorldView, stations_of}
+use Rattle.world.specs.Faithful.{IsFaithful}
+use Rattle.fedrun_replay.specs.declared.fault.ReplayFault.{ReplayFault}
+use Rattle.fedrun_replay.specs.declared.fault.ReplayFault.TheVariants.{World, CannotWrite}
+use Rattle.fedrun_replay.specs.Play.{Plays}
+
+-- federate j's rows where it kept its state, else that it forgot
+abbrev pub history : WorldView → ℕ → List ℕ
+history w j =
+    if is_kept w.steps j
+    then printed_rows w.draft.federates (rows_in (stations_of w) j)
+    else federate_name w.draft j ++ codes " forgotten\n"
+
+-- each federate's history, in order, and the end
+abbrev pub histories : WorldView → List ℕ
+histories w = printed_each (history w) (federate_count w.draft) ++ codes "end\n"
+
+-- how closing rounds ended: the world is stuck, or so many were made
+abbrev pub verdict : ℕ → Bool → List ℕ
+verdict most is_stuck = if is_stuck then codes "stuck\n" else codes "stopped at " ++ (decimal most ++ codes " rounds\n")
+
+-- a federation's world of which nothing was asked
+abbrev pub unasked : Draft → List Behaviour → List Input → WorldView
+unasked d programs inputs = record { draft = d; programs = programs; inputs = inputs; steps = [] }
+
+-- a writer's bytes grew by how at most so many closing rounds ended, and by each federate's history
+pub record IsClosed (most : ℕ) (w : WorldView) (before after : Option (List ℕ)) : Type 0 where
+  pub is_stuck : Bool
+  pub tells : IsTrue is_stuck ↔ IsStuck (stations_of w)
+  pub printed : Appends before after (verdict most is_stuck ++ histories w)
+
+-- it grew by the histories, after how closing rounds ended where some were asked for
+abbrev pub IsEnded : Option ℕ → WorldView → Option (List ℕ) → Option (List ℕ) → Type 0
+IsEnded None w before after = Appends before after (histories w)
+IsEnded (Some most) w before after = IsClosed most w before after
+
+-- a writer's bytes grew by what is printed of some steps in a world of which nothing was asked, and then by what is told at the end
+-- of the world after them: all that is known of worlds holds of it
+pub record IsReplayed (d : Draft) (programs : List Behaviour) (inputs : List Input) (closing : Option ℕ) (before after : Option (List ℕ)) : Type 0 where
+  pub last : WorldView
+  pub played : Option (List ℕ)
+  pub plays : Plays (unasked d programs inputs) last before played
+  pub ended : IsEnded closing last played after
+  pub faithful : IsFaithful last
+
+-- out of memory a writer's bytes grew by what is printed of some steps, and no more
+abbrev pub IsBrokenOff : Draft → List Behaviour → List Input → Option (List ℕ) → Option (List ℕ) → ReplayFault → Type 0
+IsBrokenOff d programs inputs before after (World memory) = (later : WorldView) × Plays (unasked d programs inputs) later before after
+IsBrokenOff d programs inputs before after CannotWrite = Unit {0}

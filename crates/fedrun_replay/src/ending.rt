@@ -1,0 +1,93 @@
+//! What is printed at the end.
+ghost use Rattle.std.specs.Prelude.{◌≡◌, ◌<◌, OnOk};
+ghost use Rattle.std.specs.Io.KnownBytes.{Appends};
+ghost use Rattle.plan.specs.Federation.{federate_count};
+ghost use Rattle.fedrun_text.specs.PlanText.{federate_name};
+ghost use Rattle.fedrun_replay.specs.Replayed.{history, histories, verdict, IsClosed, IsEnded};
+
+use fedrun_text::write_rows;
+use plan::Plan;
+use std::io;
+use std::io::Write;
+use world::World;
+
+/// Writes how closing rounds ended, if some were asked for; then each federate's history, and the end.
+pub fn write_end<W: Write>(
+    out: &mut W,
+    plan: &Plan,
+    world: &World<'_>,
+    closing: Option<u32>,
+) -> io::Result<()>
+    requires { plan.now ≡ world.now.draft }
+    ensures { OnOk result (IsEnded closing world.now (W.contents out.old) (W.contents out.new)) }
+{
+    match closing {
+        Some(most) => write_closed(out, plan, world, most),
+        None => write_histories(out, plan, world),
+    }
+}
+
+// Writes how closing rounds ended, each federate's history, and the end.
+fn write_closed<W: Write>(out: &mut W, plan: &Plan, world: &World<'_>, most: u32) -> io::Result<()>
+    requires { plan.now ≡ world.now.draft }
+    ensures { OnOk result (IsClosed most world.now (W.contents out.old) (W.contents out.new)) }
+{
+    write_verdict(out, most, world.stuck())?;
+    write_histories(out, plan, world)
+}
+
+// Writes that the world is stuck, or how many rounds were made.
+fn write_verdict<W: Write>(out: &mut W, most: u32, is_stuck: bool) -> io::Result<()>
+    ensures { OnOk result (Appends (W.contents out.old) (W.contents out.new) (verdict most is_stuck)) }
+{
+    if is_stuck {
+        out.write_all(b"stuck\n")
+    } else {
+        writeln!(out, "stopped at {most} rounds")
+    }
+}
+
+// Writes each federate's rows, or that it forgot; then the end.
+fn write_histories<W: Write>(out: &mut W, plan: &Plan, world: &World<'_>) -> io::Result<()>
+    requires { plan.now ≡ world.now.draft }
+    ensures { OnOk result (Appends (W.contents out.old) (W.contents out.new) (histories world.now)) }
+{
+    for federate in 0..plan.federate_count() {
+        write_history(out, plan, world, federate)?;
+    }
+    out.write_all(b"end\n")
+}
+
+// Writes a federate's rows, or that it forgot.
+fn write_history<W: Write>(
+    out: &mut W,
+    plan: &Plan,
+    world: &World<'_>,
+    federate: usize,
+) -> io::Result<()>
+    requires same { plan.now ≡ world.now.draft }
+    requires there { federate < federate_count plan.now }
+    ensures { OnOk result (Appends (W.contents out.old) (W.contents out.new) (history world.now federate)) }
+{
+    if !world.kept(federate) {
+        out.write_all(name_of(plan, federate).as_bytes())?;
+        return out.write_all(b" forgotten\n");
+    }
+    match world.rows(federate) {
+        Some(rows) => {
+            write_rows(out, plan, rows)?;
+            Ok(())
+        }
+        None => Ok(()),
+    }
+}
+
+// The name of a federate; empty where there is none.
+fn name_of(plan: &Plan, federate: usize) -> &str
+    ensures { result.now ≡ federate_name plan.now federate }
+{
+    match plan.federates().get(federate) {
+        Some(federate) => federate.name.as_str(),
+        None => "",
+    }
+}

@@ -1,0 +1,49 @@
+-- Reports of desks, one after the other.
+use Rattle.std.proofs.Common.{◌≡◌, ℕ, true, inl, inr, List, [], ◌∷◌, ◌++◌, length, Option, Result, Ok, Err, IsOkAnd, sym, subst, arith}
+use Rattle.std.proofs.lemmas.List.{length_push}
+use Rattle.std.proofs.lemmas.Option.{slice_get_within}
+use Rattle.node.specs.declared.event.Event.{Event}
+use Rattle.node.specs.Core.{Core}
+use Rattle.desk.specs.Replay.{Desk}
+use Rattle.recorder_reports.specs.declared.report.Report.{Report}
+use Rattle.wires.specs.declared.job.WorkerResult.{WorkerResult}
+use Rattle.wires.specs.Gathered.{AreGathered}
+use Rattle.wires.proofs.Pushed.{get_pushed}
+use Rattle.fedrun_run.specs.Reported.{IsReportOf, AreReportsOf, AreReported}
+
+-- one desk more, with its report
+pub one_desk_more : {View : Type 0} (Tells : View → Report → Type 0) (desks : List (Desk View)) (desk : Desk View) (reports after : List Report) (report : Report) (number : ℕ) →
+    after ≡ reports ++ report ∷ [] → number ≡ length reports → AreReportsOf Tells desks reports → IsReportOf Tells number desk report → AreReportsOf Tells (desks ++ desk ∷ []) after
+one_desk_more {View = View} Tells desks desk reports after report number taken counted are is = subst (λ (rs : List Report). AreReportsOf Tells (desks ++ desk ∷ []) rs) (sym taken) (record {
+  count = let a = length_push desks desk in let b = length_push reports report in let c = are.count in omega arith;
+  each = λ j one its there here.
+      elim (get_pushed desks desk one j there) [
+        | inl early ↦ elim (get_pushed reports report its j here) [
+          | inl before ↦ are.each j one its early before
+          | inr last ↦ let bad : ⊥ = omega (arith, slice_get_within desks j one early, last.0, are.count) in absurd bad
+        ]
+        | inr end ↦ elim (get_pushed reports report its j here) [
+          | inl before ↦ let bad : ⊥ = omega (arith, slice_get_within reports j its before, end.0, are.count) in absurd bad
+          | inr last ↦
+              let same : number ≡ j = omega (arith, counted, last.0) in
+              subst (λ (r : Report). IsReportOf Tells j one r) last.1
+              (subst (λ (d : Desk View). IsReportOf Tells j d report) end.1
+              (subst (λ (k : ℕ). IsReportOf Tells k desk report) same is))
+        ]
+      ];
+})
+
+-- what follows of each value holds of that of a result
+ok_and : {T E : Type 0} (r : Result T E) (P Q : T → Type 0) → ((x : T) → P x → Q x) → IsOkAnd r P → IsOkAnd r Q
+ok_and (Ok x) P Q follows p = follows x p
+ok_and (Err e) P Q follows p = p
+
+-- what the desks of a finished run say, of which it is known from what they were gathered
+pub reported_so : {OfCoordinator OfFederate Row T E : Type 0} (core : Core OfCoordinator Row) (Tells : OfFederate → Report → Type 0) (items : T → List (Option WorkerResult)) (results : Result T E)
+    (coordinator : Desk OfCoordinator) (federates : List (Desk OfFederate)) (reports : List Report) (journal : List Event) →
+    IsOkAnd results (λ left. AreGathered coordinator federates (items left)) → core.finished coordinator.station.node ≡ true → journal ≡ coordinator.journal →
+    AreReportsOf Tells federates reports → IsOkAnd results (λ left. AreReported core Tells (items left) reports journal)
+reported_so core Tells items results coordinator federates reports journal gathered finished from are =
+    ok_and results (λ left. AreGathered coordinator federates (items left)) (λ left. AreReported core Tells (items left) reports journal)
+    (λ left p. record { coordinator = coordinator; federates = federates; gathered = p; finished = finished; from_coordinator = from; from_federates = are })
+    gathered

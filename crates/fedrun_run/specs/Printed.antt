@@ -1,0 +1,105 @@
+-- What is printed of a run that an audit proved, and what stands where nothing is.
+use Rattle.std.specs.Prelude.{◌≡◌, ◌⊎◌, ℕ, ◌<◌, List, Option}
+use Rattle.std.specs.Io.KnownBytes.{Appends}
+use Rattle.network.specs.Undivided.{whole, part}
+use Rattle.network_laws.specs.Settled.{BeginsWith}
+use Rattle.protocol_laws.specs.Rows.{HasEveryRow}
+use Rattle.plan.specs.declared.draft.Draft.{Draft}
+use Rattle.plan.specs.declared.input.Input.{Input}
+use Rattle.plan.specs.Federation.{federate_count}
+use Rattle.reactor_program.specs.Behaviour.{Behaviour}
+use Rattle.plan_network.specs.Network.{network_of}
+use Rattle.node.specs.declared.event.Event.{Event}
+use Rattle.world_stations.specs.declared.step.Step.{Step}
+use Rattle.fedrun_text.specs.RowText.{printed_rows}
+use Rattle.fedrun_text.specs.PlanText.{printed_each}
+use Rattle.wires.specs.declared.run_fault.Cause.{Cause}
+use Rattle.wires.specs.declared.run_fault.Cause.TheVariants.{TurnsUsedUp}
+use Rattle.recorder_reports.specs.declared.report.Report.{Report}
+use Rattle.recorder_reports.specs.declared.report_fault.ReportFault.{ReportFault}
+use Rattle.recorder_reports.specs.declared.report_fault.ReportFault.TheVariants as report_fault
+use Rattle.recorder_reports.specs.declared.unproved.Unproved.{Unproved}
+use Rattle.recorder_reports.specs.Reports.{reported_rows}
+use Rattle.recorder.specs.Audited.{Claim, IsProvedBy, IsFinishedBy, IsUnproved}
+use Rattle.fedrun_run.specs.declared.audit_failure.AuditFailure.{AuditFailure}
+use Rattle.fedrun_run.specs.declared.audit_failure.AuditFailure.TheVariants as failure
+use Rattle.fedrun_run.specs.declared.fault.AuditedFault.{AuditedFault}
+use Rattle.fedrun_run.specs.declared.fault.AuditedFault.TheVariants as fault
+use Rattle.fedrun_run.specs.AuditFailures.{IsFailureOf}
+
+-- what is audited: the federation's reports and its coordinator's journal
+abbrev pub claim : Draft → List Behaviour → List Input → List Report → List Event → Claim
+claim d programs inputs reports coordinator =
+    record { draft = d; programs = programs; inputs = inputs; reports = reports; coordinator = coordinator }
+
+-- the rows that each federate reports, federate by federate
+abbrev pub printed_reports : Draft → List Report → List ℕ
+printed_reports d reports = printed_each (λ j. printed_rows d.federates (reported_rows reports j)) (federate_count d)
+
+-- a writer's bytes grew by the rows of these reports, which an audit proved with this journal of the coordinator:
+pub record PrintsReports (d : Draft) (programs : List Behaviour) (inputs : List Input) (reports : List Report) (coordinator : List Event) (before after : Option (List ℕ)) : Type 0 where
+  pub steps : List Step
+  -- these steps of the federation's world give each federate's journal and rows as it reports them, and the coordinator's journal
+  pub proved : IsProvedBy (claim d programs inputs reports coordinator) steps
+  -- that journal gives a finished coordinator
+  pub finished : IsFinishedBy (claim d programs inputs reports coordinator)
+  -- so each federate's rows are rows of its part of what the undivided program computes, in their order, from the first on
+  pub prefix : (j : ℕ) → j < federate_count d →
+      (turns : ℕ) × BeginsWith (part j (whole (network_of d programs inputs) turns)) (reported_rows reports j)
+  -- and none of that part is missing
+  pub whole_part : (j : ℕ) → j < federate_count d → HasEveryRow (network_of d programs inputs) j (reported_rows reports j)
+  -- they are printed, federate by federate
+  pub printed : Appends before after (printed_reports d reports)
+
+-- the same of some reports and some journal of the coordinator
+pub record PrintsAudited (d : Draft) (programs : List Behaviour) (inputs : List Input) (before after : Option (List ℕ)) : Type 0 where
+  pub reports : List Report
+  pub coordinator : List Event
+  pub prints : PrintsReports d programs inputs reports coordinator before after
+
+-- an audit doesn't believe these reports with this journal of the coordinator, and answers this failure
+pub record IsAuditFailureOf (d : Draft) (programs : List Behaviour) (inputs : List Input) (reports : List Report) (coordinator : List Event) (failure : AuditFailure) : Type 0 where
+  pub fault : Unproved
+  pub unproved : IsUnproved (claim d programs inputs reports coordinator) fault
+  pub answered : IsFailureOf d fault failure
+
+-- the same of some reports and some journal of the coordinator
+pub record IsAuditFailure (d : Draft) (programs : List Behaviour) (inputs : List Input) (failure : AuditFailure) : Type 0 where
+  pub reports : List Report
+  pub coordinator : List Event
+  pub fails : IsAuditFailureOf d programs inputs reports coordinator failure
+
+-- these reports are proved, and this journal doesn't give a finished coordinator
+pub record IsUnfinished (d : Draft) (programs : List Behaviour) (inputs : List Input) (reports : List Report) (coordinator : List Event) : Type 0 where
+  pub steps : List Step
+  pub proved : IsProvedBy (claim d programs inputs reports coordinator) steps
+  pub unfinished : ¬ IsFinishedBy (claim d programs inputs reports coordinator)
+
+-- how a report that isn't taken is printed
+abbrev pub fault_of : ReportFault → AuditedFault
+fault_of report_fault.Stranger = fault.Unproved failure.Stranger
+fault_of report_fault.Double = fault.Unproved failure.Double
+fault_of report_fault.Memory = fault.Memory
+
+-- why the rows of these reports, with this journal of the coordinator, aren't printed, or not all of them. Of the output nothing is
+-- said; an audit that is out of memory is among its failures
+abbrev pub IsAuditedFaultOf : Draft → List Behaviour → List Input → List Report → List Event → AuditedFault → Type 0
+IsAuditedFaultOf d programs inputs reports coordinator (fault.Unproved failure) = IsAuditFailureOf d programs inputs reports coordinator failure
+IsAuditedFaultOf d programs inputs reports coordinator (fault.NotFinished cause) = (cause ≡ TurnsUsedUp) × IsUnfinished d programs inputs reports coordinator
+IsAuditedFaultOf d programs inputs reports coordinator fault.Memory = ⊥
+IsAuditedFaultOf d programs inputs reports coordinator fault.CannotWrite = Unit {0}
+
+-- why a run's rows aren't printed, or not all of them. Of the machine, its memory and how far a run came nothing is said
+abbrev pub IsAuditedFault : Draft → List Behaviour → List Input → AuditedFault → Type 0
+IsAuditedFault d programs inputs (fault.Unproved failure) = IsAuditFailure d programs inputs failure
+IsAuditedFault d programs inputs (fault.NotFinished cause) = Unit {0}
+IsAuditedFault d programs inputs fault.Memory = Unit {0}
+IsAuditedFault d programs inputs fault.CannotWrite = Unit {0}
+
+-- the fault of a run whose nodes give nothing to audit
+abbrev pub IsOfTheRun : AuditedFault → Type 0
+IsOfTheRun answered = ((cause : Cause) × (answered ≡ fault.NotFinished cause)) ⊎ (answered ≡ fault.Memory)
+
+-- a fault of a plan's federation, whatever its programs and inputs are
+abbrev pub IsFaultOfPlan : Draft → AuditedFault → Type 0
+IsFaultOfPlan d answered = (programs : List Behaviour) (inputs : List Input) → IsAuditedFault d programs inputs answered

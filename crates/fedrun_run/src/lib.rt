@@ -1,0 +1,28 @@
+//! A federation run in threads, and its rows printed once they are audited.
+//!
+//! Promise to the layer above: rows are printed only of reports that an audit proved, and whose coordinator is finished: so they
+//! are each federate's whole part of what the undivided program computes (`specs/Printed`).
+//!
+//!     print_audited_run --> desks            a desk for each node
+//!                       --> wires            all nodes in threads, over TCP on loopback
+//!                       --> watching         beside them the audit, as far as it comes
+//!                       --> node_reports     what each node's desk says, where the run is finished (`specs/Reported`)
+//!                       --> printing         the audit of these reports to its end, and the reported rows
+//!
+//! Begin with `running`, then `node_reports` and `printing`.
+#![tactic(auto)]
+
+pub mod audit_failure;
+pub mod desks;
+pub mod fault;
+mod node_reports;
+pub mod printing;
+mod reporting;
+pub mod running;
+mod watching;
+
+pub use audit_failure::AuditFailure;
+pub use desks::{coordinator_desk, federate_desks};
+pub use fault::AuditedFault;
+pub use printing::print_audited;
+pub use running::print_audited_run;

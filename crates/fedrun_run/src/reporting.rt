@@ -1,0 +1,30 @@
+ghost use Rattle.std.specs.Prelude.{◌≡◌};
+ghost use Rattle.recorder_reports.specs.declared.report.Report.{Report as IsReport};
+
+use federate::Federate;
+use node::{Event, Node};
+use recorder_reports::Report;
+
+/// A node that reports what it computed.
+pub(crate) trait Reporting: Node {
+    // What its report says of it.
+    ghost tells: { Self → IsReport → Type 0 };
+
+    /// Its report, as the federate of this number and with this journal.
+    fn report(self, federate: usize, journal: Vec<Event>) -> Report
+        ensures federate { result.federate ≡ federate }
+        ensures rows { tells self result }
+        ensures journal { result.journal.items ≡ journal.items };
+}
+
+impl<'a> Reporting for Federate<'a> {
+    ghost tells = { λ node report. report.rows ≡ node.federate.rows };
+
+    fn report(self, federate: usize, journal: Vec<Event>) -> Report {
+        Report {
+            federate,
+            rows: self.into_rows(),
+            journal,
+        }
+    }
+}

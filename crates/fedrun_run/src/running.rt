@@ -1,0 +1,156 @@
+ghost use Rattle.std.specs.Prelude.{◌≡◌, ◌≢◌, OnOk, IfErr};
+ghost use Rattle.plan.specs.External.{AreInputsOf};
+ghost use Rattle.reactor_programs.specs.Programs.{AreProgramsOf};
+ghost use Rattle.fedrun_run.specs.Printed.{PrintsAudited, IsAuditedFault, IsFaultOfPlan};
+
+use crate::node_reports::{NodeReports, reports_by};
+use crate::reporting::Reporting;
+use crate::watching::watch;
+use crate::{AuditedFault, coordinator_desk, federate_desks, print_audited};
+use coordinator::Coordinator;
+use federate::Federate;
+use node::Node;
+use plan::{Inputs, Plan};
+use reactor_programs::Programs;
+use recorder::IncrementalAudit;
+use std::alloc::Global;
+use std::io::Write;
+use std::net::{Net, TcpListener, TcpStream};
+use std::sync::Wait;
+use std::thread;
+use std::thread::Threads;
+use std::time::Clock;
+use wires::{Nodes, RunFault, WorkerResult, run_over_tcp};
+use wires_workers::NoGate;
+
+/// Runs the federation in threads over TCP on loopback until the coordinator is finished or a runner has made so many turns,
+/// audits what its nodes wrote down, and prints each federate's rows, federate by federate. The caller flushes. That a run isn't
+/// finished comes before any failure of the audit.
+pub fn print_audited_run<
+    R: Threads + Wait + Clock + Net<Stream = TcpStream, Listener = TcpListener> + Sync,
+    O: Write,
+>(
+    rt: &R,
+    alloc: Global,
+    plan: &Plan,
+    programs: &Programs,
+    inputs: &Inputs,
+    turns: u32,
+    out: &mut O,
+) -> Result<(), AuditedFault>
+    requires programs { AreProgramsOf plan.now programs.now }
+    requires inputs { AreInputsOf plan.now inputs.now }
+    ensures ok { OnOk result (PrintsAudited plan.now programs.now inputs.now (O.contents out.old) (O.contents out.new)) }
+    ensures told { IfErr result (IsAuditedFault plan.now programs.now inputs.now) }
+    ensures untouched { IfErr result (λ fault. fault ≢ AuditedFault.CannotWrite → O.contents out.new ≡ O.contents out.old) }
+{
+    let Ok(audit) = IncrementalAudit::new(alloc, plan, programs, inputs) else {
+        return Err(AuditedFault::Memory);
+    };
+    let Ok(nodes) = nodes_of(alloc, plan, programs, inputs) else {
+        return Err(AuditedFault::Memory);
+    };
+    let (audit, node_reports) = run_and_ask(rt, alloc, plan, nodes, audit, turns);
+    let node_reports = node_reports?;
+    print_audited(
+        alloc,
+        plan,
+        audit,
+        node_reports.reports.reports(),
+        &node_reports.coordinator,
+        out,
+    )
+}
+
+// Runs the nodes, and asks them what they say, with the audit beside both.
+fn run_and_ask<
+    'a,
+    R: Threads + Wait + Clock + Net<Stream = TcpStream, Listener = TcpListener> + Sync,
+    H: Node + Send,
+    M: Reporting + Send,
+>(
+    rt: &R,
+    alloc: Global,
+    plan: &'a Plan,
+    nodes: Nodes<H, M>,
+    audit: IncrementalAudit<'a>,
+    turns: u32,
+) -> (IncrementalAudit<'a>, Result<NodeReports<'a>, AuditedFault>)
+    ensures audit { result.0 ≡ audit.entry }
+    ensures told { IfErr result.1 (IsFaultOfPlan plan.now) }
+{
+    let (audit, results) = run_watched(rt, alloc, &nodes, audit, turns);
+    take_apart(rt, alloc, plan, nodes, results, audit)
+}
+
+// Runs the nodes, and makes steps of the audit beside the run; where there is no thread for that, after it.
+fn run_watched<
+    'a,
+    R: Threads + Wait + Clock + Net<Stream = TcpStream, Listener = TcpListener> + Sync,
+    H: Node + Send,
+    M: Node + Send,
+>(
+    rt: &R,
+    alloc: Global,
+    nodes: &Nodes<H, M>,
+    audit: IncrementalAudit<'a>,
+    turns: u32,
+) -> (
+    IncrementalAudit<'a>,
+    Result<Vec<Option<WorkerResult>>, RunFault>,
+)
+    ensures { result.0 ≡ audit.entry }
+{
+    thread::join(
+        rt,
+        ||
+            ensures { result ≡ audit.entry }
+        { watch(rt, alloc, nodes, audit) },
+        || run_over_tcp(rt, alloc, nodes, &NoGate, turns),
+    )
+}
+
+// Takes the desks apart, and makes what is left of the audit's steps beside that.
+fn take_apart<'a, R: Threads + Sync, H: Node + Send, M: Reporting + Send>(
+    rt: &R,
+    alloc: Global,
+    plan: &'a Plan,
+    nodes: Nodes<H, M>,
+    results: Result<Vec<Option<WorkerResult>>, RunFault>,
+    mut audit: IncrementalAudit<'a>,
+) -> (IncrementalAudit<'a>, Result<NodeReports<'a>, AuditedFault>)
+    ensures audit { result.0 ≡ audit.entry }
+    ensures told { IfErr result.1 (IsFaultOfPlan plan.now) }
+{
+    thread::join(
+        rt,
+        ||
+            ensures { result ≡ audit.entry }
+        {
+            audit.go_on(alloc);
+            audit
+        },
+        ||
+            ensures { IfErr result (IsFaultOfPlan plan.entry.now) }
+        { reports_by(alloc, plan, nodes, results) },
+    )
+}
+
+// The desks of all nodes of a federation, before their workers begin.
+fn nodes_of<'a>(
+    alloc: Global,
+    plan: &'a Plan,
+    programs: &'a Programs,
+    inputs: &'a Inputs,
+) -> Result<Nodes<Coordinator<'a>, Federate<'a>>, RunFault>
+    requires programs { AreProgramsOf plan.now programs.now }
+    requires inputs { AreInputsOf plan.now inputs.now }
+{
+    let Ok(federates) = federate_desks(alloc, plan, programs, inputs) else {
+        return Err(RunFault::Memory);
+    };
+    let Ok(coordinator) = coordinator_desk(alloc, plan) else {
+        return Err(RunFault::Memory);
+    };
+    Nodes::new(alloc, coordinator, federates)
+}

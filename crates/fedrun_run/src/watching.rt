@@ -1,0 +1,79 @@
+//! What is done beside the threads of a run: what its nodes write down is read, and steps are made for it ahead.
+ghost use Rattle.std.specs.Prelude.{◌≡◌};
+
+use desk::Shared;
+use node::{Event, Node, NodeId};
+use recorder::IncrementalAudit;
+use std::alloc::Global;
+use std::sync::Wait;
+use std::thread;
+use std::time::{Clock, Duration};
+use wires::Nodes;
+
+// How many events are copied at once while a node's lock is held.
+const AT_ONCE: usize = 16_384;
+// How long the nodes are left alone where nothing is new, in ms.
+const PAUSE: u64 = 1;
+
+// Reads what the nodes write down, and makes steps for it; when the run is to end, it only reads what is left. Nothing rests on
+// how much of it is read.
+pub(crate) fn watch<'a, R: Wait + Clock, H: Node, M: Node>(
+    rt: &R,
+    alloc: Global,
+    nodes: &Nodes<H, M>,
+    mut audit: IncrementalAudit<'a>,
+) -> IncrementalAudit<'a>
+    ensures { result ≡ audit.entry }
+{
+    let mut events = Vec::new(alloc);
+    for _ in rt.forever() {
+        if audit.is_given_up() {
+            break;
+        }
+        let is_ending = nodes.ending.is_set();
+        let is_new = look(rt, nodes, &mut audit, &mut events);
+        if !is_ending {
+            if is_new {
+                audit.go_on(alloc);
+            } else {
+                thread::sleep(rt, Duration::from_millis(PAUSE));
+            }
+        } else if !is_new {
+            break;
+        }
+    }
+    audit
+}
+
+// Takes in what the nodes wrote down since; whether that is anything.
+fn look<R: Wait, H: Node, M: Node>(
+    rt: &R,
+    nodes: &Nodes<H, M>,
+    audit: &mut IncrementalAudit<'_>,
+    events: &mut Vec<Event>,
+) -> bool
+    ensures { audit.new ≡ audit.old }
+{
+    let mut is_new = take(rt, &nodes.coordinator, NodeId::Coordinator, audit, events);
+    for (number, federate) in nodes.federates.iter().enumerate() {
+        if take(rt, federate, NodeId::Federate(number), audit, events) {
+            is_new = true;
+        }
+    }
+    is_new
+}
+
+// Takes in what a node wrote down since; whether that is anything.
+fn take<N: Node, R: Wait>(
+    rt: &R,
+    shared: &Shared<N>,
+    node: NodeId,
+    audit: &mut IncrementalAudit<'_>,
+    events: &mut Vec<Event>,
+) -> bool
+    ensures { audit.new ≡ audit.old }
+{
+    events.clear();
+    let copied = shared.copy_events(rt, audit.known(node), AT_ONCE, events);
+    copied.is_ok() && !events.is_empty() && audit.add(node, events).is_ok()
+}

@@ -1,0 +1,2 @@
+-- A row's parts, with what stands between them.
+pub mod Lines

@@ -1,0 +1,11 @@
+-- How out of memory for printed text is printed.
+use Rattle.std.specs.Prelude.{ℕ, List, ◌++◌, codes}
+use Rattle.std.specs.Fmt.{decimal}
+
+-- its number: that of every out of memory after loading which has none of its own
+abbrev pub memory_number : ℕ
+memory_number = 91
+
+-- what is printed of it
+abbrev pub memory_text : List ℕ
+memory_text = decimal memory_number ++ codes " Memory"

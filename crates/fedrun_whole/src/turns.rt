@@ -1,0 +1,113 @@
+ghost use Rattle.std.specs.Prelude.{◌≡◌, ◌≢◌, ◌<◌, ◌≤◌, ℕ, List, [], Option, IfOk, IfErr, OnOk, OnErr};
+ghost use Rattle.plan.specs.External.{AreInputsOf};
+ghost use Rattle.reactor_programs.specs.Programs.{AreProgramsOf};
+ghost use Rattle.whole.specs.Progress.{pending_in};
+ghost use Rattle.fedrun_whole.specs.PrintedTurns.{PrintsRows, PrintsFirstRows, IsPrinted, let_go_after};
+
+use fedrun_text::{CannotWrite, write_rows};
+use plan::{Inputs, Plan};
+use reactor_programs::Programs;
+use std::alloc::Global;
+use std::io::Write;
+use whole::Whole;
+
+/// Of how many turns the rows are kept before they are written.
+const TURNS_AT_ONCE: u32 = 1024;
+
+/// Why not all rows are printed.
+#[derive(Clone, Copy, Debug, PartialEq, Eq)]
+pub enum TurnsFault {
+    /// No memory for a turn: the rows of the turns before it are written. The call may be made again, with fewer turns.
+    Memory(reactor::Memory),
+    /// The output refused a write. How much of the text it took isn't known.
+    CannotWrite,
+}
+
+/// Prints the rows of the undivided program after at most so many turns, one a line, as they are made. Where there is no
+/// memory for a turn, the rows before it are written.
+pub fn print_turns<O: Write>(
+    alloc: Global,
+    plan: &Plan,
+    programs: &Programs,
+    inputs: &Inputs,
+    turns: u32,
+    out: &mut O,
+) -> Result<(), TurnsFault>
+    requires programs { AreProgramsOf plan.now programs.now }
+    requires inputs { AreInputsOf plan.now inputs.now }
+    ensures ok { OnOk result (PrintsRows plan.now programs.now inputs.now turns (O.contents out.old) (O.contents out.new)) }
+    ensures stopped { IfErr result (λ fault. fault ≢ TurnsFault.CannotWrite → PrintsFirstRows plan.now programs.now inputs.now turns (O.contents out.old) (O.contents out.new)) }
+{
+    match Whole::new(alloc, plan, programs, inputs) {
+        Ok(mut program) => print_all(&mut program, plan, turns, out),
+        Err(memory) => Err(TurnsFault::Memory(memory)),
+    }
+}
+
+/// Prints the rows of at most so many turns, and hands all of the text on.
+fn print_all<O: Write>(
+    program: &mut Whole<'_>,
+    plan: &Plan,
+    turns: u32,
+    out: &mut O,
+) -> Result<(), TurnsFault>
+    requires draft { program.old.draft ≡ plan.now }
+    requires none_made { program.old.turns ≡ 0 }
+    requires none_discarded { program.old.discarded ≡ 0 }
+    ensures ok { OnOk result (PrintsRows plan.now program.old.programs program.old.inputs turns (O.contents out.old) (O.contents out.new)) }
+    ensures stopped { IfErr result (λ fault. fault ≢ TurnsFault.CannotWrite → PrintsFirstRows plan.now program.old.programs program.old.inputs turns (O.contents out.old) (O.contents out.new)) }
+{
+    let Ok(turned) = print_in_batches(program, plan, turns, out) else {
+        return Err(TurnsFault::CannotWrite);
+    };
+    if out.flush().is_err() {
+        return Err(TurnsFault::CannotWrite);
+    }
+    match turned {
+        Ok(()) => Ok(()),
+        Err(memory) => Err(TurnsFault::Memory(memory)),
+    }
+}
+
+/// Makes at most so many turns, or as many as there is memory for, and prints their rows.
+fn print_in_batches<O: Write>(
+    program: &mut Whole<'_>,
+    plan: &Plan,
+    turns: u32,
+    out: &mut O,
+) -> Result<Result<(), reactor::Memory>, CannotWrite>
+    requires draft { program.old.draft ≡ plan.now }
+    requires none_made { program.old.turns ≡ 0 }
+    requires none_discarded { program.old.discarded ≡ 0 }
+    ensures ok { IfOk result (λ turned. OnOk turned (PrintsRows plan.now program.old.programs program.old.inputs turns (O.contents out.old) (O.contents out.new))) }
+    ensures err { IfOk result (λ turned. OnErr turned (PrintsFirstRows plan.now program.old.programs program.old.inputs turns (O.contents out.old) (O.contents out.new))) }
+{
+    let mut left = turns;
+    while left > 0 {
+        let most = left.min(TURNS_AT_ONCE);
+        match print_batch(program, plan, most, out)? {
+            Ok(made) if made == most => left -= made,
+            Ok(_) => return Ok(Ok(())),
+            Err(memory) => return Ok(Err(memory)),
+        }
+    }
+    Ok(Ok(()))
+}
+
+/// Makes at most so many turns, prints their rows, and lets go of them.
+fn print_batch<O: Write>(
+    program: &mut Whole<'_>,
+    plan: &Plan,
+    most: u32,
+    out: &mut O,
+) -> Result<Result<u32, reactor::Memory>, CannotWrite>
+    requires { program.old.draft ≡ plan.now }
+    ensures printed { OnOk result ((before : Option (List ℕ)) → IsPrinted program.old before (O.contents out.old) → IsPrinted program.new before (O.contents out.new)) }
+    ensures made { IfOk result (λ turned. IfOk turned (λ made. (program.new ≡ let_go_after made program.old) × (made ≤ most) × (made < most → pending_in program.new ≡ []))) }
+    ensures err { IfOk result (λ turned. OnErr turned ((made : ℕ) × (program.new ≡ let_go_after made program.old) × (made < most))) }
+{
+    let turned = program.turns(most);
+    write_rows(out, plan, program.rows())?;
+    program.discard();
+    Ok(turned)
+}

@@ -1,3 +1,0 @@
--- Lemmas.
--- answers one after the other
-pub mod InTurn

@@ -1,5 +1,0 @@
-use Rattle.laws.proofs.Stuck.{stuck_quiet}
-use Rattle.laws.proofs.a_stuck_run_is_quiet.Goals as goal
-
-pub returns : goal.returns
-returns c = stuck_quiet

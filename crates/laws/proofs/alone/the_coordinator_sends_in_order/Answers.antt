@@ -1,5 +1,0 @@
-use Rattle.laws.proofs.CoordinatorAlone.{accepts_in_order}
-use Rattle.laws.proofs.alone.the_coordinator_sends_in_order.Goals as goal
-
-pub returns : goal.returns
-returns c = accepts_in_order

@@ -1,5 +1,0 @@
-use Rattle.laws.proofs.Consistency as consistency
-use Rattle.laws.proofs.histories_are_consistent.Goals as goal
-
-pub returns : goal.returns
-returns c = consistency.histories_are_consistent

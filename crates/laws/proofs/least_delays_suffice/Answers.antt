@@ -1,5 +1,0 @@
-use Rattle.laws.proofs.LeastTables.{least_table_is_table}
-use Rattle.laws.proofs.least_delays_suffice.Goals as goal
-
-pub returns : goal.returns
-returns c = least_table_is_table

@@ -1,5 +1,0 @@
-use Rattle.laws.proofs.Pending.{completes_nothing_early}
-use Rattle.laws.proofs.nothing_is_completed_early.Goals as goal
-
-pub returns : goal.returns
-returns c = completes_nothing_early

@@ -1,5 +1,0 @@
-use Rattle.laws.proofs.Safety.{none_refused}
-use Rattle.laws.proofs.nothing_is_refused.Goals as goal
-
-pub returns : goal.returns
-returns c = λ n table rules lawful facts safe moves move refusal e. none_refused n table rules moves move refusal lawful facts safe e

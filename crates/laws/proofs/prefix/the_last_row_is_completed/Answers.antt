@@ -1,5 +1,0 @@
-use Rattle.laws.proofs.LastRows.{moves_end}
-use Rattle.laws.proofs.prefix.the_last_row_is_completed.Goals as goal
-
-pub returns : goal.returns
-returns c = moves_end

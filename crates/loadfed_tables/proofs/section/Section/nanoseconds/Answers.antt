@@ -1,0 +1,10 @@
+use Rattle.std.proofs.lemmas.Result.{err_from_is_err_and}
+use Rattle.loadfed_tables.proofs.Refusals.{weaker}
+use Rattle.loadfed_tables.proofs.KeyReadings.{duration_or_none}
+use Rattle.loadfed_tables.specs.Sections.{members_of}
+use Rattle.loadfed_tables.proofs.section.Section.nanoseconds.Goals as goal
+
+pub returns-in_err-time-clause-refused : goal.returns-in_err-time-clause-refused
+returns-in_err-time-clause-refused c =
+    let p = err_from_is_err_and c.from_residual.result c.from_residual.ensures.1 in
+    rw (p.1, p.2) (weaker _ _ _ _ (duration_or_none c.args.key.now (members_of c.args.self.now)) c.in_err-time.ensures.refused)

@@ -1,5 +1,0 @@
-use Rattle.order.proofs.WholeTrace.{whole_agrees}
-use Rattle.order.proofs.agreement.the_undivided_program_agrees_with_itself.Goals as goal
-
-pub returns : goal.returns
-returns c = whole_agrees

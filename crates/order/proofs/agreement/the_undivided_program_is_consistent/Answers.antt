@@ -1,5 +1,0 @@
-use Rattle.order.proofs.WholeTrace.{whole_is_consistent}
-use Rattle.order.proofs.agreement.the_undivided_program_is_consistent.Goals as goal
-
-pub returns : goal.returns
-returns c = whole_is_consistent

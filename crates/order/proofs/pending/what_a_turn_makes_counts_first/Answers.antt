@@ -1,5 +1,0 @@
-use Rattle.order.proofs.PendingSlots.{own_is_gone, made_is_newer}
-use Rattle.order.proofs.pending.what_a_turn_makes_counts_first.Goals as goal
-
-pub returns : goal.returns
-returns c = record { own = own_is_gone; elsewhere = made_is_newer }

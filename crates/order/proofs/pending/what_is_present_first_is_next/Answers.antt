@@ -1,5 +1,0 @@
-use Rattle.order.proofs.PendingSlots.{next_turn}
-use Rattle.order.proofs.pending.what_is_present_first_is_next.Goals as goal
-
-pub returns : goal.returns
-returns c = next_turn

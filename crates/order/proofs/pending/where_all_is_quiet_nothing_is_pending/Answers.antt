@@ -1,5 +1,0 @@
-use Rattle.order.proofs.PendingSlots.{quiet_is_done}
-use Rattle.order.proofs.pending.where_all_is_quiet_nothing_is_pending.Goals as goal
-
-pub returns : goal.returns
-returns c = quiet_is_done

@@ -1,5 +1,0 @@
-use Rattle.order.proofs.Newest.{action_sees}
-use Rattle.order.proofs.seen.actions_see_what_was_scheduled_last.Goals as goal
-
-pub returns : goal.returns
-returns c = action_sees

@@ -1,5 +1,0 @@
-use Rattle.order.proofs.OneMore.{newer_turns}
-use Rattle.order.proofs.seen.newer_turns_count_first.Goals as goal
-
-pub returns : goal.returns
-returns c = newer_turns

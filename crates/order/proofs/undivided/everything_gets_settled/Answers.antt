@@ -1,5 +1,0 @@
-use Rattle.order.proofs.Standing.{settled_in_time}
-use Rattle.order.proofs.undivided.everything_gets_settled.Goals as goal
-
-pub returns : goal.returns
-returns c = settled_in_time

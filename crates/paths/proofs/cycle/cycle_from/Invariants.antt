@@ -1,9 +1,0 @@
-use Rattle.std.proofs.Common.{◌≡◌, length}
-use Rattle.paths.proofs.Cycles.{IsGrown}
-use Rattle.paths.proofs.cycle.cycle_from.Given as goal
-
-abbrev pub invariant-loop-branches : goal.invariant-loop-branches
-invariant-loop-branches l = record {
-  grown : IsGrown l.connections l.start l.tree.items;
-  count : length l.tree.items ≡ l._branches;
-}

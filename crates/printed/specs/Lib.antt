@@ -1,7 +1,0 @@
--- What is printed.
--- rows as text
-pub mod RowText
--- a plan as text
-pub mod PlanText
--- want of memory for it
-pub mod Memory

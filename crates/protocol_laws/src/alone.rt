@@ -1,0 +1,67 @@
+//! What each side keeps by itself, whatever signals the other sends, lying ones too; and that what it sends is in order.
+
+ghost use Rattle.std.specs.Prelude.{◌≡◌, ℕ, ◌&&◌, ◌++◌, IsTrue, List, Option};
+ghost use Rattle.tag.specs.LogicalTime.{LogicalTime};
+ghost use Rattle.network.specs.Network.{Network};
+ghost use Rattle.network.specs.Lawful.{IsLawful};
+ghost use Rattle.network.specs.Tables.{Table};
+ghost use Rattle.signal.specs.Signal.{IsSignal};
+ghost use Rattle.signal.specs.declared.signal.Signal.{Signal};
+ghost use Rattle.protocol.specs.Outcome.{IfDone};
+ghost use Rattle.protocol.specs.Federate.{Federate, initial_federate, federate_accepts, federate_announces, federate_advances};
+ghost use Rattle.protocol.specs.Standing.{Standing, initial_standing};
+ghost use Rattle.protocol.specs.Grant.{Rule, IsSafeRule};
+ghost use Rattle.protocol.specs.Coordinator.{coordinator_accepts};
+ghost use Rattle.protocol.specs.Machine.{sent_to};
+ghost use Rattle.protocol.specs.Alone.{IsFederate, IsStanding, is_of_turn, is_sent_after, completed_by, is_of_step, is_sent_past, granted_by};
+
+/// A federate stays a federate at each step, whatever signals come.
+pub fn a_federate_stays_one()
+    ensures initial { (n : Network) (j : ℕ) → IsLawful n → IsFederate n j (initial_federate n j) }
+    ensures accept { (n : Network) (j : ℕ) (f : Federate) (signal : Signal) → IsLawful n → IsSignal signal → IsFederate n j f →
+        IfDone (federate_accepts n j f signal) (λ made. IsFederate n j made.after) }
+    ensures announce { (n : Network) (j : ℕ) (f : Federate) → IsFederate n j f →
+        IfDone (federate_announces f) (λ made. IsFederate n j made.after) }
+    ensures advance { (n : Network) (j : ℕ) (f : Federate) → IsLawful n → IsFederate n j f →
+        IfDone (federate_advances n j f) (λ made. IsFederate n j made.after) }
+{}
+
+/// What a federate sends is in order: its LTCs rise, and each message is later than every LTC before it. By an advance it sends
+/// messages, and then one LTC, of what it has completed then.
+pub fn a_federate_sends_in_order()
+    ensures accept { (n : Network) (j : ℕ) (f : Federate) (signal : Signal) → IfDone (federate_accepts n j f signal)
+        (λ made. IsTrue (is_sent_after f.completed made.sent) × (made.after.completed ≡ completed_by f.completed made.sent)) }
+    ensures announce { (f : Federate) → IfDone (federate_announces f)
+        (λ made. IsTrue (is_sent_after f.completed made.sent) × (made.after.completed ≡ completed_by f.completed made.sent)) }
+    ensures advance { (n : Network) (j : ℕ) (f : Federate) → IsFederate n j f → IfDone (federate_advances n j f)
+        (λ made. IsTrue (is_of_turn made.sent) × IsTrue (is_sent_after f.completed made.sent) × (made.after.completed ≡ completed_by f.completed made.sent)) }
+{}
+
+/// What the coordinator knows of each federate stays as it should, whatever signals come, by any rule that grants what is safe.
+pub fn standings_stay()
+    ensures initial { IsStanding initial_standing }
+    ensures accept { (n : Network) (table : Table) (rule : Rule) (standings : ℕ → Standing) (i : ℕ) (signal : Signal) → IsSafeRule n table rule →
+        IsSignal signal → ((j : ℕ) → IsStanding (standings j)) →
+        IfDone (coordinator_accepts n rule standings i signal) (λ made. (j : ℕ) → IsStanding (made.after j)) }
+{}
+
+/// In one step the coordinator sends each federate at most one message, and then at most one TAG. Both are later than what it was
+/// granted before, and the TAG is what it is granted then.
+pub fn the_coordinator_sends_in_order()
+    ensures { (n : Network) (table : Table) (rule : Rule) (standings : ℕ → Standing) (i : ℕ) (signal : Signal) → IsSafeRule n table rule →
+        IsSignal signal → ((j : ℕ) → IsStanding (standings j)) → IfDone (coordinator_accepts n rule standings i signal)
+        (λ made. (j : ℕ) → IsTrue (is_of_step (sent_to j made.sent)) × IsTrue (is_sent_past (standings j).granted (sent_to j made.sent)) ×
+        ((made.after j).granted ≡ granted_by (standings j).granted (sent_to j made.sent))) }
+{}
+
+/// What is sent in order by one step, and then by others, is in order as a whole.
+pub fn order_goes_on()
+    ensures after { (completed : Option LogicalTime) (sent more : List Signal) →
+        is_sent_after completed (sent ++ more) ≡ (is_sent_after completed sent && is_sent_after (completed_by completed sent) more) }
+    ensures completed { (completed : Option LogicalTime) (sent more : List Signal) →
+        completed_by completed (sent ++ more) ≡ completed_by (completed_by completed sent) more }
+    ensures past { (granted : Option LogicalTime) (sent more : List Signal) →
+        is_sent_past granted (sent ++ more) ≡ (is_sent_past granted sent && is_sent_past (granted_by granted sent) more) }
+    ensures granted { (granted : Option LogicalTime) (sent more : List Signal) →
+        granted_by granted (sent ++ more) ≡ granted_by (granted_by granted sent) more }
+{}

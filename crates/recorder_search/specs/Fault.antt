@@ -1,0 +1,11 @@
+-- How a search's out-of-memory fault is printed.
+use Rattle.std.specs.Prelude.{ℕ, List, codes}
+use Rattle.signal.specs.Fault.{told}
+
+-- the number of the out-of-memory fault
+abbrev pub memory_number : ℕ
+memory_number = 85
+
+-- what is printed of it
+abbrev pub memory_text : List ℕ
+memory_text = told memory_number (codes "Memory")

@@ -1,0 +1,145 @@
+//! Reading journals, with a machine that makes the steps.
+ghost use Rattle.std.specs.Prelude.{◌≡◌, ◌≢◌, ℕ, ◌<◌, ◌≤◌, true, false, length, get_or, slice_get, map, [], replicate, IfOk, OnOk};
+ghost use Rattle.recorder_search.specs.Journals.{node_at};
+ghost use Rattle.recorder_search.specs.Reading.{GoesOn, IsBlocked, IsFirstUnread, IsReading};
+
+use crate::machine::Machine;
+use crate::memory::Memory;
+use node::{Event, NodeId};
+use std::alloc::Global;
+
+// The node of a place among the journals.
+pub(crate) fn node_at(place: usize) -> NodeId
+    ensures { result ≡ node_at place }
+{
+    match place.checked_sub(1) {
+        Some(federate) => NodeId::Federate(federate),
+        None => NodeId::Coordinator,
+    }
+}
+
+// The next event of the journal at a place.
+fn next_event(journals: &[&[Event]], read: &[usize], place: usize) -> Option<Event>
+    requires { place < length read.now }
+    ensures event { result ≡ slice_get (get_or (map (λ j. j.now) journals.now) place []) (get_or read.now place 0) }
+    ensures small { result ≢ None → get_or read.now place 0 < usize.MAX }
+{
+    nth_event(journals.get(place)?, read[place])
+}
+
+// The event of a journal at a place, counted from 0.
+fn nth_event(journal: &[Event], place: usize) -> Option<Event>
+    ensures event { result ≡ slice_get journal.now place }
+    ensures small { result ≢ None → place < usize.MAX }
+{
+    if place < journal.len() {
+        Some(journal[place])
+    } else {
+        None
+    }
+}
+
+// Reads the next event of the journal at a place, if a step of the machine is that event.
+fn read_one<M: Machine>(
+    machine: &mut M,
+    journals: &[&[Event]],
+    read: &mut [usize],
+    place: usize,
+    exact: bool,
+) -> Result<bool, Memory>
+    requires { place < length read.old }
+    ensures goes_on { IfOk result (λ moved. GoesOn M.motion (map (λ j. j.now) journals.now) (record { state = machine.old; read = read.old }) (record { state = machine.new; read = read.new }) moved) }
+    ensures blocked { IfOk result (λ moved. moved ≡ false → exact ≡ true → IsBlocked M.motion (map (λ j. j.now) journals.now) (record { state = machine.old; read = read.old }) place) }
+{
+    let Some(event) = next_event(journals, read, place) else {
+        return Ok(false);
+    };
+    let Some(_) = machine.place(node_at(place), event, exact)? else {
+        return Ok(false);
+    };
+    read[place] += 1;
+    Ok(true)
+}
+
+// Reads the journal at a place, as far as it goes now.
+fn read_on<M: Machine>(
+    machine: &mut M,
+    journals: &[&[Event]],
+    read: &mut [usize],
+    place: usize,
+    exact: bool,
+) -> Result<bool, Memory>
+    requires { place < length read.old }
+    ensures goes_on { IfOk result (λ moved. GoesOn M.motion (map (λ j. j.now) journals.now) (record { state = machine.old; read = read.old }) (record { state = machine.new; read = read.new }) moved) }
+    ensures blocked { IfOk result (λ moved. moved ≡ false → exact ≡ true → IsBlocked M.motion (map (λ j. j.now) journals.now) (record { state = machine.old; read = read.old }) place) }
+{
+    let mut moved = false;
+    while read_one(machine, journals, read, place, exact)? {
+        moved = true;
+    }
+    Ok(moved)
+}
+
+// Reads each journal once, as far as it goes then.
+pub(crate) fn round<M: Machine>(
+    machine: &mut M,
+    journals: &[&[Event]],
+    read: &mut [usize],
+    exact: bool,
+) -> Result<bool, Memory>
+    ensures goes_on { IfOk result (λ moved. GoesOn M.motion (map (λ j. j.now) journals.now) (record { state = machine.old; read = read.old }) (record { state = machine.new; read = read.new }) moved) }
+    ensures blocked { IfOk result (λ moved. moved ≡ false → exact ≡ true → (place : ℕ) → place < length read.old → IsBlocked M.motion (map (λ j. j.now) journals.now) (record { state = machine.old; read = read.old }) place) }
+{
+    let mut moved = false;
+    for place in 0..read.len() {
+        if read_on(machine, journals, read, place, exact)? {
+            moved = true;
+        }
+    }
+    Ok(moved)
+}
+
+// The first node whose journal isn't used up, and its next event, counted from 1.
+pub(crate) fn first_unread(journals: &[&[Event]], read: &[usize]) -> Option<(NodeId, usize)>
+    requires { length read.now ≡ length journals.now }
+    ensures { IsFirstUnread (map (λ j. j.now) journals.now) read.now result }
+{
+    for place in 0..read.len() {
+        if let Some(_) = next_event(journals, read, place) {
+            return Some((node_at(place), read[place] + 1));
+        }
+    }
+    None
+}
+
+// Reads all journals, as far as they go: by guesses, and exactly where no guess is right.
+pub(crate) fn read_all<M: Machine>(
+    machine: &mut M,
+    journals: &[&[Event]],
+    read: &mut [usize],
+) -> Result<(), Memory>
+    ensures reading { OnOk result ((initial : M) → IsReading M.motion initial (map (λ j. j.now) journals.now) (record { state = machine.old; read = read.old }) → IsReading M.motion initial (map (λ j. j.now) journals.now) (record { state = machine.new; read = read.new })) }
+    ensures blocked { OnOk result ((place : ℕ) → place < length read.old → IsBlocked M.motion (map (λ j. j.now) journals.now) (record { state = machine.new; read = read.new }) place) }
+{
+    while round(machine, journals, read, false)? || round(machine, journals, read, true)? {}
+    Ok(())
+}
+
+// Reads all journals, as far as guesses go.
+pub(crate) fn read_by_guesses<M: Machine>(
+    machine: &mut M,
+    journals: &[&[Event]],
+    read: &mut [usize],
+) -> Result<(), Memory>
+    ensures reading { OnOk result ((initial : M) → IsReading M.motion initial (map (λ j. j.now) journals.now) (record { state = machine.old; read = read.old }) → IsReading M.motion initial (map (λ j. j.now) journals.now) (record { state = machine.new; read = read.new })) }
+{
+    while round(machine, journals, read, false)? {}
+    Ok(())
+}
+
+// Of no journal anything is read.
+pub(crate) fn none_read(alloc: Global, count: usize) -> Result<Vec<usize>, Memory>
+    ensures { IfOk result (λ read. read.items ≡ replicate count 0) }
+{
+    Ok(Vec::from_elem(alloc, 0, count)?)
+}

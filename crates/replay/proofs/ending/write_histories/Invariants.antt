@@ -1,8 +1,0 @@
-use Rattle.std.specs.Io.KnownBytes.{Appends}
-use Rattle.printed.specs.PlanText.{printed_each}
-use Rattle.replay.specs.Replayed.{history}
-use Rattle.replay.proofs.ending.write_histories.Given as goal
-
-abbrev pub invariant-loop-federate : goal.invariant-loop-federate
-invariant-loop-federate g l =
-    Appends (g.W.Write.contents l.initial.out) (g.W.Write.contents l.out) (printed_each (history l.world) l.federate)

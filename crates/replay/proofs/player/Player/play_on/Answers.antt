@@ -1,7 +1,0 @@
-use Rattle.replay.proofs.Playing.{played_on}
-use Rattle.replay.proofs.player.Player.play_on.Goals as goal
-
-pub returns-in-Some : goal.returns-in-Some
-returns-in-Some g c =
-    played_on c.close.result c.args.self.now c.play.new.self c.close.new.self (g.W.Write.contents c.args.out.now) (g.W.Write.contents c.play.new.out)
-    (g.W.Write.contents c.close.new.out) c.in_ok-play.ensures c.close.ensures

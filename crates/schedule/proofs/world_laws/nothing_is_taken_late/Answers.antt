@@ -1,6 +1,0 @@
-use Rattle.federation.proofs.LawfulNetwork.{gives_lawful_with}
-use Rattle.schedule.proofs.Late.{nothing_late}
-use Rattle.schedule.proofs.world_laws.nothing_is_taken_late.Goals as goal
-
-pub returns : goal.returns
-returns c = λ d programs inputs steps j legal are given. nothing_late d programs inputs steps j (gives_lawful_with d programs inputs legal are given)

@@ -1,8 +1,0 @@
--- How a search's want of memory is told.
-pub mod Fault
--- How a machine moves, and what it answers when an event is to be placed.
-pub mod Motion
--- When a list of steps agrees with journals, and when no further event can be placed.
-pub mod Journals
--- How far a search has read the journals.
-pub mod Reading

@@ -1,7 +1,0 @@
-use Rattle.std.proofs.Common.{ℕ, ◌<◌, ◌≤◌, slice_get}
-use Rattle.stage.specs.Room.{most_ever_to}
-use Rattle.stage.proofs.directions.most_ever.Given as goal
-
--- to none of the peers so far more is sent
-abbrev pub invariant-loop-peer : goal.invariant-loop-peer
-invariant-loop-peer g l = (j : ℕ) → j < l.peer → most_ever_to (slice_get l.station.ends j) ≤ l.most

@@ -1,7 +1,0 @@
-use Rattle.std.proofs.Common.{◌≡◌, take}
-use Rattle.schedule.specs.World.{after_steps}
-use Rattle.stage.proofs.stations.Stations.run.Given as goal
-
--- the steps so far are made
-abbrev pub invariant-loop-step : goal.invariant-loop-step
-invariant-loop-step g l = l.self ≡ after_steps g.H.Node.core g.M.Node.core l.fn.self (take l.step-index l.steps)

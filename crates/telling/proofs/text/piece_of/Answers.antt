@@ -1,8 +1,0 @@
-use Rattle.std.proofs.Common.{refl}
-use Rattle.telling.proofs.Cut.{piece_of_text}
-use Rattle.telling.proofs.text.piece_of.Goals as goal
-
-pub returns-in-Ok : goal.returns-in-Ok
-returns-in-Ok g c =
-    piece_of_text _ (λ w. w.before) (λ w. w.kept.items) (λ s bytes t grown. grown) (g.D.Display.output c.args.text.now) c.args.from _ _ refl
-    c.new.ensures c.in-Ok.ensures.writes

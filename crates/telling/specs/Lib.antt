@@ -1,5 +1,0 @@
--- What a writer gains of a text that is told.
--- the program's lines
-pub mod Lines
--- beginnings and pieces
-pub mod Pieces

@@ -1,0 +1,356 @@
+//! Frames as bytes: examples of each kind, in any pieces, and what is refused.
+ghost use Rattle.std.specs.Prelude.{◌<◌};
+
+use signal::{Frame, FrameReader, Hello, Signal, write_frame};
+use std::alloc::{AllocError, Global};
+use std::test::Fail;
+use tag::{FiniteTag, Tag, Time};
+
+const HELLO: [u8; 20] = [
+    0, 0, 0, 0x10, 0x01, 0x01, 0, 0, 0, 0, 0, 1, 0, 0, 0, 0, 0, 0, 0, 0,
+];
+
+const ACK: [u8; 17] = [0, 0, 0, 0x0d, 0x03, 0, 0, 0, 1, 0, 0, 0, 0, 0, 0, 0, 2];
+
+const REFUSE: [u8; 11] = [0, 0, 0, 0x07, 0x04, 0, 0, 0, 2, 0, 0x33];
+
+const NET_AT_ORIGIN: [u8; 30] = [
+    0, 0, 0, 0x1a, 0x02, 0, 0, 0, 1, 0, 0, 0, 0, 0, 0, 0, 1, 0x01, 0, 0, 0, 0, 0, 0, 0, 0, 0, 0, 0,
+    0,
+];
+
+const NET_FOREVER: [u8; 30] = [
+    0, 0, 0, 0x1a, 0x02, 0, 0, 0, 1, 0, 0, 0, 0, 0, 0, 0, 1, 0x01, 0xff, 0xff, 0xff, 0xff, 0xff,
+    0xff, 0xff, 0xff, 0xff, 0xff, 0xff, 0xff,
+];
+
+const MSG: [u8; 40] = [
+    0, 0, 0, 0x24, 0x02, 0, 0, 0, 1, 0, 0, 0, 0, 0, 0, 0, 5, 0x04, 0, 0, 0, 0, 0, 0, 0, 0x98, 0x96,
+    0x80, 0, 0, 0, 0, 0, 0, 0, 0, 0, 0, 0, 2,
+];
+
+const LTC: [u8; 30] = [
+    0, 0, 0, 0x1a, 0x02, 0, 0, 0, 1, 0, 0, 0, 0, 0, 0, 0, 2, 0x02, 0, 0, 0, 0, 0, 0x98, 0x96, 0x80,
+    0, 0, 0, 1,
+];
+
+/// At 10 ms.
+fn finite(microstep: u32) -> FiniteTag {
+    FiniteTag::new(Time::new(10_000_000).unwrap(), microstep)
+}
+
+fn data(number: u64, signal: Signal) -> Frame {
+    Frame::Data {
+        incarnation: 1,
+        number,
+        signal,
+    }
+}
+
+/// What the frames look like as bytes.
+const SPELLINGS: [&[u8]; 7] = [
+    &HELLO,
+    &ACK,
+    &REFUSE,
+    &NET_AT_ORIGIN,
+    &NET_FOREVER,
+    &MSG,
+    &LTC,
+];
+
+fn frames() -> [Frame; 7] {
+    let hello = Frame::Hello(Hello {
+        federate: 0,
+        incarnation: 1,
+        last_taken: 0,
+    });
+    let ack = Frame::Ack {
+        incarnation: 1,
+        last_taken: 2,
+    };
+    let refuse = Frame::Refuse {
+        incarnation: 2,
+        refusal: 51,
+    };
+    let message = Signal::Msg {
+        connection: 0,
+        tag: finite(0),
+        value: 2,
+    };
+    [
+        hello,
+        ack,
+        refuse,
+        data(1, Signal::Net(Tag::origin())),
+        data(1, Signal::Net(Tag::FOREVER)),
+        data(5, message),
+        data(2, Signal::Ltc(finite(1))),
+    ]
+}
+
+/// Those of the frames that the reader has still to give when it gives no more; None where it gives another one, or a fault.
+fn not_given<'a>(reader: &mut FrameReader, frames: &'a [Frame]) -> Option<&'a [Frame]> {
+    let mut left = frames;
+    for _ in 0..=frames.len() {
+        match reader.next() {
+            Ok(Some(frame)) => match left {
+                [first, rest @ ..] if frame == *first => left = rest,
+                _ => return None,
+            },
+            Ok(None) => return Some(left),
+            Err(_) => return None,
+        }
+    }
+    None
+}
+
+fn gives(reader: &mut FrameReader, frames: &[Frame]) -> bool {
+    matches!(not_given(reader, frames), Some([]))
+}
+
+/// Whether the frame is written as these bytes and read from them.
+fn is_spelled(alloc: Global, frame: &Frame, bytes: &[u8]) -> bool {
+    let mut out = Vec::new(alloc);
+    let mut reader = FrameReader::new(alloc);
+    write_frame(frame, &mut out).is_ok()
+        && out.as_slice() == bytes
+        && reader.feed(bytes).is_ok()
+        && gives(&mut reader, &[*frame])
+}
+
+/// The same of the spelling at this place.
+fn is_spelled_there(alloc: Global, frame: &Frame, place: usize) -> bool {
+    match SPELLINGS.get(place) {
+        Some(bytes) => is_spelled(alloc, frame, bytes),
+        None => false,
+    }
+}
+
+#[test]
+fn writes_and_reads_each_kind_of_frame(rt: HostRuntime) {
+    for (place, frame) in frames().iter().enumerate() {
+        assert!(rt; is_spelled_there(rt.alloc(), frame, place), "{frame:?}");
+    }
+}
+
+/// Whether the bytes, fed in pieces of this size, are read as these frames.
+fn are_read(alloc: Global, bytes: &[u8], size: usize, frames: &[Frame]) -> bool
+    requires { 0 < size }
+{
+    let mut reader = FrameReader::new(alloc);
+    let mut left = frames;
+    for piece in bytes.chunks(size) {
+        if reader.feed(piece).is_err() {
+            return false;
+        }
+        match not_given(&mut reader, left) {
+            Some(rest) => left = rest,
+            None => return false,
+        }
+    }
+    left.is_empty()
+}
+
+/// All spellings, one after the other.
+fn stream(alloc: Global) -> Result<Vec<u8>, AllocError> {
+    let mut stream = Vec::new(alloc);
+    for bytes in SPELLINGS {
+        stream.extend_from_slice(bytes)?;
+    }
+    Ok(stream)
+}
+
+#[test]
+fn reads_frames_in_any_pieces(rt: HostRuntime) -> Result<(), Fail> {
+    let frames = frames();
+    let stream = stream(rt.alloc())?;
+    for size in [1, 2, 7, 64, 1000] {
+        assert!(rt; are_read(rt.alloc(), &stream, size, &frames), "{size}");
+    }
+    Ok(())
+}
+
+/// Bytes, and the number of the refusal that they meet.
+const REFUSED: [(&[u8], u16); 15] = [
+    (&[0, 0, 0, 0], 40),
+    (&[0, 0, 0, 0x41], 40),
+    (&[0xff, 0, 0, 0], 40),
+    // an Ack needs 13 bytes
+    (&[0, 0, 0, 5, 0x03, 0, 0, 0, 1], 40),
+    // no signal byte
+    (
+        &[0, 0, 0, 0x0d, 0x02, 0, 0, 0, 1, 0, 0, 0, 0, 0, 0, 0, 1],
+        40,
+    ),
+    // a NET without its microstep
+    (
+        &[
+            0, 0, 0, 0x16, 0x02, 0, 0, 0, 1, 0, 0, 0, 0, 0, 0, 0, 1, 0x01, 0, 0, 0, 0, 0, 0, 0, 0,
+        ],
+        40,
+    ),
+    (&[0, 0, 0, 1, 9], 41),
+    // a Hello of version 0
+    (
+        &[
+            0, 0, 0, 0x10, 0x01, 0, 0, 0, 0, 0, 0, 1, 0, 0, 0, 0, 0, 0, 0, 0,
+        ],
+        41,
+    ),
+    // a signal of no kind, told before its length
+    (
+        &[
+            0, 0, 0, 0x0e, 0x02, 0, 0, 0, 1, 0, 0, 0, 0, 0, 0, 0, 1, 0x05,
+        ],
+        41,
+    ),
+    // a time of 2^62
+    (
+        &[
+            0, 0, 0, 0x1a, 0x02, 0, 0, 0, 1, 0, 0, 0, 0, 0, 0, 0, 1, 0x01, 0x40, 0, 0, 0, 0, 0, 0,
+            0, 0, 0, 0, 0,
+        ],
+        42,
+    ),
+    // FOREVER in an LTC
+    (
+        &[
+            0, 0, 0, 0x1a, 0x02, 0, 0, 0, 1, 0, 0, 0, 0, 0, 0, 0, 1, 0x02, 0xff, 0xff, 0xff, 0xff,
+            0xff, 0xff, 0xff, 0xff, 0xff, 0xff, 0xff, 0xff,
+        ],
+        42,
+    ),
+    // not quite FOREVER
+    (
+        &[
+            0, 0, 0, 0x1a, 0x02, 0, 0, 0, 1, 0, 0, 0, 0, 0, 0, 0, 1, 0x01, 0xff, 0xff, 0xff, 0xff,
+            0xff, 0xff, 0xff, 0xff, 0xff, 0xff, 0xff, 0xfe,
+        ],
+        42,
+    ),
+    // an Ack with a byte too many
+    (
+        &[0, 0, 0, 0x0e, 0x03, 0, 0, 0, 1, 0, 0, 0, 0, 0, 0, 0, 2, 0],
+        43,
+    ),
+    // a NET with a byte too many, told before its bad tag
+    (
+        &[
+            0, 0, 0, 0x1b, 0x02, 0, 0, 0, 1, 0, 0, 0, 0, 0, 0, 0, 1, 0x01, 0x40, 0, 0, 0, 0, 0, 0,
+            0, 0, 0, 0, 0, 0,
+        ],
+        43,
+    ),
+    // a Hello with a byte too many, told before its version
+    (
+        &[
+            0, 0, 0, 0x11, 0x01, 0, 0, 0, 0, 0, 0, 1, 0, 0, 0, 0, 0, 0, 0, 0, 0,
+        ],
+        43,
+    ),
+];
+
+/// The number by which these bytes behind a frame are refused for good; None where they aren't.
+fn refusal(alloc: Global, bytes: &[u8]) -> Option<u16> {
+    let mut reader = FrameReader::new(alloc);
+    if reader.feed(&ACK).is_err() || reader.feed(bytes).is_err() || reader.next().is_err() {
+        return None;
+    }
+    match reader.next() {
+        Err(fault) => {
+            if reader.feed(&ACK).is_ok() && reader.next() == Err(fault) {
+                Some(fault.number())
+            } else {
+                None
+            }
+        }
+        Ok(_) => None,
+    }
+}
+
+#[test]
+fn refuses_bytes_for_good(rt: HostRuntime) {
+    for (bytes, number) in &REFUSED {
+        assert_eq!(rt; refusal(rt.alloc(), *bytes), Some(*number));
+    }
+}
+
+/// How many acknowledgements a reader gives before anything else, at most so many.
+fn acknowledgements(reader: &mut FrameReader, most: usize) -> usize {
+    for count in 0..most {
+        if !matches!(reader.next(), Ok(Some(Frame::Ack { .. }))) {
+            return count;
+        }
+    }
+    most
+}
+
+/// Whether so many acknowledgements, fed in one piece, are read; None where there was no memory for them.
+fn are_fed_at_once(alloc: Global, count: usize) -> Option<bool> {
+    let mut stream = Vec::new(alloc);
+    for _ in 0..count {
+        stream.extend_from_slice(&ACK).ok()?;
+    }
+    let mut reader = FrameReader::new(alloc);
+    reader.feed(&stream).ok()?;
+    Some(acknowledgements(&mut reader, count) == count && gives(&mut reader, &[]))
+}
+
+/// They are 1,048,577 bytes. Where an allocation is refused the first time, there is memory the next time.
+#[test]
+fn takes_a_megabyte_at_once(rt: HostRuntime) {
+    let first = are_fed_at_once(rt.alloc(), 61_681);
+    let again = are_fed_at_once(rt.alloc(), 61_681);
+    assert_eq!(rt; first.or(again), Some(true));
+}
+
+/// Whether a Hello of this version is read.
+fn is_hello(alloc: Global, version: u8) -> bool {
+    let mut bytes = HELLO;
+    bytes[5] = version;
+    let mut reader = FrameReader::new(alloc);
+    reader.feed(&bytes).is_ok() && matches!(reader.next(), Ok(Some(Frame::Hello(_))))
+}
+
+#[test]
+fn reads_a_hello_of_any_version_but_0(rt: HostRuntime) {
+    for version in [1, 2, 255] {
+        assert!(rt; is_hello(rt.alloc(), version), "version {version}");
+    }
+}
+
+/// Whether the frame is written, the next time if memory was refused, when nothing was appended.
+fn is_written(frame: &Frame, stream: &mut Vec<u8>) -> bool {
+    let before = stream.len();
+    match write_frame(frame, stream) {
+        Ok(()) => true,
+        Err(memory) => {
+            memory.number() == 44 && stream.len() == before && write_frame(frame, stream).is_ok()
+        }
+    }
+}
+
+/// Whether the bytes are fed, the next time if memory was refused.
+fn are_fed(reader: &mut FrameReader, bytes: &[u8]) -> bool {
+    match reader.feed(bytes) {
+        Ok(()) => true,
+        Err(memory) => memory.number() == 44 && reader.feed(bytes).is_ok(),
+    }
+}
+
+/// Whether a frame is written and fed, each at once or the next time.
+fn comes_through(alloc: Global, reader: &mut FrameReader, frame: &Frame) -> bool {
+    let mut bytes = Vec::new(alloc);
+    is_written(frame, &mut bytes) && are_fed(reader, &bytes)
+}
+
+/// Passes whichever allocation is refused: each refusal is told, and all is as before it.
+#[test]
+fn changes_nothing_without_memory_for_bytes(rt: HostRuntime) {
+    let frames = frames();
+    let mut reader = FrameReader::new(rt.alloc());
+    for frame in &frames {
+        assert!(rt; comes_through(rt.alloc(), &mut reader, frame));
+    }
+    assert!(rt; gives(&mut reader, &frames));
+}

@@ -1,0 +1,103 @@
+//! Out of memory: it is answered, nothing else is, nothing changes, and the next call succeeds. These pass with ample memory
+//! and whichever one allocation is refused: `rt try --test --fail-alloc N`.
+ghost use Rattle.plan.specs.External.{AreInputsOf};
+ghost use Rattle.reactor_programs.specs.Programs.{AreProgramsOf};
+
+use crate::federations::{CYCLE, FOUR, ONE_ACTION, TWO_SOURCES, loaded};
+use crate::rows::are_first;
+use loadfed::{LoadFault, load_inputs};
+use plan::{Inputs, Plan};
+use reactor::Memory;
+use reactor_programs::Programs;
+use std::alloc::Global;
+use std::test::Fail;
+use tests_samples::COUNTER;
+use whole::Whole;
+
+/// Whether what a first call told was right, or out of memory and then right.
+fn is_right(first: u16, again: u16, right: u16) -> bool {
+    first == right || (first == LoadFault::Memory.number() && again == right)
+}
+
+/// Files of two parts, and the number that refuses them; 0 where they are taken.
+const FILES: &[(&str, &str, u16)] = &[(COUNTER, "", 0), (FOUR, TWO_SOURCES, 32), (FOUR, CYCLE, 32)];
+
+fn told(alloc: Global, front: &str, back: &str) -> u16 {
+    match loaded(alloc, front, back) {
+        Ok(_) => 0,
+        Err(fault) => fault.number(),
+    }
+}
+
+#[test]
+fn answers_out_of_memory_for_a_federation(rt: HostRuntime) {
+    for (front, back, right) in FILES {
+        let first = told(rt.alloc(), front, back);
+        let again = told(rt.alloc(), front, back);
+        assert!(rt; is_right(first, again, *right), "{first}, {again}");
+    }
+}
+
+/// Three recorded inputs.
+const INPUTS: &str = r#"
+input = [
+    { federate = "f", action = "p", time = "0", value = 1 },
+    { federate = "f", action = "p", time = "0", micro = 1, value = 2 },
+    { federate = "f", action = "p", time = "5 ms", value = 3 },
+]"#;
+
+fn told_of_inputs(alloc: Global, plan: &Plan) -> u16 {
+    match load_inputs(alloc, INPUTS.as_bytes(), plan) {
+        Ok(_) => 0,
+        Err(fault) => fault.number(),
+    }
+}
+
+/// The same of a fresh plan, or the number that refuses its file.
+fn told_of_inputs_of_fresh(alloc: Global) -> u16 {
+    match loaded(alloc, ONE_ACTION, "") {
+        Ok((plan, _programs)) => told_of_inputs(alloc, &plan),
+        Err(fault) => fault.number(),
+    }
+}
+
+#[test]
+fn answers_out_of_memory_for_inputs(rt: HostRuntime) {
+    let first = told_of_inputs_of_fresh(rt.alloc());
+    let again = told_of_inputs_of_fresh(rt.alloc());
+    assert!(rt; is_right(first, again, 0), "{first}, {again}");
+}
+
+/// Whether all six rows come, after out of memory too, which leaves the rows before it.
+fn makes_six(whole: &mut Whole<'_>) -> bool {
+    let stands = match whole.turns(100) {
+        Ok(made) => made == 6,
+        Err(Memory) => {
+            let made = whole.rows().len();
+            made < 6 && are_first(whole.rows(), made) && whole.turns(100).is_ok()
+        }
+    };
+    stands && are_first(whole.rows(), 6)
+}
+
+/// The same of a fresh one; None where there was no memory to begin.
+fn goes_on(alloc: Global, plan: &Plan, programs: &Programs, inputs: &Inputs) -> Option<bool>
+    requires programs { AreProgramsOf plan.now programs.now }
+    requires inputs { AreInputsOf plan.now inputs.now }
+{
+    let mut whole = Whole::new(alloc, plan, programs, inputs).ok()?;
+    Some(makes_six(&mut whole))
+}
+
+fn counter_goes_on(alloc: Global) -> Option<bool> {
+    let (plan, programs) = loaded(alloc, COUNTER, "").ok()?;
+    let inputs = load_inputs(alloc, b"", &plan).ok()?;
+    goes_on(alloc, &plan, &programs, &inputs)
+}
+
+#[test]
+fn goes_on_after_a_turn_without_memory(rt: HostRuntime) {
+    let first = counter_goes_on(rt.alloc());
+    let again = counter_goes_on(rt.alloc());
+    assert_eq!(rt; first.or(again), Some(true));
+}

@@ -1,0 +1,54 @@
+//! How many federates the coordinator's table looks at for a change, in a chain of 64.
+use crate::plans::{MILLISECOND, Wire, planned};
+use grants::Table;
+use plan::Plan;
+use std::alloc::Global;
+use std::test::Fail;
+use tag::Tag;
+
+/// A chain without delays, from federate 0 to federate 63.
+fn chain(alloc: Global) -> Option<Plan> {
+    let mut wires = Vec::new(alloc);
+    for from in 0..63 {
+        let wire = Wire {
+            from,
+            to: from + 1,
+            after: None,
+        };
+        wires.push(wire).ok()?;
+    }
+    planned(alloc, 64, wires.as_slice(), 20 * MILLISECOND)
+}
+
+/// How many looks a change of this federate's next tag adds; None where there was no memory for the table.
+fn looks_of(alloc: Global, plan: &Plan, federate: usize) -> Option<u64> {
+    let mut table = Table::new(alloc, plan).ok()?;
+    if federate >= table.federates() {
+        return None;
+    }
+    let before = table.looks();
+    table.set_next(federate, Tag::FOREVER);
+    table.looks().checked_sub(before)
+}
+
+/// The same of each of these federates.
+fn looks_in_chain(alloc: Global, federates: [usize; 3]) -> Option<[u64; 3]> {
+    let plan = chain(alloc)?;
+    let [first, second, third] = federates;
+    Some([
+        looks_of(alloc, &plan, first)?,
+        looks_of(alloc, &plan, second)?,
+        looks_of(alloc, &plan, third)?,
+    ])
+}
+
+/// One look at the federate itself, and at most one at each of those after it: of the last, of the last but one, of the first.
+fn are_few(looks: [u64; 3]) -> bool {
+    matches!(looks, [1, 1..=2, 1..=64])
+}
+
+#[test]
+fn looks_at_most_at_a_federate_and_those_after_it(rt: HostRuntime) {
+    let few = looks_in_chain(rt.alloc(), [63, 62, 0]).map(are_few);
+    assert_eq!(rt; few, Some(true));
+}

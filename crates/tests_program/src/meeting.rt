@@ -1,0 +1,87 @@
+//! Two federates that have nothing to do with each other run at the same time.
+use crate::loading::{Federation, loaded};
+use crate::memory_lines::{Plain, ran_in_memory};
+use crate::running::is_finished;
+use node::NodeId;
+use std::alloc::Global;
+use std::sync::Wait;
+use std::sync::atomic::{AtomicBool, Ordering};
+use std::thread;
+use std::thread::Threads;
+use std::time::{Clock, Duration};
+use tests_samples::APART;
+use wires_workers::{Gate, Point};
+
+/// Each of two federates waits before it advances until the other has come too, at most 10,000 times 1 ms.
+#[derive(Drop)]
+struct Meeting {
+    has_come: [AtomicBool; 2],
+    has_waited_in_vain: AtomicBool,
+}
+
+impl Meeting {
+    fn new() -> Meeting {
+        Meeting {
+            has_come: [AtomicBool::new(false), AtomicBool::new(false)],
+            has_waited_in_vain: AtomicBool::new(false),
+        }
+    }
+
+    /// Whether both came, and neither waited in vain.
+    fn is_held(&self) -> bool {
+        let [first, second] = &self.has_come;
+        first.load(Ordering::SeqCst)
+            && second.load(Ordering::SeqCst)
+            && !self.has_waited_in_vain.load(Ordering::SeqCst)
+    }
+
+    fn wait<R: Clock>(&self, rt: &R, other: usize) {
+        for _ in 0..10_000 {
+            match self.has_come.get(other) {
+                Some(flag) if !flag.load(Ordering::SeqCst) => {
+                    thread::sleep(rt, Duration::from_millis(1));
+                }
+                _ => return,
+            }
+        }
+        self.has_waited_in_vain.store(true, Ordering::SeqCst);
+    }
+}
+
+impl Gate for Meeting {
+    fn is_open(&self) -> bool {
+        false
+    }
+
+    fn pass<R: Wait + Clock>(&self, rt: &R, node: NodeId, point: Point) {
+        if let (NodeId::Federate(number), Point::Advance) = (node, point) {
+            if let Some(flag) = self.has_come.get(number) {
+                flag.store(true, Ordering::SeqCst);
+                self.wait(rt, if number == 0 { 1 } else { 0 });
+            }
+        }
+    }
+}
+
+/// Whether both pass, and the run finishes.
+fn meets<R: Threads + Wait + Clock + Sync>(
+    rt: &R,
+    alloc: Global,
+    federation: &Federation,
+    meeting: &Meeting,
+) -> bool {
+    match ran_in_memory(rt, alloc, federation, meeting, Plain) {
+        Some(gathered) => is_finished(&gathered) && meeting.is_held(),
+        None => false,
+    }
+}
+
+#[test]
+fn advances_two_unconnected_federates_at_once(rt: HostRuntime) {
+    let meeting = Meeting::new();
+    let met = match loaded(rt.alloc(), APART, "") {
+        Some(federation) => meets(&rt, rt.alloc(), &federation, &meeting),
+        None => false,
+    };
+    assert!(rt; met);
+}

@@ -1,0 +1,125 @@
+//! How a file is read to its end: in pieces, with interruptions, up to its limit, and with errors.
+use fedrun_files::{FileFault, Files, MachineFiles, read_to_end};
+use std::alloc::Global;
+use std::io::{ErrorKind, Read};
+use std::{fs, io, rt};
+
+/// A reader that is interrupted before each piece, gives so many bytes, and then ends, or fails with an error of this kind.
+#[derive(Drop)]
+struct Pieces {
+    left: usize,
+    is_next: bool,
+    failure: Option<ErrorKind>,
+}
+
+impl Pieces {
+    fn new(left: usize, failure: Option<ErrorKind>) -> Pieces {
+        Pieces {
+            left,
+            is_next: false,
+            failure,
+        }
+    }
+}
+
+impl Read for Pieces {
+    fn read(&mut self, buf: &mut [u8]) -> io::Result<usize> {
+        self.is_next = !self.is_next;
+        if self.is_next {
+            return Err(io::Error::from(ErrorKind::Interrupted));
+        }
+        if self.left == 0 {
+            return match self.failure {
+                Some(kind) => Err(io::Error::from(kind)),
+                None => Ok(0),
+            };
+        }
+        let count = buf.len().min(self.left).min(700);
+        buf[..count].fill(b'x');
+        self.left -= count;
+        Ok(count)
+    }
+}
+
+/// How many bytes are read of a reader that has so many, at most so many, before this failure.
+fn read(
+    alloc: Global,
+    bytes: usize,
+    most: usize,
+    failure: Option<ErrorKind>,
+) -> Result<usize, FileFault> {
+    let mut pieces = Pieces::new(bytes, failure);
+    let bytes = read_to_end(alloc, &mut pieces, most)?;
+    Ok(bytes.len())
+}
+
+const LATE: Option<ErrorKind> = Some(ErrorKind::Other);
+
+const NO_MEMORY: Option<ErrorKind> = Some(ErrorKind::OutOfMemory);
+
+/// How many bytes there are, how many may be read, how it ends, and what is read.
+const READ: &[(usize, usize, Option<ErrorKind>, Result<usize, FileFault>)] = &[
+    (0, 0, None, Ok(0)),
+    (1, 0, None, Err(FileFault::OverLimit)),
+    (9_999, 10_000, None, Ok(9_999)),
+    (10_000, 10_000, None, Ok(10_000)),
+    (10_001, 10_000, None, Err(FileFault::OverLimit)),
+    (5_000, 10_000, LATE, Err(FileFault::Unreadable)),
+    (10_000, 10_000, LATE, Err(FileFault::Unreadable)),
+    (5_000, 10_000, NO_MEMORY, Err(FileFault::Memory)),
+];
+
+/// Whether that is read, the next time if memory was refused.
+fn is_read(
+    alloc: Global,
+    bytes: usize,
+    most: usize,
+    failure: Option<ErrorKind>,
+    wanted: Result<usize, FileFault>,
+) -> bool {
+    let first = read(alloc, bytes, most, failure);
+    first == wanted
+        || first == Err(FileFault::Memory) && read(alloc, bytes, most, failure) == wanted
+}
+
+/// Whichever allocation is refused, that is what is told: `rt try --test --fail-alloc N`.
+#[test]
+fn reads_to_the_end(rt: HostRuntime) {
+    for (bytes, most, failure, wanted) in READ {
+        assert!(rt;
+            is_read(rt.alloc(), *bytes, *most, *failure, *wanted),
+            "{bytes} of {most}"
+        );
+    }
+}
+
+/// How many bytes of a file of the machine's are read, at most so many.
+fn read_file<R: rt::Files + AllocGlobal>(
+    rt: &R,
+    name: &str,
+    most: usize,
+) -> Result<usize, FileFault> {
+    let mut files = MachineFiles::new(rt);
+    let bytes = files.bytes(name, most)?;
+    Ok(bytes.len())
+}
+
+/// Whether a file of five bytes is read, at most so many or one less, and one that isn't there is not.
+fn are_files_read<R: rt::Files + AllocGlobal>(rt: &R) -> bool {
+    let name = "five_bytes";
+    let is_written = fs::write(rt, name, "bytes").is_ok();
+    let five = read_file(rt, name, 5);
+    let four = read_file(rt, name, 4);
+    let is_removed = fs::remove_file(rt, name).is_ok();
+    let none = read_file(rt, name, 5);
+    is_written
+        && is_removed
+        && five == Ok(5)
+        && four == Err(FileFault::OverLimit)
+        && none == Err(FileFault::Unreadable)
+}
+
+#[test]
+fn reads_files_of_the_machine(rt: HostRuntime) {
+    assert!(rt; are_files_read(&rt));
+}

@@ -1,0 +1,57 @@
+//! What the words ask for.
+use crate::outcome::{prints, tells};
+use tests_samples::{CHAIN, CHAIN_INPUT, COUNTER, SENDER};
+
+/// Words that are no command: a few of those that the crate `tests_libraries` tries.
+const REFUSED: &[&[&str]] = &[
+    &[],
+    &["whole", "fed.toml", "-", "+4"],
+    &["whole", "fed.toml", "-in.toml", "4"],
+    &["check", "fed.toml", "fed.toml"],
+    &["--help"],
+    &["run"],
+    &["run", "fed.toml", "-", "--turns", "x"],
+];
+
+#[test]
+fn refuses_words(rt: HostRuntime) {
+    for words in REFUSED {
+        assert!(rt;
+            tells(&rt, words, &[SENDER], &[], 2, "fedrun: usage\n"),
+            "{words:?}"
+        );
+    }
+}
+
+const TWO_ROWS: &str = "src (0, 0) [t] -> [y=1]
+snk (0, 0) [x=1] -> [total=1]
+";
+
+/// Words that ask for two turns of the counter.
+const TWO_TURNS: &[&[&str]] = &[
+    &["whole", "fed.toml", "-", "2"],
+    &["whole", "fed.toml", "-", "0002"],
+    &["whole", "--", "fed.toml", "-", "2"],
+    &["whole", "fed.toml", "--", "-", "2"],
+];
+
+#[test]
+fn takes_words(rt: HostRuntime) {
+    for words in TWO_TURNS {
+        assert!(rt; prints(&rt, words, &[COUNTER], &[], TWO_ROWS), "{words:?}");
+    }
+}
+
+#[test]
+fn takes_a_name_with_a_hyphen(rt: HostRuntime) {
+    let words = ["whole", "fed.toml", "--", "-in.toml", "7"];
+    assert!(rt;
+        prints(
+            &rt,
+            &words,
+            &[CHAIN],
+            &[CHAIN_INPUT],
+            crate::rows::CHAIN_ROWS
+        )
+    );
+}

@@ -1,0 +1,61 @@
+//! The room of a link: how many signals a federate sends that aren't acknowledged. The number is that of docs/FORMATS.md, written
+//! out: a test that cited the constant of the code would pass with any.
+use crate::loading::{Federation, loaded};
+use crate::schedules::TICKS;
+use std::alloc::Global;
+use std::test::Fail;
+use world::World;
+use world_stations::{Dir, Outcome, Step};
+
+/// It announces, and is granted all that it has to run. The acknowledgement, the first frame that goes to it, is on its way.
+const GRANTED: &[Step] = &[
+    Step::Announce(0),
+    Step::Deliver(Dir::Up(0), 1),
+    Step::Deliver(Dir::Down(0), 2),
+];
+
+/// How often a federate advances, one signal each time, before something else happens, and what; none within so many times.
+fn advances(world: &mut World<'_>, most: usize) -> Option<(usize, Outcome)> {
+    for count in 0..most {
+        let outcome = world.apply(Step::Advance(0)).ok()?;
+        if outcome != Outcome::Done {
+            return Some((count, outcome));
+        }
+    }
+    None
+}
+
+/// The same of a world's only federate once it is granted, and again after the acknowledgement has come.
+fn advances_twice(
+    alloc: Global,
+    federation: &Federation,
+    most: usize,
+) -> Option<[(usize, Outcome); 2]> {
+    let mut world = World::new(
+        alloc,
+        &federation.plan,
+        &federation.programs,
+        &federation.inputs,
+    )
+    .ok()?;
+    world.run(GRANTED).ok()?;
+    let first = advances(&mut world, most)?;
+    world.apply(Step::Deliver(Dir::Down(0), 1)).ok()?;
+    let second = advances(&mut world, most)?;
+    Some([first, second])
+}
+
+fn advances_of(alloc: Global, most: usize) -> Option<[(usize, Outcome); 2]> {
+    let federation = loaded(alloc, TICKS, "")?;
+    advances_twice(alloc, &federation, most)
+}
+
+/// With the NET that it announced, 4,096 signals aren't acknowledged. The acknowledgement of the NET makes room for one.
+#[test]
+fn refuses_the_4097th_signal_without_an_acknowledgement(rt: HostRuntime) {
+    let full = Outcome::Refused(60);
+    assert_eq!(rt;
+        advances_of(rt.alloc(), 10_000),
+        Some([(4_095, full), (1, full)])
+    );
+}

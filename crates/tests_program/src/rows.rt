@@ -1,0 +1,235 @@
+//! Rows and plans, by the words that ask for them.
+use crate::federations::{BOTH_WAYS, THREE, TICKS};
+use crate::outcome::{joined, prints};
+use std::net::{Net, TcpListener, TcpStream};
+use std::sync::Wait;
+use std::thread::Threads;
+use std::time::Clock;
+use tests_samples::{
+    CARRIED, CARRIED_INPUTS, CHAIN, CHAIN_INPUT, COUNTER, DELAYED_COUNTER, LOOP, REPLACED,
+    STARTED_COUNTER,
+};
+
+const COUNTER_ROWS: &[&str] = &[
+    "src (0, 0) [t] -> [y=1]\n",
+    "snk (0, 0) [x=1] -> [total=1]\n",
+    "src (10 ms, 0) [t] -> [y=2]\n",
+    "snk (10 ms, 0) [x=2] -> [total=3]\n",
+    "src (20 ms, 0) [t] -> [y=3]\n",
+    "snk (20 ms, 0) [x=3] -> [total=6]\n",
+];
+
+/// So many turns of the counter print so many rows.
+const TURNS: &[(&str, usize)] = &[
+    ("0", 0),
+    ("1", 1),
+    ("4", 4),
+    ("6", 6),
+    ("100", 6),
+    ("4294967295", 6),
+];
+
+fn prints_turns<
+    R: AllocGlobal
+        + Threads
+        + Wait
+        + Clock
+        + Net<Stream = TcpStream, Listener = TcpListener>
+        + Sync,
+>(rt: &R, turns: &str, lines: usize) -> Option<bool> {
+    let rows = joined(rt.alloc(), COUNTER_ROWS.get(..lines)?)?;
+    let words = ["whole", "fed.toml", "-", turns];
+    Some(prints(rt, &words, &[COUNTER], &[], rows.as_str()))
+}
+
+#[test]
+fn prints_the_rows_of_at_most_n_turns(rt: HostRuntime) {
+    for (turns, lines) in TURNS {
+        assert_eq!(rt; prints_turns(&rt, turns, *lines), Some(true), "{turns}");
+    }
+}
+
+/// So many turns of an action that is scheduled again and again print so many rows, also of more turns than those whose rows
+/// are kept at once.
+const MANY_TURNS: &[(&str, u32)] = &[
+    ("1023", 1023),
+    ("1024", 1024),
+    ("1025", 1025),
+    ("2048", 2048),
+    ("2100", 2100),
+    ("4294967295", 2200),
+];
+
+fn prints_ticks<
+    R: AllocGlobal
+        + Threads
+        + Wait
+        + Clock
+        + Net<Stream = TcpStream, Listener = TcpListener>
+        + Sync,
+>(rt: &R, turns: &str, ticks: u32) -> Option<bool> {
+    let mut rows = String::from_str(rt.alloc(), "a (0, 0) [startup] -> []\n").ok()?;
+    for tick in 1..ticks {
+        match tick % 1000 {
+            0 => write!(rows, "a ({} ms, 0) [tick=7] -> []\n", tick / 1000).ok()?,
+            _ => write!(rows, "a ({tick} us, 0) [tick=7] -> []\n").ok()?,
+        }
+    }
+    let words = ["whole", "fed.toml", "-", turns];
+    Some(prints(rt, &words, &[TICKS], &[], rows.as_str()))
+}
+
+#[test]
+fn prints_the_rows_of_many_turns(rt: HostRuntime) {
+    for (turns, ticks) in MANY_TURNS {
+        assert_eq!(rt; prints_ticks(&rt, turns, *ticks), Some(true), "{turns}");
+    }
+}
+
+pub const CHAIN_ROWS: &str = "a (10 ms, 0) [t] -> [y=1]
+b (10 ms, 0) [x=1] -> []
+b (15 ms, 0) [act=7] -> [z=7]
+c (15 ms, 0) [w=7] -> [o=7]
+c (50 ms, 0) [t] -> [o=-1]
+b (100 ms, 0) [p=9] -> [z=9]
+c (100 ms, 0) [w=9] -> [o=9]
+";
+
+/// Federations, of parts, their input files, and all their rows.
+const ROWS: &[(&[&str], &str, &str)] = &[
+    (
+        &[DELAYED_COUNTER],
+        "",
+        "src (0, 0) [t] -> [y=1]
+snk (0, 1) [x=1] -> [total=1]
+src (10 ms, 0) [t] -> [y=2]
+snk (10 ms, 1) [x=2] -> [total=3]
+src (20 ms, 0) [t] -> [y=3]
+",
+    ),
+    (
+        &[STARTED_COUNTER],
+        "",
+        "src (0, 0) [t] -> [y=1]
+snk (0, 0) [startup x=1] -> [total=1]
+src (10 ms, 0) [t] -> [y=2]
+snk (10 ms, 0) [x=2] -> [total=3]
+src (20 ms, 0) [t] -> [y=3]
+snk (20 ms, 0) [x=3] -> [total=6]
+",
+    ),
+    (
+        &[REPLACED],
+        "",
+        "src (0, 0) [startup] -> [y=1]
+src (0, 1) [a=2] -> [y=2]
+snk (10 ms, 0) [x=2] -> [v=2]
+",
+    ),
+    (
+        &[LOOP],
+        "",
+        "loop (0, 0) [startup] -> [y=1]
+loop (5 ms, 0) [x=1] -> [y=2]
+loop (10 ms, 0) [x=2] -> [y=3]
+",
+    ),
+    (&[CHAIN], CHAIN_INPUT, CHAIN_ROWS),
+    (
+        &[CARRIED],
+        CARRIED_INPUTS,
+        "g (0, 4294967295) [p=1] -> [y=1]
+g (1 ns, 0) [p=2] -> [y=2]
+h (1 ns, 0) [x=1] -> []
+h (1 ns, 1) [x=2] -> []
+h (10 ms, 0) [t] -> []
+",
+    ),
+];
+
+#[test]
+fn prints_the_rows_of_worked_federations(rt: HostRuntime) {
+    let words = ["whole", "fed.toml", "in.toml", "20"];
+    for (federation, inputs, rows) in ROWS {
+        assert!(rt; prints(&rt, &words, federation, &[*inputs], rows), "{rows}");
+    }
+}
+
+const A_TO_B: &str = "[[connection]]\nfrom = \"a.y\"\nto = \"b.x\"\n";
+
+const B_TO_A: &str = "[[connection]]\nfrom = \"b.y\"\nto = \"a.x\"\n";
+
+const P_TO_Q: &str = "[[connection]]\nfrom = \"p.a\"\nto = \"q.x\"\n";
+
+const Q_TO_R: &str = "[[connection]]\nfrom = \"q.y\"\nto = \"r.x\"\n";
+
+const P_TO_R: &str = "[[connection]]\nfrom = \"p.b\"\nto = \"r.z\"\n";
+
+const AT_ONCE: &str = "after = \"0\"\n";
+
+const LATER: &str = "after = \"5 ms\"\n";
+
+/// Federations, of parts, and their plans.
+const PLANS: &[(&[&str], &str)] = &[
+    (
+        &[BOTH_WAYS, A_TO_B, AT_ONCE, B_TO_A],
+        "federates 2 connections 2 stop 10 ms
+a rank 1
+b rank 0
+a -> a least (0, 1)
+a -> b least (0, 1)
+b -> a least (0, 0)
+b -> b least (0, 1)
+",
+    ),
+    (
+        &[LOOP],
+        "federates 1 connections 1 stop 12 ms
+loop rank 0
+loop -> loop least (5 ms, 0)
+",
+    ),
+    (
+        &[THREE, P_TO_Q, LATER, Q_TO_R, AT_ONCE, P_TO_R, LATER],
+        "federates 3 connections 3 stop 10 ms
+p rank 0
+q rank 1
+r rank 2
+p -> q least (5 ms, 0)
+p -> r least (5 ms, 0)
+q -> r least (0, 1)
+",
+    ),
+    (
+        &[THREE, P_TO_Q, LATER, Q_TO_R, AT_ONCE],
+        "federates 3 connections 2 stop 10 ms
+p rank 0
+q rank 1
+r rank 2
+p -> q least (5 ms, 0)
+p -> r least (5 ms, 1)
+q -> r least (0, 1)
+",
+    ),
+    (
+        &[THREE, P_TO_Q, AT_ONCE, Q_TO_R, LATER],
+        "federates 3 connections 2 stop 10 ms
+p rank 0
+q rank 1
+r rank 2
+p -> q least (0, 1)
+p -> r least (5 ms, 0)
+q -> r least (5 ms, 0)
+",
+    ),
+];
+
+#[test]
+fn prints_the_plans_of_worked_federations(rt: HostRuntime) {
+    for (federation, plan) in PLANS {
+        assert!(rt;
+            prints(&rt, &["check", "fed.toml"], federation, &[], plan),
+            "{plan}"
+        );
+    }
+}

@@ -1,6 +1,0 @@
--- How a connection's refusals are told.
-pub mod Fault
--- Bytes on their way in one direction.
-pub mod Pipe
--- Who a connection is, by its first frame.
-pub mod Greeter

@@ -1,3 +1,0 @@
--- What is printed of the undivided program.
--- the rows of its turns
-pub mod Printed

@@ -1,6 +1,0 @@
-use Rattle.std.proofs.Common.{take}
-use Rattle.whole.specs.Opening.{AreOpenWith}
-use Rattle.whole.proofs.opening.put_inputs.Given as goal
-
-abbrev pub invariant-loop-input : goal.invariant-loop-input
-invariant-loop-input l = AreOpenWith l.plan (take l.input-index l.inputs) l.agendas

@@ -1,0 +1,4 @@
+-- How it is printed that a run gives no desks.
+pub mod Fault
+-- What the workers of one node leave, and the desks that are gathered from it.
+pub mod Gathered

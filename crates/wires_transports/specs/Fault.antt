@@ -1,0 +1,11 @@
+-- How a connection's refusals are printed.
+use Rattle.std.specs.Prelude.{ℕ, List, codes}
+use Rattle.signal.specs.Fault.{told}
+
+-- the number of a call that failed
+abbrev pub broken_number : ℕ
+broken_number = 95
+
+-- what is printed of it
+abbrev pub broken_text : List ℕ
+broken_text = told broken_number (codes "Broken")

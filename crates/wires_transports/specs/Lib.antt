@@ -1,0 +1,6 @@
+-- How a connection's refusals are printed.
+pub mod Fault
+-- Bytes on their way in one direction.
+pub mod Pipe
+-- Who a connection is, by its first frame.
+pub mod Greeter

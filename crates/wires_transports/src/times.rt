@@ -1,0 +1,22 @@
+//! How long whoever has threads waits: one place for all such times, each in ms.
+//!
+//! A runner that hears nothing has waited `WAITS_BEFORE_RESEND` times `RUNNER_WAIT_MS`, which is 100 ms, before it sends again
+//! what may be lost.
+
+/// Between two looks at a listener, and before the next attempt to connect.
+pub const PAUSE_MS: u64 = 1;
+
+/// The longest wait of a runner for a wake-up.
+pub const RUNNER_WAIT_MS: u64 = 10;
+
+/// After so many waits in a row without a wake-up, what may be lost is sent again.
+pub const WAITS_BEFORE_RESEND: u8 = 10;
+
+/// The longest wait until a writer sees by itself that the run is to end.
+pub const WRITER_WAIT_MS: u64 = 100;
+
+/// A connection that hasn't said whose it is after about so long is closed: it is looked at once in each pause.
+pub const SILENCE_MS: u32 = 5000;
+
+/// So long the readers have, once the run is to end, to read what was sent.
+pub const END_MS: u32 = 1000;

@@ -1,0 +1,16 @@
+-- Turns handed in one after the other.
+use Rattle.std.proofs.Common.{◌≡◌, ℕ, suc, ◌+◌, ◌∷◌, ◌++◌, [], List, ap, subst, ◌∙◌, arith}
+use Rattle.std.proofs.lemmas.List.{append_assoc}
+use Rattle.node.specs.declared.event.Event.TheVariants.{Announce, Advance}
+use Rattle.desk.specs.declared.slip.Slip.{Slip}
+use Rattle.wires_workers.specs.HandedIn.{AreHandedIn, HandedIn, one_more, events_of_turns}
+
+-- after so many turns one more is handed in
+pub one_more_turn : (turns : ℕ) {old share between new : List Slip} → AreHandedIn old (events_of_turns turns) share → HandedIn share Announce between → HandedIn between Advance new →
+    AreHandedIn old (events_of_turns (turns + 1)) new
+one_more_turn turns {old} {share} {between} {new} before announced advanced =
+    let both : AreHandedIn old ((events_of_turns turns ++ Announce ∷ []) ++ Advance ∷ []) new = one_more (one_more before announced) advanced in
+    let more : suc turns ≡ turns + 1 = omega arith in
+    let joined : (events_of_turns turns ++ Announce ∷ []) ++ Advance ∷ [] ≡ events_of_turns (turns + 1) =
+    append_assoc (events_of_turns turns) (Announce ∷ []) (Advance ∷ []) ∙ ap events_of_turns more in
+    subst (λ events. AreHandedIn old events new) joined both

@@ -1,0 +1,10 @@
+-- The kind of an event.
+pub mod Point
+-- How a runner goes on: turns, and waits for a wake-up in between.
+pub mod RetryState
+-- What a worker's share is after it handed in an event, or several.
+pub mod HandedIn
+-- The events that a reader makes of what its peer sends.
+pub mod AreRead
+-- The frames that wait for a writer's next send.
+pub mod Waiting

@@ -1,0 +1,164 @@
+//! The worker that reads what one peer sends to a node.
+ghost use Rattle.std.specs.Prelude.{◌≡◌, List, [], IfSome};
+ghost use Rattle.signal.specs.Stream.{Stream};
+ghost use Rattle.node.specs.declared.event.Event.{Event as IsEvent};
+ghost use Rattle.wires_workers.specs.AreRead.{AreRead};
+ghost use Rattle.wires_workers.specs.HandedIn.{AreHandedIn};
+
+use crate::context::Context;
+use crate::gate::Gate;
+use crate::greeted::Greeted;
+use crate::side::Side;
+use crossbeam_channel::Receiver;
+use desk::Share;
+use node::{Event, Node, Reply};
+use signal::FrameReader;
+use std::alloc::Global;
+use std::sync::{Arc, Wait};
+use std::time::Clock;
+use wires_transports::{Accepted, Connection, Cut, Transport};
+
+// Bytes of one read.
+const ROOM: usize = 4096;
+// Events that are handed in at once, at most.
+const AT_ONCE: usize = 128;
+
+/// Reads a peer's connections one after the other, as they come, until no more come; its share. Each is greeted first.
+pub fn read<R: Wait + Clock, N: Node, G: Gate, T: Transport, C: Cut>(
+    rt: &R,
+    alloc: Global,
+    context: &Context<'_, N, G, T, C>,
+    peer: usize,
+    arrivals: &Receiver<Accepted<T, C>>,
+) -> Share {
+    let mut share = Share::new(alloc);
+    for _ in rt.forever() {
+        let Ok(arrived) = arrivals.recv(rt) else {
+            break;
+        };
+        match greet(rt, context, &mut share, peer) {
+            Some(Reply::Done(greeting)) => {
+                let greeted = Greeted {
+                    peer,
+                    arrived,
+                    greeting,
+                };
+                read_connection(rt, alloc, context, &mut share, greeted);
+            }
+            _ => arrived.connection.cut.cut(rt),
+        }
+    }
+    share
+}
+
+// Greets the peer on a new connection. The reply has the frame that is sent first; it is nothing where the end is closed.
+pub(crate) fn greet<R: Wait + Clock, N: Node, G: Gate, T: Drop, C: Drop>(
+    rt: &R,
+    context: &Context<'_, N, G, T, C>,
+    share: &mut Share,
+    peer: usize,
+) -> Option<Reply> {
+    let reply = context.step(rt, share, Event::Hello(peer));
+    context.watch(rt);
+    reply
+}
+
+// Reads a connection to its end. The writer is asked to begin with the greeting. At the end, and where what came is no frame,
+// both directions are ended. Where the run is to end, the writer may have ended before: then nothing is read.
+pub(crate) fn read_connection<R: Wait + Clock, N: Node, G: Gate, T: Transport, C: Cut>(
+    rt: &R,
+    alloc: Global,
+    context: &Context<'_, N, G, T, C>,
+    share: &mut Share,
+    greeted: Greeted<T, C>,
+) {
+    let Greeted {
+        peer,
+        arrived: Accepted { connection, first },
+        greeting,
+    } = greeted;
+    let Connection {
+        mut incoming,
+        outgoing,
+        cut,
+    } = connection;
+    if let Ok(other) = Arc::try_clone(&cut) {
+        if let Some(writer) = context.writers.get(peer) {
+            let side = Side {
+                transport: outgoing,
+                cut: other,
+            };
+            writer.begin(rt, side, greeting);
+            if !context.ending.is_set() {
+                let mut frames = FrameReader::new(alloc);
+                if frames.feed(&first).is_ok() {
+                    read_on(rt, alloc, context, share, peer, &mut incoming, &mut frames);
+                }
+            }
+        }
+    }
+    cut.cut(rt);
+}
+
+// Hands in all whole frames that are there, and reads what comes next, to the end of the connection or what is no frame.
+fn read_on<R: Wait + Clock, N: Node, G: Gate, T: Transport, C: Drop>(
+    rt: &R,
+    alloc: Global,
+    context: &Context<'_, N, G, T, C>,
+    share: &mut Share,
+    peer: usize,
+    incoming: &mut T,
+    frames: &mut FrameReader,
+) {
+    for _ in rt.forever() {
+        match take_some(rt, alloc, context, share, peer, frames) {
+            Some(true) => {}
+            Some(false) if has_read(rt, incoming, frames) => {}
+            _ => break,
+        }
+    }
+}
+
+// Reads what comes next. False where the connection has ended, or there was no memory.
+fn has_read<R: Wait, T: Transport>(rt: &R, incoming: &mut T, frames: &mut FrameReader) -> bool {
+    let mut room = [0; ROOM];
+    match incoming.recv(rt, &mut room) {
+        Ok(0) | Err(_) => false,
+        Ok(count) => frames.feed(&room[..count]).is_ok(),
+    }
+}
+
+// Hands in whole frames, as many as are handed in at once; whether there may be more. What comes after them, and is no frame, is
+// no event: then none.
+fn take_some<R: Wait + Clock, N: Node, G: Gate, T: Drop, C: Drop>(
+    rt: &R,
+    alloc: Global,
+    context: &Context<'_, N, G, T, C>,
+    share: &mut Share,
+    peer: usize,
+    frames: &mut FrameReader,
+) -> Option<bool>
+    ensures { (events : List IsEvent) × (stream : Stream) × AreRead peer frames.old events stream × AreHandedIn share.old events share.new × IfSome result (λ _. frames.new ≡ stream) }
+{
+    let mut events = Vec::new(alloc);
+    let next = collect(peer, frames, &mut events);
+    context.hand_in(rt, alloc, share, &events);
+    next
+}
+
+// Makes an event of each of the next whole frames; whether there may be more. None where what comes next is no frame, or there is
+// no memory for the event.
+fn collect(peer: usize, frames: &mut FrameReader, events: &mut Vec<Event>) -> Option<bool>
+    requires { events.old.items ≡ [] }
+    ensures { (stream : Stream) × AreRead peer frames.old events.new.items stream × IfSome result (λ _. frames.new ≡ stream) }
+{
+    for _ in 0..AT_ONCE {
+        events.reserve(1).ok()?;
+        match frames.next() {
+            Ok(Some(frame)) => events.push_reserved(Event::Frame(peer, frame)),
+            Ok(None) => return Some(false),
+            Err(_) => return None,
+        }
+    }
+    Some(true)
+}

@@ -1,0 +1,93 @@
+ghost use Rattle.std.specs.Prelude.{◌≡◌};
+ghost use Rattle.wires_workers.specs.RetryState.{turn_of, turned, after_turn, waited, after_wait};
+
+use std::marker::Model;
+use wires_transports::times::WAITS_BEFORE_RESEND;
+
+/// What a runner does next.
+#[derive(Clone, Copy, Debug, PartialEq, Eq)]
+pub enum Next {
+    /// A turn: an announcement, then an advance.
+    Turn,
+    /// A wait for a wake-up.
+    Wait,
+    /// A Hello and a Resend, and then a turn.
+    Repeat,
+    /// Its turns are used up.
+    End,
+}
+
+/// How many turns a runner has left, and how long it has waited.
+#[derive(Debug, Drop)]
+pub struct RetryState {
+    turns: u32,
+    waits: u8,
+}
+
+impl Model for RetryState {
+    ghost use Rattle.std.specs.Prelude.{◌<◌};
+    ghost use Rattle.wires_workers.specs.RetryState as state;
+    ghost use Rattle.wires_transports.specs.declared.times.TheConstants.{WAITS_BEFORE_RESEND};
+
+    ghost Value = { state.RetryState };
+
+    ghost view = { λ p. record { turns = p.turns; waits = p.waits } };
+
+    ghost invariant = { λ p. p.waits < WAITS_BEFORE_RESEND };
+}
+
+impl RetryState {
+    /// So many turns, and no wait so far.
+    pub fn new(turns: u32) -> RetryState
+        ensures { result ≡ record { turns = turns; waits = 0 } }
+    {
+        RetryState { turns, waits: 0 }
+    }
+
+    /// How many turns are left.
+    pub fn turns_left(&self) -> u32
+        ensures { result ≡ self.now.turns }
+    {
+        self.turns
+    }
+
+    /// A turn, where one is left.
+    pub fn turn(&self) -> Next
+        ensures { result ≡ turn_of self.now.turns }
+    {
+        if self.turns == 0 {
+            Next::End
+        } else {
+            Next::Turn
+        }
+    }
+
+    /// A turn was made, idle where it did nothing. An attempt to connect that failed is one too.
+    pub fn after_turn(&mut self, idle: bool) -> Next
+        ensures state { self.new ≡ turned self.old }
+        ensures next { result ≡ after_turn self.new idle }
+    {
+        self.turns = self.turns.saturating_sub(1);
+        if self.turns > 0 && idle {
+            Next::Wait
+        } else {
+            self.turn()
+        }
+    }
+
+    /// A wait is over, by a wake-up or without one.
+    pub fn after_wait(&mut self, wake_up: bool) -> Next
+        ensures state { self.new ≡ waited self.old wake_up }
+        ensures next { result ≡ after_wait self.old wake_up }
+    {
+        if wake_up {
+            self.waits = 0;
+        } else if self.waits + 1 < WAITS_BEFORE_RESEND {
+            self.waits += 1;
+        } else {
+            self.waits = 0;
+            return Next::Repeat;
+        }
+        self.turn()
+    }
+}

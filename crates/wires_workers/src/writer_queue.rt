@@ -1,0 +1,137 @@
+//! What a writer is asked.
+//!
+//! The frames wait in one list under a lock, which the writer exchanges for an empty one: frame by frame through a channel, the
+//! two would wait for each other's locks at each frame, those of the channel and of memory.
+ghost use Rattle.std.specs.Prelude.{◌≡◌, None, Some, [], ◌++◌, OnOk, OnErr};
+
+use crate::side::Side;
+use crossbeam_channel::{Receiver, Sender, unbounded};
+use node::Outgoing;
+use std::alloc::{AllocError, Global};
+use std::mem;
+use std::sync::atomic::{AtomicBool, Ordering};
+use std::sync::{Mutex, Wait};
+use std::time::{Clock, Duration};
+use wires_transports::times::WRITER_WAIT_MS;
+
+// What a writer does next.
+#[derive(Drop)]
+struct Waiting<T: Drop, C: Drop> {
+    // The connection on which it writes from now on, if that is a new one.
+    side: Option<Side<T, C>>,
+    // What it writes, oldest first.
+    frames: Vec<Outgoing>,
+}
+
+impl<T: Drop, C: Drop> Waiting<T, C> {
+    // Nothing.
+    fn new(alloc: Global) -> Waiting<T, C>
+        ensures side { result.side ≡ None }
+        ensures frames { result.frames.items ≡ [] }
+    {
+        Waiting {
+            side: None,
+            frames: Vec::new(alloc),
+        }
+    }
+
+    // A new connection, on which this is sent first. What was not yet sent is dropped: the ends send it again when they are
+    // greeted.
+    fn begin(&mut self, side: Side<T, C>, greeting: Vec<Outgoing>)
+        ensures side { self.new.side ≡ Some side }
+        ensures frames { self.new.frames.items ≡ greeting.items }
+    {
+        self.side = Some(side);
+        self.frames = greeting;
+    }
+
+    // More frames, behind all others.
+    fn add(&mut self, frames: &[Outgoing]) -> Result<(), AllocError>
+        ensures side { self.new.side ≡ self.old.side }
+        ensures frames { OnOk result (self.new.frames.items ≡ self.old.frames.items ++ frames.now) }
+        ensures unchanged { OnErr result (self.new.frames.items ≡ self.old.frames.items) }
+    {
+        self.frames.extend_from_slice(frames)
+    }
+
+    // All that it does next, in exchange for room without frames.
+    fn take(&mut self, frames: &mut Vec<Outgoing>) -> Option<Side<T, C>>
+        requires { frames.old.items ≡ [] }
+        ensures side { result ≡ self.old.side }
+        ensures frames { frames.new.items ≡ self.old.frames.items }
+        ensures no_side { self.new.side ≡ None }
+        ensures no_frames { self.new.frames.items ≡ [] }
+    {
+        mem::swap(&mut self.frames, frames);
+        self.side.take()
+    }
+}
+
+/// What a writer is asked, and a notifier that wakes it. However often it is asked before it looks, it is notified once: to wake a
+/// thread takes longer than to ask it.
+#[derive(Drop)]
+pub struct WriterQueue<T: Drop, C: Drop> {
+    waiting: Mutex<Waiting<T, C>>,
+    notifier: Sender<()>,
+    notifications: Receiver<()>,
+    // Whether the writer was notified since it last looked.
+    is_notified: AtomicBool,
+}
+
+impl<T: Drop, C: Drop> WriterQueue<T, C> {
+    /// Nothing is asked.
+    pub fn new(alloc: Global) -> Result<WriterQueue<T, C>, AllocError> {
+        let (notifier, notifications) = unbounded(alloc)?;
+        Ok(WriterQueue {
+            waiting: Mutex::new(Waiting::new(alloc)),
+            notifier,
+            notifications,
+            is_notified: AtomicBool::new(false),
+        })
+    }
+
+    /// Asks the writer to write on this connection from now on, where the greeting is sent first. What was not yet sent is
+    /// dropped: the ends send it again when they are greeted.
+    pub fn begin<R: Wait>(&self, rt: &R, side: Side<T, C>, greeting: Vec<Outgoing>) {
+        let mut waiting = self.waiting.lock(rt);
+        waiting.begin(side, greeting);
+        drop(waiting);
+        self.notify(rt);
+    }
+
+    /// Asks the writer to send these frames, in this order. Where there is no memory for them, they are lost, as on a line that
+    /// loses frames.
+    pub fn send<R: Wait>(&self, rt: &R, frames: &[Outgoing]) {
+        let mut waiting = self.waiting.lock(rt);
+        let _ = waiting.add(frames);
+        drop(waiting);
+        self.notify(rt);
+    }
+
+    /// Wakes the writer. Where there is no memory for it, the writer sees a little later by itself what it is asked.
+    pub fn notify<R: Wait>(&self, rt: &R) {
+        if !self.is_notified.swap(true, Ordering::SeqCst) {
+            let _ = self.notifier.send(rt, ());
+        }
+    }
+
+    /// The writer looks: what it is asked from now on notifies it again.
+    pub(crate) fn look(&self) {
+        self.is_notified.store(false, Ordering::SeqCst);
+    }
+
+    /// All that the writer is asked, in exchange for room without frames.
+    pub(crate) fn take<R: Wait>(&self, rt: &R, frames: &mut Vec<Outgoing>) -> Option<Side<T, C>>
+        requires { frames.old.items ≡ [] }
+    {
+        let mut waiting = self.waiting.lock(rt);
+        waiting.take(frames)
+    }
+
+    /// Waits to be notified, but not too long.
+    pub(crate) fn wait<R: Wait + Clock>(&self, rt: &R) {
+        let _ = self
+            .notifications
+            .recv_timeout(rt, Duration::from_millis(WRITER_WAIT_MS));
+    }
+}

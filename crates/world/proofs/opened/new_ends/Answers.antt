@@ -1,6 +1,0 @@
-use Rattle.schedule.proofs.Opened.{ends_more}
-use Rattle.world.proofs.opened.new_ends.Goals as goal
-
-pub loop-federate-preserved : goal.loop-federate-preserved
-loop-federate-preserved c =
-    ends_more c.loop-federate.ends.items c.push.new.self.items c.new_end.result c.loop-federate.federate c.in_ok-push.ensures.items c.new_end.ensures c.loop-federate.invariant
