@@ -1,0 +1,7 @@
+-- How much a run of the machine of queues can still do.
+-- how much there is at first, by the rows of the undivided program
+pub mod Fuel
+-- how much is left, by what each federate still has to run and by what waits in its queues
+pub mod Worth
+-- runs in which nobody is lost, by rules that grant sparingly; and how many of their moves do something
+pub mod Runs
