@@ -1,4 +1,4 @@
--- Standings as a list, and TAGs that go out one after the other.
+-- Records as a list, and TAGs that go out one after the other.
 pub mod Listed
 -- What is in transit doesn't tell who is granted what.
 pub mod Unseen

@@ -16,16 +16,16 @@ use Rattle.protocol.specs.declared.post.Post.{Post}
 use Rattle.protocol.specs.declared.refusal.Refusal.{Refusal}
 use Rattle.protocol.specs.declared.refusal.Refusal.TheVariants.{NotYours, BelowGrant, NotRising, AfterStop}
 use Rattle.protocol.specs.Outcome.{Outcome, Refused, Done, with_made}
-use Rattle.protocol.specs.Standing.{Standing, initial_standing, least_with, with_tag, after_grant, after_net, after_ltc, after_message}
-use Rattle.protocol.specs.Standings.{standing_at, standings_listed, listed_after}
+use Rattle.protocol.specs.FederateRecord.{FederateRecord, initial_federate_record, least_with, with_tag, after_grant, after_net, after_ltc, after_message}
+use Rattle.protocol.specs.FederateRecords.{federate_record_at, federate_records_listed, listed_after}
 use Rattle.protocol.specs.Grant.{Rule}
-use Rattle.protocol.specs.Coordinator.{Coordinated, with_standing, noted, route, coordinator_takes, with_grants, grant_to, grant_post, grants_from, grants_over}
+use Rattle.protocol.specs.Coordinator.{Coordinated, with_federate_record, noted, route, coordinator_takes, with_grants, grant_to, grant_post, grants_from, grants_over}
 use Rattle.node.specs.declared.fault.NodeFault.{NodeFault}
 use Rattle.node.specs.declared.fault.NodeFault.TheVariants as fault
 use Rattle.node.specs.Mail.{Mail, all_posted, lacks_room}
 use Rattle.node.specs.Core.{Made}
 use Rattle.node.proofs.Ends.{no_posts}
-use Rattle.protocol_laws.proofs.ListedStandings.{list_read}
+use Rattle.protocol_laws.proofs.ListedFederateRecords.{list_read}
 use Rattle.protocol_laws.proofs.Eligibility.{contains_at, between_is}
 use Rattle.network_laws.proofs.Lists.{each_append, each, from_each}
 use Rattle.grants.specs.Wires.{Wires, network_by}
@@ -42,90 +42,90 @@ use Rattle.coordinator.proofs.Sent.{looked_at_are_there}
 use Rattle.coordinator.proofs.Steps.{posts_of_later, done_by, step_done, step_failed, none_to}
 
 -- a table after one change
-pub changed : (r t : Records) (i looks : ℕ) (s : Standing) → t ≡ with_looks (table.with_standing r i s) looks → (t.wires ≡ r.wires) × (t.standings ≡ set r.standings i s)
-changed r t i looks s is = (ap (λ x. x.wires) is, ap (λ x. x.standings) is)
+pub changed : (r t : Records) (i looks : ℕ) (s : FederateRecord) → t ≡ with_looks (table.with_federate_record r i s) looks → (t.wires ≡ r.wires) × (t.federate_records ≡ set r.federate_records i s)
+changed r t i looks s is = (ap (λ x. x.wires) is, ap (λ x. x.federate_records) is)
 
--- after two changes of one standing
-pub changed_twice : (r t u : Records) (i k looks : ℕ) (a : Standing) (change : Standing → Standing) → i < length r.standings → t ≡ with_looks (table.with_standing r i a) k →
-    u ≡ with_looks (table.with_standing t i (change (standing_at t.standings i))) looks → (u.wires ≡ r.wires) × (u.standings ≡ set r.standings i (change a))
+-- after two changes of one record
+pub changed_twice : (r t u : Records) (i k looks : ℕ) (a : FederateRecord) (change : FederateRecord → FederateRecord) → i < length r.federate_records → t ≡ with_looks (table.with_federate_record r i a) k →
+    u ≡ with_looks (table.with_federate_record t i (change (federate_record_at t.federate_records i))) looks → (u.wires ≡ r.wires) × (u.federate_records ≡ set r.federate_records i (change a))
 changed_twice r t u i k looks a change within one two =
     let first = changed r t i k a one in
-    let second = changed t u i looks (change (standing_at t.standings i)) two in
-    let at : standing_at (set r.standings i a) i ≡ a = get_or-set_at r.standings i i a initial_standing refl within in (
+    let second = changed t u i looks (change (federate_record_at t.federate_records i)) two in
+    let at : federate_record_at (set r.federate_records i a) i ≡ a = get_or-set_at r.federate_records i i a initial_federate_record refl within in (
       second.0 ∙ first.0,
-      second.1 ∙ (ap (λ xs. set xs i (change (standing_at xs i))) first.1 ∙
-          (set-set r.standings i a (change (standing_at (set r.standings i a) i)) ∙ ap (λ s. set r.standings i (change s)) at)),
+      second.1 ∙ (ap (λ xs. set xs i (change (federate_record_at xs i))) first.1 ∙
+          (set-set r.federate_records i a (change (federate_record_at (set r.federate_records i a) i)) ∙ ap (λ s. set r.federate_records i (change s)) at)),
     )
 
--- one more change of the same standing
-pub changed_again : (r t u : Records) (i looks : ℕ) (a : Standing) (change : Standing → Standing) → i < length r.standings → t.wires ≡ r.wires → t.standings ≡ set r.standings i a →
-    u ≡ with_looks (table.with_standing t i (change (standing_at t.standings i))) looks → (u.wires ≡ r.wires) × (u.standings ≡ set r.standings i (change a))
+-- one more change of the same record
+pub changed_again : (r t u : Records) (i looks : ℕ) (a : FederateRecord) (change : FederateRecord → FederateRecord) → i < length r.federate_records → t.wires ≡ r.wires → t.federate_records ≡ set r.federate_records i a →
+    u ≡ with_looks (table.with_federate_record t i (change (federate_record_at t.federate_records i))) looks → (u.wires ≡ r.wires) × (u.federate_records ≡ set r.federate_records i (change a))
 changed_again r t u i looks a change within wires so two =
-    let second = changed t u i looks (change (standing_at t.standings i)) two in
-    let at : standing_at (set r.standings i a) i ≡ a = get_or-set_at r.standings i i a initial_standing refl within in (
+    let second = changed t u i looks (change (federate_record_at t.federate_records i)) two in
+    let at : federate_record_at (set r.federate_records i a) i ≡ a = get_or-set_at r.federate_records i i a initial_federate_record refl within in (
       second.0 ∙ wires,
-      second.1 ∙ (ap (λ xs. set xs i (change (standing_at xs i))) so ∙
-          (set-set r.standings i a (change (standing_at (set r.standings i a) i)) ∙ ap (λ s. set r.standings i (change s)) at)),
+      second.1 ∙ (ap (λ xs. set xs i (change (federate_record_at xs i))) so ∙
+          (set-set r.federate_records i a (change (federate_record_at (set r.federate_records i a) i)) ∙ ap (λ s. set r.federate_records i (change s)) at)),
     )
 
 -- taken back
-pub taken_back : (r u : Records) (i : ℕ) (s : Standing) → u.standings ≡ set r.standings i s → s ≡ standing_at r.standings i → u.standings ≡ r.standings
-taken_back r u i s is same = is ∙ (ap (set r.standings i) same ∙ set-get_or r.standings i initial_standing)
+pub taken_back : (r u : Records) (i : ℕ) (s : FederateRecord) → u.federate_records ≡ set r.federate_records i s → s ≡ federate_record_at r.federate_records i → u.federate_records ≡ r.federate_records
+taken_back r u i s is same = is ∙ (ap (set r.federate_records i) same ∙ set-get_or r.federate_records i initial_federate_record)
 
-grants_in_are : (r t : Records) (xs : List Standing) (j : ℕ) → t.wires ≡ r.wires → t.standings ≡ xs →
-    grants_in t (looked_at t.wires j) ≡ grants_over (network_by r.wires) (rule_by r.wires) (standing_at xs) (looked_at r.wires j)
-grants_in_are r t xs j wires standings =
-    let F : Wires → List Standing → List Post = λ w s. grants_over (network_by w) (rule_by w) (standing_at s) (looked_at w j) in
-    ap (λ w. F w t.standings) wires ∙ ap (F r.wires) standings
+grants_in_are : (r t : Records) (xs : List FederateRecord) (j : ℕ) → t.wires ≡ r.wires → t.federate_records ≡ xs →
+    grants_in t (looked_at t.wires j) ≡ grants_over (network_by r.wires) (rule_by r.wires) (federate_record_at xs) (looked_at r.wires j)
+grants_in_are r t xs j wires federate_records =
+    let F : Wires → List FederateRecord → List Post = λ w s. grants_over (network_by w) (rule_by w) (federate_record_at s) (looked_at w j) in
+    ap (λ w. F w t.federate_records) wires ∙ ap (F r.wires) federate_records
 
-taken_done : (r t : Records) (i j : ℕ) (signal : Signal) (made : Coordinated) (a s : Standing) → AreRecords r → IsSettled r → j < r.wires.federates → coordinator_takes (network_by r.wires) (standing_at r.standings) i signal ≡ Done made →
-    made.after ≡ with_standing (standing_at r.standings) j s → without_transit a ≡ without_transit s → t.wires ≡ r.wires → t.standings ≡ set r.standings j a →
-    taken_by r i signal ≡ Done (record { after = all_granted (set r.standings j s) (grants_in t (looked_at t.wires j)); sent = made.sent ++ grants_in t (looked_at t.wires j) })
-taken_done r t i j signal made a s are settled there takes is same wires standings =
-    done_by r i signal made (set r.standings j s) (grants_in t (looked_at t.wires j)) takes (length-set r.standings j s ∙ are.count)
-    (is ∙ sym (read_set r.standings j s (omega (arith, are.count))))
-    (posts_of_later r j a s are settled there same ∙ sym (grants_in_are r t (set r.standings j a) j wires standings))
+taken_done : (r t : Records) (i j : ℕ) (signal : Signal) (made : Coordinated) (a s : FederateRecord) → AreRecords r → IsSettled r → j < r.wires.federates → coordinator_takes (network_by r.wires) (federate_record_at r.federate_records) i signal ≡ Done made →
+    made.after ≡ with_federate_record (federate_record_at r.federate_records) j s → without_transit a ≡ without_transit s → t.wires ≡ r.wires → t.federate_records ≡ set r.federate_records j a →
+    taken_by r i signal ≡ Done (record { after = all_granted (set r.federate_records j s) (grants_in t (looked_at t.wires j)); sent = made.sent ++ grants_in t (looked_at t.wires j) })
+taken_done r t i j signal made a s are settled there takes is same wires federate_records =
+    done_by r i signal made (set r.federate_records j s) (grants_in t (looked_at t.wires j)) takes (length-set r.federate_records j s ∙ are.count)
+    (is ∙ sym (read_set r.federate_records j s (omega (arith, are.count))))
+    (posts_of_later r j a s are settled there same ∙ sym (grants_in_are r t (set r.federate_records j a) j wires federate_records))
 
 -- what goes out before TAGs grants nothing
 abbrev pub GrantsNothing : List Post → Type 0
-GrantsNothing first = (xs : List Standing) (rest : List Post) → all_granted xs (first ++ rest) ≡ all_granted xs rest
+GrantsNothing first = (xs : List FederateRecord) (rest : List Post) → all_granted xs (first ++ rest) ≡ all_granted xs rest
 
 -- what a signal changed, and the table when the TAGs were found, before what is in transit was noted
-pub record IsTaken (r t : Records) (i j : ℕ) (signal : Signal) (made : Coordinated) (a s : Standing) : Type 0 where
+pub record IsTaken (r t : Records) (i j : ℕ) (signal : Signal) (made : Coordinated) (a s : FederateRecord) : Type 0 where
   pub are : AreRecords r
   pub settled : IsSettled r
   pub there : j < r.wires.federates
-  pub takes : coordinator_takes (network_by r.wires) (standing_at r.standings) i signal ≡ Done made
-  pub is : made.after ≡ with_standing (standing_at r.standings) j s
+  pub takes : coordinator_takes (network_by r.wires) (federate_record_at r.federate_records) i signal ≡ Done made
+  pub is : made.after ≡ with_federate_record (federate_record_at r.federate_records) j s
   pub same : without_transit a ≡ without_transit s
   pub wires : t.wires ≡ r.wires
-  pub standings : t.standings ≡ set r.standings j a
+  pub federate_records : t.federate_records ≡ set r.federate_records j a
 
-pub finished_step : (r t u after : Records) (m ready mail_then : Mail) (i j : ℕ) (signal : Signal) (made : Coordinated) (a s : Standing) (first posts : List Post) → IsTaken r t i j signal made a s → first ≡ made.sent → GrantsNothing made.sent →
-    u.wires ≡ r.wires → u.standings ≡ set r.standings j s → posts ≡ first ++ grants_in t (looked_at t.wires j) → ready ≡ m → lacks_room ready.ends posts ≡ false →
-    after.wires ≡ u.wires → after.standings ≡ all_granted u.standings posts → mail_then ≡ all_posted ready posts → IsStep r after m mail_then (Ok true) i signal
-finished_step r t u after m ready mail_then i j signal made a s first posts taken first_is nothing wires standings posts_are ready_is room after_wires after_standings mail =
+pub finished_step : (r t u after : Records) (m ready mail_then : Mail) (i j : ℕ) (signal : Signal) (made : Coordinated) (a s : FederateRecord) (first posts : List Post) → IsTaken r t i j signal made a s → first ≡ made.sent → GrantsNothing made.sent →
+    u.wires ≡ r.wires → u.federate_records ≡ set r.federate_records j s → posts ≡ first ++ grants_in t (looked_at t.wires j) → ready ≡ m → lacks_room ready.ends posts ≡ false →
+    after.wires ≡ u.wires → after.federate_records ≡ all_granted u.federate_records posts → mail_then ≡ all_posted ready posts → IsStep r after m mail_then (Ok true) i signal
+finished_step r t u after m ready mail_then i j signal made a s first posts taken first_is nothing wires federate_records posts_are ready_is room after_wires after_federate_records mail =
     let g = grants_in t (looked_at t.wires j) in
     let all : posts ≡ made.sent ++ g = posts_are ∙ ap (λ xs. xs ++ g) first_is in
-    let r_made : Made (List Standing) = record { after = all_granted (set r.standings j s) g; sent = made.sent ++ g } in
-    let granted : after.standings ≡ all_granted (set r.standings j s) g =
-    after_standings ∙ (ap (λ xs. all_granted xs posts) standings ∙ (ap (all_granted (set r.standings j s)) all ∙ nothing (set r.standings j s) g)) in
+    let r_made : Made (List FederateRecord) = record { after = all_granted (set r.federate_records j s) g; sent = made.sent ++ g } in
+    let granted : after.federate_records ≡ all_granted (set r.federate_records j s) g =
+    after_federate_records ∙ (ap (λ xs. all_granted xs posts) federate_records ∙ (ap (all_granted (set r.federate_records j s)) all ∙ nothing (set r.federate_records j s) g)) in
     let sent : mail_then ≡ all_posted m (made.sent ++ g) = mail ∙ (ap (λ x. all_posted x posts) ready_is ∙ ap (all_posted m) all) in
     let fits : lacks_room m.ends (made.sent ++ g) ≡ false =
     ap (λ (x : Mail). lacks_room x.ends (made.sent ++ g)) (sym ready_is) ∙ (ap (lacks_room ready.ends) (sym all) ∙ room) in
-    step_done r after m mail_then i signal r_made (taken_done r t i j signal made a s taken.are taken.settled taken.there taken.takes taken.is taken.same taken.wires taken.standings)
+    step_done r after m mail_then i signal r_made (taken_done r t i j signal made a s taken.are taken.settled taken.there taken.takes taken.is taken.same taken.wires taken.federate_records)
     (after_wires ∙ wires) granted sent fits
 
-pub failed_step : (r t back : Records) (m mail_then : Mail) (i j : ℕ) (signal : Signal) (made : Coordinated) (a s : Standing) (first : List Post) (f : NodeFault) → IsTaken r t i j signal made a s → first ≡ made.sent →
-    back.wires ≡ r.wires → back.standings ≡ r.standings → mail_then ≡ m →
+pub failed_step : (r t back : Records) (m mail_then : Mail) (i j : ℕ) (signal : Signal) (made : Coordinated) (a s : FederateRecord) (first : List Post) (f : NodeFault) → IsTaken r t i j signal made a s → first ≡ made.sent →
+    back.wires ≡ r.wires → back.federate_records ≡ r.federate_records → mail_then ≡ m →
     ((let x : Result Unit NodeFault = Err f in x) ≢ Err fault.Memory → (let x : Result Unit NodeFault = Err f in x) ≡ (if lacks_room m.ends (first ++ grants_in t (looked_at t.wires j)) then Err fault.NoRoom else Ok tt)) →
     IsStep r back m mail_then (Err f) i signal
-failed_step r t back m mail_then i j signal made a s first f taken first_is wires standings mail answer =
+failed_step r t back m mail_then i j signal made a s first f taken first_is wires federate_records mail answer =
     let g = grants_in t (looked_at t.wires j) in
-    let r_made : Made (List Standing) = record { after = all_granted (set r.standings j s) g; sent = made.sent ++ g } in
+    let r_made : Made (List FederateRecord) = record { after = all_granted (set r.federate_records j s) g; sent = made.sent ++ g } in
     let P : List Post → Type 0 = λ xs. (let x : Result Unit NodeFault = Err f in x) ≢ Err fault.Memory → (let x : Result Unit NodeFault = Err f in x) ≡ (if lacks_room m.ends (xs ++ g) then Err fault.NoRoom else Ok tt) in
-    step_failed r back m mail_then i signal r_made f (taken_done r t i j signal made a s taken.are taken.settled taken.there taken.takes taken.is taken.same taken.wires taken.standings)
-    wires standings mail (subst P first_is answer)
+    step_failed r back m mail_then i signal r_made f (taken_done r t i j signal made a s taken.are taken.settled taken.there taken.takes taken.is taken.same taken.wires taken.federate_records)
+    wires federate_records mail (subst P first_is answer)
 
 two_tests : {A : Type 0} (b c : Bool) (x y : Refusal) (made : A) → b ≡ true → c ≡ true → (if not b then Refused x else if not c then Refused y else Done made) ≡ Done made
 two_tests true true x y made e d = refl
@@ -139,71 +139,71 @@ three_tests true false d x y z made e f g = cc
 three_tests false c d x y z made e f g = cc
 
 -- a NET that isn't refused
-pub net_takes : (n : Network) (f : ℕ → Standing) (i : ℕ) (tag : LogicalTime) → (is_at_most tag n.stop || is_same tag forever) ≡ true → is_past (f i).completed tag ≡ true →
+pub net_takes : (n : Network) (f : ℕ → FederateRecord) (i : ℕ) (tag : LogicalTime) → (is_at_most tag n.stop || is_same tag forever) ≡ true → is_past (f i).completed tag ≡ true →
     coordinator_takes n f i (Net tag) ≡ Done (noted f i (after_net (f i) tag))
 net_takes n f i tag in_time rising = two_tests (is_at_most tag n.stop || is_same tag forever) (is_past (f i).completed tag) AfterStop NotRising (noted f i (after_net (f i) tag)) in_time rising
 
-pub ltc_takes : (n : Network) (f : ℕ → Standing) (i : ℕ) (tag : LogicalTime) → is_at_most tag n.stop ≡ true → is_past (f i).completed tag ≡ true →
+pub ltc_takes : (n : Network) (f : ℕ → FederateRecord) (i : ℕ) (tag : LogicalTime) → is_at_most tag n.stop ≡ true → is_past (f i).completed tag ≡ true →
     coordinator_takes n f i (Ltc tag) ≡ Done (noted f i (after_ltc (f i) tag))
 ltc_takes n f i tag in_time rising = two_tests (is_at_most tag n.stop) (is_past (f i).completed tag) AfterStop NotRising (noted f i (after_ltc (f i) tag)) in_time rising
 
 -- a message that goes on to federate j
-abbrev pub routed : (ℕ → Standing) → Signal → ℕ → LogicalTime → Coordinated
-routed f message j tag = record { after = with_standing f j (after_message (f j) tag); sent = record { peer = j; signal = message } ∷ [] }
+abbrev pub routed : (ℕ → FederateRecord) → Signal → ℕ → LogicalTime → Coordinated
+routed f message j tag = record { after = with_federate_record f j (after_message (f j) tag); sent = record { peer = j; signal = message } ∷ [] }
 
-pub route_takes : (n : Network) (f : ℕ → Standing) (i j : ℕ) (message : Signal) (o : Option Connection) (c : Connection) (tag : LogicalTime) → o ≡ Some c → j ≡ c.target → nat_eq c.source i ≡ true → is_at_most tag n.stop ≡ true → is_past (f j).granted tag ≡ true →
+pub route_takes : (n : Network) (f : ℕ → FederateRecord) (i j : ℕ) (message : Signal) (o : Option Connection) (c : Connection) (tag : LogicalTime) → o ≡ Some c → j ≡ c.target → nat_eq c.source i ≡ true → is_at_most tag n.stop ≡ true → is_past (f j).granted tag ≡ true →
     route n f i message o tag ≡ Done (routed f message j tag)
 route_takes n f i j message o c tag found target own in_time later =
     ap (λ x. route n f i message x tag) found ∙
     (three_tests (nat_eq c.source i) (is_at_most tag n.stop) (is_past (f c.target).granted tag) NotYours AfterStop BelowGrant (routed f message c.target tag) own in_time (ap (λ k. is_past (f k).granted tag) (sym target) ∙ later) ∙
     ap (λ k. let x : Outcome Coordinated = Done (routed f message k tag) in x) (sym target))
 
-none_from : (n : Network) (rule : Rule) (f : ℕ → Standing) (j count : ℕ) → ((k : ℕ) → grant_to n rule f k ≡ None) → grants_from n rule f j count ≡ []
+none_from : (n : Network) (rule : Rule) (f : ℕ → FederateRecord) (j count : ℕ) → ((k : ℕ) → grant_to n rule f k ≡ None) → grants_from n rule f j count ≡ []
 none_from n rule f j zero none = refl
 none_from n rule f j (suc count) none = ap (λ o. grant_post j o ++ grants_from n rule f (j + 1) count) (none j) ∙ none_from n rule f (j + 1) count none
 
 -- a signal of a federate that isn't there changes nothing, and nobody gets a TAG
-pub stranger_done : (r : Records) (i : ℕ) (signal : Signal) (s : Standing) → AreRecords r → IsSettled r → r.wires.federates ≤ i → coordinator_takes (network_by r.wires) (standing_at r.standings) i signal ≡ Done (noted (standing_at r.standings) i s) →
-    taken_by r i signal ≡ Done (record { after = r.standings; sent = [] })
+pub stranger_done : (r : Records) (i : ℕ) (signal : Signal) (s : FederateRecord) → AreRecords r → IsSettled r → r.wires.federates ≤ i → coordinator_takes (network_by r.wires) (federate_record_at r.federate_records) i signal ≡ Done (noted (federate_record_at r.federate_records) i s) →
+    taken_by r i signal ≡ Done (record { after = r.federate_records; sent = [] })
 stranger_done r i signal s are settled l takes =
     let n = network_by r.wires in
-    let f = with_standing (standing_at r.standings) i s in
-    let none : (k : ℕ) → grant_to (network_by r.wires) (rule_by r.wires) (with_standing (standing_at r.standings) i s) k ≡ None =
-    λ k. none_to r.wires (with_standing (standing_at r.standings) i s) k (λ m. stranger_concerns_nobody r.wires (standing_at r.standings) i s k are.wires l m ∙ settled.nobody k m) in
-    let each_same : (k : ℕ) → k < r.wires.federates → after_grant (f k) (grant_to n (rule_by r.wires) f k) ≡ standing_at r.standings k =
+    let f = with_federate_record (federate_record_at r.federate_records) i s in
+    let none : (k : ℕ) → grant_to (network_by r.wires) (rule_by r.wires) (with_federate_record (federate_record_at r.federate_records) i s) k ≡ None =
+    λ k. none_to r.wires (with_federate_record (federate_record_at r.federate_records) i s) k (λ m. stranger_concerns_nobody r.wires (federate_record_at r.federate_records) i s k are.wires l m ∙ settled.nobody k m) in
+    let each_same : (k : ℕ) → k < r.wires.federates → after_grant (f k) (grant_to n (rule_by r.wires) f k) ≡ federate_record_at r.federate_records k =
     λ k m. (
     let apart : nat_eq k i ≡ false = grind (arith, nat_tests) in
-    ap (after_grant (f k)) (none k) ∙ ap (λ (b : Bool). if b then s else standing_at r.standings k) apart) in
-    let list : standings_listed r.wires.federates (λ k. after_grant (f k) (grant_to n (rule_by r.wires) f k)) ≡ r.standings =
-    listed_same r.wires.federates (λ k. after_grant (f k) (grant_to n (rule_by r.wires) f k)) (standing_at r.standings) each_same ∙
-    (ap (λ count. standings_listed count (standing_at r.standings)) (sym are.count) ∙ list_read r.standings) in
+    ap (after_grant (f k)) (none k) ∙ ap (λ (b : Bool). if b then s else federate_record_at r.federate_records k) apart) in
+    let list : federate_records_listed r.wires.federates (λ k. after_grant (f k) (grant_to n (rule_by r.wires) f k)) ≡ r.federate_records =
+    listed_same r.wires.federates (λ k. after_grant (f k) (grant_to n (rule_by r.wires) f k)) (federate_record_at r.federate_records) each_same ∙
+    (ap (λ count. federate_records_listed count (federate_record_at r.federate_records)) (sym are.count) ∙ list_read r.federate_records) in
     ap (λ o. with_made made_listed (with_made (listed_after r.wires.federates) (with_made (with_grants (network_by r.wires) (rule_by r.wires)) o))) takes ∙
-    (ap (λ xs. let o : Outcome (Made (List Standing)) = Done (record { after = xs; sent = grants_from n (rule_by r.wires) f 0 r.wires.federates }) in o) list ∙
-    ap (λ ps. let o : Outcome (Made (List Standing)) = Done (record { after = r.standings; sent = ps }) in o) (none_from n (rule_by r.wires) f 0 r.wires.federates none))
+    (ap (λ xs. let o : Outcome (Made (List FederateRecord)) = Done (record { after = xs; sent = grants_from n (rule_by r.wires) f 0 r.wires.federates }) in o) list ∙
+    ap (λ ps. let o : Outcome (Made (List FederateRecord)) = Done (record { after = r.federate_records; sent = ps }) in o) (none_from n (rule_by r.wires) f 0 r.wires.federates none))
 
-stranger_is_new : (r : Records) (i : ℕ) → AreRecords r → r.wires.federates ≤ i → (standing_at r.standings i).completed ≡ None
-stranger_is_new r i are l = ap (λ (s : Standing). s.completed) (get_or-eq_default r.standings initial_standing (omega (arith, are.count)))
+stranger_is_new : (r : Records) (i : ℕ) → AreRecords r → r.wires.federates ≤ i → (federate_record_at r.federate_records i).completed ≡ None
+stranger_is_new r i are l = ap (λ (s : FederateRecord). s.completed) (get_or-eq_default r.federate_records initial_federate_record (omega (arith, are.count)))
 
-stranger_step : (r : Records) (m : Mail) (i : ℕ) (signal : Signal) (s : Standing) → AreRecords r → IsSettled r → r.wires.federates ≤ i → coordinator_takes (network_by r.wires) (standing_at r.standings) i signal ≡ Done (noted (standing_at r.standings) i s) →
+stranger_step : (r : Records) (m : Mail) (i : ℕ) (signal : Signal) (s : FederateRecord) → AreRecords r → IsSettled r → r.wires.federates ≤ i → coordinator_takes (network_by r.wires) (federate_record_at r.federate_records) i signal ≡ Done (noted (federate_record_at r.federate_records) i s) →
     IsStep r r m m (Ok true) i signal
 stranger_step r m i signal s are settled l takes =
-    step_done r r m m i signal (record { after = r.standings; sent = [] }) (stranger_done r i signal s are settled l takes) refl refl refl (no_posts 0 m.ends)
+    step_done r r m m i signal (record { after = r.federate_records; sent = [] }) (stranger_done r i signal s are settled l takes) refl refl refl (no_posts 0 m.ends)
 
 pub stranger_net : (r : Records) (m : Mail) (i : ℕ) (tag : LogicalTime) → AreRecords r → IsSettled r → r.wires.federates ≤ i → (is_at_most tag r.wires.stop || is_same tag forever) ≡ true → IsStep r r m m (Ok true) i (Net tag)
 stranger_net r m i tag are settled l in_time =
-    stranger_step r m i (Net tag) (after_net (standing_at r.standings i) tag) are settled l
-    (net_takes (network_by r.wires) (standing_at r.standings) i tag in_time (ap (λ o. is_past o tag) (stranger_is_new r i are l)))
+    stranger_step r m i (Net tag) (after_net (federate_record_at r.federate_records i) tag) are settled l
+    (net_takes (network_by r.wires) (federate_record_at r.federate_records) i tag in_time (ap (λ o. is_past o tag) (stranger_is_new r i are l)))
 
 pub stranger_ltc : (r : Records) (m : Mail) (i : ℕ) (tag : LogicalTime) → AreRecords r → IsSettled r → r.wires.federates ≤ i → is_at_most tag r.wires.stop ≡ true → IsStep r r m m (Ok true) i (Ltc tag)
 stranger_ltc r m i tag are settled l in_time =
-    stranger_step r m i (Ltc tag) (after_ltc (standing_at r.standings i) tag) are settled l
-    (ltc_takes (network_by r.wires) (standing_at r.standings) i tag in_time (ap (λ o. is_past o tag) (stranger_is_new r i are l)))
+    stranger_step r m i (Ltc tag) (after_ltc (federate_record_at r.federate_records i) tag) are settled l
+    (ltc_takes (network_by r.wires) (federate_record_at r.federate_records) i tag in_time (ap (λ o. is_past o tag) (stranger_is_new r i are l)))
 
 post_within : (most j : ℕ) (o : Option LogicalTime) → j < most → AllByRecursion (λ (p : Post). p.peer < most) (grant_post j o)
 post_within most j None l = tt
 post_within most j (Some tag) l = (l, tt)
 
-over_within : (n : Network) (rule : Rule) (f : ℕ → Standing) (most : ℕ) (xs : List ℕ) → AllByRecursion (λ j. j < most) xs → AllByRecursion (λ (p : Post). p.peer < most) (grants_over n rule f xs)
+over_within : (n : Network) (rule : Rule) (f : ℕ → FederateRecord) (most : ℕ) (xs : List ℕ) → AllByRecursion (λ j. j < most) xs → AllByRecursion (λ (p : Post). p.peer < most) (grants_over n rule f xs)
 over_within n rule f most [] a = tt
 over_within n rule f most (x ∷ xs) a =
     each_append (λ (p : Post). p.peer < most) (grant_post x (grant_to n rule f x)) (grants_over n rule f xs) (post_within most x (grant_to n rule f x) a.0) (over_within n rule f most xs a.1)
@@ -212,84 +212,84 @@ over_within n rule f most (x ∷ xs) a =
 pub peers_are_there : (t : Records) (j most : ℕ) (first posts : List Post) → AllByRecursion (λ (p : Post). p.peer < most) first → posts ≡ first ++ grants_in t (looked_at t.wires j) → t.wires.federates ≡ most → All (λ (p : Post). p.peer < most) posts
 peers_are_there t j most first posts a is many =
     let Q : ℕ → Type 0 = λ k. AllByRecursion (λ (p : Post). p.peer < k) (grants_in t (looked_at t.wires j)) in
-    let rest : Q most = subst Q many (over_within (network_by t.wires) (rule_by t.wires) (standing_at t.standings) t.wires.federates (looked_at t.wires j)
+    let rest : Q most = subst Q many (over_within (network_by t.wires) (rule_by t.wires) (federate_record_at t.federate_records) t.wires.federates (looked_at t.wires j)
     (each (λ k. k < t.wires.federates) (looked_at t.wires j) (looked_at_are_there t.wires j))) in
     let P : List Post → Type 0 = λ ps. All (λ (p : Post). p.peer < most) ps in
     subst P (sym is) (from_each (λ (p : Post). p.peer < most) (first ++ grants_in t (looked_at t.wires j)) (each_append (λ (p : Post). p.peer < most) first (grants_in t (looked_at t.wires j)) a rest))
 
 -- a NET: the table after both changes
-pub net_taken : (r t u : Records) (i k looks : ℕ) (tag next : LogicalTime) → AreRecords r → IsSettled r → i < r.wires.federates → (is_at_most tag r.wires.stop || is_same tag forever) ≡ true → is_past (standing_at r.standings i).completed tag ≡ true →
-    next ≡ least_with tag (standing_at r.standings i).transit → t ≡ with_looks (table.with_standing r i (record (standing_at r.standings i) { next = next })) k →
-    u ≡ with_looks (table.with_standing t i (record (standing_at t.standings i) { announced = true })) looks →
-    IsTaken r u i i (Net tag) (noted (standing_at r.standings) i (after_net (standing_at r.standings i) tag)) (after_net (standing_at r.standings i) tag) (after_net (standing_at r.standings i) tag)
+pub net_taken : (r t u : Records) (i k looks : ℕ) (tag next : LogicalTime) → AreRecords r → IsSettled r → i < r.wires.federates → (is_at_most tag r.wires.stop || is_same tag forever) ≡ true → is_past (federate_record_at r.federate_records i).completed tag ≡ true →
+    next ≡ least_with tag (federate_record_at r.federate_records i).transit → t ≡ with_looks (table.with_federate_record r i (record (federate_record_at r.federate_records i) { next = next })) k →
+    u ≡ with_looks (table.with_federate_record t i (record (federate_record_at t.federate_records i) { announced = true })) looks →
+    IsTaken r u i i (Net tag) (noted (federate_record_at r.federate_records) i (after_net (federate_record_at r.federate_records i) tag)) (after_net (federate_record_at r.federate_records i) tag) (after_net (federate_record_at r.federate_records i) tag)
 net_taken r t u i k looks tag next are settled there in_time rising next_is one two =
-    let s = standing_at r.standings i in
-    let two_changes = changed_twice r t u i k looks (record (standing_at r.standings i) { next = next }) (λ x. record x { announced = true }) (omega (arith, are.count)) one two in
+    let s = federate_record_at r.federate_records i in
+    let two_changes = changed_twice r t u i k looks (record (federate_record_at r.federate_records i) { next = next }) (λ x. record x { announced = true }) (omega (arith, are.count)) one two in
     record {
       are = are;
       settled = settled;
       there = there;
-      takes = net_takes (network_by r.wires) (standing_at r.standings) i tag in_time rising;
+      takes = net_takes (network_by r.wires) (federate_record_at r.federate_records) i tag in_time rising;
       is = refl;
       same = refl;
       wires = two_changes.0;
-      standings = two_changes.1 ∙ ap (λ x. set r.standings i (record s { announced = true; next = x })) next_is;
+      federate_records = two_changes.1 ∙ ap (λ x. set r.federate_records i (record s { announced = true; next = x })) next_is;
     }
 
 -- and taken back
-pub net_back : (r u v w : Records) (i k looks : ℕ) (announced : Bool) (next : LogicalTime) (a : Standing) → AreRecords r → i < r.wires.federates → u.wires ≡ r.wires → u.standings ≡ set r.standings i a →
-    record (standing_at r.standings i) { announced = a.announced; next = a.next } ≡ a →
-    announced ≡ (standing_at r.standings i).announced → next ≡ (standing_at r.standings i).next →
-    v ≡ with_looks (table.with_standing u i (record (standing_at u.standings i) { announced = announced })) k → w ≡ with_looks (table.with_standing v i (record (standing_at v.standings i) { next = next })) looks →
-    (w.wires ≡ r.wires) × (w.standings ≡ r.standings)
-net_back r u v w i k looks announced next a are there wires standings shape announced_is next_is one two =
-    let s = standing_at r.standings i in
-    let within : i < length r.standings = omega (arith, are.count) in
-    let first = changed_again r u v i k a (λ x. record x { announced = announced }) within wires standings one in
+pub net_back : (r u v w : Records) (i k looks : ℕ) (announced : Bool) (next : LogicalTime) (a : FederateRecord) → AreRecords r → i < r.wires.federates → u.wires ≡ r.wires → u.federate_records ≡ set r.federate_records i a →
+    record (federate_record_at r.federate_records i) { announced = a.announced; next = a.next } ≡ a →
+    announced ≡ (federate_record_at r.federate_records i).announced → next ≡ (federate_record_at r.federate_records i).next →
+    v ≡ with_looks (table.with_federate_record u i (record (federate_record_at u.federate_records i) { announced = announced })) k → w ≡ with_looks (table.with_federate_record v i (record (federate_record_at v.federate_records i) { next = next })) looks →
+    (w.wires ≡ r.wires) × (w.federate_records ≡ r.federate_records)
+net_back r u v w i k looks announced next a are there wires federate_records shape announced_is next_is one two =
+    let s = federate_record_at r.federate_records i in
+    let within : i < length r.federate_records = omega (arith, are.count) in
+    let first = changed_again r u v i k a (λ x. record x { announced = announced }) within wires federate_records one in
     let second = changed_again r v w i looks (record a { announced = announced }) (λ x. record x { next = next }) within first.0 first.1 two in
-    let F : Bool → LogicalTime → Standing = λ b g. record s { announced = b; next = g } in
+    let F : Bool → LogicalTime → FederateRecord = λ b g. record s { announced = b; next = g } in
     let same : record a { announced = announced; next = next } ≡ s =
-    ap (λ (x : Standing). record x { announced = announced; next = next }) (sym shape) ∙ (ap (λ b. F b next) announced_is ∙ ap (F s.announced) next_is) in
+    ap (λ (x : FederateRecord). record x { announced = announced; next = next }) (sym shape) ∙ (ap (λ b. F b next) announced_is ∙ ap (F s.announced) next_is) in
     (second.0, taken_back r w i (record a { announced = announced; next = next }) second.1 same)
 
 -- an LTC: what it completed, and then what is in transit
-pub ltc_taken : (r t : Records) (i looks : ℕ) (tag : LogicalTime) → AreRecords r → IsSettled r → i < r.wires.federates → is_at_most tag r.wires.stop ≡ true → is_past (standing_at r.standings i).completed tag ≡ true →
-    t ≡ with_looks (table.with_standing r i (record (standing_at r.standings i) { completed = Some tag })) looks →
-    IsTaken r t i i (Ltc tag) (noted (standing_at r.standings) i (after_ltc (standing_at r.standings i) tag)) (record (standing_at r.standings i) { completed = Some tag }) (after_ltc (standing_at r.standings i) tag)
+pub ltc_taken : (r t : Records) (i looks : ℕ) (tag : LogicalTime) → AreRecords r → IsSettled r → i < r.wires.federates → is_at_most tag r.wires.stop ≡ true → is_past (federate_record_at r.federate_records i).completed tag ≡ true →
+    t ≡ with_looks (table.with_federate_record r i (record (federate_record_at r.federate_records i) { completed = Some tag })) looks →
+    IsTaken r t i i (Ltc tag) (noted (federate_record_at r.federate_records) i (after_ltc (federate_record_at r.federate_records i) tag)) (record (federate_record_at r.federate_records i) { completed = Some tag }) (after_ltc (federate_record_at r.federate_records i) tag)
 ltc_taken r t i looks tag are settled there in_time rising one =
-    let change = changed r t i looks (record (standing_at r.standings i) { completed = Some tag }) one in
+    let change = changed r t i looks (record (federate_record_at r.federate_records i) { completed = Some tag }) one in
     record {
       are = are;
       settled = settled;
       there = there;
-      takes = ltc_takes (network_by r.wires) (standing_at r.standings) i tag in_time rising;
+      takes = ltc_takes (network_by r.wires) (federate_record_at r.federate_records) i tag in_time rising;
       is = refl;
       same = refl;
       wires = change.0;
-      standings = change.1;
+      federate_records = change.1;
     }
 
-pub ltc_dropped : (r t u : Records) (i : ℕ) (tag : LogicalTime) → AreRecords r → i < r.wires.federates → t.wires ≡ r.wires → t.standings ≡ set r.standings i (record (standing_at r.standings i) { completed = Some tag }) →
-    u ≡ table.with_standing t i (record (standing_at t.standings i) { transit = filter (λ g. is_before tag g) (standing_at t.standings i).transit }) →
-    (u.wires ≡ r.wires) × (u.standings ≡ set r.standings i (after_ltc (standing_at r.standings i) tag))
-ltc_dropped r t u i tag are there wires standings is =
-    changed_again r t u i t.looks (record (standing_at r.standings i) { completed = Some tag }) (λ x. record x { transit = filter (λ g. is_before tag g) x.transit }) (omega (arith, are.count)) wires standings is
+pub ltc_dropped : (r t u : Records) (i : ℕ) (tag : LogicalTime) → AreRecords r → i < r.wires.federates → t.wires ≡ r.wires → t.federate_records ≡ set r.federate_records i (record (federate_record_at r.federate_records i) { completed = Some tag }) →
+    u ≡ table.with_federate_record t i (record (federate_record_at t.federate_records i) { transit = filter (λ g. is_before tag g) (federate_record_at t.federate_records i).transit }) →
+    (u.wires ≡ r.wires) × (u.federate_records ≡ set r.federate_records i (after_ltc (federate_record_at r.federate_records i) tag))
+ltc_dropped r t u i tag are there wires federate_records is =
+    changed_again r t u i t.looks (record (federate_record_at r.federate_records i) { completed = Some tag }) (λ x. record x { transit = filter (λ g. is_before tag g) x.transit }) (omega (arith, are.count)) wires federate_records is
 
-pub ltc_back : (r t u : Records) (i looks : ℕ) (tag : LogicalTime) (completed : Option LogicalTime) → AreRecords r → i < r.wires.federates → t.wires ≡ r.wires → t.standings ≡ set r.standings i (record (standing_at r.standings i) { completed = Some tag }) →
-    completed ≡ (standing_at r.standings i).completed → u ≡ with_looks (table.with_standing t i (record (standing_at t.standings i) { completed = completed })) looks → (u.wires ≡ r.wires) × (u.standings ≡ r.standings)
-ltc_back r t u i looks tag completed are there wires standings completed_is is =
-    let s = standing_at r.standings i in
-    let change = changed_again r t u i looks (record (standing_at r.standings i) { completed = Some tag }) (λ x. record x { completed = completed }) (omega (arith, are.count)) wires standings is in
+pub ltc_back : (r t u : Records) (i looks : ℕ) (tag : LogicalTime) (completed : Option LogicalTime) → AreRecords r → i < r.wires.federates → t.wires ≡ r.wires → t.federate_records ≡ set r.federate_records i (record (federate_record_at r.federate_records i) { completed = Some tag }) →
+    completed ≡ (federate_record_at r.federate_records i).completed → u ≡ with_looks (table.with_federate_record t i (record (federate_record_at t.federate_records i) { completed = completed })) looks → (u.wires ≡ r.wires) × (u.federate_records ≡ r.federate_records)
+ltc_back r t u i looks tag completed are there wires federate_records completed_is is =
+    let s = federate_record_at r.federate_records i in
+    let change = changed_again r t u i looks (record (federate_record_at r.federate_records i) { completed = Some tag }) (λ x. record x { completed = completed }) (omega (arith, are.count)) wires federate_records is in
     (change.0, taken_back r u i (record s { completed = completed }) change.1 (ap (λ o. record s { completed = o }) completed_is))
 
 -- a message: the receiver's next tag, and then what is in transit
 pub message_taken : (r t : Records) (i j looks : ℕ) (message : Signal) (tag next : LogicalTime) → AreRecords r → IsSettled r → j < r.wires.federates →
-    coordinator_takes (network_by r.wires) (standing_at r.standings) i message ≡ Done (routed (standing_at r.standings) message j tag) →
-    next ≡ lesser (standing_at r.standings j).next tag → t ≡ with_looks (table.with_standing r j (record (standing_at r.standings j) { next = next })) looks →
-    IsTaken r t i j message (routed (standing_at r.standings) message j tag) (record (standing_at r.standings j) { next = lesser (standing_at r.standings j).next tag }) (after_message (standing_at r.standings j) tag)
+    coordinator_takes (network_by r.wires) (federate_record_at r.federate_records) i message ≡ Done (routed (federate_record_at r.federate_records) message j tag) →
+    next ≡ lesser (federate_record_at r.federate_records j).next tag → t ≡ with_looks (table.with_federate_record r j (record (federate_record_at r.federate_records j) { next = next })) looks →
+    IsTaken r t i j message (routed (federate_record_at r.federate_records) message j tag) (record (federate_record_at r.federate_records j) { next = lesser (federate_record_at r.federate_records j).next tag }) (after_message (federate_record_at r.federate_records j) tag)
 message_taken r t i j looks message tag next are settled there takes next_is one =
-    let s = standing_at r.standings j in
-    let change = changed r t j looks (record (standing_at r.standings j) { next = next }) one in
+    let s = federate_record_at r.federate_records j in
+    let change = changed r t j looks (record (federate_record_at r.federate_records j) { next = next }) one in
     record {
       are = are;
       settled = settled;
@@ -298,7 +298,7 @@ message_taken r t i j looks message tag next are settled there takes next_is one
       is = refl;
       same = refl;
       wires = change.0;
-      standings = change.1 ∙ ap (λ x. set r.standings j (record s { next = x })) next_is;
+      federate_records = change.1 ∙ ap (λ x. set r.federate_records j (record s { next = x })) next_is;
     }
 
 -- the receiver is there
@@ -307,17 +307,17 @@ target_is_there r number j o c are at found target =
     let P : ℕ → Type 0 = λ k. k < r.wires.federates in
     subst P (sym target) (between_is (network_by r.wires) c are.wires.wired (contains_at r.wires.connections number c (sym at ∙ found))).target
 
-pub message_added : (r t u : Records) (j : ℕ) (tag : LogicalTime) → AreRecords r → j < r.wires.federates → t.wires ≡ r.wires → t.standings ≡ set r.standings j (record (standing_at r.standings j) { next = lesser (standing_at r.standings j).next tag }) →
-    u ≡ table.with_standing t j (record (standing_at t.standings j) { transit = with_tag tag (standing_at t.standings j).transit }) →
-    (u.wires ≡ r.wires) × (u.standings ≡ set r.standings j (after_message (standing_at r.standings j) tag))
-message_added r t u j tag are there wires standings is =
-    changed_again r t u j t.looks (record (standing_at r.standings j) { next = lesser (standing_at r.standings j).next tag }) (λ x. record x { transit = with_tag tag x.transit }) (omega (arith, are.count)) wires standings is
+pub message_added : (r t u : Records) (j : ℕ) (tag : LogicalTime) → AreRecords r → j < r.wires.federates → t.wires ≡ r.wires → t.federate_records ≡ set r.federate_records j (record (federate_record_at r.federate_records j) { next = lesser (federate_record_at r.federate_records j).next tag }) →
+    u ≡ table.with_federate_record t j (record (federate_record_at t.federate_records j) { transit = with_tag tag (federate_record_at t.federate_records j).transit }) →
+    (u.wires ≡ r.wires) × (u.federate_records ≡ set r.federate_records j (after_message (federate_record_at r.federate_records j) tag))
+message_added r t u j tag are there wires federate_records is =
+    changed_again r t u j t.looks (record (federate_record_at r.federate_records j) { next = lesser (federate_record_at r.federate_records j).next tag }) (λ x. record x { transit = with_tag tag x.transit }) (omega (arith, are.count)) wires federate_records is
 
-pub message_back : (r t u : Records) (j looks : ℕ) (tag next : LogicalTime) → AreRecords r → j < r.wires.federates → t.wires ≡ r.wires → t.standings ≡ set r.standings j (record (standing_at r.standings j) { next = lesser (standing_at r.standings j).next tag }) →
-    next ≡ (standing_at r.standings j).next → u ≡ with_looks (table.with_standing t j (record (standing_at t.standings j) { next = next })) looks → (u.wires ≡ r.wires) × (u.standings ≡ r.standings)
-message_back r t u j looks tag next are there wires standings next_is is =
-    let s = standing_at r.standings j in
-    let change = changed_again r t u j looks (record (standing_at r.standings j) { next = lesser (standing_at r.standings j).next tag }) (λ x. record x { next = next }) (omega (arith, are.count)) wires standings is in
+pub message_back : (r t u : Records) (j looks : ℕ) (tag next : LogicalTime) → AreRecords r → j < r.wires.federates → t.wires ≡ r.wires → t.federate_records ≡ set r.federate_records j (record (federate_record_at r.federate_records j) { next = lesser (federate_record_at r.federate_records j).next tag }) →
+    next ≡ (federate_record_at r.federate_records j).next → u ≡ with_looks (table.with_federate_record t j (record (federate_record_at t.federate_records j) { next = next })) looks → (u.wires ≡ r.wires) × (u.federate_records ≡ r.federate_records)
+message_back r t u j looks tag next are there wires federate_records next_is is =
+    let s = federate_record_at r.federate_records j in
+    let change = changed_again r t u j looks (record (federate_record_at r.federate_records j) { next = lesser (federate_record_at r.federate_records j).next tag }) (λ x. record x { next = next }) (omega (arith, are.count)) wires federate_records is in
     (change.0, taken_back r u j (record s { next = next }) change.1 (ap (λ g. record s { next = g }) next_is))
 
 pub nothing_first : GrantsNothing []
@@ -347,36 +347,36 @@ past_is o last tag g b is same tested so = ap (λ x. is_past x tag) (sym is) ∙
 
 pub net_passed : (r t u : Records) (i : ℕ) (tag next stop : LogicalTime) (transit completed : Option LogicalTime) (in_time rising : Bool) → AreRecords r → IsSettled r → i < r.wires.federates →
     stop ≡ r.wires.stop → in_time ≡ (is_at_most tag stop || is_same tag forever) → in_time ≡ true →
-    completed ≡ (standing_at r.standings i).completed → rising ≡ is_past completed tag → rising ≡ true →
-    ((g : LogicalTime) → least_with g (standing_at r.standings i).transit ≡ lesser_with g transit) → next ≡ lesser_with tag transit →
-    t ≡ with_looks (table.with_standing r i (record (standing_at r.standings i) { next = next })) t.looks →
-    u ≡ with_looks (table.with_standing t i (record (standing_at t.standings i) { announced = true })) u.looks →
-    IsTaken r u i i (Net tag) (noted (standing_at r.standings) i (after_net (standing_at r.standings i) tag)) (after_net (standing_at r.standings i) tag) (after_net (standing_at r.standings i) tag)
+    completed ≡ (federate_record_at r.federate_records i).completed → rising ≡ is_past completed tag → rising ≡ true →
+    ((g : LogicalTime) → least_with g (federate_record_at r.federate_records i).transit ≡ lesser_with g transit) → next ≡ lesser_with tag transit →
+    t ≡ with_looks (table.with_federate_record r i (record (federate_record_at r.federate_records i) { next = next })) t.looks →
+    u ≡ with_looks (table.with_federate_record t i (record (federate_record_at t.federate_records i) { announced = true })) u.looks →
+    IsTaken r u i i (Net tag) (noted (federate_record_at r.federate_records) i (after_net (federate_record_at r.federate_records i) tag)) (after_net (federate_record_at r.federate_records i) tag) (after_net (federate_record_at r.federate_records i) tag)
 net_passed r t u i tag next stop transit completed in_time rising are settled there stop_is tested so completed_is risen past least next_is one two =
     net_taken r t u i t.looks u.looks tag next are settled there (next_in_time_is tag r.wires.stop stop in_time stop_is tested so)
-    (past_is (standing_at r.standings i).completed completed tag tag rising completed_is refl risen past) (next_is ∙ sym (least tag)) one two
+    (past_is (federate_record_at r.federate_records i).completed completed tag tag rising completed_is refl risen past) (next_is ∙ sym (least tag)) one two
 
 pub ltc_passed : (r t : Records) (i : ℕ) (tag g h stop : LogicalTime) (completed : Option LogicalTime) (in_time rising : Bool) → AreRecords r → IsSettled r → i < r.wires.federates →
     g ≡ tag → stop ≡ r.wires.stop → in_time ≡ is_at_most g stop → in_time ≡ true →
-    completed ≡ (standing_at r.standings i).completed → h ≡ tag → rising ≡ is_past completed h → rising ≡ true →
-    t ≡ with_looks (table.with_standing r i (record (standing_at r.standings i) { completed = Some tag })) t.looks →
-    IsTaken r t i i (Ltc tag) (noted (standing_at r.standings) i (after_ltc (standing_at r.standings i) tag)) (record (standing_at r.standings i) { completed = Some tag }) (after_ltc (standing_at r.standings i) tag)
+    completed ≡ (federate_record_at r.federate_records i).completed → h ≡ tag → rising ≡ is_past completed h → rising ≡ true →
+    t ≡ with_looks (table.with_federate_record r i (record (federate_record_at r.federate_records i) { completed = Some tag })) t.looks →
+    IsTaken r t i i (Ltc tag) (noted (federate_record_at r.federate_records) i (after_ltc (federate_record_at r.federate_records i) tag)) (record (federate_record_at r.federate_records i) { completed = Some tag }) (after_ltc (federate_record_at r.federate_records i) tag)
 ltc_passed r t i tag g h stop completed in_time rising are settled there g_is stop_is tested so completed_is h_is risen past one =
     ltc_taken r t i t.looks tag are settled there (in_time_is tag g r.wires.stop stop in_time g_is stop_is tested so)
-    (past_is (standing_at r.standings i).completed completed tag h rising completed_is h_is risen past) one
+    (past_is (federate_record_at r.federate_records i).completed completed tag h rising completed_is h_is risen past) one
 
 pub message_passed : (r t : Records) (i j number source : ℕ) (value : ℤ) (tag g h k next least stop : LogicalTime) (granted : Option LogicalTime) (over : Option Connection) (c : Connection) (in_time later : Bool) → AreRecords r → IsSettled r →
     over ≡ slice_get r.wires.connections number → over ≡ Some c → source ≡ c.source → source ≡ i → j ≡ c.target →
     g ≡ tag → stop ≡ r.wires.stop → in_time ≡ is_at_most g stop → in_time ≡ true →
-    granted ≡ (standing_at r.standings j).granted → h ≡ tag → later ≡ is_past granted h → later ≡ true →
-    next ≡ (standing_at r.standings j).next → k ≡ tag → least ≡ lesser next k →
-    t ≡ with_looks (table.with_standing r j (record (standing_at r.standings j) { next = least })) t.looks →
-    IsTaken r t i j (Msg number tag value) (routed (standing_at r.standings) (Msg number tag value) j tag) (record (standing_at r.standings j) { next = lesser (standing_at r.standings j).next tag }) (after_message (standing_at r.standings j) tag)
+    granted ≡ (federate_record_at r.federate_records j).granted → h ≡ tag → later ≡ is_past granted h → later ≡ true →
+    next ≡ (federate_record_at r.federate_records j).next → k ≡ tag → least ≡ lesser next k →
+    t ≡ with_looks (table.with_federate_record r j (record (federate_record_at r.federate_records j) { next = least })) t.looks →
+    IsTaken r t i j (Msg number tag value) (routed (federate_record_at r.federate_records) (Msg number tag value) j tag) (record (federate_record_at r.federate_records j) { next = lesser (federate_record_at r.federate_records j).next tag }) (after_message (federate_record_at r.federate_records j) tag)
 message_passed r t i j number source value tag g h k next least stop granted over c in_time later are settled at found source_is own target g_is stop_is tested so granted_is h_is reached past next_is k_is least_is one =
     let same : c.source ≡ i = sym source_is ∙ own in
     let owned : nat_eq c.source i ≡ true = grind (arith, nat_tests) in
     message_taken r t i j t.looks (Msg number tag value) tag least are settled (target_is_there r number j over c are at found target)
-    (ap (λ o. route (network_by r.wires) (standing_at r.standings) i (Msg number tag value) o tag) (sym at) ∙
-    route_takes (network_by r.wires) (standing_at r.standings) i j (Msg number tag value) over c tag found target owned
-    (in_time_is tag g r.wires.stop stop in_time g_is stop_is tested so) (past_is (standing_at r.standings j).granted granted tag h later granted_is h_is reached past))
-    (least_is ∙ (ap (λ x. lesser x k) next_is ∙ ap (lesser (standing_at r.standings j).next) k_is)) one
+    (ap (λ o. route (network_by r.wires) (federate_record_at r.federate_records) i (Msg number tag value) o tag) (sym at) ∙
+    route_takes (network_by r.wires) (federate_record_at r.federate_records) i j (Msg number tag value) over c tag found target owned
+    (in_time_is tag g r.wires.stop stop in_time g_is stop_is tested so) (past_is (federate_record_at r.federate_records j).granted granted tag h later granted_is h_is reached past))
+    (least_is ∙ (ap (λ x. lesser x k) next_is ∙ ap (lesser (federate_record_at r.federate_records j).next) k_is)) one

@@ -1,6 +1,6 @@
 ghost use Rattle.std.specs.Prelude.{◌≡◌, ℕ, IfOk};
-ghost use Rattle.protocol.specs.Standing.{initial_standing};
-ghost use Rattle.protocol.specs.Standings.{standings_listed};
+ghost use Rattle.protocol.specs.FederateRecord.{initial_federate_record};
+ghost use Rattle.protocol.specs.FederateRecords.{federate_records_listed};
 ghost use Rattle.signal.specs.Signal.{IsSignal};
 ghost use Rattle.plan.specs.Federation.{federate_count};
 
@@ -30,7 +30,7 @@ impl<'a> Model for Coordinator<'a> {
 
     ghost use Rattle.coordinator.specs.Steps.{IsKept};
 
-    ghost view = { λ c. record { draft = c.plan.now; standings = c.state.table.standings } };
+    ghost view = { λ c. record { draft = c.plan.now; federate_records = c.state.table.federate_records } };
 
     ghost invariant = { λ c. IsKept c.plan.now c.state.table };
 }
@@ -38,7 +38,7 @@ impl<'a> Model for Coordinator<'a> {
 impl<'a> Coordinator<'a> {
     /// Of a plan's federates, before any signal came.
     pub fn new(alloc: Global, plan: &'a Plan) -> Result<Coordinator<'a>, Memory>
-        ensures { IfOk result (λ coordinator. coordinator ≡ record { draft = plan.now; standings = standings_listed (federate_count plan.now) (λ j. initial_standing) }) }
+        ensures { IfOk result (λ coordinator. coordinator ≡ record { draft = plan.now; federate_records = federate_records_listed (federate_count plan.now) (λ j. initial_federate_record) }) }
     {
         let table = Table::new(alloc, plan)?;
         let posts = Vec::new(alloc);

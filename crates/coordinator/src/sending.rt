@@ -12,7 +12,7 @@ use protocol::Post;
 use signal::Signal;
 
 /// Sees that all that a step sends can go out: the posts that are there, and then the TAGs to those whom the change of this
-/// federate's standing made eligible.
+/// federate's record made eligible.
 pub(crate) fn prepare(
     posts: &mut Vec<Post>,
     table: &Table,
@@ -54,7 +54,7 @@ pub(crate) fn send(table: &mut Table, posts: &[Post], outbox: &mut Outbox)
     requires ready { IsReady outbox.old posts.now }
     requires peers { All (λ p. p.peer < table.old.wires.federates) posts.now }
     ensures wires { table.new.wires ≡ table.old.wires }
-    ensures standings { table.new.standings ≡ all_granted table.old.standings posts.now }
+    ensures federate_records { table.new.federate_records ≡ all_granted table.old.federate_records posts.now }
     ensures mail { outbox.new.mail ≡ all_posted outbox.old.mail posts.now }
 {
     note_grants(table, posts);
@@ -65,7 +65,7 @@ pub(crate) fn send(table: &mut Table, posts: &[Post], outbox: &mut Outbox)
 fn note_grants(table: &mut Table, posts: &[Post])
     requires { All (λ p. p.peer < table.old.wires.federates) posts.now }
     ensures wires { table.new.wires ≡ table.old.wires }
-    ensures standings { table.new.standings ≡ all_granted table.old.standings posts.now }
+    ensures federate_records { table.new.federate_records ≡ all_granted table.old.federate_records posts.now }
 {
     for post in posts {
         if let Signal::Tag(tag) = post.signal {

@@ -1,7 +1,7 @@
 ghost use Rattle.std.specs.Prelude.{◌≡◌, ◌<◌, ◌&&◌, slice_get, true};
 ghost use Rattle.tag.specs.LogicalTime.{forever, is_same};
 ghost use Rattle.signal.specs.declared.signal.Signal.TheVariants as signals;
-ghost use Rattle.protocol.specs.Standings.{standing_at, is_finished};
+ghost use Rattle.protocol.specs.FederateRecords.{federate_record_at, is_finished};
 ghost use Rattle.plan.specs.Federation.{connections_of};
 ghost use Rattle.grants.specs.Wires.{network_by};
 ghost use Rattle.grants.specs.Records.{changed_at, with_looks};
@@ -54,7 +54,7 @@ impl State {
 
     /// Whether every federate has announced, and has FOREVER as its next tag.
     pub(crate) fn is_finished(&self) -> bool
-        ensures { result ≡ is_finished (network_by self.now.table.wires) (standing_at self.now.table.standings) }
+        ensures { result ≡ is_finished (network_by self.now.table.wires) (federate_record_at self.now.table.federate_records) }
     {
         for federate in 0..self.table.federates() {
             if !has_finished(&self.table, federate) {
@@ -69,7 +69,7 @@ impl State {
         requires settled { IsSettled self.old.table }
         ensures { IsStep self.old.table self.new.table outbox.old.mail outbox.new.mail result peer (signals.Net tag) }
     {
-        // For the prover: a standing for each federate, and connections between federates that are there.
+        // For the prover: a record for each federate, and connections between federates that are there.
         self.table.invariant();
         if !is_next_in_time(tag, self.table.stop()) {
             return Err(NodeFault::Refused(Refusal::AfterStop));
@@ -106,7 +106,7 @@ impl State {
         requires settled { IsSettled self.old.table }
         ensures { IsStep self.old.table self.new.table outbox.old.mail outbox.new.mail result peer (signals.Ltc tag) }
     {
-        // For the prover: a standing for each federate, and connections between federates that are there.
+        // For the prover: a record for each federate, and connections between federates that are there.
         self.table.invariant();
         if !is_in_time(tag.tag(), self.table.stop()) {
             return Err(NodeFault::Refused(Refusal::AfterStop));
@@ -144,7 +144,7 @@ impl State {
         requires over { over ≡ slice_get self.old.table.wires.connections number }
         ensures { IsStep self.old.table self.new.table outbox.old.mail outbox.new.mail result peer (signals.Msg number tag value) }
     {
-        // For the prover: a standing for each federate, and connections between federates that are there.
+        // For the prover: a record for each federate, and connections between federates that are there.
         self.table.invariant();
         let Some(connection) = over else {
             return Err(NodeFault::Refused(Refusal::NotYours));
@@ -187,7 +187,7 @@ impl State {
 /// Whether a federate has announced, and has FOREVER as its next tag.
 fn has_finished(table: &Table, federate: usize) -> bool
     requires { federate < table.now.wires.federates }
-    ensures { result ≡ ((standing_at table.now.standings federate).announced && is_same (standing_at table.now.standings federate).next forever) }
+    ensures { result ≡ ((federate_record_at table.now.federate_records federate).announced && is_same (federate_record_at table.now.federate_records federate).next forever) }
 {
     table.announced(federate) && table.next(federate).is_forever()
 }

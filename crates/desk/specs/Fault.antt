@@ -1,6 +1,6 @@
 -- How a desk's refusals are printed.
 use Rattle.std.specs.Prelude.{ℕ, List, codes}
-use Rattle.signal.specs.Fault.{told}
+use Rattle.signal.specs.Fault.{printed_fault}
 
 -- the number of an event for which there is no memory
 abbrev pub memory_number : ℕ
@@ -8,7 +8,7 @@ memory_number = 91
 
 -- what is printed of it
 abbrev pub memory_text : List ℕ
-memory_text = told memory_number (codes "Memory")
+memory_text = printed_fault memory_number (codes "Memory")
 
 -- the number of shares that aren't the journal
 abbrev pub disagreement_number : ℕ
@@ -16,4 +16,4 @@ disagreement_number = 92
 
 -- what is printed of them
 abbrev pub disagreement_text : List ℕ
-disagreement_text = told disagreement_number (codes "SharesDisagree")
+disagreement_text = printed_fault disagreement_number (codes "SharesDisagree")

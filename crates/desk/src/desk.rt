@@ -101,8 +101,8 @@ fn step<N: Node>(
 ) -> Result<Reply, Memory>
     ensures step { IfOk result (λ reply. record { station = station.new; answer = said reply } ≡ step_of N.core N.HUB station.old event.now) }
     ensures journal { OnOk result (journal.new.items ≡ journal.old.items ++ event.now ∷ []) }
-    ensures station_as_before { OnErr result (station.new ≡ station.old) }
-    ensures journal_as_before { OnErr result (journal.new.items ≡ journal.old.items) }
+    ensures station_unchanged { OnErr result (station.new ≡ station.old) }
+    ensures journal_unchanged { OnErr result (journal.new.items ≡ journal.old.items) }
 {
     journal.reserve(1)?;
     let reply = station.step(*event)?;

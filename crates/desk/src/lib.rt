@@ -1,7 +1,7 @@
 //! A station with its journal, which several workers share under one lock.
 //!
 //! Promise to the layer above: a desk's station is the replay of its journal (`specs/Replay`), and a gathered desk's journal is
-//! what its workers were told that they added (`specs/Shares`).
+//! what its workers were answered that they added (`specs/Shares`).
 //!
 //!     worker --> Shared::handle ---- lock ----> Desk::handle        one event: its station steps, its journal grows
 //!                     |                              |

@@ -25,7 +25,7 @@ pub(crate) fn agree(journal: &[Event], shares: &mut [Share]) -> bool
     are_used_up(shares)
 }
 
-// Takes the slip off a share whose last one it is, and tells which. The share at `near` is asked first, if there is
+// Takes the slip off a share whose last one it is, and answers which. The share at `near` is asked first, if there is
 // one: neighbouring events are mostly of one share.
 fn take(shares: &mut [Share], slip: &Slip, near: usize) -> Option<usize>
     ensures taken { IsSome result → (journal : List IsEvent) → length journal ≡ slip.now.place → Agree (journal ++ slip.now.event ∷ []) shares.old ↔ Agree journal shares.new }

@@ -4,7 +4,7 @@ use crate::slip::Slip;
 use std::alloc::Global;
 use std::marker::Model;
 
-/// What one worker was told that it added to a journal: its slips, in the order in which it got them.
+/// What one worker was answered that it added to a journal: its slips, in the order in which it got them.
 #[derive(Drop)]
 pub struct Share {
     pub(crate) slips: Vec<Slip>,

@@ -134,8 +134,8 @@ fn enter<N: Node>(desk: &mut Desk<N>, slips: &mut Vec<Slip>, event: &Event) -> R
     ensures step { IfOk result (λ reply. record { station = desk.new.station; answer = said reply } ≡ step_of N.core N.HUB desk.old.station event.now) }
     ensures journal { OnOk result (desk.new.journal ≡ desk.old.journal ++ event.now ∷ []) }
     ensures slip { OnOk result (slips.new.items ≡ slips.old.items ++ record { place = length desk.old.journal; event = event.now } ∷ []) }
-    ensures desk_as_before { OnErr result (desk.new ≡ desk.old) }
-    ensures slips_as_before { OnErr result (slips.new.items ≡ slips.old.items) }
+    ensures desk_unchanged { OnErr result (desk.new ≡ desk.old) }
+    ensures slips_unchanged { OnErr result (slips.new.items ≡ slips.old.items) }
 {
     let place = desk.journal().len();
     let reply = desk.handle(*event)?;

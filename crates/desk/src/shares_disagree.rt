@@ -9,7 +9,7 @@ pub struct SharesDisagree;
 impl SharesDisagree {
     ghost use Rattle.desk.specs.Fault.{disagreement_number};
 
-    /// The number by which it is told.
+    /// The number by which it is printed.
     pub const fn number(self) -> u16
         ensures { result ≡ disagreement_number }
     {

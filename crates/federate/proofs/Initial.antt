@@ -22,7 +22,7 @@ use Rattle.plan_network.specs.Network.{network_of, initial_by}
 use Rattle.reactor.specs.Turn.{Reactor}
 use Rattle.reactor_agenda.specs.Agenda.{Agenda, own_undone}
 use Rattle.reactor_agenda.proofs.Putting.{put_all-append}
-use Rattle.federate.specs.Invariant.{standing}
+use Rattle.federate.specs.Invariant.{federate_by_parts}
 
 -- whose the events are doesn't matter once they are held
 same_startup : (j : ℕ) (b : Bool) →
@@ -64,7 +64,7 @@ undone_is d inputs j fd is =
 pub opened_is : (d : Draft) (programs : List Behaviour) (inputs : List Input) (j : ℕ) (b : Behaviour) (fd : declared.Federate) (r : Reactor) (a made : Agenda) (u : List PendingEvent) (rows : List Row) →
     slice_get programs j ≡ Some b → slice_get d.federates j ≡ Some fd → r ≡ record { behaviour = b; states = initial_states b } →
     a ≡ made → made.undone ≡ put_all (map pending_event_of (input_events_to d inputs j)) u → u ≡ own_undone (stop_of d) fd.slots → rows ≡ [] →
-    standing r a None None None rows ≡ initial_federate (network_of d programs inputs) j
+    federate_by_parts r a None None None rows ≡ initial_federate (network_of d programs inputs) j
 opened_is d programs inputs j b fd r a made u rows program declared_is reactor_is a_is made_is u_is none =
     let at_first : List _ → List PendingEvent → List Row → Federate = λ states undone rows. record {
       states = states;

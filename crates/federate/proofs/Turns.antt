@@ -34,7 +34,7 @@ use Rattle.federate.specs.declared.outlet.Outlet.{Outlet}
 use Rattle.federate.specs.declared.prepared.Prepared.{Prepared}
 use Rattle.federate.specs.Outlets.{outlet_if, outlets_from, messages_by}
 use Rattle.federate.specs.Turn.{due_if, due_in, effect_at, IsPrepared}
-use Rattle.federate.specs.Invariant.{IsKept, standing}
+use Rattle.federate.specs.Invariant.{IsKept, federate_by_parts}
 use Rattle.reactor_agenda.proofs.Listed.{listed_value}
 use Rattle.federate.proofs.Outlets.{messages_are}
 
@@ -97,7 +97,7 @@ module _ (d : Draft) (programs : List Behaviour) (inputs : List Input) (j : ℕ)
   n = network_of d programs inputs
 
   abbrev f : Federate
-  f = standing r a granted completed announced rows
+  f = federate_by_parts r a granted completed announced rows
 
   abbrev pub Keeps : Type 0
   Keeps = IsKept d programs inputs j r.behaviour a.stop outlets f
@@ -223,7 +223,7 @@ module _ (d : Draft) (programs : List Behaviour) (inputs : List Input) (j : ℕ)
             × (b.undone ≡ put_all (in_time a.stop p.scheduled.items) (drop_up_to tag a.undone))
             × (more ≡ rows ++ record { reactor = j; tag = tag; inputs = p.present.items; outputs = p.turn.outputs } ∷ [])
 
-        pub stands : Keeps → Prepares → Takes → standing s b granted (Some tag) None more ≡ (turn_at n j f tag).after
+        pub stands : Keeps → Prepares → Takes → federate_by_parts s b granted (Some tag) None more ≡ (turn_at n j f tag).after
         stands k is t =
             let with_rows : List ℤ → List PendingEvent → List Row → Federate = λ states undone rows. record {
               states = states;
@@ -239,7 +239,7 @@ module _ (d : Draft) (programs : List Behaviour) (inputs : List Input) (j : ℕ)
             ∙ after_is k is
 
         pub keeps_on : Keeps → Prepares → due_in f ≡ Some tag → Takes → b.stop ≡ a.stop →
-            IsKept d programs inputs j s.behaviour b.stop outlets (standing s b granted (Some tag) None more)
+            IsKept d programs inputs j s.behaviour b.stop outlets (federate_by_parts s b granted (Some tag) None more)
         keeps_on k is due t stop = record {
           legal = k.legal;
           programs_fit = k.programs_fit;

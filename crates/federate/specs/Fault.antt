@@ -1,6 +1,6 @@
 -- How it is printed that a federate can't be made, or a turn be worked out, out of memory.
 use Rattle.std.specs.Prelude.{ℕ, List, codes}
-use Rattle.signal.specs.Fault.{told}
+use Rattle.signal.specs.Fault.{printed_fault}
 
 -- the number of the out-of-memory fault
 abbrev pub memory_number : ℕ
@@ -8,4 +8,4 @@ memory_number = 64
 
 -- what is printed of it
 abbrev pub memory_text : List ℕ
-memory_text = told memory_number (codes "Memory")
+memory_text = printed_fault memory_number (codes "Memory")

@@ -32,8 +32,8 @@ pub record IsKept (d : Draft) (programs : List Behaviour) (inputs : List Input) 
   pub alone : IsFederate (network_of d programs inputs) number f
 
 -- a federate by its parts
-abbrev pub standing : Reactor → Agenda → (granted completed announced : Option LogicalTime) → List Row → Federate
-standing r a granted completed announced rows =
+abbrev pub federate_by_parts : Reactor → Agenda → (granted completed announced : Option LogicalTime) → List Row → Federate
+federate_by_parts r a granted completed announced rows =
     record {
       states = r.states;
       undone = a.undone;

@@ -56,7 +56,7 @@ pub struct Federate<'a> {
 
 impl<'a> Model for Federate<'a> {
     ghost use Rattle.node_cores.specs.FederateCore.{FederateNode};
-    ghost use Rattle.federate.specs.Invariant.{standing, IsKept};
+    ghost use Rattle.federate.specs.Invariant.{federate_by_parts, IsKept};
 
     ghost Value = { FederateNode };
 
@@ -65,18 +65,18 @@ impl<'a> Model for Federate<'a> {
       programs = f.programs.now;
       inputs = f.inputs.now;
       number = f.number;
-      federate = standing f.reactor f.agenda f.granted f.completed f.announced f.rows;
+      federate = federate_by_parts f.reactor f.agenda f.granted f.completed f.announced f.rows;
     } };
 
     ghost invariant = { λ f. IsKept f.plan.now f.programs.now f.inputs.now f.number f.reactor.behaviour f.agenda.stop f.outlets.items
-        (standing f.reactor f.agenda f.granted f.completed f.announced f.rows) };
+        (federate_by_parts f.reactor f.agenda f.granted f.completed f.announced f.rows) };
 }
 
 impl<'a> Federate<'a> {
     ghost use Rattle.node_cores.specs.FederateCore.{network_at, announces, advances};
     ghost use Rattle.federate.specs.Invariant.{IsNode};
 
-    /// The federate of this number, before it has run anything. `Memory` alone is told.
+    /// The federate of this number, before it has run anything. `Memory` alone is answered.
     pub fn new(
         alloc: Global,
         plan: &'a Plan,
@@ -130,7 +130,7 @@ impl<'a> Federate<'a> {
         self.rows
     }
 
-    /// Whether `announce` would do nothing: what comes next was told, and nothing was run since.
+    /// Whether `announce` would do nothing: what comes next was announced, and nothing was run since.
     pub fn has_announced(&self) -> bool
         ensures { IsTrue result ↔ (announces self.now ≡ Nothing) }
     {

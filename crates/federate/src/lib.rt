@@ -1,6 +1,6 @@
 //! A federate: one reactor of a federation, as a node behind its station.
 //!
-//! Promise to the layer above: each call is the step of `cores/specs/FederateCore`, and a call without memory changes nothing.
+//! Promise to the layer above: each call is the step of `node_cores/specs/FederateCore`, and a call without memory changes nothing.
 //!
 //!     accept ------> admit                   what the signal changes, or why it is refused
 //!            ------> apply                   the change
@@ -8,7 +8,7 @@
 //!              ----> Outbox::put_all         NET
 //!     advance -----> prepare                 the turn, its messages and its LTC, in room that is kept for the next
 //!             -----> Outbox::reserve_all     room and memory for what it sends
-//!             -----> take_in                 memory for what is undone and for the row, and both change
+//!             -----> take_in                 memory for what is pending and for the row, and both change
 //!             -----> put_all, commit_from    what can't fail
 //!
 //! Begin with the struct in `federate`; what it keeps is in `specs/Invariant`.

@@ -76,7 +76,7 @@ pub fn prepare(
     Ok(())
 }
 
-/// Takes a turn into what is undone and into the rows, both or neither. What it schedules is later than its tag.
+/// Takes a turn into what is pending and into the rows, both or neither. What it schedules is later than its tag.
 pub fn take_in(
     agenda: &mut Agenda,
     rows: &mut Rows,
@@ -86,10 +86,10 @@ pub fn take_in(
 ) -> Result<(), Memory>
     requires { AllByRecursion (λ e. IsTrue (is_before tag e.tag)) prepared.now.scheduled.items }
     ensures stop { agenda.new.stop ≡ agenda.old.stop }
-    ensures undone { OnOk result (agenda.new.undone ≡ put_all (in_time agenda.old.stop prepared.now.scheduled.items) (drop_up_to tag agenda.old.undone)) }
+    ensures pending { OnOk result (agenda.new.undone ≡ put_all (in_time agenda.old.stop prepared.now.scheduled.items) (drop_up_to tag agenda.old.undone)) }
     ensures rows { OnOk result (rows.new ≡ rows.old ++ record { reactor = federate; tag = tag; inputs = prepared.now.present.items; outputs = prepared.now.turn.outputs } ∷ []) }
-    ensures undone_as_before { OnErr result (agenda.new.undone ≡ agenda.old.undone) }
-    ensures rows_as_before { OnErr result (rows.new ≡ rows.old) }
+    ensures pending_unchanged { OnErr result (agenda.new.undone ≡ agenda.old.undone) }
+    ensures rows_unchanged { OnErr result (rows.new ≡ rows.old) }
 {
     agenda.invariant();
     let put = agenda.put_all(&prepared.scheduled)?;

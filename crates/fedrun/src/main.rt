@@ -3,7 +3,8 @@
 //! All it does is `fedrun_commands::command`, a function over words, files and writers; `main` hands it the machine's.
 #![tactic(auto)]
 
-use fedrun_commands::{Fault, command, refuse};
+use fedrun_commands::{NodeFault, command};
+use fedrun_fault::{Fault, refuse};
 use fedrun_files::MachineFiles;
 use fedrun_whole::OUT_BYTES;
 use fedrun_words::{WordsFault, given_words};
@@ -18,7 +19,7 @@ fn main(rt: HostRuntime) -> ExitCode {
             command(&rt, words.as_slice(), &mut files, &mut out, &mut err)
         }
         Err(why) => {
-            let fault = Fault::Undivided(fedrun_whole::Fault::of_words(why));
+            let fault: Fault<'_, NodeFault> = Fault::of_words(why);
             refuse(&fault, &mut err).status
         }
     };

@@ -13,8 +13,10 @@ pub audited_kept :
 audited_kept d programs inputs before mid after audited kept =
     let prints = audited.prints in
     record {
+      left = audited.left;
       reports = audited.reports;
       coordinator = audited.coordinator;
+      reported = audited.reported;
       prints = record {
         steps = prints.steps;
         proved = prints.proved;

@@ -6,9 +6,10 @@ use Rattle.world_stations.specs.declared.memory.Memory as steps
 use Rattle.fedrun_script.specs.declared.fault.ScriptFault.{ScriptFault}
 use Rattle.fedrun_script.specs.declared.script.TheConstants.{MOST_BYTES}
 use Rattle.fedrun_script.specs.Scripts.{IsFaultOf as IsScriptFault}
+use Rattle.fedrun_fault.specs.declared.fault.Fault.{Fault}
+use Rattle.fedrun_fault.specs.declared.fault.Fault.TheVariants.{CannotWrite, More}
 use Rattle.fedrun_files.specs.Answers.{Answer, given}
 use Rattle.fedrun_files.specs.Contents.{Contents}
-use Rattle.fedrun_files.specs.declared.fault.SourceFault.{SourceFault}
 use Rattle.fedrun_files.specs.declared.reading.Sources.{Sources}
 use Rattle.fedrun_files.specs.Loaded.{input_file, HoldsOfSources}
 use Rattle.fedrun_files.specs.Refused.{asked_sources, IsUnread, IsSourcesFault}
@@ -17,68 +18,51 @@ use Rattle.fedrun_replay.specs.Replayed.{IsBrokenOff}
 use Rattle.fedrun_run.specs.Printed.{IsAuditFailure}
 use Rattle.fedrun_run.specs.declared.audit_failure.AuditFailure.{AuditFailure}
 use Rattle.desk.specs.declared.memory.Memory as run
-use Rattle.fedrun_whole.specs.Refused as undivided
-use Rattle.fedrun_whole.specs.declared.fault.Fault as lower
-use Rattle.fedrun_whole.specs.declared.fault.Fault.TheVariants.{CannotWrite}
+use Rattle.fedrun_whole.specs.Refused as every
 use Rattle.fedrun_words.specs.declared.request.Request.{Request}
-use Rattle.fedrun_words.specs.declared.request.Request.TheVariants.{Whole, Check, Replay, Run as RunOf}
-use Rattle.fedrun_commands.specs.declared.fault.Fault.{Fault}
-use Rattle.fedrun_commands.specs.declared.fault.Fault.TheVariants.{Undivided, Schedule, World, NotFinished, Unproved, Run}
-
--- the fault is one that `whole` and `check` have too, and this holds of it
-abbrev pub IsUndivided : (lower.Fault → Type 0) → Fault → Type 0
-IsUndivided Stands fault = (why : lower.Fault) × (fault ≡ Undivided why) × Stands why
-
--- the fault is that of a file which isn't taken
-abbrev pub IsSourceFault : (SourceFault → Type 0) → Fault → Type 0
-IsSourceFault Stands fault = IsUndivided (undivided.IsSourceFault Stands) fault
+use Rattle.fedrun_words.specs.declared.request.Request.TheVariants.{Replay, Run as RunOf}
+use Rattle.fedrun_commands.specs.declared.fault.NodeFault.{NodeFault}
+use Rattle.fedrun_commands.specs.declared.fault.NodeFault.TheVariants.{Schedule, World, NotFinished, Unproved, Run}
 
 -- why the schedule file isn't taken
-pub data IsScheduleFault (name : Bor (List ℕ)) (contents : Contents) (answered : List Answer → Type 0) (fault : Fault) : Type 0 where
-  schedule_unread : IsSourceFault (IsUnread MOST_BYTES name (contents name.now) answered) fault → IsScheduleFault name contents answered fault
-  schedule_refused : answered (given name.now ∷ []) → (why : ScriptFault) → fault ≡ Schedule why
+pub data IsScheduleFault (name : Bor (List ℕ)) (contents : Contents) (answered : List Answer → Type 0) (fault : Fault NodeFault) : Type 0 where
+  schedule_unread : IsUnread MOST_BYTES name (contents name.now) answered fault → IsScheduleFault name contents answered fault
+  schedule_refused : answered (given name.now ∷ []) → (why : ScriptFault) → fault ≡ More (Schedule why)
       → IfSome (contents name.now) (λ bytes. IsScriptFault bytes why) → IsScheduleFault name contents answered fault
 
--- standard output takes no more
-abbrev pub cannot_write : Fault
-cannot_write = Undivided CannotWrite
-
 -- a run isn't finished, reports of it can't be believed, or there was no memory for it
-abbrev pub IsUnprintedRun : Sources → Fault → Type 0
+abbrev pub IsUnprintedRun : Sources → Fault NodeFault → Type 0
 IsUnprintedRun s fault =
-    (fault ≡ NotFinished)
-    ⊎ (((failure : AuditFailure) × (fault ≡ Unproved failure) × IsAuditFailure s.plan s.programs s.inputs failure) ⊎ ((memory : run.Memory) × (fault ≡ Run memory)))
+    (fault ≡ More NotFinished)
+    ⊎ (((failure : AuditFailure) × (fault ≡ More (Unproved failure)) × IsAuditFailure s.plan s.programs s.inputs failure)
+    ⊎ ((memory : run.Memory) × (fault ≡ More (Run memory))))
 
 -- why a replay breaks off, once all was loaded: it can't be written, or there was no memory for a step; then what was refused of those
 -- before it is written
-abbrev pub IsReplayFault : Sources → Option (List ℕ) → Option (List ℕ) → Fault → Type 0
+abbrev pub IsReplayFault : Sources → Option (List ℕ) → Option (List ℕ) → Fault NodeFault → Type 0
 IsReplayFault s before after fault =
-    ((memory : steps.Memory) × (fault ≡ World memory) × IsBrokenOff s.plan s.programs s.inputs before after (broken.World memory))
-    ⊎ (fault ≡ cannot_write)
+    ((memory : steps.Memory) × (fault ≡ More (World memory)) × IsBrokenOff s.plan s.programs s.inputs before after (broken.World memory))
+    ⊎ (fault ≡ CannotWrite)
 
 -- why a run isn't printed, once all was loaded: it can't be written; or it isn't finished, an audit doesn't believe it, or there was no
 -- memory for it, and then nothing is written
-abbrev pub IsRunFault : Sources → Option (List ℕ) → Option (List ℕ) → Fault → Type 0
-IsRunFault s before after fault = (fault ≡ cannot_write) ⊎ (IsUnprintedRun s fault × (after ≡ before))
+abbrev pub IsRunFault : Sources → Option (List ℕ) → Option (List ℕ) → Fault NodeFault → Type 0
+IsRunFault s before after fault = (fault ≡ CannotWrite) ⊎ (IsUnprintedRun s fault × (after ≡ before))
 
--- why a request isn't done, and what was answered about files till then: the federation file's fault comes first, then the input
--- file's, then the schedule's
-abbrev pub IsFaultOf : Contents → (List Answer → Type 0) → Option (List ℕ) → Option (List ℕ) → Request → Fault → Type 0
-IsFaultOf contents answered before after (Whole federation inputs turns) fault =
-    IsUndivided (undivided.IsWholeFault contents answered before after federation inputs turns) fault
-IsFaultOf contents answered before after (Check federation) fault =
-    IsUndivided (undivided.IsCheckFault contents answered before after federation) fault
+-- why a request of nodes isn't done, and what was answered about files till then: the federation file's fault comes first, then the
+-- input file's, then the schedule's.
+abbrev pub IsFaultOf : Contents → (List Answer → Type 0) → Option (List ℕ) → Option (List ℕ) → Request → Fault NodeFault → Type 0
 IsFaultOf contents answered before after (Replay federation inputs schedule until_stuck) fault =
-    IsSourceFault (IsSourcesFault federation inputs contents answered) fault
+    IsSourcesFault federation inputs contents answered fault
     ⊎ HoldsOfSources (contents federation.now) (input_file contents inputs.now)
     (λ s. IsScheduleFault schedule contents (λ later. answered (asked_sources federation.now inputs.now ++ later)) fault
     ⊎ (answered (asked_sources federation.now inputs.now ++ given schedule.now ∷ []) × IsReplayFault s before after fault))
 IsFaultOf contents answered before after (RunOf federation inputs turns) fault =
-    IsSourceFault (IsSourcesFault federation inputs contents answered) fault
+    IsSourcesFault federation inputs contents answered fault
     ⊎ (answered (asked_sources federation.now inputs.now)
     × HoldsOfSources (contents federation.now) (input_file contents inputs.now) (λ s. IsRunFault s before after fault))
+IsFaultOf contents answered before after request fault = ⊥
 
 -- the fault is one of words, and no file was asked for, or it stands against some request
-abbrev pub Stands : Contents → (List Answer → Type 0) → Option (List ℕ) → Option (List ℕ) → Fault → Type 0
-Stands contents answered before after fault =
-    (IsUndivided undivided.IsWordsFault fault × answered []) ⊎ ((request : Request) × IsFaultOf contents answered before after request fault)
+abbrev pub Stands : Contents → (List Answer → Type 0) → Option (List ℕ) → Option (List ℕ) → Fault NodeFault → Type 0
+Stands = every.Stands IsFaultOf

@@ -1,16 +1,12 @@
-ghost use Rattle.std.specs.Prelude.{◌≡◌};
-
+use fedrun_fault::MoreFault;
 use fedrun_run::AuditFailure;
 use fedrun_script::ScriptFault;
 use std::fmt;
-use thiserror::Error;
 
-/// What the program tells on standard error when it gives up. What a library told is kept as it is, and printed as the library
-/// has it.
-#[derive(Drop, Error)]
-pub enum Fault<'a> {
-    /// One that `whole` and `check` have too: of words, of a federation file or an input file, or of what is written.
-    Undivided(fedrun_whole::Fault<'a>),
+/// Why a command of nodes isn't done: those faults that `whole` and `check` don't have. What a library answered is kept as it is,
+/// and printed as the library has it.
+#[derive(Drop)]
+pub enum NodeFault {
     /// The schedule isn't taken, and the inner fault says why. Nothing was printed.
     Schedule(ScriptFault),
     /// No memory for a step of a replay. What was refused before it is printed. The same command may be given again, with fewer steps.
@@ -24,42 +20,40 @@ pub enum Fault<'a> {
     Run(desk::Memory),
 }
 
-impl Fault<'_> {
-    ghost use Rattle.fedrun_commands.specs.Faults.{status_of};
+impl MoreFault for NodeFault {
+    ghost use Rattle.std.specs.Prelude.{refl};
+    ghost use Rattle.fedrun_commands.specs.Faults.{node_status, printed_node_fault};
 
-    /// The exit status that goes with it.
-    pub fn status(&self) -> u8
-        ensures { result ≡ status_of self.now }
-    {
+    ghost status_of = { node_status };
+
+    ghost printed_fault = { printed_node_fault };
+
+    fn status(&self) -> u8 {
         match self {
-            Fault::Undivided(fault) => fault.status(),
-            Fault::Schedule(_) => 1,
-            Fault::World(_) | Fault::NotFinished | Fault::Unproved(_) | Fault::Run(_) => 3,
+            NodeFault::Schedule(_) => 1,
+            NodeFault::World(_)
+            | NodeFault::NotFinished
+            | NodeFault::Unproved(_)
+            | NodeFault::Run(_) => 3,
         }
     }
+
+    ghost displayed = { λ _. refl };
 }
 
-/// As it is displayed.
-impl fmt::Debug for Fault<'_> {
-    fn fmt<W: fmt::Write>(&self, f: &mut fmt::Formatter<W>) -> fmt::Result {
-        fmt::Display::fmt(self, f)
-    }
-}
-
-impl fmt::Display for Fault<'_> {
+impl fmt::Display for NodeFault {
     ghost use Rattle.std.specs.Prelude.{Some};
-    ghost use Rattle.fedrun_commands.specs.Faults.{printed_fault};
+    ghost use Rattle.fedrun_commands.specs.Faults.{printed_node_fault};
 
-    ghost output = { λ fault. Some (printed_fault fault) };
+    ghost output = { λ fault. Some (printed_node_fault fault) };
 
     fn fmt<W: fmt::Write>(&self, f: &mut fmt::Formatter<W>) -> fmt::Result {
         match self {
-            Fault::Undivided(fault) => write!(f, "{fault}"),
-            Fault::Schedule(fault) => write!(f, "{fault}"),
-            Fault::World(memory) => write!(f, "{memory}"),
-            Fault::NotFinished => write!(f, "not finished"),
-            Fault::Unproved(failure) => write!(f, "{failure}"),
-            Fault::Run(memory) => write!(f, "{memory}"),
+            NodeFault::Schedule(fault) => write!(f, "{fault}"),
+            NodeFault::World(memory) => write!(f, "{memory}"),
+            NodeFault::NotFinished => write!(f, "not finished"),
+            NodeFault::Unproved(failure) => write!(f, "{failure}"),
+            NodeFault::Run(memory) => write!(f, "{memory}"),
         }
     }
 }

@@ -5,10 +5,12 @@ ghost use Rattle.plan.specs.External.{AreInputsOf};
 ghost use Rattle.reactor_programs.specs.Programs.{AreProgramsOf};
 ghost use Rattle.fedrun_replay.specs.Replayed.{IsReplayed};
 ghost use Rattle.fedrun_run.specs.Printed.{PrintsAudited};
+ghost use Rattle.fedrun_fault.specs.declared.fault.Fault.TheVariants.{CannotWrite as cannot_write};
 ghost use Rattle.fedrun_commands.specs.Faults.{status_of};
-ghost use Rattle.fedrun_commands.specs.Refused.{cannot_write, IsReplayFault, IsRunFault};
+ghost use Rattle.fedrun_commands.specs.Refused.{IsReplayFault, IsRunFault};
 
-use crate::fault::Fault;
+use crate::fault::NodeFault;
+use fedrun_fault::Fault;
 use fedrun_files::Sources;
 use fedrun_replay::{ReplayFault, replay};
 use fedrun_run::{AuditedFault, print_audited_run};
@@ -27,7 +29,7 @@ pub(crate) fn print_replay<O: Write>(
     script: &Script,
     until_stuck: Option<u32>,
     out: &mut O,
-) -> Result<(), Fault<'static>>
+) -> Result<(), Fault<'static, NodeFault>>
     requires programs { AreProgramsOf sources.now.plan sources.now.programs }
     requires inputs { AreInputsOf sources.now.plan sources.now.inputs }
     ensures ok { OnOk result (IsReplayed sources.now.plan sources.now.programs sources.now.inputs until_stuck (O.contents out.old) (O.contents out.new)) }
@@ -46,9 +48,9 @@ pub(crate) fn print_replay<O: Write>(
         Ok(()) => flush(out),
         Err(ReplayFault::World(memory)) => {
             flush(out)?;
-            Err(Fault::World(memory))
+            Err(Fault::More(NodeFault::World(memory)))
         }
-        Err(ReplayFault::CannotWrite) => Err(cannot_write()),
+        Err(ReplayFault::CannotWrite) => Err(Fault::CannotWrite),
     }
 }
 
@@ -56,7 +58,13 @@ pub(crate) fn print_replay<O: Write>(
 pub(crate) fn print_run<
     R: Threads + Wait + Clock + Net<Stream = TcpStream, Listener = TcpListener> + Sync,
     O: Write,
->(rt: &R, alloc: Global, sources: &Sources, turns: u32, out: &mut O) -> Result<(), Fault<'static>>
+>(
+    rt: &R,
+    alloc: Global,
+    sources: &Sources,
+    turns: u32,
+    out: &mut O,
+) -> Result<(), Fault<'static, NodeFault>>
     requires programs { AreProgramsOf sources.now.plan sources.now.programs }
     requires inputs { AreInputsOf sources.now.plan sources.now.inputs }
     ensures ok { OnOk result (PrintsAudited sources.now.plan sources.now.programs sources.now.inputs (O.contents out.old) (O.contents out.new)) }
@@ -73,24 +81,17 @@ pub(crate) fn print_run<
         out,
     ) {
         Ok(()) => flush(out),
-        Err(AuditedFault::NotFinished(_)) => Err(Fault::NotFinished),
-        Err(AuditedFault::Unproved(failure)) => Err(Fault::Unproved(failure)),
-        Err(AuditedFault::Memory) => Err(Fault::Run(desk::Memory)),
-        Err(AuditedFault::CannotWrite) => Err(cannot_write()),
+        Err(AuditedFault::NotFinished(_)) => Err(Fault::More(NodeFault::NotFinished)),
+        Err(AuditedFault::Unproved(failure)) => Err(Fault::More(NodeFault::Unproved(failure))),
+        Err(AuditedFault::Memory) => Err(Fault::More(NodeFault::Run(desk::Memory))),
+        Err(AuditedFault::CannotWrite) => Err(Fault::CannotWrite),
     }
 }
 
 /// Sends on what was written.
-fn flush<O: Write>(out: &mut O) -> Result<(), Fault<'static>>
+fn flush<O: Write>(out: &mut O) -> Result<(), Fault<'static, NodeFault>>
     ensures kept { Keeps (O.contents out.old) (O.contents out.new) }
     ensures err { IfErr result (λ fault. fault ≡ cannot_write) }
 {
-    out.flush().map_err(|_| cannot_write())
-}
-
-/// Standard output takes no more.
-fn cannot_write() -> Fault<'static>
-    ensures { result ≡ cannot_write }
-{
-    Fault::Undivided(fedrun_whole::Fault::CannotWrite)
+    out.flush().map_err(|_| Fault::CannotWrite)
 }

@@ -5,11 +5,13 @@ ghost use Rattle.fedrun_commands.specs.Faults.{status_of};
 ghost use Rattle.fedrun_commands.specs.Printed.{PrintsFor, PrintsAnswer};
 ghost use Rattle.fedrun_commands.specs.Refused.{IsFaultOf, Stands};
 
-use crate::fault::Fault;
+use crate::fault::NodeFault;
 use crate::printing::{print_replay, print_run};
 use crate::schedules::read_schedule;
+use fedrun_fault::Fault;
 use fedrun_files::{Files, read_sources};
-use fedrun_words::Request;
+use fedrun_whole::{check, whole};
+use fedrun_words::{Request, read_words};
 use std::alloc::Global;
 use std::io::Write;
 use std::net::{Net, TcpListener, TcpStream};
@@ -21,23 +23,23 @@ use std::time::Clock;
 #[tactic(auto, using(fedrun_files::proofs::InTurn::none_answered))]
 pub(crate) fn perform<
     'a,
-    R: AllocGlobal
-        + Threads
-        + Wait
-        + Clock
-        + Net<Stream = TcpStream, Listener = TcpListener>
-        + Sync,
+    R: Threads + Wait + Clock + Net<Stream = TcpStream, Listener = TcpListener> + Sync,
     F: Files,
     O: Write,
->(rt: &R, words: &'a [String], files: &mut F, out: &mut O) -> Result<(), Fault<'a>>
+>(
+    rt: &R,
+    alloc: Global,
+    words: &'a [String],
+    files: &mut F,
+    out: &mut O,
+) -> Result<(), Fault<'a, NodeFault>>
     ensures ok { OnOk result (PrintsAnswer (F.contents files.old) (O.contents out.old) (O.contents out.new)) }
     ensures stands { IfErr result (Stands (F.contents files.old) (Answers (F.answers files.old) (F.answers files.new)) (O.contents out.old) (O.contents out.new)) }
     ensures untouched { IfErr result (λ fault. status_of fault ≢ 3 → out.new ≡ out.old) }
 {
-    let alloc = rt.alloc();
-    let request = match fedrun_whole::requested(alloc, words) {
+    let request = match read_words(alloc, words) {
         Ok(request) => request,
-        Err(fault) => return Err(Fault::Undivided(fault)),
+        Err(why) => return Err(Fault::of_words(why)),
     };
     match request {
         Request::Whole {
@@ -60,27 +62,8 @@ pub(crate) fn perform<
     }
 }
 
-/// Prints the rows of the undivided program after at most so many turns.
-fn whole<'a, F: Files, O: Write>(
-    alloc: Global,
-    federation: &'a str,
-    inputs: &'a str,
-    turns: u32,
-    files: &mut F,
-    out: &mut O,
-) -> Result<(), Fault<'a>>
-    ensures ok { OnOk result (PrintsFor (F.contents files.old) (Request.Whole federation.entry inputs.entry turns) (O.contents out.old) (O.contents out.new)) }
-    ensures stands { IfErr result (IsFaultOf (F.contents files.old) (Answers (F.answers files.old) (F.answers files.new)) (O.contents out.old) (O.contents out.new) (Request.Whole federation.entry inputs.entry turns)) }
-    ensures untouched { IfErr result (λ fault. status_of fault ≢ 3 → out.new ≡ out.old) }
-{
-    match fedrun_whole::whole(alloc, federation, inputs, turns, files, out) {
-        Ok(()) => Ok(()),
-        Err(fault) => Err(Fault::Undivided(fault)),
-    }
-}
-
 /// Runs the federation in threads, of which each makes so many turns at most, and prints the rows that the audit proved.
-fn run<
+pub(crate) fn run<
     'a,
     R: Threads + Wait + Clock + Net<Stream = TcpStream, Listener = TcpListener> + Sync,
     F: Files,
@@ -93,20 +76,20 @@ fn run<
     turns: u32,
     files: &mut F,
     out: &mut O,
-) -> Result<(), Fault<'a>>
+) -> Result<(), Fault<'a, NodeFault>>
     ensures ok { OnOk result (PrintsFor (F.contents files.old) (Request.Run federation.entry inputs.entry turns) (O.contents out.old) (O.contents out.new)) }
     ensures stands { IfErr result (IsFaultOf (F.contents files.old) (Answers (F.answers files.old) (F.answers files.new)) (O.contents out.old) (O.contents out.new) (Request.Run federation.entry inputs.entry turns)) }
     ensures untouched { IfErr result (λ fault. status_of fault ≢ 3 → out.new ≡ out.old) }
 {
     match read_sources(alloc, federation, inputs, files) {
         Ok(sources) => print_run(rt, alloc, &sources, turns, out),
-        Err(fault) => Err(Fault::Undivided(fedrun_whole::Fault::Source(fault))),
+        Err(fault) => Err(fault),
     }
 }
 
 /// Prints what a schedule's world refuses, and the rows after it.
 #[tactic(auto, using(fedrun_files::proofs::InTurn::answered_in_turn))]
-fn replay<'a, F: Files, O: Write>(
+pub(crate) fn replay<'a, F: Files, O: Write>(
     alloc: Global,
     federation: &'a str,
     inputs: &'a str,
@@ -114,34 +97,17 @@ fn replay<'a, F: Files, O: Write>(
     until_stuck: Option<u32>,
     files: &mut F,
     out: &mut O,
-) -> Result<(), Fault<'a>>
+) -> Result<(), Fault<'a, NodeFault>>
     ensures ok { OnOk result (PrintsFor (F.contents files.old) (Request.Replay federation.entry inputs.entry schedule.entry until_stuck) (O.contents out.old) (O.contents out.new)) }
     ensures stands { IfErr result (IsFaultOf (F.contents files.old) (Answers (F.answers files.old) (F.answers files.new)) (O.contents out.old) (O.contents out.new) (Request.Replay federation.entry inputs.entry schedule.entry until_stuck)) }
     ensures untouched { IfErr result (λ fault. status_of fault ≢ 3 → out.new ≡ out.old) }
 {
     let sources = match read_sources(alloc, federation, inputs, files) {
         Ok(sources) => sources,
-        Err(fault) => return Err(Fault::Undivided(fedrun_whole::Fault::Source(fault))),
+        Err(fault) => return Err(fault),
     };
     match read_schedule(alloc, schedule, &sources.plan, files) {
         Ok(script) => print_replay(alloc, &sources, &script, until_stuck, out),
         Err(fault) => Err(fault),
-    }
-}
-
-/// Prints the plan.
-fn check<'a, F: Files, O: Write>(
-    alloc: Global,
-    federation: &'a str,
-    files: &mut F,
-    out: &mut O,
-) -> Result<(), Fault<'a>>
-    ensures ok { OnOk result (PrintsFor (F.contents files.old) (Request.Check federation.entry) (O.contents out.old) (O.contents out.new)) }
-    ensures stands { IfErr result (IsFaultOf (F.contents files.old) (Answers (F.answers files.old) (F.answers files.new)) (O.contents out.old) (O.contents out.new) (Request.Check federation.entry)) }
-    ensures untouched { IfErr result (λ fault. status_of fault ≢ 3 → out.new ≡ out.old) }
-{
-    match fedrun_whole::check(alloc, federation, files, out) {
-        Ok(()) => Ok(()),
-        Err(fault) => Err(Fault::Undivided(fault)),
     }
 }

@@ -3,7 +3,8 @@ ghost use Rattle.fedrun_files.specs.Answers.{Answers, given};
 ghost use Rattle.fedrun_commands.specs.Faults.{status_of};
 ghost use Rattle.fedrun_commands.specs.Refused.{IsScheduleFault};
 
-use crate::fault::Fault;
+use crate::fault::NodeFault;
+use fedrun_fault::Fault;
 use fedrun_files::{Files, bytes_of};
 use fedrun_script::{MOST_BYTES, Script, read_script};
 use plan::Plan;
@@ -15,17 +16,17 @@ pub(crate) fn read_schedule<'a, F: Files>(
     name: &'a str,
     plan: &Plan,
     files: &mut F,
-) -> Result<Script, Fault<'a>>
+) -> Result<Script, Fault<'a, NodeFault>>
     ensures asked { OnOk result (Answers (F.answers files.old) (F.answers files.new) (given name.entry.now ∷ [])) }
     ensures err { IfErr result (IsScheduleFault name.entry (F.contents files.old) (Answers (F.answers files.old) (F.answers files.new))) }
     ensures early { IfErr result (λ fault. status_of fault ≡ 1) }
 {
     let bytes = match bytes_of(name, files, MOST_BYTES) {
         Ok(bytes) => bytes,
-        Err(fault) => return Err(Fault::Undivided(fedrun_whole::Fault::Source(fault))),
+        Err(fault) => return Err(fault),
     };
     match read_script(alloc, bytes.as_slice(), plan) {
         Ok(script) => Ok(script),
-        Err(fault) => Err(Fault::Schedule(fault)),
+        Err(fault) => Err(Fault::More(NodeFault::Schedule(fault))),
     }
 }

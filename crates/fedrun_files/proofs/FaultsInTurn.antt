@@ -2,24 +2,24 @@
 use Rattle.std.proofs.Common.{ℕ, List, Option}
 use Rattle.std.specs.Borrow.{Bor}
 use Rattle.plan.specs.declared.draft.Draft.{Draft}
+use Rattle.fedrun_fault.specs.declared.fault.Fault.{Fault}
 use Rattle.fedrun_files.specs.Answers.{Answer}
 use Rattle.fedrun_files.specs.Contents.{Contents}
-use Rattle.fedrun_files.specs.declared.fault.SourceFault.{SourceFault}
 use Rattle.fedrun_files.specs.Refused.{IsUnread, IsInputFault, input_unread, input_unloaded}
 
-module _ {first all : List Answer → Type 0} (come : (answers : List Answer) → first answers → all answers) where
+module _ {M : Type 0} {first all : List Answer → Type 0} (come : (answers : List Answer) → first answers → all answers) where
   -- a file's bytes that can't be had
-  pub unread_after : (most : ℕ) (name : Bor (List ℕ)) (known : Option (List ℕ)) (fault : SourceFault) → IsUnread most name known first fault
+  pub unread_after : (most : ℕ) (name : Bor (List ℕ)) (known : Option (List ℕ)) (fault : Fault M) → IsUnread most name known first fault
       → IsUnread most name known all fault
   unread_after most name known fault unread = record {
     why = unread.why;
-    told = unread.told;
+    fault_is = unread.fault_is;
     answer = come _ unread.answer;
     over = unread.over;
   }
 
   -- the input file's fault
-  pub input_fault_after : (d : Draft) (name : Bor (List ℕ)) (contents : Contents) (fault : SourceFault) → IsInputFault d name contents first fault
+  pub input_fault_after : (d : Draft) (name : Bor (List ℕ)) (contents : Contents) (fault : Fault M) → IsInputFault d name contents first fault
       → IsInputFault d name contents all fault
   input_fault_after d name contents fault (input_unread named unread) = input_unread named (unread_after _ _ _ _ unread)
   input_fault_after d name contents fault (input_unloaded asked unloaded) = input_unloaded (come _ asked) unloaded

@@ -1,7 +1,7 @@
 -- What holds of the bytes that were read holds of the file, where its bytes are known.
 use Rattle.std.proofs.Common.{◌≡◌, ℕ, List, Option, None, Some, IfSome, refl, subst}
 use Rattle.loadfed.specs.declared.fault.LoadFault.{LoadFault}
-use Rattle.fedrun_files.specs.declared.fault.SourceFault.TheVariants.{Load}
+use Rattle.fedrun_fault.specs.declared.fault.Fault.TheVariants.{Load}
 use Rattle.fedrun_files.specs.Contents.{AreBytesOf}
 use Rattle.fedrun_files.specs.Refused.{IsUnloaded}
 
@@ -11,10 +11,10 @@ holds_of_file P None bytes same holds = tt
 holds_of_file P (Some there) bytes same holds = subst P same holds
 
 -- a fault of loading that stands in the bytes read
-pub unloaded_file : (Has : List ℕ → LoadFault → Type 0) (known : Option (List ℕ)) (bytes read : List ℕ) (why : LoadFault)
-    → AreBytesOf known bytes → read ≡ bytes → Has read why → IsUnloaded Has known (Load why)
+pub unloaded_file : {M : Type 0} (Has : List ℕ → LoadFault → Type 0) (known : Option (List ℕ)) (bytes read : List ℕ) (why : LoadFault)
+    → AreBytesOf known bytes → read ≡ bytes → Has read why → IsUnloaded {M = M} Has known (Load why)
 unloaded_file Has known bytes read why are same stands = record {
   why = why;
-  told = refl;
+  fault_is = refl;
   stands = holds_of_file (λ b. Has b why) known bytes are (subst (λ b. Has b why) same stands);
 }

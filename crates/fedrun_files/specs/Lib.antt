@@ -1,10 +1,8 @@
--- What is said of files, what they say, and how it is printed where they aren't taken.
+-- What is said of files, what they say, and which fault stands where they aren't taken.
 -- the bytes of files by name
 pub mod Contents
 -- what was answered about them
 pub mod Answers
--- how faults are printed
-pub mod Faults
 -- the federation and the recorded inputs in files
 pub mod Loaded
 -- which fault stands where a file isn't taken

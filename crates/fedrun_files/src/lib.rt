@@ -1,16 +1,14 @@
 //! What a command reads before it begins: files by name, and a federation with its recorded inputs, each in a file of its name.
 //!
 //! Promise to the layer above: the bytes of a file are all of its bytes, where these are known (`specs/Contents`), and over the
-//! limit is told only of a file that is; what is read is what the files say, and each fault stands in the file that it is told of
-//! (`specs/Loaded`, `specs/Refused`). Begin with the trait `Files` and `read_sources`; the machine's files are `MachineFiles`.
+//! limit is answered only of a file that is; what is read is what the files say, and each fault stands in the file that it is answered
+//! of (`specs/Loaded`, `specs/Refused`). Begin with the trait `Files` and `read_sources`; the machine's files are `MachineFiles`.
 #![tactic(auto)]
 
-pub mod fault;
 pub mod machine;
 pub mod named;
 pub mod reading;
 
-pub use fault::SourceFault;
 pub use machine::{MachineFiles, read_to_end};
 pub use named::{FileFault, Files};
 pub use reading::{Sources, bytes_of, read_federation, read_sources};

@@ -2,10 +2,10 @@ ghost use Rattle.std.specs.Prelude.{◌≡◌, ◌≤◌, [], ◌∷◌, OnOk, I
 ghost use Rattle.fedrun_files.specs.Answers.{Answers, given};
 ghost use Rattle.fedrun_files.specs.Contents.{AreBytesOf};
 ghost use Rattle.fedrun_files.specs.Loaded.{input_file, IsFederation, RecordsInputs, AreSources};
-ghost use Rattle.fedrun_files.specs.Refused.{asked_inputs, asked_sources, IsUnread, IsFederationFault, IsInputFault, IsSourcesFault, told_of_file};
+ghost use Rattle.fedrun_files.specs.Refused.{asked_inputs, asked_sources, IsUnread, IsFederationFault, IsInputFault, IsSourcesFault, fault_of_file};
 
-use crate::fault::SourceFault;
 use crate::{FileFault, Files};
+use fedrun_fault::Fault;
 use loadfed::{LoadFault, MOST_BYTES, MOST_INPUT_BYTES, load, load_inputs};
 use plan::{Inputs, Plan};
 use reactor_programs::Programs;
@@ -20,12 +20,12 @@ pub struct Sources {
 }
 
 /// The federation in a file, with the recorded inputs in another; `-` is a file without any.
-pub fn read_sources<'a, F: Files>(
+pub fn read_sources<'a, M, F: Files>(
     alloc: Global,
     federation: &'a str,
     inputs: &'a str,
     files: &mut F,
-) -> Result<Sources, SourceFault<'a>>
+) -> Result<Sources, Fault<'a, M>>
     ensures ok { IfOk result (AreSources (F.contents files.old federation.entry.now) (input_file (F.contents files.old) inputs.entry.now)) }
     ensures asked { OnOk result (Answers (F.answers files.old) (F.answers files.new) (asked_sources federation.entry.now inputs.entry.now)) }
     ensures err { IfErr result (IsSourcesFault federation.entry inputs.entry (F.contents files.old) (Answers (F.answers files.old) (F.answers files.new))) }
@@ -41,11 +41,11 @@ pub fn read_sources<'a, F: Files>(
 }
 
 /// The federation in a file, with its programs.
-pub fn read_federation<'a, F: Files>(
+pub fn read_federation<'a, M, F: Files>(
     alloc: Global,
     name: &'a str,
     files: &mut F,
-) -> Result<(Plan, Programs), SourceFault<'a>>
+) -> Result<(Plan, Programs), Fault<'a, M>>
     ensures ok { IfOk result (λ read. IsFederation (F.contents files.old name.entry.now) read.0 read.1) }
     ensures asked { OnOk result (Answers (F.answers files.old) (F.answers files.new) (given name.entry.now ∷ [])) }
     ensures err { IfErr result (IsFederationFault name.entry (F.contents files.old) (Answers (F.answers files.old) (F.answers files.new))) }
@@ -54,17 +54,17 @@ pub fn read_federation<'a, F: Files>(
     let bytes = bytes_of(name, files, MOST_BYTES)?;
     match load(alloc, bytes.as_slice()) {
         Ok(loaded) => Ok(loaded),
-        Err(fault) => Err(SourceFault::Load(fault)),
+        Err(fault) => Err(Fault::Load(fault)),
     }
 }
 
 /// The recorded inputs in a file; `-` is a file without any.
-fn read_inputs<'a, F: Files>(
+fn read_inputs<'a, M, F: Files>(
     alloc: Global,
     name: &'a str,
     plan: &Plan,
     files: &mut F,
-) -> Result<Inputs, SourceFault<'a>>
+) -> Result<Inputs, Fault<'a, M>>
     ensures ok { IfOk result (RecordsInputs (input_file (F.contents files.old) name.entry.now) plan.now) }
     ensures asked { OnOk result (Answers (F.answers files.old) (F.answers files.new) (asked_inputs name.entry.now)) }
     ensures err { IfErr result (IsInputFault plan.now name.entry (F.contents files.old) (Answers (F.answers files.old) (F.answers files.new))) }
@@ -77,16 +77,16 @@ fn read_inputs<'a, F: Files>(
     };
     match load_inputs(alloc, bytes.as_slice(), plan) {
         Ok(inputs) => Ok(inputs),
-        Err(fault) => Err(SourceFault::Load(fault)),
+        Err(fault) => Err(Fault::Load(fault)),
     }
 }
 
 /// The bytes of a file that has at most so many.
-pub fn bytes_of<'a, F: Files>(
+pub fn bytes_of<'a, M, F: Files>(
     name: &'a str,
     files: &mut F,
     most: usize,
-) -> Result<Vec<u8>, SourceFault<'a>>
+) -> Result<Vec<u8>, Fault<'a, M>>
     ensures ok { IfOk result (λ bytes. AreBytesOf (F.contents files.old name.entry.now) bytes.items) }
     ensures few { IfOk result (λ bytes. vec_len bytes ≤ most) }
     ensures asked { OnOk result (Answers (F.answers files.old) (F.answers files.new) (given name.entry.now ∷ [])) }
@@ -95,17 +95,17 @@ pub fn bytes_of<'a, F: Files>(
 {
     match files.bytes(name, most) {
         Ok(bytes) => Ok(bytes),
-        Err(why) => Err(told(name, why)),
+        Err(why) => Err(fault_of(name, why)),
     }
 }
 
-/// How it is printed why a file's bytes can't be had.
-fn told<'a>(name: &'a str, why: FileFault) -> SourceFault<'a>
-    ensures { result ≡ told_of_file name.entry why }
+/// The fault of a file whose bytes can't be had.
+fn fault_of<'a, M>(name: &'a str, why: FileFault) -> Fault<'a, M>
+    ensures { result ≡ fault_of_file name.entry why }
 {
     match why {
-        FileFault::Unreadable => SourceFault::CannotRead(name),
-        FileFault::OverLimit => SourceFault::Load(LoadFault::OverLimit),
-        FileFault::Memory => SourceFault::Load(LoadFault::Memory),
+        FileFault::Unreadable => Fault::CannotRead(name),
+        FileFault::OverLimit => Fault::Load(LoadFault::OverLimit),
+        FileFault::Memory => Fault::Load(LoadFault::Memory),
     }
 }

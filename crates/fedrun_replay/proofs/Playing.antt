@@ -55,7 +55,7 @@ plays_on w mid later a b c first then =
       printed = subst (Appends a c) (sym text) (Appends-trans a b c _ _ first.printed then.printed);
     }
 
--- one step was made, and what is told of it was printed
+-- one step was made, and what is to be printed of it was printed
 plays_one :
     (w later : WorldView) (line : ℕ) (step : Step) (outcome : Outcome) (a b : Option (List ℕ)) → later ≡ with_step w step →
     outcome ≡ (step_in (stations_of w) step).outcome → Appends a b (told line outcome) → Plays w later a b
@@ -72,7 +72,7 @@ played_on (Ok done) w mid later a b c first then = plays_on w mid later a b c fi
 played_on (Err (World memory)) w mid later a b c first then = plays_on w mid later a b c first then
 played_on (Err CannotWrite) w mid later a b c first then = tt
 
--- a step was made, and what is told of it was printed with this result
+-- a step was made, and what is to be printed of it was printed with this result
 pub played_one : {T : Type 0} (result : Result T ReplayFault) (w later : WorldView) (line : ℕ) (step : Step) (outcome : Outcome) (a b : Option (List ℕ))
     → later ≡ with_step w step → outcome ≡ (step_in (stations_of w) step).outcome → OnOk result (Appends a b (told line outcome))
     → IfErr result (λ fault. fault ≡ CannotWrite) → HasPlayed result w later a b

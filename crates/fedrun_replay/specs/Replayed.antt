@@ -46,7 +46,7 @@ abbrev pub IsEnded : Option ℕ → WorldView → Option (List ℕ) → Option (
 IsEnded None w before after = Appends before after (histories w)
 IsEnded (Some most) w before after = IsClosed most w before after
 
--- a writer's bytes grew by what is printed of some steps in a world of which nothing was asked, and then by what is told at the end
+-- a writer's bytes grew by what is printed of some steps in a world of which nothing was asked, and then by what is printed at the end
 -- of the world after them: all that is known of worlds holds of it
 pub record IsReplayed (d : Draft) (programs : List Behaviour) (inputs : List Input) (closing : Option ℕ) (before after : Option (List ℕ)) : Type 0 where
   pub last : WorldView

@@ -2,10 +2,9 @@
 ghost use Rattle.std.specs.Prelude.{◌≡◌, ◌<◌, OnOk};
 ghost use Rattle.std.specs.Io.KnownBytes.{Appends};
 ghost use Rattle.plan.specs.Federation.{federate_count};
-ghost use Rattle.fedrun_text.specs.PlanText.{federate_name};
 ghost use Rattle.fedrun_replay.specs.Replayed.{history, histories, verdict, IsClosed, IsEnded};
 
-use fedrun_text::write_rows;
+use fedrun_text::{federate_name, write_rows};
 use plan::Plan;
 use std::io;
 use std::io::Write;
@@ -70,7 +69,7 @@ fn write_history<W: Write>(
     ensures { OnOk result (Appends (W.contents out.old) (W.contents out.new) (history world.now federate)) }
 {
     if !world.kept(federate) {
-        out.write_all(name_of(plan, federate).as_bytes())?;
+        out.write_all(federate_name(plan, federate).as_bytes())?;
         return out.write_all(b" forgotten\n");
     }
     match world.rows(federate) {
@@ -79,15 +78,5 @@ fn write_history<W: Write>(
             Ok(())
         }
         None => Ok(()),
-    }
-}
-
-// The name of a federate; empty where there is none.
-fn name_of(plan: &Plan, federate: usize) -> &str
-    ensures { result.now ≡ federate_name plan.now federate }
-{
-    match plan.federates().get(federate) {
-        Some(federate) => federate.name.as_str(),
-        None => "",
     }
 }

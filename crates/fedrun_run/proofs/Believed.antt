@@ -1,5 +1,5 @@
--- Reports that are believed, and those whose coordinator isn't finished.
-use Rattle.std.proofs.Common.{◌≡◌, ℕ, true, false, List, Option, Result, OnOk, IfErr, refl, subst}
+-- Reports that an audit believes, and those that it doesn't.
+use Rattle.std.proofs.Common.{◌≡◌, ℕ, true, inl, inr, List, Option, Result, OnOk, IfErr, sym, subst}
 use Rattle.std.specs.Io.KnownBytes.{Appends}
 use Rattle.std.proofs.lemmas.Result.{on_ok_weaker, IfErr-weaker}
 use Rattle.plan.specs.declared.draft.Draft.{Draft}
@@ -11,10 +11,11 @@ use Rattle.recorder.specs.Placing.{initial_of}
 use Rattle.recorder.specs.declared.audited_run.AuditedRun.{AuditedRun}
 use Rattle.recorder_reports.specs.declared.report.Report.{Report}
 use Rattle.recorder.specs.Audited.{HasEnded}
-use Rattle.wires.specs.declared.run_fault.Cause.TheVariants.{TurnsUsedUp}
+use Rattle.wires.specs.declared.job.WorkerResult.{WorkerResult}
 use Rattle.fedrun_run.specs.declared.fault.AuditedFault.{AuditedFault}
 use Rattle.fedrun_run.specs.declared.fault.AuditedFault.TheVariants.{NotFinished, Unproved, Memory, CannotWrite}
-use Rattle.fedrun_run.specs.Printed.{claim, printed_reports, PrintsReports, PrintsAudited, IsAuditedFault, IsAuditedFaultOf}
+use Rattle.fedrun_run.specs.Printed.{claim, printed_reports, PrintsReports, PrintsAudited, IsAuditedFault, IsAuditedFaultOf, IsOfTheRun}
+use Rattle.fedrun_run.specs.Reported.{AreReportedBy}
 
 module _ (d : Draft) (programs : List Behaviour) (inputs : List Input) (reports : List Report) (coordinator : List Event) where
   -- the rows of reports that an audit proved, and whose coordinator is finished, are printed
@@ -31,39 +32,48 @@ module _ (d : Draft) (programs : List Behaviour) (inputs : List Input) (reports 
         printed = printed;
       }
 
-  -- where the coordinator isn't finished, that is the fault
-  pub unfinished_so : (audited : AuditedRun) → HasEnded (claim d programs inputs reports coordinator) audited → audited.is_finished ≡ false →
-      IsAuditedFaultOf d programs inputs reports coordinator (NotFinished TurnsUsedUp)
-  unfinished_so audited ended is = (
-    refl,
-    record {
-      steps = audited.steps.items;
-      proved = ended.proved;
-      unfinished = λ finished. let done = ended.finished.1 finished in let bad : ⊥ = cc in bad;
-    },
-  )
+  -- a fault of these reports and this journal, where a run's nodes gave them
+  pub of_some : (left : List (Option WorkerResult)) → AreReportedBy left reports coordinator → (told : AuditedFault) → IsAuditedFaultOf d programs inputs reports coordinator told →
+      IsAuditedFault d programs inputs told
+  of_some left reported (NotFinished cause) is = tt
+  of_some left reported (Unproved failure) is = record { left = left; reports = reports; coordinator = coordinator; reported = reported; fails = is }
+  of_some left reported Memory is = tt
+  of_some left reported CannotWrite is = tt
 
-  -- a fault of these reports and this journal is one of some
-  pub of_some : (told : AuditedFault) → IsAuditedFaultOf d programs inputs reports coordinator told → IsAuditedFault d programs inputs told
-  of_some (NotFinished cause) is = tt
-  of_some (Unproved failure) is = record { reports = reports; coordinator = coordinator; fails = is }
-  of_some Memory is = tt
-  of_some CannotWrite is = tt
+-- the fault of a run whose nodes give nothing to audit
+pub of_the_run : (d : Draft) (programs : List Behaviour) (inputs : List Input) (told : AuditedFault) → IsOfTheRun told → IsAuditedFault d programs inputs told
+of_the_run d programs inputs (NotFinished cause) is = tt
+of_the_run d programs inputs (Unproved failure) (inl other) = let bad : ⊥ = cc in absurd bad
+of_the_run d programs inputs (Unproved failure) (inr other) = let bad : ⊥ = cc in absurd bad
+of_the_run d programs inputs Memory is = tt
+of_the_run d programs inputs CannotWrite is = tt
+
+-- what is passed on of a run's nodes is what they gave
+pub same_said : {reports said : List Report} {coordinator journal : List Event} → reports ≡ said → coordinator ≡ journal →
+    (left : List (Option WorkerResult)) × AreReportedBy left said journal → (left : List (Option WorkerResult)) × AreReportedBy left reports coordinator
+same_said {reports} {said} {coordinator} {journal} same_reports same_journal run = (
+  run.0,
+  subst (λ (rs : List Report). AreReportedBy run.0 rs coordinator) (sym same_reports)
+      (subst (λ (events : List Event). AreReportedBy run.0 said events) (sym same_journal) run.1),
+)
 
 -- the federation of an audit is the one that it was begun for
 pub printed_of_some : (d : Draft) (programs : List Behaviour) (inputs : List Input) (w : WorldView) (reports : List Report) (coordinator : List Event) (before after : Option (List ℕ))
-    (result : Result (Unit {0}) AuditedFault) → w ≡ initial_of d programs inputs → OnOk result (PrintsReports d w.programs w.inputs reports coordinator before after) →
-    OnOk result (PrintsAudited d programs inputs before after)
-printed_of_some d programs inputs w reports coordinator before after result is =
+    (result : Result (Unit {0}) AuditedFault) → (left : List (Option WorkerResult)) × AreReportedBy left reports coordinator → w ≡ initial_of d programs inputs →
+    OnOk result (PrintsReports d w.programs w.inputs reports coordinator before after) → OnOk result (PrintsAudited d programs inputs before after)
+printed_of_some d programs inputs w reports coordinator before after result run is =
     on_ok_weaker {P = PrintsReports d w.programs w.inputs reports coordinator before after} {Q = PrintsAudited d programs inputs before after} result (λ prints. record {
+      left = run.0;
       reports = reports;
       coordinator = coordinator;
+      reported = run.1;
       prints = subst (λ (x : WorldView). PrintsReports d x.programs x.inputs reports coordinator before after) is prints;
     })
 
 pub fault_of_some : (d : Draft) (programs : List Behaviour) (inputs : List Input) (w : WorldView) (reports : List Report) (coordinator : List Event)
-    (result : Result (Unit {0}) AuditedFault) → w ≡ initial_of d programs inputs → IfErr result (IsAuditedFaultOf d w.programs w.inputs reports coordinator) →
-    IfErr result (IsAuditedFault d programs inputs)
-fault_of_some d programs inputs w reports coordinator result is =
+    (result : Result (Unit {0}) AuditedFault) → (left : List (Option WorkerResult)) × AreReportedBy left reports coordinator → w ≡ initial_of d programs inputs →
+    IfErr result (IsAuditedFaultOf d w.programs w.inputs reports coordinator) → IfErr result (IsAuditedFault d programs inputs)
+fault_of_some d programs inputs w reports coordinator result run is =
     IfErr-weaker result (IsAuditedFaultOf d w.programs w.inputs reports coordinator) (IsAuditedFault d programs inputs)
-    (λ told fails. of_some d programs inputs reports coordinator told (subst (λ (x : WorldView). IsAuditedFaultOf d x.programs x.inputs reports coordinator told) is fails))
+    (λ told fails. of_some d programs inputs reports coordinator run.0 run.1 told
+    (subst (λ (x : WorldView). IsAuditedFaultOf d x.programs x.inputs reports coordinator told) is fails))

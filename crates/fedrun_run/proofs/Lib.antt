@@ -1,9 +1,9 @@
 -- Lemmas.
 -- desks to which nothing came, and their ends
 mod Unused
--- reports that aren't taken, and those that are
-mod Refused
+-- reports that are added federate by federate
+mod ByNumber
 -- reports of desks, one after the other
 mod Reports
--- reports that are believed, and those whose coordinator isn't finished
+-- reports that an audit believes, and those that it doesn't
 mod Believed

@@ -1,5 +1,5 @@
 -- Reports of desks, one after the other.
-use Rattle.std.proofs.Common.{◌≡◌, ℕ, true, inl, inr, List, [], ◌∷◌, ◌++◌, length, Option, Result, Ok, Err, IsOkAnd, sym, subst, arith}
+use Rattle.std.proofs.Common.{◌≡◌, ℕ, Bool, true, inl, inr, List, [], ◌∷◌, ◌++◌, length, Option, Result, Ok, Err, IsOkAnd, sym, subst, arith}
 use Rattle.std.proofs.lemmas.List.{length_push}
 use Rattle.std.proofs.lemmas.Option.{slice_get_within}
 use Rattle.node.specs.declared.event.Event.{Event}
@@ -9,12 +9,13 @@ use Rattle.recorder_reports.specs.declared.report.Report.{Report}
 use Rattle.wires.specs.declared.job.WorkerResult.{WorkerResult}
 use Rattle.wires.specs.Gathered.{AreGathered}
 use Rattle.wires.proofs.Pushed.{get_pushed}
-use Rattle.fedrun_run.specs.Reported.{IsReportOf, AreReportsOf, AreReported}
+use Rattle.fedrun_run.specs.Reported.{StationIsReplay, IsReportOf, AreReportsOf, AreReported}
 
 -- one desk more, with its report
-pub one_desk_more : {View : Type 0} (Tells : View → Report → Type 0) (desks : List (Desk View)) (desk : Desk View) (reports after : List Report) (report : Report) (number : ℕ) →
-    after ≡ reports ++ report ∷ [] → number ≡ length reports → AreReportsOf Tells desks reports → IsReportOf Tells number desk report → AreReportsOf Tells (desks ++ desk ∷ []) after
-one_desk_more {View = View} Tells desks desk reports after report number taken counted are is = subst (λ (rs : List Report). AreReportsOf Tells (desks ++ desk ∷ []) rs) (sym taken) (record {
+pub one_desk_more : {View Row : Type 0} (core : Core View Row) (hub : Bool) (Tells : View → Report → Type 0) (desks : List (Desk View)) (desk : Desk View) (reports after : List Report) (report : Report) (number : ℕ) →
+    after ≡ reports ++ report ∷ [] → number ≡ length reports → AreReportsOf core hub Tells desks reports → IsReportOf core hub Tells number desk report →
+    AreReportsOf core hub Tells (desks ++ desk ∷ []) after
+one_desk_more {View = View} core hub Tells desks desk reports after report number taken counted are is = subst (λ (rs : List Report). AreReportsOf core hub Tells (desks ++ desk ∷ []) rs) (sym taken) (record {
   count = let a = length_push desks desk in let b = length_push reports report in let c = are.count in omega arith;
   each = λ j one its there here.
       elim (get_pushed desks desk one j there) [
@@ -26,9 +27,9 @@ one_desk_more {View = View} Tells desks desk reports after report number taken c
           | inl before ↦ let bad : ⊥ = omega (arith, slice_get_within reports j its before, end.0, are.count) in absurd bad
           | inr last ↦
               let same : number ≡ j = omega (arith, counted, last.0) in
-              subst (λ (r : Report). IsReportOf Tells j one r) last.1
-              (subst (λ (d : Desk View). IsReportOf Tells j d report) end.1
-              (subst (λ (k : ℕ). IsReportOf Tells k desk report) same is))
+              subst (λ (r : Report). IsReportOf core hub Tells j one r) last.1
+              (subst (λ (d : Desk View). IsReportOf core hub Tells j d report) end.1
+              (subst (λ (k : ℕ). IsReportOf core hub Tells k desk report) same is))
         ]
       ];
 })
@@ -39,11 +40,27 @@ ok_and (Ok x) P Q follows p = follows x p
 ok_and (Err e) P Q follows p = p
 
 -- what the desks of a finished run say, of which it is known from what they were gathered
-pub reported_so : {OfCoordinator OfFederate Row T E : Type 0} (core : Core OfCoordinator Row) (Tells : OfFederate → Report → Type 0) (items : T → List (Option WorkerResult)) (results : Result T E)
+pub reported_so : {OfCoordinator CoordinatorRow OfFederate FederateRow T E : Type 0} (core : Core OfCoordinator CoordinatorRow) (hub : Bool) (of_federates : Core OfFederate FederateRow) (federates_hub : Bool)
+    (Tells : OfFederate → Report → Type 0) (items : T → List (Option WorkerResult)) (results : Result T E)
     (coordinator : Desk OfCoordinator) (federates : List (Desk OfFederate)) (reports : List Report) (journal : List Event) →
-    IsOkAnd results (λ left. AreGathered coordinator federates (items left)) → core.finished coordinator.station.node ≡ true → journal ≡ coordinator.journal →
-    AreReportsOf Tells federates reports → IsOkAnd results (λ left. AreReported core Tells (items left) reports journal)
-reported_so core Tells items results coordinator federates reports journal gathered finished from are =
-    ok_and results (λ left. AreGathered coordinator federates (items left)) (λ left. AreReported core Tells (items left) reports journal)
-    (λ left p. record { coordinator = coordinator; federates = federates; gathered = p; finished = finished; from_coordinator = from; from_federates = are })
+    IsOkAnd results (λ left. AreGathered coordinator federates (items left)) → StationIsReplay core hub coordinator → core.finished coordinator.station.node ≡ true →
+    journal ≡ coordinator.journal → AreReportsOf of_federates federates_hub Tells federates reports →
+    IsOkAnd results (λ left. AreReported core hub of_federates federates_hub Tells (items left) reports journal)
+reported_so core hub of_federates federates_hub Tells items results coordinator federates reports journal gathered replayed finished from are =
+    ok_and results (λ left. AreGathered coordinator federates (items left)) (λ left. AreReported core hub of_federates federates_hub Tells (items left) reports journal)
+    (λ left p. record {
+      coordinator = coordinator;
+      federates = federates;
+      gathered = p;
+      replayed = replayed;
+      finished = finished;
+      from_coordinator = from;
+      from_federates = are;
+    })
     gathered
+
+-- what is said of what a run's workers left is said of some
+pub of_some_left : {T E : Type 0} (items : T → List (Option WorkerResult)) (results : Result T E) (P : List (Option WorkerResult) → Type 0) →
+    IsOkAnd results (λ left. P (items left)) → (left : List (Option WorkerResult)) × P left
+of_some_left items (Ok left) P said = (items left, said)
+of_some_left items (Err fault) P said = absurd said

@@ -25,7 +25,7 @@ failure_of d (unproved.Stuck node event) = Stuck (node_name d node) event
 failure_of d (unproved.Mismatch j row) = Mismatch (federate_name d j) row
 failure_of d unproved.Memory = Memory
 
--- without memory for a name it is told as out of memory
+-- without memory for a name it is printed as out of memory
 abbrev pub IsFailureOf : Draft → Unproved → AuditFailure → Type 0
 IsFailureOf d fault failure = (failure ≡ Memory) ⊎ (failure ≡ failure_of d fault)
 
@@ -38,7 +38,7 @@ number_of (Stuck node event) = numbers.number_of (unproved.Stuck Coordinator 0)
 number_of (Mismatch name row) = numbers.number_of (unproved.Mismatch 0 0)
 number_of Memory = numbers.number_of unproved.Memory
 
--- what is told after the number
+-- what is printed after the number
 abbrev pub text_of : AuditFailure → List ℕ
 text_of Stranger = codes " Stranger"
 text_of Double = codes " Double"

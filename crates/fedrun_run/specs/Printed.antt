@@ -13,19 +13,18 @@ use Rattle.node.specs.declared.event.Event.{Event}
 use Rattle.world_stations.specs.declared.step.Step.{Step}
 use Rattle.fedrun_text.specs.RowText.{printed_rows}
 use Rattle.fedrun_text.specs.PlanText.{printed_each}
+use Rattle.wires.specs.declared.job.WorkerResult.{WorkerResult}
 use Rattle.wires.specs.declared.run_fault.Cause.{Cause}
 use Rattle.wires.specs.declared.run_fault.Cause.TheVariants.{TurnsUsedUp}
 use Rattle.recorder_reports.specs.declared.report.Report.{Report}
-use Rattle.recorder_reports.specs.declared.report_fault.ReportFault.{ReportFault}
-use Rattle.recorder_reports.specs.declared.report_fault.ReportFault.TheVariants as report_fault
 use Rattle.recorder_reports.specs.declared.unproved.Unproved.{Unproved}
 use Rattle.recorder_reports.specs.Reports.{reported_rows}
 use Rattle.recorder.specs.Audited.{Claim, IsProvedBy, IsFinishedBy, IsUnproved}
 use Rattle.fedrun_run.specs.declared.audit_failure.AuditFailure.{AuditFailure}
-use Rattle.fedrun_run.specs.declared.audit_failure.AuditFailure.TheVariants as failure
 use Rattle.fedrun_run.specs.declared.fault.AuditedFault.{AuditedFault}
 use Rattle.fedrun_run.specs.declared.fault.AuditedFault.TheVariants as fault
 use Rattle.fedrun_run.specs.AuditFailures.{IsFailureOf}
+use Rattle.fedrun_run.specs.Reported.{AreReportedBy}
 
 -- what is audited: the federation's reports and its coordinator's journal
 abbrev pub claim : Draft → List Behaviour → List Input → List Report → List Event → Claim
@@ -51,10 +50,12 @@ pub record PrintsReports (d : Draft) (programs : List Behaviour) (inputs : List 
   -- they are printed, federate by federate
   pub printed : Appends before after (printed_reports d reports)
 
--- the same of some reports and some journal of the coordinator
+-- the same of the reports and the coordinator's journal that a run's nodes gave, from what all its workers left
 pub record PrintsAudited (d : Draft) (programs : List Behaviour) (inputs : List Input) (before after : Option (List ℕ)) : Type 0 where
+  pub left : List (Option WorkerResult)
   pub reports : List Report
   pub coordinator : List Event
+  pub reported : AreReportedBy left reports coordinator
   pub prints : PrintsReports d programs inputs reports coordinator before after
 
 -- an audit doesn't believe these reports with this journal of the coordinator, and answers this failure
@@ -63,10 +64,12 @@ pub record IsAuditFailureOf (d : Draft) (programs : List Behaviour) (inputs : Li
   pub unproved : IsUnproved (claim d programs inputs reports coordinator) fault
   pub answered : IsFailureOf d fault failure
 
--- the same of some reports and some journal of the coordinator
+-- the same of the reports and the coordinator's journal that a run's nodes gave, from what all its workers left
 pub record IsAuditFailure (d : Draft) (programs : List Behaviour) (inputs : List Input) (failure : AuditFailure) : Type 0 where
+  pub left : List (Option WorkerResult)
   pub reports : List Report
   pub coordinator : List Event
+  pub reported : AreReportedBy left reports coordinator
   pub fails : IsAuditFailureOf d programs inputs reports coordinator failure
 
 -- these reports are proved, and this journal doesn't give a finished coordinator
@@ -74,12 +77,6 @@ pub record IsUnfinished (d : Draft) (programs : List Behaviour) (inputs : List I
   pub steps : List Step
   pub proved : IsProvedBy (claim d programs inputs reports coordinator) steps
   pub unfinished : ¬ IsFinishedBy (claim d programs inputs reports coordinator)
-
--- how a report that isn't taken is printed
-abbrev pub fault_of : ReportFault → AuditedFault
-fault_of report_fault.Stranger = fault.Unproved failure.Stranger
-fault_of report_fault.Double = fault.Unproved failure.Double
-fault_of report_fault.Memory = fault.Memory
 
 -- why the rows of these reports, with this journal of the coordinator, aren't printed, or not all of them. Of the output nothing is
 -- said; an audit that is out of memory is among its failures
@@ -99,7 +96,3 @@ IsAuditedFault d programs inputs fault.CannotWrite = Unit {0}
 -- the fault of a run whose nodes give nothing to audit
 abbrev pub IsOfTheRun : AuditedFault → Type 0
 IsOfTheRun answered = ((cause : Cause) × (answered ≡ fault.NotFinished cause)) ⊎ (answered ≡ fault.Memory)
-
--- a fault of a plan's federation, whatever its programs and inputs are
-abbrev pub IsFaultOfPlan : Draft → AuditedFault → Type 0
-IsFaultOfPlan d answered = (programs : List Behaviour) (inputs : List Input) → IsAuditedFault d programs inputs answered

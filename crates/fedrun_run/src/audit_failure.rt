@@ -25,7 +25,7 @@ pub enum AuditFailure {
     /// The journals agree, but the rows of the federate of this name aren't what it computed: the first place, counted from 1, at
     /// which they differ.
     Mismatch { federate: Text, row: usize },
-    /// No memory for the audit, or for the name that is to be told. The same run may be made again.
+    /// No memory for the audit, or for the name that is to be printed. The same run may be made again.
     Memory,
 }
 
@@ -40,7 +40,7 @@ impl AuditFailure {
         }
     }
 
-    /// The number by which it is told: the audit's.
+    /// The number by which it is printed: the audit's.
     pub fn number(&self) -> u16
         ensures { result ≡ number_of self.now }
     {

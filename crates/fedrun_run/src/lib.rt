@@ -1,7 +1,9 @@
 //! A federation run in threads, and its rows printed once they are audited.
 //!
 //! Promise to the layer above: rows are printed only of reports that an audit proved, and whose coordinator is finished: so they
-//! are each federate's whole part of what the undivided program computes (`specs/Printed`).
+//! are each federate's whole part of what the undivided program computes (`specs/Printed`). What is audited, believed or not, is
+//! what the nodes' own desks say: these are gathered from what all workers of a run left, and each one's station is the replay of its
+//! journal (`specs/Reported`). That it is the run just made isn't said.
 //!
 //!     print_audited_run --> desks            a desk for each node
 //!                       --> wires            all nodes in threads, over TCP on loopback

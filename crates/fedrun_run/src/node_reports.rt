@@ -1,16 +1,13 @@
 //! What the desks of a finished run's nodes say.
-ghost use Rattle.std.specs.Prelude.{◌≡◌, true, List, [], ◌∷◌, ◌++◌, IfErr, IfOk, IsOkAnd, OnOk};
+ghost use Rattle.std.specs.Prelude.{◌≡◌, true, length, [], ◌∷◌, ◌++◌, IfErr, IfOk, IsOkAnd, OnOk};
 ghost use Rattle.plan.specs.Federation.{federate_count};
-ghost use Rattle.plan.specs.declared.draft.Draft.{Draft};
-ghost use Rattle.plan.specs.declared.input.Input.{Input};
-ghost use Rattle.reactor_program.specs.Behaviour.{Behaviour};
-ghost use Rattle.recorder_reports.specs.Reports.{AreKnown, IsRefusedFor};
+ghost use Rattle.recorder_reports.specs.Reports.{IsFirst};
 ghost use Rattle.wires.specs.Gathered.{AreGathered};
-ghost use Rattle.fedrun_run.specs.Printed.{IsAuditedFault, IsFaultOfPlan, IsOfTheRun, fault_of};
+ghost use Rattle.fedrun_run.specs.Printed.{IsOfTheRun};
 ghost use Rattle.fedrun_run.specs.Reported.{IsReportOf, AreReportsOf, AreReported};
 
+use crate::AuditedFault;
 use crate::reporting::Reporting;
-use crate::{AuditFailure, AuditedFault};
 use desk::Desk;
 use node::{Event, Node};
 use plan::Plan;
@@ -35,11 +32,14 @@ pub(crate) fn reports_by<'a, H: Node, M: Reporting>(
     nodes: Nodes<H, M>,
     results: Result<Vec<Option<WorkerResult>>, RunFault>,
 ) -> Result<NodeReports<'a>, AuditedFault>
-    ensures ok { IfOk result (λ said. IsOkAnd results (λ left. AreReported H.core M.tells left.items said.reports.reports said.coordinator.items)) }
-    ensures told { IfErr result (IsFaultOfPlan plan.now) }
+    requires each { length nodes.federates.items ≡ federate_count plan.now }
+    ensures ok { IfOk result (λ said. IsOkAnd results (λ left. AreReported H.core H.HUB M.core M.HUB M.tells left.items said.reports.reports said.coordinator.items)) }
+    ensures fault { IfErr result IsOfTheRun }
 {
     let gathered = finished(gathered(alloc, nodes, results))?;
-    let reports = reports_of(alloc, plan, gathered.federates)?;
+    let Ok(reports) = reports_of(alloc, plan, gathered.federates) else {
+        return Err(AuditedFault::Memory);
+    };
     let (_, coordinator) = gathered.coordinator.into_parts();
     Ok(NodeReports {
         reports,
@@ -53,7 +53,8 @@ fn gathered<H: Node, M: Node>(
     nodes: Nodes<H, M>,
     results: Result<Vec<Option<WorkerResult>>, RunFault>,
 ) -> Result<Gathered<H, M>, RunFault>
-    ensures { IfOk result (λ gathered. IsOkAnd results (λ left. AreGathered gathered.coordinator gathered.federates.items left.items)) }
+    ensures each { IfOk result (λ gathered. length gathered.federates.items ≡ length nodes.federates.items) }
+    ensures shares { IfOk result (λ gathered. IsOkAnd results (λ left. AreGathered gathered.coordinator gathered.federates.items left.items)) }
 {
     match results {
         Ok(results) => nodes.gather(alloc, results),
@@ -67,7 +68,7 @@ fn finished<H: Node, M: Node>(
 ) -> Result<Gathered<H, M>, AuditedFault>
     ensures same { IfOk result (λ desks. gathered ≡ Ok desks) }
     ensures finished { IfOk result (λ desks. H.core.finished desks.coordinator.station.node ≡ true) }
-    ensures told { IfErr result IsOfTheRun }
+    ensures fault { IfErr result IsOfTheRun }
 {
     match gathered {
         Ok(desks) => {
@@ -82,14 +83,15 @@ fn finished<H: Node, M: Node>(
     }
 }
 
-// What each federate reports.
+// What each federate reports. There are as many desks as federates, so nothing but memory can be lacking.
 fn reports_of<'a, M: Reporting>(
     alloc: Global,
     plan: &'a Plan,
     desks: Vec<Desk<M>>,
-) -> Result<Collector<'a>, AuditedFault>
-    ensures ok { IfOk result (λ collected. AreReportsOf M.tells desks.items collected.reports) }
-    ensures told { IfErr result (IsFaultOfPlan plan.now) }
+) -> Result<Collector<'a>, ReportFault>
+    requires each { length desks.items ≡ federate_count plan.now }
+    ensures ok { IfOk result (λ collected. AreReportsOf M.core M.HUB M.tells desks.items collected.reports) }
+    ensures memory { IfErr result (λ fault. fault ≡ ReportFault.Memory) }
 {
     let mut reports = Collector::new(alloc, plan);
     for desk in desks {
@@ -99,33 +101,22 @@ fn reports_of<'a, M: Reporting>(
     Ok(reports)
 }
 
-// Adds a report to others.
-fn add(reports: &mut Collector<'_>, report: Report) -> Result<(), AuditedFault>
+// Adds the first report of a federate that is there.
+fn add(reports: &mut Collector<'_>, report: Report) -> Result<(), ReportFault>
+    requires first { IsFirst reports.old report }
     ensures count { reports.new.count ≡ reports.old.count }
     ensures taken { OnOk result (reports.new.reports ≡ reports.old.reports ++ report ∷ []) }
-    ensures known { OnOk result (AreKnown reports.old.count reports.old.reports → AreKnown reports.new.count reports.new.reports) }
-    ensures refused { IfErr result (λ fault. (d : Draft) (programs : List Behaviour) (inputs : List Input) → reports.old.count ≡ federate_count d → AreKnown reports.old.count reports.old.reports → IsAuditedFault d programs inputs fault) }
+    ensures memory { IfErr result (λ fault. fault ≡ ReportFault.Memory) }
 {
     match reports.add(report) {
         Ok(()) => Ok(()),
-        Err(refused) => Err(fault_of(refused.fault)),
-    }
-}
-
-// How a report that isn't taken is printed.
-fn fault_of(fault: ReportFault) -> AuditedFault
-    ensures { result ≡ fault_of fault }
-{
-    match fault {
-        ReportFault::Stranger => AuditedFault::Unproved(AuditFailure::Stranger),
-        ReportFault::Double => AuditedFault::Unproved(AuditFailure::Double),
-        ReportFault::Memory => AuditedFault::Memory,
+        Err(refused) => Err(refused.fault),
     }
 }
 
 // What a federate's desk says: the node's rows, and the journal.
 fn report<M: Reporting>(federate: usize, desk: Desk<M>) -> Report
-    ensures { IsReportOf M.tells federate desk result }
+    ensures { IsReportOf M.core M.HUB M.tells federate desk result }
 {
     let (station, journal) = desk.into_parts();
     station.into_node().report(federate, journal)

@@ -27,7 +27,7 @@ pub fn print_audited<O: Write>(
 ) -> Result<(), AuditedFault>
     requires plan { audit.draft ≡ plan.now }
     ensures ok { OnOk result (PrintsReports plan.now audit.entry.programs audit.entry.inputs reports.now coordinator.now (O.contents out.old) (O.contents out.new)) }
-    ensures told { IfErr result (IsAuditedFaultOf plan.now audit.entry.programs audit.entry.inputs reports.now coordinator.now) }
+    ensures fault { IfErr result (IsAuditedFaultOf plan.now audit.entry.programs audit.entry.inputs reports.now coordinator.now) }
     ensures untouched { IfErr result (λ fault. fault ≢ AuditedFault.CannotWrite → O.contents out.new ≡ O.contents out.old) }
 {
     match audit.conclude(alloc, reports, coordinator) {

@@ -18,7 +18,9 @@ pub(crate) trait Reporting: Node {
 }
 
 impl<'a> Reporting for Federate<'a> {
-    ghost tells = { λ node report. report.rows ≡ node.federate.rows };
+    ghost use Rattle.fedrun_run.specs.Reported.{ReportsRows};
+
+    ghost tells = { ReportsRows };
 
     fn report(self, federate: usize, journal: Vec<Event>) -> Report {
         Report {

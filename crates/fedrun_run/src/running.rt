@@ -1,7 +1,10 @@
-ghost use Rattle.std.specs.Prelude.{◌≡◌, ◌≢◌, OnOk, IfErr};
+ghost use Rattle.std.specs.Prelude.{◌≡◌, ◌≢◌, length, List, Option, OnOk, IfOk, IfErr, IsOkAnd};
+ghost use Rattle.plan.specs.Federation.{federate_count};
 ghost use Rattle.plan.specs.External.{AreInputsOf};
 ghost use Rattle.reactor_programs.specs.Programs.{AreProgramsOf};
-ghost use Rattle.fedrun_run.specs.Printed.{PrintsAudited, IsAuditedFault, IsFaultOfPlan};
+ghost use Rattle.wires.specs.declared.job.WorkerResult.{WorkerResult as IsLeft};
+ghost use Rattle.fedrun_run.specs.Reported.{AreReported};
+ghost use Rattle.fedrun_run.specs.Printed.{PrintsAudited, IsAuditedFault, IsOfTheRun};
 
 use crate::node_reports::{NodeReports, reports_by};
 use crate::reporting::Reporting;
@@ -41,7 +44,7 @@ pub fn print_audited_run<
     requires programs { AreProgramsOf plan.now programs.now }
     requires inputs { AreInputsOf plan.now inputs.now }
     ensures ok { OnOk result (PrintsAudited plan.now programs.now inputs.now (O.contents out.old) (O.contents out.new)) }
-    ensures told { IfErr result (IsAuditedFault plan.now programs.now inputs.now) }
+    ensures fault { IfErr result (IsAuditedFault plan.now programs.now inputs.now) }
     ensures untouched { IfErr result (λ fault. fault ≢ AuditedFault.CannotWrite → O.contents out.new ≡ O.contents out.old) }
 {
     let Ok(audit) = IncrementalAudit::new(alloc, plan, programs, inputs) else {
@@ -76,8 +79,10 @@ fn run_and_ask<
     audit: IncrementalAudit<'a>,
     turns: u32,
 ) -> (IncrementalAudit<'a>, Result<NodeReports<'a>, AuditedFault>)
+    requires each { length nodes.federates.items ≡ federate_count plan.now }
     ensures audit { result.0 ≡ audit.entry }
-    ensures told { IfErr result.1 (IsFaultOfPlan plan.now) }
+    ensures reported { IfOk result.1 (λ said. (left : List (Option IsLeft)) × AreReported H.core H.HUB M.core M.HUB M.tells left said.reports.reports said.coordinator.items) }
+    ensures fault { IfErr result.1 IsOfTheRun }
 {
     let (audit, results) = run_watched(rt, alloc, &nodes, audit, turns);
     take_apart(rt, alloc, plan, nodes, results, audit)
@@ -119,8 +124,10 @@ fn take_apart<'a, R: Threads + Sync, H: Node + Send, M: Reporting + Send>(
     results: Result<Vec<Option<WorkerResult>>, RunFault>,
     mut audit: IncrementalAudit<'a>,
 ) -> (IncrementalAudit<'a>, Result<NodeReports<'a>, AuditedFault>)
+    requires each { length nodes.federates.items ≡ federate_count plan.now }
     ensures audit { result.0 ≡ audit.entry }
-    ensures told { IfErr result.1 (IsFaultOfPlan plan.now) }
+    ensures reported { IfOk result.1 (λ said. IsOkAnd results (λ left. AreReported H.core H.HUB M.core M.HUB M.tells left.items said.reports.reports said.coordinator.items)) }
+    ensures fault { IfErr result.1 IsOfTheRun }
 {
     thread::join(
         rt,
@@ -131,7 +138,9 @@ fn take_apart<'a, R: Threads + Sync, H: Node + Send, M: Reporting + Send>(
             audit
         },
         ||
-            ensures { IfErr result (IsFaultOfPlan plan.entry.now) }
+            requires { length nodes.federates.items ≡ federate_count plan.now }
+            ensures reported { IfOk result (λ said. IsOkAnd results (λ left. AreReported H.core H.HUB M.core M.HUB M.tells left.items said.reports.reports said.coordinator.items)) }
+            ensures fault { IfErr result IsOfTheRun }
         { reports_by(alloc, plan, nodes, results) },
     )
 }
@@ -145,6 +154,7 @@ fn nodes_of<'a>(
 ) -> Result<Nodes<Coordinator<'a>, Federate<'a>>, RunFault>
     requires programs { AreProgramsOf plan.now programs.now }
     requires inputs { AreInputsOf plan.now inputs.now }
+    ensures each { IfOk result (λ nodes. length nodes.federates.items ≡ federate_count plan.now) }
 {
     let Ok(federates) = federate_desks(alloc, plan, programs, inputs) else {
         return Err(RunFault::Memory);

@@ -9,11 +9,10 @@ use std::sync::Wait;
 use std::thread;
 use std::time::{Clock, Duration};
 use wires::Nodes;
+use wires_transports::times::AUDIT_PAUSE_MS;
 
 // How many events are copied at once while a node's lock is held.
 const AT_ONCE: usize = 16_384;
-// How long the nodes are left alone where nothing is new, in ms.
-const PAUSE: u64 = 1;
 
 // Reads what the nodes write down, and makes steps for it; when the run is to end, it only reads what is left. Nothing rests on
 // how much of it is read.
@@ -36,7 +35,7 @@ pub(crate) fn watch<'a, R: Wait + Clock, H: Node, M: Node>(
             if is_new {
                 audit.go_on(alloc);
             } else {
-                thread::sleep(rt, Duration::from_millis(PAUSE));
+                thread::sleep(rt, Duration::from_millis(AUDIT_PAUSE_MS));
             }
         } else if !is_new {
             break;

@@ -75,7 +75,7 @@ pub record IsScriptOf (d : Draft) (file : List ℕ) (s : Script) : Type 0 where
   pub every : map (λ line. line.number) s.lines ≡ asking 1 (lines_of file)
   pub last : s.last_line ≡ line_count file
 
--- what is told of a file; a line that is told is one of its lines
+-- what is answered of a file; a line that is answered is one of its lines
 abbrev pub IsFaultOf : List ℕ → ScriptFault → Type 0
 IsFaultOf file fault.OverLimit = MOST_BYTES < length file
 IsFaultOf file (fault.ScheduleLine number) = (0 < number) × (number ≤ line_count file)

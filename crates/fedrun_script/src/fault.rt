@@ -5,7 +5,7 @@ use plan::InputFault;
 use std::alloc::{AllocError, AllocFailed};
 use std::fmt;
 
-/// Why a schedule isn't taken. Nothing of it is kept. But for `Memory`, whoever wrote the file caused it: the caller tells them, and
+/// Why a schedule isn't taken. Nothing of it is kept. But for `Memory`, whoever wrote the file caused it: the caller prints them, and
 /// may read it again once it is changed.
 #[derive(Clone, Copy, Debug, PartialEq, Eq)]
 pub enum ScriptFault {

@@ -1,7 +1,7 @@
 //! The schedule file: which steps a world is to make, line by line.
 //!
 //! Promise to the layer above: `read_script` gives the commands of a file in their order, each with the number of its line, and each
-//! about federates of the plan (`specs/Scripts`); or it tells the first line that is none. What a line may say stands in `command`;
+//! about federates of the plan (`specs/Scripts`); or it answers the first line that is none. What a line may say stands in `command`;
 //! that its words are read so is shown by tests. Begin with `script`, then `command`.
 #![tactic(auto)]
 

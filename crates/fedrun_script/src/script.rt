@@ -51,7 +51,7 @@ impl Script {
     }
 }
 
-/// The commands of a schedule file for a plan. Of a file that is too long nothing else is told; of others the first line that is no
+/// The commands of a schedule file for a plan. Of a file that is too long nothing else is answered; of others the first line that is no
 /// command, or out of memory.
 pub fn read_script(alloc: Global, bytes: &[u8], plan: &Plan) -> Result<Script, ScriptFault>
     ensures ok { IfOk result (IsScriptOf plan.now bytes.now) }

@@ -13,6 +13,6 @@ mod spelling;
 mod tags;
 
 pub use memory::Memory;
-pub use plans::plan_text;
+pub use plans::{federate_name, plan_text};
 pub use put::CannotWrite;
 pub use rows::write_rows;

@@ -45,7 +45,7 @@ fn push_rank(text: &mut String, plan: &Plan, federate: usize) -> Result<(), Allo
     requires { federate < federate_count plan.now }
     ensures { OnOk result (string_bytes text.new ≡ string_bytes text.old ++ printed_rank plan.now federate) }
 {
-    let name = name_of(plan, federate);
+    let name = federate_name(plan, federate);
     let rank = plan.rank(federate);
     write!(text, "{name} rank {rank}\n")
 }
@@ -84,8 +84,8 @@ fn push_least_delay(
 {
     match plan.least(from, to) {
         Some(delay) => {
-            let from = name_of(plan, from);
-            let to = name_of(plan, to);
+            let from = federate_name(plan, from);
+            let to = federate_name(plan, to);
             write!(text, "{from} -> {to} least {delay}\n")
         }
         None => Ok(()),
@@ -93,7 +93,7 @@ fn push_least_delay(
 }
 
 /// The name of a federate; empty where there is none.
-fn name_of(plan: &Plan, federate: usize) -> &str
+pub fn federate_name(plan: &Plan, federate: usize) -> &str
     ensures { result.now ≡ federate_name plan.now federate }
 {
     match plan.federates().get(federate) {

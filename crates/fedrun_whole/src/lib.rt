@@ -1,21 +1,20 @@
-//! The commands of a federation that isn't divided into nodes: `whole` and `check`.
+//! `whole` and `check`, the commands of a federation that isn't divided into nodes: every program has them. And the command of a
+//! program that has no more.
 //!
 //! Promise to the layer above: with status 0, what the words ask for was printed (`specs/Printed`); with another status, a fault
-//! stands (`specs/Refused`), and it is told on one line (`specs/Faults`). What is printed of the undivided program is the rows of
-//! so many turns, or of those before the one that found no memory (`specs/PrintedTurns`). Begin with `command` in `answering.rt`,
-//! then `requests.rt` and `turns.rt`.
+//! stands (`specs/Refused`), and it is printed on one line. What is printed of the undivided program is the rows of so many turns,
+//! or of those before the one that found no memory (`specs/PrintedTurns`). Begin with `whole` in `requests.rt`, then
+//! `turns.rt`; `command` in `answering.rt` is the program `fedwhole`.
 #![tactic(auto)]
 
 pub mod answering;
-pub mod fault;
 mod printing;
 pub mod requests;
 pub mod turns;
 
-pub use answering::{command, refuse};
-pub use fault::Fault;
-pub use requests::{check, requested, whole};
-pub use turns::{TurnsFault, print_turns};
+pub use answering::{answer, command};
+pub use requests::{check, whole};
+pub use turns::print_turns;
 
 /// So many bytes a program gives to standard output at once.
 pub const OUT_BYTES: usize = 1 << 16;

@@ -1,9 +1,12 @@
-ghost use Rattle.std.specs.Prelude.{◌≡◌, ◌≢◌, ◌<◌, ◌≤◌, ℕ, List, [], Option, IfOk, IfErr, OnOk, OnErr};
+ghost use Rattle.std.specs.Prelude.{◌≡◌, ◌<◌, ◌≤◌, ℕ, List, [], Option, IfOk, IfErr, OnOk, OnErr};
 ghost use Rattle.plan.specs.External.{AreInputsOf};
 ghost use Rattle.reactor_programs.specs.Programs.{AreProgramsOf};
 ghost use Rattle.whole.specs.Progress.{pending_in};
+ghost use Rattle.fedrun_fault.specs.Faults.{status_of};
 ghost use Rattle.fedrun_whole.specs.PrintedTurns.{PrintsRows, PrintsFirstRows, IsPrinted, let_go_after};
+ghost use Rattle.fedrun_whole.specs.Refused.{IsTurnsFault};
 
+use fedrun_fault::{Fault, MoreFault};
 use fedrun_text::{CannotWrite, write_rows};
 use plan::{Inputs, Plan};
 use reactor_programs::Programs;
@@ -14,58 +17,51 @@ use whole::Whole;
 /// Of how many turns the rows are kept before they are written.
 const TURNS_AT_ONCE: u32 = 1024;
 
-/// Why not all rows are printed.
-#[derive(Clone, Copy, Debug, PartialEq, Eq)]
-pub enum TurnsFault {
-    /// No memory for a turn: the rows of the turns before it are written. The call may be made again, with fewer turns.
-    Memory(reactor::Memory),
-    /// The output refused a write. How much of the text it took isn't known.
-    CannotWrite,
-}
-
 /// Prints the rows of the undivided program after at most so many turns, one a line, as they are made. Where there is no
 /// memory for a turn, the rows before it are written.
-pub fn print_turns<O: Write>(
+pub fn print_turns<M: MoreFault, O: Write>(
     alloc: Global,
     plan: &Plan,
     programs: &Programs,
     inputs: &Inputs,
     turns: u32,
     out: &mut O,
-) -> Result<(), TurnsFault>
+) -> Result<(), Fault<'static, M>>
     requires programs { AreProgramsOf plan.now programs.now }
     requires inputs { AreInputsOf plan.now inputs.now }
     ensures ok { OnOk result (PrintsRows plan.now programs.now inputs.now turns (O.contents out.old) (O.contents out.new)) }
-    ensures stopped { IfErr result (λ fault. fault ≢ TurnsFault.CannotWrite → PrintsFirstRows plan.now programs.now inputs.now turns (O.contents out.old) (O.contents out.new)) }
+    ensures stands { IfErr result (IsTurnsFault plan.now programs.now inputs.now turns (O.contents out.old) (O.contents out.new)) }
+    ensures late { IfErr result (λ fault. status_of M.status_of fault ≡ 3) }
 {
     match Whole::new(alloc, plan, programs, inputs) {
         Ok(mut program) => print_all(&mut program, plan, turns, out),
-        Err(memory) => Err(TurnsFault::Memory(memory)),
+        Err(memory) => Err(Fault::Turns(memory)),
     }
 }
 
 /// Prints the rows of at most so many turns, and hands all of the text on.
-fn print_all<O: Write>(
+fn print_all<M: MoreFault, O: Write>(
     program: &mut Whole<'_>,
     plan: &Plan,
     turns: u32,
     out: &mut O,
-) -> Result<(), TurnsFault>
+) -> Result<(), Fault<'static, M>>
     requires draft { program.old.draft ≡ plan.now }
     requires none_made { program.old.turns ≡ 0 }
     requires none_discarded { program.old.discarded ≡ 0 }
     ensures ok { OnOk result (PrintsRows plan.now program.old.programs program.old.inputs turns (O.contents out.old) (O.contents out.new)) }
-    ensures stopped { IfErr result (λ fault. fault ≢ TurnsFault.CannotWrite → PrintsFirstRows plan.now program.old.programs program.old.inputs turns (O.contents out.old) (O.contents out.new)) }
+    ensures stands { IfErr result (IsTurnsFault plan.now program.old.programs program.old.inputs turns (O.contents out.old) (O.contents out.new)) }
+    ensures late { IfErr result (λ fault. status_of M.status_of fault ≡ 3) }
 {
     let Ok(turned) = print_in_batches(program, plan, turns, out) else {
-        return Err(TurnsFault::CannotWrite);
+        return Err(Fault::CannotWrite);
     };
     if out.flush().is_err() {
-        return Err(TurnsFault::CannotWrite);
+        return Err(Fault::CannotWrite);
     }
     match turned {
         Ok(()) => Ok(()),
-        Err(memory) => Err(TurnsFault::Memory(memory)),
+        Err(memory) => Err(Fault::Turns(memory)),
     }
 }
 

@@ -85,12 +85,12 @@ written_more a b c bytes done count so_far more =
     subst (Appends a c) (ap (λ l. take done bytes ++ take count l) (take_rest bytes done) ∙ sym (take-add done count bytes))
     (Appends-trans a b c (take done bytes) (take count (take (length bytes - done) (drop done bytes))) so_far more)
 
--- what was told of a text grows by what was written of the next piece
-pub told_grows : (output : Option (List ℕ)) (a b c : Option (List ℕ)) (told count : ℕ) (piece slice : List ℕ)
+-- what was printed of a text grows by what was written of the next piece
+pub printed_grows : (output : Option (List ℕ)) (a b c : Option (List ℕ)) (told count : ℕ) (piece slice : List ℕ)
     → IfSome output (λ text. Appends a b (take told text)) → IfSome output (λ text. piece ≡ take PIECE (drop told text)) → slice ≡ piece
     → Appends b c (take count slice) → count ≤ length slice → IfSome output (λ text. Appends a c (take (told + count) text))
-told_grows None a b c told count piece slice so_far piece_is slice_is written few = tt
-told_grows (Some text) a b c told count piece slice so_far piece_is slice_is written few =
+printed_grows None a b c told count piece slice so_far piece_is slice_is written few = tt
+printed_grows (Some text) a b c told count piece slice so_far piece_is slice_is written few =
     let few_enough : count ≤ PIECE = omega (arith, few, ap length (slice_is ∙ piece_is), length-take PIECE (drop told text)) in
     let next : take count slice ≡ take count (drop told text) =
     ap (take count) (slice_is ∙ piece_is) ∙ take-take count PIECE (drop told text) few_enough in

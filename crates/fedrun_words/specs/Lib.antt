@@ -1,4 +1,4 @@
--- What a writer gains of a text that is told.
+-- What a writer gains of a text that is printed.
 -- the program's lines
 pub mod Lines
 -- prefixes and pieces

@@ -1,4 +1,4 @@
--- The line on which the program tells a text.
+-- The line on which the program prints a text.
 use Rattle.std.specs.Prelude.{◌≡◌, ℕ, List, ◌++◌, codes, Option, None, Some}
 
 -- the line of a text
@@ -10,9 +10,9 @@ abbrev pub displayed_line : Option (List ℕ) → Option (List ℕ)
 displayed_line None = None
 displayed_line (Some text) = Some (line_of text)
 
--- a fault that stands was told: the exit status is its own, and of its line and no other this holds
-pub record Tells {Fault : Type 0} (Stands : Fault → Type 0) (status_of : Fault → ℕ) (printed_fault : Fault → List ℕ) (status : ℕ) (IsTold : List ℕ → Type 0) : Type 0 where
+-- a fault that stands was printed: the exit status is its own, and of its line and no other this holds
+pub record PrintsFault {Fault : Type 0} (Stands : Fault → Type 0) (status_of : Fault → ℕ) (printed_fault : Fault → List ℕ) (status : ℕ) (IsGained : List ℕ → Type 0) : Type 0 where
   pub fault : Fault
   pub stands : Stands fault
   pub status_is : status ≡ status_of fault
-  pub line : IsTold (line_of (printed_fault fault))
+  pub line : IsGained (line_of (printed_fault fault))

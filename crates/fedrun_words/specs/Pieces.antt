@@ -8,7 +8,7 @@ abbrev pub AppendsPrefix : Option (List ℕ) → Option (List ℕ) → List ℕ 
 AppendsPrefix before after text = (count : ℕ) × Appends before after (take count text)
 
 -- the same, and by all of it where that is said
-pub record AppendsTold (is_whole : Bool) (before after : Option (List ℕ)) (text : List ℕ) : Type 0 where
+pub record AppendsPrinted (is_whole : Bool) (before after : Option (List ℕ)) (text : List ℕ) : Type 0 where
   pub begun : AppendsPrefix before after text
   pub whole : IsTrue is_whole → Appends before after text
 

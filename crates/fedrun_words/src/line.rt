@@ -1,6 +1,6 @@
 use std::fmt;
 
-/// The line on which a text is told.
+/// The line on which a text is printed.
 #[derive(Drop)]
 pub(crate) struct ProgramLine<'a, D>(pub &'a D);
 

@@ -1,7 +1,7 @@
 ghost use Rattle.std.specs.Prelude.{◌≡◌, ◌≤◌, IfSome, IsTrue, length, take, drop};
 ghost use Rattle.std.specs.Io.KnownBytes.{Appends};
 ghost use Rattle.fedrun_words.specs.Lines.{line_of};
-ghost use Rattle.fedrun_words.specs.Pieces.{AppendsPrefix, AppendsTold};
+ghost use Rattle.fedrun_words.specs.Pieces.{AppendsPrefix, AppendsPrinted};
 ghost use Rattle.fedrun_words.specs.declared.piece.TheConstants.{PIECE};
 
 use crate::line::ProgramLine;
@@ -10,15 +10,15 @@ use arrayvec::ArrayVec;
 use std::fmt::{Display, Write as _};
 use std::io::{ErrorKind, Write};
 
-/// Tells a text on a line of the program's own, and says whether all of it was written.
-pub fn tell_line<E: Write, D: Display>(err: &mut E, text: &D) -> bool
-    ensures { IfSome (D.output text.now) (λ bytes. AppendsTold result (E.contents err.old) (E.contents err.new) (line_of bytes)) }
+/// Prints a text on a line of the program's own, and says whether all of it was written.
+pub fn print_line<E: Write, D: Display>(err: &mut E, text: &D) -> bool
+    ensures { IfSome (D.output text.now) (λ bytes. AppendsPrinted result (E.contents err.old) (E.contents err.new) (line_of bytes)) }
 {
-    tell(err, &ProgramLine(text))
+    print_text(err, &ProgramLine(text))
 }
 
-/// Tells a text, and says whether all of it was written. A writer that was interrupted is asked again.
-pub fn tell<E: Write, D: Display>(err: &mut E, text: &D) -> bool
+/// Prints a text, and says whether all of it was written. A writer that was interrupted is asked again.
+pub fn print_text<E: Write, D: Display>(err: &mut E, text: &D) -> bool
     ensures begun { IfSome (D.output text.now) (AppendsPrefix (E.contents err.old) (E.contents err.new)) }
     ensures whole { IsTrue result → IfSome (D.output text.now) (Appends (E.contents err.old) (E.contents err.new)) }
 {

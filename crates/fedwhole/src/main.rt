@@ -3,8 +3,9 @@
 //! All it does is `fedrun_whole::command`, a function over words, files and writers; `main` hands it the machine's.
 #![tactic(auto)]
 
+use fedrun_fault::{Fault, NoSuchCommand, refuse};
 use fedrun_files::MachineFiles;
-use fedrun_whole::{Fault, OUT_BYTES, command, refuse};
+use fedrun_whole::{OUT_BYTES, command};
 use fedrun_words::{WordsFault, given_words};
 use std::io::{BufWriter, Stderr};
 use std::process::ExitCode;
@@ -13,7 +14,10 @@ fn main(rt: HostRuntime) -> ExitCode {
     let mut err = rt.stderr();
     let status = match perform(&rt, &mut err) {
         Ok(status) => status,
-        Err(why) => refuse(&Fault::of_words(why), &mut err),
+        Err(why) => {
+            let fault: Fault<'_, NoSuchCommand> = Fault::of_words(why);
+            refuse(&fault, &mut err).status
+        }
     };
     ExitCode::from(status)
 }

@@ -1,4 +1,4 @@
--- What a change of one standing leaves: who is eligible, and how many that are not so any more.
+-- What a change of one record leaves: who is eligible, and how many that are not so any more.
 use Rattle.std.proofs.Common.{◌≡◌, ℕ, ◌+◌, ◌<◌, ◌≤◌, Bool, true, false, List, [], ◌∷◌, length, refl, sym, ap, ◌∙◌, arith, length-set, inl, inr, Option, None, Some}
 use Rattle.std.specs.Prelude.{nat_eq, is_some, if◌then◌else◌, slice_get, slice_index_or, slice_set, MatchOption}
 use Rattle.std.proofs.Math.Path.{fun_ext}
@@ -8,9 +8,9 @@ use Rattle.tag.specs.LogicalTime.{LogicalTime}
 use Rattle.network.specs.Connection.{Connection, IsPath, IsLeastDelay, IsUnreachable}
 use Rattle.network.specs.Network.{with_one}
 use Rattle.protocol_laws.proofs.Eligibility.{contains_at}
-use Rattle.protocol_laws.proofs.ListedStandings.{list_read}
-use Rattle.protocol.specs.Standing.{Standing, initial_standing}
-use Rattle.protocol.specs.Standings.{standing_at, standings_listed}
+use Rattle.protocol_laws.proofs.ListedFederateRecords.{list_read}
+use Rattle.protocol.specs.FederateRecord.{FederateRecord, initial_federate_record}
+use Rattle.protocol.specs.FederateRecords.{federate_record_at, federate_records_listed}
 use Rattle.grants.specs.Wires.{Wires, AreWires, least_by, network_by}
 use Rattle.grants.specs.Records.{is_eligible_by}
 use Rattle.grants.specs.Looks.{count_below, has_path, reached_from, differ}
@@ -21,42 +21,42 @@ use Rattle.grants.proofs.Numbered.{length_listed, count_weaker, count_one, count
 use Rattle.grants.proofs.Eligible.{eligible_same}
 use Rattle.grants.proofs.Flags.{flags_stay_as_many, set_flag_is, other_flag_stays}
 
--- ---- one standing is replaced
+-- ---- one record is replaced
 
-pub other_standing : (standings : List Standing) (i j : ℕ) (mine : Standing) → (j ≡ i → ⊥) → standing_at (slice_set standings i mine) j ≡ standing_at standings j
-other_standing standings i j mine n = get_or-set_other standings i j mine initial_standing n
+pub other_federate_record : (federate_records : List FederateRecord) (i j : ℕ) (mine : FederateRecord) → (j ≡ i → ⊥) → federate_record_at (slice_set federate_records i mine) j ≡ federate_record_at federate_records j
+other_federate_record federate_records i j mine n = get_or-set_other federate_records i j mine initial_federate_record n
 
-own_standing : (standings : List Standing) (i : ℕ) (mine : Standing) → i < length standings → standing_at (slice_set standings i mine) i ≡ mine
-own_standing standings i mine l = get_or-set_same standings i mine initial_standing l
+own_federate_record : (federate_records : List FederateRecord) (i : ℕ) (mine : FederateRecord) → i < length federate_records → federate_record_at (slice_set federate_records i mine) i ≡ mine
+own_federate_record federate_records i mine l = get_or-set_same federate_records i mine initial_federate_record l
 
 -- what the new one has as the old one had
-field_stays : {A : Type 0} (f : Standing → A) (standings : List Standing) (i : ℕ) (mine : Standing) → i < length standings → f mine ≡ f (standing_at standings i) →
-    (k : ℕ) → f (standing_at (slice_set standings i mine) k) ≡ f (standing_at standings k)
-field_stays f standings i mine l e k =
+field_stays : {A : Type 0} (f : FederateRecord → A) (federate_records : List FederateRecord) (i : ℕ) (mine : FederateRecord) → i < length federate_records → f mine ≡ f (federate_record_at federate_records i) →
+    (k : ℕ) → f (federate_record_at (slice_set federate_records i mine) k) ≡ f (federate_record_at federate_records k)
+field_stays f federate_records i mine l e k =
     elim (cases_eq k i) [
       | inl same ↦
-          ap (λ x. f (standing_at (slice_set standings i mine) x)) same ∙ ap f (own_standing standings i mine l) ∙ e ∙ ap (λ x. f (standing_at standings x)) (sym same)
-      | inr n ↦ ap f (other_standing standings i k mine n)
+          ap (λ x. f (federate_record_at (slice_set federate_records i mine) x)) same ∙ ap f (own_federate_record federate_records i mine l) ∙ e ∙ ap (λ x. f (federate_record_at federate_records x)) (sym same)
+      | inr n ↦ ap f (other_federate_record federate_records i k mine n)
     ]
 
-replaced_at : (standings : List Standing) (i : ℕ) (mine : Standing) → i < length standings → (j : ℕ) → standing_at (slice_set standings i mine) j ≡ with_one (standing_at standings) i mine j
-replaced_at standings i mine l j =
+replaced_at : (federate_records : List FederateRecord) (i : ℕ) (mine : FederateRecord) → i < length federate_records → (j : ℕ) → federate_record_at (slice_set federate_records i mine) j ≡ with_one (federate_record_at federate_records) i mine j
+replaced_at federate_records i mine l j =
     elim (cases_eq j i) [
       | inl same ↦
-          ap (standing_at (slice_set standings i mine)) same ∙ own_standing standings i mine l
-          ∙ ap (λ b. if b then mine else standing_at standings j) (sym (eq-eqb j i same))
-      | inr n ↦ other_standing standings i j mine n ∙ ap (λ b. if b then mine else standing_at standings j) (sym (ne_eqb j i n))
+          ap (federate_record_at (slice_set federate_records i mine)) same ∙ own_federate_record federate_records i mine l
+          ∙ ap (λ b. if b then mine else federate_record_at federate_records j) (sym (eq-eqb j i same))
+      | inr n ↦ other_federate_record federate_records i j mine n ∙ ap (λ b. if b then mine else federate_record_at federate_records j) (sym (ne_eqb j i n))
     ]
 
-pub is_replaced : (standings : List Standing) (i : ℕ) (mine : Standing) → i < length standings → standing_at (slice_set standings i mine) ≡ with_one (standing_at standings) i mine
-is_replaced standings i mine l = fun_ext (replaced_at standings i mine l)
+pub is_replaced : (federate_records : List FederateRecord) (i : ℕ) (mine : FederateRecord) → i < length federate_records → federate_record_at (slice_set federate_records i mine) ≡ with_one (federate_record_at federate_records) i mine
+is_replaced federate_records i mine l = fun_ext (replaced_at federate_records i mine l)
 
-pub replaced_is_listed : (standings : List Standing) (i : ℕ) (mine : Standing) → i < length standings →
-    standings_listed (length standings) (with_one (standing_at standings) i mine) ≡ slice_set standings i mine
-replaced_is_listed standings i mine l =
-    ap (standings_listed (length standings)) (sym (is_replaced standings i mine l))
-    ∙ ap (λ n. standings_listed n (standing_at (slice_set standings i mine))) (sym (length-set standings i mine))
-    ∙ list_read (slice_set standings i mine)
+pub replaced_is_listed : (federate_records : List FederateRecord) (i : ℕ) (mine : FederateRecord) → i < length federate_records →
+    federate_records_listed (length federate_records) (with_one (federate_record_at federate_records) i mine) ≡ slice_set federate_records i mine
+replaced_is_listed federate_records i mine l =
+    ap (federate_records_listed (length federate_records)) (sym (is_replaced federate_records i mine l))
+    ∙ ap (λ n. federate_records_listed n (federate_record_at (slice_set federate_records i mine))) (sym (length-set federate_records i mine))
+    ∙ list_read (slice_set federate_records i mine)
 
 -- ---- who is not i and hears nothing from i
 
@@ -81,113 +81,113 @@ is_not w i j away same =
     let some : nat_eq j i ≡ true = eq-eqb j i same in
     cc
 
-pub others_stay : (w : Wires) (standings : List Standing) (i j : ℕ) (mine : Standing) → AreWires w → may_change w i j ≡ false →
-    is_eligible_by w (slice_set standings i mine) j ≡ is_eligible_by w standings j
-others_stay w standings i j mine are away =
-    let own = other_standing standings i j mine (is_not w i j away) in
-    eligible_same (network_by w) (least_by w) j (standing_at standings) (standing_at (slice_set standings i mine)) are.wired are.least
+pub others_stay : (w : Wires) (federate_records : List FederateRecord) (i j : ℕ) (mine : FederateRecord) → AreWires w → may_change w i j ≡ false →
+    is_eligible_by w (slice_set federate_records i mine) j ≡ is_eligible_by w federate_records j
+others_stay w federate_records i j mine are away =
+    let own = other_federate_record federate_records i j mine (is_not w i j away) in
+    eligible_same (network_by w) (least_by w) j (federate_record_at federate_records) (federate_record_at (slice_set federate_records i mine)) are.wired are.least
     (record {
-      announced = ap (λ (s : Standing). s.announced) own;
-      granted = ap (λ (s : Standing). s.granted) own;
-      next = ap (λ (s : Standing). s.next) own;
-      paths = λ k path. ap (λ (s : Standing). s.next) (other_standing standings i k mine (hears_not w i j away k path));
+      announced = ap (λ (s : FederateRecord). s.announced) own;
+      granted = ap (λ (s : FederateRecord). s.granted) own;
+      next = ap (λ (s : FederateRecord). s.next) own;
+      paths = λ k path. ap (λ (s : FederateRecord). s.next) (other_federate_record federate_records i k mine (hears_not w i j away k path));
       completed =
-          λ k c e t. ap (λ (s : Standing). s.completed) (other_standing standings i c.source mine (hears_not w i j away c.source (connected w j k c are e t)));
+          λ k c e t. ap (λ (s : FederateRecord). s.completed) (other_federate_record federate_records i c.source mine (hears_not w i j away c.source (connected w j k c are e t)));
     })
 
 -- ---- where next and completed stay
 
-pub alone_changes : (w : Wires) (standings : List Standing) (i j : ℕ) (mine : Standing) → AreWires w → i < length standings →
-    mine.next ≡ (standing_at standings i).next → mine.completed ≡ (standing_at standings i).completed → (j ≡ i → ⊥) →
-    is_eligible_by w (slice_set standings i mine) j ≡ is_eligible_by w standings j
-alone_changes w standings i j mine are l next completed n =
-    let own = other_standing standings i j mine n in
-    eligible_same (network_by w) (least_by w) j (standing_at standings) (standing_at (slice_set standings i mine)) are.wired are.least
+pub alone_changes : (w : Wires) (federate_records : List FederateRecord) (i j : ℕ) (mine : FederateRecord) → AreWires w → i < length federate_records →
+    mine.next ≡ (federate_record_at federate_records i).next → mine.completed ≡ (federate_record_at federate_records i).completed → (j ≡ i → ⊥) →
+    is_eligible_by w (slice_set federate_records i mine) j ≡ is_eligible_by w federate_records j
+alone_changes w federate_records i j mine are l next completed n =
+    let own = other_federate_record federate_records i j mine n in
+    eligible_same (network_by w) (least_by w) j (federate_record_at federate_records) (federate_record_at (slice_set federate_records i mine)) are.wired are.least
     (record {
-      announced = ap (λ (s : Standing). s.announced) own;
-      granted = ap (λ (s : Standing). s.granted) own;
-      next = ap (λ (s : Standing). s.next) own;
-      paths = λ k path. field_stays (λ (s : Standing). s.next) standings i mine l next k;
-      completed = λ k c e t. field_stays (λ (s : Standing). s.completed) standings i mine l completed c.source;
+      announced = ap (λ (s : FederateRecord). s.announced) own;
+      granted = ap (λ (s : FederateRecord). s.granted) own;
+      next = ap (λ (s : FederateRecord). s.next) own;
+      paths = λ k path. field_stays (λ (s : FederateRecord). s.next) federate_records i mine l next k;
+      completed = λ k c e t. field_stays (λ (s : FederateRecord). s.completed) federate_records i mine l completed c.source;
     })
 
 -- where what i completed alone changes, all stay to whom no connection leads from it
-pub completed_stays : (w : Wires) (standings : List Standing) (i j : ℕ) (completed : Option LogicalTime) → AreWires w → i < length standings → leads w.connections i j ≡ false →
-    is_eligible_by w (slice_set standings i (record (standing_at standings i) { completed = completed })) j ≡ is_eligible_by w standings j
-completed_stays w standings i j completed are l away =
-    let mine : Standing = record (standing_at standings i) { completed = completed } in
-    eligible_same (network_by w) (least_by w) j (standing_at standings) (standing_at (slice_set standings i mine)) are.wired are.least
+pub completed_stays : (w : Wires) (federate_records : List FederateRecord) (i j : ℕ) (completed : Option LogicalTime) → AreWires w → i < length federate_records → leads w.connections i j ≡ false →
+    is_eligible_by w (slice_set federate_records i (record (federate_record_at federate_records i) { completed = completed })) j ≡ is_eligible_by w federate_records j
+completed_stays w federate_records i j completed are l away =
+    let mine : FederateRecord = record (federate_record_at federate_records i) { completed = completed } in
+    eligible_same (network_by w) (least_by w) j (federate_record_at federate_records) (federate_record_at (slice_set federate_records i mine)) are.wired are.least
     (record {
-      announced = field_stays (λ (s : Standing). s.announced) standings i mine l refl j;
-      granted = field_stays (λ (s : Standing). s.granted) standings i mine l refl j;
-      next = field_stays (λ (s : Standing). s.next) standings i mine l refl j;
-      paths = λ k path. field_stays (λ (s : Standing). s.next) standings i mine l refl k;
-      completed = λ k c e t. ap (λ (s : Standing). s.completed) (other_standing standings i c.source mine
+      announced = field_stays (λ (s : FederateRecord). s.announced) federate_records i mine l refl j;
+      granted = field_stays (λ (s : FederateRecord). s.granted) federate_records i mine l refl j;
+      next = field_stays (λ (s : FederateRecord). s.next) federate_records i mine l refl j;
+      paths = λ k path. field_stays (λ (s : FederateRecord). s.next) federate_records i mine l refl k;
+      completed = λ k c e t. ap (λ (s : FederateRecord). s.completed) (other_federate_record federate_records i c.source mine
           (λ same. (let leading : leads w.connections i j ≡ true = leads_by w.connections i j k c e same t in let bad : ⊥ = cc in bad)));
     })
 
 -- where the tags in transit alone change, all stay
-pub none_changes : (w : Wires) (standings : List Standing) (i j : ℕ) (transit : List LogicalTime) → AreWires w → i < length standings →
-    is_eligible_by w (slice_set standings i (record (standing_at standings i) { transit = transit })) j ≡ is_eligible_by w standings j
-none_changes w standings i j transit are l =
-    let mine : Standing = record (standing_at standings i) { transit = transit } in
-    eligible_same (network_by w) (least_by w) j (standing_at standings) (standing_at (slice_set standings i mine)) are.wired are.least
+pub none_changes : (w : Wires) (federate_records : List FederateRecord) (i j : ℕ) (transit : List LogicalTime) → AreWires w → i < length federate_records →
+    is_eligible_by w (slice_set federate_records i (record (federate_record_at federate_records i) { transit = transit })) j ≡ is_eligible_by w federate_records j
+none_changes w federate_records i j transit are l =
+    let mine : FederateRecord = record (federate_record_at federate_records i) { transit = transit } in
+    eligible_same (network_by w) (least_by w) j (federate_record_at federate_records) (federate_record_at (slice_set federate_records i mine)) are.wired are.least
     (record {
-      announced = field_stays (λ (s : Standing). s.announced) standings i mine l refl j;
-      granted = field_stays (λ (s : Standing). s.granted) standings i mine l refl j;
-      next = field_stays (λ (s : Standing). s.next) standings i mine l refl j;
-      paths = λ k path. field_stays (λ (s : Standing). s.next) standings i mine l refl k;
-      completed = λ k c e t. field_stays (λ (s : Standing). s.completed) standings i mine l refl c.source;
+      announced = field_stays (λ (s : FederateRecord). s.announced) federate_records i mine l refl j;
+      granted = field_stays (λ (s : FederateRecord). s.granted) federate_records i mine l refl j;
+      next = field_stays (λ (s : FederateRecord). s.next) federate_records i mine l refl j;
+      paths = λ k path. field_stays (λ (s : FederateRecord). s.next) federate_records i mine l refl k;
+      completed = λ k c e t. field_stays (λ (s : FederateRecord). s.completed) federate_records i mine l refl c.source;
     })
 
 -- ---- the flags
 
-flag_by : (w : Wires) (standings : List Standing) (flags : List Bool) (i j : ℕ) (mine : Standing) (test : ℕ → Bool) → IsKept w standings flags → j < w.federates →
-    (test j ≡ false → is_eligible_by w (slice_set standings i mine) j ≡ is_eligible_by w standings j) → (b : Bool) → test j ≡ b →
-    slice_index_or (flags_after (is_eligible_by w (slice_set standings i mine)) (listed_below w.federates test) flags) j false ≡ is_eligible_by w (slice_set standings i mine) j
-flag_by w standings flags i j mine test kept l stays true e =
+flag_by : (w : Wires) (federate_records : List FederateRecord) (flags : List Bool) (i j : ℕ) (mine : FederateRecord) (test : ℕ → Bool) → IsKept w federate_records flags → j < w.federates →
+    (test j ≡ false → is_eligible_by w (slice_set federate_records i mine) j ≡ is_eligible_by w federate_records j) → (b : Bool) → test j ≡ b →
+    slice_index_or (flags_after (is_eligible_by w (slice_set federate_records i mine)) (listed_below w.federates test) flags) j false ≡ is_eligible_by w (slice_set federate_records i mine) j
+flag_by w federate_records flags i j mine test kept l stays true e =
     let many = kept.flag_count in
-    set_flag_is w.federates test (is_eligible_by w (slice_set standings i mine)) flags j l (omega arith) e
-flag_by w standings flags i j mine test kept l stays false e =
-    other_flag_stays w.federates test (is_eligible_by w (slice_set standings i mine)) flags j e
+    set_flag_is w.federates test (is_eligible_by w (slice_set federate_records i mine)) flags j l (omega arith) e
+flag_by w federate_records flags i j mine test kept l stays false e =
+    other_flag_stays w.federates test (is_eligible_by w (slice_set federate_records i mine)) flags j e
     ∙ kept.each j l ∙ sym (stays e)
 
 -- after a look at each that passes a test, where those that don't pass it stay
-pub kept_by_looks : (w : Wires) (standings : List Standing) (flags : List Bool) (i : ℕ) (mine : Standing) (test : ℕ → Bool) → IsKept w standings flags →
-    ((j : ℕ) → test j ≡ false → is_eligible_by w (slice_set standings i mine) j ≡ is_eligible_by w standings j) →
-    IsKept w (slice_set standings i mine) (flags_after (is_eligible_by w (slice_set standings i mine)) (listed_below w.federates test) flags)
-kept_by_looks w standings flags i mine test kept stay = record {
-  standing_count = length-set standings i mine ∙ kept.standing_count;
-  flag_count = flags_stay_as_many (is_eligible_by w (slice_set standings i mine)) (listed_below w.federates test) flags ∙ kept.flag_count;
-  each = λ j l. flag_by w standings flags i j mine test kept l (stay j) (test j) refl;
+pub kept_by_looks : (w : Wires) (federate_records : List FederateRecord) (flags : List Bool) (i : ℕ) (mine : FederateRecord) (test : ℕ → Bool) → IsKept w federate_records flags →
+    ((j : ℕ) → test j ≡ false → is_eligible_by w (slice_set federate_records i mine) j ≡ is_eligible_by w federate_records j) →
+    IsKept w (slice_set federate_records i mine) (flags_after (is_eligible_by w (slice_set federate_records i mine)) (listed_below w.federates test) flags)
+kept_by_looks w federate_records flags i mine test kept stay = record {
+  federate_record_count = length-set federate_records i mine ∙ kept.federate_record_count;
+  flag_count = flags_stay_as_many (is_eligible_by w (slice_set federate_records i mine)) (listed_below w.federates test) flags ∙ kept.flag_count;
+  each = λ j l. flag_by w federate_records flags i j mine test kept l (stay j) (test j) refl;
 }
 
-pub kept_by_one_look : (w : Wires) (standings : List Standing) (flags : List Bool) (i : ℕ) (mine : Standing) → AreWires w → IsKept w standings flags → i < w.federates →
-    mine.next ≡ (standing_at standings i).next → mine.completed ≡ (standing_at standings i).completed →
-    IsKept w (slice_set standings i mine) (slice_set flags i (is_eligible_by w (slice_set standings i mine) i))
-kept_by_one_look w standings flags i mine are kept l next completed =
-    let value = is_eligible_by w (slice_set standings i mine) in
+pub kept_by_one_look : (w : Wires) (federate_records : List FederateRecord) (flags : List Bool) (i : ℕ) (mine : FederateRecord) → AreWires w → IsKept w federate_records flags → i < w.federates →
+    mine.next ≡ (federate_record_at federate_records i).next → mine.completed ≡ (federate_record_at federate_records i).completed →
+    IsKept w (slice_set federate_records i mine) (slice_set flags i (is_eligible_by w (slice_set federate_records i mine) i))
+kept_by_one_look w federate_records flags i mine are kept l next completed =
+    let value = is_eligible_by w (slice_set federate_records i mine) in
     let flag_count = kept.flag_count in
-    let standing_count = kept.standing_count in
+    let federate_record_count = kept.federate_record_count in
     record {
-      standing_count = length-set standings i mine ∙ kept.standing_count;
+      federate_record_count = length-set federate_records i mine ∙ kept.federate_record_count;
       flag_count = length-set flags i (value i) ∙ kept.flag_count;
       each = λ j m. elim (cases_eq j i) [
         | inl same ↦
             ap (λ x. slice_index_or (slice_set flags i (value i)) x false) same ∙ get_or-set_same flags i (value i) false (omega arith) ∙ ap value (sym same)
         | inr n ↦
-            get_or-set_other flags i j (value i) false n ∙ kept.each j m ∙ sym (alone_changes w standings i j mine are (omega arith) next completed n)
+            get_or-set_other flags i j (value i) false n ∙ kept.each j m ∙ sym (alone_changes w federate_records i j mine are (omega arith) next completed n)
       ];
     }
 
-pub kept_with_transit : (w : Wires) (standings : List Standing) (flags : List Bool) (i : ℕ) (transit : List LogicalTime) → AreWires w → IsKept w standings flags → i < w.federates →
-    IsKept w (slice_set standings i (record (standing_at standings i) { transit = transit })) flags
-kept_with_transit w standings flags i transit are kept l =
-    let standing_count = kept.standing_count in
+pub kept_with_transit : (w : Wires) (federate_records : List FederateRecord) (flags : List Bool) (i : ℕ) (transit : List LogicalTime) → AreWires w → IsKept w federate_records flags → i < w.federates →
+    IsKept w (slice_set federate_records i (record (federate_record_at federate_records i) { transit = transit })) flags
+kept_with_transit w federate_records flags i transit are kept l =
+    let federate_record_count = kept.federate_record_count in
     record {
-      standing_count = length-set standings i (record (standing_at standings i) { transit = transit }) ∙ kept.standing_count;
+      federate_record_count = length-set federate_records i (record (federate_record_at federate_records i) { transit = transit }) ∙ kept.federate_record_count;
       flag_count = kept.flag_count;
-      each = λ j m. kept.each j m ∙ sym (none_changes w standings i j transit are (omega arith));
+      each = λ j m. kept.each j m ∙ sym (none_changes w federate_records i j transit are (omega arith));
     }
 
 -- ---- how many change
@@ -207,21 +207,21 @@ changed_few : (count : ℕ) (before after test : ℕ → Bool) → ((j : ℕ) �
     count_below count (λ j. differ (before j) (after j)) ≤ count_below count test
 changed_few count before after test stay = count_weaker count (λ j. differ (before j) (after j)) test (λ j d. passes (before j) (after j) (test j) (stay j) d)
 
-pub changed_by_looks : (w : Wires) (standings : List Standing) (i : ℕ) (mine : Standing) (test : ℕ → Bool) →
-    ((j : ℕ) → test j ≡ false → is_eligible_by w (slice_set standings i mine) j ≡ is_eligible_by w standings j) →
-    count_below w.federates (λ j. differ (is_eligible_by w standings j) (is_eligible_by w (slice_set standings i mine) j)) ≤ length (listed_below w.federates test)
-changed_by_looks w standings i mine test stay =
+pub changed_by_looks : (w : Wires) (federate_records : List FederateRecord) (i : ℕ) (mine : FederateRecord) (test : ℕ → Bool) →
+    ((j : ℕ) → test j ≡ false → is_eligible_by w (slice_set federate_records i mine) j ≡ is_eligible_by w federate_records j) →
+    count_below w.federates (λ j. differ (is_eligible_by w federate_records j) (is_eligible_by w (slice_set federate_records i mine) j)) ≤ length (listed_below w.federates test)
+changed_by_looks w federate_records i mine test stay =
     let listed = length_listed w.federates test in
-    let few = changed_few w.federates (is_eligible_by w standings) (is_eligible_by w (slice_set standings i mine)) test stay in
+    let few = changed_few w.federates (is_eligible_by w federate_records) (is_eligible_by w (slice_set federate_records i mine)) test stay in
     omega arith
 
-pub changed_by_one_look : (w : Wires) (standings : List Standing) (i : ℕ) (mine : Standing) → AreWires w → i < length standings →
-    mine.next ≡ (standing_at standings i).next → mine.completed ≡ (standing_at standings i).completed →
-    count_below w.federates (λ j. differ (is_eligible_by w standings j) (is_eligible_by w (slice_set standings i mine) j)) ≤ 1
-changed_by_one_look w standings i mine are l next completed =
+pub changed_by_one_look : (w : Wires) (federate_records : List FederateRecord) (i : ℕ) (mine : FederateRecord) → AreWires w → i < length federate_records →
+    mine.next ≡ (federate_record_at federate_records i).next → mine.completed ≡ (federate_record_at federate_records i).completed →
+    count_below w.federates (λ j. differ (is_eligible_by w federate_records j) (is_eligible_by w (slice_set federate_records i mine) j)) ≤ 1
+changed_by_one_look w federate_records i mine are l next completed =
     let one = count_one w.federates i in
-    let few = changed_few w.federates (is_eligible_by w standings) (is_eligible_by w (slice_set standings i mine)) (λ j. nat_eq j i)
-    (λ j away. alone_changes w standings i j mine are l next completed (eqb-false j i away)) in
+    let few = changed_few w.federates (is_eligible_by w federate_records) (is_eligible_by w (slice_set federate_records i mine)) (λ j. nat_eq j i)
+    (λ j away. alone_changes w federate_records i j mine are l next completed (eqb-false j i away)) in
     omega arith
 
 pub looked_at_few : (w : Wires) (i : ℕ) → length (looked_at w i) ≤ 1 + reached_from w i

@@ -8,7 +8,7 @@ use Rattle.network.specs.Connection.{Connection}
 use Rattle.network.specs.Network.{Network}
 use Rattle.network.specs.Wiring.{IsWired}
 use Rattle.network.specs.Tables.{Table, IsLeastTable}
-use Rattle.protocol.specs.Standing.{Standing}
+use Rattle.protocol.specs.FederateRecord.{FederateRecord}
 use Rattle.protocol.specs.Grant.{after_completed, passes_paths, passes_connections, is_eligible, lesser_arrival, bound_by_paths, bound_by_connections, bound_of}
 use Rattle.protocol.specs.Bound.{IsWithin}
 use Rattle.protocol_laws.proofs.Tests.{both_left, both_right, both_hold}
@@ -17,10 +17,10 @@ use Rattle.protocol_laws.proofs.FirstArrivals.{table_bound, eligible_within}
 
 -- ---- by the bound
 
-abbrev pub is_within : Network → Table → (ℕ → Standing) → ℕ → Bool
-is_within n table standings j =
-    (standings j).announced && is_past (standings j).granted (standings j).next && is_at_most (standings j).next n.stop
-    && is_before (standings j).next (bound_of n table standings j)
+abbrev pub is_within : Network → Table → (ℕ → FederateRecord) → ℕ → Bool
+is_within n table federate_records j =
+    (federate_records j).announced && is_past (federate_records j).granted (federate_records j).next && is_at_most (federate_records j).next n.stop
+    && is_before (federate_records j).next (bound_of n table federate_records j)
 
 same_tests : (a b : Bool) → (a ≡ true → b ≡ true) → (b ≡ true → a ≡ true) → a ≡ b
 same_tests true true h k = refl
@@ -28,19 +28,19 @@ same_tests true false h k = sym (h refl)
 same_tests false true h k = k refl
 same_tests false false h k = refl
 
-pub by_bound : (n : Network) (table : Table) (standings : ℕ → Standing) (j : ℕ) → IsWired n → IsLeastTable n table → is_eligible n table standings j ≡ is_within n table standings j
-by_bound n table standings j wired least =
-    let bound = bound_of n table standings j in
-    let next = (standings j).next in
-    let a = (standings j).announced in
-    let b = is_past (standings j).granted next in
+pub by_bound : (n : Network) (table : Table) (federate_records : ℕ → FederateRecord) (j : ℕ) → IsWired n → IsLeastTable n table → is_eligible n table federate_records j ≡ is_within n table federate_records j
+by_bound n table federate_records j wired least =
+    let bound = bound_of n table federate_records j in
+    let next = (federate_records j).next in
+    let a = (federate_records j).announced in
+    let b = is_past (federate_records j).granted next in
     let c = is_at_most next n.stop in
     let d = is_before next bound in
-    let table_says = eligible_by_table n table standings j wired least in
-    let bound_says = eligible_within n standings j bound wired (table_bound n table standings j wired least) in
-    same_tests (is_eligible n table standings j) (is_within n table standings j)
+    let table_says = eligible_by_table n table federate_records j wired least in
+    let bound_says = eligible_within n federate_records j bound wired (table_bound n table federate_records j wired least) in
+    same_tests (is_eligible n table federate_records j) (is_within n table federate_records j)
     (λ h. (
-    let w : IsWithin n standings j bound = bound_says.0 (table_says.1 h) in
+    let w : IsWithin n federate_records j bound = bound_says.0 (table_says.1 h) in
     both_hold (a && b && c) d (both_hold (a && b) c (both_hold a b w.announced w.not_granted) w.in_time) w.before))
     (λ h. (
     let abc = both_left (a && b && c) d h in
@@ -57,28 +57,28 @@ pub not_announced : (a b c d : Bool) → a ≡ false → (a && b && c && d) ≡ 
 not_announced true b c d e = cc
 not_announced false b c d e = refl
 
-pub silent_is_not_eligible : (n : Network) (table : Table) (standings : ℕ → Standing) (j : ℕ) → (standings j).announced ≡ false → is_eligible n table standings j ≡ false
-silent_is_not_eligible n table standings j e =
-    not_announced (standings j).announced (is_past (standings j).granted (standings j).next) (is_at_most (standings j).next n.stop)
-    (passes_paths n table standings j (standings j).next || passes_connections n standings j (standings j).next) e
+pub silent_is_not_eligible : (n : Network) (table : Table) (federate_records : ℕ → FederateRecord) (j : ℕ) → (federate_records j).announced ≡ false → is_eligible n table federate_records j ≡ false
+silent_is_not_eligible n table federate_records j e =
+    not_announced (federate_records j).announced (is_past (federate_records j).granted (federate_records j).next) (is_at_most (federate_records j).next n.stop)
+    (passes_paths n table federate_records j (federate_records j).next || passes_connections n federate_records j (federate_records j).next) e
 
 -- an eligible federate's bound isn't the first tag
 after_origin : (g h : LogicalTime) → is_before g h ≡ true → is_before origin h ≡ true
 after_origin g h e = grind (arith, nat_tests)
 
-pub bound_after_origin : (n : Network) (table : Table) (standings : ℕ → Standing) (j : ℕ) → IsWired n → IsLeastTable n table → is_eligible n table standings j ≡ true →
-    is_before origin (bound_of n table standings j) ≡ true
-bound_after_origin n table standings j wired least e =
-    let next = (standings j).next in
-    let within : is_within n table standings j ≡ true = sym (by_bound n table standings j wired least) ∙ e in
-    after_origin next (bound_of n table standings j)
-    (both_right ((standings j).announced && is_past (standings j).granted next && is_at_most next n.stop) (is_before next (bound_of n table standings j)) within)
+pub bound_after_origin : (n : Network) (table : Table) (federate_records : ℕ → FederateRecord) (j : ℕ) → IsWired n → IsLeastTable n table → is_eligible n table federate_records j ≡ true →
+    is_before origin (bound_of n table federate_records j) ≡ true
+bound_after_origin n table federate_records j wired least e =
+    let next = (federate_records j).next in
+    let within : is_within n table federate_records j ≡ true = sym (by_bound n table federate_records j wired least) ∙ e in
+    after_origin next (bound_of n table federate_records j)
+    (both_right ((federate_records j).announced && is_past (federate_records j).granted next && is_at_most next n.stop) (is_before next (bound_of n table federate_records j)) within)
 
 -- ---- whom a change leaves alone
 
 -- whether federate j is eligible rests on its own records, on the next tags of those from which a path leads to it, and on what
 -- those completed that are connected to it
-pub record AreAlikeFor (connections : List Connection) (table : Table) (j : ℕ) (before after : ℕ → Standing) : Type 0 where
+pub record AreAlikeFor (connections : List Connection) (table : Table) (j : ℕ) (before after : ℕ → FederateRecord) : Type 0 where
   pub announced : (after j).announced ≡ (before j).announced
   pub granted : (after j).granted ≡ (before j).granted
   pub next : (after j).next ≡ (before j).next
@@ -90,7 +90,7 @@ arrival_same : (o : Option LogicalTime) (next later rest more : LogicalTime) →
 arrival_same None next later rest more h e = e
 arrival_same (Some d) next later rest more h e = ap (λ x. lesser (sum_of x d) more) (h refl) ∙ ap (lesser (sum_of next d)) e
 
-paths_same : (table : Table) (j : ℕ) (before after : ℕ → Standing) (count : ℕ) → ((i : ℕ) → is_some (table i j) ≡ true → (after i).next ≡ (before i).next) →
+paths_same : (table : Table) (j : ℕ) (before after : ℕ → FederateRecord) (count : ℕ) → ((i : ℕ) → is_some (table i j) ≡ true → (after i).next ≡ (before i).next) →
     bound_by_paths table after j count ≡ bound_by_paths table before j count
 paths_same table j before after zero h = refl
 paths_same table j before after (suc count) h =
@@ -102,7 +102,7 @@ connection_same : (b : Bool) (arrival later rest more : LogicalTime) → (b ≡ 
 connection_same true arrival later rest more h e = ap (λ x. lesser x more) (h refl) ∙ ap (lesser arrival) e
 connection_same false arrival later rest more h e = e
 
-connections_same : (j : ℕ) (before after : ℕ → Standing) (connections : List Connection) →
+connections_same : (j : ℕ) (before after : ℕ → FederateRecord) (connections : List Connection) →
     ((k : ℕ) (c : Connection) → slice_get connections k ≡ Some c → c.target ≡ j → (after c.source).completed ≡ (before c.source).completed) →
     bound_by_connections after j connections ≡ bound_by_connections before j connections
 connections_same j before after [] h = refl
@@ -112,7 +112,7 @@ connections_same j before after (c ∷ rest) h =
     (λ t. ap (λ x. sum_of (after_completed x) c.delay) (h 0 c refl (eqb-true c.target j t)))
     (connections_same j before after rest (λ k x e t. h (suc k) x e t))
 
-pub eligible_same : (n : Network) (table : Table) (j : ℕ) (before after : ℕ → Standing) → IsWired n → IsLeastTable n table →
+pub eligible_same : (n : Network) (table : Table) (j : ℕ) (before after : ℕ → FederateRecord) → IsWired n → IsLeastTable n table →
     AreAlikeFor n.connections table j before after → is_eligible n table after j ≡ is_eligible n table before j
 eligible_same n table j before after wired least alike =
     let old = bound_of n table before j in

@@ -20,5 +20,5 @@ pub mod Routed
 pub mod Flags
 -- A table after each call.
 pub mod Tables
--- What a change of one standing leaves.
+-- What a change of one record leaves.
 pub mod Changes

@@ -10,8 +10,8 @@ use Rattle.network.specs.Tables.{Table}
 use Rattle.plan.specs.declared.draft.Draft.{Draft}
 use Rattle.plan.specs.Federation.{federate_count, connections_of, stop_of}
 use Rattle.plan.specs.Legal.{IsLegal}
-use Rattle.protocol.specs.Standing.{Standing, initial_standing}
-use Rattle.protocol.specs.Standings.{standings_listed}
+use Rattle.protocol.specs.FederateRecord.{FederateRecord, initial_federate_record}
+use Rattle.protocol.specs.FederateRecords.{federate_records_listed}
 use Rattle.grants.specs.declared.routes.Upstream.{Upstream}
 use Rattle.grants.specs.Wires.{Wires, AreWires, least_by, wires_of}
 use Rattle.grants.specs.Routes.{Routed, routed, routed_below, upstream_at, upstream_of, incoming_of}
@@ -97,14 +97,14 @@ pub wires_made_are : (d : Draft) (routes : List Routed) (w : Wires) → IsLegal 
 wires_made_are d routes w legal rs e =
     (subst AreWires (sym e) (wires_are d legal), rs ∙ ap (λ x. routed_below x x.federates) (sym e))
 
--- so many initial standings, then one more
-one_more_initial : (count : ℕ) → standings_listed count (λ j. initial_standing) ++ initial_standing ∷ [] ≡ standings_listed (suc count) (λ j. initial_standing)
+-- so many initial records, then one more
+one_more_initial : (count : ℕ) → federate_records_listed count (λ j. initial_federate_record) ++ initial_federate_record ∷ [] ≡ federate_records_listed (suc count) (λ j. initial_federate_record)
 one_more_initial zero = refl
-one_more_initial (suc count) = ap (λ (ss : List Standing). initial_standing ∷ ss) (one_more_initial count)
+one_more_initial (suc count) = ap (λ (ss : List FederateRecord). initial_federate_record ∷ ss) (one_more_initial count)
 
-pub initial_more : (count : ℕ) (before after : List Standing) (s : Standing) → before ≡ standings_listed count (λ j. initial_standing) → s ≡ initial_standing →
-    after ≡ before ++ s ∷ [] → after ≡ standings_listed (count + 1) (λ j. initial_standing)
+pub initial_more : (count : ℕ) (before after : List FederateRecord) (s : FederateRecord) → before ≡ federate_records_listed count (λ j. initial_federate_record) → s ≡ initial_federate_record →
+    after ≡ before ++ s ∷ [] → after ≡ federate_records_listed (count + 1) (λ j. initial_federate_record)
 initial_more count before after s all one e =
     let next : suc count ≡ count + 1 = omega arith in
-    e ∙ ap (λ ss. ss ++ s ∷ []) all ∙ ap (λ x. standings_listed count (λ j. initial_standing) ++ x ∷ []) one ∙ one_more_initial count
-    ∙ ap (λ n. standings_listed n (λ j. initial_standing)) next
+    e ∙ ap (λ ss. ss ++ s ∷ []) all ∙ ap (λ x. federate_records_listed count (λ j. initial_federate_record) ++ x ∷ []) one ∙ one_more_initial count
+    ∙ ap (λ n. federate_records_listed n (λ j. initial_federate_record)) next

@@ -4,13 +4,13 @@ use Rattle.std.specs.Prelude.{◌&&◌, All, slice_index_or, slice_set}
 use Rattle.std.proofs.lemmas.Bool.{cases_lt}
 use Rattle.std.proofs.lemmas.List.{get_or_read, get_or-replicate, length-replicate}
 use Rattle.tag.specs.LogicalTime.{LogicalTime, is_at_most, is_before, lesser, origin, predecessor_of, is_past}
-use Rattle.protocol.specs.Standing.{Standing, initial_standing}
-use Rattle.protocol.specs.Standings.{standing_at, standings_listed}
+use Rattle.protocol.specs.FederateRecord.{FederateRecord, initial_federate_record}
+use Rattle.protocol.specs.FederateRecords.{federate_record_at, federate_records_listed}
 use Rattle.protocol.specs.Grant.{Eligible, bound_of}
 use Rattle.protocol.specs.Bound.{IsWidest}
 use Rattle.protocol_laws.proofs.Eligibility.{eligible_by_table}
 use Rattle.protocol_laws.proofs.FirstArrivals.{table_bound}
-use Rattle.protocol_laws.proofs.ListedStandings.{read_listed, listed_length}
+use Rattle.protocol_laws.proofs.ListedFederateRecords.{read_listed, listed_length}
 use Rattle.grants.specs.Wires.{Wires, AreWires, least_by, network_by}
 use Rattle.grants.specs.Records.{Records, is_eligible_by, is_eligible_in}
 use Rattle.grants.specs.Looks.{counted, changed_between, reached_from}
@@ -21,33 +21,33 @@ use Rattle.grants.proofs.Eligible.{by_bound, silent_is_not_eligible, bound_after
 use Rattle.grants.proofs.Changes.{completed_stays, others_stay, kept_by_looks, kept_by_one_look, kept_with_transit, changed_by_looks, changed_by_one_look, looked_at_few}
 
 -- these are what the table is seen as
-abbrev pub records : Wires → List Standing → ℕ → Records
-records w standings looks = record { wires = w; standings = standings; looks = looks }
+abbrev pub records : Wires → List FederateRecord → ℕ → Records
+records w federate_records looks = record { wires = w; federate_records = federate_records; looks = looks }
 
-pub standing_is : (standings : List Standing) (i : ℕ) (s : Standing) → i < length standings → s ≡ get_or standings i s → s ≡ standing_at standings i
-standing_is standings i s l e = get_or_read standings i s l e initial_standing
+pub federate_record_is : (federate_records : List FederateRecord) (i : ℕ) (s : FederateRecord) → i < length federate_records → s ≡ get_or federate_records i s → s ≡ federate_record_at federate_records i
+federate_record_is federate_records i s l e = get_or_read federate_records i s l e initial_federate_record
 
 -- ---- before any signal came
 
-pub kept_at_first : (w : Wires) (standings : List Standing) (flags : List Bool) → standings ≡ standings_listed w.federates (λ j. initial_standing) →
-    flags ≡ replicate w.federates false → IsKept w standings flags
-kept_at_first w standings flags s f = record {
-  standing_count = ap length s ∙ listed_length w.federates (λ j. initial_standing);
+pub kept_at_first : (w : Wires) (federate_records : List FederateRecord) (flags : List Bool) → federate_records ≡ federate_records_listed w.federates (λ j. initial_federate_record) →
+    flags ≡ replicate w.federates false → IsKept w federate_records flags
+kept_at_first w federate_records flags s f = record {
+  federate_record_count = ap length s ∙ listed_length w.federates (λ j. initial_federate_record);
   flag_count = ap length f ∙ length-replicate w.federates false;
   each = λ j l. (
-      let silent : (standing_at standings j).announced ≡ false =
-      ap (λ ss. (standing_at ss j).announced) s ∙ ap (λ (x : Standing). x.announced) (read_listed w.federates (λ i. initial_standing) j l) in
+      let silent : (federate_record_at federate_records j).announced ≡ false =
+      ap (λ ss. (federate_record_at ss j).announced) s ∙ ap (λ (x : FederateRecord). x.announced) (read_listed w.federates (λ i. initial_federate_record) j l) in
       ap (λ fs. slice_index_or fs j false) f ∙ get_or-replicate w.federates j false false l
-      ∙ sym (silent_is_not_eligible (network_by w) (least_by w) (standing_at standings) j silent));
+      ∙ sym (silent_is_not_eligible (network_by w) (least_by w) (federate_record_at federate_records) j silent));
 }
 
 -- ---- what is asked
 
-pub eligible_by_flag : (w : Wires) (standings : List Standing) (looks j : ℕ) (flag : Bool) (r : Records) → records w standings looks ≡ r → AreWires w →
-    flag ≡ is_eligible_by w standings j → (IsTrue flag → Eligible (network_by r.wires) (standing_at r.standings) j) × (Eligible (network_by r.wires) (standing_at r.standings) j → IsTrue flag)
-eligible_by_flag w standings looks j flag r is are e =
-    let table = eligible_by_table (network_by w) (least_by w) (standing_at standings) j are.wired are.least in
-    subst (λ x. (IsTrue flag → Eligible (network_by x.wires) (standing_at x.standings) j) × (Eligible (network_by x.wires) (standing_at x.standings) j → IsTrue flag)) is
+pub eligible_by_flag : (w : Wires) (federate_records : List FederateRecord) (looks j : ℕ) (flag : Bool) (r : Records) → records w federate_records looks ≡ r → AreWires w →
+    flag ≡ is_eligible_by w federate_records j → (IsTrue flag → Eligible (network_by r.wires) (federate_record_at r.federate_records) j) × (Eligible (network_by r.wires) (federate_record_at r.federate_records) j → IsTrue flag)
+eligible_by_flag w federate_records looks j flag r is are e =
+    let table = eligible_by_table (network_by w) (least_by w) (federate_record_at federate_records) j are.wired are.least in
+    subst (λ x. (IsTrue flag → Eligible (network_by x.wires) (federate_record_at x.federate_records) j) × (Eligible (network_by x.wires) (federate_record_at x.federate_records) j → IsTrue flag)) is
     ((λ h. table.1 (sym e ∙ h)), (λ h. e ∙ table.0 h))
 
 -- a federate that isn't there has no flag
@@ -57,166 +57,166 @@ flags_beyond (x ∷ rest) zero l = absurd (omega arith)
 flags_beyond (x ∷ rest) (suc j) l = flags_beyond rest j (omega arith)
 
 -- nobody is eligible where no flag is set, and so the other way round
-pub none_eligible : (w : Wires) (standings : List Standing) (flags : List Bool) (looks : ℕ) (somebody : Bool) (r : Records) → records w standings looks ≡ r → IsKept w standings flags →
+pub none_eligible : (w : Wires) (federate_records : List FederateRecord) (flags : List Bool) (looks : ℕ) (somebody : Bool) (r : Records) → records w federate_records looks ≡ r → IsKept w federate_records flags →
     (somebody ≡ false → (j : ℕ) → slice_index_or flags j false ≡ false) × (((j : ℕ) → slice_index_or flags j false ≡ false) → somebody ≡ false) →
     (somebody ≡ false → (j : ℕ) → j < r.wires.federates → is_eligible_in r j ≡ false) × (((j : ℕ) → j < r.wires.federates → is_eligible_in r j ≡ false) → somebody ≡ false)
-none_eligible w standings flags looks somebody r is kept none =
+none_eligible w federate_records flags looks somebody r is kept none =
     subst (λ (x : Records). (somebody ≡ false → (j : ℕ) → j < x.wires.federates → is_eligible_in x j ≡ false) × (((j : ℕ) → j < x.wires.federates → is_eligible_in x j ≡ false) → somebody ≡ false)) is
     ((λ so j l. sym (kept.each j l) ∙ none.0 so j), (λ h. none.1 (all_false h)))
   where
-    all_false : ((j : ℕ) → j < w.federates → is_eligible_by w standings j ≡ false) → (j : ℕ) → slice_index_or flags j false ≡ false
+    all_false : ((j : ℕ) → j < w.federates → is_eligible_by w federate_records j ≡ false) → (j : ℕ) → slice_index_or flags j false ≡ false
     all_false h j = elim (cases_lt j w.federates) [
       | inl l ↦ kept.each j l ∙ h j l
       | inr l ↦ flags_beyond flags j (let many = kept.flag_count in omega arith)
     ]
 
-pub bound_is_late : (w : Wires) (standings : List Standing) (looks j : ℕ) (r : Records) → records w standings looks ≡ r → AreWires w → is_eligible_in r j ≡ true →
-    is_before origin (bound_of (network_by w) (least_by w) (standing_at standings) j) ≡ true
-bound_is_late w standings looks j r is are e =
-    bound_after_origin (network_by w) (least_by w) (standing_at standings) j are.wired are.least (ap (λ x. is_eligible_in x j) is ∙ e)
+pub bound_is_late : (w : Wires) (federate_records : List FederateRecord) (looks j : ℕ) (r : Records) → records w federate_records looks ≡ r → AreWires w → is_eligible_in r j ≡ true →
+    is_before origin (bound_of (network_by w) (least_by w) (federate_record_at federate_records) j) ≡ true
+bound_is_late w federate_records looks j r is are e =
+    bound_after_origin (network_by w) (least_by w) (federate_record_at federate_records) j are.wired are.least (ap (λ x. is_eligible_in x j) is ∙ e)
 
-pub widest : (w : Wires) (standings : List Standing) (looks j : ℕ) (r : Records) (bound tag : LogicalTime) → records w standings looks ≡ r → AreWires w →
-    bound ≡ bound_of (network_by w) (least_by w) (standing_at standings) j → tag ≡ lesser (predecessor_of bound) w.stop →
-    IsWidest (network_by r.wires) (standing_at r.standings) j tag
-widest w standings looks j r bound tag is are b t =
-    subst (λ x. IsWidest (network_by x.wires) (standing_at x.standings) j tag) is
+pub widest : (w : Wires) (federate_records : List FederateRecord) (looks j : ℕ) (r : Records) (bound tag : LogicalTime) → records w federate_records looks ≡ r → AreWires w →
+    bound ≡ bound_of (network_by w) (least_by w) (federate_record_at federate_records) j → tag ≡ lesser (predecessor_of bound) w.stop →
+    IsWidest (network_by r.wires) (federate_record_at r.federate_records) j tag
+widest w federate_records looks j r bound tag is are b t =
+    subst (λ x. IsWidest (network_by x.wires) (federate_record_at x.federate_records) j tag) is
     (record {
-      bound = bound_of (network_by w) (least_by w) (standing_at standings) j;
-      is_bound = table_bound (network_by w) (least_by w) (standing_at standings) j are.wired are.least;
+      bound = bound_of (network_by w) (least_by w) (federate_record_at federate_records) j;
+      is_bound = table_bound (network_by w) (least_by w) (federate_record_at federate_records) j are.wired are.least;
       last = t ∙ ap (λ x. lesser (predecessor_of x) w.stop) b;
     })
 
 -- whether the federate waits, then whether its next tag is before the bound
-within_is : (w : Wires) (standings : List Standing) (j : ℕ) (s : Standing) (stop : LogicalTime) → AreWires w → s ≡ standing_at standings j → stop ≡ w.stop →
-    is_eligible_by w standings j ≡
-    (s.announced && is_past s.granted s.next && is_at_most s.next stop && is_before s.next (bound_of (network_by w) (least_by w) (standing_at standings) j))
-within_is w standings j s stop are e t =
-    let bound = bound_of (network_by w) (least_by w) (standing_at standings) j in
-    by_bound (network_by w) (least_by w) (standing_at standings) j are.wired are.least
-    ∙ ap (λ (x : Standing). x.announced && is_past x.granted x.next && is_at_most x.next w.stop && is_before x.next bound) (sym e)
+within_is : (w : Wires) (federate_records : List FederateRecord) (j : ℕ) (s : FederateRecord) (stop : LogicalTime) → AreWires w → s ≡ federate_record_at federate_records j → stop ≡ w.stop →
+    is_eligible_by w federate_records j ≡
+    (s.announced && is_past s.granted s.next && is_at_most s.next stop && is_before s.next (bound_of (network_by w) (least_by w) (federate_record_at federate_records) j))
+within_is w federate_records j s stop are e t =
+    let bound = bound_of (network_by w) (least_by w) (federate_record_at federate_records) j in
+    by_bound (network_by w) (least_by w) (federate_record_at federate_records) j are.wired are.least
+    ∙ ap (λ (x : FederateRecord). x.announced && is_past x.granted x.next && is_at_most x.next w.stop && is_before x.next bound) (sym e)
     ∙ ap (λ x. s.announced && is_past s.granted s.next && is_at_most s.next x && is_before s.next bound) (sym t)
 
-pub waits : (w : Wires) (standings : List Standing) (j : ℕ) (s : Standing) (stop bound : LogicalTime) (waiting before : Bool) → AreWires w → s ≡ standing_at standings j →
+pub waits : (w : Wires) (federate_records : List FederateRecord) (j : ℕ) (s : FederateRecord) (stop bound : LogicalTime) (waiting before : Bool) → AreWires w → s ≡ federate_record_at federate_records j →
     stop ≡ w.stop → waiting ≡ (s.announced && is_past s.granted s.next && is_at_most s.next stop) → waiting ≡ true →
-    bound ≡ bound_of (network_by w) (least_by w) (standing_at standings) j → before ≡ is_before s.next bound → before ≡ is_eligible_by w standings j
-waits w standings j s stop bound waiting before are e t wait waits_on b f =
+    bound ≡ bound_of (network_by w) (least_by w) (federate_record_at federate_records) j → before ≡ is_before s.next bound → before ≡ is_eligible_by w federate_records j
+waits w federate_records j s stop bound waiting before are e t wait waits_on b f =
     f ∙ ap (is_before s.next) b
-    ∙ ap (λ x. x && is_before s.next (bound_of (network_by w) (least_by w) (standing_at standings) j)) (sym waits_on ∙ wait)
-    ∙ sym (within_is w standings j s stop are e t)
+    ∙ ap (λ x. x && is_before s.next (bound_of (network_by w) (least_by w) (federate_record_at federate_records) j)) (sym waits_on ∙ wait)
+    ∙ sym (within_is w federate_records j s stop are e t)
 
-pub waits_not : (w : Wires) (standings : List Standing) (j : ℕ) (s : Standing) (stop : LogicalTime) (waiting : Bool) → AreWires w → s ≡ standing_at standings j →
-    stop ≡ w.stop → waiting ≡ (s.announced && is_past s.granted s.next && is_at_most s.next stop) → waiting ≡ false → waiting ≡ is_eligible_by w standings j
-waits_not w standings j s stop waiting are e t wait never =
+pub waits_not : (w : Wires) (federate_records : List FederateRecord) (j : ℕ) (s : FederateRecord) (stop : LogicalTime) (waiting : Bool) → AreWires w → s ≡ federate_record_at federate_records j →
+    stop ≡ w.stop → waiting ≡ (s.announced && is_past s.granted s.next && is_at_most s.next stop) → waiting ≡ false → waiting ≡ is_eligible_by w federate_records j
+waits_not w federate_records j s stop waiting are e t wait never =
     never
-    ∙ ap (λ x. x && is_before s.next (bound_of (network_by w) (least_by w) (standing_at standings) j)) (sym never ∙ wait)
-    ∙ sym (within_is w standings j s stop are e t)
+    ∙ ap (λ x. x && is_before s.next (bound_of (network_by w) (least_by w) (federate_record_at federate_records) j)) (sym never ∙ wait)
+    ∙ sym (within_is w federate_records j s stop are e t)
 
 -- ---- changes after which each federate is looked at that may have changed
 
 pub all_there : (w : Wires) (test : ℕ → Bool) (federates : List ℕ) → federates ≡ listed_below w.federates test → All (λ j. j < w.federates) federates
 all_there w test federates e = subst (λ fs. All (λ j. j < w.federates) fs) (sym e) (listed_are_below w.federates test)
 
-kept_after_listed : (w : Wires) (standings after : List Standing) (flags flags_now : List Bool) (i : ℕ) (federates : List ℕ) (mine : Standing) (test : ℕ → Bool) →
-    IsKept w standings flags → ((j : ℕ) → test j ≡ false → is_eligible_by w (slice_set standings i mine) j ≡ is_eligible_by w standings j) →
-    after ≡ slice_set standings i mine → federates ≡ listed_below w.federates test → flags_now ≡ flags_after (is_eligible_by w after) federates flags →
-    IsKept w (slice_set standings i mine) flags_now
-kept_after_listed w standings after flags flags_now i federates mine test kept stay s f e =
-    subst (IsKept w (slice_set standings i mine))
-    (sym (e ∙ ap (λ ss. flags_after (is_eligible_by w ss) federates flags) s ∙ ap (λ fs. flags_after (is_eligible_by w (slice_set standings i mine)) fs flags) f))
-    (kept_by_looks w standings flags i mine test kept stay)
+kept_after_listed : (w : Wires) (federate_records after : List FederateRecord) (flags flags_now : List Bool) (i : ℕ) (federates : List ℕ) (mine : FederateRecord) (test : ℕ → Bool) →
+    IsKept w federate_records flags → ((j : ℕ) → test j ≡ false → is_eligible_by w (slice_set federate_records i mine) j ≡ is_eligible_by w federate_records j) →
+    after ≡ slice_set federate_records i mine → federates ≡ listed_below w.federates test → flags_now ≡ flags_after (is_eligible_by w after) federates flags →
+    IsKept w (slice_set federate_records i mine) flags_now
+kept_after_listed w federate_records after flags flags_now i federates mine test kept stay s f e =
+    subst (IsKept w (slice_set federate_records i mine))
+    (sym (e ∙ ap (λ ss. flags_after (is_eligible_by w ss) federates flags) s ∙ ap (λ fs. flags_after (is_eligible_by w (slice_set federate_records i mine)) fs flags) f))
+    (kept_by_looks w federate_records flags i mine test kept stay)
 
-pub kept_after_looks : (w : Wires) (standings after : List Standing) (flags flags_now : List Bool) (i : ℕ) (federates : List ℕ) (mine : Standing) → AreWires w →
-    IsKept w standings flags → after ≡ slice_set standings i mine → federates ≡ looked_at w i → flags_now ≡ flags_after (is_eligible_by w after) federates flags →
-    IsKept w (slice_set standings i mine) flags_now
-kept_after_looks w standings after flags flags_now i federates mine are kept s f e =
-    kept_after_listed w standings after flags flags_now i federates mine (may_change w i) kept (λ j away. others_stay w standings i j mine are away) s f e
+pub kept_after_looks : (w : Wires) (federate_records after : List FederateRecord) (flags flags_now : List Bool) (i : ℕ) (federates : List ℕ) (mine : FederateRecord) → AreWires w →
+    IsKept w federate_records flags → after ≡ slice_set federate_records i mine → federates ≡ looked_at w i → flags_now ≡ flags_after (is_eligible_by w after) federates flags →
+    IsKept w (slice_set federate_records i mine) flags_now
+kept_after_looks w federate_records after flags flags_now i federates mine are kept s f e =
+    kept_after_listed w federate_records after flags flags_now i federates mine (may_change w i) kept (λ j away. others_stay w federate_records i j mine are away) s f e
 
-pub few_looks : (w : Wires) (standings : List Standing) (looks now i : ℕ) (federates : List ℕ) (r : Records) → records w standings looks ≡ r →
+pub few_looks : (w : Wires) (federate_records : List FederateRecord) (looks now i : ℕ) (federates : List ℕ) (r : Records) → records w federate_records looks ≡ r →
     length federates ≤ 1 + reached_from w i → now ≡ counted looks (length federates) → now ≤ r.looks + 1 + reached_from r.wires i
-few_looks w standings looks now i federates r is few e =
+few_looks w federate_records looks now i federates r is few e =
     subst (λ (x : Records). now ≤ x.looks + 1 + reached_from x.wires i) is (omega arith)
 
 pub looked_at_are_few : (w : Wires) (i : ℕ) (federates : List ℕ) → federates ≡ looked_at w i → length federates ≤ 1 + reached_from w i
 looked_at_are_few w i federates f = let few = looked_at_few w i in let many = ap length f in omega arith
 
 -- only those are looked at to which a connection leads
-pub connected_looks : (w : Wires) (standings : List Standing) (looks now i : ℕ) (federates : List ℕ) (r : Records) → records w standings looks ≡ r →
+pub connected_looks : (w : Wires) (federate_records : List FederateRecord) (looks now i : ℕ) (federates : List ℕ) (r : Records) → records w federate_records looks ≡ r →
     federates ≡ connected_to w i → now ≡ counted looks (length federates) → now ≤ r.looks + length (connected_to r.wires i)
-connected_looks w standings looks now i federates r is f e =
+connected_looks w federate_records looks now i federates r is f e =
     let many = ap length f in
     subst (λ (x : Records). now ≤ x.looks + length (connected_to x.wires i)) is (omega arith)
 
-counts_listed : (w : Wires) (standings : List Standing) (looks now i : ℕ) (federates : List ℕ) (mine : Standing) (r : Records) (test : ℕ → Bool) → records w standings looks ≡ r →
-    ((j : ℕ) → test j ≡ false → is_eligible_by w (slice_set standings i mine) j ≡ is_eligible_by w standings j) → federates ≡ listed_below w.federates test →
-    now ≡ counted looks (length federates) → counted r.looks (changed_between r (records w (slice_set standings i mine) now)) ≤ now
-counts_listed w standings looks now i federates mine r test is stay f e =
-    let few = changed_by_looks w standings i mine test stay in
+counts_listed : (w : Wires) (federate_records : List FederateRecord) (looks now i : ℕ) (federates : List ℕ) (mine : FederateRecord) (r : Records) (test : ℕ → Bool) → records w federate_records looks ≡ r →
+    ((j : ℕ) → test j ≡ false → is_eligible_by w (slice_set federate_records i mine) j ≡ is_eligible_by w federate_records j) → federates ≡ listed_below w.federates test →
+    now ≡ counted looks (length federates) → counted r.looks (changed_between r (records w (slice_set federate_records i mine) now)) ≤ now
+counts_listed w federate_records looks now i federates mine r test is stay f e =
+    let few = changed_by_looks w federate_records i mine test stay in
     let many = ap length f in
-    subst (λ (x : Records). counted x.looks (changed_between x (records w (slice_set standings i mine) now)) ≤ now) is (omega arith)
+    subst (λ (x : Records). counted x.looks (changed_between x (records w (slice_set federate_records i mine) now)) ≤ now) is (omega arith)
 
-pub counts_looks : (w : Wires) (standings : List Standing) (looks now i : ℕ) (federates : List ℕ) (mine : Standing) (r : Records) → records w standings looks ≡ r →
+pub counts_looks : (w : Wires) (federate_records : List FederateRecord) (looks now i : ℕ) (federates : List ℕ) (mine : FederateRecord) (r : Records) → records w federate_records looks ≡ r →
     AreWires w → federates ≡ looked_at w i → now ≡ counted looks (length federates) →
-    counted r.looks (changed_between r (records w (slice_set standings i mine) now)) ≤ now
-counts_looks w standings looks now i federates mine r is are f e =
-    counts_listed w standings looks now i federates mine r (may_change w i) is (λ j away. others_stay w standings i j mine are away) f e
+    counted r.looks (changed_between r (records w (slice_set federate_records i mine) now)) ≤ now
+counts_looks w federate_records looks now i federates mine r is are f e =
+    counts_listed w federate_records looks now i federates mine r (may_change w i) is (λ j away. others_stay w federate_records i j mine are away) f e
 
 -- after a change of what federate i completed alone
-pub after_completed : (w : Wires) (standings after : List Standing) (flags flags_now : List Bool) (looks now i : ℕ) (federates : List ℕ) (old mine : Standing)
-    (completed : Option LogicalTime) (r : Records) → records w standings looks ≡ r → AreWires w → IsKept w standings flags → i < r.wires.federates → old ≡ get_or standings i old →
-    mine ≡ record old { completed = completed } → after ≡ slice_set standings i mine → federates ≡ connected_to w i → flags_now ≡ flags_after (is_eligible_by w after) federates flags →
+pub after_completed : (w : Wires) (federate_records after : List FederateRecord) (flags flags_now : List Bool) (looks now i : ℕ) (federates : List ℕ) (old mine : FederateRecord)
+    (completed : Option LogicalTime) (r : Records) → records w federate_records looks ≡ r → AreWires w → IsKept w federate_records flags → i < r.wires.federates → old ≡ get_or federate_records i old →
+    mine ≡ record old { completed = completed } → after ≡ slice_set federate_records i mine → federates ≡ connected_to w i → flags_now ≡ flags_after (is_eligible_by w after) federates flags →
     now ≡ counted looks (length federates) →
-    IsKept w (slice_set standings i mine) flags_now × (counted r.looks (changed_between r (records w (slice_set standings i mine) now)) ≤ now)
-after_completed w standings after flags flags_now looks now i federates old mine completed r is are kept l here m s f e n =
+    IsKept w (slice_set federate_records i mine) flags_now × (counted r.looks (changed_between r (records w (slice_set federate_records i mine) now)) ≤ now)
+after_completed w federate_records after flags flags_now looks now i federates old mine completed r is are kept l here m s f e n =
     let count = ap (λ (x : Records). x.wires.federates) is in
     let there : i < w.federates = omega (arith, count, l) in
-    let within : i < length standings = omega (arith, there, kept.standing_count) in
-    let own = standing_is standings i old within here in
-    let alike : mine ≡ record (standing_at standings i) { completed = completed } = m ∙ ap (λ (x : Standing). record x { completed = completed }) own in
-    let stay : (j : ℕ) → leads w.connections i j ≡ false → is_eligible_by w (slice_set standings i mine) j ≡ is_eligible_by w standings j =
-    λ j away. ap (λ x. is_eligible_by w (slice_set standings i x) j) alike ∙ completed_stays w standings i j completed are within away in (
-      kept_after_listed w standings after flags flags_now i federates mine (leads w.connections i) kept stay s f e,
-      counts_listed w standings looks now i federates mine r (leads w.connections i) is stay f n,
+    let within : i < length federate_records = omega (arith, there, kept.federate_record_count) in
+    let own = federate_record_is federate_records i old within here in
+    let alike : mine ≡ record (federate_record_at federate_records i) { completed = completed } = m ∙ ap (λ (x : FederateRecord). record x { completed = completed }) own in
+    let stay : (j : ℕ) → leads w.connections i j ≡ false → is_eligible_by w (slice_set federate_records i mine) j ≡ is_eligible_by w federate_records j =
+    λ j away. ap (λ x. is_eligible_by w (slice_set federate_records i x) j) alike ∙ completed_stays w federate_records i j completed are within away in (
+      kept_after_listed w federate_records after flags flags_now i federates mine (leads w.connections i) kept stay s f e,
+      counts_listed w federate_records looks now i federates mine r (leads w.connections i) is stay f n,
     )
 
 -- ---- changes after which the federate alone is looked at
 
-kept_after_one_look : (w : Wires) (standings after : List Standing) (flags flags_now : List Bool) (i : ℕ) (mine : Standing) → AreWires w → IsKept w standings flags →
-    i < w.federates → after ≡ slice_set standings i mine → mine.next ≡ (standing_at standings i).next → mine.completed ≡ (standing_at standings i).completed →
-    flags_now ≡ slice_set flags i (is_eligible_by w after i) → IsKept w (slice_set standings i mine) flags_now
-kept_after_one_look w standings after flags flags_now i mine are kept l s next completed e =
-    subst (IsKept w (slice_set standings i mine)) (sym (e ∙ ap (λ ss. slice_set flags i (is_eligible_by w ss i)) s))
-    (kept_by_one_look w standings flags i mine are kept l next completed)
+kept_after_one_look : (w : Wires) (federate_records after : List FederateRecord) (flags flags_now : List Bool) (i : ℕ) (mine : FederateRecord) → AreWires w → IsKept w federate_records flags →
+    i < w.federates → after ≡ slice_set federate_records i mine → mine.next ≡ (federate_record_at federate_records i).next → mine.completed ≡ (federate_record_at federate_records i).completed →
+    flags_now ≡ slice_set flags i (is_eligible_by w after i) → IsKept w (slice_set federate_records i mine) flags_now
+kept_after_one_look w federate_records after flags flags_now i mine are kept l s next completed e =
+    subst (IsKept w (slice_set federate_records i mine)) (sym (e ∙ ap (λ ss. slice_set flags i (is_eligible_by w ss i)) s))
+    (kept_by_one_look w federate_records flags i mine are kept l next completed)
 
-counts_one_look : (w : Wires) (standings : List Standing) (looks now i : ℕ) (mine : Standing) (r : Records) → records w standings looks ≡ r → AreWires w →
-    i < length standings → mine.next ≡ (standing_at standings i).next → mine.completed ≡ (standing_at standings i).completed → now ≡ counted looks 1 →
-    counted r.looks (changed_between r (records w (slice_set standings i mine) now)) ≤ now
-counts_one_look w standings looks now i mine r is are l next completed e =
-    let few = changed_by_one_look w standings i mine are l next completed in
-    subst (λ (x : Records). counted x.looks (changed_between x (records w (slice_set standings i mine) now)) ≤ now) is (omega arith)
+counts_one_look : (w : Wires) (federate_records : List FederateRecord) (looks now i : ℕ) (mine : FederateRecord) (r : Records) → records w federate_records looks ≡ r → AreWires w →
+    i < length federate_records → mine.next ≡ (federate_record_at federate_records i).next → mine.completed ≡ (federate_record_at federate_records i).completed → now ≡ counted looks 1 →
+    counted r.looks (changed_between r (records w (slice_set federate_records i mine) now)) ≤ now
+counts_one_look w federate_records looks now i mine r is are l next completed e =
+    let few = changed_by_one_look w federate_records i mine are l next completed in
+    subst (λ (x : Records). counted x.looks (changed_between x (records w (slice_set federate_records i mine) now)) ≤ now) is (omega arith)
 
-pub after_one_look : (w : Wires) (standings after : List Standing) (flags flags_now : List Bool) (looks now i : ℕ) (old mine : Standing) (r : Records) →
-    records w standings looks ≡ r → AreWires w → IsKept w standings flags → i < r.wires.federates → old ≡ get_or standings i old → mine.next ≡ old.next →
-    mine.completed ≡ old.completed → after ≡ slice_set standings i mine → flags_now ≡ slice_set flags i (is_eligible_by w after i) → now ≡ counted looks 1 →
-    IsKept w (slice_set standings i mine) flags_now × (counted r.looks (changed_between r (records w (slice_set standings i mine) now)) ≤ now)
-after_one_look w standings after flags flags_now looks now i old mine r is are kept l here next completed s e n =
+pub after_one_look : (w : Wires) (federate_records after : List FederateRecord) (flags flags_now : List Bool) (looks now i : ℕ) (old mine : FederateRecord) (r : Records) →
+    records w federate_records looks ≡ r → AreWires w → IsKept w federate_records flags → i < r.wires.federates → old ≡ get_or federate_records i old → mine.next ≡ old.next →
+    mine.completed ≡ old.completed → after ≡ slice_set federate_records i mine → flags_now ≡ slice_set flags i (is_eligible_by w after i) → now ≡ counted looks 1 →
+    IsKept w (slice_set federate_records i mine) flags_now × (counted r.looks (changed_between r (records w (slice_set federate_records i mine) now)) ≤ now)
+after_one_look w federate_records after flags flags_now looks now i old mine r is are kept l here next completed s e n =
     let count = ap (λ (x : Records). x.wires.federates) is in
     let there : i < w.federates = omega (arith, count, l) in
-    let within : i < length standings = omega (arith, there, kept.standing_count) in
-    let own = standing_is standings i old within here in
-    let own_next = next ∙ ap (λ (x : Standing). x.next) own in
-    let own_completed = completed ∙ ap (λ (x : Standing). x.completed) own in (
-      kept_after_one_look w standings after flags flags_now i mine are kept there s own_next own_completed e,
-      counts_one_look w standings looks now i mine r is are within own_next own_completed n,
+    let within : i < length federate_records = omega (arith, there, kept.federate_record_count) in
+    let own = federate_record_is federate_records i old within here in
+    let own_next = next ∙ ap (λ (x : FederateRecord). x.next) own in
+    let own_completed = completed ∙ ap (λ (x : FederateRecord). x.completed) own in (
+      kept_after_one_look w federate_records after flags flags_now i mine are kept there s own_next own_completed e,
+      counts_one_look w federate_records looks now i mine r is are within own_next own_completed n,
     )
 
 -- ---- changes that nobody's eligibility rests on
 
-pub after_transit : (w : Wires) (standings : List Standing) (flags : List Bool) (looks i : ℕ) (old mine : Standing) (tags : List LogicalTime) (r : Records) →
-    records w standings looks ≡ r → AreWires w → IsKept w standings flags → i < r.wires.federates → old ≡ get_or standings i old →
-    mine ≡ record old { transit = tags } → IsKept w (slice_set standings i mine) flags
-after_transit w standings flags looks i old mine tags r is are kept l here e =
+pub after_transit : (w : Wires) (federate_records : List FederateRecord) (flags : List Bool) (looks i : ℕ) (old mine : FederateRecord) (tags : List LogicalTime) (r : Records) →
+    records w federate_records looks ≡ r → AreWires w → IsKept w federate_records flags → i < r.wires.federates → old ≡ get_or federate_records i old →
+    mine ≡ record old { transit = tags } → IsKept w (slice_set federate_records i mine) flags
+after_transit w federate_records flags looks i old mine tags r is are kept l here e =
     let count = ap (λ (x : Records). x.wires.federates) is in
     let there : i < w.federates = omega (arith, count, l) in
-    let own = standing_is standings i old (omega (arith, there, kept.standing_count)) here in
-    let alike : mine ≡ record (standing_at standings i) { transit = tags } = e ∙ ap (λ (x : Standing). record x { transit = tags }) own in
-    subst (λ x. IsKept w (slice_set standings i x) flags) (sym alike) (kept_with_transit w standings flags i tags are kept there)
+    let own = federate_record_is federate_records i old (omega (arith, there, kept.federate_record_count)) here in
+    let alike : mine ≡ record (federate_record_at federate_records i) { transit = tags } = e ∙ ap (λ (x : FederateRecord). record x { transit = tags }) own in
+    subst (λ x. IsKept w (slice_set federate_records i x) flags) (sym alike) (kept_with_transit w federate_records flags i tags are kept there)

@@ -9,7 +9,7 @@ use Rattle.std.proofs.lemmas.Bool.Decides.{nat_tests}
 use Rattle.tag.specs.LogicalTime.{LogicalTime, is_before, lesser}
 use Rattle.tag.specs.contracts.finite_tag.FiniteTagOrd.TheImpl as finite_tag_ord
 use Rattle.tag.proofs.Order.{before_transitive, not_at_most}
-use Rattle.protocol.specs.Standing.{with_tag, least_with}
+use Rattle.protocol.specs.FederateRecord.{with_tag, least_with}
 use Rattle.grants.specs.Transit.{lesser_with, has_up_to, Rises}
 
 -- the order of the set's tags

@@ -1,15 +1,15 @@
--- What a table keeps: of each federate its standing, and whether it is eligible.
+-- What a table keeps: of each federate its record, and whether it is eligible.
 use Rattle.std.specs.Prelude.{◌≡◌, ℕ, ◌+◌, ◌<◌, Bool, false, List, [], ◌∷◌, length, slice_index_or, slice_set, if◌then◌else◌}
 use Rattle.std.specs.List.{fold}
-use Rattle.protocol.specs.Standing.{Standing}
+use Rattle.protocol.specs.FederateRecord.{FederateRecord}
 use Rattle.grants.specs.Wires.{Wires}
 use Rattle.grants.specs.Records.{is_eligible_by}
 
--- a standing for each federate, and a flag that says whether it is eligible
-pub record IsKept (w : Wires) (standings : List Standing) (flags : List Bool) : Type 0 where
-  pub standing_count : length standings ≡ w.federates
+-- a record for each federate, and a flag that says whether it is eligible
+pub record IsKept (w : Wires) (federate_records : List FederateRecord) (flags : List Bool) : Type 0 where
+  pub federate_record_count : length federate_records ≡ w.federates
   pub flag_count : length flags ≡ w.federates
-  pub each : (j : ℕ) → j < w.federates → slice_index_or flags j false ≡ is_eligible_by w standings j
+  pub each : (j : ℕ) → j < w.federates → slice_index_or flags j false ≡ is_eligible_by w federate_records j
 
 -- how many flags are set
 abbrev pub set_count : List Bool → ℕ

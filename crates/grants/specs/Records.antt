@@ -2,41 +2,41 @@
 use Rattle.std.specs.Prelude.{◌≡◌, ℕ, Bool, List, length, slice_set}
 use Rattle.plan.specs.declared.draft.Draft.{Draft}
 use Rattle.plan.specs.Federation.{federate_count}
-use Rattle.protocol.specs.Standing.{Standing, initial_standing}
-use Rattle.protocol.specs.Standings.{standing_at, standings_listed}
+use Rattle.protocol.specs.FederateRecord.{FederateRecord, initial_federate_record}
+use Rattle.protocol.specs.FederateRecords.{federate_record_at, federate_records_listed}
 use Rattle.protocol.specs.Grant.{is_eligible}
 use Rattle.grants.specs.Wires.{Wires, AreWires, wires_of, network_by, least_by}
 
--- the wiring, each federate's standing by number, and how often a federate was looked at
+-- the wiring, each federate's record by number, and how often a federate was looked at
 pub record Records : Type 0 where
   pub wires : Wires
-  pub standings : List Standing
+  pub federate_records : List FederateRecord
   pub looks : ℕ
 
 -- before any signal came
 abbrev pub initial_records : Draft → Records
-initial_records d = record { wires = wires_of d; standings = standings_listed (federate_count d) (λ j. initial_standing); looks = 0 }
+initial_records d = record { wires = wires_of d; federate_records = federate_records_listed (federate_count d) (λ j. initial_federate_record); looks = 0 }
 
--- with another standing of federate i
-abbrev pub with_standing : Records → ℕ → Standing → Records
-with_standing r i mine = record r { standings = slice_set r.standings i mine }
+-- with another record of federate i
+abbrev pub with_federate_record : Records → ℕ → FederateRecord → Records
+with_federate_record r i mine = record r { federate_records = slice_set r.federate_records i mine }
 
--- with federate i's standing changed so
-abbrev pub changed_at : Records → ℕ → (Standing → Standing) → Records
-changed_at r i change = with_standing r i (change (standing_at r.standings i))
+-- with federate i's record changed so
+abbrev pub changed_at : Records → ℕ → (FederateRecord → FederateRecord) → Records
+changed_at r i change = with_federate_record r i (change (federate_record_at r.federate_records i))
 
 -- with another count of looks
 abbrev pub with_looks : Records → ℕ → Records
 with_looks r looks = record r { looks = looks }
 
 -- whether federate j is eligible where all stand so, by the table of least delays
-abbrev pub is_eligible_by : Wires → List Standing → ℕ → Bool
-is_eligible_by w standings j = is_eligible (network_by w) (least_by w) (standing_at standings) j
+abbrev pub is_eligible_by : Wires → List FederateRecord → ℕ → Bool
+is_eligible_by w federate_records j = is_eligible (network_by w) (least_by w) (federate_record_at federate_records) j
 
 abbrev pub is_eligible_in : Records → ℕ → Bool
-is_eligible_in r j = is_eligible_by r.wires r.standings j
+is_eligible_in r j = is_eligible_by r.wires r.federate_records j
 
--- a standing for each federate, and wiring that is sound
+-- a record for each federate, and wiring that is sound
 pub record AreRecords (r : Records) : Type 0 where
-  pub count : length r.standings ≡ r.wires.federates
+  pub count : length r.federate_records ≡ r.wires.federates
   pub wires : AreWires r.wires

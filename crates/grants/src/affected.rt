@@ -1,12 +1,12 @@
 ghost use Rattle.std.specs.Prelude.{◌≡◌, ◌↔◌, ℕ, ◌+◌, ◌-◌, ◌^◌, ◌<◌, All, IfOk, true, false, if◌then◌else◌, length, replicate, slice_index_or, slice_set};
 ghost use Rattle.protocol.specs.Grant.{is_eligible};
-ghost use Rattle.protocol.specs.Standings.{standing_at};
+ghost use Rattle.protocol.specs.FederateRecords.{federate_record_at};
 ghost use Rattle.grants.specs.Wires.{least_by, network_by};
 ghost use Rattle.grants.specs.Looks.{counted};
 ghost use Rattle.grants.specs.Invariant.{flags_after};
 
+use crate::federate_record::FederateRecord;
 use crate::memory::Memory;
-use crate::standing::Standing;
 use crate::wiring::Wiring;
 use std::alloc::Global;
 use std::marker::Model;
@@ -68,32 +68,37 @@ impl AffectedFederates {
     }
 
     /// Looks at a federate: tests whether it is eligible, and counts that.
-    pub fn look(&mut self, wiring: &Wiring, standings: &[Standing], federate: usize)
-        requires count { length standings.now ≡ wiring.now.federates }
+    pub fn look(&mut self, wiring: &Wiring, federate_records: &[FederateRecord], federate: usize)
+        requires count { length federate_records.now ≡ wiring.now.federates }
         requires federate { federate < wiring.now.federates }
         requires flags { length self.old.eligible ≡ wiring.now.federates }
-        ensures eligible { self.new.eligible ≡ slice_set self.old.eligible federate (is_eligible (network_by wiring.now) (least_by wiring.now) (standing_at standings.now) federate) }
+        ensures eligible { self.new.eligible ≡ slice_set self.old.eligible federate (is_eligible (network_by wiring.now) (least_by wiring.now) (federate_record_at federate_records.now) federate) }
         ensures looks { self.new.looks ≡ counted self.old.looks 1 }
     {
         let was = self.eligible[federate];
-        let is = wiring.is_eligible(standings, federate);
+        let is = wiring.is_eligible(federate_records, federate);
         self.eligible[federate] = is;
         self.eligible_count = count_after(self.eligible_count, was, is);
         self.looks = self.looks.saturating_add(1);
     }
 
     /// Looks at each of these federates.
-    pub fn look_at_each(&mut self, wiring: &Wiring, standings: &[Standing], federates: &[usize])
-        requires count { length standings.now ≡ wiring.now.federates }
+    pub fn look_at_each(
+        &mut self,
+        wiring: &Wiring,
+        federate_records: &[FederateRecord],
+        federates: &[usize],
+    )
+        requires count { length federate_records.now ≡ wiring.now.federates }
         requires federates { All (λ j. j < wiring.now.federates) federates.now }
         requires flags { length self.old.eligible ≡ wiring.now.federates }
-        ensures eligible { self.new.eligible ≡ flags_after (is_eligible (network_by wiring.now) (least_by wiring.now) (standing_at standings.now)) federates.now self.old.eligible }
+        ensures eligible { self.new.eligible ≡ flags_after (is_eligible (network_by wiring.now) (least_by wiring.now) (federate_record_at federate_records.now)) federates.now self.old.eligible }
         ensures looks { self.new.looks ≡ counted self.old.looks (length federates.now) }
     {
         // For the prover: looks stay below 2^64.
         let _ = &self.looks;
         for federate in federates {
-            self.look(wiring, standings, *federate);
+            self.look(wiring, federate_records, *federate);
         }
     }
 }

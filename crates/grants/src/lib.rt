@@ -3,7 +3,7 @@
 //! Promise to the layer above: after any list of changes `eligible` answers by the records what the grant rule says over all
 //! paths, and `grant` is the widest grant. A change looks only at the federates that it may make eligible.
 //!
-//!     set_next(i) --> standings[i] --> AffectedFederates::look at i, and at each federate that a path leads to from i
+//!     set_next(i) --> records[i] --> AffectedFederates::look at i, and at each federate that a path leads to from i
 //!                                          +--> Wiring::is_eligible --> Wiring::bound     counts one
 //!     set_completed(i) --> the same at each federate that a connection leads to from i
 //!     eligible(j) --> the flag that the last look set
@@ -14,10 +14,10 @@
 
 mod affected;
 mod bounds;
+mod federate_record;
 pub mod meaning;
 pub mod memory;
 mod routes;
-mod standing;
 pub mod table;
 mod wiring;
 

@@ -10,7 +10,7 @@ pub struct Memory;
 impl Memory {
     ghost use Rattle.grants.specs.Fault.{memory_number};
 
-    /// The number by which it is told.
+    /// The number by which it is printed.
     pub const fn number(self) -> u16
         ensures { result ≡ memory_number }
     {

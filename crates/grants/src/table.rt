@@ -1,7 +1,7 @@
 ghost use Rattle.std.specs.Prelude.{◌≡◌, ◌↔◌, ℕ, ◌+◌, ◌<◌, ◌≤◌, IfOk, OnOk, OnErr, IsTrue, Some, false, filter, length, slice_get};
 ghost use Rattle.tag.specs.LogicalTime.{LogicalTime, is_before, lesser, origin, predecessor_of};
-ghost use Rattle.protocol.specs.Standing.{least_with, initial_standing, with_tag};
-ghost use Rattle.protocol.specs.Standings.{standing_at, standings_listed};
+ghost use Rattle.protocol.specs.FederateRecord.{least_with, initial_federate_record, with_tag};
+ghost use Rattle.protocol.specs.FederateRecords.{federate_record_at, federate_records_listed};
 ghost use Rattle.protocol.specs.Grant.{Eligible, grant_widest};
 ghost use Rattle.protocol.specs.Bound.{IsWidest};
 ghost use Rattle.grants.specs.Transit.{lesser_with};
@@ -11,8 +11,8 @@ ghost use Rattle.grants.specs.Looks.{changed_between, counted, reached_from};
 ghost use Rattle.grants.specs.Routes.{connected_to, looked_at};
 
 use crate::affected::AffectedFederates;
+use crate::federate_record::FederateRecord;
 use crate::memory::Memory;
-use crate::standing::Standing;
 use crate::wiring::Wiring;
 use plan::Plan;
 use std::alloc::Global;
@@ -24,7 +24,7 @@ use tag::{FiniteTag, Tag, pred};
 #[derive(Drop)]
 pub struct Table {
     wiring: Wiring,
-    standings: Vec<Standing>,
+    federate_records: Vec<FederateRecord>,
     affected: AffectedFederates,
 }
 
@@ -34,9 +34,9 @@ impl Model for Table {
 
     ghost Value = { Records };
 
-    ghost view = { λ t. record { wires = t.wiring; standings = t.standings.items; looks = t.affected.looks } };
+    ghost view = { λ t. record { wires = t.wiring; federate_records = t.federate_records.items; looks = t.affected.looks } };
 
-    ghost invariant = { λ t. IsKept t.wiring t.standings.items t.affected.eligible };
+    ghost invariant = { λ t. IsKept t.wiring t.federate_records.items t.affected.eligible };
 }
 
 impl Table {
@@ -45,11 +45,11 @@ impl Table {
         ensures { IfOk result (λ table. table ≡ initial_records plan.now) }
     {
         let wiring = Wiring::new(alloc, plan)?;
-        let standings = initial_standings(alloc, plan.federate_count())?;
+        let federate_records = initial_federate_records(alloc, plan.federate_count())?;
         let affected = AffectedFederates::new(alloc, plan.federate_count())?;
         Ok(Table {
             wiring,
-            standings,
+            federate_records,
             affected,
         })
     }
@@ -77,42 +77,42 @@ impl Table {
     /// The tag of a federate's last LTC.
     pub fn completed(&self, federate: usize) -> Option<FiniteTag>
         requires { federate < self.now.wires.federates }
-        ensures { result ≡ (standing_at self.now.standings federate).completed }
+        ensures { result ≡ (federate_record_at self.now.federate_records federate).completed }
     {
-        self.standings[federate].completed()
+        self.federate_records[federate].completed()
     }
 
     /// The last TAG to a federate.
     pub fn granted(&self, federate: usize) -> Option<FiniteTag>
         requires { federate < self.now.wires.federates }
-        ensures { result ≡ (standing_at self.now.standings federate).granted }
+        ensures { result ≡ (federate_record_at self.now.federate_records federate).granted }
     {
-        self.standings[federate].granted()
+        self.federate_records[federate].granted()
     }
 
     /// Whether a NET of a federate came.
     pub fn announced(&self, federate: usize) -> bool
         requires { federate < self.now.wires.federates }
-        ensures { result ≡ (standing_at self.now.standings federate).announced }
+        ensures { result ≡ (federate_record_at self.now.federate_records federate).announced }
     {
-        self.standings[federate].announced()
+        self.federate_records[federate].announced()
     }
 
     /// Before this tag a federate does nothing, unless a message is routed to it first.
     pub fn next(&self, federate: usize) -> Tag
         requires { federate < self.now.wires.federates }
-        ensures { result ≡ (standing_at self.now.standings federate).next }
+        ensures { result ≡ (federate_record_at self.now.federate_records federate).next }
     {
-        self.standings[federate].next()
+        self.federate_records[federate].next()
     }
 
     /// The least tag of a message on its way to a federate.
     pub fn least_transit(&self, federate: usize) -> Option<FiniteTag>
         requires { federate < self.now.wires.federates }
-        ensures first { result ≡ slice_get (standing_at self.now.standings federate).transit 0 }
-        ensures least { (tag : LogicalTime) → least_with tag (standing_at self.now.standings federate).transit ≡ lesser_with tag result }
+        ensures first { result ≡ slice_get (federate_record_at self.now.federate_records federate).transit 0 }
+        ensures least { (tag : LogicalTime) → least_with tag (federate_record_at self.now.federate_records federate).transit ≡ lesser_with tag result }
     {
-        self.standings[federate].least_transit()
+        self.federate_records[federate].least_transit()
     }
 
     /// How often a federate was looked at since `new`: at most 2^64 - 1.
@@ -125,7 +125,7 @@ impl Table {
     /// Whether a federate gets a grant.
     pub fn eligible(&self, federate: usize) -> bool
         requires { federate < self.now.wires.federates }
-        ensures paths { IsTrue result ↔ Eligible (network_by self.now.wires) (standing_at self.now.standings) federate }
+        ensures paths { IsTrue result ↔ Eligible (network_by self.now.wires) (federate_record_at self.now.federate_records) federate }
         ensures table { result ≡ is_eligible_in self.now federate }
     {
         // For the prover: the least delays are least over all paths.
@@ -144,12 +144,14 @@ impl Table {
     pub fn grant(&self, federate: usize) -> FiniteTag
         requires federate { federate < self.now.wires.federates }
         requires eligible { IsTrue (is_eligible_in self.now federate) }
-        ensures widest { IsWidest (network_by self.now.wires) (standing_at self.now.standings) federate result }
-        ensures rule { grant_widest (network_by self.now.wires) (least_by self.now.wires) (standing_at self.now.standings) federate ≡ Some result }
+        ensures widest { IsWidest (network_by self.now.wires) (federate_record_at self.now.federate_records) federate result }
+        ensures rule { grant_widest (network_by self.now.wires) (least_by self.now.wires) (federate_record_at self.now.federate_records) federate ≡ Some result }
     {
         // For the prover: the least delays are least over all paths.
         self.wiring.invariant();
-        let bound = self.wiring.bound(self.standings.as_slice(), federate);
+        let bound = self
+            .wiring
+            .bound(self.federate_records.as_slice(), federate);
         last_before(bound, self.wiring.stop())
     }
 
@@ -171,11 +173,11 @@ impl Table {
     {
         // For the prover: the least delays are least over all paths.
         self.wiring.invariant();
-        let standing = &mut self.standings[federate];
-        standing.set_next(next);
+        let federate_record = &mut self.federate_records[federate];
+        federate_record.set_next(next);
         let federates = self.wiring.looked_at(federate);
         self.affected
-            .look_at_each(&self.wiring, self.standings.as_slice(), federates);
+            .look_at_each(&self.wiring, self.federate_records.as_slice(), federates);
     }
 
     /// Sets the tag of a federate's last LTC. It looks at each federate that a connection leads to from it: what it completed bears
@@ -188,11 +190,11 @@ impl Table {
     {
         // For the prover: the least delays are least over all paths.
         self.wiring.invariant();
-        let standing = &mut self.standings[federate];
-        standing.set_completed(completed);
+        let federate_record = &mut self.federate_records[federate];
+        federate_record.set_completed(completed);
         let federates = self.wiring.connected_to(federate);
         self.affected
-            .look_at_each(&self.wiring, self.standings.as_slice(), federates);
+            .look_at_each(&self.wiring, self.federate_records.as_slice(), federates);
     }
 
     /// Sets whether a NET of a federate came. It looks at that federate alone.
@@ -204,10 +206,10 @@ impl Table {
     {
         // For the prover: the least delays are least over all paths.
         self.wiring.invariant();
-        let standing = &mut self.standings[federate];
-        standing.set_announced(announced);
+        let federate_record = &mut self.federate_records[federate];
+        federate_record.set_announced(announced);
         self.affected
-            .look(&self.wiring, self.standings.as_slice(), federate);
+            .look(&self.wiring, self.federate_records.as_slice(), federate);
     }
 
     /// Sets the last TAG to a federate. It looks at that federate alone.
@@ -219,10 +221,10 @@ impl Table {
     {
         // For the prover: the least delays are least over all paths.
         self.wiring.invariant();
-        let standing = &mut self.standings[federate];
-        standing.set_granted(granted);
+        let federate_record = &mut self.federate_records[federate];
+        federate_record.set_granted(granted);
         self.affected
-            .look(&self.wiring, self.standings.as_slice(), federate);
+            .look(&self.wiring, self.federate_records.as_slice(), federate);
     }
 
     /// A message with this tag is on its way to a federate. It looks at nobody.
@@ -233,8 +235,8 @@ impl Table {
     {
         // For the prover: the least delays are least over all paths.
         self.wiring.invariant();
-        let standing = &mut self.standings[federate];
-        standing.add_transit(tag)
+        let federate_record = &mut self.federate_records[federate];
+        federate_record.add_transit(tag)
     }
 
     /// No message up to this tag is on its way to a federate. It looks at nobody.
@@ -244,20 +246,20 @@ impl Table {
     {
         // For the prover: the least delays are least over all paths.
         self.wiring.invariant();
-        let standing = &mut self.standings[federate];
-        standing.drop_transit(completed);
+        let federate_record = &mut self.federate_records[federate];
+        federate_record.drop_transit(completed);
     }
 }
 
-/// So many standings, before any signal came.
-fn initial_standings(alloc: Global, count: usize) -> Result<Vec<Standing>, Memory>
-    ensures { IfOk result (λ standings. standings.items ≡ standings_listed count (λ j. initial_standing)) }
+/// So many records, before any signal came.
+fn initial_federate_records(alloc: Global, count: usize) -> Result<Vec<FederateRecord>, Memory>
+    ensures { IfOk result (λ federate_records. federate_records.items ≡ federate_records_listed count (λ j. initial_federate_record)) }
 {
-    let mut standings = Vec::new(alloc);
+    let mut federate_records = Vec::new(alloc);
     for _federate in 0..count {
-        standings.push(Standing::new(alloc))?;
+        federate_records.push(FederateRecord::new(alloc))?;
     }
-    Ok(standings)
+    Ok(federate_records)
 }
 
 /// The last tag before this one, which isn't the first, or stop if that is earlier.

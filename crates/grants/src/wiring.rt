@@ -2,14 +2,14 @@ ghost use Rattle.std.specs.Prelude.{◌≡◌, ◌<◌, IfOk, length};
 ghost use Rattle.plan.specs.Federation.{federate_count, connections_of};
 ghost use Rattle.tag.specs.LogicalTime.{is_before};
 ghost use Rattle.protocol.specs.Grant.{bound_of, is_eligible};
-ghost use Rattle.protocol.specs.Standings.{standing_at};
+ghost use Rattle.protocol.specs.FederateRecords.{federate_record_at};
 ghost use Rattle.grants.specs.Wires.{AreWires, least_by, network_by, wires_of};
 ghost use Rattle.grants.specs.Routes.{connected_to, looked_at, routed_below};
 
 use crate::bounds::{first_incoming, first_upstream, passes_incoming, passes_upstream};
+use crate::federate_record::FederateRecord;
 use crate::memory::Memory;
 use crate::routes::Routes;
-use crate::standing::Standing;
 use plan::Plan;
 use plan_paths::Connection;
 use std::alloc::Global;
@@ -91,38 +91,39 @@ impl Wiring {
 
     /// Before this tag nothing can still arrive at a federate. It goes over those from which a path leads to it, and over the
     /// connections that end at it.
-    pub fn bound(&self, standings: &[Standing], federate: usize) -> Tag
-        requires count { length standings.now ≡ self.now.federates }
+    pub fn bound(&self, federate_records: &[FederateRecord], federate: usize) -> Tag
+        requires count { length federate_records.now ≡ self.now.federates }
         requires federate { federate < self.now.federates }
-        ensures { result ≡ bound_of (network_by self.now) (least_by self.now) (standing_at standings.now) federate }
+        ensures { result ≡ bound_of (network_by self.now) (least_by self.now) (federate_record_at federate_records.now) federate }
     {
         let routes = &self.routes[federate];
-        let by_paths = first_upstream(routes.upstream(), standings);
-        let by_connections = first_incoming(routes.incoming(), standings);
+        let by_paths = first_upstream(routes.upstream(), federate_records);
+        let by_connections = first_incoming(routes.incoming(), federate_records);
         greater(by_paths, by_connections)
     }
 
     /// Whether a tag is before the bound: nothing can still arrive at the federate then, over any path or over the connections
     /// that end at it. It looks no further than it has to.
-    pub fn passes(&self, tag: Tag, standings: &[Standing], federate: usize) -> bool
-        requires count { length standings.now ≡ self.now.federates }
+    pub fn passes(&self, tag: Tag, federate_records: &[FederateRecord], federate: usize) -> bool
+        requires count { length federate_records.now ≡ self.now.federates }
         requires federate { federate < self.now.federates }
-        ensures { result ≡ is_before tag (bound_of (network_by self.now) (least_by self.now) (standing_at standings.now) federate) }
+        ensures { result ≡ is_before tag (bound_of (network_by self.now) (least_by self.now) (federate_record_at federate_records.now) federate) }
     {
         let routes = &self.routes[federate];
-        passes_incoming(tag, routes.incoming(), standings)
-            || passes_upstream(tag, routes.upstream(), standings)
+        passes_incoming(tag, routes.incoming(), federate_records)
+            || passes_upstream(tag, routes.upstream(), federate_records)
     }
 
     /// Whether a federate gets a grant: it has announced, and its next tag isn't granted yet, not later than stop, and before the
     /// bound.
-    pub fn is_eligible(&self, standings: &[Standing], federate: usize) -> bool
-        requires count { length standings.now ≡ self.now.federates }
+    pub fn is_eligible(&self, federate_records: &[FederateRecord], federate: usize) -> bool
+        requires count { length federate_records.now ≡ self.now.federates }
         requires federate { federate < self.now.federates }
-        ensures { result ≡ is_eligible (network_by self.now) (least_by self.now) (standing_at standings.now) federate }
+        ensures { result ≡ is_eligible (network_by self.now) (least_by self.now) (federate_record_at federate_records.now) federate }
     {
-        let standing = &standings[federate];
-        standing.is_waiting(self.stop) && self.passes(standing.next(), standings, federate)
+        let federate_record = &federate_records[federate];
+        federate_record.is_waiting(self.stop)
+            && self.passes(federate_record.next(), federate_records, federate)
     }
 }
 

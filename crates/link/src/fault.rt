@@ -24,7 +24,7 @@ pub enum LinkFault {
 impl LinkFault {
     ghost use Rattle.link.specs.Fault.{number_of};
 
-    /// The number by which it is told.
+    /// The number by which it is printed.
     pub const fn number(self) -> u16
         ensures { result ≡ number_of self }
     {

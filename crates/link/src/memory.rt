@@ -12,7 +12,7 @@ impl Memory {
     ghost use Rattle.link.specs.Fault.{number_of};
     ghost use Rattle.link.specs.declared.fault.LinkFault.TheVariants as LinkFaults;
 
-    /// The number by which it is told.
+    /// The number by which it is printed.
     pub const fn number(self) -> u16
         ensures { result ≡ number_of LinkFaults.Memory }
     {

@@ -65,7 +65,7 @@ greeting None = []
 greeting (Some frame) = frame ∷ []
 
 -- what may be done at a side: a frame that the other sent at this place comes, and its signal, if it is one in its turn, is taken or
--- isn't; the node sends signals; all that is kept is sent again; the other side is greeted; the link is closed, and the other side told so
+-- isn't; the node sends signals; all that is kept is sent again; the other side is greeted; the link is closed, and the other side is answered so
 -- with a number; or a frame of another incarnation is sent
 pub data Act : Type 0 where
   Gets : (place : ℕ) → (is_taken : Bool) → Act

@@ -19,7 +19,7 @@ pub fn of_plan(fault: PlanFault) -> LoadFault
 
 /// A fault of a federate's program, as a fault of a file; without memory for the federate's name it is Memory.
 pub fn of_program(federate: &Text, fault: ProgramFault) -> LoadFault
-    ensures told { (result ≡ LoadFault.Memory) ⊎ (result ≡ LoadFault.Program federate.now fault) }
+    ensures fault { (result ≡ LoadFault.Memory) ⊎ (result ≡ LoadFault.Program federate.now fault) }
     ensures memory { fault ≡ ProgramFault.Memory → result ≡ LoadFault.Memory }
 {
     if let ProgramFault::Memory = fault {

@@ -9,7 +9,7 @@ use reactor_program::ProgramFault;
 use std::alloc::{AllocError, AllocFailed};
 use std::fmt;
 
-/// Why a file isn't taken. Nothing of it is kept. But for `Memory`, whoever wrote the file caused it: the caller tells them, and
+/// Why a file isn't taken. Nothing of it is kept. But for `Memory`, whoever wrote the file caused it: the caller prints them, and
 /// may load the file again once it is changed.
 #[derive(Debug, Drop)]
 pub enum LoadFault {

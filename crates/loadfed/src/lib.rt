@@ -1,6 +1,6 @@
 //! The two files of a federation: what it is, and the inputs recorded for it.
 //!
-//! Promise to the layer above: `load` and `load_inputs` take exactly the texts that `specs/` says, and tell where a
+//! Promise to the layer above: `load` and `load_inputs` take exactly the texts that `specs/` says, and answer where a
 //! fault stands. Begin with `federation`, then `arrays`, which reads arrays of tables. Each table is read key by key,
 //! by the crate `loadfed_tables`.
 #![tactic(auto)]

@@ -2,7 +2,7 @@
 pub mod Dots
 -- a key says one thing
 pub mod OneReading
--- faults told upward
+-- faults answered upward
 pub mod Refusals
 -- one reading of a key by another, and entries of arrays
 pub mod KeyReadings

@@ -1,4 +1,4 @@
--- A fault that is told upward stands above too.
+-- A fault that is answered upward stands above too.
 use Rattle.std.proofs.Common.{◌≡◌, ◌⊎◌, inl, inr, List, ℕ}
 use Rattle.std.specs.Prelude.{Result, Ok, Err, IfErr}
 use Rattle.loadfed_tables.specs.declared.fault.TableFault.{TableFault}
@@ -14,7 +14,7 @@ weaker key S T fault more (inr wrong) = inr (record {
   nothing = λ y says. wrong.nothing (more y says).0 (more y says).1;
 })
 
--- a key is told where nothing stands that may
+-- a key is answered where nothing stands that may
 pub told : {X : Type 0} (key : List ℕ) (S : X → Type 0) (fault : TableFault) → ((x : X) → S x → ⊥)
     → (fault ≡ Memory) ⊎ (fault ≡ WrongShape key) → (fault ≡ Memory) ⊎ IsWrongAt key S fault
 told key S fault none (inl memory) = inl memory

@@ -77,7 +77,7 @@ received_at ends peer frame (Some e) = set ends peer (after_frame e frame)
 abbrev pub received : ℕ → Frame → Mail → Mail
 received peer frame m = record m { ends = received_at m.ends peer frame (slice_get m.ends peer) }
 
--- a signal that its node refuses isn't taken; if the refusal closes the link, the peer is told so
+-- a signal that its node refuses isn't taken; if the refusal closes the link, the peer is answered so
 abbrev pub refused : {View : Type 0} → Station View → ℕ → Image → (number : ℕ) → (closing : Bool) → Stepped View
 refused s peer e number true =
     record {

@@ -20,7 +20,7 @@ pub enum NodeFault {
 impl NodeFault {
     ghost use Rattle.node.specs.Numbers.{fault_number};
 
-    /// The number by which a station tells it.
+    /// The number by which a station answers it.
     pub fn number(self) -> u16
         ensures { result ≡ fault_number self }
     {

@@ -10,7 +10,7 @@ pub struct Memory;
 impl Memory {
     ghost use Rattle.node.specs.Numbers.{out_of_memory};
 
-    /// The number by which it is told.
+    /// The number by which it is printed.
     pub fn number(self) -> u16
         ensures { result ≡ out_of_memory }
     {

@@ -46,7 +46,7 @@ pub trait Node: Drop {
         ensures memory { result ≡ Err Faults.Memory → (self.new ≡ self.old) × (outbox.new.mail ≡ outbox.old.mail) × Allows (core.advance self.old) }
         ensures lawful { SendsOnly (core.may_send self.old) (core.advance self.old) };
 
-    /// Whether the others are linked to this one: it tells a stranger so.
+    /// Whether the others are linked to this one: it answers a stranger so.
     fn is_hub(&self) -> bool
         ensures { result ≡ HUB };
 

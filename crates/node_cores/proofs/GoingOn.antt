@@ -11,7 +11,7 @@ use Rattle.signal.specs.declared.signal.Signal.TheVariants.{Net, Ltc, Tag, Msg}
 use Rattle.protocol.specs.declared.refusal.Refusal.{Refusal}
 use Rattle.protocol.specs.Outcome.{Outcome, Refused, Nothing, Done, with_made, IfDone}
 use Rattle.protocol.specs.Federate.{Federate, Stepped, is_told, next_event, accept_message, advance_to, row_of_turn, turn_at, federate_accepts, federate_announces, federate_advances}
-use Rattle.protocol.specs.Standings.{Listed}
+use Rattle.protocol.specs.FederateRecords.{Listed}
 use Rattle.node.specs.Core.{Made, GoesOn, IsCore}
 use Rattle.node_cores.specs.FederateCore.{FederateNode, made_by, network_at, federate_core}
 use Rattle.node_cores.specs.CoordinatorCore as coordinator

@@ -6,8 +6,8 @@ use Rattle.network.specs.Wiring.{wiring}
 use Rattle.signal.specs.declared.signal.Signal.{Signal}
 use Rattle.protocol.specs.declared.post.Post.{Post}
 use Rattle.protocol.specs.Outcome.{Outcome, Nothing, with_made}
-use Rattle.protocol.specs.Standing.{Standing, initial_standing}
-use Rattle.protocol.specs.Standings.{Listed, standing_at, standings_listed, coordinator_accepts_in, is_finished}
+use Rattle.protocol.specs.FederateRecord.{FederateRecord, initial_federate_record}
+use Rattle.protocol.specs.FederateRecords.{Listed, federate_record_at, federate_records_listed, coordinator_accepts_in, is_finished}
 use Rattle.protocol.specs.Grant.{Rule, grant_widest, all_below}
 use Rattle.protocol.specs.Machine.{sent_to}
 use Rattle.protocol.specs.Alone.{is_of_step, is_sent_past}
@@ -19,7 +19,7 @@ use Rattle.plan.specs.Least.{least_of}
 -- what it was made from, and what it knows of each federate, by number
 pub record CoordinatorNode : Type 0 where
   pub draft : Draft
-  pub standings : List Standing
+  pub federate_records : List FederateRecord
 
 -- the wiring of a plan's federation
 abbrev pub wiring_in : Draft → Network
@@ -31,20 +31,20 @@ rule_in d = grant_widest (wiring_in d) (least_of d)
 
 -- the node after a step, and what it sends
 abbrev pub made_by : CoordinatorNode → Listed → Made CoordinatorNode
-made_by v made = record { after = record v { standings = made.after }; sent = made.sent }
+made_by v made = record { after = record v { federate_records = made.after }; sent = made.sent }
 
 abbrev pub accepts : CoordinatorNode → ℕ → Signal → Outcome (Made CoordinatorNode)
-accepts v peer signal = with_made (made_by v) (coordinator_accepts_in (wiring_in v.draft) (rule_in v.draft) v.standings peer signal)
+accepts v peer signal = with_made (made_by v) (coordinator_accepts_in (wiring_in v.draft) (rule_in v.draft) v.federate_records peer signal)
 
 -- to each federate at most one message and then at most one TAG, both later than what it was granted before
 abbrev pub coordinator_may_send : CoordinatorNode → List Post → Bool
 coordinator_may_send v posts =
     all_below (federate_count v.draft)
-    (λ j. is_of_step (sent_to j posts) && is_sent_past (standing_at v.standings j).granted (sent_to j posts))
+    (λ j. is_of_step (sent_to j posts) && is_sent_past (federate_record_at v.federate_records j).granted (sent_to j posts))
 
 -- as it was made
 abbrev pub initial_node : CoordinatorNode → CoordinatorNode
-initial_node v = record v { standings = standings_listed (federate_count v.draft) (λ j. initial_standing) }
+initial_node v = record v { federate_records = federate_records_listed (federate_count v.draft) (λ j. initial_federate_record) }
 
 -- it says and runs nothing by itself, and has no rows
 abbrev pub coordinator_core : Core CoordinatorNode (Unit {0})
@@ -53,7 +53,7 @@ coordinator_core = record {
   announce = λ v. Nothing;
   advance = λ v. Nothing;
   rows = λ v. [];
-  finished = λ v. is_finished (wiring_in v.draft) (standing_at v.standings);
+  finished = λ v. is_finished (wiring_in v.draft) (federate_record_at v.federate_records);
   initial = initial_node;
   may_send = coordinator_may_send;
 }

@@ -44,7 +44,7 @@ impl Model for Inputs {
 impl Inputs {
     ghost use Rattle.plan.specs.External.{AreInputsOf};
 
-    /// Takes recorded inputs of a plan: of their faults it tells an unknown action first, then a repeated input, then
+    /// Takes recorded inputs of a plan: of their faults it answers an unknown action first, then a repeated input, then
     /// that there are too many.
     #[tactic(auto, using(crate::proofs::Occurrences::some_known))]
     pub fn check(alloc: Global, plan: &Plan, inputs: Vec<Input>) -> Result<Inputs, InputFault>

@@ -5,7 +5,7 @@ ghost use Rattle.plan.specs.InputFaults.{input_number_of, input_name_of};
 use std::alloc::{AllocError, AllocFailed};
 use std::fmt;
 
-/// Why recorded inputs are refused. But for `Memory`, whoever recorded them caused it: the caller tells them, and may check
+/// Why recorded inputs are refused. But for `Memory`, whoever recorded them caused it: the caller prints them, and may check
 /// them again once they are changed. The plan stays as it is.
 #[derive(Clone, Copy, Debug, PartialEq, Eq)]
 pub enum InputFault {

@@ -43,7 +43,7 @@ impl Plan {
     ghost use Rattle.plan.specs.Legal.{IsLegal};
     ghost use Rattle.plan.specs.Faults.{StandsIn};
 
-    /// Plans a legal draft; of the faults of any other it tells one.
+    /// Plans a legal draft; of the faults of any other it answers one.
     pub fn check(alloc: Global, draft: Draft) -> Result<Plan, PlanFault>
         ensures ok { IfOk result (λ plan. plan ≡ draft) }
         ensures legal { OnOk result (IsLegal draft) }
@@ -52,7 +52,7 @@ impl Plan {
         ensures accepts { IsLegal draft → IfErr result (λ e. e ≡ PlanFault.Memory) }
         ensures fault { IfErr result (StandsIn draft) }
 
-        // Of a draft over a limit, or with a timer out of range, it is never told.
+        // Of a draft over a limit, or with a timer out of range, it is never answered.
         ensures memory { IfErr result (λ e. e ≡ PlanFault.Memory → (0 < length draft.federates) × IsWithinAllLimits draft × AreTimersInRange draft) }
     {
         Plan::planned(alloc, draft)

@@ -6,7 +6,7 @@ use plan_names::{Names, PortName, Text};
 use std::alloc::{AllocError, AllocFailed};
 use std::fmt;
 
-/// Why a draft is refused. Nothing of it is kept. But for `Memory`, whoever wrote the draft caused it: the caller tells them,
+/// Why a draft is refused. Nothing of it is kept. But for `Memory`, whoever wrote the draft caused it: the caller prints them,
 /// and may check the draft again once it is changed.
 #[derive(Debug, Drop)]
 pub enum PlanFault {

@@ -9,7 +9,7 @@ use Rattle.network.specs.Undone.{PendingEvent, is_held_before}
 use Rattle.signal.specs.declared.signal.Signal.{Signal}
 use Rattle.signal.specs.declared.signal.Signal.TheVariants.{Net, Ltc, Tag, Msg}
 use Rattle.protocol.specs.Federate.{Federate}
-use Rattle.protocol.specs.Standing.{Standing}
+use Rattle.protocol.specs.FederateRecord.{FederateRecord}
 
 -- the tag of the last row
 abbrev pub last_row_tag : List Row → Option LogicalTime
@@ -32,7 +32,7 @@ pub record IsFederate (n : Network) (j : ℕ) (f : Federate) : Type 0 where
   pub last_row : last_row_tag f.rows ≡ f.completed
 
 -- what the coordinator knows of a federate are tags, and those in transit strictly rise; FOREVER can be its next tag alone
-pub record IsStanding (s : Standing) : Type 0 where
+pub record IsFederateRecord (s : FederateRecord) : Type 0 where
   pub completed : IfSome s.completed IsFinite
   pub granted : IfSome s.granted IsFinite
   pub next : IsLogicalTime s.next

@@ -5,11 +5,11 @@ use Rattle.tag.specs.LogicalTime.{LogicalTime, IsLogicalTime, IsFinite, origin, 
 use Rattle.network.specs.Connection.{Connection, IsLeastDelay}
 use Rattle.network.specs.Network.{Network}
 use Rattle.network.specs.Tables.{Table}
-use Rattle.protocol.specs.Standing.{Standing}
+use Rattle.protocol.specs.FederateRecord.{FederateRecord}
 
 -- which tag to grant a federate, if any, where all stand so
 abbrev pub Rule : Type 0
-Rule = (ℕ → Standing) → ℕ → Option LogicalTime
+Rule = (ℕ → FederateRecord) → ℕ → Option LogicalTime
 
 -- the first tag at which a federate's next turn may be, as far as its LTCs tell
 abbrev pub after_completed : Option LogicalTime → LogicalTime
@@ -17,21 +17,21 @@ after_completed None = origin
 after_completed (Some tag) = successor_of tag
 
 -- nothing that a federate does from its next tag on arrives at or below the tag, over any path
-abbrev pub ByPaths : Network → (ℕ → Standing) → ℕ → LogicalTime → Type 0
-ByPaths n standings j tag =
-    (i : ℕ) (delay : LogicalTime) → IsLeastDelay n.connections i j delay → IsTrue (is_before tag (sum_of (standings i).next delay))
+abbrev pub ByPaths : Network → (ℕ → FederateRecord) → ℕ → LogicalTime → Type 0
+ByPaths n federate_records j tag =
+    (i : ℕ) (delay : LogicalTime) → IsLeastDelay n.connections i j delay → IsTrue (is_before tag (sum_of (federate_records i).next delay))
 
 -- nothing that comes after the last LTC of a federate with a direct connection arrives at or below the tag
-abbrev pub ByConnections : Network → (ℕ → Standing) → ℕ → LogicalTime → Type 0
-ByConnections n standings j tag =
-    (c : Connection) → Contains n.connections c → c.target ≡ j → IsTrue (is_before tag (sum_of (after_completed (standings c.source).completed) c.delay))
+abbrev pub ByConnections : Network → (ℕ → FederateRecord) → ℕ → LogicalTime → Type 0
+ByConnections n federate_records j tag =
+    (c : Connection) → Contains n.connections c → c.target ≡ j → IsTrue (is_before tag (sum_of (after_completed (federate_records c.source).completed) c.delay))
 
 -- a federate that gets TAG(next): it has announced, its next tag isn't granted yet and isn't later than stop, and is safe
-pub record Eligible (n : Network) (standings : ℕ → Standing) (j : ℕ) : Type 0 where
-  pub announced : IsTrue (standings j).announced
-  pub not_granted : IsTrue (is_past (standings j).granted (standings j).next)
-  pub in_time : IsTrue (is_at_most (standings j).next n.stop)
-  pub safe : ByPaths n standings j (standings j).next ⊎ ByConnections n standings j (standings j).next
+pub record Eligible (n : Network) (federate_records : ℕ → FederateRecord) (j : ℕ) : Type 0 where
+  pub announced : IsTrue (federate_records j).announced
+  pub not_granted : IsTrue (is_past (federate_records j).granted (federate_records j).next)
+  pub in_time : IsTrue (is_at_most (federate_records j).next n.stop)
+  pub safe : ByPaths n federate_records j (federate_records j).next ⊎ ByConnections n federate_records j (federate_records j).next
 
 -- the test holds of all numbers below this one
 abbrev pub all_below : ℕ → (ℕ → Bool) → Bool
@@ -44,27 +44,27 @@ is_before_arrival tag next None = true
 is_before_arrival tag next (Some delay) = is_before tag (sum_of next delay)
 
 -- by the table: nothing arrives at or below the tag over any path
-abbrev pub passes_paths : Network → Table → (ℕ → Standing) → ℕ → LogicalTime → Bool
-passes_paths n table standings j tag = all_below n.reactors (λ i. is_before_arrival tag (standings i).next (table i j))
+abbrev pub passes_paths : Network → Table → (ℕ → FederateRecord) → ℕ → LogicalTime → Bool
+passes_paths n table federate_records j tag = all_below n.reactors (λ i. is_before_arrival tag (federate_records i).next (table i j))
 
 -- over this connection, if it leads to the federate, nothing that comes after its sender's last LTC arrives at or below the tag
-abbrev pub passes_connection : (ℕ → Standing) → ℕ → LogicalTime → Connection → Bool
-passes_connection standings j tag c =
-    if nat_eq c.target j then is_before tag (sum_of (after_completed (standings c.source).completed) c.delay) else true
+abbrev pub passes_connection : (ℕ → FederateRecord) → ℕ → LogicalTime → Connection → Bool
+passes_connection federate_records j tag c =
+    if nat_eq c.target j then is_before tag (sum_of (after_completed (federate_records c.source).completed) c.delay) else true
 
 -- by the LTCs: nothing arrives at or below the tag over any direct connection
-abbrev pub passes_connections : Network → (ℕ → Standing) → ℕ → LogicalTime → Bool
-passes_connections n standings j tag = list_all (passes_connection standings j tag) n.connections
+abbrev pub passes_connections : Network → (ℕ → FederateRecord) → ℕ → LogicalTime → Bool
+passes_connections n federate_records j tag = list_all (passes_connection federate_records j tag) n.connections
 
 -- a federate that gets TAG(next), by the table
-abbrev pub is_eligible : Network → Table → (ℕ → Standing) → ℕ → Bool
-is_eligible n table standings j =
-    (standings j).announced && is_past (standings j).granted (standings j).next && is_at_most (standings j).next n.stop &&
-    (passes_paths n table standings j (standings j).next || passes_connections n standings j (standings j).next)
+abbrev pub is_eligible : Network → Table → (ℕ → FederateRecord) → ℕ → Bool
+is_eligible n table federate_records j =
+    (federate_records j).announced && is_past (federate_records j).granted (federate_records j).next && is_at_most (federate_records j).next n.stop &&
+    (passes_paths n table federate_records j (federate_records j).next || passes_connections n federate_records j (federate_records j).next)
 
 -- each eligible federate gets its next tag
 abbrev pub grant_next : Network → Table → Rule
-grant_next n table standings j = if is_eligible n table standings j then Some (standings j).next else None
+grant_next n table federate_records j = if is_eligible n table federate_records j then Some (federate_records j).next else None
 
 -- the lesser of a tag and of what arrives this delay after the next tag, if there is a path
 abbrev pub lesser_arrival : LogicalTime → Option LogicalTime → LogicalTime → LogicalTime
@@ -72,52 +72,52 @@ lesser_arrival next None other = other
 lesser_arrival next (Some delay) other = lesser (sum_of next delay) other
 
 -- the least arrival over any path, from the first `count` federates; FOREVER where there is none
-abbrev pub bound_by_paths : Table → (ℕ → Standing) → ℕ → ℕ → LogicalTime
-bound_by_paths table standings j zero = forever
-bound_by_paths table standings j (suc count) =
-    lesser_arrival (standings count).next (table count j) (bound_by_paths table standings j count)
+abbrev pub bound_by_paths : Table → (ℕ → FederateRecord) → ℕ → ℕ → LogicalTime
+bound_by_paths table federate_records j zero = forever
+bound_by_paths table federate_records j (suc count) =
+    lesser_arrival (federate_records count).next (table count j) (bound_by_paths table federate_records j count)
 
 -- the least arrival over direct connections, as far as LTCs tell; FOREVER where there is none
-abbrev pub bound_by_connections : (ℕ → Standing) → ℕ → List Connection → LogicalTime
-bound_by_connections standings j [] = forever
-bound_by_connections standings j (c ∷ rest) =
+abbrev pub bound_by_connections : (ℕ → FederateRecord) → ℕ → List Connection → LogicalTime
+bound_by_connections federate_records j [] = forever
+bound_by_connections federate_records j (c ∷ rest) =
     if nat_eq c.target j
-    then lesser (sum_of (after_completed (standings c.source).completed) c.delay) (bound_by_connections standings j rest)
-    else bound_by_connections standings j rest
+    then lesser (sum_of (after_completed (federate_records c.source).completed) c.delay) (bound_by_connections federate_records j rest)
+    else bound_by_connections federate_records j rest
 
 -- before this tag nothing can still arrive
-abbrev pub bound_of : Network → Table → (ℕ → Standing) → ℕ → LogicalTime
-bound_of n table standings j =
-    greater (bound_by_paths table standings j n.reactors) (bound_by_connections standings j n.connections)
+abbrev pub bound_of : Network → Table → (ℕ → FederateRecord) → ℕ → LogicalTime
+bound_of n table federate_records j =
+    greater (bound_by_paths table federate_records j n.reactors) (bound_by_connections federate_records j n.connections)
 
 -- the wider grant: each eligible federate gets as much as is safe
 abbrev pub grant_widest : Network → Table → Rule
-grant_widest n table standings j =
-    if is_eligible n table standings j then Some (lesser (predecessor_of (bound_of n table standings j)) n.stop) else None
+grant_widest n table federate_records j =
+    if is_eligible n table federate_records j then Some (lesser (predecessor_of (bound_of n table federate_records j)) n.stop) else None
 
 -- a tag that may be granted: a finite one, later than the last TAG, up to stop, that nothing can arrive at or below any more
-pub record IsSafe (n : Network) (table : Table) (standings : ℕ → Standing) (j : ℕ) (tag : LogicalTime) : Type 0 where
+pub record IsSafe (n : Network) (table : Table) (federate_records : ℕ → FederateRecord) (j : ℕ) (tag : LogicalTime) : Type 0 where
   pub finite : IsFinite tag
-  pub later : IsTrue (is_past (standings j).granted tag)
+  pub later : IsTrue (is_past (federate_records j).granted tag)
   pub in_time : IsTrue (is_at_most tag n.stop)
-  pub safe : IsTrue (passes_paths n table standings j tag || passes_connections n standings j tag)
+  pub safe : IsTrue (passes_paths n table federate_records j tag || passes_connections n federate_records j tag)
 
 -- a rule that grants such tags alone; to whom, and whether they announced, doesn't matter
 abbrev pub IsSafeRule : Network → Table → Rule → Type 0
 IsSafeRule n table rule =
-    (standings : ℕ → Standing) → ((i : ℕ) → IsLogicalTime (standings i).next) → (j : ℕ) (tag : LogicalTime) → rule standings j ≡ Some tag → IsSafe n table standings j tag
+    (federate_records : ℕ → FederateRecord) → ((i : ℕ) → IsLogicalTime (federate_records i).next) → (j : ℕ) (tag : LogicalTime) → rule federate_records j ≡ Some tag → IsSafe n table federate_records j tag
 
 -- whether a tag may be granted, as a test
-abbrev pub is_safe : Network → Table → (ℕ → Standing) → ℕ → LogicalTime → Bool
-is_safe n table standings j tag =
-    (nat_lt tag.time (2 ^ 62) && nat_lt tag.microstep (2 ^ 32)) && is_past (standings j).granted tag && is_at_most tag n.stop &&
-    (passes_paths n table standings j tag || passes_connections n standings j tag)
+abbrev pub is_safe : Network → Table → (ℕ → FederateRecord) → ℕ → LogicalTime → Bool
+is_safe n table federate_records j tag =
+    (nat_lt tag.time (2 ^ 62) && nat_lt tag.microstep (2 ^ 32)) && is_past (federate_records j).granted tag && is_at_most tag n.stop &&
+    (passes_paths n table federate_records j tag || passes_connections n federate_records j tag)
 
 -- this tag, if it is safe
-abbrev pub if_safe : Network → Table → (ℕ → Standing) → ℕ → Option LogicalTime → Option LogicalTime
-if_safe n table standings j None = None
-if_safe n table standings j (Some tag) = if is_safe n table standings j tag then Some tag else None
+abbrev pub if_safe : Network → Table → (ℕ → FederateRecord) → ℕ → Option LogicalTime → Option LogicalTime
+if_safe n table federate_records j None = None
+if_safe n table federate_records j (Some tag) = if is_safe n table federate_records j tag then Some tag else None
 
 -- a free choice: for each federate any tag, which it gets if that is safe
 abbrev pub grant_chosen : Network → Table → (ℕ → Option LogicalTime) → Rule
-grant_chosen n table choice standings j = if_safe n table standings j (choice j)
+grant_chosen n table choice federate_records j = if_safe n table federate_records j (choice j)

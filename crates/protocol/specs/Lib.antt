@@ -6,15 +6,15 @@ pub mod Outcome
 -- a federate's steps
 pub mod Federate
 -- what the coordinator knows of one federate
-pub mod Standing
+pub mod FederateRecord
 -- which federate may be granted which tag
 pub mod Grant
 -- before which tag nothing can arrive
 pub mod Bound
 -- the coordinator's step
 pub mod Coordinator
--- standings as a list, and whether all is finished
-pub mod Standings
+-- records as a list, and whether all is finished
+pub mod FederateRecords
 -- what each side keeps by itself, and what it sends, whatever the other side says
 pub mod Alone
 -- federates, coordinator and the queues between them

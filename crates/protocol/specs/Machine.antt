@@ -4,15 +4,15 @@ use Rattle.network.specs.Network.{Network, with_one}
 use Rattle.signal.specs.declared.signal.Signal.{Signal}
 use Rattle.protocol.specs.Outcome.{Outcome, Nothing, Done, made_or, with_made}
 use Rattle.protocol.specs.Federate.{Federate, Stepped, initial_federate, federate_accepts, federate_announces, federate_advances}
-use Rattle.protocol.specs.Standing.{Standing, initial_standing}
+use Rattle.protocol.specs.FederateRecord.{FederateRecord, initial_federate_record}
 use Rattle.protocol.specs.declared.post.Post.{Post}
 use Rattle.protocol.specs.Coordinator.{Coordinated, coordinator_accepts}
 use Rattle.protocol.specs.Grant.{Rule}
 
--- one federate, its standing with the coordinator, and what was offered and not yet taken, oldest first: up, of what it sends,
+-- one federate, its record with the coordinator, and what was offered and not yet taken, oldest first: up, of what it sends,
 -- and down, of what is sent to it. A lost federate does nothing more
 pub record Member : Type 0 where
-  pub standing : Standing
+  pub federate_record : FederateRecord
   pub federate : Federate
   pub up : List Signal
   pub down : List Signal
@@ -29,15 +29,15 @@ pub data Move : Type 0 where
 
 abbrev pub initial_member : Network → ℕ → Member
 initial_member n j =
-    record { standing = initial_standing; federate = initial_federate n j; up = []; down = []; lost = false }
+    record { federate_record = initial_federate_record; federate = initial_federate n j; up = []; down = []; lost = false }
 
 -- with one member replaced
 abbrev pub with_member : (ℕ → Member) → ℕ → Member → ℕ → Member
 with_member members i mine = with_one members i mine
 
--- all standings
-abbrev pub standings_of : (ℕ → Member) → ℕ → Standing
-standings_of members j = (members j).standing
+-- all records
+abbrev pub federate_records_of : (ℕ → Member) → ℕ → FederateRecord
+federate_records_of members j = (members j).federate_record
 
 -- what is sent to one federate
 abbrev pub sent_to : ℕ → List Post → List Signal
@@ -45,14 +45,14 @@ sent_to j posts = map (λ p. p.signal) (filter (λ p. nat_eq j p.peer) posts)
 
 -- a member after a step of the coordinator
 abbrev pub coordinated : Coordinated → ℕ → Member → Member
-coordinated made j m = record m { standing = made.after j; down = m.down ++ sent_to j made.sent }
+coordinated made j m = record m { federate_record = made.after j; down = m.down ++ sent_to j made.sent }
 
 -- the coordinator takes the oldest signal of federate i
 abbrev pub coordinator_takes_from : Network → Rule → (ℕ → Member) → ℕ → List Signal → Outcome (ℕ → Member)
 coordinator_takes_from n rule members i [] = Nothing
 coordinator_takes_from n rule members i (signal ∷ rest) =
     with_made (λ made. λ j. coordinated made j (with_member members i (record (members i) { up = rest }) j))
-    (coordinator_accepts n rule (standings_of members) i signal)
+    (coordinator_accepts n rule (federate_records_of members) i signal)
 
 -- a member after a step of its federate, with this left to take
 abbrev pub stepped : Member → List Signal → Stepped → Member

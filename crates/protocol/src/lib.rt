@@ -10,7 +10,7 @@ ghost use Rattle.std.specs.Prelude.{◌≡◌, false, pos, [], ◌∷◌};
 ghost use Rattle.signal.specs.declared.signal.Signal.{Signal};
 ghost use Rattle.network.specs.Examples.{at};
 ghost use Rattle.protocol.specs.Grant.{passes_paths};
-ghost use Rattle.protocol.specs.Machine.{standings_of};
+ghost use Rattle.protocol.specs.Machine.{federate_records_of};
 ghost use Rattle.protocol.specs.Examples.{counter, counter_table, announced, routed, counted, summed, first_sum};
 
 pub use post::Post;
@@ -23,7 +23,7 @@ pub fn first_grants()
     ensures not_yet { (announced 1).down ≡ [] }
     ensures message_alone { (routed 1).down ≡ Signal.Msg 0 (at 0 0) (pos 1) ∷ [] }
     ensures message_then_tag { (counted 1).down ≡ Signal.Msg 0 (at 0 0) (pos 1) ∷ Signal.Tag (at 0 0) ∷ [] }
-    ensures not_by_paths { passes_paths counter counter_table (standings_of counted) 1 (at 0 0) ≡ false }
+    ensures not_by_paths { passes_paths counter counter_table (federate_records_of counted) 1 (at 0 0) ≡ false }
     ensures row { (summed 1).federate.rows ≡ first_sum }
     ensures confirmed { (summed 1).up ≡ Signal.Ltc (at 0 0) ∷ [] }
 {}

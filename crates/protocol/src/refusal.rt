@@ -27,7 +27,7 @@ pub enum Refusal {
 impl Refusal {
     ghost use Rattle.protocol.specs.Refusals.{number_of};
 
-    /// The number by which it is told.
+    /// The number by which it is printed.
     pub fn number(self) -> u16
         ensures { result ≡ number_of self }
     {

@@ -11,7 +11,7 @@ use Rattle.signal.specs.declared.signal.Signal.{Signal}
 use Rattle.signal.specs.declared.signal.Signal.TheVariants.{Net, Ltc, Tag, Msg}
 use Rattle.network.specs.Undone.{PendingEvent, put, put_all, drop_up_to, is_held_before, is_for_same}
 use Rattle.network.proofs.Walks.{along_monotone}
-use Rattle.protocol.specs.Machine.{Member, standings_of}
+use Rattle.protocol.specs.Machine.{Member, federate_records_of}
 use Rattle.protocol_laws.proofs.Tags.{above}
 use Rattle.protocol_laws.proofs.Transit.{least_above}
 use Rattle.protocol_laws.proofs.Upward.{IsOver, IsUp, least_key, last_is_later, source_at_least}
@@ -106,24 +106,24 @@ walk_past n j k g γ s (c ∷ rest) ahead l here w = let a = ahead c rest w in o
 pub record IsTurn (n : Network) (table : Table) (members : ℕ → Member) (j : ℕ) (g γ : LogicalTime) : Type 0 where
   pub lawful : IsLawful n
   pub facts : IsTable n table
-  pub kept : (i : ℕ) → IsKept n i (members i).standing (members i).federate (members i).up (members i).down
+  pub kept : (i : ℕ) → IsKept n i (members i).federate_record (members i).federate (members i).up (members i).down
   pub logical : IsLogicalTime γ
   pub within : place g ≤ place γ
-  pub backed : IsBacked n table (standings_of members) j (Some γ)
+  pub backed : IsBacked n table (federate_records_of members) j (Some γ)
 
 -- the completed tags of all
 abbrev pub completed_of : (ℕ → Member) → ℕ → Option LogicalTime
 completed_of members i = (members i).federate.completed
 
-behind : (n : Network) (i : ℕ) (m : Member) → IsKept n i m.standing m.federate m.up m.down → above m.standing.completed ≤ above m.federate.completed
-behind n i m k = let a = last_is_later n i (above m.standing.completed) m.up k.upward in let c = k.chain in omega arith
+behind : (n : Network) (i : ℕ) (m : Member) → IsKept n i m.federate_record m.federate m.up m.down → above m.federate_record.completed ≤ above m.federate.completed
+behind n i m k = let a = last_is_later n i (above m.federate_record.completed) m.up k.upward in let c = k.chain in omega arith
 
-pub ahead_of : (n : Network) (table : Table) (members : ℕ → Member) (j k : ℕ) (g γ s : LogicalTime) → IsTurn n table members j g γ → IsLogicalTime s → place (members k).standing.next ≤ place s → IsClear n (completed_of members) k s → IsAhead n j k s γ
+pub ahead_of : (n : Network) (table : Table) (members : ℕ → Member) (j k : ℕ) (g γ s : LogicalTime) → IsTurn n table members j g γ → IsLogicalTime s → place (members k).federate_record.next ≤ place s → IsClear n (completed_of members) k s → IsAhead n j k s γ
 ahead_of n table members j k g γ s t p l clear =
-    backed_is_ahead n table (standings_of members) (completed_of members) k j s γ t.lawful t.facts (λ i. (t.kept i).completed_tag) (λ i. behind n i (members i) (t.kept i)) p t.logical
-    (at_most_from_places (members k).standing.next s (t.kept k).next_tag p l) clear t.backed
+    backed_is_ahead n table (federate_records_of members) (completed_of members) k j s γ t.lawful t.facts (λ i. (t.kept i).completed_tag) (λ i. behind n i (members i) (t.kept i)) p t.logical
+    (at_most_from_places (members k).federate_record.next s (t.kept k).next_tag p l) clear t.backed
 
-pub held_after : (n : Network) (table : Table) (members : ℕ → Member) (j k low : ℕ) (g γ : LogicalTime) (u : List PendingEvent) → IsTurn n table members j g γ → IsUndone n.stop low u → place (members k).standing.next ≤ first_place u → (k ≡ j → place g + 1 ≤ first_place u) → AreClear n (completed_of members) k u → AreClear n (completed_with (completed_of members) j g) k u
+pub held_after : (n : Network) (table : Table) (members : ℕ → Member) (j k low : ℕ) (g γ : LogicalTime) (u : List PendingEvent) → IsTurn n table members j g γ → IsUndone n.stop low u → place (members k).federate_record.next ≤ first_place u → (k ≡ j → place g + 1 ≤ first_place u) → AreClear n (completed_of members) k u → AreClear n (completed_with (completed_of members) j g) k u
 held_after n table members j k low g γ [] t h l here a = tt
 held_after n table members j k low g γ (x ∷ rest) t h l here a =
     let next = first_at_least n.stop (place x.tag) rest (place_bound x.tag h.0) h.3 in (
@@ -131,7 +131,7 @@ held_after n table members j k low g γ (x ∷ rest) t h l here a =
       held_after n table members j k (place x.tag) g γ rest t h.3 (omega arith) (λ e. (let b = here e in omega arith)) a.1,
     )
 
-pub down_after : (n : Network) (table : Table) (members : ℕ → Member) (j k low : ℕ) (g γ : LogicalTime) (transit : List LogicalTime) (down : List Signal) → IsTurn n table members j g γ → IsDown n k low down → AreCovered transit down → place (members k).standing.next ≤ least_above 0 transit → (k ≡ j → place g + 1 ≤ low) → AreDownClear n (completed_of members) k down → AreDownClear n (completed_with (completed_of members) j g) k down
+pub down_after : (n : Network) (table : Table) (members : ℕ → Member) (j k low : ℕ) (g γ : LogicalTime) (transit : List LogicalTime) (down : List Signal) → IsTurn n table members j g γ → IsDown n k low down → AreCovered transit down → place (members k).federate_record.next ≤ least_above 0 transit → (k ≡ j → place g + 1 ≤ low) → AreDownClear n (completed_of members) k down → AreDownClear n (completed_with (completed_of members) j g) k down
 down_after n table members j k low g γ transit [] t h c l here a = tt
 down_after n table members j k low g γ transit (Net x ∷ rest) t h c l here a = absurd h
 down_after n table members j k low g γ transit (Ltc x ∷ rest) t h c l here a = absurd h
@@ -144,17 +144,17 @@ down_after n table members j k low g γ transit (Msg m s v ∷ rest) t h c l her
       down_after n table members j k low g γ transit rest t h.4 c.1 l here a.1,
     )
 
-over_after : (n : Network) (table : Table) (members : ℕ → Member) (i j number : ℕ) (g γ source s : LogicalTime) (o : Option Connection) → IsTurn n table members j g γ → slice_get n.connections number ≡ o → IsOver n i o source s → IsLogicalTime source → place (members i).standing.next ≤ place source → above (members i).standing.completed ≤ place source → IsClearOver n (completed_of members) o s → IsClearOver n (completed_with (completed_of members) j g) o s
+over_after : (n : Network) (table : Table) (members : ℕ → Member) (i j number : ℕ) (g γ source s : LogicalTime) (o : Option Connection) → IsTurn n table members j g γ → slice_get n.connections number ≡ o → IsOver n i o source s → IsLogicalTime source → place (members i).federate_record.next ≤ place source → above (members i).federate_record.completed ≤ place source → IsClearOver n (completed_of members) o s → IsClearOver n (completed_with (completed_of members) j g) o s
 over_after n table members i j number g γ source s None t e over p next low clear = tt
 over_after n table members i j number g γ source s (Some c) t e over p next low clear =
     clear_after n (completed_of members) j c.target g s clear
     (λ path w. (
-    let ahead = message_is_ahead n table (standings_of members) (completed_of members) i j c source s γ path t.lawful t.facts (λ x. (t.kept x).completed_tag) (λ x. behind n x (members x) (t.kept x)) p t.logical
-    (contains_at n.connections number c e) over.0 over.1 (at_most_from_places (members i).standing.next source (t.kept i).next_tag p next) low clear t.backed w in
+    let ahead = message_is_ahead n table (federate_records_of members) (completed_of members) i j c source s γ path t.lawful t.facts (λ x. (t.kept x).completed_tag) (λ x. behind n x (members x) (t.kept x)) p t.logical
+    (contains_at n.connections number c e) over.0 over.1 (at_most_from_places (members i).federate_record.next source (t.kept i).next_tag p next) low clear t.backed w in
     let within = t.within in
     omega arith))
 
-pub up_after : (n : Network) (table : Table) (members : ℕ → Member) (i j low : ℕ) (g γ : LogicalTime) (up : List Signal) → IsTurn n table members j g γ → IsUp n i low up → above (members i).standing.completed ≤ low → place (members i).standing.next ≤ least_key up → AreUpClear n (completed_of members) up → AreUpClear n (completed_with (completed_of members) j g) up
+pub up_after : (n : Network) (table : Table) (members : ℕ → Member) (i j low : ℕ) (g γ : LogicalTime) (up : List Signal) → IsTurn n table members j g γ → IsUp n i low up → above (members i).federate_record.completed ≤ low → place (members i).federate_record.next ≤ least_key up → AreUpClear n (completed_of members) up → AreUpClear n (completed_with (completed_of members) j g) up
 up_after n table members i j low g γ [] t h b l a = tt
 up_after n table members i j low g γ (Net x ∷ rest) t h b l a = up_after n table members i j low g γ rest t h.3 b (omega arith) a
 up_after n table members i j low g γ (Ltc x ∷ rest) t h b l a = let d = h.1 in up_after n table members i j (place x + 1) g γ rest t h.3 (omega arith) (omega arith) a

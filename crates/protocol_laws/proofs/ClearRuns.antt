@@ -15,11 +15,11 @@ use Rattle.protocol.specs.declared.refusal.Refusal.TheVariants.{Late, OldGrant, 
 use Rattle.protocol.specs.Outcome.{Outcome, Refused, Nothing, Done, made_or, with_made}
 use Rattle.network.specs.Undone.{PendingEvent, put, first_tag, look, drop_up_to}
 use Rattle.protocol.specs.Federate.{is_told, next_event, accept_message, federate_announces, advance_to, turn_at, effect_of, scheduled_by, messages_from}
-use Rattle.protocol.specs.Standing.{Standing, after_message, after_net, after_ltc}
+use Rattle.protocol.specs.FederateRecord.{FederateRecord, after_message, after_net, after_ltc}
 use Rattle.protocol.specs.Grant.{Rule, IsSafeRule}
 use Rattle.protocol.specs.declared.post.Post.{Post}
-use Rattle.protocol.specs.Coordinator.{Coordinated, with_standing, noted, route, coordinator_takes, grant_to, grants_from, with_grants}
-use Rattle.protocol.specs.Machine.{Member, Move, ToCoordinator, ToFederate, Announce, Advance, Lose, initial_member, with_member, standings_of, sent_to, coordinated, coordinator_takes_from, stepped, federate_takes_from, outcome_of, after_moves}
+use Rattle.protocol.specs.Coordinator.{Coordinated, with_federate_record, noted, route, coordinator_takes, grant_to, grants_from, with_grants}
+use Rattle.protocol.specs.Machine.{Member, Move, ToCoordinator, ToFederate, Announce, Advance, Lose, initial_member, with_member, federate_records_of, sent_to, coordinated, coordinator_takes_from, stepped, federate_takes_from, outcome_of, after_moves}
 use Rattle.protocol_laws.proofs.Tags.{IsOptional, above, reached_true}
 use Rattle.protocol_laws.proofs.Downward.{last_tag_is_later}
 use Rattle.protocol_laws.proofs.StillUndone.{first_at_least, drop_is_undone}
@@ -51,9 +51,9 @@ first_clear : (n : Network) (completed : ℕ → Option LogicalTime) (k : ℕ) (
 first_clear n completed k [] g e a = cc
 first_clear n completed k (x ∷ rest) g e a = let same : x.tag ≡ g = cc in let P : LogicalTime → Type 0 = λ y. IsClear n completed k y in subst P same a.0
 
-granted_far : (n : Network) (table : Table) (standings : ℕ → Standing) (j : ℕ) (g : LogicalTime) (o : Option LogicalTime) → IsOptional o → place g < above o → IsBacked n table standings j o → (γ : LogicalTime) × IsLogicalTime γ × (place g ≤ place γ) × IsBacked n table standings j (Some γ)
-granted_far n table standings j g None p l b = absurd (omega arith)
-granted_far n table standings j g (Some γ) p l b = (γ, p, (let r : place g ≤ place γ = omega arith in r), b)
+granted_far : (n : Network) (table : Table) (federate_records : ℕ → FederateRecord) (j : ℕ) (g : LogicalTime) (o : Option LogicalTime) → IsOptional o → place g < above o → IsBacked n table federate_records j o → (γ : LogicalTime) × IsLogicalTime γ × (place g ≤ place γ) × IsBacked n table federate_records j (Some γ)
+granted_far n table federate_records j g None p l b = absurd (omega arith)
+granted_far n table federate_records j g (Some γ) p l b = (γ, p, (let r : place g ≤ place γ = omega arith in r), b)
 
 -- the federate of a turn
 turn_mine : (n : Network) (table : Table) (members : ℕ → Member) (j : ℕ) (g γ : LogicalTime) → IsTurn n table members j g γ → first_tag (members j).federate.undone ≡ Some g → place g < above (members j).federate.granted → AllClear n members → IsMemberClear n (completed_with (completed_of members) j g) j (turn_at n j (members j).federate g).after.undone ((members j).up ++ (turn_at n j (members j).federate g).sent) (members j).down
@@ -79,10 +79,10 @@ turn_mine n table members j g γ t first reached clear =
           (held_after n table members j j (place g + 1) g γ (drop_up_to g f.undone) t kept (omega arith) (λ e. later) (drop_clear n (completed_of members) j g f.undone (clear j).held));
       upward =
           up_clear-append n (completed_with (completed_of members) j g) (members j).up (turn_at n j f g).sent
-          (up_after n table members j j (above (members j).standing.completed) g γ (members j).up t k.upward (omega arith) k.next_key (clear j).upward)
+          (up_after n table members j j (above (members j).federate_record.completed) g γ (members j).up t k.upward (omega arith) k.next_key (clear j).upward)
           (up_clear-append n (completed_with (completed_of members) j g) (messages_from n j g (effect_of n j f g).outputs 0 n.connections) (Ltc g ∷ [])
           (messages_clear n (completed_of members) j g γ (messages_from n j g (effect_of n j f g).outputs 0 n.connections) messages t.within g_clear ahead) tt);
-      downward = down_after n table members j j (above f.granted) g γ (members j).standing.transit (members j).down t k.downward k.covered k.next_transit (λ e. omega arith) (clear j).downward;
+      downward = down_after n table members j j (above f.granted) g γ (members j).federate_record.transit (members j).down t k.downward k.covered k.next_transit (λ e. omega arith) (clear j).downward;
     }
 
 turn_other : (n : Network) (table : Table) (members : ℕ → Member) (j k : ℕ) (g γ : LogicalTime) → IsTurn n table members j g γ → (k ≡ j → ⊥) → AllClear n members → IsMemberClear n (completed_with (completed_of members) j g) k (members k).federate.undone (members k).up (members k).down
@@ -90,8 +90,8 @@ turn_other n table members j k g γ t apart clear =
     let kept = t.kept k in
     record {
       held = held_after n table members j k (above (members k).federate.completed) g γ (members k).federate.undone t kept.undone kept.next_undone (λ e. absurd (apart e)) (clear k).held;
-      upward = up_after n table members k j (above (members k).standing.completed) g γ (members k).up t kept.upward (omega arith) kept.next_key (clear k).upward;
-      downward = down_after n table members j k (above (members k).federate.granted) g γ (members k).standing.transit (members k).down t kept.downward kept.covered kept.next_transit (λ e. absurd (apart e)) (clear k).downward;
+      upward = up_after n table members k j (above (members k).federate_record.completed) g γ (members k).up t kept.upward (omega arith) kept.next_key (clear k).upward;
+      downward = down_after n table members j k (above (members k).federate.granted) g γ (members k).federate_record.transit (members k).down t kept.downward kept.covered kept.next_transit (λ e. absurd (apart e)) (clear k).downward;
     }
 
 turn_clears : (n : Network) (table : Table) (members : ℕ → Member) (j : ℕ) (g : LogicalTime) → IsLawful n → IsTable n table → IsSound n table members → first_tag (members j).federate.undone ≡ Some g → is_reached (members j).federate.granted g ≡ true → AllClear n members → AllClear n (with_member members j (stepped (members j) (members j).down (turn_at n j (members j).federate g)))
@@ -101,7 +101,7 @@ turn_clears n table members j g lawful facts sound first reached clear =
     let far = reached_true (members j).federate.granted g k.own_granted_tag is.0 reached in
     let rises = last_tag_is_later n j (above (members j).federate.granted) (members j).down k.downward in
     let last = k.last in
-    let grant = granted_far n table (standings_of members) j g (members j).standing.granted k.granted_tag (omega arith) (sound.backed j) in
+    let grant = granted_far n table (federate_records_of members) j g (members j).federate_record.granted k.granted_tag (omega arith) (sound.backed j) in
     let t : IsTurn n table members j g grant.0 = record { lawful = lawful; facts = facts; kept = sound.kept; logical = grant.1; within = grant.2; backed = grant.3 } in
     let mine : Member = stepped (members j) (members j).down (turn_at n j (members j).federate g) in
     let same : completed_of (with_member members j mine) ≡ completed_with (completed_of members) j g = fun_ext (λ i. completed_if mine (members i) (nat_eq i j)) in
@@ -193,22 +193,22 @@ post_clear : (n : Network) (completed : ℕ → Option LogicalTime) (j target k 
 post_clear n completed j target k s v true c = (c refl, tt)
 post_clear n completed j target k s v false c = tt
 
-route_sends : (n : Network) (completed : ℕ → Option LogicalTime) (standings : ℕ → Standing) (i k : ℕ) (s : LogicalTime) (v : ℤ) (o : Option Connection) → IsClearOver n completed o s → SendsClear n completed (route n standings i (Msg k s v) o s)
-route_sends n completed standings i k s v None c = tt
-route_sends n completed standings i k s v (Some c) clear =
-    three_ifs (SendsClear n completed) (nat_eq c.source i) (is_at_most s n.stop) (is_past (standings c.target).granted s)
-    (Done (record { after = with_standing standings c.target (after_message (standings c.target) s); sent = record { peer = c.target; signal = Msg k s v } ∷ [] }))
+route_sends : (n : Network) (completed : ℕ → Option LogicalTime) (federate_records : ℕ → FederateRecord) (i k : ℕ) (s : LogicalTime) (v : ℤ) (o : Option Connection) → IsClearOver n completed o s → SendsClear n completed (route n federate_records i (Msg k s v) o s)
+route_sends n completed federate_records i k s v None c = tt
+route_sends n completed federate_records i k s v (Some c) clear =
+    three_ifs (SendsClear n completed) (nat_eq c.source i) (is_at_most s n.stop) (is_past (federate_records c.target).granted s)
+    (Done (record { after = with_federate_record federate_records c.target (after_message (federate_records c.target) s); sent = record { peer = c.target; signal = Msg k s v } ∷ [] }))
     (Refused BelowGrant) (Refused AfterStop) (Refused NotYours)
     (λ j. post_clear n completed j c.target k s v (nat_eq j c.target) (λ e. (let P : ℕ → Type 0 = λ x. IsClear n completed x s in subst P (sym (eqb-true j c.target e)) clear)))
     tt tt tt
 
-coordinator_sends : (n : Network) (completed : ℕ → Option LogicalTime) (standings : ℕ → Standing) (i : ℕ) (signal : Signal) (rest : List Signal) → AreUpClear n completed (signal ∷ rest) → SendsClear n completed (coordinator_takes n standings i signal)
-coordinator_sends n completed standings i (Net g) rest a =
-    two_ifs (SendsClear n completed) (is_at_most g n.stop || is_same g forever) (is_past (standings i).completed g) (Done (noted standings i (after_net (standings i) g))) (Refused NotRising) (Refused AfterStop) (λ j. tt) tt tt
-coordinator_sends n completed standings i (Ltc g) rest a =
-    two_ifs (SendsClear n completed) (is_at_most g n.stop) (is_past (standings i).completed g) (Done (noted standings i (after_ltc (standings i) g))) (Refused NotRising) (Refused AfterStop) (λ j. tt) tt tt
-coordinator_sends n completed standings i (Tag g) rest a = tt
-coordinator_sends n completed standings i (Msg k s v) rest a = route_sends n completed standings i k s v (slice_get n.connections k) a.0
+coordinator_sends : (n : Network) (completed : ℕ → Option LogicalTime) (federate_records : ℕ → FederateRecord) (i : ℕ) (signal : Signal) (rest : List Signal) → AreUpClear n completed (signal ∷ rest) → SendsClear n completed (coordinator_takes n federate_records i signal)
+coordinator_sends n completed federate_records i (Net g) rest a =
+    two_ifs (SendsClear n completed) (is_at_most g n.stop || is_same g forever) (is_past (federate_records i).completed g) (Done (noted federate_records i (after_net (federate_records i) g))) (Refused NotRising) (Refused AfterStop) (λ j. tt) tt tt
+coordinator_sends n completed federate_records i (Ltc g) rest a =
+    two_ifs (SendsClear n completed) (is_at_most g n.stop) (is_past (federate_records i).completed g) (Done (noted federate_records i (after_ltc (federate_records i) g))) (Refused NotRising) (Refused AfterStop) (λ j. tt) tt tt
+coordinator_sends n completed federate_records i (Tag g) rest a = tt
+coordinator_sends n completed federate_records i (Msg k s v) rest a = route_sends n completed federate_records i k s v (slice_get n.connections k) a.0
 
 rest_clear : (n : Network) (completed : ℕ → Option LogicalTime) (signal : Signal) (rest : List Signal) → AreUpClear n completed (signal ∷ rest) → AreUpClear n completed rest
 rest_clear n completed (Net g) rest a = a
@@ -242,9 +242,9 @@ coordinator_clears : (n : Network) (rule : Rule) (members : ℕ → Member) (i :
 coordinator_clears n rule members i [] a clear = tt
 coordinator_clears n rule members i (signal ∷ rest) a clear =
     let popped = kept_clears n members i (record (members i) { up = rest }) refl (record { held = (clear i).held; upward = rest_clear n (completed_of members) signal rest a; downward = (clear i).downward }) clear in
-    let P : (ℕ → Option LogicalTime) → Type 0 = λ c. SendsClear n c (coordinator_takes n (standings_of members) i signal) in
-    coordinated_clears n rule (with_member members i (record (members i) { up = rest })) (coordinator_takes n (standings_of members) i signal) popped
-    (subst P (sym (popped_completed members i rest)) (coordinator_sends n (completed_of members) (standings_of members) i signal rest a))
+    let P : (ℕ → Option LogicalTime) → Type 0 = λ c. SendsClear n c (coordinator_takes n (federate_records_of members) i signal) in
+    coordinated_clears n rule (with_member members i (record (members i) { up = rest })) (coordinator_takes n (federate_records_of members) i signal) popped
+    (subst P (sym (popped_completed members i rest)) (coordinator_sends n (completed_of members) (federate_records_of members) i signal rest a))
 
 move_clears : (n : Network) (table : Table) (rule : Rule) (members : ℕ → Member) (move : Move) → IsLawful n → IsTable n table → IsSound n table members → AllClear n members → MakesClear n (outcome_of n rule members move)
 move_clears n table rule members (ToCoordinator i) lawful facts sound clear = coordinator_clears n rule members i (members i).up (clear i).upward clear

@@ -7,7 +7,7 @@ use Rattle.protocol.specs.declared.refusal.Refusal.TheVariants.{BelowGrant}
 use Rattle.protocol.specs.Outcome.{Refused}
 use Rattle.protocol.specs.Federate.{federate_announces, federate_advances}
 use Rattle.protocol.specs.Grant.{Rule, grant_next, passes_paths}
-use Rattle.protocol.specs.Machine.{ToCoordinator, standings_of, outcome_of}
+use Rattle.protocol.specs.Machine.{ToCoordinator, federate_records_of, outcome_of}
 use Rattle.protocol_laws.specs.Ring.{ring, ring_table, ring_after, first_moves, all_moves}
 use Rattle.protocol_laws.specs.Runs.{IsStuck}
 use Rattle.protocol_laws.specs.WeakerRules.{by_last_ltcs, by_equal_paths, by_direct, two_microsteps, one_tag, both_ends, both_microsteps, first_turn, second_turn, next_taken}
@@ -28,17 +28,17 @@ pub ring_rows_2 : (ring_after all_moves 2).federate.rows ≡ part 2 (whole ring 
 unfolding ring_after
 ring_rows_2 = frozen_gives 3 ring ring_rules all_moves (λ members. (members 2).federate.rows) ∙ refl
 
-pub ring_next_0 : (ring_after all_moves 0).standing.next ≡ forever
+pub ring_next_0 : (ring_after all_moves 0).federate_record.next ≡ forever
 unfolding ring_after
-ring_next_0 = frozen_gives 3 ring ring_rules all_moves (λ members. (members 0).standing.next) ∙ refl
+ring_next_0 = frozen_gives 3 ring ring_rules all_moves (λ members. (members 0).federate_record.next) ∙ refl
 
-pub ring_next_1 : (ring_after all_moves 1).standing.next ≡ forever
+pub ring_next_1 : (ring_after all_moves 1).federate_record.next ≡ forever
 unfolding ring_after
-ring_next_1 = frozen_gives 3 ring ring_rules all_moves (λ members. (members 1).standing.next) ∙ refl
+ring_next_1 = frozen_gives 3 ring ring_rules all_moves (λ members. (members 1).federate_record.next) ∙ refl
 
-pub ring_next_2 : (ring_after all_moves 2).standing.next ≡ forever
+pub ring_next_2 : (ring_after all_moves 2).federate_record.next ≡ forever
 unfolding ring_after
-ring_next_2 = frozen_gives 3 ring ring_rules all_moves (λ members. (members 2).standing.next) ∙ refl
+ring_next_2 = frozen_gives 3 ring ring_rules all_moves (λ members. (members 2).federate_record.next) ∙ refl
 
 pub ring_stuck_0 : IsStuck ring 0 (ring_after all_moves 0)
 unfolding ring_after
@@ -68,14 +68,14 @@ ring_stuck_2 = record {
 }
 
 -- the TAG of reactor 1 is there
-pub ring_granted : (ring_after first_moves 1).standing.granted ≡ Some (at 0 0)
+pub ring_granted : (ring_after first_moves 1).federate_record.granted ≡ Some (at 0 0)
 unfolding ring_after
-ring_granted = frozen_gives 3 ring ring_rules first_moves (λ members. (members 1).standing.granted) ∙ refl
+ring_granted = frozen_gives 3 ring ring_rules first_moves (λ members. (members 1).federate_record.granted) ∙ refl
 
 -- and no path allows it
-pub ring_not_by_paths : passes_paths ring ring_table (standings_of (ring_after first_moves)) 1 (at 0 0) ≡ false
+pub ring_not_by_paths : passes_paths ring ring_table (federate_records_of (ring_after first_moves)) 1 (at 0 0) ≡ false
 unfolding ring_after
-ring_not_by_paths = frozen_gives 3 ring ring_rules first_moves (λ members. passes_paths ring ring_table (standings_of members) 1 (at 0 0)) ∙ refl
+ring_not_by_paths = frozen_gives 3 ring ring_rules first_moves (λ members. passes_paths ring ring_table (federate_records_of members) 1 (at 0 0)) ∙ refl
 
 pub last_ltcs_refused : next_taken two_microsteps by_last_ltcs both_microsteps 0 ≡ Refused BelowGrant
 unfolding next_taken

@@ -20,12 +20,12 @@ use Rattle.signal.specs.declared.signal.Signal.TheVariants.{Net, Ltc, Tag, Msg}
 use Rattle.protocol.specs.declared.refusal.Refusal.{Refusal}
 use Rattle.protocol.specs.declared.refusal.Refusal.TheVariants.{NotYours, BelowGrant, NotRising, AfterStop}
 use Rattle.protocol.specs.Outcome.{Outcome, Refused, Nothing, Done, with_made, IfDone}
-use Rattle.protocol.specs.Standing.{Standing, initial_standing, least_with, with_tag, after_message, after_net, after_ltc, after_grant}
+use Rattle.protocol.specs.FederateRecord.{FederateRecord, initial_federate_record, least_with, with_tag, after_message, after_net, after_ltc, after_grant}
 use Rattle.protocol.specs.Grant.{Rule, IsSafe, IsSafeRule}
 use Rattle.protocol.specs.declared.post.Post.{Post}
-use Rattle.protocol.specs.Coordinator.{Coordinated, with_standing, noted, route, coordinator_takes, grant_to, grants_from, with_grants, coordinator_accepts}
+use Rattle.protocol.specs.Coordinator.{Coordinated, with_federate_record, noted, route, coordinator_takes, grant_to, grants_from, with_grants, coordinator_accepts}
 use Rattle.protocol.specs.Machine.{sent_to}
-use Rattle.protocol.specs.Alone.{IsStanding, is_of_step, is_sent_past, granted_by}
+use Rattle.protocol.specs.Alone.{IsFederateRecord, is_of_step, is_sent_past, granted_by}
 use Rattle.protocol_laws.proofs.Transit.{lesser_is_tag}
 use Rattle.protocol_laws.proofs.Backing.{at_update}
 use Rattle.protocol_laws.proofs.Safety.{tag_if, sent-append, grants_sent, rule_grants}
@@ -65,11 +65,11 @@ least_is_tag g [] p a = p
 least_is_tag g (x ∷ rest) p a = lesser_is_tag x (least_with g rest) (finite_is_logical x a.0) (least_is_tag g rest p a.1)
 
 -- what is known of one federate
-pub initial_is_standing : IsStanding initial_standing
-initial_is_standing =
+pub initial_is_federate_record : IsFederateRecord initial_federate_record
+initial_is_federate_record =
     record { completed = tt; granted = tt; next = origin_is_logical; transit = from_each IsFinite [] tt; rising = from_each_pair IsBefore [] tt }
 
-message_stands : (s : Standing) (g : LogicalTime) → IsFinite g → IsStanding s → IsStanding (after_message s g)
+message_stands : (s : FederateRecord) (g : LogicalTime) → IsFinite g → IsFederateRecord s → IsFederateRecord (after_message s g)
 message_stands s g p k =
     record {
       completed = k.completed;
@@ -79,7 +79,7 @@ message_stands s g p k =
       rising = from_each_pair IsBefore (with_tag g s.transit) (with_rises g s.transit (each_pair IsBefore s.transit k.rising));
     }
 
-net_stands : (s : Standing) (g : LogicalTime) → IsLogicalTime g → IsStanding s → IsStanding (after_net s g)
+net_stands : (s : FederateRecord) (g : LogicalTime) → IsLogicalTime g → IsFederateRecord s → IsFederateRecord (after_net s g)
 net_stands s g p k =
     record {
       completed = k.completed;
@@ -89,7 +89,7 @@ net_stands s g p k =
       rising = k.rising;
     }
 
-ltc_stands : (s : Standing) (g : LogicalTime) → IsFinite g → IsStanding s → IsStanding (after_ltc s g)
+ltc_stands : (s : FederateRecord) (g : LogicalTime) → IsFinite g → IsFederateRecord s → IsFederateRecord (after_ltc s g)
 ltc_stands s g p k =
     record {
       completed = p;
@@ -99,7 +99,7 @@ ltc_stands s g p k =
       rising = AllPairs-filter IsBefore (λ t. is_before g t) s.transit k.rising;
     }
 
-grant_stands : (s : Standing) (o : Option LogicalTime) → ((g : LogicalTime) → o ≡ Some g → IsFinite g) → IsStanding s → IsStanding (after_grant s o)
+grant_stands : (s : FederateRecord) (o : Option LogicalTime) → ((g : LogicalTime) → o ≡ Some g → IsFinite g) → IsFederateRecord s → IsFederateRecord (after_grant s o)
 grant_stands s None f k = k
 grant_stands s (Some g) f k = record { completed = k.completed; granted = f g refl; next = k.next; transit = k.transit; rising = k.rising }
 
@@ -113,21 +113,21 @@ IsMessageAtMost granted (Msg k g v ∷ []) = IsTrue (is_past granted g)
 IsMessageAtMost granted (Msg k g v ∷ other ∷ rest) = ⊥
 
 -- what a signal changed, before TAGs go out
-record IsTaken (standings : ℕ → Standing) (made : Coordinated) : Type 0 where
-  stands : (j : ℕ) → IsStanding (made.after j)
-  granted : (j : ℕ) → (made.after j).granted ≡ (standings j).granted
-  sent : (j : ℕ) → IsMessageAtMost (standings j).granted (sent_to j made.sent)
+record IsTaken (federate_records : ℕ → FederateRecord) (made : Coordinated) : Type 0 where
+  stands : (j : ℕ) → IsFederateRecord (made.after j)
+  granted : (j : ℕ) → (made.after j).granted ≡ (federate_records j).granted
+  sent : (j : ℕ) → IsMessageAtMost (federate_records j).granted (sent_to j made.sent)
 
-take_if : (standings : ℕ → Standing) (b : Bool) (refusal : Refusal) (o : Outcome Coordinated) → (b ≡ true → IfDone o (IsTaken standings)) → IfDone (if not b then Refused refusal else o) (IsTaken standings)
-take_if standings true refusal o h = h refl
-take_if standings false refusal o h = tt
+take_if : (federate_records : ℕ → FederateRecord) (b : Bool) (refusal : Refusal) (o : Outcome Coordinated) → (b ≡ true → IfDone o (IsTaken federate_records)) → IfDone (if not b then Refused refusal else o) (IsTaken federate_records)
+take_if federate_records true refusal o h = h refl
+take_if federate_records false refusal o h = tt
 
--- only one standing changes, and not its grant
-noted_taken : (standings : ℕ → Standing) (i : ℕ) (mine : Standing) → ((j : ℕ) → IsStanding (standings j)) → IsStanding mine → mine.granted ≡ (standings i).granted → IsTaken standings (noted standings i mine)
-noted_taken standings i mine all k e =
+-- only one record changes, and not its grant
+noted_taken : (federate_records : ℕ → FederateRecord) (i : ℕ) (mine : FederateRecord) → ((j : ℕ) → IsFederateRecord (federate_records j)) → IsFederateRecord mine → mine.granted ≡ (federate_records i).granted → IsTaken federate_records (noted federate_records i mine)
+noted_taken federate_records i mine all k e =
     record {
-      stands = λ j. at_update IsStanding mine (standings j) j i (λ q. k) (all j);
-      granted = λ j. at_update (λ (s : Standing). s.granted ≡ (standings j).granted) mine (standings j) j i (λ q. e ∙ ap (λ x. (standings x).granted) (sym q)) refl;
+      stands = λ j. at_update IsFederateRecord mine (federate_records j) j i (λ q. k) (all j);
+      granted = λ j. at_update (λ (s : FederateRecord). s.granted ≡ (federate_records j).granted) mine (federate_records j) j i (λ q. e ∙ ap (λ x. (federate_records x).granted) (sym q)) refl;
       sent = λ j. tt;
     }
 
@@ -135,38 +135,38 @@ post_if : (granted : Option LogicalTime) (target k : ℕ) (g : LogicalTime) (v :
 post_if granted target k g v true h = h refl
 post_if granted target k g v false h = tt
 
-route_taken : (n : Network) (standings : ℕ → Standing) (i k : ℕ) (g : LogicalTime) (v : ℤ) (o : Option Connection) → ((j : ℕ) → IsStanding (standings j)) → IsFinite g → IfDone (route n standings i (Msg k g v) o g) (IsTaken standings)
-route_taken n standings i k g v None all p = tt
-route_taken n standings i k g v (Some c) all p =
-    let made : Coordinated = record { after = with_standing standings c.target (after_message (standings c.target) g); sent = record { peer = c.target; signal = Msg k g v } ∷ [] } in
-    let mine : Standing = after_message (standings c.target) g in
-    take_if standings (nat_eq c.source i) NotYours (if not (is_at_most g n.stop) then Refused AfterStop else if not (is_past (standings c.target).granted g) then Refused BelowGrant else Done made)
-    (λ s. take_if standings (is_at_most g n.stop) AfterStop (if not (is_past (standings c.target).granted g) then Refused BelowGrant else Done made)
-    (λ t. take_if standings (is_past (standings c.target).granted g) BelowGrant (Done made)
+route_taken : (n : Network) (federate_records : ℕ → FederateRecord) (i k : ℕ) (g : LogicalTime) (v : ℤ) (o : Option Connection) → ((j : ℕ) → IsFederateRecord (federate_records j)) → IsFinite g → IfDone (route n federate_records i (Msg k g v) o g) (IsTaken federate_records)
+route_taken n federate_records i k g v None all p = tt
+route_taken n federate_records i k g v (Some c) all p =
+    let made : Coordinated = record { after = with_federate_record federate_records c.target (after_message (federate_records c.target) g); sent = record { peer = c.target; signal = Msg k g v } ∷ [] } in
+    let mine : FederateRecord = after_message (federate_records c.target) g in
+    take_if federate_records (nat_eq c.source i) NotYours (if not (is_at_most g n.stop) then Refused AfterStop else if not (is_past (federate_records c.target).granted g) then Refused BelowGrant else Done made)
+    (λ s. take_if federate_records (is_at_most g n.stop) AfterStop (if not (is_past (federate_records c.target).granted g) then Refused BelowGrant else Done made)
+    (λ t. take_if federate_records (is_past (federate_records c.target).granted g) BelowGrant (Done made)
     (λ past. record {
-      stands = λ j. at_update IsStanding mine (standings j) j c.target (λ q. message_stands (standings c.target) g p (all c.target)) (all j);
-      granted = λ j. at_update (λ (s : Standing). s.granted ≡ (standings j).granted) mine (standings j) j c.target (λ q. ap (λ x. (standings x).granted) (sym q)) refl;
-      sent = λ j. post_if (standings j).granted c.target k g v (nat_eq j c.target)
-          (λ q. (let P : ℕ → Type 0 = λ x. IsTrue (is_past (standings x).granted g) in subst P (sym (eqb-true j c.target q)) past));
+      stands = λ j. at_update IsFederateRecord mine (federate_records j) j c.target (λ q. message_stands (federate_records c.target) g p (all c.target)) (all j);
+      granted = λ j. at_update (λ (s : FederateRecord). s.granted ≡ (federate_records j).granted) mine (federate_records j) j c.target (λ q. ap (λ x. (federate_records x).granted) (sym q)) refl;
+      sent = λ j. post_if (federate_records j).granted c.target k g v (nat_eq j c.target)
+          (λ q. (let P : ℕ → Type 0 = λ x. IsTrue (is_past (federate_records x).granted g) in subst P (sym (eqb-true j c.target q)) past));
     })))
 
-signal_taken : (n : Network) (standings : ℕ → Standing) (i : ℕ) (signal : Signal) → ((j : ℕ) → IsStanding (standings j)) → IsSignal signal → IfDone (coordinator_takes n standings i signal) (IsTaken standings)
-signal_taken n standings i (Net g) all p =
-    let made = noted standings i (after_net (standings i) g) in
-    take_if standings (is_at_most g n.stop || is_same g forever) AfterStop (if not (is_past (standings i).completed g) then Refused NotRising else Done made)
-    (λ t. take_if standings (is_past (standings i).completed g) NotRising (Done made) (λ q. noted_taken standings i (after_net (standings i) g) all (net_stands (standings i) g p (all i)) refl))
-signal_taken n standings i (Ltc g) all p =
-    let made = noted standings i (after_ltc (standings i) g) in
-    take_if standings (is_at_most g n.stop) AfterStop (if not (is_past (standings i).completed g) then Refused NotRising else Done made)
-    (λ t. take_if standings (is_past (standings i).completed g) NotRising (Done made) (λ q. noted_taken standings i (after_ltc (standings i) g) all (ltc_stands (standings i) g p (all i)) refl))
-signal_taken n standings i (Tag g) all p = tt
-signal_taken n standings i (Msg k g v) all p = route_taken n standings i k g v (slice_get n.connections k) all p.1
+signal_taken : (n : Network) (federate_records : ℕ → FederateRecord) (i : ℕ) (signal : Signal) → ((j : ℕ) → IsFederateRecord (federate_records j)) → IsSignal signal → IfDone (coordinator_takes n federate_records i signal) (IsTaken federate_records)
+signal_taken n federate_records i (Net g) all p =
+    let made = noted federate_records i (after_net (federate_records i) g) in
+    take_if federate_records (is_at_most g n.stop || is_same g forever) AfterStop (if not (is_past (federate_records i).completed g) then Refused NotRising else Done made)
+    (λ t. take_if federate_records (is_past (federate_records i).completed g) NotRising (Done made) (λ q. noted_taken federate_records i (after_net (federate_records i) g) all (net_stands (federate_records i) g p (all i)) refl))
+signal_taken n federate_records i (Ltc g) all p =
+    let made = noted federate_records i (after_ltc (federate_records i) g) in
+    take_if federate_records (is_at_most g n.stop) AfterStop (if not (is_past (federate_records i).completed g) then Refused NotRising else Done made)
+    (λ t. take_if federate_records (is_past (federate_records i).completed g) NotRising (Done made) (λ q. noted_taken federate_records i (after_ltc (federate_records i) g) all (ltc_stands (federate_records i) g p (all i)) refl))
+signal_taken n federate_records i (Tag g) all p = tt
+signal_taken n federate_records i (Msg k g v) all p = route_taken n federate_records i k g v (slice_get n.connections k) all p.1
 
 -- what goes to one federate: a message at most, and a TAG at most
 abbrev IsSent : Option LogicalTime → Option LogicalTime → List Signal → Type 0
 IsSent before after sent = IsTrue (is_of_step sent) × IsTrue (is_sent_past before sent) × (after ≡ granted_by before sent)
 
-with_tag_sent : (s : Standing) (before : Option LogicalTime) (xs : List Signal) (o : Option LogicalTime) → s.granted ≡ before → IsMessageAtMost before xs → ((g : LogicalTime) → o ≡ Some g → IsTrue (is_past s.granted g)) → IsSent before (after_grant s o).granted (xs ++ tag_if o)
+with_tag_sent : (s : FederateRecord) (before : Option LogicalTime) (xs : List Signal) (o : Option LogicalTime) → s.granted ≡ before → IsMessageAtMost before xs → ((g : LogicalTime) → o ≡ Some g → IsTrue (is_past s.granted g)) → IsSent before (after_grant s o).granted (xs ++ tag_if o)
 with_tag_sent s before [] None e m later = (refl, refl, e)
 with_tag_sent s before [] (Some g) e m later =
     let P : Option LogicalTime → Type 0 = λ x. IsTrue (is_past x g) in
@@ -182,37 +182,37 @@ with_tag_sent s before (Msg k t v ∷ other ∷ rest) o e m later = absurd m
 
 -- all stand
 abbrev pub AllStand : Outcome Coordinated → Type 0
-AllStand o = IfDone o (λ made. (j : ℕ) → IsStanding (made.after j))
+AllStand o = IfDone o (λ made. (j : ℕ) → IsFederateRecord (made.after j))
 
 -- what was sent to each federate is in order
-abbrev pub AllInOrder : (ℕ → Standing) → Outcome Coordinated → Type 0
-AllInOrder standings o = IfDone o (λ made. (j : ℕ) → IsSent (standings j).granted (made.after j).granted (sent_to j made.sent))
+abbrev pub AllInOrder : (ℕ → FederateRecord) → Outcome Coordinated → Type 0
+AllInOrder federate_records o = IfDone o (λ made. (j : ℕ) → IsSent (federate_records j).granted (made.after j).granted (sent_to j made.sent))
 
 -- a TAG that goes out is safe
-tag_is_safe : (n : Network) (table : Table) (rule : Rule) (standings : ℕ → Standing) (made : Coordinated) (j : ℕ) (g : LogicalTime) → IsSafeRule n table rule → IsTaken standings made → grant_to n rule made.after j ≡ Some g → IsSafe n table made.after j g
-tag_is_safe n table rule standings made j g safe t e = safe made.after (λ i. (t.stands i).next) j g (rule_grants n rule made.after j g (nat_lt j n.reactors) e)
+tag_is_safe : (n : Network) (table : Table) (rule : Rule) (federate_records : ℕ → FederateRecord) (made : Coordinated) (j : ℕ) (g : LogicalTime) → IsSafeRule n table rule → IsTaken federate_records made → grant_to n rule made.after j ≡ Some g → IsSafe n table made.after j g
+tag_is_safe n table rule federate_records made j g safe t e = safe made.after (λ i. (t.stands i).next) j g (rule_grants n rule made.after j g (nat_lt j n.reactors) e)
 
-granted_stand : (n : Network) (table : Table) (rule : Rule) (standings : ℕ → Standing) (o : Outcome Coordinated) → IsSafeRule n table rule → IfDone o (IsTaken standings) → AllStand (with_made (with_grants n rule) o)
-granted_stand n table rule standings (Refused refusal) safe t = tt
-granted_stand n table rule standings Nothing safe t = tt
-granted_stand n table rule standings (Done made) safe t = λ j.
-    grant_stands (made.after j) (grant_to n rule made.after j) (λ g e. (tag_is_safe n table rule standings made j g safe t e).finite) (t.stands j)
+granted_stand : (n : Network) (table : Table) (rule : Rule) (federate_records : ℕ → FederateRecord) (o : Outcome Coordinated) → IsSafeRule n table rule → IfDone o (IsTaken federate_records) → AllStand (with_made (with_grants n rule) o)
+granted_stand n table rule federate_records (Refused refusal) safe t = tt
+granted_stand n table rule federate_records Nothing safe t = tt
+granted_stand n table rule federate_records (Done made) safe t = λ j.
+    grant_stands (made.after j) (grant_to n rule made.after j) (λ g e. (tag_is_safe n table rule federate_records made j g safe t e).finite) (t.stands j)
 
-granted_in_order : (n : Network) (table : Table) (rule : Rule) (standings : ℕ → Standing) (o : Outcome Coordinated) → IsSafeRule n table rule → IfDone o (IsTaken standings) → AllInOrder standings (with_made (with_grants n rule) o)
-granted_in_order n table rule standings (Refused refusal) safe t = tt
-granted_in_order n table rule standings Nothing safe t = tt
-granted_in_order n table rule standings (Done made) safe t = λ j.
+granted_in_order : (n : Network) (table : Table) (rule : Rule) (federate_records : ℕ → FederateRecord) (o : Outcome Coordinated) → IsSafeRule n table rule → IfDone o (IsTaken federate_records) → AllInOrder federate_records (with_made (with_grants n rule) o)
+granted_in_order n table rule federate_records (Refused refusal) safe t = tt
+granted_in_order n table rule federate_records Nothing safe t = tt
+granted_in_order n table rule federate_records (Done made) safe t = λ j.
     let o = grant_to n rule made.after j in
     let all : sent_to j (made.sent ++ grants_from n rule made.after 0 n.reactors) ≡ sent_to j made.sent ++ tag_if (grant_to n rule made.after j) =
     sent-append j made.sent (grants_from n rule made.after 0 n.reactors) ∙ ap (λ x. sent_to j made.sent ++ x) (grants_sent n rule made.after j) in
-    let P : List Signal → Type 0 = λ x. IsSent (standings j).granted (after_grant (made.after j) (grant_to n rule made.after j)).granted x in
+    let P : List Signal → Type 0 = λ x. IsSent (federate_records j).granted (after_grant (made.after j) (grant_to n rule made.after j)).granted x in
     subst P (sym all)
-    (with_tag_sent (made.after j) (standings j).granted (sent_to j made.sent) o (t.granted j) (t.sent j) (λ g e. (tag_is_safe n table rule standings made j g safe t e).later))
+    (with_tag_sent (made.after j) (federate_records j).granted (sent_to j made.sent) o (t.granted j) (t.sent j) (λ g e. (tag_is_safe n table rule federate_records made j g safe t e).later))
 
-pub accepts_stand : (n : Network) (table : Table) (rule : Rule) (standings : ℕ → Standing) (i : ℕ) (signal : Signal) → IsSafeRule n table rule → IsSignal signal → ((j : ℕ) → IsStanding (standings j)) → AllStand (coordinator_accepts n rule standings i signal)
-accepts_stand n table rule standings i signal safe p all =
-    granted_stand n table rule standings (coordinator_takes n standings i signal) safe (signal_taken n standings i signal all p)
+pub accepts_stand : (n : Network) (table : Table) (rule : Rule) (federate_records : ℕ → FederateRecord) (i : ℕ) (signal : Signal) → IsSafeRule n table rule → IsSignal signal → ((j : ℕ) → IsFederateRecord (federate_records j)) → AllStand (coordinator_accepts n rule federate_records i signal)
+accepts_stand n table rule federate_records i signal safe p all =
+    granted_stand n table rule federate_records (coordinator_takes n federate_records i signal) safe (signal_taken n federate_records i signal all p)
 
-pub accepts_in_order : (n : Network) (table : Table) (rule : Rule) (standings : ℕ → Standing) (i : ℕ) (signal : Signal) → IsSafeRule n table rule → IsSignal signal → ((j : ℕ) → IsStanding (standings j)) → AllInOrder standings (coordinator_accepts n rule standings i signal)
-accepts_in_order n table rule standings i signal safe p all =
-    granted_in_order n table rule standings (coordinator_takes n standings i signal) safe (signal_taken n standings i signal all p)
+pub accepts_in_order : (n : Network) (table : Table) (rule : Rule) (federate_records : ℕ → FederateRecord) (i : ℕ) (signal : Signal) → IsSafeRule n table rule → IsSignal signal → ((j : ℕ) → IsFederateRecord (federate_records j)) → AllInOrder federate_records (coordinator_accepts n rule federate_records i signal)
+accepts_in_order n table rule federate_records i signal safe p all =
+    granted_in_order n table rule federate_records (coordinator_takes n federate_records i signal) safe (signal_taken n federate_records i signal all p)

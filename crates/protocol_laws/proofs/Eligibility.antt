@@ -13,7 +13,7 @@ use Rattle.network.specs.Network.{Network}
 use Rattle.network.specs.Lawful.{IsLawful, IsConnected}
 use Rattle.network.specs.Wiring.{IsBetween, IsWired}
 use Rattle.network.specs.Tables.{Table, IsLeastTable}
-use Rattle.protocol.specs.Standing.{Standing}
+use Rattle.protocol.specs.FederateRecord.{FederateRecord}
 use Rattle.protocol.specs.Grant.{after_completed, ByPaths, ByConnections, Eligible, all_below, is_before_arrival, passes_paths, passes_connection, passes_connections, is_eligible}
 use Rattle.protocol_laws.proofs.Backing.{paths_hold, connections_hold}
 use Rattle.protocol_laws.proofs.SafeGrants.{eligible_announced, eligible_not_granted, eligible_in_time, eligible_safe}
@@ -51,17 +51,17 @@ arrival_from : (connections : List Connection) (i j : ℕ) (tag next : LogicalTi
 arrival_from connections i j tag next None m h = refl
 arrival_from connections i j tag next (Some d) m h = h d m
 
-paths_from : (n : Network) (table : Table) (standings : ℕ → Standing) (j : ℕ) (tag : LogicalTime) → IsLeastTable n table → ByPaths n standings j tag → passes_paths n table standings j tag ≡ true
-paths_from n table standings j tag least h = all_below_from n.reactors (λ i. is_before_arrival tag (standings i).next (table i j)) (λ i l. arrival_from n.connections i j tag (standings i).next (table i j) (least i j) (h i))
+paths_from : (n : Network) (table : Table) (federate_records : ℕ → FederateRecord) (j : ℕ) (tag : LogicalTime) → IsLeastTable n table → ByPaths n federate_records j tag → passes_paths n table federate_records j tag ≡ true
+paths_from n table federate_records j tag least h = all_below_from n.reactors (λ i. is_before_arrival tag (federate_records i).next (table i j)) (λ i l. arrival_from n.connections i j tag (federate_records i).next (table i j) (least i j) (h i))
 
 if_from : (a b : Bool) → (a ≡ true → b ≡ true) → (if a then b else true) ≡ true
 if_from true b h = h refl
 if_from false b h = refl
 
-connections_from : (n : Network) (standings : ℕ → Standing) (j : ℕ) (tag : LogicalTime) → ByConnections n standings j tag → passes_connections n standings j tag ≡ true
-connections_from n standings j tag h =
-    list_all_from (passes_connection standings j tag) n.connections
-    (λ k c e. if_from (nat_eq c.target j) (is_before tag (sum_of (after_completed (standings c.source).completed) c.delay)) (λ t. h c (contains_at n.connections k c e) (eqb-true c.target j t)))
+connections_from : (n : Network) (federate_records : ℕ → FederateRecord) (j : ℕ) (tag : LogicalTime) → ByConnections n federate_records j tag → passes_connections n federate_records j tag ≡ true
+connections_from n federate_records j tag h =
+    list_all_from (passes_connection federate_records j tag) n.connections
+    (λ k c e. if_from (nat_eq c.target j) (is_before tag (sum_of (after_completed (federate_records c.source).completed) c.delay)) (λ t. h c (contains_at n.connections k c e) (eqb-true c.target j t)))
 
 -- the table's entry is no more than a least delay
 pub least_of_table : (connections : List Connection) (i j : ℕ) (o : Option LogicalTime) (delay : LogicalTime) → MatchOption o (IsUnreachable connections i j) (λ d. IsLeastDelay connections i j d) → IsLeastDelay connections i j delay → (d : LogicalTime) × (o ≡ Some d) × (is_at_most d delay ≡ true)
@@ -70,52 +70,52 @@ least_of_table connections i j (Some d) delay m least =
     let P : LogicalTime → Type 0 = λ x. is_at_most d x ≡ true in
     (d, refl, subst P least.attained.2 (m.least least.attained.0 least.attained.1))
 
-by_paths : (n : Network) (table : Table) (standings : ℕ → Standing) (j : ℕ) (tag : LogicalTime) → IsWired n → IsLeastTable n table → passes_paths n table standings j tag ≡ true → ByPaths n standings j tag
-by_paths n table standings j tag wired least h i delay is =
+by_paths : (n : Network) (table : Table) (federate_records : ℕ → FederateRecord) (j : ℕ) (tag : LogicalTime) → IsWired n → IsLeastTable n table → passes_paths n table federate_records j tag ≡ true → ByPaths n federate_records j tag
+by_paths n table federate_records j tag wired least h i delay is =
     let at = least_of_table n.connections i j (table i j) delay (least i j) is in
     let begins = path_begins n i j is.attained.0 wired is.attained.1 in
-    before_then tag (sum_of (standings i).next at.0) (sum_of (standings i).next delay) (paths_hold n table standings j tag h i at.0 begins at.1) (sum_monotone_right (standings i).next at.0 delay at.2)
+    before_then tag (sum_of (federate_records i).next at.0) (sum_of (federate_records i).next delay) (paths_hold n table federate_records j tag h i at.0 begins at.1) (sum_monotone_right (federate_records i).next at.0 delay at.2)
 
-by_connections : (n : Network) (standings : ℕ → Standing) (j : ℕ) (tag : LogicalTime) → passes_connections n standings j tag ≡ true → ByConnections n standings j tag
-by_connections n standings j tag h c within t = let at = contained_at n.connections c within in connections_hold n standings j tag h at.0 c at.1 t
+by_connections : (n : Network) (federate_records : ℕ → FederateRecord) (j : ℕ) (tag : LogicalTime) → passes_connections n federate_records j tag ≡ true → ByConnections n federate_records j tag
+by_connections n federate_records j tag h c within t = let at = contained_at n.connections c within in connections_hold n federate_records j tag h at.0 c at.1 t
 
-pub paths_by_table : (n : Network) (table : Table) (standings : ℕ → Standing) (j : ℕ) (tag : LogicalTime) → IsWired n → IsLeastTable n table → ByPaths n standings j tag ↔ IsTrue (passes_paths n table standings j tag)
-paths_by_table n table standings j tag wired least = (paths_from n table standings j tag least, by_paths n table standings j tag wired least)
+pub paths_by_table : (n : Network) (table : Table) (federate_records : ℕ → FederateRecord) (j : ℕ) (tag : LogicalTime) → IsWired n → IsLeastTable n table → ByPaths n federate_records j tag ↔ IsTrue (passes_paths n table federate_records j tag)
+paths_by_table n table federate_records j tag wired least = (paths_from n table federate_records j tag least, by_paths n table federate_records j tag wired least)
 
-pub connections_by_test : (n : Network) (standings : ℕ → Standing) (j : ℕ) (tag : LogicalTime) → ByConnections n standings j tag ↔ IsTrue (passes_connections n standings j tag)
-connections_by_test n standings j tag = (connections_from n standings j tag, by_connections n standings j tag)
+pub connections_by_test : (n : Network) (federate_records : ℕ → FederateRecord) (j : ℕ) (tag : LogicalTime) → ByConnections n federate_records j tag ↔ IsTrue (passes_connections n federate_records j tag)
+connections_by_test n federate_records j tag = (connections_from n federate_records j tag, by_connections n federate_records j tag)
 
-to_formula : (n : Network) (table : Table) (standings : ℕ → Standing) (j : ℕ) → IsWired n → IsLeastTable n table → is_eligible n table standings j ≡ true → Eligible n standings j
-to_formula n table standings j wired least h =
-    let next = (standings j).next in
-    let a = (standings j).announced in
-    let b = is_past (standings j).granted next in
+to_formula : (n : Network) (table : Table) (federate_records : ℕ → FederateRecord) (j : ℕ) → IsWired n → IsLeastTable n table → is_eligible n table federate_records j ≡ true → Eligible n federate_records j
+to_formula n table federate_records j wired least h =
+    let next = (federate_records j).next in
+    let a = (federate_records j).announced in
+    let b = is_past (federate_records j).granted next in
     let c = is_at_most next n.stop in
-    let p = passes_paths n table standings j next in
-    let q = passes_connections n standings j next in
+    let p = passes_paths n table federate_records j next in
+    let q = passes_connections n federate_records j next in
     record {
       announced = eligible_announced a b c (p || q) h;
       not_granted = eligible_not_granted a b c (p || q) h;
       in_time = eligible_in_time a b c (p || q) h;
       safe = elim (either_case p q (eligible_safe a b c (p || q) h)) [
-        | inl x ↦ inl (by_paths n table standings j next wired least x)
-        | inr x ↦ inr (by_connections n standings j next x)
+        | inl x ↦ inl (by_paths n table federate_records j next wired least x)
+        | inr x ↦ inr (by_connections n federate_records j next x)
       ];
     }
 
-to_test : (n : Network) (table : Table) (standings : ℕ → Standing) (j : ℕ) → IsLeastTable n table → Eligible n standings j → is_eligible n table standings j ≡ true
-to_test n table standings j least e =
-    let next = (standings j).next in
-    let a = (standings j).announced in
-    let b = is_past (standings j).granted next in
+to_test : (n : Network) (table : Table) (federate_records : ℕ → FederateRecord) (j : ℕ) → IsLeastTable n table → Eligible n federate_records j → is_eligible n table federate_records j ≡ true
+to_test n table federate_records j least e =
+    let next = (federate_records j).next in
+    let a = (federate_records j).announced in
+    let b = is_past (federate_records j).granted next in
     let c = is_at_most next n.stop in
-    let p = passes_paths n table standings j next in
-    let q = passes_connections n standings j next in
+    let p = passes_paths n table federate_records j next in
+    let q = passes_connections n federate_records j next in
     let safe : (p ≡ true) ⊎ (q ≡ true) = elim e.safe [
-      | inl x ↦ inl (paths_from n table standings j next least x)
-      | inr x ↦ inr (connections_from n standings j next x)
+      | inl x ↦ inl (paths_from n table federate_records j next least x)
+      | inr x ↦ inr (connections_from n federate_records j next x)
     ] in
     both_hold (a && b && c) (p || q) (both_hold (a && b) c (both_hold a b e.announced e.not_granted) e.in_time) (either_of p q safe)
 
-pub eligible_by_table : (n : Network) (table : Table) (standings : ℕ → Standing) (j : ℕ) → IsWired n → IsLeastTable n table → Eligible n standings j ↔ IsTrue (is_eligible n table standings j)
-eligible_by_table n table standings j wired least = (to_test n table standings j least, to_formula n table standings j wired least)
+pub eligible_by_table : (n : Network) (table : Table) (federate_records : ℕ → FederateRecord) (j : ℕ) → IsWired n → IsLeastTable n table → Eligible n federate_records j ↔ IsTrue (is_eligible n table federate_records j)
+eligible_by_table n table federate_records j wired least = (to_test n table federate_records j least, to_formula n table federate_records j wired least)

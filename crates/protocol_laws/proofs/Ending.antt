@@ -58,18 +58,18 @@ nothing_undone n low (x ∷ rest) lawful h t =
     let before = h.2 in
     absurd (omega arith)
 
-quiet : (n : Network) (j : ℕ) (m : Member) → IsLawful n → IsKept n j m.standing m.federate m.up m.down → m.standing.next ≡ forever → IsQuiet m
+quiet : (n : Network) (j : ℕ) (m : Member) → IsLawful n → IsKept n j m.federate_record m.federate m.up m.down → m.federate_record.next ≡ forever → IsQuiet m
 quiet n j m lawful k e =
-    let at_end : place m.standing.next ≡ top = ap place e ∙ place_of_forever in
+    let at_end : place m.federate_record.next ≡ top = ap place e ∙ place_of_forever in
     let a = k.next_undone in
     let b = k.next_key in
     let c = k.next_transit in
     record {
       undone = nothing_undone n (above m.federate.completed) m.federate.undone lawful k.undone (omega arith);
-      up = no_message_up n j (above m.standing.completed) m.up lawful k.upward (omega arith);
-      down = no_message_down n j (above m.federate.granted) m.standing.transit m.down lawful k.downward k.covered (omega arith);
+      up = no_message_up n j (above m.federate_record.completed) m.up lawful k.upward (omega arith);
+      down = no_message_down n j (above m.federate.granted) m.federate_record.transit m.down lawful k.downward k.covered (omega arith);
     }
 
 -- after every list of moves
-pub ends_quiet : (n : Network) (table : Table) (rules : ℕ → Rule) → IsLawful n → IsTable n table → ((k : ℕ) → IsSafeRule n table (rules k)) → (moves : List Move) (j : ℕ) → (after_moves n rules moves j).standing.next ≡ forever → IsQuiet (after_moves n rules moves j)
+pub ends_quiet : (n : Network) (table : Table) (rules : ℕ → Rule) → IsLawful n → IsTable n table → ((k : ℕ) → IsSafeRule n table (rules k)) → (moves : List Move) (j : ℕ) → (after_moves n rules moves j).federate_record.next ≡ forever → IsQuiet (after_moves n rules moves j)
 ends_quiet n table rules lawful facts safe moves j e = quiet n j (after_moves n rules moves j) lawful ((moves_sound n table rules moves lawful facts safe).kept j) e

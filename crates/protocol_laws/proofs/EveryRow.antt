@@ -64,7 +64,7 @@ nothing_pending n lawful members kept quiet k j s path there (down number value 
     message_found (members k).down number s value within (quiet k (walk_begins n lawful k path j there w)).down
 nothing_pending n lawful members kept quiet k j s path there (up i number c value within e target) w =
     let at = contained_at (members i).up (Msg number s value) within in
-    let from_i = sender_is n i (tags.above (members i).standing.completed) (members i).up at.0 number s value c (kept i).upward at.1 e in
+    let from_i = sender_is n i (tags.above (members i).federate_record.completed) (members i).up at.0 number s value c (kept i).upward at.1 e in
     let P : ℕ → Type 0 = λ x. x < n.reactors in
     let sender : i < n.reactors = subst P from_i (contained_is n c lawful (contains_at n.connections number c e)).source in
     message_found (members i).up number s value within (quiet i sender).up

@@ -25,11 +25,11 @@ use Rattle.protocol.specs.declared.refusal.Refusal.TheVariants.{Late, OldGrant, 
 use Rattle.protocol.specs.Outcome.{Outcome, Refused, Nothing, Done, made_or, with_made}
 use Rattle.network.specs.Undone.{put, look, first_tag, pending_event_of}
 use Rattle.protocol.specs.Federate.{is_told, next_event, accept_message, federate_announces, advance_to, turn_at}
-use Rattle.protocol.specs.Standing.{Standing, after_message, after_net, after_ltc}
+use Rattle.protocol.specs.FederateRecord.{FederateRecord, after_message, after_net, after_ltc}
 use Rattle.protocol.specs.Grant.{Rule, IsSafeRule}
 use Rattle.protocol.specs.declared.post.Post.{Post}
-use Rattle.protocol.specs.Coordinator.{Coordinated, with_standing, noted, route, coordinator_takes, grant_to, grants_from, with_grants}
-use Rattle.protocol.specs.Machine.{Member, Move, ToCoordinator, ToFederate, Announce, Advance, Lose, initial_member, with_member, standings_of, sent_to, coordinated, coordinator_takes_from, stepped, federate_takes_from, outcome_of, after_moves}
+use Rattle.protocol.specs.Coordinator.{Coordinated, with_federate_record, noted, route, coordinator_takes, grant_to, grants_from, with_grants}
+use Rattle.protocol.specs.Machine.{Member, Move, ToCoordinator, ToFederate, Announce, Advance, Lose, initial_member, with_member, federate_records_of, sent_to, coordinated, coordinator_takes_from, stepped, federate_takes_from, outcome_of, after_moves}
 use Rattle.protocol_laws.specs.Histories.{histories_of}
 use Rattle.protocol_laws.proofs.Safety.{IsSound, tag_if, sent-append, grants_sent, moves_sound}
 use Rattle.protocol_laws.proofs.ClearRuns.{AllClear, moves_clear}
@@ -219,26 +219,26 @@ module _ (n : Network) (members : ℕ → Member) (i : ℕ) (rest : List Signal)
           let sent = sent_brings_none a t slot c.target k s v (nat_eq a c.target) none in
           λ y. or_else (up y) (or_else (or_else (sent y) (last_message n a t slot (members a).down)) (look (members a).federate.undone t slot))
 
-  noted_sends : (signal : Signal) (b d : Bool) (standings : ℕ → Standing) (mine : Standing) → (members i).up ≡ signal ∷ rest → ((a : ℕ) (t : LogicalTime) (slot : ℕ) → last_message n a t slot (signal ∷ rest) ≡ last_message n a t slot rest) → TakeSends (if not b then Refused AfterStop else if not d then Refused NotRising else Done (noted standings i mine))
-  noted_sends signal true true standings mine e nothing = nothing_sends signal e nothing
-  noted_sends signal true false standings mine e nothing = tt
-  noted_sends signal false d standings mine e nothing = tt
+  noted_sends : (signal : Signal) (b d : Bool) (federate_records : ℕ → FederateRecord) (mine : FederateRecord) → (members i).up ≡ signal ∷ rest → ((a : ℕ) (t : LogicalTime) (slot : ℕ) → last_message n a t slot (signal ∷ rest) ≡ last_message n a t slot rest) → TakeSends (if not b then Refused AfterStop else if not d then Refused NotRising else Done (noted federate_records i mine))
+  noted_sends signal true true federate_records mine e nothing = nothing_sends signal e nothing
+  noted_sends signal true false federate_records mine e nothing = tt
+  noted_sends signal false d federate_records mine e nothing = tt
 
-  route_sends : IsLawful n → (standings : ℕ → Standing) (k : ℕ) (s : LogicalTime) (v : ℤ) (o : Option Connection) → (members i).up ≡ Msg k s v ∷ rest → slice_get n.connections k ≡ o → TakeSends (route n standings i (Msg k s v) o s)
-  route_sends L standings k s v None e at = tt
-  route_sends L standings k s v (Some c) e at = by_tests (nat_eq c.source i) (is_at_most s n.stop) (is_past (standings c.target).granted s) refl
+  route_sends : IsLawful n → (federate_records : ℕ → FederateRecord) (k : ℕ) (s : LogicalTime) (v : ℤ) (o : Option Connection) → (members i).up ≡ Msg k s v ∷ rest → slice_get n.connections k ≡ o → TakeSends (route n federate_records i (Msg k s v) o s)
+  route_sends L federate_records k s v None e at = tt
+  route_sends L federate_records k s v (Some c) e at = by_tests (nat_eq c.source i) (is_at_most s n.stop) (is_past (federate_records c.target).granted s) refl
     where
-      by_tests : (b d f : Bool) → nat_eq c.source i ≡ b → TakeSends (if not b then Refused NotYours else if not d then Refused AfterStop else if not f then Refused BelowGrant else Done (record { after = with_standing standings c.target (after_message (standings c.target) s); sent = record { peer = c.target; signal = Msg k s v } ∷ [] }))
+      by_tests : (b d f : Bool) → nat_eq c.source i ≡ b → TakeSends (if not b then Refused NotYours else if not d then Refused AfterStop else if not f then Refused BelowGrant else Done (record { after = with_federate_record federate_records c.target (after_message (federate_records c.target) s); sent = record { peer = c.target; signal = Msg k s v } ∷ [] }))
       by_tests true true true h = message_sends k s v c e at (at_index (PortFacts n) n.connections k c (port_facts n L) at) (eqb-true c.source i h)
       by_tests true true false h = tt
       by_tests true false f h = tt
       by_tests false d f h = tt
 
-  take_sends : IsLawful n → (standings : ℕ → Standing) (signal : Signal) → (members i).up ≡ signal ∷ rest → TakeSends (coordinator_takes n standings i signal)
-  take_sends L standings (Net g) e = noted_sends (Net g) (is_at_most g n.stop || is_same g forever) (is_past (standings i).completed g) standings (after_net (standings i) g) e (λ a t slot. refl)
-  take_sends L standings (Ltc g) e = noted_sends (Ltc g) (is_at_most g n.stop) (is_past (standings i).completed g) standings (after_ltc (standings i) g) e (λ a t slot. refl)
-  take_sends L standings (Tag g) e = tt
-  take_sends L standings (Msg k s v) e = route_sends L standings k s v (slice_get n.connections k) e refl
+  take_sends : IsLawful n → (federate_records : ℕ → FederateRecord) (signal : Signal) → (members i).up ≡ signal ∷ rest → TakeSends (coordinator_takes n federate_records i signal)
+  take_sends L federate_records (Net g) e = noted_sends (Net g) (is_at_most g n.stop || is_same g forever) (is_past (federate_records i).completed g) federate_records (after_net (federate_records i) g) e (λ a t slot. refl)
+  take_sends L federate_records (Ltc g) e = noted_sends (Ltc g) (is_at_most g n.stop) (is_past (federate_records i).completed g) federate_records (after_ltc (federate_records i) g) e (λ a t slot. refl)
+  take_sends L federate_records (Tag g) e = tt
+  take_sends L federate_records (Msg k s v) e = route_sends L federate_records k s v (slice_get n.connections k) e refl
 
   -- TAGs bring nothing
   granted_same : (a : ℕ) (t : LogicalTime) (slot : ℕ) (xs : List Signal) (o : Option LogicalTime) → last_message n a t slot (xs ++ tag_if o) ≡ last_message n a t slot xs
@@ -280,7 +280,7 @@ module _ (n : Network) (members : ℕ → Member) (i : ℕ) (rest : List Signal)
 coordinator_traces : (n : Network) (rule : Rule) (members : ℕ → Member) (i : ℕ) (up : List Signal) → IsLawful n → (members i).up ≡ up → HasTrace n members → MoveTraces n (coordinator_takes_from n rule members i up)
 coordinator_traces n rule members i [] lawful e w = tt
 coordinator_traces n rule members i (signal ∷ rest) lawful e w =
-    coordinated_traces n members i rest rule (coordinator_takes n (standings_of members) i signal) (take_sends n members i rest lawful (standings_of members) signal e) w
+    coordinated_traces n members i rest rule (coordinator_takes n (federate_records_of members) i signal) (take_sends n members i rest lawful (federate_records_of members) signal e) w
 
 lose_stays : (n : Network) (i : ℕ) (m : Member) → StaysTraced n i m m.down (record m { lost = true })
 lose_stays n i m = record { rows = refl; up = λ a t slot. refl; rest = λ t slot. refl }

@@ -1,4 +1,4 @@
--- What is kept of each federate, whatever happens: of its standing, of itself, and of the queues between them. And that each step keeps it.
+-- What is kept of each federate, whatever happens: of its record, of itself, and of the queues between them. And that each step keeps it.
 use Rattle.std.proofs.Common.{◌≡◌, ℕ, ◌+◌, ◌≤◌, IsTrue, inl, inr, List, [], ◌∷◌, ◌++◌, refl, ap, subst, ◌∙◌, arith, min, max, Some, ℤ}
 use Rattle.std.specs.Prelude.{slice_get, filter, map, unwrap_or, nat_eq, ◌||◌}
 use Rattle.std.proofs.lemmas.Bool.Decides.{nat_tests}
@@ -10,7 +10,7 @@ use Rattle.signal.specs.declared.signal.Signal.{Signal}
 use Rattle.signal.specs.declared.signal.Signal.TheVariants.{Net, Ltc, Tag, Msg}
 use Rattle.network.specs.Undone.{PendingEvent, put, put_all, look, first_tag, drop_up_to, pending_event_of}
 use Rattle.protocol.specs.Federate.{Federate, next_event, turn_at, effect_of, scheduled_by, messages_from, initial_federate}
-use Rattle.protocol.specs.Standing.{Standing, initial_standing, with_tag, after_message, after_net, after_ltc, after_grant}
+use Rattle.protocol.specs.FederateRecord.{FederateRecord, initial_federate_record, with_tag, after_message, after_net, after_ltc, after_grant}
 use Rattle.protocol_laws.proofs.Tags.{IsOptional, above, reached_true}
 use Rattle.protocol_laws.proofs.Transit.{least_above, AreTags, above_rises, above_one_more, tags_one_more, above_later, tags_later, lesser_is_tag, place_of_lesser, least_is_tag, place_of_least, covers_one_more, covers_it, covers_later}
 use Rattle.protocol_laws.proofs.Upward.{last_ltc, IsUp, least_key, AreNets, last_is_later, last-append, up-append, key-append, nets-append, nets_in_transit, nets_one_more}
@@ -20,7 +20,7 @@ use Rattle.protocol_laws.proofs.Told.{undone_from, message_from, IsTold, ends_wi
 use Rattle.protocol_laws.proofs.Turns.{messages_of_turn, turn_is_up, last_of_turn, key_of_turn, nets_of_turn, scheduled_are_held, external_are_held}
 use Rattle.protocol_laws.proofs.Tests.{either_of}
 
-pub record IsKept (n : Network) (j : ℕ) (s : Standing) (f : Federate) (up down : List Signal) : Type 0 where
+pub record IsKept (n : Network) (j : ℕ) (s : FederateRecord) (f : Federate) (up down : List Signal) : Type 0 where
   pub next_tag : IsLogicalTime s.next
   pub completed_tag : IsOptional s.completed
   pub granted_tag : IsOptional s.granted
@@ -44,7 +44,7 @@ pub record IsKept (n : Network) (j : ℕ) (s : Standing) (f : Federate) (up down
   pub found : (low : ℕ) → above f.completed ≤ low → min (undone_from low f.undone) (message_from low down) ≤ least_above low s.transit
 
 -- after the coordinator took its NET
-pub net_keeps : (n : Network) (j : ℕ) (s : Standing) (f : Federate) (rest down : List Signal) (g : LogicalTime) → IsKept n j s f (Net g ∷ rest) down → IsKept n j (after_net s g) f rest down
+pub net_keeps : (n : Network) (j : ℕ) (s : FederateRecord) (f : Federate) (rest down : List Signal) (g : LogicalTime) → IsKept n j s f (Net g ∷ rest) down → IsKept n j (after_net s g) f rest down
 net_keeps n j s f rest down g k =
     let e = place_of_least g s.transit k.upward.0 k.transit_tags in
     let m = above_rises 0 (above s.completed) s.transit (omega arith) in
@@ -75,7 +75,7 @@ net_keeps n j s f rest down g k =
     }
 
 -- a NET never lowers the next tag
-pub net_raises : (n : Network) (j : ℕ) (s : Standing) (f : Federate) (rest down : List Signal) (g : LogicalTime) → IsKept n j s f (Net g ∷ rest) down → place s.next ≤ place (after_net s g).next
+pub net_raises : (n : Network) (j : ℕ) (s : FederateRecord) (f : Federate) (rest down : List Signal) (g : LogicalTime) → IsKept n j s f (Net g ∷ rest) down → place s.next ≤ place (after_net s g).next
 net_raises n j s f rest down g k =
     let e = place_of_least g s.transit k.upward.0 k.transit_tags in
     let a = k.next_key in
@@ -83,7 +83,7 @@ net_raises n j s f rest down g k =
     omega arith
 
 -- after the coordinator took its LTC
-pub ltc_keeps : (n : Network) (j : ℕ) (s : Standing) (f : Federate) (rest down : List Signal) (c : LogicalTime) → IsKept n j s f (Ltc c ∷ rest) down → IsKept n j (after_ltc s c) f rest down
+pub ltc_keeps : (n : Network) (j : ℕ) (s : FederateRecord) (f : Federate) (rest down : List Signal) (c : LogicalTime) → IsKept n j s f (Ltc c ∷ rest) down → IsKept n j (after_ltc s c) f rest down
 ltc_keeps n j s f rest down c k =
     let later = last_is_later n j (place c + 1) rest k.upward.3 in
     let chain = k.chain in
@@ -125,7 +125,7 @@ ltc_keeps n j s f rest down c k =
     }
 
 -- after the coordinator took its message, before it goes on
-pub message_keeps : (n : Network) (j : ℕ) (s : Standing) (f : Federate) (rest down : List Signal) (c : ℕ) (g : LogicalTime) (v : ℤ) → IsKept n j s f (Msg c g v ∷ rest) down → IsKept n j s f rest down
+pub message_keeps : (n : Network) (j : ℕ) (s : FederateRecord) (f : Federate) (rest down : List Signal) (c : ℕ) (g : LogicalTime) (v : ℤ) → IsKept n j s f (Msg c g v ∷ rest) down → IsKept n j s f rest down
 message_keeps n j s f rest down c g v k =
     record {
       next_tag = k.next_tag;
@@ -155,7 +155,7 @@ fewer_with : (g : LogicalTime) (x : ℕ) (tags : List LogicalTime) → least_abo
 fewer_with g x tags = let m = above_one_more x g tags in grind (arith, nat_tests)
 
 -- its granted tag, and so each message for it, is past its last LTC
-passes_completed : (n : Network) (j : ℕ) (s : Standing) (f : Federate) (up down : List Signal) → IsKept n j s f up down → above s.completed ≤ above s.granted
+passes_completed : (n : Network) (j : ℕ) (s : FederateRecord) (f : Federate) (up down : List Signal) → IsKept n j s f up down → above s.completed ≤ above s.granted
 passes_completed n j s f up down k =
     let a = last_is_later n j (above s.completed) up k.upward in
     let b = last_tag_is_later n j (above f.granted) down k.downward in
@@ -168,7 +168,7 @@ zero_more_with : (g : LogicalTime) (tags : List LogicalTime) → least_above 0 (
 zero_more_with g tags = let m = above_one_more 0 g tags in grind (arith, nat_tests)
 
 -- after a message for it went on
-pub route_keeps : (n : Network) (j : ℕ) (s : Standing) (f : Federate) (up down : List Signal) (c : ℕ) (g : LogicalTime) (v : ℤ) → EndsAt j (slice_get n.connections c) → IsLogicalTime g → above s.granted ≤ place g → IsTrue (is_at_most g n.stop) → IsKept n j s f up down → IsKept n j (after_message s g) f up (down ++ Msg c g v ∷ [])
+pub route_keeps : (n : Network) (j : ℕ) (s : FederateRecord) (f : Federate) (up down : List Signal) (c : ℕ) (g : LogicalTime) (v : ℤ) → EndsAt j (slice_get n.connections c) → IsLogicalTime g → above s.granted ≤ place g → IsTrue (is_at_most g n.stop) → IsKept n j s f up down → IsKept n j (after_message s g) f up (down ++ Msg c g v ∷ [])
 route_keeps n j s f up down c g v ends p l stop k =
     let e = place_of_lesser s.next g k.next_tag p in
     let a = k.next_undone in
@@ -207,7 +207,7 @@ route_keeps n j s f up down c g v ends p l stop k =
     }
 
 -- after a TAG to it went out
-pub grant_keeps : (n : Network) (j : ℕ) (s : Standing) (f : Federate) (up down : List Signal) (g : LogicalTime) → IsLogicalTime g → above s.granted ≤ place g → IsTrue (is_at_most g n.stop) → IsKept n j s f up down → IsKept n j (after_grant s (Some g)) f up (down ++ Tag g ∷ [])
+pub grant_keeps : (n : Network) (j : ℕ) (s : FederateRecord) (f : Federate) (up down : List Signal) (g : LogicalTime) → IsLogicalTime g → above s.granted ≤ place g → IsTrue (is_at_most g n.stop) → IsKept n j s f up down → IsKept n j (after_grant s (Some g)) f up (down ++ Tag g ∷ [])
 grant_keeps n j s f up down g p l stop k =
     let last = k.last in
     record {
@@ -235,7 +235,7 @@ grant_keeps n j s f up down g p l stop k =
     }
 
 -- after it took a TAG
-pub tag_keeps : (n : Network) (j : ℕ) (s : Standing) (f : Federate) (up rest : List Signal) (g : LogicalTime) → IsKept n j s f up (Tag g ∷ rest) → IsKept n j s (record f { granted = Some g }) up rest
+pub tag_keeps : (n : Network) (j : ℕ) (s : FederateRecord) (f : Federate) (up rest : List Signal) (g : LogicalTime) → IsKept n j s f up (Tag g ∷ rest) → IsKept n j s (record f { granted = Some g }) up rest
 tag_keeps n j s f up rest g k =
     let a = k.completed_granted in
     let b = k.downward.1 in
@@ -264,7 +264,7 @@ tag_keeps n j s f up rest g k =
     }
 
 -- after it took a message
-pub taken_keeps : (n : Network) (j : ℕ) (s : Standing) (f : Federate) (up rest : List Signal) (c : ℕ) (g : LogicalTime) (v : ℤ) (slot : ℕ) → IsLogicalTime n.stop → IsKept n j s f up (Msg c g v ∷ rest) → IsKept n j s (record f { undone = put (record { tag = g; slot = slot; value = v }) f.undone }) up rest
+pub taken_keeps : (n : Network) (j : ℕ) (s : FederateRecord) (f : Federate) (up rest : List Signal) (c : ℕ) (g : LogicalTime) (v : ℤ) (slot : ℕ) → IsLogicalTime n.stop → IsKept n j s f up (Msg c g v ∷ rest) → IsKept n j s (record f { undone = put (record { tag = g; slot = slot; value = v }) f.undone }) up rest
 taken_keeps n j s f up rest c g v slot stop k =
     let low = k.downward.2 in
     let chain = k.chain in
@@ -319,7 +319,7 @@ first_within stop low [] h = omega arith
 first_within stop low (x ∷ rest) h = place_bound x.tag h.0
 
 -- after it announced
-pub announce_keeps : (n : Network) (j : ℕ) (s : Standing) (f : Federate) (up down : List Signal) → IsLogicalTime n.stop → IsKept n j s f up down → IsKept n j s (record f { announced = Some (next_event f) }) (up ++ Net (next_event f) ∷ []) down
+pub announce_keeps : (n : Network) (j : ℕ) (s : FederateRecord) (f : Federate) (up down : List Signal) → IsLogicalTime n.stop → IsKept n j s f up down → IsKept n j s (record f { announced = Some (next_event f) }) (up ++ Net (next_event f) ∷ []) down
 announce_keeps n j s f up down stop k =
     let small = k.own_within in
     let e = next_place f.undone in
@@ -364,7 +364,7 @@ first_is stop low (x ∷ rest) g h e =
     subst P same (h.0, h.1, h.2, refl)
 
 -- after it ran a tag
-pub turn_keeps : (n : Network) (j : ℕ) (s : Standing) (f : Federate) (up down : List Signal) (g : LogicalTime) → IsLawful n → first_tag f.undone ≡ Some g → IsTrue (is_reached f.granted g) → IsKept n j s f up down → IsKept n j s (turn_at n j f g).after (up ++ (turn_at n j f g).sent) down
+pub turn_keeps : (n : Network) (j : ℕ) (s : FederateRecord) (f : Federate) (up down : List Signal) (g : LogicalTime) → IsLawful n → first_tag f.undone ≡ Some g → IsTrue (is_reached f.granted g) → IsKept n j s f up down → IsKept n j s (turn_at n j f g).after (up ++ (turn_at n j f g).sent) down
 turn_keeps n j s f up down g lawful first reached k =
     let stop = finite_is_logical n.stop lawful.stop in
     let end = place_of_finite n.stop lawful.stop in
@@ -420,7 +420,7 @@ turn_keeps n j s f up down g lawful first reached k =
     }
 
 -- at first
-pub initial_is_kept : (n : Network) (j : ℕ) → IsLawful n → IsKept n j initial_standing (initial_federate n j) [] []
+pub initial_is_kept : (n : Network) (j : ℕ) → IsLawful n → IsKept n j initial_federate_record (initial_federate n j) [] []
 initial_is_kept n j lawful =
     let stop = finite_is_logical n.stop lawful.stop in
     let held = external_are_held n j n.external stop lawful.external in

@@ -76,8 +76,8 @@ pub mod CoordinatorAlone
 pub mod Wired
 -- The bound, by the table and by itself.
 pub mod FirstArrivals
--- Standings as a list.
-pub mod ListedStandings
+-- Records as a list.
+pub mod ListedFederateRecords
 -- What is completed is the tag of the last row.
 pub mod LastRows
 -- Signals in order, and then more of them.

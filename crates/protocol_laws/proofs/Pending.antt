@@ -72,7 +72,7 @@ pending_clear n table members k s lawful sound clear (down number value within) 
     down_at n (completed_of members) k (above (members k).federate.granted) (members k).down at.0 number s value (clear k).downward (sound.kept k).downward at.1
 pending_clear n table members k s lawful sound clear (up i number c value within e target) =
     let at = contained_at (members i).up (Msg number s value) within in
-    let is = up_at n (completed_of members) i (above (members i).standing.completed) (members i).up at.0 number s value lawful (clear i).upward (sound.kept i).upward at.1 in
+    let is = up_at n (completed_of members) i (above (members i).federate_record.completed) (members i).up at.0 number s value lawful (clear i).upward (sound.kept i).upward at.1 in
     let P : Option Connection → Type 0 = λ o. IsClearOver n (completed_of members) o s in
     let Q : ℕ → Type 0 = λ y. IsClear n (completed_of members) y s in
     (subst Q target (subst P e is.0), is.1)

@@ -27,7 +27,7 @@ use Rattle.network.proofs.Lawful.{contained_is}
 use Rattle.protocol.specs.Federate.{Federate, Stepped, initial_federate, is_told, next_event, accept_message, federate_accepts, federate_announces, advance_to, federate_advances, effect_of, scheduled_at, scheduled_by, row_of_turn, turn_at}
 use Rattle.protocol.specs.Coordinator.{Coordinated, coordinator_accepts}
 use Rattle.protocol.specs.Grant.{Rule, IsSafeRule}
-use Rattle.protocol.specs.Machine.{Member, Move, ToCoordinator, ToFederate, Announce, Advance, Lose, with_member, standings_of, coordinated, coordinator_takes_from, stepped, federate_takes_from, outcome_of, after_moves}
+use Rattle.protocol.specs.Machine.{Member, Move, ToCoordinator, ToFederate, Announce, Advance, Lose, with_member, federate_records_of, coordinated, coordinator_takes_from, stepped, federate_takes_from, outcome_of, after_moves}
 use Rattle.protocol_laws.proofs.Tags.{above}
 use Rattle.protocol_laws.proofs.StillUndone.{IsUndone}
 use Rattle.protocol_laws.proofs.Turns.{all_first, all_rest}
@@ -250,7 +250,7 @@ coordinated_replays n members (Done made) all = all
 coordinator_replays : (n : Network) (rule : Rule) (members : ℕ → Member) (i : ℕ) (up : List Signal) → AllReplayed n members → MoveReplays n (coordinator_takes_from n rule members i up)
 coordinator_replays n rule members i [] all = tt
 coordinator_replays n rule members i (signal ∷ rest) all =
-    coordinated_replays n (with_member members i (record (members i) { up = rest })) (coordinator_accepts n rule (standings_of members) i signal) (member_replays n members i (record (members i) { up = rest }) (all i) all)
+    coordinated_replays n (with_member members i (record (members i) { up = rest })) (coordinator_accepts n rule (federate_records_of members) i signal) (member_replays n members i (record (members i) { up = rest }) (all i) all)
 
 move_replays : (n : Network) (table : Table) (rule : Rule) (members : ℕ → Member) (move : Move) → IsLawful n → IsSound n table members → AllReplayed n members → MoveReplays n (outcome_of n rule members move)
 move_replays n table rule members (ToCoordinator i) lawful sound all = coordinator_replays n rule members i (members i).up all

@@ -17,9 +17,9 @@ use Rattle.signal.specs.declared.signal.Signal.TheVariants.{Net}
 use Rattle.protocol.specs.Outcome.{Nothing, Done}
 use Rattle.network.specs.Undone.{PendingEvent, first_tag}
 use Rattle.protocol.specs.Federate.{Stepped, is_told, next_event, advance_to, turn_at}
-use Rattle.protocol.specs.Standing.{Standing}
+use Rattle.protocol.specs.FederateRecord.{FederateRecord}
 use Rattle.protocol.specs.Grant.{Rule, IsSafeRule, is_before_arrival, passes_paths, passes_connections}
-use Rattle.protocol.specs.Machine.{Member, Move, standings_of, after_moves}
+use Rattle.protocol.specs.Machine.{Member, Move, federate_records_of, after_moves}
 use Rattle.protocol_laws.specs.Runs.{IsStuck, IsQuiet, IsFullRule, is_message}
 use Rattle.protocol_laws.proofs.Tags.{above, not_past, to_reached}
 use Rattle.protocol_laws.proofs.Transit.{least_above}
@@ -43,7 +43,7 @@ told_is : (o : Option LogicalTime) (g : LogicalTime) → is_told o g ≡ true �
 told_is None g e = cc
 told_is (Some x) g e = ap Some (same_is_equal x g e)
 
-told_taken : (s : Standing) (g : LogicalTime) → IsTold s (Some g) [] → (s.announced ≡ true) × (place s.next ≡ min (place g) (least_above 0 s.transit))
+told_taken : (s : FederateRecord) (g : LogicalTime) → IsTold s (Some g) [] → (s.announced ≡ true) × (place s.next ≡ min (place g) (least_above 0 s.transit))
 told_taken s g (inl h) = absurd h
 told_taken s g (inr h) = (h.1, h.2)
 
@@ -61,21 +61,21 @@ all_above low (x ∷ rest) h =
     grind (arith, nat_tests)
 
 -- what the coordinator knows of a stuck federate: its least undone tag
-pub stuck_next : (n : Network) (j : ℕ) (m : Member) → IsKept n j m.standing m.federate m.up m.down → IsStuck n j m → (m.standing.announced ≡ true) × (place m.standing.next ≡ first_place m.federate.undone)
+pub stuck_next : (n : Network) (j : ℕ) (m : Member) → IsKept n j m.federate_record m.federate m.up m.down → IsStuck n j m → (m.federate_record.announced ≡ true) × (place m.federate_record.next ≡ first_place m.federate.undone)
 stuck_next n j m k st =
     let told = told_if (is_told m.federate.announced (next_event m.federate)) (record { after = record m.federate { announced = Some (next_event m.federate) }; sent = Net (next_event m.federate) ∷ [] }) st.announce in
     let is = told_is m.federate.announced (next_event m.federate) told in
-    let P : Option LogicalTime → Type 0 = λ o. IsTold m.standing o m.up in
-    let Q : List Signal → Type 0 = λ u. IsTold m.standing (Some (next_event m.federate)) u in
-    let taken = told_taken m.standing (next_event m.federate) (subst Q st.up (subst P is k.told)) in
-    let R : List Signal → Type 0 = λ d. min (undone_from (above m.federate.completed) m.federate.undone) (message_from (above m.federate.completed) d) ≤ least_above (above m.federate.completed) m.standing.transit in
+    let P : Option LogicalTime → Type 0 = λ o. IsTold m.federate_record o m.up in
+    let Q : List Signal → Type 0 = λ u. IsTold m.federate_record (Some (next_event m.federate)) u in
+    let taken = told_taken m.federate_record (next_event m.federate) (subst Q st.up (subst P is k.told)) in
+    let R : List Signal → Type 0 = λ d. min (undone_from (above m.federate.completed) m.federate.undone) (message_from (above m.federate.completed) d) ≤ least_above (above m.federate.completed) m.federate_record.transit in
     let found = subst R st.down (k.found (above m.federate.completed) (omega arith)) in
-    let S : List Signal → Type 0 = λ u. last_ltc (above m.standing.completed) u ≡ above m.federate.completed in
+    let S : List Signal → Type 0 = λ u. last_ltc (above m.federate_record.completed) u ≡ above m.federate.completed in
     let chain = subst S st.up k.chain in
     let passed = k.passed in
     let first = first_from n.stop (above m.federate.completed) (above m.federate.completed) m.federate.undone k.undone in
     let within = first_within n.stop (above m.federate.completed) m.federate.undone k.undone in
-    let all = all_above (above m.federate.completed) m.standing.transit (omega arith) in
+    let all = all_above (above m.federate.completed) m.federate_record.transit (omega arith) in
     let here = next_place m.federate.undone in
     let next = taken.1 in
     (taken.0, omega arith)
@@ -124,8 +124,8 @@ arrival_if tag next (Some d) h = h d refl
 
 -- what is known of all, in a stuck run
 pub record IsHalted (n : Network) (table : Table) (members : ℕ → Member) : Type 0 where
-  pub kept : (j : ℕ) → IsKept n j (members j).standing (members j).federate (members j).up (members j).down
-  pub settled : NobodyIsEligible n table (standings_of members)
+  pub kept : (j : ℕ) → IsKept n j (members j).federate_record (members j).federate (members j).up (members j).down
+  pub settled : NobodyIsEligible n table (federate_records_of members)
   pub stuck : (j : ℕ) → j < n.reactors → IsStuck n j (members j)
 
 compared : (a b r q : ℕ) → a ≤ b → r < 64 → q < 64 → (a * 64 + r < b * 64 + q → ⊥) → (b ≤ a) × (q ≤ r)
@@ -136,10 +136,10 @@ compared a b r q l m k h =
     ]
 
 -- an undone tag is before what arrives from another federate, unless that one has an event undone earlier
-arrives_later : (n : Network) (table : Table) (members : ℕ → Member) (i j : ℕ) (d : LogicalTime) → IsLawful n → IsLeastTable n table → IsHalted n table members → i < n.reactors → j < n.reactors → first_place (members j).federate.undone < top → table i j ≡ Some d → (first_place (members i).federate.undone * 64 + n.rank i < first_place (members j).federate.undone * 64 + n.rank j → ⊥) → is_before (members j).standing.next (sum_of (members i).standing.next d) ≡ true
+arrives_later : (n : Network) (table : Table) (members : ℕ → Member) (i j : ℕ) (d : LogicalTime) → IsLawful n → IsLeastTable n table → IsHalted n table members → i < n.reactors → j < n.reactors → first_place (members j).federate.undone < top → table i j ≡ Some d → (first_place (members i).federate.undone * 64 + n.rank i < first_place (members j).federate.undone * 64 + n.rank j → ⊥) → is_before (members j).federate_record.next (sum_of (members i).federate_record.next d) ≡ true
 arrives_later n table members i j d lawful least halted l m small e earliest =
-    let ni = (members i).standing.next in
-    let nj = (members j).standing.next in
+    let ni = (members i).federate_record.next in
+    let nj = (members j).federate_record.next in
     let at_i = stuck_next n i (members i) (halted.kept i) (halted.stuck i l) in
     let at_j = stuck_next n j (members j) (halted.kept j) (halted.stuck j m) in
     let pi = at_i.1 in
@@ -166,7 +166,7 @@ nothing_undone n table members j [] lawful least halted m e earlier = refl
 nothing_undone n table members j (x ∷ rest) lawful least halted m e earlier =
     let k = halted.kept j in
     let st = halted.stuck j m in
-    let s = (members j).standing in
+    let s = (members j).federate_record in
     let f = (members j).federate in
     let at_j = stuck_next n j (members j) k st in
     let P : List PendingEvent → Type 0 = λ y. IsUndone n.stop (above f.completed) y in
@@ -177,13 +177,13 @@ nothing_undone n table members j (x ∷ rest) lawful least halted m e earlier =
     let end = place_of_finite n.stop lawful.stop in
     let high = undone.2 in
     let in_time = at_most_from_places s.next n.stop k.next_tag stop (omega arith) in
-    let paths : passes_paths n table (standings_of members) j s.next ≡ true =
-    all_below_from n.reactors (λ i. is_before_arrival s.next (members i).standing.next (table i j))
-    (λ i l. arrival_if s.next (members i).standing.next (table i j)
+    let paths : passes_paths n table (federate_records_of members) j s.next ≡ true =
+    all_below_from n.reactors (λ i. is_before_arrival s.next (members i).federate_record.next (table i j))
+    (λ i l. arrival_if s.next (members i).federate_record.next (table i j)
     (λ d q. arrives_later n table members i j d lawful least halted l m (omega arith) q
     (λ less. (let none = earlier i l less in let t : first_place (members i).federate.undone ≡ top = ap first_place none in omega arith)))) in
-    let safe = either_of (passes_paths n table (standings_of members) j s.next) (passes_connections n (standings_of members) j s.next) (inl paths) in
-    let granted = remaining s.announced (is_past s.granted s.next) (is_at_most s.next n.stop) (passes_paths n table (standings_of members) j s.next || passes_connections n (standings_of members) j s.next) at_j.0 in_time safe (halted.settled j m) in
+    let safe = either_of (passes_paths n table (federate_records_of members) j s.next) (passes_connections n (federate_records_of members) j s.next) (inl paths) in
+    let granted = remaining s.announced (is_past s.granted s.next) (is_at_most s.next n.stop) (passes_paths n table (federate_records_of members) j s.next || passes_connections n (federate_records_of members) j s.next) at_j.0 in_time safe (halted.settled j m) in
     let far = not_past s.granted s.next k.granted_tag k.next_tag granted in
     let Q : List Signal → Type 0 = λ y. last_tag (above f.granted) y ≡ above s.granted in
     let last = subst Q st.down k.last in

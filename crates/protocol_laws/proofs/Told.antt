@@ -7,7 +7,7 @@ use Rattle.tag.proofs.Order.{not_before_places, place_bound, same_is_equal, top}
 use Rattle.signal.specs.declared.signal.Signal.{Signal}
 use Rattle.signal.specs.declared.signal.Signal.TheVariants.{Net, Ltc, Tag, Msg}
 use Rattle.network.specs.Undone.{PendingEvent, is_held_before, is_for_same, put, put_all, drop_up_to}
-use Rattle.protocol.specs.Standing.{Standing}
+use Rattle.protocol.specs.FederateRecord.{FederateRecord}
 use Rattle.protocol_laws.proofs.Transit.{least_above}
 use Rattle.protocol_laws.proofs.StillUndone.{IsUndone}
 use Rattle.protocol_laws.proofs.Tests.{both_left}
@@ -32,7 +32,7 @@ EndsWithNet g (x ∷ []) = x ≡ Net g
 EndsWithNet g (x ∷ y ∷ rest) = EndsWithNet g (y ∷ rest)
 
 -- the NET that was told is the last signal on its way, or the coordinator took it and nothing is on its way
-abbrev pub IsTold : Standing → Option LogicalTime → List Signal → Type 0
+abbrev pub IsTold : FederateRecord → Option LogicalTime → List Signal → Type 0
 IsTold s None up = Unit {0}
 IsTold s (Some g) up = EndsWithNet g up ⊎ ((up ≡ []) × (s.announced ≡ true) × (place s.next ≡ min (place g) (least_above 0 s.transit)))
 
@@ -42,12 +42,12 @@ ends_with g (x ∷ []) = refl
 ends_with g (x ∷ y ∷ rest) = ends_with g (y ∷ rest)
 
 -- with another signal taken first, while more are on their way
-told_more : (s t : Standing) (o : Option LogicalTime) (x y : Signal) (rest : List Signal) → IsTold s o (x ∷ y ∷ rest) → IsTold t o (y ∷ rest)
+told_more : (s t : FederateRecord) (o : Option LogicalTime) (x y : Signal) (rest : List Signal) → IsTold s o (x ∷ y ∷ rest) → IsTold t o (y ∷ rest)
 told_more s t None x y rest h = tt
 told_more s t (Some g) x y rest (inl h) = inl h
 told_more s t (Some g) x y rest (inr h) = let e = h.0 in cc
 
-pub told_after_net : (s t : Standing) (o : Option LogicalTime) (g : LogicalTime) (rest : List Signal) → t.announced ≡ true → place t.next ≡ min (place g) (least_above 0 t.transit) → IsTold s o (Net g ∷ rest) → IsTold t o rest
+pub told_after_net : (s t : FederateRecord) (o : Option LogicalTime) (g : LogicalTime) (rest : List Signal) → t.announced ≡ true → place t.next ≡ min (place g) (least_above 0 t.transit) → IsTold s o (Net g ∷ rest) → IsTold t o rest
 told_after_net s t None g rest a n h = tt
 told_after_net s t (Some x) g [] a n (inl h) =
     let same : g ≡ x = cc in
@@ -56,19 +56,19 @@ told_after_net s t (Some x) g [] a n (inl h) =
 told_after_net s t (Some x) g [] a n (inr h) = let e = h.0 in cc
 told_after_net s t (Some x) g (y ∷ rest) a n h = told_more s t (Some x) (Net g) y rest h
 
-pub told_after_ltc : (s t : Standing) (o : Option LogicalTime) (c : LogicalTime) (rest : List Signal) → IsTold s o (Ltc c ∷ rest) → IsTold t o rest
+pub told_after_ltc : (s t : FederateRecord) (o : Option LogicalTime) (c : LogicalTime) (rest : List Signal) → IsTold s o (Ltc c ∷ rest) → IsTold t o rest
 told_after_ltc s t None c rest h = tt
 told_after_ltc s t (Some x) c [] (inl h) = cc
 told_after_ltc s t (Some x) c [] (inr h) = let e = h.0 in cc
 told_after_ltc s t (Some x) c (y ∷ rest) h = told_more s t (Some x) (Ltc c) y rest h
 
-pub told_after_message : (s : Standing) (o : Option LogicalTime) (k : ℕ) (g : LogicalTime) (v : ℤ) (rest : List Signal) → IsTold s o (Msg k g v ∷ rest) → IsTold s o rest
+pub told_after_message : (s : FederateRecord) (o : Option LogicalTime) (k : ℕ) (g : LogicalTime) (v : ℤ) (rest : List Signal) → IsTold s o (Msg k g v ∷ rest) → IsTold s o rest
 told_after_message s None k g v rest h = tt
 told_after_message s (Some x) k g v [] (inl h) = cc
 told_after_message s (Some x) k g v [] (inr h) = let e = h.0 in cc
 told_after_message s (Some x) k g v (y ∷ rest) h = told_more s s (Some x) (Msg k g v) y rest h
 
-pub told_after_route : (s t : Standing) (o : Option LogicalTime) (g : LogicalTime) (up : List Signal) → t.announced ≡ s.announced → place t.next ≡ min (place s.next) (place g) → least_above 0 t.transit ≡ min (place g) (least_above 0 s.transit) → IsTold s o up → IsTold t o up
+pub told_after_route : (s t : FederateRecord) (o : Option LogicalTime) (g : LogicalTime) (up : List Signal) → t.announced ≡ s.announced → place t.next ≡ min (place s.next) (place g) → least_above 0 t.transit ≡ min (place g) (least_above 0 s.transit) → IsTold s o up → IsTold t o up
 told_after_route s t None g up a n l h = tt
 told_after_route s t (Some x) g up a n l (inl h) = inl h
 told_after_route s t (Some x) g up a n l (inr h) = let e = h.2 in inr (h.0, a ∙ h.1, omega arith)

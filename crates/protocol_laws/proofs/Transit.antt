@@ -4,7 +4,7 @@ use Rattle.std.specs.Prelude.{filter, nat_lt, if◌then◌else◌}
 use Rattle.std.proofs.lemmas.Bool.Decides.{nat_tests}
 use Rattle.tag.specs.LogicalTime.{LogicalTime, IsLogicalTime, is_before, is_same, lesser, place}
 use Rattle.tag.proofs.Order.{either_of, before_places, not_before_places, place_bound, same_is_equal, top}
-use Rattle.protocol.specs.Standing.{least_with, with_tag}
+use Rattle.protocol.specs.FederateRecord.{least_with, with_tag}
 
 -- the least of these from a place on
 abbrev pub least_above : ℕ → List LogicalTime → ℕ

@@ -9,7 +9,7 @@ use Rattle.signal.specs.declared.signal.Signal.TheVariants.{Net, Ltc, Tag, Msg}
 use Rattle.protocol.specs.declared.refusal.Refusal.{Refusal}
 use Rattle.protocol.specs.Outcome.{Refused, Nothing}
 use Rattle.protocol.specs.Federate.{federate_announces, federate_advances}
-use Rattle.protocol.specs.Standing.{Standing}
+use Rattle.protocol.specs.FederateRecord.{FederateRecord}
 use Rattle.protocol.specs.Grant.{Rule, is_eligible}
 use Rattle.protocol.specs.Machine.{Member, Move, outcome_of, after_moves}
 
@@ -33,7 +33,7 @@ pub record IsQuiet (m : Member) : Type 0 where
 
 -- wherever a federate's next tag is FOREVER, it is quiet
 abbrev pub IsQuietWhereNextIsForever : Network → (ℕ → Rule) → Type 0
-IsQuietWhereNextIsForever n rules = (moves : List Move) (j : ℕ) → (after_moves n rules moves j).standing.next ≡ forever → IsQuiet (after_moves n rules moves j)
+IsQuietWhereNextIsForever n rules = (moves : List Move) (j : ℕ) → (after_moves n rules moves j).federate_record.next ≡ forever → IsQuiet (after_moves n rules moves j)
 
 -- a federate is stuck: there is nothing to take, to announce or to advance
 pub record IsStuck (n : Network) (j : ℕ) (m : Member) : Type 0 where
@@ -45,8 +45,8 @@ pub record IsStuck (n : Network) (j : ℕ) (m : Member) : Type 0 where
 -- a rule that leaves no eligible federate without a grant of at least its next tag
 abbrev pub IsFullRule : Network → Table → Rule → Type 0
 IsFullRule n table rule =
-    (standings : ℕ → Standing) → ((i : ℕ) → IsLogicalTime (standings i).next) → (j : ℕ) → IsTrue (is_eligible n table standings j) →
-    IsSomeAnd (rule standings j) (λ tag. IsTrue (is_at_most (standings j).next tag))
+    (federate_records : ℕ → FederateRecord) → ((i : ℕ) → IsLogicalTime (federate_records i).next) → (j : ℕ) → IsTrue (is_eligible n table federate_records j) →
+    IsSomeAnd (rule federate_records j) (λ tag. IsTrue (is_at_most (federate_records j).next tag))
 
 -- wherever every federate is stuck, all are quiet
 abbrev pub IsQuietWhereStuck : Network → (ℕ → Rule) → Type 0

@@ -7,17 +7,17 @@ use Rattle.network.specs.Network.{Network}
 use Rattle.network.specs.Examples.{at}
 use Rattle.network.specs.Tables.{Table}
 use Rattle.protocol.specs.Outcome.{Outcome}
-use Rattle.protocol.specs.Standing.{Standing}
+use Rattle.protocol.specs.FederateRecord.{FederateRecord}
 use Rattle.protocol.specs.Grant.{Rule, all_below, passes_paths, passes_connections}
 use Rattle.protocol.specs.Machine.{Member, Move, ToCoordinator, ToFederate, Announce, Advance, outcome_of, after_moves}
 use Rattle.protocol_laws.specs.Ring.{ring_effect}
 
 -- next tags that pass this test
-abbrev pub grant_by : Network → ((ℕ → Standing) → ℕ → LogicalTime → Bool) → Rule
-grant_by n passes standings j =
-    if (standings j).announced && is_past (standings j).granted (standings j).next && is_at_most (standings j).next n.stop &&
-    passes standings j (standings j).next
-    then Some (standings j).next
+abbrev pub grant_by : Network → ((ℕ → FederateRecord) → ℕ → LogicalTime → Bool) → Rule
+grant_by n passes federate_records j =
+    if (federate_records j).announced && is_past (federate_records j).granted (federate_records j).next && is_at_most (federate_records j).next n.stop &&
+    passes federate_records j (federate_records j).next
+    then Some (federate_records j).next
     else None
 
 -- at or below what comes this delay after the last LTC, in place of below what comes after its successor
@@ -25,22 +25,22 @@ abbrev pub is_reached_from : Option LogicalTime → LogicalTime → LogicalTime 
 is_reached_from None delay tag = false
 is_reached_from (Some completed) delay tag = is_at_most tag (sum_of completed delay)
 
-abbrev pub passes_last_ltcs : Network → (ℕ → Standing) → ℕ → LogicalTime → Bool
-passes_last_ltcs n standings j tag =
-    list_all (λ c. if nat_eq c.target j then is_reached_from (standings c.source).completed c.delay tag else true) n.connections
+abbrev pub passes_last_ltcs : Network → (ℕ → FederateRecord) → ℕ → LogicalTime → Bool
+passes_last_ltcs n federate_records j tag =
+    list_all (λ c. if nat_eq c.target j then is_reached_from (federate_records c.source).completed c.delay tag else true) n.connections
 
 -- at or below what comes from the next tags, in place of below it
 abbrev pub is_at_most_arrival : LogicalTime → LogicalTime → Option LogicalTime → Bool
 is_at_most_arrival tag next None = true
 is_at_most_arrival tag next (Some delay) = is_at_most tag (sum_of next delay)
 
-abbrev pub passes_equal_paths : Network → Table → (ℕ → Standing) → ℕ → LogicalTime → Bool
-passes_equal_paths n table standings j tag = all_below n.reactors (λ i. is_at_most_arrival tag (standings i).next (table i j))
+abbrev pub passes_equal_paths : Network → Table → (ℕ → FederateRecord) → ℕ → LogicalTime → Bool
+passes_equal_paths n table federate_records j tag = all_below n.reactors (λ i. is_at_most_arrival tag (federate_records i).next (table i j))
 
 -- below what comes from the next tags of those with a direct connection alone
-abbrev pub passes_direct : Network → (ℕ → Standing) → ℕ → LogicalTime → Bool
-passes_direct n standings j tag =
-    list_all (λ c. if nat_eq c.target j then is_before tag (sum_of (standings c.source).next c.delay) else true) n.connections
+abbrev pub passes_direct : Network → (ℕ → FederateRecord) → ℕ → LogicalTime → Bool
+passes_direct n federate_records j tag =
+    list_all (λ c. if nat_eq c.target j then is_before tag (sum_of (federate_records c.source).next c.delay) else true) n.connections
 
 -- 0 to 1 with this delay, 1 to 2 without
 abbrev pub line : LogicalTime → List Event → Network
@@ -82,17 +82,17 @@ line_table delay i j = None
 abbrev pub by_last_ltcs : Rule
 by_last_ltcs =
     grant_by two_microsteps
-    (λ standings j tag. passes_paths two_microsteps (line_table (at 10 0)) standings j tag || passes_last_ltcs two_microsteps standings j tag)
+    (λ federate_records j tag. passes_paths two_microsteps (line_table (at 10 0)) federate_records j tag || passes_last_ltcs two_microsteps federate_records j tag)
 
 -- the second: by equal paths, or by connections
 abbrev pub by_equal_paths : Rule
 by_equal_paths =
     grant_by one_tag
-    (λ standings j tag. passes_equal_paths one_tag (line_table (at 0 0)) standings j tag || passes_connections one_tag standings j tag)
+    (λ federate_records j tag. passes_equal_paths one_tag (line_table (at 0 0)) federate_records j tag || passes_connections one_tag federate_records j tag)
 
 -- the third: by next tags over direct connections, or by connections
 abbrev pub by_direct : Rule
-by_direct = grant_by both_ends (λ standings j tag. passes_direct both_ends standings j tag || passes_connections both_ends standings j tag)
+by_direct = grant_by both_ends (λ federate_records j tag. passes_direct both_ends federate_records j tag || passes_connections both_ends federate_records j tag)
 
 -- all three announce
 abbrev pub announce_all : List Move

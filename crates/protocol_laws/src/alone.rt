@@ -9,11 +9,11 @@ ghost use Rattle.signal.specs.Signal.{IsSignal};
 ghost use Rattle.signal.specs.declared.signal.Signal.{Signal};
 ghost use Rattle.protocol.specs.Outcome.{IfDone};
 ghost use Rattle.protocol.specs.Federate.{Federate, initial_federate, federate_accepts, federate_announces, federate_advances};
-ghost use Rattle.protocol.specs.Standing.{Standing, initial_standing};
+ghost use Rattle.protocol.specs.FederateRecord.{FederateRecord, initial_federate_record};
 ghost use Rattle.protocol.specs.Grant.{Rule, IsSafeRule};
 ghost use Rattle.protocol.specs.Coordinator.{coordinator_accepts};
 ghost use Rattle.protocol.specs.Machine.{sent_to};
-ghost use Rattle.protocol.specs.Alone.{IsFederate, IsStanding, is_of_turn, is_sent_after, completed_by, is_of_step, is_sent_past, granted_by};
+ghost use Rattle.protocol.specs.Alone.{IsFederate, IsFederateRecord, is_of_turn, is_sent_after, completed_by, is_of_step, is_sent_past, granted_by};
 
 /// A federate stays a federate at each step, whatever signals come.
 pub fn a_federate_stays_one()
@@ -38,20 +38,20 @@ pub fn a_federate_sends_in_order()
 {}
 
 /// What the coordinator knows of each federate stays as it should, whatever signals come, by any rule that grants what is safe.
-pub fn standings_stay()
-    ensures initial { IsStanding initial_standing }
-    ensures accept { (n : Network) (table : Table) (rule : Rule) (standings : ℕ → Standing) (i : ℕ) (signal : Signal) → IsSafeRule n table rule →
-        IsSignal signal → ((j : ℕ) → IsStanding (standings j)) →
-        IfDone (coordinator_accepts n rule standings i signal) (λ made. (j : ℕ) → IsStanding (made.after j)) }
+pub fn federate_records_stay()
+    ensures initial { IsFederateRecord initial_federate_record }
+    ensures accept { (n : Network) (table : Table) (rule : Rule) (federate_records : ℕ → FederateRecord) (i : ℕ) (signal : Signal) → IsSafeRule n table rule →
+        IsSignal signal → ((j : ℕ) → IsFederateRecord (federate_records j)) →
+        IfDone (coordinator_accepts n rule federate_records i signal) (λ made. (j : ℕ) → IsFederateRecord (made.after j)) }
 {}
 
 /// In one step the coordinator sends each federate at most one message, and then at most one TAG. Both are later than what it was
 /// granted before, and the TAG is what it is granted then.
 pub fn the_coordinator_sends_in_order()
-    ensures { (n : Network) (table : Table) (rule : Rule) (standings : ℕ → Standing) (i : ℕ) (signal : Signal) → IsSafeRule n table rule →
-        IsSignal signal → ((j : ℕ) → IsStanding (standings j)) → IfDone (coordinator_accepts n rule standings i signal)
-        (λ made. (j : ℕ) → IsTrue (is_of_step (sent_to j made.sent)) × IsTrue (is_sent_past (standings j).granted (sent_to j made.sent)) ×
-        ((made.after j).granted ≡ granted_by (standings j).granted (sent_to j made.sent))) }
+    ensures { (n : Network) (table : Table) (rule : Rule) (federate_records : ℕ → FederateRecord) (i : ℕ) (signal : Signal) → IsSafeRule n table rule →
+        IsSignal signal → ((j : ℕ) → IsFederateRecord (federate_records j)) → IfDone (coordinator_accepts n rule federate_records i signal)
+        (λ made. (j : ℕ) → IsTrue (is_of_step (sent_to j made.sent)) × IsTrue (is_sent_past (federate_records j).granted (sent_to j made.sent)) ×
+        ((made.after j).granted ≡ granted_by (federate_records j).granted (sent_to j made.sent))) }
 {}
 
 /// What is sent in order by one step, and then by others, is in order as a whole.

@@ -17,11 +17,11 @@ ghost use Rattle.protocol_laws.specs.Rows.{rows_of_run, HasEveryRow};
 pub fn a_finished_run_has_every_row()
     ensures none_missing { (n : Network) (table : Table) (rules : ℕ → Rule) → IsLawful n → IsTable n table →
         ((move : ℕ) → IsSafeRule n table (rules move)) → (moves : List Move) →
-        ((j : ℕ) → j < n.reactors → (after_moves n rules moves j).standing.next ≡ forever) →
+        ((j : ℕ) → j < n.reactors → (after_moves n rules moves j).federate_record.next ≡ forever) →
         (j : ℕ) → j < n.reactors → HasEveryRow n j (rows_of_run n rules moves j) }
     ensures no_other { (n : Network) (table : Table) (rules : ℕ → Rule) → IsLawful n → IsTable n table →
         ((move : ℕ) → IsSafeRule n table (rules move)) → (moves : List Move) →
-        ((j : ℕ) → j < n.reactors → (after_moves n rules moves j).standing.next ≡ forever) →
+        ((j : ℕ) → j < n.reactors → (after_moves n rules moves j).federate_record.next ≡ forever) →
         (j : ℕ) → j < n.reactors → (turns : ℕ) → IsEnough n.stop turns → rows_of_run n rules moves j ≡ part j (whole n turns) }
 {}
 

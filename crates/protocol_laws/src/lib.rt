@@ -7,16 +7,16 @@
 
 pub mod alone;
 pub mod bounds;
+pub mod federate_records;
 pub mod finished;
 pub mod prefix;
-pub mod standings;
 
 ghost use Rattle.std.specs.Prelude.{◌≡◌, ◌↔◌, ℕ, false, IsTrue, Option};
 ghost use Rattle.tag.specs.LogicalTime.{LogicalTime, forever};
 ghost use Rattle.network.specs.Network.{Network};
 ghost use Rattle.network.specs.Lawful.{IsLawful};
 ghost use Rattle.network.specs.Wiring.{IsWired};
-ghost use Rattle.protocol.specs.Standing.{Standing};
+ghost use Rattle.protocol.specs.FederateRecord.{FederateRecord};
 ghost use Rattle.protocol.specs.Grant.{Rule, ByPaths, ByConnections, Eligible, is_eligible, passes_paths, passes_connections, grant_next, grant_widest, grant_chosen, IsSafeRule};
 ghost use Rattle.network.specs.Undivided.{part, whole};
 ghost use Rattle.protocol_laws.specs.Ring.{ring, ring_table, ring_after, first_moves, all_moves};
@@ -25,7 +25,7 @@ ghost use Rattle.network.specs.Examples.{at};
 ghost use Rattle.network.specs.Tables.{Table, IsTable, IsLeastTable, IsAttained};
 ghost use Rattle.protocol.specs.declared.refusal.Refusal.TheVariants.{BelowGrant};
 ghost use Rattle.protocol.specs.Outcome.{Refused};
-ghost use Rattle.protocol.specs.Machine.{standings_of};
+ghost use Rattle.protocol.specs.Machine.{federate_records_of};
 ghost use Rattle.protocol_laws.specs.Chains.{CompletesNothingEarly};
 ghost use Rattle.protocol_laws.specs.Histories.{StaysConsistent};
 ghost use Rattle.protocol_laws.specs.Runs.{RefusesNothing, IsQuietWhereNextIsForever, IsStuck, IsFullRule, IsQuietWhereStuck};
@@ -47,12 +47,12 @@ pub fn grants_are_safe()
 /// Where the table is that of the least delays, what the coordinator tests is what is said over all paths and all connections: of
 /// any tag, that nothing arrives at or below it, over paths or over direct connections; and who is eligible.
 pub fn eligible_by_the_table()
-    ensures paths { (n : Network) (table : Table) (standings : ℕ → Standing) (j : ℕ) (tag : LogicalTime) → IsWired n → IsLeastTable n table →
-        (ByPaths n standings j tag ↔ IsTrue (passes_paths n table standings j tag)) }
-    ensures connections { (n : Network) (standings : ℕ → Standing) (j : ℕ) (tag : LogicalTime) →
-        (ByConnections n standings j tag ↔ IsTrue (passes_connections n standings j tag)) }
-    ensures eligible { (n : Network) (table : Table) (standings : ℕ → Standing) (j : ℕ) → IsWired n → IsLeastTable n table →
-        (Eligible n standings j ↔ IsTrue (is_eligible n table standings j)) }
+    ensures paths { (n : Network) (table : Table) (federate_records : ℕ → FederateRecord) (j : ℕ) (tag : LogicalTime) → IsWired n → IsLeastTable n table →
+        (ByPaths n federate_records j tag ↔ IsTrue (passes_paths n table federate_records j tag)) }
+    ensures connections { (n : Network) (federate_records : ℕ → FederateRecord) (j : ℕ) (tag : LogicalTime) →
+        (ByConnections n federate_records j tag ↔ IsTrue (passes_connections n federate_records j tag)) }
+    ensures eligible { (n : Network) (table : Table) (federate_records : ℕ → FederateRecord) (j : ℕ) → IsWired n → IsLeastTable n table →
+        (Eligible n federate_records j ↔ IsTrue (is_eligible n table federate_records j)) }
 {}
 
 /// Whatever is pending, no chain of connections leads from it to a tag that the federate at its end has completed.
@@ -68,14 +68,14 @@ pub fn histories_are_consistent()
         ((move : ℕ) → IsSafeRule n table (rules move)) → StaysConsistent n rules }
 {}
 
-/// Where a federate's next tag is FOREVER, no event of it is undone, no message that it sent waits for the coordinator, and none
+/// Where a federate's next tag is FOREVER, no event of it is pending, no message that it sent waits for the coordinator, and none
 /// waits for it on the way down. So where every federate's is, no message is on its way.
 pub fn nothing_is_left()
     ensures { (n : Network) (table : Table) (rules : ℕ → Rule) → IsLawful n → IsTable n table →
         ((move : ℕ) → IsSafeRule n table (rules move)) → IsQuietWhereNextIsForever n rules }
 {}
 
-/// Where nothing can be taken, announced or advanced, no event of any federate is undone, and no message is on its way, by any rule
+/// Where nothing can be taken, announced or advanced, no event of any federate is pending, and no message is on its way, by any rule
 /// that grants what is safe and leaves no eligible federate without a grant.
 pub fn a_stuck_run_is_quiet()
     ensures { (n : Network) (table : Table) (rules : ℕ → Rule) → IsLawful n → IsLeastTable n table →
@@ -117,14 +117,14 @@ pub fn the_ring_ends()
     ensures rows_1 { (ring_after all_moves 1).federate.rows ≡ part 1 (whole ring 9) }
     ensures rows_2 { (ring_after all_moves 2).federate.rows ≡ part 2 (whole ring 9) }
     ensures whole { whole ring 10 ≡ whole ring 9 }
-    ensures next_0 { (ring_after all_moves 0).standing.next ≡ forever }
-    ensures next_1 { (ring_after all_moves 1).standing.next ≡ forever }
-    ensures next_2 { (ring_after all_moves 2).standing.next ≡ forever }
+    ensures next_0 { (ring_after all_moves 0).federate_record.next ≡ forever }
+    ensures next_1 { (ring_after all_moves 1).federate_record.next ≡ forever }
+    ensures next_2 { (ring_after all_moves 2).federate_record.next ≡ forever }
     ensures stuck_0 { IsStuck ring 0 (ring_after all_moves 0) }
     ensures stuck_1 { IsStuck ring 1 (ring_after all_moves 1) }
     ensures stuck_2 { IsStuck ring 2 (ring_after all_moves 2) }
-    ensures granted { (ring_after first_moves 1).standing.granted ≡ Some (at 0 0) }
-    ensures not_by_paths { passes_paths ring ring_table (standings_of (ring_after first_moves)) 1 (at 0 0) ≡ false }
+    ensures granted { (ring_after first_moves 1).federate_record.granted ≡ Some (at 0 0) }
+    ensures not_by_paths { passes_paths ring ring_table (federate_records_of (ring_after first_moves)) 1 (at 0 0) ≡ false }
 {}
 
 /// By three weaker rules a message comes at or below a grant: by LTCs with next <= completed + delay; by next tags over paths with <=

@@ -26,7 +26,7 @@ use tag::{FiniteTag, Tag, Time, lesser};
 #[derive(Debug, Drop)]
 pub struct Put(());
 
-/// One federate's events that are still undone, up to stop. Of each timer it keeps the next firing alone.
+/// One federate's events that are still pending, up to stop. Of each timer it keeps the next firing alone.
 #[derive(Drop)]
 pub struct Agenda {
     stop: FiniteTag,
@@ -110,7 +110,7 @@ impl Agenda {
     }
 
     /// Writes what is present at a tag over what was in `entries`, by slot, for `Reactor::run`. It takes memory only where `entries`
-    /// grows; after `Memory` nothing is said of them. It goes over all that is undone up to the tag, so ask for none after `least`.
+    /// grows; after `Memory` nothing is said of them. It goes over all that is pending up to the tag, so ask for none after `least`.
     pub fn at(&self, tag: Tag, entries: &mut Vec<Entry>) -> Result<(), Memory>
         ensures entries { OnOk result (entries.new.items ≡ present_in self.now.undone tag) }
         ensures inputs { OnOk result ((slot : ℕ) → value_at entries.new.items slot ≡ look self.now.undone tag slot) }

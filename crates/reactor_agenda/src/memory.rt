@@ -4,7 +4,7 @@ use reactor_program::ProgramFault;
 use std::alloc::{AllocError, AllocFailed};
 use std::fmt;
 
-/// No memory was to be had for what is undone. It is told as out of memory for a turn.
+/// No memory was to be had for what is pending. It is printed as out of memory for a turn.
 #[derive(Clone, Copy, Debug, PartialEq, Eq)]
 pub struct Memory;
 
@@ -12,7 +12,7 @@ impl Memory {
     ghost use Rattle.reactor_program.specs.ProgramFaults.{fault_number};
     ghost use Rattle.reactor_program.specs.declared.program_fault.ProgramFault.TheVariants as ProgramFaults;
 
-    /// The number by which it is told.
+    /// The number by which it is printed.
     pub const fn number(self) -> u16
         ensures { result ≡ fault_number ProgramFaults.Memory }
     {

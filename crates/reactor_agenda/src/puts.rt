@@ -79,7 +79,7 @@ fn key_of(event: PendingEvent) -> Key
 
 /// Undoes what was put, the last first. No memory is needed.
 pub fn undo_each(puts: &mut Puts, undos: &mut Vec<Undo>)
-    ensures undone { puts.new ≡ undo_all undos.old.items puts.old }
+    ensures pending { puts.new ≡ undo_all undos.old.items puts.old }
     ensures none_left { undos.new.items ≡ [] }
 {
     while let Some(undo) = undos.pop() {

@@ -15,7 +15,7 @@ fault_number RepeatedState = 23
 abbrev pub printed_line_of : List ℕ → ℕ → ℕ → List ℕ
 printed_line_of federate reaction line = federate ++ (codes " " ++ (decimal reaction ++ (codes " " ++ decimal line)))
 
--- what is told after the number: the refusal's name, and where it stands in the program of this federate
+-- what is printed after the number: the refusal's name, and where it stands in the program of this federate
 abbrev pub fault_text_of : List ℕ → ProgramFault → List ℕ
 fault_text_of federate (BadLine reaction line) = codes " BadLine " ++ printed_line_of federate reaction line
 fault_text_of federate (UnknownOperand reaction line) = codes " UnknownOperand " ++ printed_line_of federate reaction line

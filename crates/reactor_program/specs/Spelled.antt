@@ -46,7 +46,7 @@ HasNoForm text = (written : WrittenLine) → ¬ (IsWritten text written)
 abbrev pub HasUnknownName : Slots → List StateOf.State → List ℕ → Type 0
 HasUnknownName s states text = (written : WrittenLine) × IsWritten text written × (line_of s states written ≡ None)
 
--- a trigger that names no slot is told at line 0
+-- a trigger that names no slot is answered at line 0
 abbrev pub IsTriggerFault : Slots → ℕ → List (List ℕ) → ProgramFault → Type 0
 IsTriggerFault s number texts (UnknownOperand reaction line) =
     (k : ℕ) × (text : List ℕ) × (reaction ≡ number) × (line ≡ 0) × (slice_get texts k ≡ Some text) × (trigger_slot s text ≡ None)
@@ -69,7 +69,7 @@ IsReactionFault s states drafts fault =
     (r : ℕ) × (d : ReactionDraft) × (slice_get drafts r ≡ Some d)
     × (IsTriggerFault s (r + 1) d.triggers fault ⊎ IsLineFault s states (r + 1) d.body fault)
 
--- a refusal is told where its fault stands; memory may be wanting anywhere
+-- a refusal is answered where its fault stands; memory may be wanting anywhere
 abbrev pub IsFaultOf : Slots → List StateOf.State → List ReactionDraft → ProgramFault → Type 0
 IsFaultOf s states drafts fault =
     (fault ≡ Memory) ⊎ (((fault ≡ RepeatedState) × ¬ (AreDistinct (state_names states))) ⊎ IsReactionFault s states drafts fault)

@@ -30,7 +30,7 @@ impl Program {
         ensures accepts { (spelled : Behaviour) → SpellsProgram slots.now states.items reactions.now spelled → IfErr result (λ fault. fault ≡ Memory) }
         ensures refused { IfErr result (IsFaultOf slots.now states.items reactions.now) }
 
-        // Of states of one name it is never told.
+        // Of states of one name it is never answered.
         ensures memory { IfErr result (λ fault. fault ≡ Memory → AreDistinct (state_names states.items)) }
     {
         if !are_distinct(states.as_slice()) {

@@ -89,7 +89,7 @@ pub record IsMismatch (c : Claim) (steps : List Step) (j row : ℕ) : Type 0 whe
   pub agrees : AgreesWith c steps
   pub apart : IsFirstApart (world_of c steps) c.reports j row
 
--- why an audit doesn't believe its reports; the later ones are told of complete reports alone
+-- why an audit doesn't believe its reports; the later ones are answered of complete reports alone
 abbrev pub IsUnproved : Claim → Unproved → Type 0
 IsUnproved c Stranger = IsIncomplete (federate_count c.draft) c.reports Stranger
 IsUnproved c Double = IsIncomplete (federate_count c.draft) c.reports Double

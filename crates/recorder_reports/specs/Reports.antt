@@ -36,7 +36,7 @@ pub record IsFirstMissing (count : ℕ) (reports : List Report) (j : ℕ) : Type
   pub none : how_many reports j ≡ 0
   pub earlier : (k : ℕ) → k < j → 1 ≤ how_many reports k
 
--- why reports aren't complete, as it is told
+-- why reports aren't complete, as it is answered
 abbrev pub IsIncomplete : (count : ℕ) → List Report → Unproved → Type 0
 IsIncomplete count reports Stranger = ¬ AreKnown count reports
 IsIncomplete count reports Double = AreKnown count reports × HasDouble count reports

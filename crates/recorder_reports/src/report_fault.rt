@@ -17,7 +17,7 @@ pub enum ReportFault {
 }
 
 impl ReportFault {
-    /// The number by which it is told.
+    /// The number by which it is printed.
     pub const fn number(self) -> u16
         ensures { result ≡ number_of_report_fault self }
     {

@@ -5,7 +5,7 @@ ghost use Rattle.recorder_reports.specs.declared.unproved.Unproved.TheVariants a
 use node::NodeId;
 use std::alloc::AllocError;
 
-/// Why an audit doesn't believe its reports. They are tested in this order, but for `Memory`, which is told only of complete
+/// Why an audit doesn't believe its reports. They are tested in this order, but for `Memory`, which is answered only of complete
 /// reports, and then at any time.
 #[derive(Clone, Copy, Debug, PartialEq, Eq)]
 pub enum Unproved {
@@ -26,7 +26,7 @@ pub enum Unproved {
 }
 
 impl Unproved {
-    /// The number by which it is told.
+    /// The number by which it is printed.
     pub const fn number(self) -> u16
         ensures { result ≡ number_of self }
     {

@@ -35,7 +35,7 @@ impl Reading {
     }
 
     /// Lets the machine make steps that agree with the journals, by its guesses alone, as far as that goes. Call it while the
-    /// journals still grow, as often as wanted. Without memory the machine stands after some steps, and nothing is told of them.
+    /// journals still grow, as often as wanted. Without memory the machine stands after some steps, and nothing is said of them.
     pub fn read_ahead<M: Machine>(
         &mut self,
         machine: &mut M,
@@ -48,7 +48,7 @@ impl Reading {
     }
 
     /// Reads the journals to their ends, or as far as any machine's step goes: call it when they are whole. What was found is said
-    /// of all steps, those made before too. Without memory the machine stands after some steps, and nothing is told of them.
+    /// of all steps, those made before too. Without memory the machine stands after some steps, and nothing is said of them.
     pub fn finish<M: Machine>(
         mut self,
         machine: &mut M,
@@ -63,7 +63,7 @@ impl Reading {
 
 /// Lets the machine make steps that agree with the journals: the coordinator's, then the federates' by number. For each event it
 /// asks the machine at worst twice for each node, and copies no journal. Without memory the machine stands after some steps, and
-/// nothing is told of them.
+/// nothing is said of them.
 pub fn search<M: Machine>(
     alloc: Global,
     machine: &mut M,

@@ -7,14 +7,14 @@ use Rattle.signal.specs.declared.wire.TheConstants.{LENGTH_SIZE, LONGEST_BODY, H
 use Rattle.signal.specs.declared.fault.FrameFault.{FrameFault}
 use Rattle.signal.specs.declared.fault.FrameFault.TheVariants.{BadLength, BadKind, BadTag, Trailing}
 
--- the number by which a refusal is told
+-- the number by which a refusal is printed
 abbrev pub number_of : FrameFault → ℕ
 number_of BadLength = 40
 number_of BadKind = 41
 number_of BadTag = 42
 number_of Trailing = 43
 
--- the name by which a refusal is told
+-- the name by which a refusal is printed
 abbrev pub name_of : FrameFault → List ℕ
 name_of BadLength = codes "BadLength"
 name_of BadKind = codes "BadKind"
@@ -26,16 +26,16 @@ abbrev pub memory_number : ℕ
 memory_number = 44
 
 -- a number, a space and a name
-abbrev pub told : ℕ → List ℕ → List ℕ
-told number name = decimal number ++ (codes " " ++ name)
+abbrev pub printed_fault : ℕ → List ℕ → List ℕ
+printed_fault number name = decimal number ++ (codes " " ++ name)
 
 -- what is printed of a refusal
 abbrev pub text_of : FrameFault → List ℕ
-text_of fault = told (number_of fault) (name_of fault)
+text_of fault = printed_fault (number_of fault) (name_of fault)
 
 -- what is printed of the out-of-memory fault
 abbrev pub memory_text : List ℕ
-memory_text = told memory_number (codes "Memory")
+memory_text = printed_fault memory_number (codes "Memory")
 
 -- kinds of frames and kinds of signals are numbered from 1 to the last
 abbrev pub is_kind : (last kind : ℕ) → Bool

@@ -5,20 +5,20 @@ use std::fmt;
 /// Why bytes are no frame. Who wrote them is at fault, and the stream can't be read on: whoever reads it gives it up.
 #[derive(Clone, Copy, Debug, PartialEq, Eq)]
 pub enum FrameFault {
-    /// The writer told a length of 0 or above 64, or a body shorter than its kind needs.
+    /// The writer sent a length of 0 or above 64, or a body shorter than its kind needs.
     BadLength,
-    /// The writer told a kind of frame or of signal that there isn't, or a Hello of version 0.
+    /// The writer sent a kind of frame or of signal that there isn't, or a Hello of version 0.
     BadKind,
-    /// The writer told a time of 2^62 ns or more that isn't FOREVER, or FOREVER in another signal than a NET.
+    /// The writer sent a time of 2^62 ns or more that isn't FOREVER, or FOREVER in another signal than a NET.
     BadTag,
-    /// The writer told a body longer than its kind needs.
+    /// The writer sent a body longer than its kind needs.
     Trailing,
 }
 
 impl FrameFault {
     ghost use Rattle.signal.specs.Fault.{number_of};
 
-    /// The number by which it is told.
+    /// The number by which it is printed.
     pub fn number(self) -> u16
         ensures { result ≡ number_of self }
     {

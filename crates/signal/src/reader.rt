@@ -46,7 +46,7 @@ impl FrameReader {
     pub fn feed(&mut self, bytes: &[u8]) -> Result<(), Memory>
         ensures ok { OnOk result (self.new ≡ fed self.old bytes.now) }
         ensures unchanged { OnErr result (self.new ≡ self.old) }
-        ensures standing { IsSome self.old.fault → IsOk result }
+        ensures federate_record { IsSome self.old.fault → IsOk result }
         ensures no_bytes { bytes.now ≡ [] → IsOk result }
     {
         if self.fault.is_some() || bytes.is_empty() {

@@ -3,7 +3,7 @@ use tag::FiniteTag;
 /// What one side of a link says to the other. FOREVER stands in `Net` alone.
 #[derive(Clone, Copy, Debug, PartialEq, Eq)]
 pub enum Signal {
-    /// Next event tag: the federate's earliest undone event.
+    /// Next event tag: the federate's earliest pending event.
     Net(tag::Tag),
     /// Logical tag complete: all events at this tag are done.
     Ltc(FiniteTag),

@@ -4,7 +4,7 @@ use Rattle.std.specs.Fmt.{decimal}
 use Rattle.tag_text.specs.declared.duration.DurationFault.{DurationFault}
 use Rattle.tag_text.specs.declared.duration.DurationFault.TheVariants.{BadDuration, TooLong}
 
--- by which each is told
+-- by which each is printed
 abbrev pub fault_number : DurationFault → ℕ
 fault_number BadDuration = 1
 fault_number TooLong = 2

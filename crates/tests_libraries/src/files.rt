@@ -1,11 +1,11 @@
-//! How federation files and input files are answered: which are taken, and what is told of each other.
+//! How federation files and input files are answered: which are taken, and what is printed of each other.
 use crate::federations::{CYCLE, FOUR, ONE_ACTION, TWO_SOURCES, loaded};
 use loadfed::{LoadFault, MOST_BYTES, MOST_INPUT_BYTES, load, load_inputs};
 use plan::Plan;
 use std::alloc::Global;
 use std::test::Fail;
 
-/// Whether a fault is told so.
+/// Whether a fault is answered so.
 fn is_told(alloc: Global, fault: &LoadFault, text: &str) -> bool {
     match format!(in alloc; "{fault}") {
         Ok(told) => told.as_str() == text,

@@ -197,7 +197,7 @@ const REFUSED: [(&[u8], u16); 15] = [
         ],
         41,
     ),
-    // a signal of no kind, told before its length
+    // a signal of no kind, answered before its length
     (
         &[
             0, 0, 0, 0x0e, 0x02, 0, 0, 0, 1, 0, 0, 0, 0, 0, 0, 0, 1, 0x05,
@@ -233,7 +233,7 @@ const REFUSED: [(&[u8], u16); 15] = [
         &[0, 0, 0, 0x0e, 0x03, 0, 0, 0, 1, 0, 0, 0, 0, 0, 0, 0, 2, 0],
         43,
     ),
-    // a NET with a byte too many, told before its bad tag
+    // a NET with a byte too many, answered before its bad tag
     (
         &[
             0, 0, 0, 0x1b, 0x02, 0, 0, 0, 1, 0, 0, 0, 0, 0, 0, 0, 1, 0x01, 0x40, 0, 0, 0, 0, 0, 0,
@@ -241,7 +241,7 @@ const REFUSED: [(&[u8], u16); 15] = [
         ],
         43,
     ),
-    // a Hello with a byte too many, told before its version
+    // a Hello with a byte too many, answered before its version
     (
         &[
             0, 0, 0, 0x11, 0x01, 0, 0, 0, 0, 0, 0, 1, 0, 0, 0, 0, 0, 0, 0, 0, 0,
@@ -344,7 +344,7 @@ fn comes_through(alloc: Global, reader: &mut FrameReader, frame: &Frame) -> bool
     is_written(frame, &mut bytes) && are_fed(reader, &bytes)
 }
 
-/// Passes whichever allocation is refused: each refusal is told, and all is as before it.
+/// Passes whichever allocation is refused: each refusal is answered, and all is as before it.
 #[test]
 fn changes_nothing_without_memory_for_bytes(rt: HostRuntime) {
     let frames = frames();

@@ -14,7 +14,7 @@ use std::test::Fail;
 use tests_samples::COUNTER;
 use whole::Whole;
 
-/// Whether what a first call told was right, or out of memory and then right.
+/// Whether what a first call answered was right, or out of memory and then right.
 fn is_right(first: u16, again: u16, right: u16) -> bool {
     first == right || (first == LoadFault::Memory.number() && again == right)
 }

@@ -1,4 +1,4 @@
-//! Which lines a schedule has, what each asks for, and which line is told as bad.
+//! Which lines a schedule has, what each asks for, and which line is answered as bad.
 use crate::federations::loaded;
 use fedrun_script::{Command, MOST_BYTES, ScheduleLine, ScriptFault, read_script};
 use plan::Plan;
@@ -114,7 +114,7 @@ const BAD: &[&[u8]] = &[
     b"deliver up nobody 1",
 ];
 
-/// What is told of a file; None where it is taken.
+/// What is printed of a file; None where it is taken.
 fn told(alloc: Global, plan: &Plan, file: &[u8]) -> Option<ScriptFault> {
     read_script(alloc, file, plan).err()
 }
@@ -129,7 +129,7 @@ fn refuses_other_lines(rt: HostRuntime) -> Result<(), Fail> {
     Ok(())
 }
 
-/// Files, with the line that is told as bad, 0 where none is; else how many commands they have, the line of the last of
+/// Files, with the line that is answered as bad, 0 where none is; else how many commands they have, the line of the last of
 /// these, and how many lines they have.
 const FILES: &[(&[u8], usize, usize, usize, usize)] = &[
     (b"", 0, 0, 0, 0),

@@ -95,15 +95,15 @@ fn answers(station: &mut Station<Counter>, event: Event, expected: Expected) -> 
     }
 }
 
-/// Whether a fresh station's steps, one after the other, answer so.
-fn hub_answers(alloc: Global, steps: &[(Event, Expected)]) -> Result<bool, AllocError> {
+/// The place of the first step that doesn't answer so, of a fresh station's steps, one after the other.
+fn first_wrong(alloc: Global, steps: &[(Event, Expected)]) -> Result<Option<usize>, AllocError> {
     let mut station = hub(alloc)?;
-    for (event, expected) in steps {
+    for (place, (event, expected)) in steps.iter().enumerate() {
         if !answers(&mut station, *event, *expected) {
-            return Ok(false);
+            return Ok(Some(place));
         }
     }
-    Ok(true)
+    Ok(None)
 }
 
 #[test]
@@ -128,8 +128,7 @@ fn leaves_a_link_open_whose_end_refuses(rt: HostRuntime) -> Result<(), Fail> {
             Expected::Done(to(0, ack(1)), None),
         ),
     ];
-    let answered = hub_answers(rt.alloc(), &steps)?;
-    assert!(rt; answered);
+    assert_eq!(rt; first_wrong(rt.alloc(), &steps)?, None);
     Ok(())
 }
 
@@ -158,8 +157,7 @@ fn closes_a_link_by_75_and_not_by_63(rt: HostRuntime) -> Result<(), Fail> {
             Expected::Done(to(1, ack(1)), None),
         ),
     ];
-    let answered = hub_answers(rt.alloc(), &steps)?;
-    assert!(rt; answered);
+    assert_eq!(rt; first_wrong(rt.alloc(), &steps)?, None);
     Ok(())
 }
 
@@ -178,7 +176,6 @@ fn sends_resends_and_greets_when_asked(rt: HostRuntime) -> Result<(), Fail> {
         (Event::Resend(1), Expected::Nothing),
         (Event::Hello(1), Expected::Done(to(1, hello(1, 1)), None)),
     ];
-    let answered = hub_answers(rt.alloc(), &steps)?;
-    assert!(rt; answered);
+    assert_eq!(rt; first_wrong(rt.alloc(), &steps)?, None);
     Ok(())
 }

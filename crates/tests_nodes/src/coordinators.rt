@@ -71,15 +71,6 @@ fn refuse(peer: usize, incarnation: u32, refusal: u16) -> Outgoing {
     Outgoing { peer, frame }
 }
 
-/// From federate 0 to federate 1.
-fn one_wire(after: Option<u64>) -> [Wire; 1] {
-    [Wire {
-        from: 0,
-        to: 1,
-        after,
-    }]
-}
-
 /// The tag at a time in ns.
 pub(crate) fn at(time: u64, microstep: u32) -> FiniteTag {
     FiniteTag::new(Time::new(time).unwrap_or(Time::zero()), microstep)
@@ -250,7 +241,13 @@ fn grants_a_sender_up_to_stop_and_its_receiver_up_to_an_ltc(rt: HostRuntime) {
         answered(0, 3, ltc(0, 0), None),
         answered(1, 1, Signal::Net(Tag::FOREVER), Some(to(1, grant(0, 0)))),
     ];
-    let wrong = first_wrong_of(rt.alloc(), 2, &one_wire(None), 20 * MILLISECOND, &steps);
+    let wrong = first_wrong_of(
+        rt.alloc(),
+        2,
+        &[Wire::direct(0, 1)],
+        20 * MILLISECOND,
+        &steps,
+    );
     assert_eq!(rt; wrong, None);
 }
 
@@ -277,18 +274,7 @@ fn grants_a_loop_up_to_the_tag_before_its_own_message(rt: HostRuntime) {
 
 #[test]
 fn grants_the_first_of_a_chain_alone(rt: HostRuntime) {
-    let chain = [
-        Wire {
-            from: 0,
-            to: 1,
-            after: None,
-        },
-        Wire {
-            from: 1,
-            to: 2,
-            after: None,
-        },
-    ];
+    let chain = [Wire::direct(0, 1), Wire::direct(1, 2)];
     let granted = Some(to(0, grant(20 * MILLISECOND, 0)));
     let steps = [
         answered(1, 1, Signal::Net(Tag::FOREVER), None),
@@ -301,7 +287,10 @@ fn grants_the_first_of_a_chain_alone(rt: HostRuntime) {
 
 #[test]
 fn grants_nothing_where_an_earlier_message_may_come(rt: HostRuntime) {
-    let delay = one_wire(Some(10 * MILLISECOND));
+    let delay = [Wire {
+        after: Some(10 * MILLISECOND),
+        ..Wire::direct(0, 1)
+    }];
     let granted = Some(to(0, grant(20 * MILLISECOND, 0)));
     let steps = [
         answered(0, 1, net(0, 0), granted),
@@ -322,7 +311,13 @@ fn refuses_a_message_at_or_below_a_grant(rt: HostRuntime) {
         refused(0, 2, message(0, 40 * MILLISECOND, 0), 71),
         closed(0, 2),
     ];
-    let wrong = first_wrong_of(rt.alloc(), 2, &one_wire(None), 100 * MILLISECOND, &steps);
+    let wrong = first_wrong_of(
+        rt.alloc(),
+        2,
+        &[Wire::direct(0, 1)],
+        100 * MILLISECOND,
+        &steps,
+    );
     assert_eq!(rt; wrong, None);
 }
 
@@ -343,7 +338,7 @@ fn closes_the_link_of_a_federate_that_breaks_a_rule(rt: HostRuntime) {
     let stop = 100 * MILLISECOND;
     for step in unlawful() {
         let steps = [step, closed(step.peer, 1)];
-        let wrong = first_wrong_of(rt.alloc(), 2, &one_wire(None), stop, &steps);
+        let wrong = first_wrong_of(rt.alloc(), 2, &[Wire::direct(0, 1)], stop, &steps);
         assert_eq!(rt; wrong, None);
     }
     let fallen = [
@@ -351,7 +346,7 @@ fn closes_the_link_of_a_federate_that_breaks_a_rule(rt: HostRuntime) {
         refused(0, 2, net(10 * MILLISECOND, 0), 72),
         closed(0, 2),
     ];
-    let wrong = first_wrong_of(rt.alloc(), 2, &one_wire(None), stop, &fallen);
+    let wrong = first_wrong_of(rt.alloc(), 2, &[Wire::direct(0, 1)], stop, &fallen);
     assert_eq!(rt; wrong, None);
 }
 
@@ -377,6 +372,6 @@ fn leaves_a_link_open_whose_end_refuses(rt: HostRuntime) {
         answered(0, 1, Signal::Net(Tag::FOREVER), None),
     ];
     let stop = 100 * MILLISECOND;
-    let wrong = first_wrong_of(rt.alloc(), 2, &one_wire(None), stop, &steps);
+    let wrong = first_wrong_of(rt.alloc(), 2, &[Wire::direct(0, 1)], stop, &steps);
     assert_eq!(rt; wrong, None);
 }

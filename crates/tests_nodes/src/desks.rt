@@ -1,4 +1,4 @@
-//! What two workers at one desk are told, and its journal.
+//! What two workers at one desk are answered, and its journal.
 ghost use Rattle.std.specs.Prelude.{◌≡◌, IfOk};
 ghost use Rattle.tests_nodes.specs.Counting.{counting};
 ghost use Rattle.node.specs.Step.{initial_of};
@@ -37,7 +37,7 @@ fn told(reply: &Reply) -> Option<u64> {
     }
 }
 
-/// Hands in advances; the share, where each is told the number of its place in the journal: the station numbers them.
+/// Hands in advances; the share, where each is answered the number of its place in the journal: the station numbers them.
 fn advance<R: Wait>(rt: &R, alloc: Global, shared: &Shared<Counter>, count: u32) -> Option<Share> {
     let mut share = Share::new(alloc);
     for _ in 0..count {

@@ -181,14 +181,14 @@ fn is_answered(station: &mut Station<Federate>, event: &Event, expected: &Expect
     }
 }
 
-/// Whether a station's steps, one after the other, answer so.
-fn answers(station: &mut Station<Federate>, steps: &[(Event, Expected)]) -> bool {
-    for (event, expected) in steps {
+/// The place of the first step that isn't answered so, of a station's steps, one after the other.
+fn first_wrong(station: &mut Station<Federate>, steps: &[(Event, Expected)]) -> Option<usize> {
+    for (place, (event, expected)) in steps.iter().enumerate() {
         if !is_answered(station, event, expected) {
-            return false;
+            return Some(place);
         }
     }
-    true
+    None
 }
 
 /// The only row is that of the first sum.
@@ -227,17 +227,17 @@ fn sum_steps() -> [(Event, Expected); 8] {
     ]
 }
 
-/// Whether a fresh federate's steps answer so, and it has the first sum's row then if that is asked; None where there was no
-/// memory for it.
+/// The first of a fresh federate's steps that isn't answered so, and whether its only row is that of the first sum then; None
+/// where there was no memory for it.
 fn answers_of(
     alloc: Global,
     federation: &Federation,
     number: usize,
     steps: &[(Event, Expected)],
-    sum: bool,
-) -> Option<bool> {
+) -> Option<(Option<usize>, bool)> {
     let mut station = opened(alloc, federation, number)?;
-    Some(answers(&mut station, steps) && (!sum || has_first_sum(&station)))
+    let wrong = first_wrong(&mut station, steps);
+    Some((wrong, has_first_sum(&station)))
 }
 
 fn late_steps() -> [(Event, Expected); 6] {
@@ -279,34 +279,38 @@ fn answers_of_fresh(
     alloc: Global,
     number: usize,
     steps: &[(Event, Expected)],
-    sum: bool,
-) -> Option<bool> {
+) -> Option<(Option<usize>, bool)> {
     let federation = counter(alloc)?;
-    answers_of(alloc, &federation, number, steps, sum)
+    answers_of(alloc, &federation, number, steps)
+}
+
+/// The same; where there was no memory the first time, of the next time.
+fn answers(
+    alloc: Global,
+    number: usize,
+    steps: &[(Event, Expected)],
+) -> Option<(Option<usize>, bool)> {
+    let first = answers_of_fresh(alloc, number, steps);
+    let again = answers_of_fresh(alloc, number, steps);
+    first.or(again)
 }
 
 #[test]
 fn runs_a_tag_once_it_is_granted(rt: HostRuntime) {
-    let steps = sum_steps();
-    let first = answers_of_fresh(rt.alloc(), SNK, &steps, true);
-    let again = answers_of_fresh(rt.alloc(), SNK, &steps, true);
-    assert_eq!(rt; first.or(again), Some(true));
+    let answers = answers(rt.alloc(), SNK, &sum_steps());
+    assert_eq!(rt; answers, Some((None, true)));
 }
 
 #[test]
 fn refuses_messages_and_tags_at_or_below_the_last_grant(rt: HostRuntime) {
-    let steps = late_steps();
-    let first = answers_of_fresh(rt.alloc(), SNK, &steps, false);
-    let again = answers_of_fresh(rt.alloc(), SNK, &steps, false);
-    assert_eq!(rt; first.or(again), Some(true));
+    let answers = answers(rt.alloc(), SNK, &late_steps());
+    assert_eq!(rt; answers, Some((None, false)));
 }
 
 #[test]
 fn sends_a_message_before_its_ltc(rt: HostRuntime) {
-    let steps = count_steps();
-    let first = answers_of_fresh(rt.alloc(), SRC, &steps, false);
-    let again = answers_of_fresh(rt.alloc(), SRC, &steps, false);
-    assert_eq!(rt; first.or(again), Some(true));
+    let answers = answers(rt.alloc(), SRC, &count_steps());
+    assert_eq!(rt; answers, Some((None, false)));
 }
 
 /// A signal made up; the coordinator would send few of them.

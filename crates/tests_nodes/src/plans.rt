@@ -15,6 +15,17 @@ pub(crate) struct Wire {
     pub after: Option<u64>,
 }
 
+impl Wire {
+    /// One without a delay.
+    pub(crate) fn direct(from: usize, to: usize) -> Wire {
+        Wire {
+            from,
+            to,
+            after: None,
+        }
+    }
+}
+
 /// A plan of so many federates that stops at a time in ns; None where it isn't legal, or there was no memory for it.
 pub(crate) fn planned(alloc: Global, federates: usize, wires: &[Wire], stop: u64) -> Option<Plan> {
     let draft = Draft {

@@ -1,5 +1,5 @@
 //! `whole` and `check` by themselves, which take no other command.
-use crate::outcome::{Outcome, given};
+use crate::outcome::{Outcome, given, shown};
 use crate::two_files::TwoFiles;
 use fedrun_whole::command;
 use std::alloc::Global;
@@ -42,16 +42,10 @@ fn answer(alloc: Global, words: &[&str]) -> Option<Outcome> {
     Some(Outcome { status, out, err })
 }
 
-fn answers(alloc: Global, words: &[&str], status: u8, out: &str, err: &str) -> bool {
-    match answer(alloc, words) {
-        Some(outcome) => outcome.is(status, out, err),
-        None => false,
-    }
-}
-
 #[test]
 fn answers_whole_and_check_alone(rt: HostRuntime) {
     for (words, status, out, err) in ANSWERS {
-        assert!(rt; answers(rt.alloc(), words, *status, out, err), "{words:?}");
+        let outcome = answer(rt.alloc(), words);
+        assert_eq!(rt; shown(&outcome), Some((*status, *out, *err)), "{words:?}");
     }
 }

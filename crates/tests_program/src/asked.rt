@@ -1,13 +1,9 @@
 //! Which files a command asks for, and what it is answered about them.
 use crate::known_file::{Answered, KnownFile};
-use crate::outcome::given;
-use fedrun_commands::command;
+use crate::machine::Machine;
+use crate::outcome::outcome_over;
 use fedrun_files::FileFault;
 use std::net::{Net, TcpListener, TcpStream};
-use std::process::Abort;
-use std::sync::Wait;
-use std::thread::Threads;
-use std::time::Clock;
 use tests_samples::COUNTER;
 
 /// Words of a command where `fed.toml` alone is there, its status, and the files that it asks for: each with why its bytes
@@ -38,27 +34,24 @@ fn are(answers: &[Answered], expected: &[(&str, Option<FileFault>)]) -> bool {
     answers.len() == expected.len()
 }
 
-/// Whether a command answers this status, and is answered so.
-fn asks<
-    R: AllocGlobal
-        + Threads
-        + Wait
-        + Clock
-        + Net<Stream = TcpStream, Listener = TcpListener>
-        + Sync
-        + Abort,
->(rt: &R, words: &[&str], status: u8, answers: &[(&str, Option<FileFault>)]) -> Option<bool> {
-    let words = given(rt.alloc(), words)?;
+/// What a command answers, and whether it is answered so.
+fn asks<R: Machine + Net<Stream = TcpStream, Listener = TcpListener>>(
+    rt: &R,
+    words: &[&str],
+    answers: &[(&str, Option<FileFault>)],
+) -> Option<(u8, bool)> {
     let mut files = KnownFile::new(rt, "fed.toml", COUNTER);
-    let mut out = Vec::new(rt.alloc());
-    let mut err = Vec::new(rt.alloc());
-    let answered = command(rt, words.as_slice(), &mut files, &mut out, &mut err);
-    Some(answered == status && are(files.answers(), answers))
+    let outcome = outcome_over(rt, words, &mut files)?;
+    Some((outcome.status, are(files.answers(), answers)))
 }
 
 #[test]
 fn asks_for_the_files_of_its_words_in_order(rt: HostRuntime) {
     for (words, status, answers) in ASKED {
-        assert_eq!(rt; asks(&rt, words, *status, answers), Some(true), "{words:?}");
+        assert_eq!(rt;
+            asks(&rt, words, answers),
+            Some((*status, true)),
+            "{words:?}"
+        );
     }
 }

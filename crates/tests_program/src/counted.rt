@@ -25,7 +25,7 @@ fn all_empty(alloc: Global, federates: &[usize]) -> Option<Vec<Report>> {
     Some(reports)
 }
 
-/// What an audit tells of these reports and the coordinator's journal.
+/// What an audit answers of these reports and the coordinator's journal.
 pub(crate) fn told_of(
     alloc: Global,
     federation: &Federation,
@@ -43,7 +43,7 @@ pub(crate) fn told_of(
     .err()
 }
 
-/// What an audit of two federates tells of empty reports of these.
+/// What an audit of two federates answers of empty reports of these.
 fn told(alloc: Global, federates: &[usize]) -> Option<Unproved> {
     let federation = loaded(alloc, COUNTER, "")?;
     let reports = all_empty(alloc, federates)?;

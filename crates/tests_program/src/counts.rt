@@ -1,118 +1,54 @@
 //! As many as there may be, and one more. The numbers are those of docs/FORMATS.md, written out: tests that cited the
 //! constants of the code would pass with any.
-use crate::outcome::{prints, tells};
+use crate::machine::Machine;
+use crate::outcome::{Outcome, outcome_of, shown};
 use std::alloc::Global;
 use std::net::{Net, TcpListener, TcpStream};
-use std::sync::Wait;
-use std::thread::Threads;
-use std::time::Clock;
-
-/// What a file counts: in each entry `%` is its number.
-#[derive(Drop)]
-struct Count {
-    before: &'static str,
-    entry: &'static str,
-    after: &'static str,
-    most: usize,
-    /// What is told of one more.
-    told: &'static str,
-}
+use std::test::Fail;
 
 const OVER_PLAN: &str = "fedrun: 14 OverLimit\n";
 
 const OVER_FILE: &str = "fedrun: 36 OverLimit\n";
 
-/// What a federation file counts.
-const COUNTS: &[Count] = &[
-    Count {
-        before: r#"federate = ["#,
-        entry: r#"{ name = "f%" }, "#,
-        after: "]",
-        most: 64,
-        told: OVER_PLAN,
-    },
-    Count {
-        before: r#"federate = [{ name = "f", inputs = ["#,
-        entry: r#""x%", "#,
-        after: "] }]",
-        most: 32,
-        told: OVER_PLAN,
-    },
-    Count {
-        before: r#"federate = [{ name = "f", outputs = ["#,
-        entry: r#""y%", "#,
-        after: "] }]",
-        most: 32,
-        told: OVER_PLAN,
-    },
-    Count {
-        before: r#"federate = [{ name = "f", timers = ["#,
-        entry: r#"{ name = "t%" }, "#,
-        after: "] }]",
-        most: 32,
-        told: OVER_PLAN,
-    },
-    Count {
-        before: r#"federate = [{ name = "f", actions = ["#,
-        entry: r#""a%", "#,
-        after: "] }]",
-        most: 32,
-        told: OVER_PLAN,
-    },
-    Count {
-        before: r#"federate = [{ name = "f", physical = ["#,
-        entry: r#""p%", "#,
-        after: "] }]",
-        most: 32,
-        told: OVER_PLAN,
-    },
-    Count {
-        before: r#"federate = [{ name = "f", state = ["#,
-        entry: r#"{ name = "n%", value = % }, "#,
-        after: "] }]",
-        most: 64,
-        told: OVER_FILE,
-    },
-    Count {
-        before: r#"federate = [{ name = "f", reaction = ["#,
-        entry: r#"{ triggers = ["startup"] }, "#,
-        after: "] }]",
-        most: 64,
-        told: OVER_FILE,
-    },
+/// What a federation file counts in all, or within what stands around it: what stands before the entries, an entry, in which
+/// `%` is its number, what stands after them, how many there may be, and what is printed of one more.
+const COUNTS: &[(&str, &str, &str, usize, &str)] = &[
+    ("federate = [", r#"{ name = "f%" }, "#, "]", 64, OVER_PLAN),
     // Lines of a reaction.
-    Count {
-        before: r#"federate = [{ name = "f", outputs = ["y"], reaction = [{ triggers = ["startup"], body = ["#,
-        entry: r#""out.y = %", "#,
-        after: "] }] }]",
-        most: 256,
-        told: OVER_FILE,
-    },
+    (
+        r#"federate = [{ name = "f", outputs = ["y"], reaction = [{ triggers = ["startup"], body = ["#,
+        r#""out.y = %", "#,
+        "] }] }]",
+        256,
+        OVER_FILE,
+    ),
     // Characters of names.
-    Count {
-        before: r#"federate = [{ name = ""#,
-        entry: "f",
-        after: r#"" }]"#,
-        most: 32,
-        told: "fedrun: 31 WrongShape name\n",
-    },
-    Count {
-        before: r#"federate = [{ name = "f", inputs = [""#,
-        entry: "x",
-        after: r#""] }]"#,
-        most: 32,
-        told: "fedrun: 31 WrongShape inputs\n",
-    },
+    (
+        r#"federate = [{ name = ""#,
+        "f",
+        r#"" }]"#,
+        32,
+        "fedrun: 31 WrongShape name\n",
+    ),
+    (
+        r#"federate = [{ name = "f", inputs = [""#,
+        "x",
+        r#""] }]"#,
+        32,
+        "fedrun: 31 WrongShape inputs\n",
+    ),
 ];
 
-/// What an input file counts.
-const INPUTS: Count = Count {
-    before: "input = [",
-    entry: r#"{ federate = "f", action = "p", time = "0", micro = %, value = 1 }, "#,
-    after: "]",
-    most: 65_536,
-    told: OVER_FILE,
-};
+/// The lists of a federate: the list's name, an entry, how many there may be, and what is printed of one more.
+const LISTS: &[(&str, &str, usize, &str)] = &[
+    ("inputs", r#""x%", "#, 32, OVER_PLAN),
+    ("outputs", r#""y%", "#, 32, OVER_PLAN),
+    ("timers", r#"{ name = "t%" }, "#, 32, OVER_PLAN),
+    ("actions", r#""a%", "#, 32, OVER_PLAN),
+    ("physical", r#""p%", "#, 32, OVER_PLAN),
+    ("state", r#"{ name = "n%", value = % }, "#, 64, OVER_FILE),
+    ("reaction", r#"{ triggers = ["startup"] }, "#, 64, OVER_FILE),
+];
 
 /// Adds an entry with its number.
 fn push_entry(file: &mut String, entry: &str, number: usize) -> Option<()> {
@@ -135,74 +71,96 @@ fn listed(alloc: Global, before: &str, entry: &str, after: &str, count: usize) -
     Some(file)
 }
 
-impl Count {
-    /// The file with so many entries.
-    fn file(&self, alloc: Global, count: usize) -> Option<String> {
-        listed(alloc, self.before, self.entry, self.after, count)
-    }
-}
-
-const STOP: &str = "stop = \"0\"\n";
-
-/// Whether the first files are taken, of which nothing is printed, and the others refused, of which this line is told. Each
-/// is the rest of a federation file, and an input file.
-fn is_limit<
-    R: AllocGlobal
-        + Threads
-        + Wait
-        + Clock
-        + Net<Stream = TcpStream, Listener = TcpListener>
-        + Sync,
->(rt: &R, most: (&str, &str), more: (&str, &str), line: &str) -> bool {
+/// What is answered of the rest of a federation file, and of an input file.
+fn outcome<R: Machine + Net<Stream = TcpStream, Listener = TcpListener>>(
+    rt: &R,
+    federation: &str,
+    inputs: &str,
+) -> Option<Outcome> {
     let words = ["whole", "fed.toml", "in.toml", "0"];
-    prints(rt, &words, &[STOP, most.0], &[most.1], "")
-        && tells(rt, &words, &[STOP, more.0], &[more.1], 1, line)
+    outcome_of(rt, &words, &["stop = \"0\"\n", federation], &[inputs])
 }
 
-fn is_counted<
-    R: AllocGlobal
-        + Threads
-        + Wait
-        + Clock
-        + Net<Stream = TcpStream, Listener = TcpListener>
-        + Sync,
->(rt: &R, count: &Count) -> Option<bool> {
-    let most = count.file(rt.alloc(), count.most)?;
-    let more = count.file(rt.alloc(), count.most.checked_add(1)?)?;
-    Some(is_limit(rt, (most.as_str(), ""), (more.as_str(), ""), count.told))
+/// The same of a federation file with so many entries.
+fn outcome_of_count<R: Machine + Net<Stream = TcpStream, Listener = TcpListener>>(
+    rt: &R,
+    before: &str,
+    entry: &str,
+    after: &str,
+    count: usize,
+) -> Option<Outcome> {
+    let federation = listed(rt.alloc(), before, entry, after, count)?;
+    outcome(rt, federation.as_str(), "")
+}
+
+/// A federation file with so many entries is answered so.
+fn assert_count<R: Machine + Net<Stream = TcpStream, Listener = TcpListener>>(
+    rt: &R,
+    before: &str,
+    entry: &str,
+    after: &str,
+    count: usize,
+    wanted: (u8, &str, &str),
+) {
+    let outcome = outcome_of_count(rt, before, entry, after, count);
+    assert_eq!(rt; shown(&outcome), Some(wanted), "{count} in {before}");
+}
+
+/// So many entries are taken, of which nothing is printed, and one more is refused, of which this line is printed.
+fn assert_counted<R: Machine + Net<Stream = TcpStream, Listener = TcpListener>>(
+    rt: &R,
+    before: &str,
+    entry: &str,
+    after: &str,
+    most: usize,
+    line: &str,
+) {
+    assert_count(rt, before, entry, after, most, (0, "", ""));
+    assert_count(
+        rt,
+        before,
+        entry,
+        after,
+        most.saturating_add(1),
+        (1, "", line),
+    );
 }
 
 #[test]
 fn takes_as_many_as_the_limit_and_no_more(rt: HostRuntime) {
-    for count in COUNTS {
-        assert_eq!(rt; is_counted(&rt, count), Some(true), "{}", count.before);
+    for (before, entry, after, most, line) in COUNTS {
+        assert_counted(&rt, before, entry, after, *most, line);
     }
+}
+
+#[test]
+fn takes_as_many_in_each_list_of_a_federate_and_no_more(rt: HostRuntime) -> Result<(), Fail> {
+    for (list, entry, most, line) in LISTS {
+        let before = format!(in rt.alloc(); "federate = [{{ name = \"f\", {list} = [")?;
+        assert_counted(&rt, before.as_str(), entry, "] }]", *most, line);
+    }
+    Ok(())
 }
 
 /// A federate with a physical action.
 const PHYSICAL: &str = r#"federate = [{ name = "f", physical = ["p"] }]"#;
 
-fn are_inputs_counted<
-    R: AllocGlobal
-        + Threads
-        + Wait
-        + Clock
-        + Net<Stream = TcpStream, Listener = TcpListener>
-        + Sync,
->(rt: &R) -> Option<bool> {
-    let most = INPUTS.file(rt.alloc(), INPUTS.most)?;
-    let more = INPUTS.file(rt.alloc(), INPUTS.most.checked_add(1)?)?;
-    Some(is_limit(
-        rt,
-        (PHYSICAL, most.as_str()),
-        (PHYSICAL, more.as_str()),
-        INPUTS.told,
-    ))
+/// What is answered of so many recorded inputs.
+fn outcome_of_inputs<R: Machine + Net<Stream = TcpStream, Listener = TcpListener>>(
+    rt: &R,
+    count: usize,
+) -> Option<Outcome> {
+    let entry = r#"{ federate = "f", action = "p", time = "0", micro = %, value = 1 }, "#;
+    let inputs = listed(rt.alloc(), "input = [", entry, "]", count)?;
+    outcome(rt, PHYSICAL, inputs.as_str())
 }
 
 #[test]
 fn takes_65536_recorded_inputs_and_no_more(rt: HostRuntime) {
-    assert_eq!(rt; are_inputs_counted(&rt), Some(true));
+    for (count, wanted) in [(65_536, (0, "", "")), (65_537, (1, "", OVER_FILE))] {
+        let outcome = outcome_of_inputs(&rt, count);
+        assert_eq!(rt; shown(&outcome), Some(wanted), "{count} inputs");
+    }
 }
 
 /// A federate with 32 inputs.
@@ -229,20 +187,19 @@ fn connected(alloc: Global, count: usize) -> Option<String> {
     Some(file)
 }
 
-fn are_connections_counted<
-    R: AllocGlobal
-        + Threads
-        + Wait
-        + Clock
-        + Net<Stream = TcpStream, Listener = TcpListener>
-        + Sync,
->(rt: &R) -> Option<bool> {
-    let most = connected(rt.alloc(), 1024)?;
-    let more = connected(rt.alloc(), 1025)?;
-    Some(is_limit(rt, (most.as_str(), ""), (more.as_str(), ""), OVER_PLAN))
+/// What is answered of so many connections.
+fn outcome_of_connections<R: Machine + Net<Stream = TcpStream, Listener = TcpListener>>(
+    rt: &R,
+    count: usize,
+) -> Option<Outcome> {
+    let federation = connected(rt.alloc(), count)?;
+    outcome(rt, federation.as_str(), "")
 }
 
 #[test]
 fn takes_1024_connections_and_no_more(rt: HostRuntime) {
-    assert_eq!(rt; are_connections_counted(&rt), Some(true));
+    for (count, wanted) in [(1024, (0, "", "")), (1025, (1, "", OVER_PLAN))] {
+        let outcome = outcome_of_connections(&rt, count);
+        assert_eq!(rt; shown(&outcome), Some(wanted), "{count} connections");
+    }
 }

@@ -18,28 +18,19 @@ to = "snk.x"
 
 /// Two federates with a connection each way; how each is delayed comes after.
 pub const BOTH_WAYS: &str = r#"stop = "10 ms"
-[[federate]]
-name = "a"
-inputs = ["x"]
-outputs = ["y"]
-[[federate]]
-name = "b"
-inputs = ["x"]
-outputs = ["y"]
+federate = [
+    { name = "a", inputs = ["x"], outputs = ["y"] },
+    { name = "b", inputs = ["x"], outputs = ["y"] },
+]
 "#;
 
 /// Three federates, to be connected.
 pub const THREE: &str = r#"stop = "10 ms"
-[[federate]]
-name = "p"
-outputs = ["a", "b"]
-[[federate]]
-name = "q"
-inputs = ["x"]
-outputs = ["y"]
-[[federate]]
-name = "r"
-inputs = ["x", "z"]
+federate = [
+    { name = "p", outputs = ["a", "b"] },
+    { name = "q", inputs = ["x"], outputs = ["y"] },
+    { name = "r", inputs = ["x", "z"] },
+]
 "#;
 
 /// A federate that counts by itself.
@@ -56,8 +47,5 @@ body = ["n = n + 1", "out.y = n"]
 
 /// Two federates to which nothing happens.
 pub const IDLE: &str = r#"stop = "20 ms"
-[[federate]]
-name = "a"
-[[federate]]
-name = "b"
+federate = [{ name = "a" }, { name = "b" }]
 "#;

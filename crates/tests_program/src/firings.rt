@@ -1,5 +1,5 @@
 //! Rows of timers: the first of very many, once, at stop, never, and together with a message.
-use crate::outcome::prints;
+use crate::outcome::assert_answers;
 
 /// Federations, how many turns are made at most, and the rows.
 const ROWS: &[(&str, &str, &str)] = &[
@@ -39,9 +39,6 @@ const ROWS: &[(&str, &str, &str)] = &[
 fn fires_timers_from_their_offset_to_stop(rt: HostRuntime) {
     for (federation, turns, rows) in ROWS {
         let words = ["whole", "fed.toml", "-", *turns];
-        assert!(rt;
-            prints(&rt, &words, &[*federation], &[], rows),
-            "{federation}"
-        );
+        assert_answers(&rt, &words, &[*federation], &[], (0, rows, ""));
     }
 }

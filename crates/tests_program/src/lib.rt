@@ -31,6 +31,8 @@ mod lists;
 #[cfg(test)]
 mod loading;
 #[cfg(test)]
+mod machine;
+#[cfg(test)]
 mod meeting;
 #[cfg(test)]
 mod memory_lines;
@@ -66,5 +68,7 @@ mod told;
 mod two_files;
 #[cfg(test)]
 mod unsent;
+#[cfg(test)]
+mod worked_rows;
 #[cfg(test)]
 mod writers;

@@ -15,6 +15,7 @@ use tests_samples::{
 };
 use whole::Whole;
 use wires::Nodes;
+use world::World;
 
 /// The federations that are run, each with its input file.
 pub(crate) const ALL: &[(&str, &str)] = &[
@@ -86,7 +87,19 @@ pub(crate) fn undivided(alloc: Global, federation: &Federation) -> Option<Whole<
     Some(whole)
 }
 
-fn is_same(row: &RowView<'_>, other: &RowView<'_>) -> bool {
+/// The world of a federation, before any step; None where there is no memory for it.
+pub(crate) fn world_of(alloc: Global, federation: &Federation) -> Option<World<'_>> {
+    World::new(
+        alloc,
+        &federation.plan,
+        &federation.programs,
+        &federation.inputs,
+    )
+    .ok()
+}
+
+/// Whether two rows have the same tag, inputs and outputs.
+pub(crate) fn is_same(row: &RowView<'_>, other: &RowView<'_>) -> bool {
     row.tag() == other.tag() && row.inputs() == other.inputs() && row.outputs() == other.outputs()
 }
 

@@ -1,11 +1,10 @@
-//! What a command answers and writes, over two files.
+//! What a command answers and writes, over files in memory.
+use crate::machine::Machine;
 use crate::two_files::TwoFiles;
 use fedrun_commands::command;
+use fedrun_files::Files;
 use std::alloc::Global;
 use std::net::{Net, TcpListener, TcpStream};
-use std::sync::Wait;
-use std::thread::Threads;
-use std::time::Clock;
 
 /// What a command answered and wrote.
 #[derive(Drop)]
@@ -16,11 +15,15 @@ pub struct Outcome {
 }
 
 impl Outcome {
-    pub fn is(&self, status: u8, out: &str, err: &str) -> bool {
-        self.status == status
-            && self.out.as_slice() == out.as_bytes()
-            && self.err.as_slice() == err.as_bytes()
+    /// The status, and what is on standard output and on standard error.
+    pub fn texts(&self) -> (u8, &str, &str) {
+        (self.status, text(&self.out), text(&self.err))
     }
+}
+
+/// Bytes as a text.
+pub fn text(bytes: &[u8]) -> &str {
+    str::from_utf8(bytes).unwrap_or("not UTF-8")
 }
 
 /// The words, as the program gets them.
@@ -41,52 +44,50 @@ pub fn joined(alloc: Global, parts: &[&str]) -> Option<String> {
     Some(file)
 }
 
-/// What the words give over two files, each of parts.
-pub fn outcome_of<
-    R: AllocGlobal
-        + Threads
-        + Wait
-        + Clock
-        + Net<Stream = TcpStream, Listener = TcpListener>
-        + Sync,
->(rt: &R, words: &[&str], federation: &[&str], inputs: &[&str]) -> Option<Outcome> {
+/// What the words give over these files.
+pub fn outcome_over<R: Machine + Net<Stream = TcpStream, Listener = TcpListener>, F: Files>(
+    rt: &R,
+    words: &[&str],
+    files: &mut F,
+) -> Option<Outcome> {
     let alloc = rt.alloc();
     let words = given(alloc, words)?;
-    let federation = joined(alloc, federation)?;
-    let inputs = joined(alloc, inputs)?;
-    let mut files = TwoFiles::new(alloc, federation.as_str(), inputs.as_str());
     let mut out = Vec::new(alloc);
     let mut err = Vec::new(alloc);
-    let status = command(rt, words.as_slice(), &mut files, &mut out, &mut err);
+    let status = command(rt, words.as_slice(), files, &mut out, &mut err);
     Some(Outcome { status, out, err })
 }
 
-/// Whether the words print this, and nothing else.
-pub fn prints<
-    R: AllocGlobal
-        + Threads
-        + Wait
-        + Clock
-        + Net<Stream = TcpStream, Listener = TcpListener>
-        + Sync,
->(rt: &R, words: &[&str], federation: &[&str], inputs: &[&str], text: &str) -> bool {
-    match outcome_of(rt, words, federation, inputs) {
-        Some(outcome) => outcome.is(0, text, ""),
-        None => false,
-    }
+/// What the words give over two files, each of parts.
+pub fn outcome_of<R: Machine + Net<Stream = TcpStream, Listener = TcpListener>>(
+    rt: &R,
+    words: &[&str],
+    federation: &[&str],
+    inputs: &[&str],
+) -> Option<Outcome> {
+    let federation = joined(rt.alloc(), federation)?;
+    let inputs = joined(rt.alloc(), inputs)?;
+    let mut files = TwoFiles::new(rt.alloc(), federation.as_str(), inputs.as_str());
+    outcome_over(rt, words, &mut files)
 }
 
-/// Whether the words print nothing, answer this status and tell this line.
-pub fn tells<
-    R: AllocGlobal
-        + Threads
-        + Wait
-        + Clock
-        + Net<Stream = TcpStream, Listener = TcpListener>
-        + Sync,
->(rt: &R, words: &[&str], federation: &[&str], inputs: &[&str], status: u8, line: &str) -> bool {
-    match outcome_of(rt, words, federation, inputs) {
-        Some(outcome) => outcome.is(status, "", line),
-        None => false,
-    }
+/// The status, and what is on standard output and on standard error; None where there is no outcome.
+pub fn shown(outcome: &Option<Outcome>) -> Option<(u8, &str, &str)> {
+    outcome.as_ref().map(Outcome::texts)
+}
+
+/// The words answer this status, print this and tell this, over two files, each of parts.
+pub fn assert_answers<R: Machine + Net<Stream = TcpStream, Listener = TcpListener>>(
+    rt: &R,
+    words: &[&str],
+    federation: &[&str],
+    inputs: &[&str],
+    wanted: (u8, &str, &str),
+) {
+    let outcome = outcome_of(rt, words, federation, inputs);
+    assert_eq!(rt;
+        shown(&outcome),
+        Some(wanted),
+        "{words:?} over {federation:?} and {inputs:?}"
+    );
 }

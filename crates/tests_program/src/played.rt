@@ -1,5 +1,6 @@
 //! What a replay prints.
 use crate::loading::{Federation, loaded};
+use crate::outcome::joined;
 use fedrun_replay::replay;
 use fedrun_script::{Script, read_script};
 use std::alloc::Global;
@@ -8,24 +9,23 @@ use std::alloc::Global;
 pub(crate) struct Case<'a> {
     pub federation: &'a str,
     pub inputs: &'a str,
+    /// The first lines of the schedule.
     pub schedule: &'a str,
+    /// How many lines `round` come after them.
+    pub rounds: usize,
     pub closing: Option<u32>,
-    pub text: &'a str,
+    /// What is printed, in parts.
+    pub text: &'a [&'a str],
 }
 
 impl<'a> Case<'a> {
-    /// Whether this, and nothing else, is printed.
-    pub(crate) fn prints(&self, alloc: Global) -> bool {
-        match self.played(alloc) {
-            Some(out) => out.as_slice() == self.text.as_bytes(),
-            None => false,
-        }
-    }
-
-    // What is printed; None where something isn't taken.
-    fn played(&self, alloc: Global) -> Option<Vec<u8>> {
+    /// What is printed; None where something isn't taken.
+    pub(crate) fn printed(&self, alloc: Global) -> Option<String> {
         let federation = loaded(alloc, self.federation, self.inputs)?;
-        printed(alloc, &federation, self.schedule, self.closing)
+        let rounds = "round\n".repeat(alloc, self.rounds).ok()?;
+        let schedule = joined(alloc, &[self.schedule, rounds.as_str()])?;
+        let out = printed(alloc, &federation, schedule.as_str(), self.closing)?;
+        String::from_utf8(out).ok()
     }
 }
 

@@ -82,7 +82,7 @@ fn is_read(
         || first == Err(FileFault::Memory) && read(alloc, bytes, most, failure) == wanted
 }
 
-/// Whichever allocation is refused, that is what is told: `rt try --test --fail-alloc N`.
+/// Whichever allocation is refused, that is what is printed: `rt try --test --fail-alloc N`.
 #[test]
 fn reads_to_the_end(rt: HostRuntime) {
     for (bytes, most, failure, wanted) in READ {

@@ -1,10 +1,7 @@
-//! What is told of files that are refused.
+//! What is printed of files that are refused.
 use crate::federations::{BOTH_WAYS, CONNECTION};
-use crate::outcome::{joined, tells};
-use std::net::{Net, TcpListener, TcpStream};
-use std::sync::Wait;
-use std::thread::Threads;
-use std::time::Clock;
+use crate::outcome::assert_answers;
+use std::test::Fail;
 use tests_samples::{CHAIN, CHAIN_INPUT, COUNTER};
 
 const WHOLE: &[&str] = &["whole", "fed.toml", "-", "4"];
@@ -21,42 +18,23 @@ const NO_FILE: &[&[&str]] = &[
 
 #[test]
 fn refuses_files_that_are_not_there(rt: HostRuntime) {
+    let wanted = (1, "", "fedrun: cannot read no.toml\n");
     for words in NO_FILE {
-        assert!(rt;
-            tells(
-                &rt,
-                words,
-                &[CHAIN],
-                &[],
-                1,
-                "fedrun: cannot read no.toml\n"
-            ),
-            "{words:?}"
-        );
+        assert_answers(&rt, words, &[CHAIN], &[], wanted);
     }
 }
 
-/// Whether a line is told whole that is longer than what is told of it at once.
-fn tells_long_line<
-    R: AllocGlobal
-        + Threads
-        + Wait
-        + Clock
-        + Net<Stream = TcpStream, Listener = TcpListener>
-        + Sync,
->(rt: &R) -> Option<bool> {
-    let name = joined(rt.alloc(), &["unreadable"; 250])?;
-    let line = joined(rt.alloc(), &["fedrun: cannot read ", name.as_str(), "\n"])?;
-    let words = ["check", name.as_str()];
-    Some(tells(rt, &words, &[CHAIN], &[], 1, line.as_str()))
-}
-
+/// It is longer than what is printed of it at once.
 #[test]
-fn prints_a_long_line_whole(rt: HostRuntime) {
-    assert_eq!(rt; tells_long_line(&rt), Some(true));
+fn prints_a_long_line_whole(rt: HostRuntime) -> Result<(), Fail> {
+    let name = "unreadable".repeat(rt.alloc(), 250)?;
+    let line = format!(in rt.alloc(); "fedrun: cannot read {name}\n")?;
+    let words = ["check", name.as_str()];
+    assert_answers(&rt, &words, &[CHAIN], &[], (1, "", line.as_str()));
+    Ok(())
 }
 
-/// Federation files, and what is told of them.
+/// Federation files, and what is printed of them.
 const FEDERATIONS: &[(&str, &str)] = &[
     ("stop = ", "fedrun: 30 NotToml\n"),
     ("", "fedrun: 31 WrongShape stop\n"),
@@ -108,11 +86,11 @@ const FEDERATIONS: &[(&str, &str)] = &[
 #[test]
 fn refuses_federations(rt: HostRuntime) {
     for (file, line) in FEDERATIONS {
-        assert!(rt; tells(&rt, WHOLE, &[*file], &[], 1, line), "{file}");
+        assert_answers(&rt, WHOLE, &[*file], &[], (1, "", line));
     }
 }
 
-/// What is added to the counter, and what is told of it then.
+/// What is added to the counter, and what is printed of it then.
 const CHANGED_COUNTERS: &[(&str, &str)] = &[
     (CONNECTION, "fedrun: 12 TwoSources snk.x\n"),
     ("after = \"5 h\"", "fedrun: 31 WrongShape after\n"),
@@ -146,8 +124,7 @@ const CHANGED_COUNTERS: &[(&str, &str)] = &[
 #[test]
 fn refuses_changed_counters(rt: HostRuntime) {
     for (more, line) in CHANGED_COUNTERS {
-        let parts = [COUNTER, *more];
-        assert!(rt; tells(&rt, WHOLE, &parts, &[], 1, line), "{more}");
+        assert_answers(&rt, WHOLE, &[COUNTER, *more], &[], (1, "", line));
     }
 }
 
@@ -156,20 +133,17 @@ const ROUND: &str =
 
 #[test]
 fn refuses_a_cycle_without_delay(rt: HostRuntime) {
-    let parts = [BOTH_WAYS, ROUND];
-    assert!(rt;
-        tells(
-            &rt,
-            &["check", "fed.toml"],
-            &parts,
-            &[],
-            1,
-            "fedrun: 13 ZeroDelayCycle a b\n"
-        )
+    let wanted = (1, "", "fedrun: 13 ZeroDelayCycle a b\n");
+    assert_answers(
+        &rt,
+        &["check", "fed.toml"],
+        &[BOTH_WAYS, ROUND],
+        &[],
+        wanted,
     );
 }
 
-/// Input files of the chain, and what is told of them.
+/// Input files of the chain, and what is printed of them.
 const INPUTS: &[(&str, &str)] = &[
     ("input", "fedrun: 30 NotToml\n"),
     ("inputs = []", "fedrun: 31 WrongShape inputs\n"),
@@ -194,25 +168,14 @@ const INPUTS: &[(&str, &str)] = &[
 #[test]
 fn refuses_inputs(rt: HostRuntime) {
     for (file, line) in INPUTS {
-        assert!(rt;
-            tells(&rt, WITH_INPUTS, &[CHAIN], &[*file], 1, line),
-            "{file}"
-        );
+        assert_answers(&rt, WITH_INPUTS, &[CHAIN], &[*file], (1, "", line));
     }
     let twice = [CHAIN_INPUT, CHAIN_INPUT];
-    assert!(rt;
-        tells(
-            &rt,
-            WITH_INPUTS,
-            &[CHAIN],
-            &twice,
-            1,
-            "fedrun: 35 RepeatedInput\n"
-        )
-    );
+    let wanted = (1, "", "fedrun: 35 RepeatedInput\n");
+    assert_answers(&rt, WITH_INPUTS, &[CHAIN], &twice, wanted);
 }
 
-/// Federation files and input files that are refused both, and what is told.
+/// Federation files and input files that are refused both, and what is printed.
 const BOTH: &[(&str, &str, &str)] = &[
     ("stop = ", "inputs = []", "fedrun: 30 NotToml\n"),
     ("", "input", "fedrun: 31 WrongShape stop\n"),
@@ -223,11 +186,8 @@ const BOTH: &[(&str, &str, &str)] = &[
 #[test]
 fn prints_the_first_fault(rt: HostRuntime) {
     for (file, inputs, line) in BOTH {
-        assert!(rt;
-            tells(&rt, WITH_INPUTS, &[*file], &[*inputs], 1, line),
-            "{line}"
-        );
+        assert_answers(&rt, WITH_INPUTS, &[*file], &[*inputs], (1, "", line));
         let words = ["whole", "fed.toml", "no.toml", "4"];
-        assert!(rt; tells(&rt, &words, &[*file], &[], 1, line), "{line}");
+        assert_answers(&rt, &words, &[*file], &[], (1, "", line));
     }
 }

@@ -1,46 +1,20 @@
-//! Replays: what is printed, what is told of schedules, and that nothing is printed where one is refused.
-use crate::outcome::{Outcome, given, joined};
+//! Replays: what is printed, what is printed of schedules, and that nothing is printed where one is refused.
+use crate::machine::Machine;
+use crate::outcome::{Outcome, joined, outcome_over, shown};
 use crate::two_files::TwoFiles;
-use fedrun_commands::command;
-use std::alloc::Global;
+use crate::worked_rows::COUNTER_ROWS;
 use std::net::{Net, TcpListener, TcpStream};
-use std::sync::Wait;
-use std::thread::Threads;
-use std::time::Clock;
+use std::test::Fail;
 use tests_samples::COUNTER;
 
 /// A replay of a schedule, over the counter.
-fn outcome<
-    R: AllocGlobal
-        + Threads
-        + Wait
-        + Clock
-        + Net<Stream = TcpStream, Listener = TcpListener>
-        + Sync,
->(rt: &R, words: &[&str], schedule: &str) -> Option<Outcome> {
-    let alloc = rt.alloc();
-    let words = given(alloc, words)?;
-    let federation = joined(alloc, &[COUNTER])?;
-    let mut files = TwoFiles::of_schedule(alloc, federation.as_str(), schedule);
-    let mut out = Vec::new(alloc);
-    let mut err = Vec::new(alloc);
-    let status = command(rt, words.as_slice(), &mut files, &mut out, &mut err);
-    Some(Outcome { status, out, err })
-}
-
-/// Whether a replay answers this status, prints this and tells this.
-fn is_answered<
-    R: AllocGlobal
-        + Threads
-        + Wait
-        + Clock
-        + Net<Stream = TcpStream, Listener = TcpListener>
-        + Sync,
->(rt: &R, words: &[&str], schedule: &str, wanted: (u8, &str, &str)) -> bool {
-    match outcome(rt, words, schedule) {
-        Some(outcome) => outcome.is(wanted.0, wanted.1, wanted.2),
-        None => false,
-    }
+fn outcome<R: Machine + Net<Stream = TcpStream, Listener = TcpListener>>(
+    rt: &R,
+    words: &[&str],
+    schedule: &str,
+) -> Option<Outcome> {
+    let mut files = TwoFiles::of_schedule(rt.alloc(), COUNTER, schedule);
+    outcome_over(rt, words, &mut files)
 }
 
 const REPLAY: &[&str] = &["replay", "fed.toml", "-", "-"];
@@ -49,56 +23,41 @@ const CLOSED: &[&str] = &["replay", "fed.toml", "-", "-", "--until-stuck", "9"];
 
 const UNCLOSED: &[&str] = &["replay", "fed.toml", "-", "-", "--until-stuck", "0"];
 
-const ALL: &str = "src (0, 0) [t] -> [y=1]
-src (10 ms, 0) [t] -> [y=2]
-src (20 ms, 0) [t] -> [y=3]
-snk (0, 0) [x=1] -> [total=1]
-snk (10 ms, 0) [x=2] -> [total=3]
-snk (20 ms, 0) [x=3] -> [total=6]
-end
-";
-
-const STUCK: &str = "stuck
-src (0, 0) [t] -> [y=1]
-src (10 ms, 0) [t] -> [y=2]
-src (20 ms, 0) [t] -> [y=3]
-snk (0, 0) [x=1] -> [total=1]
-snk (10 ms, 0) [x=2] -> [total=3]
-snk (20 ms, 0) [x=3] -> [total=6]
-end
-";
-
-/// Words, schedules, and what is printed.
-const PRINTED: &[(&[&str], &str, &str)] = &[
-    (REPLAY, "", "end\n"),
-    (REPLAY, "deliver up src 9", "end\n"),
+/// Words, schedules, and what is printed, in parts.
+const PRINTED: &[(&[&str], &str, &[&str])] = &[
+    (REPLAY, "", &["end\n"]),
+    (REPLAY, "deliver up src 9", &["end\n"]),
     (
         REPLAY,
         "round\nround\nround\nround\nround\nround\nround\nround\nround\nround\n",
-        ALL,
+        &[COUNTER_ROWS, "end\n"],
     ),
-    (UNCLOSED, "", "stopped at 0 rounds\nend\n"),
-    (CLOSED, "", STUCK),
-    (CLOSED, "announce src\nskip up src", STUCK),
-    (REPLAY, "\n# a\nforget snk\n", "snk forgotten\nend\n"),
+    (UNCLOSED, "", &["stopped at 0 rounds\nend\n"]),
+    (CLOSED, "", &["stuck\n", COUNTER_ROWS, "end\n"]),
+    (
+        CLOSED,
+        "announce src\nskip up src",
+        &["stuck\n", COUNTER_ROWS, "end\n"],
+    ),
+    (REPLAY, "\n# a\nforget snk\n", &["snk forgotten\nend\n"]),
     (
         UNCLOSED,
         "announce src\nforget src\ndeliver up src 1\nreconnect up src",
-        "stopped at 0 rounds\nsrc forgotten\nend\n",
+        &["stopped at 0 rounds\nsrc forgotten\nend\n"],
     ),
 ];
 
 #[test]
-fn prints_replays(rt: HostRuntime) {
-    for (words, schedule, text) in PRINTED {
-        assert!(rt;
-            is_answered(&rt, words, schedule, (0, text, "")),
-            "{schedule}"
-        );
+fn prints_replays(rt: HostRuntime) -> Result<(), Fail> {
+    for (words, schedule, parts) in PRINTED {
+        let outcome = outcome(&rt, words, schedule);
+        let text = joined(rt.alloc(), parts).ok_or("memory")?;
+        assert_eq!(rt; shown(&outcome), Some((0, text.as_str(), "")), "{schedule}");
     }
+    Ok(())
 }
 
-/// Schedules that are refused, and what is told: nothing is printed of the lines above.
+/// Schedules that are refused, and what is printed: nothing is printed of the lines above.
 const REFUSED: &[(&str, &str)] = &[
     ("\nadvance nobody", "fedrun: schedule line 2\n"),
     ("announce src\nadvance", "fedrun: schedule line 2\n"),
@@ -110,44 +69,32 @@ const REFUSED: &[(&str, &str)] = &[
 #[test]
 fn refuses_schedules_before_any_step(rt: HostRuntime) {
     for (schedule, line) in REFUSED {
-        assert!(rt;
-            is_answered(&rt, REPLAY, schedule, (1, "", line)),
-            "{schedule}"
-        );
+        let outcome = outcome(&rt, REPLAY, schedule);
+        assert_eq!(rt; shown(&outcome), Some((1, "", *line)), "{schedule}");
     }
 }
 
-/// How a schedule of so many bytes is answered.
-fn status_of_length<
-    R: AllocGlobal
-        + Threads
-        + Wait
-        + Clock
-        + Net<Stream = TcpStream, Listener = TcpListener>
-        + Sync,
->(rt: &R, length: usize) -> Option<(u8, bool)> {
-    let schedule = line_of(rt.alloc(), length)?;
-    let outcome = outcome(rt, REPLAY, schedule.as_str())?;
-    let is_over = outcome.err.as_slice() == b"fedrun: 36 OverLimit\n".as_slice();
-    Some((outcome.status, is_over))
-}
-
-/// A comment of so many bytes.
-fn line_of(alloc: Global, length: usize) -> Option<String> {
-    let mut line = String::with_capacity(alloc, length).ok()?;
-    for _ in 0..length {
-        line.push('#').ok()?;
-    }
-    Some(line)
+/// How a comment of so many bytes is answered as a schedule.
+fn outcome_of_length<R: Machine + Net<Stream = TcpStream, Listener = TcpListener>>(
+    rt: &R,
+    length: usize,
+) -> Option<Outcome> {
+    let schedule = "#".repeat(rt.alloc(), length).ok()?;
+    outcome(rt, REPLAY, schedule.as_str())
 }
 
 #[test]
 fn takes_a_schedule_of_a_mebibyte_and_no_more(rt: HostRuntime) {
-    assert_eq!(rt; status_of_length(&rt, 1_048_576), Some((0, false)));
-    assert_eq!(rt; status_of_length(&rt, 1_048_577), Some((1, true)));
+    for (length, wanted) in [
+        (1_048_576, (0, "end\n", "")),
+        (1_048_577, (1, "", "fedrun: 36 OverLimit\n")),
+    ] {
+        let outcome = outcome_of_length(&rt, length);
+        assert_eq!(rt; shown(&outcome), Some(wanted), "{length} bytes");
+    }
 }
 
-/// A schedule that isn't there is told after the federation and the inputs.
+/// A schedule that isn't there is answered after the federation and the inputs.
 #[test]
 fn refuses_a_schedule_that_is_not_there_last(rt: HostRuntime) {
     for (inputs, line) in [
@@ -155,6 +102,7 @@ fn refuses_a_schedule_that_is_not_there_last(rt: HostRuntime) {
         ("i", "fedrun: cannot read i\n"),
     ] {
         let words = ["replay", "fed.toml", inputs, "s"];
-        assert!(rt; is_answered(&rt, &words, "", (1, "", line)), "{line}");
+        let outcome = outcome(&rt, &words, "");
+        assert_eq!(rt; shown(&outcome), Some((1, "", line)));
     }
 }

@@ -1,5 +1,5 @@
 //! What the words ask for.
-use crate::outcome::{prints, tells};
+use crate::outcome::assert_answers;
 use tests_samples::{CHAIN, CHAIN_INPUT, COUNTER, SENDER};
 
 /// Words that are no command: a few of those that the crate `tests_libraries` tries.
@@ -16,10 +16,7 @@ const REFUSED: &[&[&str]] = &[
 #[test]
 fn refuses_words(rt: HostRuntime) {
     for words in REFUSED {
-        assert!(rt;
-            tells(&rt, words, &[SENDER], &[], 2, "fedrun: usage\n"),
-            "{words:?}"
-        );
+        assert_answers(&rt, words, &[SENDER], &[], (2, "", "fedrun: usage\n"));
     }
 }
 
@@ -38,20 +35,13 @@ const TWO_TURNS: &[&[&str]] = &[
 #[test]
 fn takes_words(rt: HostRuntime) {
     for words in TWO_TURNS {
-        assert!(rt; prints(&rt, words, &[COUNTER], &[], TWO_ROWS), "{words:?}");
+        assert_answers(&rt, words, &[COUNTER], &[], (0, TWO_ROWS, ""));
     }
 }
 
 #[test]
 fn takes_a_name_with_a_hyphen(rt: HostRuntime) {
     let words = ["whole", "fed.toml", "--", "-in.toml", "7"];
-    assert!(rt;
-        prints(
-            &rt,
-            &words,
-            &[CHAIN],
-            &[CHAIN_INPUT],
-            crate::rows::CHAIN_ROWS
-        )
-    );
+    let wanted = (0, crate::rows::CHAIN_ROWS, "");
+    assert_answers(&rt, &words, &[CHAIN], &[CHAIN_INPUT], wanted);
 }

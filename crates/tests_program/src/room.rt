@@ -1,6 +1,6 @@
 //! The room of a link: how many signals a federate sends that aren't acknowledged. The number is that of docs/FORMATS.md, written
 //! out: a test that cited the constant of the code would pass with any.
-use crate::loading::{Federation, loaded};
+use crate::loading::{Federation, loaded, world_of};
 use crate::schedules::TICKS;
 use std::alloc::Global;
 use std::test::Fail;
@@ -31,13 +31,7 @@ fn advances_twice(
     federation: &Federation,
     most: usize,
 ) -> Option<[(usize, Outcome); 2]> {
-    let mut world = World::new(
-        alloc,
-        &federation.plan,
-        &federation.programs,
-        &federation.inputs,
-    )
-    .ok()?;
+    let mut world = world_of(alloc, federation)?;
     world.run(GRANTED).ok()?;
     let first = advances(&mut world, most)?;
     world.apply(Step::Deliver(Dir::Down(0), 1)).ok()?;

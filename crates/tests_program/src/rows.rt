@@ -1,10 +1,9 @@
 //! Rows and plans, by the words that ask for them.
 use crate::federations::{BOTH_WAYS, THREE, TICKS};
-use crate::outcome::{joined, prints};
-use std::net::{Net, TcpListener, TcpStream};
-use std::sync::Wait;
-use std::thread::Threads;
-use std::time::Clock;
+use crate::outcome::{assert_answers, joined};
+use crate::worked_rows::{CARRIED_ROWS, LOOP_ROWS, REPLACED_ROWS};
+use std::alloc::Global;
+use std::test::Fail;
 use tests_samples::{
     CARRIED, CARRIED_INPUTS, CHAIN, CHAIN_INPUT, COUNTER, DELAYED_COUNTER, LOOP, REPLACED,
     STARTED_COUNTER,
@@ -29,24 +28,15 @@ const TURNS: &[(&str, usize)] = &[
     ("4294967295", 6),
 ];
 
-fn prints_turns<
-    R: AllocGlobal
-        + Threads
-        + Wait
-        + Clock
-        + Net<Stream = TcpStream, Listener = TcpListener>
-        + Sync,
->(rt: &R, turns: &str, lines: usize) -> Option<bool> {
-    let rows = joined(rt.alloc(), COUNTER_ROWS.get(..lines)?)?;
-    let words = ["whole", "fed.toml", "-", turns];
-    Some(prints(rt, &words, &[COUNTER], &[], rows.as_str()))
-}
-
 #[test]
-fn prints_the_rows_of_at_most_n_turns(rt: HostRuntime) {
+fn prints_the_rows_of_at_most_n_turns(rt: HostRuntime) -> Result<(), Fail> {
     for (turns, lines) in TURNS {
-        assert_eq!(rt; prints_turns(&rt, turns, *lines), Some(true), "{turns}");
+        let rows = COUNTER_ROWS.get(..*lines).ok_or("too many lines")?;
+        let rows = joined(rt.alloc(), rows).ok_or("memory")?;
+        let words = ["whole", "fed.toml", "-", *turns];
+        assert_answers(&rt, &words, &[COUNTER], &[], (0, rows.as_str(), ""));
     }
+    Ok(())
 }
 
 /// So many turns of an action that is scheduled again and again print so many rows, also of more turns than those whose rows
@@ -60,32 +50,29 @@ const MANY_TURNS: &[(&str, u32)] = &[
     ("4294967295", 2200),
 ];
 
-fn prints_ticks<
-    R: AllocGlobal
-        + Threads
-        + Wait
-        + Clock
-        + Net<Stream = TcpStream, Listener = TcpListener>
-        + Sync,
->(rt: &R, turns: &str, ticks: u32) -> Option<bool> {
-    let mut rows = String::from_str(rt.alloc(), "a (0, 0) [startup] -> []\n").ok()?;
+/// The rows of so many turns.
+fn rows_of_ticks(alloc: Global, ticks: u32) -> Option<String> {
+    let mut rows = String::from_str(alloc, "a (0, 0) [startup] -> []\n").ok()?;
     for tick in 1..ticks {
         match tick % 1000 {
             0 => write!(rows, "a ({} ms, 0) [tick=7] -> []\n", tick / 1000).ok()?,
             _ => write!(rows, "a ({tick} us, 0) [tick=7] -> []\n").ok()?,
         }
     }
-    let words = ["whole", "fed.toml", "-", turns];
-    Some(prints(rt, &words, &[TICKS], &[], rows.as_str()))
+    Some(rows)
 }
 
 #[test]
-fn prints_the_rows_of_many_turns(rt: HostRuntime) {
+fn prints_the_rows_of_many_turns(rt: HostRuntime) -> Result<(), Fail> {
     for (turns, ticks) in MANY_TURNS {
-        assert_eq!(rt; prints_ticks(&rt, turns, *ticks), Some(true), "{turns}");
+        let rows = rows_of_ticks(rt.alloc(), *ticks).ok_or("memory")?;
+        let words = ["whole", "fed.toml", "-", *turns];
+        assert_answers(&rt, &words, &[TICKS], &[], (0, rows.as_str(), ""));
     }
+    Ok(())
 }
 
+/// In the order of tags.
 pub const CHAIN_ROWS: &str = "a (10 ms, 0) [t] -> [y=1]
 b (10 ms, 0) [x=1] -> []
 b (15 ms, 0) [act=7] -> [z=7]
@@ -95,10 +82,10 @@ b (100 ms, 0) [p=9] -> [z=9]
 c (100 ms, 0) [w=9] -> [o=9]
 ";
 
-/// Federations, of parts, their input files, and all their rows.
-const ROWS: &[(&[&str], &str, &str)] = &[
+/// Federations, their input files, and all their rows.
+const ROWS: &[(&str, &str, &str)] = &[
     (
-        &[DELAYED_COUNTER],
+        DELAYED_COUNTER,
         "",
         "src (0, 0) [t] -> [y=1]
 snk (0, 1) [x=1] -> [total=1]
@@ -108,7 +95,7 @@ src (20 ms, 0) [t] -> [y=3]
 ",
     ),
     (
-        &[STARTED_COUNTER],
+        STARTED_COUNTER,
         "",
         "src (0, 0) [t] -> [y=1]
 snk (0, 0) [startup x=1] -> [total=1]
@@ -118,40 +105,17 @@ src (20 ms, 0) [t] -> [y=3]
 snk (20 ms, 0) [x=3] -> [total=6]
 ",
     ),
-    (
-        &[REPLACED],
-        "",
-        "src (0, 0) [startup] -> [y=1]
-src (0, 1) [a=2] -> [y=2]
-snk (10 ms, 0) [x=2] -> [v=2]
-",
-    ),
-    (
-        &[LOOP],
-        "",
-        "loop (0, 0) [startup] -> [y=1]
-loop (5 ms, 0) [x=1] -> [y=2]
-loop (10 ms, 0) [x=2] -> [y=3]
-",
-    ),
-    (&[CHAIN], CHAIN_INPUT, CHAIN_ROWS),
-    (
-        &[CARRIED],
-        CARRIED_INPUTS,
-        "g (0, 4294967295) [p=1] -> [y=1]
-g (1 ns, 0) [p=2] -> [y=2]
-h (1 ns, 0) [x=1] -> []
-h (1 ns, 1) [x=2] -> []
-h (10 ms, 0) [t] -> []
-",
-    ),
+    (REPLACED, "", REPLACED_ROWS),
+    (LOOP, "", LOOP_ROWS),
+    (CHAIN, CHAIN_INPUT, CHAIN_ROWS),
+    (CARRIED, CARRIED_INPUTS, CARRIED_ROWS),
 ];
 
 #[test]
 fn prints_the_rows_of_worked_federations(rt: HostRuntime) {
     let words = ["whole", "fed.toml", "in.toml", "20"];
     for (federation, inputs, rows) in ROWS {
-        assert!(rt; prints(&rt, &words, federation, &[*inputs], rows), "{rows}");
+        assert_answers(&rt, &words, &[*federation], &[*inputs], (0, rows, ""));
     }
 }
 
@@ -227,9 +191,6 @@ q -> r least (5 ms, 0)
 #[test]
 fn prints_the_plans_of_worked_federations(rt: HostRuntime) {
     for (federation, plan) in PLANS {
-        assert!(rt;
-            prints(&rt, &["check", "fed.toml"], federation, &[], plan),
-            "{plan}"
-        );
+        assert_answers(&rt, &["check", "fed.toml"], federation, &[], (0, plan, ""));
     }
 }

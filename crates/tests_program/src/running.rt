@@ -1,28 +1,25 @@
 //! Federations in threads over TCP.
 use crate::loading::{ALL, Federation, are_rows_of, loaded, nodes_of, undivided};
+use crate::machine::Machine;
 use coordinator::Coordinator;
 use federate::Federate;
 use node::Node;
 use reactor::Rows;
 use std::alloc::Global;
 use std::net::{Net, TcpListener, TcpStream};
-use std::sync::Wait;
-use std::thread::Threads;
-use std::time::Clock;
 use tests_samples::COUNTER;
 use wires::{Gathered, run_over_tcp};
 use wires_workers::NoGate;
 
 /// The desks after a run over TCP; None where there are none.
-fn ran<'a, R: Threads + Wait + Clock + Net<Stream = TcpStream, Listener = TcpListener> + Sync>(
+fn ran<'a, R: Machine + Net<Stream = TcpStream, Listener = TcpListener>>(
     rt: &R,
-    alloc: Global,
     federation: &'a Federation,
     turns: u32,
 ) -> Option<Gathered<Coordinator<'a>, Federate<'a>>> {
-    let nodes = nodes_of(alloc, federation)?;
-    let left = run_over_tcp(rt, alloc, &nodes, &NoGate, turns).ok()?;
-    nodes.gather(alloc, left).ok()
+    let nodes = nodes_of(rt.alloc(), federation)?;
+    let left = run_over_tcp(rt, rt.alloc(), &nodes, &NoGate, turns).ok()?;
+    nodes.gather(rt.alloc(), left).ok()
 }
 
 /// Whether the coordinator is finished.
@@ -53,57 +50,50 @@ pub(crate) fn has_all_rows(
 }
 
 /// Whether a run has the rows of the undivided program.
-fn runs<R: Threads + Wait + Clock + Net<Stream = TcpStream, Listener = TcpListener> + Sync>(
+fn runs<R: Machine + Net<Stream = TcpStream, Listener = TcpListener>>(
     rt: &R,
-    alloc: Global,
     federation: &Federation,
 ) -> bool {
-    match ran(rt, alloc, federation, 100_000) {
-        Some(gathered) => has_all_rows(alloc, federation, &gathered),
+    match ran(rt, federation, 100_000) {
+        Some(gathered) => has_all_rows(rt.alloc(), federation, &gathered),
         None => false,
     }
 }
 
 /// Whether each of five runs has the rows of the undivided program.
-fn runs_each_time<
-    R: Threads + Wait + Clock + Net<Stream = TcpStream, Listener = TcpListener> + Sync,
->(rt: &R, alloc: Global, federation: &str, inputs: &str) -> bool {
-    match loaded(alloc, federation, inputs) {
-        Some(federation) => (0..5).all(|_| runs(rt, alloc, &federation)),
-        None => false,
-    }
+fn runs_each_time<R: Machine + Net<Stream = TcpStream, Listener = TcpListener>>(
+    rt: &R,
+    federation: &str,
+    inputs: &str,
+) -> Option<bool> {
+    let federation = loaded(rt.alloc(), federation, inputs)?;
+    Some((0..5).all(|_| runs(rt, &federation)))
 }
 
 #[test]
 fn has_the_undivided_rows_of_each_federate(rt: HostRuntime) {
     for (federation, inputs) in ALL {
-        assert!(rt; runs_each_time(&rt, rt.alloc(), federation, inputs));
+        assert_eq!(rt;
+            runs_each_time(&rt, federation, inputs),
+            Some(true),
+            "{federation}"
+        );
     }
 }
 
-/// Whether a run of a federation with so few turns ends unfinished.
-fn is_unfinished<
-    R: Threads + Wait + Clock + Net<Stream = TcpStream, Listener = TcpListener> + Sync,
->(rt: &R, alloc: Global, federation: &Federation, turns: u32) -> bool {
-    match ran(rt, alloc, federation, turns) {
-        Some(gathered) => !is_finished(&gathered),
-        None => false,
-    }
-}
-
-/// Whether the counter's run with so few turns does.
-fn ends_unfinished<
-    R: Threads + Wait + Clock + Net<Stream = TcpStream, Listener = TcpListener> + Sync,
->(rt: &R, alloc: Global, turns: u32) -> bool {
-    match loaded(alloc, COUNTER, "") {
-        Some(federation) => is_unfinished(rt, alloc, &federation, turns),
-        None => false,
-    }
+/// Whether the counter's run with so few turns finishes.
+fn finishes<R: Machine + Net<Stream = TcpStream, Listener = TcpListener>>(
+    rt: &R,
+    turns: u32,
+) -> Option<bool> {
+    let federation = loaded(rt.alloc(), COUNTER, "")?;
+    let gathered = ran(rt, &federation, turns)?;
+    Some(is_finished(&gathered))
 }
 
 #[test]
 fn is_not_finished_after_too_few_turns(rt: HostRuntime) {
     for turns in [0, 3] {
-        assert!(rt; ends_unfinished(&rt, rt.alloc(), turns));
+        assert_eq!(rt; finishes(&rt, turns), Some(false), "{turns} turns");
     }
 }

@@ -1,5 +1,9 @@
 //! What schedules print over the worked federations.
+use crate::federations::IDLE;
+use crate::outcome::joined;
 use crate::played::Case;
+use crate::worked_rows::{CHAIN_ROWS, COUNTER_ROWS};
+use std::test::Fail;
 use tests_samples::{CHAIN, CHAIN_INPUT, COUNTER};
 
 /// A timer of one nanosecond.
@@ -14,36 +18,15 @@ triggers = ["t"]
 body = ["n = n + 1", "out.y = n"]
 "#;
 
-/// Two federates with nothing to do.
-const IDLE: &str = r#"stop = "20 ms"
-federate = [{ name = "a" }, { name = "b" }]
-"#;
-
 const CASES: &[Case<'static>] = &[
     // A replay by rounds alone.
     Case {
         federation: COUNTER,
         inputs: "",
-        schedule: "round
-round
-round
-round
-round
-round
-round
-round
-round
-round
-",
+        schedule: "",
+        rounds: 10,
         closing: None,
-        text: "src (0, 0) [t] -> [y=1]
-src (10 ms, 0) [t] -> [y=2]
-src (20 ms, 0) [t] -> [y=3]
-snk (0, 0) [x=1] -> [total=1]
-snk (10 ms, 0) [x=2] -> [total=3]
-snk (20 ms, 0) [x=3] -> [total=6]
-end
-",
+        text: &[COUNTER_ROWS, "end\n"],
     },
     // Frames out of order and repeated.
     Case {
@@ -58,79 +41,29 @@ deliver up src 1
 deliver up src 3
 deliver up src 3
 deliver up src 4
-round
-round
-round
-round
-round
-round
-round
-round
-round
-round
 ",
+        rounds: 10,
         closing: None,
-        text: "step 5 refused 52
-src (0, 0) [t] -> [y=1]
-src (10 ms, 0) [t] -> [y=2]
-src (20 ms, 0) [t] -> [y=3]
-snk (0, 0) [x=1] -> [total=1]
-snk (10 ms, 0) [x=2] -> [total=3]
-snk (20 ms, 0) [x=3] -> [total=6]
-end
-",
+        text: &["step 5 refused 52\n", COUNTER_ROWS, "end\n"],
     },
     // A lost frame, and a new connection.
     Case {
         federation: COUNTER,
         inputs: "",
-        schedule: "announce src
-skip up src
-reconnect up src
-reconnect down src
-round
-round
-round
-round
-round
-round
-round
-round
-round
-round
-round
-round
-",
+        schedule: "announce src\nskip up src\nreconnect up src\nreconnect down src\n",
+        rounds: 12,
         closing: None,
-        text: "src (0, 0) [t] -> [y=1]
-src (10 ms, 0) [t] -> [y=2]
-src (20 ms, 0) [t] -> [y=3]
-snk (0, 0) [x=1] -> [total=1]
-snk (10 ms, 0) [x=2] -> [total=3]
-snk (20 ms, 0) [x=3] -> [total=6]
-end
-",
+        text: &[COUNTER_ROWS, "end\n"],
     },
     // A federate that forgets.
     Case {
         federation: COUNTER,
         inputs: "",
-        schedule: "round
-round
-round
-forget snk
-reconnect up snk
-round
-round
-round
-round
-round
-round
-round
-round
-",
+        schedule: "round\nround\nround\nforget snk\nreconnect up snk\n",
+        rounds: 8,
         closing: None,
-        text: "step 6 refused 51
+        text: &[
+            "step 6 refused 51
 step 6 refused 51
 step 6 refused 51
 src (0, 0) [t] -> [y=1]
@@ -139,44 +72,25 @@ src (20 ms, 0) [t] -> [y=3]
 snk forgotten
 end
 ",
+        ],
     },
     // A lost frame, sent again.
     Case {
         federation: COUNTER,
         inputs: "",
-        schedule: "announce src
-skip up src
-resend up src
-round
-round
-round
-round
-round
-round
-round
-round
-round
-round
-",
+        schedule: "announce src\nskip up src\nresend up src\n",
+        rounds: 10,
         closing: None,
-        text: "src (0, 0) [t] -> [y=1]
-src (10 ms, 0) [t] -> [y=2]
-src (20 ms, 0) [t] -> [y=3]
-snk (0, 0) [x=1] -> [total=1]
-snk (10 ms, 0) [x=2] -> [total=3]
-snk (20 ms, 0) [x=3] -> [total=6]
-end
-",
+        text: &[COUNTER_ROWS, "end\n"],
     },
     // A frame that was never sent.
     Case {
         federation: COUNTER,
         inputs: "",
-        schedule: "deliver up src 9
-",
+        schedule: "deliver up src 9\n",
+        rounds: 0,
         closing: None,
-        text: "end
-",
+        text: &["end\n"],
     },
     // Frames that rounds leave out. Line 2 sends src an Ack and a TAG, and line 3 skips both. Line 4 brings the NET of src once more,
     // for which another Ack is sent, and brings src that Ack alone. Line 5 brings nothing. Only line 6 brings the TAG. In line 7 src
@@ -184,113 +98,35 @@ end
     Case {
         federation: COUNTER,
         inputs: "",
-        schedule: "announce src
-deliver up src 1
-skip down src
-round
-round
-deliver down src 2
-round
-",
+        schedule: "announce src\ndeliver up src 1\nskip down src\nround\nround\ndeliver down src 2\n",
+        rounds: 1,
         closing: None,
-        text: "src (0, 0) [t] -> [y=1]
-end
-",
+        text: &["src (0, 0) [t] -> [y=1]\nend\n"],
     },
     // The same without the line that skips: line 3 brings the TAG, src runs a tag in each of the rounds after it (lines 4 and 6), and
     // snk its first one in line 6, after it was granted that in line 4.
     Case {
         federation: COUNTER,
         inputs: "",
-        schedule: "announce src
-deliver up src 1
-round
-round
-deliver down src 2
-round
-",
+        schedule: "announce src\ndeliver up src 1\nround\nround\ndeliver down src 2\n",
+        rounds: 1,
         closing: None,
-        text: "src (0, 0) [t] -> [y=1]
+        text: &[
+            "src (0, 0) [t] -> [y=1]
 src (10 ms, 0) [t] -> [y=2]
 snk (0, 0) [x=1] -> [total=1]
 end
 ",
+        ],
     },
     // Three federates in a chain.
     Case {
         federation: CHAIN,
         inputs: CHAIN_INPUT,
-        schedule: "round
-round
-round
-round
-round
-round
-round
-round
-round
-round
-round
-round
-round
-round
-round
-round
-round
-round
-round
-round
-round
-round
-round
-round
-round
-round
-round
-round
-round
-round
-round
-round
-round
-round
-round
-round
-round
-round
-round
-round
-round
-round
-round
-round
-round
-round
-round
-round
-round
-round
-round
-round
-round
-round
-round
-round
-round
-round
-round
-round
-",
+        schedule: "",
+        rounds: 60,
         closing: None,
-        text: "a (10 ms, 0) [t] -> [y=1]
-b (10 ms, 0) [x=1] -> []
-b (15 ms, 0) [act=7] -> [z=7]
-b (100 ms, 0) [p=9] -> [z=9]
-c (15 ms, 0) [w=7] -> [o=7]
-c (50 ms, 0) [t] -> [o=-1]
-c (100 ms, 0) [w=9] -> [o=9]
-end
-",
+        text: &[CHAIN_ROWS, "end\n"],
     },
     // A federate ahead of the others.
     Case {
@@ -314,174 +150,87 @@ announce c
 deliver up c 1
 deliver down c 2
 advance c
-round
-round
-round
-round
-round
-round
-round
-round
-round
-round
-round
-round
-round
-round
-round
-round
-round
-round
-round
-round
-round
-round
-round
-round
-round
-round
-round
-round
-round
-round
-round
-round
-round
-round
-round
-round
-round
-round
-round
-round
-round
-round
-round
-round
-round
-round
-round
-round
-round
-round
-round
-round
-round
-round
-round
-round
-round
-round
-round
-round
 ",
+        rounds: 60,
         closing: None,
-        text: "a (10 ms, 0) [t] -> [y=1]
-b (10 ms, 0) [x=1] -> []
-b (15 ms, 0) [act=7] -> [z=7]
-b (100 ms, 0) [p=9] -> [z=9]
-c (15 ms, 0) [w=7] -> [o=7]
-c (50 ms, 0) [t] -> [o=-1]
-c (100 ms, 0) [w=9] -> [o=9]
-end
-",
+        text: &[CHAIN_ROWS, "end\n"],
     },
     // A timer of one nanosecond.
     Case {
         federation: TICKS,
         inputs: "",
-        schedule: "round
-round
-round
-round
-round
-round
-",
+        schedule: "",
+        rounds: 6,
         closing: None,
-        text: "one (0, 0) [t] -> [y=1]
+        text: &[
+            "one (0, 0) [t] -> [y=1]
 one (1 ns, 0) [t] -> [y=2]
 one (2 ns, 0) [t] -> [y=3]
 one (3 ns, 0) [t] -> [y=4]
 one (4 ns, 0) [t] -> [y=5]
 end
 ",
+        ],
     },
     // Rounds until it is stuck.
     Case {
         federation: COUNTER,
         inputs: "",
         schedule: "",
+        rounds: 0,
         closing: Some(20),
-        text: "stuck
-src (0, 0) [t] -> [y=1]
-src (10 ms, 0) [t] -> [y=2]
-src (20 ms, 0) [t] -> [y=3]
-snk (0, 0) [x=1] -> [total=1]
-snk (10 ms, 0) [x=2] -> [total=3]
-snk (20 ms, 0) [x=3] -> [total=6]
-end
-",
+        text: &["stuck\n", COUNTER_ROWS, "end\n"],
     },
     // Too few rounds.
     Case {
         federation: COUNTER,
         inputs: "",
         schedule: "",
+        rounds: 0,
         closing: Some(2),
-        text: "stopped at 2 rounds
-src (0, 0) [t] -> [y=1]
-end
-",
+        text: &["stopped at 2 rounds\nsrc (0, 0) [t] -> [y=1]\nend\n"],
     },
     // A lost frame, and rounds until it is stuck.
     Case {
         federation: COUNTER,
         inputs: "",
-        schedule: "announce src
-skip up src
-",
+        schedule: "announce src\nskip up src\n",
+        rounds: 0,
         closing: Some(20),
-        text: "stuck
-src (0, 0) [t] -> [y=1]
-src (10 ms, 0) [t] -> [y=2]
-src (20 ms, 0) [t] -> [y=3]
-snk (0, 0) [x=1] -> [total=1]
-snk (10 ms, 0) [x=2] -> [total=3]
-snk (20 ms, 0) [x=3] -> [total=6]
-end
-",
+        text: &["stuck\n", COUNTER_ROWS, "end\n"],
     },
     // Nothing to do.
     Case {
         federation: IDLE,
         inputs: "",
         schedule: "",
+        rounds: 0,
         closing: Some(20),
-        text: "stuck
-end
-",
+        text: &["stuck\nend\n"],
     },
     // A new incarnation.
     Case {
         federation: COUNTER,
         inputs: "",
-        schedule: "announce snk
-deliver up snk 1
-forget snk
-reconnect up snk
-deliver up snk 2
-",
+        schedule: "announce snk\ndeliver up snk 1\nforget snk\nreconnect up snk\ndeliver up snk 2\n",
+        rounds: 0,
         closing: None,
-        text: "step 5 refused 51
-snk forgotten
-end
-",
+        text: &["step 5 refused 51\nsnk forgotten\nend\n"],
     },
 ];
 
 #[test]
-fn prints_the_rows_of_worked_schedules(rt: HostRuntime) {
+fn prints_the_rows_of_worked_schedules(rt: HostRuntime) -> Result<(), Fail> {
     for case in CASES {
-        assert!(rt; case.prints(rt.alloc()), "{}", case.schedule);
+        let printed = case.printed(rt.alloc()).ok_or("not taken")?;
+        let text = joined(rt.alloc(), case.text).ok_or("memory")?;
+        assert_eq!(rt;
+            printed.as_str(),
+            text.as_str(),
+            "{:?}, {} rounds",
+            case.schedule,
+            case.rounds
+        );
     }
+    Ok(())
 }

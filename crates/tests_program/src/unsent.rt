@@ -53,7 +53,7 @@ fn report(alloc: Global) -> Option<Report> {
     })
 }
 
-/// What is told of such journals: each frame answers the other.
+/// What is printed of such journals: each frame answers the other.
 fn told_at(alloc: Global, federation: &Federation) -> Option<Unproved> {
     let next = first(Signal::Net(Tag::new(Time::zero(), 0)));
     let coordinator = journal(alloc, &[next])?;

@@ -1,13 +1,11 @@
 //! Writers that refuse.
-use crate::outcome::{given, joined};
+use crate::machine::Machine;
+use crate::outcome::{given, text};
 use crate::two_files::TwoFiles;
 use fedrun_commands::command;
 use std::io;
 use std::io::Write;
 use std::net::{Net, TcpListener, TcpStream};
-use std::sync::Wait;
-use std::thread::Threads;
-use std::time::Clock;
 use tests_samples::COUNTER;
 
 /// A writer that takes so many bytes, and then refuses.
@@ -53,56 +51,45 @@ const CHECK: &[&str] = &["check", "fed.toml"];
 
 const RUN: &[&str] = &["run", "fed.toml", "-"];
 
-/// Whether a command whose rows can't be written tells so.
-fn tells_cannot_write<
-    R: AllocGlobal
-        + Threads
-        + Wait
-        + Clock
-        + Net<Stream = TcpStream, Listener = TcpListener>
-        + Sync,
-    O: Write,
->(rt: &R, words: &[&str], out: &mut O) -> Option<bool> {
-    let alloc = rt.alloc();
-    let words = given(alloc, words)?;
-    let federation = joined(alloc, &[COUNTER])?;
-    let mut files = TwoFiles::new(alloc, federation.as_str(), "");
-    let mut err = Vec::new(alloc);
-    let status = command(rt, words.as_slice(), &mut files, out, &mut err);
-    Some(status == 3 && err.as_slice() == b"fedrun: cannot write\n".as_slice())
+/// What a command answers over a federation, into these writers.
+fn status<R: Machine + Net<Stream = TcpStream, Listener = TcpListener>, O: Write, E: Write>(
+    rt: &R,
+    words: &[&str],
+    federation: &str,
+    out: &mut O,
+    err: &mut E,
+) -> Option<u8> {
+    let words = given(rt.alloc(), words)?;
+    let mut files = TwoFiles::new(rt.alloc(), federation, "");
+    Some(command(rt, words.as_slice(), &mut files, out, err))
+}
+
+/// A command whose rows can't be written says so.
+fn assert_cannot_write<R: Machine + Net<Stream = TcpStream, Listener = TcpListener>, O: Write>(
+    rt: &R,
+    words: &[&str],
+    out: &mut O,
+) {
+    let mut err = Vec::new(rt.alloc());
+    let status = status(rt, words, COUNTER, out, &mut err);
+    let wanted = (Some(3), "fedrun: cannot write\n");
+    assert_eq!(rt; (status, text(&err)), wanted, "{words:?}");
 }
 
 #[test]
 fn prints_that_it_cannot_write(rt: HostRuntime) {
     for words in [WHOLE, REPLAY, CHECK, RUN] {
         for room in [0, 1, 40] {
-            assert_eq!(rt;
-                tells_cannot_write(&rt, words, &mut Narrow { room }),
-                Some(true)
-            );
+            assert_cannot_write(&rt, words, &mut Narrow { room });
         }
-        assert_eq!(rt; tells_cannot_write(&rt, words, &mut Unflushed), Some(true));
+        assert_cannot_write(&rt, words, &mut Unflushed);
     }
 }
 
-/// The status of a refused file, where its line can't be written.
-fn untold<
-    R: AllocGlobal
-        + Threads
-        + Wait
-        + Clock
-        + Net<Stream = TcpStream, Listener = TcpListener>
-        + Sync,
->(rt: &R) -> Option<u8> {
-    let alloc = rt.alloc();
-    let words = given(alloc, &["check", "fed.toml"])?;
-    let mut files = TwoFiles::new(alloc, "", "");
-    let mut out = Vec::new(alloc);
-    let mut err = Narrow { room: 3 };
-    Some(command(rt, words.as_slice(), &mut files, &mut out, &mut err))
-}
-
+/// The file of the federation is empty.
 #[test]
 fn answers_the_same_where_the_line_cannot_be_written(rt: HostRuntime) {
-    assert_eq!(rt; untold(&rt), Some(1));
+    let mut out = Vec::new(rt.alloc());
+    let status = status(&rt, CHECK, "", &mut out, &mut Narrow { room: 3 });
+    assert_eq!(rt; status, Some(1));
 }

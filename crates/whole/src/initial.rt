@@ -23,7 +23,7 @@ pub fn initial_agendas(alloc: Global, plan: &Plan) -> Result<Vec<Agenda>, Memory
             Ok(agenda) => agenda,
             Err(_) => return Err(Memory),
         };
-        // For the prover: what is undone is in order, up to stop.
+        // For the prover: what is pending is in order, up to stop.
         agenda.invariant();
         agendas.push(agenda)?;
     }
@@ -65,7 +65,7 @@ fn put_input(
     let agenda = &mut agendas[federate];
     match agenda.put_all(events.as_slice()) {
         Ok(_put) => {
-            // For the prover: what is undone is in order, up to stop.
+            // For the prover: what is pending is in order, up to stop.
             agenda.invariant();
             Ok(())
         }

@@ -22,7 +22,7 @@ use std::alloc::Global;
 use std::marker::Model;
 use tag::Tag;
 
-/// What is undone of each federate. Contracts see the federation, and what is undone of each.
+/// What is pending of each federate. Contracts see the federation, and what is pending of each.
 #[derive(Drop)]
 pub struct Schedule<'p> {
     plan: &'p Plan,
@@ -50,10 +50,10 @@ impl<'p> Model for Schedule<'p> {
 impl<'p> Schedule<'p> {
     ghost use Rattle.whole.specs.Schedule.{undone_of, initial_undone, IsFirstDue, IsAfterTurn};
 
-    /// What comes from outside is undone, up to stop.
+    /// What comes from outside is pending, up to stop.
     pub fn new(alloc: Global, plan: &'p Plan, inputs: &Inputs) -> Result<Schedule<'p>, Memory>
         ensures draft { IfOk result (λ schedule. schedule.draft ≡ plan.now) }
-        ensures undone { IfOk result (λ schedule. (federate : ℕ) (tag : LogicalTime) (slot : ℕ) → federate < federate_count plan.now → look (undone_of schedule federate) tag slot ≡ look (initial_undone plan.now inputs.now federate) tag slot) }
+        ensures pending { IfOk result (λ schedule. (federate : ℕ) (tag : LogicalTime) (slot : ℕ) → federate < federate_count plan.now → look (undone_of schedule federate) tag slot ≡ look (initial_undone plan.now inputs.now federate) tag slot) }
     {
         plan.invariant();
         let mut agendas = initial_agendas(alloc, plan)?;
@@ -69,7 +69,7 @@ impl<'p> Schedule<'p> {
         })
     }
 
-    /// The turn of the least (tag, rank); None where nothing is undone.
+    /// The turn of the least (tag, rank); None where nothing is pending.
     pub fn first(&self) -> Option<Next>
         ensures { IsFirstDue self.now result }
     {

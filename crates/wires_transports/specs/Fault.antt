@@ -1,6 +1,6 @@
 -- How a connection's refusals are printed.
 use Rattle.std.specs.Prelude.{ℕ, List, codes}
-use Rattle.signal.specs.Fault.{told}
+use Rattle.signal.specs.Fault.{printed_fault}
 
 -- the number of a call that failed
 abbrev pub broken_number : ℕ
@@ -8,4 +8,4 @@ broken_number = 95
 
 -- what is printed of it
 abbrev pub broken_text : List ℕ
-broken_text = told broken_number (codes "Broken")
+broken_text = printed_fault broken_number (codes "Broken")

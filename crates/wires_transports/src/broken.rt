@@ -9,7 +9,7 @@ pub struct Broken;
 impl Broken {
     ghost use Rattle.wires_transports.specs.Fault.{broken_number};
 
-    /// The number by which it is told.
+    /// The number by which it is printed.
     pub const fn number(self) -> u16
         ensures { result ≡ broken_number }
     {

@@ -25,7 +25,7 @@ impl Failures {
         Failures { count: 0 }
     }
 
-    /// Counts a call that failed. After 2^64 - 1 of them no more is told: the call answers this instead.
+    /// Counts a call that failed. After 2^64 - 1 of them no more is counted: the call answers this instead.
     pub fn tell<T: Drop>(&mut self, untold: T) -> Result<T, Broken>
         ensures counted { OnErr result (self.old < self.new) }
         ensures untold { IfOk result (λ answer. answer ≡ untold) }

@@ -3,14 +3,14 @@ ghost use Rattle.std.specs.Prelude.{◌≡◌};
 use std::alloc::{AllocError, AllocFailed};
 use std::fmt;
 
-/// No memory was to be had for a connection: there is none. It is told as out of memory for bytes.
+/// No memory was to be had for a connection: there is none. It is printed as out of memory for bytes.
 #[derive(Clone, Copy, Debug, PartialEq, Eq)]
 pub struct Memory;
 
 impl Memory {
     ghost use Rattle.signal.specs.Fault.{memory_number};
 
-    /// The number by which it is told.
+    /// The number by which it is printed.
     pub const fn number(self) -> u16
         ensures { result ≡ memory_number }
     {

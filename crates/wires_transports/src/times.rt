@@ -20,3 +20,6 @@ pub const SILENCE_MS: u32 = 5000;
 
 /// So long the readers have, once the run is to end, to read what was sent.
 pub const END_MS: u32 = 1000;
+
+/// How long an audit beside a run leaves its nodes alone where nothing new was written down.
+pub const AUDIT_PAUSE_MS: u64 = 1;

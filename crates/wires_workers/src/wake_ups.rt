@@ -5,7 +5,7 @@ use std::sync::atomic::{AtomicBool, Ordering};
 use std::time::{Clock, Duration};
 use wires_transports::times::RUNNER_WAIT_MS;
 
-/// What a runner is told.
+/// What a runner is notified of.
 #[derive(Clone, Copy, Debug, PartialEq, Eq)]
 pub enum WakeUp {
     /// An event of its node did something.
@@ -23,12 +23,12 @@ pub(crate) struct Waited {
     pub failed: u32,
 }
 
-/// The wake-ups of a node's workers to its runner. However much is done, a `Done` that waits is not told again.
+/// The wake-ups of a node's workers to its runner. However much is done, a `Done` that waits is not sent again.
 #[derive(Drop)]
 pub struct WakeUps {
     sender: Sender<WakeUp>,
     receiver: Receiver<WakeUp>,
-    // Whether `Done` was told since the runner last took what was waiting.
+    // Whether `Done` was sent since the runner last took what was waiting.
     is_done_told: AtomicBool,
 }
 
@@ -43,7 +43,7 @@ impl WakeUps {
         })
     }
 
-    /// Tells the runner. Where there is no memory for it, it isn't told.
+    /// Notifies the runner. Where there is no memory for it, it isn't notified.
     pub fn tell<R: Wait>(&self, rt: &R, wake_up: WakeUp) {
         if wake_up == WakeUp::NotConnected || !self.is_done_told.swap(true, Ordering::SeqCst) {
             let _ = self.sender.send(rt, wake_up);

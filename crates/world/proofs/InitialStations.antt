@@ -30,20 +30,20 @@ none_sent : (count : ℕ) (federates : List (Station FederateNode)) → length f
 none_sent count federates is = splat_is_map (range_with_len 0 count) (length federates) [] (length-range_with_len 0 count ∙ sym is)
 
 -- stations as they are made, which have sent nothing
-pub opens : (d : Draft) (programs : List Behaviour) (inputs : List Input) (hub : Station CoordinatorNode) (members : List (Station FederateNode)) →
-    hub ≡ new_coordinator d → members ≡ new_federates d programs inputs (federate_count d) → unused hub members ≡ initial_world d programs inputs
-opens d programs inputs hub members hub_is are =
+pub opens : (d : Draft) (programs : List Behaviour) (inputs : List Input) (coordinator : Station CoordinatorNode) (members : List (Station FederateNode)) →
+    coordinator ≡ new_coordinator d → members ≡ new_federates d programs inputs (federate_count d) → unused coordinator members ≡ initial_world d programs inputs
+opens d programs inputs coordinator members coordinator_is are =
     let count = federate_count d in
     let many : length members ≡ count = ap length are ∙ length-map-range_with_len (new_federate d programs inputs) 0 count in
     let none = none_sent count members many in
-    rw (none, hub_is, are) refl
+    rw (none, coordinator_is, are) refl
 
 -- a world before the first step
-pub made_first : {d : Draft} {programs : List Behaviour} {inputs : List Input} {hub : Station CoordinatorNode} {members : List (Station FederateNode)} {w : Federation} →
-    IsLegal d → AreProgramsOf d programs → AreInputsOf d inputs → hub ≡ new_coordinator d → members ≡ new_federates d programs inputs (federate_count d) → w ≡ unused hub members →
+pub made_first : {d : Draft} {programs : List Behaviour} {inputs : List Input} {coordinator : Station CoordinatorNode} {members : List (Station FederateNode)} {w : Federation} →
+    IsLegal d → AreProgramsOf d programs → AreInputsOf d inputs → coordinator ≡ new_coordinator d → members ≡ new_federates d programs inputs (federate_count d) → w ≡ unused coordinator members →
     IsMade d programs inputs w Bool.false
-made_first {d} {programs} {inputs} {hub} {members} {w} legal fit given hub_is are is =
-    let opened : w ≡ initial_world d programs inputs = is ∙ opens d programs inputs hub members hub_is are in
+made_first {d} {programs} {inputs} {coordinator} {members} {w} legal fit given coordinator_is are is =
+    let opened : w ≡ initial_world d programs inputs = is ∙ opens d programs inputs coordinator members coordinator_is are in
     record {
       legal = legal;
       programs_fit = fit;

@@ -92,7 +92,7 @@ impl<'a> World<'a> {
     /// step may come again.
     pub fn apply(&mut self, step: Step) -> Result<Outcome, Memory>
         ensures done { OnOk result (self.new ≡ with_step self.old step) }
-        ensures told { IfOk result (λ outcome. outcome ≡ (step_in (stations_of self.old) step).outcome) }
+        ensures outcome { IfOk result (λ outcome. outcome ≡ (step_in (stations_of self.old) step).outcome) }
         ensures plain { IfOk result IsPlain }
         ensures unchanged { OnErr result (self.new ≡ self.old) }
         ensures faithful { IsFaithful self.new }

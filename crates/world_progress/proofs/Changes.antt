@@ -10,8 +10,8 @@ use Rattle.signal.specs.declared.signal.Signal.TheVariants.{Net, Ltc, Tag, Msg}
 use Rattle.protocol.specs.declared.post.Post.{Post}
 use Rattle.protocol.specs.declared.refusal.Refusal.TheVariants.{NotYours, BelowGrant, NotRising, AfterStop}
 use Rattle.protocol.specs.Outcome.{IfDone}
-use Rattle.protocol.specs.Standing.{Standing, after_message, after_net, after_ltc}
-use Rattle.protocol.specs.Coordinator.{Coordinated, with_standing, noted, route, coordinator_takes}
+use Rattle.protocol.specs.FederateRecord.{FederateRecord, after_message, after_net, after_ltc}
+use Rattle.protocol.specs.Coordinator.{Coordinated, with_federate_record, noted, route, coordinator_takes}
 use Rattle.protocol.specs.Machine.{sent_to}
 use Rattle.world_progress.specs.Worth.{worth_up, worth_down, all_worth, ungranted}
 use Rattle.world_progress.proofs.Sums.{where_so, at_one}
@@ -19,32 +19,32 @@ use Rattle.world_progress.proofs.Outcomes.{refused_or}
 use Rattle.world_progress.proofs.CoordinatorCosts.{net_costs, message_costs}
 
 -- at each federate so much more may come of it than before
-abbrev pub Changes : (ℕ → Standing) → Coordinated → (ℕ → ℕ) → Type 0
-Changes standings made more = (j : ℕ) → ungranted (made.after j) + all_worth worth_down (sent_to j made.sent) ≤ ungranted (standings j) + more j
+abbrev pub Changes : (ℕ → FederateRecord) → Coordinated → (ℕ → ℕ) → Type 0
+Changes federate_records made more = (j : ℕ) → ungranted (made.after j) + all_worth worth_down (sent_to j made.sent) ≤ ungranted (federate_records j) + more j
 
 -- more comes of it at one federate alone, and that is 2 less than the signal was worth; and nobody is sent two signals
-pub record IsChange (standings : ℕ → Standing) (signal : Signal) (made : Coordinated) : Type 0 where
+pub record IsChange (federate_records : ℕ → FederateRecord) (signal : Signal) (made : Coordinated) : Type 0 where
   pub where_at : ℕ
   pub most : ℕ
-  pub changes : Changes standings made (at_one where_at most)
+  pub changes : Changes federate_records made (at_one where_at most)
   pub worth : worth_up signal ≡ most + 2
   pub few : (j : ℕ) → length (sent_to j made.sent) ≤ 1
 
--- a NET and an LTC change one standing
-noted_if : (mine other : Standing) (k : ℕ) (b : Bool) → (b ≡ true → ungranted mine ≤ ungranted other + k) → ungranted (if b then mine else other) + 0 ≤ ungranted other + where_so b k
+-- a NET and an LTC change one record
+noted_if : (mine other : FederateRecord) (k : ℕ) (b : Bool) → (b ≡ true → ungranted mine ≤ ungranted other + k) → ungranted (if b then mine else other) + 0 ≤ ungranted other + where_so b k
 noted_if mine other k true h = let l = h refl in omega arith
 noted_if mine other k false h = omega arith
 
-noted_changes : (standings : ℕ → Standing) (i : ℕ) (mine : Standing) (k : ℕ) → ungranted mine ≤ ungranted (standings i) + k → Changes standings (noted standings i mine) (at_one i k)
-noted_changes standings i mine k h j =
-    let P : ℕ → Type 0 = λ x. ungranted mine ≤ ungranted (standings x) + k in
-    noted_if mine (standings j) k (nat_eq j i) (λ e. subst P (sym (eqb-true j i e)) h)
+noted_changes : (federate_records : ℕ → FederateRecord) (i : ℕ) (mine : FederateRecord) (k : ℕ) → ungranted mine ≤ ungranted (federate_records i) + k → Changes federate_records (noted federate_records i mine) (at_one i k)
+noted_changes federate_records i mine k h j =
+    let P : ℕ → Type 0 = λ x. ungranted mine ≤ ungranted (federate_records x) + k in
+    noted_if mine (federate_records j) k (nat_eq j i) (λ e. subst P (sym (eqb-true j i e)) h)
 
-noted_change : (standings : ℕ → Standing) (i : ℕ) (mine : Standing) (signal : Signal) (k : ℕ) → ungranted mine ≤ ungranted (standings i) + k → worth_up signal ≡ k + 2 → IsChange standings signal (noted standings i mine)
-noted_change standings i mine signal k h worth = record { where_at = i; most = k; changes = noted_changes standings i mine k h; worth = worth; few = λ j. omega arith }
+noted_change : (federate_records : ℕ → FederateRecord) (i : ℕ) (mine : FederateRecord) (signal : Signal) (k : ℕ) → ungranted mine ≤ ungranted (federate_records i) + k → worth_up signal ≡ k + 2 → IsChange federate_records signal (noted federate_records i mine)
+noted_change federate_records i mine signal k h worth = record { where_at = i; most = k; changes = noted_changes federate_records i mine k h; worth = worth; few = λ j. omega arith }
 
 -- a message goes on to one federate
-routed_if : (mine other : Standing) (target number : ℕ) (tag : LogicalTime) (value : ℤ) (b : Bool) → (b ≡ true → ungranted mine ≤ ungranted other)
+routed_if : (mine other : FederateRecord) (target number : ℕ) (tag : LogicalTime) (value : ℤ) (b : Bool) → (b ≡ true → ungranted mine ≤ ungranted other)
     → ungranted (if b then mine else other) + all_worth worth_down (map (λ (p : Post). p.signal) (cond b (record { peer = target; signal = Msg number tag value } ∷ []) [])) ≤ ungranted other + where_so b 7
 routed_if mine other target number tag value true h = let l = h refl in omega arith
 routed_if mine other target number tag value false h = omega arith
@@ -53,33 +53,33 @@ one_if : (target number : ℕ) (tag : LogicalTime) (value : ℤ) (b : Bool) → 
 one_if target number tag value true = omega arith
 one_if target number tag value false = omega arith
 
-route_changes : (standings : ℕ → Standing) (target number : ℕ) (tag : LogicalTime) (value : ℤ) → is_past (standings target).granted tag ≡ true
-    → Changes standings (record { after = with_standing standings target (after_message (standings target) tag); sent = record { peer = target; signal = Msg number tag value } ∷ [] }) (at_one target 7)
-route_changes standings target number tag value past j =
-    let P : ℕ → Type 0 = λ x. ungranted (after_message (standings target) tag) ≤ ungranted (standings x) in
-    routed_if (after_message (standings target) tag) (standings j) target number tag value (nat_eq j target) (λ e. subst P (sym (eqb-true j target e)) (message_costs (standings target) tag past))
+route_changes : (federate_records : ℕ → FederateRecord) (target number : ℕ) (tag : LogicalTime) (value : ℤ) → is_past (federate_records target).granted tag ≡ true
+    → Changes federate_records (record { after = with_federate_record federate_records target (after_message (federate_records target) tag); sent = record { peer = target; signal = Msg number tag value } ∷ [] }) (at_one target 7)
+route_changes federate_records target number tag value past j =
+    let P : ℕ → Type 0 = λ x. ungranted (after_message (federate_records target) tag) ≤ ungranted (federate_records x) in
+    routed_if (after_message (federate_records target) tag) (federate_records j) target number tag value (nat_eq j target) (λ e. subst P (sym (eqb-true j target e)) (message_costs (federate_records target) tag past))
 
-route_change : (n : Network) (standings : ℕ → Standing) (i number : ℕ) (tag : LogicalTime) (value : ℤ) (o : Option Connection) → IfDone (route n standings i (Msg number tag value) o tag) (IsChange standings (Msg number tag value))
-route_change n standings i number tag value None = tt
-route_change n standings i number tag value (Some c) =
-    let P : Coordinated → Type 0 = IsChange standings (Msg number tag value) in
+route_change : (n : Network) (federate_records : ℕ → FederateRecord) (i number : ℕ) (tag : LogicalTime) (value : ℤ) (o : Option Connection) → IfDone (route n federate_records i (Msg number tag value) o tag) (IsChange federate_records (Msg number tag value))
+route_change n federate_records i number tag value None = tt
+route_change n federate_records i number tag value (Some c) =
+    let P : Coordinated → Type 0 = IsChange federate_records (Msg number tag value) in
     refused_or P (nat_eq c.source i) NotYours _ (λ mine. refused_or P (is_at_most tag n.stop) AfterStop _
-    (λ in_time. refused_or P (is_past (standings c.target).granted tag) BelowGrant _ (λ past. record {
+    (λ in_time. refused_or P (is_past (federate_records c.target).granted tag) BelowGrant _ (λ past. record {
       where_at = c.target;
       most = 7;
-      changes = route_changes standings c.target number tag value past;
+      changes = route_changes federate_records c.target number tag value past;
       worth = refl;
       few = λ j. one_if c.target number tag value (nat_eq j c.target);
     })))
 
-pub change_of : (n : Network) (standings : ℕ → Standing) (i : ℕ) (signal : Signal) → IfDone (coordinator_takes n standings i signal) (IsChange standings signal)
-change_of n standings i (Net tag) =
-    let P : Coordinated → Type 0 = IsChange standings (Net tag) in
-    refused_or P (is_at_most tag n.stop || is_same tag forever) AfterStop _ (λ in_time. refused_or P (is_past (standings i).completed tag) NotRising _
-    (λ rising. noted_change standings i (after_net (standings i) tag) (Net tag) 2 (net_costs (standings i) tag) refl))
-change_of n standings i (Ltc tag) =
-    let P : Coordinated → Type 0 = IsChange standings (Ltc tag) in
-    refused_or P (is_at_most tag n.stop) AfterStop _ (λ in_time. refused_or P (is_past (standings i).completed tag) NotRising _
-    (λ rising. noted_change standings i (after_ltc (standings i) tag) (Ltc tag) 0 (omega arith) refl))
-change_of n standings i (Tag tag) = tt
-change_of n standings i (Msg number tag value) = route_change n standings i number tag value (slice_get n.connections number)
+pub change_of : (n : Network) (federate_records : ℕ → FederateRecord) (i : ℕ) (signal : Signal) → IfDone (coordinator_takes n federate_records i signal) (IsChange federate_records signal)
+change_of n federate_records i (Net tag) =
+    let P : Coordinated → Type 0 = IsChange federate_records (Net tag) in
+    refused_or P (is_at_most tag n.stop || is_same tag forever) AfterStop _ (λ in_time. refused_or P (is_past (federate_records i).completed tag) NotRising _
+    (λ rising. noted_change federate_records i (after_net (federate_records i) tag) (Net tag) 2 (net_costs (federate_records i) tag) refl))
+change_of n federate_records i (Ltc tag) =
+    let P : Coordinated → Type 0 = IsChange federate_records (Ltc tag) in
+    refused_or P (is_at_most tag n.stop) AfterStop _ (λ in_time. refused_or P (is_past (federate_records i).completed tag) NotRising _
+    (λ rising. noted_change federate_records i (after_ltc (federate_records i) tag) (Ltc tag) 0 (omega arith) refl))
+change_of n federate_records i (Tag tag) = tt
+change_of n federate_records i (Msg number tag value) = route_change n federate_records i number tag value (slice_get n.connections number)

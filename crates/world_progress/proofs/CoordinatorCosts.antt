@@ -3,7 +3,7 @@ use Rattle.std.proofs.Common.{◌≡◌, ◌+◌, ◌≤◌, Bool, true, false, 
 use Rattle.std.proofs.lemmas.Bool.Decides.{nat_tests}
 use Rattle.tag.specs.LogicalTime.{LogicalTime, is_at_most, is_past, lesser}
 use Rattle.tag.proofs.Order.{not_before}
-use Rattle.protocol.specs.Standing.{Standing, after_message, after_net, after_grant}
+use Rattle.protocol.specs.FederateRecord.{FederateRecord, after_message, after_net, after_grant}
 use Rattle.protocol_laws.proofs.Safety.{tag_if}
 use Rattle.world_progress.specs.Worth.{worth_down, all_worth, ungranted}
 use Rattle.world_progress.proofs.Sums.{where_so}
@@ -17,7 +17,7 @@ ungranted_falls true c h = ungranted_at_most c
 ungranted_falls false c h = let same : where_so c 2 ≡ 0 = ap (λ (x : Bool). where_so x 2) (h refl) in omega arith
 
 -- a TAG that goes out is no more than one that might
-pub grant_costs : (s : Standing) (o : Option LogicalTime) → ((tag : LogicalTime) → o ≡ Some tag → IsTrue (is_past s.granted s.next) × IsTrue (is_at_most s.next tag)) → ungranted (after_grant s o) + all_worth worth_down (tag_if o) ≤ ungranted s
+pub grant_costs : (s : FederateRecord) (o : Option LogicalTime) → ((tag : LogicalTime) → o ≡ Some tag → IsTrue (is_past s.granted s.next) × IsTrue (is_at_most s.next tag)) → ungranted (after_grant s o) + all_worth worth_down (tag_if o) ≤ ungranted s
 grant_costs s None h = omega arith
 grant_costs s (Some tag) h =
     let is = h tag refl in
@@ -26,7 +26,7 @@ grant_costs s (Some tag) h =
     omega arith
 
 -- a NET may call for one more TAG
-pub net_costs : (s : Standing) (tag : LogicalTime) → ungranted (after_net s tag) ≤ ungranted s + 2
+pub net_costs : (s : FederateRecord) (tag : LogicalTime) → ungranted (after_net s tag) ≤ ungranted s + 2
 net_costs s tag = let most = ungranted_at_most (is_past (after_net s tag).granted (after_net s tag).next) in omega arith
 
 -- a message past what was granted calls for none
@@ -34,5 +34,5 @@ still_granted : (granted : Option LogicalTime) (next tag : LogicalTime) → is_p
 still_granted None next tag p q = cc
 still_granted (Some k) next tag p q = grind (arith, nat_tests)
 
-pub message_costs : (s : Standing) (tag : LogicalTime) → is_past s.granted tag ≡ true → ungranted (after_message s tag) ≤ ungranted s
+pub message_costs : (s : FederateRecord) (tag : LogicalTime) → is_past s.granted tag ≡ true → ungranted (after_message s tag) ≤ ungranted s
 message_costs s tag past = ungranted_falls (is_past s.granted s.next) (is_past s.granted (lesser s.next tag)) (still_granted s.granted s.next tag past)

@@ -8,10 +8,10 @@ use Rattle.network.specs.Tables.{Table}
 use Rattle.signal.specs.declared.signal.Signal.{Signal}
 use Rattle.protocol.specs.Outcome.{Outcome, Refused, Nothing, Done, with_made, IfDone}
 use Rattle.protocol.specs.Federate.{Federate}
-use Rattle.protocol.specs.Standing.{Standing, after_grant}
+use Rattle.protocol.specs.FederateRecord.{FederateRecord, after_grant}
 use Rattle.protocol.specs.Grant.{Rule}
 use Rattle.protocol.specs.Coordinator.{Coordinated, coordinator_takes, grant_to, grants_from, with_grants, coordinator_accepts}
-use Rattle.protocol.specs.Machine.{Member, with_member, standings_of, sent_to, coordinated, coordinator_takes_from}
+use Rattle.protocol.specs.Machine.{Member, with_member, federate_records_of, sent_to, coordinated, coordinator_takes_from}
 use Rattle.protocol_laws.proofs.Safety.{Goes, tag_if, sent-append, grants_sent, rule_grants}
 use Rattle.protocol_laws.proofs.Settled.{next_same}
 use Rattle.world_progress.specs.Fuel.{rows_of_part, turn_worth}
@@ -26,11 +26,11 @@ use Rattle.world_progress.proofs.Changes.{Changes, IsChange, change_of}
 abbrev pub CostsSo : Network → (cost : ℕ) → (ℕ → Member) → Outcome (ℕ → Member) → Type 0
 CostsSo n cost members o = IfDone o (λ after. left_of n after + cost ≤ left_of n members)
 
--- one member: it may have another standing, fewer signals up and more down
-member_costs : (n : Network) (i rows : ℕ) (m before : Member) (s : Standing) (o : Option LogicalTime) (sent down : List Signal) (c d : ℕ) → m.federate ≡ before.federate → m.down ≡ before.down → all_worth worth_up m.up + c ≡ all_worth worth_up before.up
-    → ungranted s + all_worth worth_down sent ≤ ungranted before.standing + d → ((tag : LogicalTime) → o ≡ Some tag → IsTrue (is_past s.granted s.next) × IsTrue (is_at_most s.next tag)) → down ≡ m.down ++ (sent ++ tag_if o)
-    → member_worth n i rows (record m { standing = after_grant s o; down = down }) + c ≤ member_worth n i rows before + d
-member_costs n i rows m before s o sent down c d federate queue up standing sparing is =
+-- one member: it may have another record, fewer signals up and more down
+member_costs : (n : Network) (i rows : ℕ) (m before : Member) (s : FederateRecord) (o : Option LogicalTime) (sent down : List Signal) (c d : ℕ) → m.federate ≡ before.federate → m.down ≡ before.down → all_worth worth_up m.up + c ≡ all_worth worth_up before.up
+    → ungranted s + all_worth worth_down sent ≤ ungranted before.federate_record + d → ((tag : LogicalTime) → o ≡ Some tag → IsTrue (is_past s.granted s.next) × IsTrue (is_at_most s.next tag)) → down ≡ m.down ++ (sent ++ tag_if o)
+    → member_worth n i rows (record m { federate_record = after_grant s o; down = down }) + c ≤ member_worth n i rows before + d
+member_costs n i rows m before s o sent down c d federate queue up federate_record sparing is =
     let turns : turn_worth n i * (rows - length m.federate.rows) ≡ turn_worth n i * (rows - length before.federate.rows) = ap (λ (f : Federate). turn_worth n i * (rows - length f.rows)) federate in
     let told : untold m.federate ≡ untold before.federate = ap untold federate in
     let grants = grant_costs s o sparing in
@@ -60,7 +60,7 @@ taken_if members i signal rest j false e here = record { federate = refl; down =
 grants_to : (n : Network) (rule : Rule) (made : Coordinated) (j : ℕ) → sent_to j (with_grants n rule made).sent ≡ sent_to j made.sent ++ tag_if (grant_to n rule made.after j)
 grants_to n rule made j = sent-append j made.sent (grants_from n rule made.after 0 n.reactors) ∙ ap (λ (x : List Signal). sent_to j made.sent ++ x) (grants_sent n rule made.after j)
 
-each_costs : (n : Network) (rule : Rule) (members : ℕ → Member) (i : ℕ) (signal : Signal) (rest : List Signal) (made : Coordinated) (more : ℕ → ℕ) → (members i).up ≡ signal ∷ rest → IsSparing rule → ((j : ℕ) → IsLogicalTime (made.after j).next) → Changes (standings_of members) made more → (j : ℕ)
+each_costs : (n : Network) (rule : Rule) (members : ℕ → Member) (i : ℕ) (signal : Signal) (rest : List Signal) (made : Coordinated) (more : ℕ → ℕ) → (members i).up ≡ signal ∷ rest → IsSparing rule → ((j : ℕ) → IsLogicalTime (made.after j).next) → Changes (federate_records_of members) made more → (j : ℕ)
     → member_worth n j (rows_of_part n j) (coordinated (with_grants n rule made) j (with_member members i (record (members i) { up = rest }) j)) + at_one i (worth_up signal) j ≤ member_worth n j (rows_of_part n j) (members j) + more j
 each_costs n rule members i signal rest made more e sparing tags changes j =
     let W = with_member members i (record (members i) { up = rest }) j in
@@ -71,7 +71,7 @@ each_costs n rule members i signal rest made more e sparing tags changes j =
     (ap (λ (x : List Signal). W.down ++ x) (grants_to n rule made j))
 
 -- so all together
-all_cost : (n : Network) (rule : Rule) (members : ℕ → Member) (i : ℕ) (signal : Signal) (rest : List Signal) (made : Coordinated) (t k : ℕ) → i < n.reactors → (members i).up ≡ signal ∷ rest → IsSparing rule → ((j : ℕ) → IsLogicalTime (made.after j).next) → Changes (standings_of members) made (at_one t k) → worth_up signal ≡ k + 2
+all_cost : (n : Network) (rule : Rule) (members : ℕ → Member) (i : ℕ) (signal : Signal) (rest : List Signal) (made : Coordinated) (t k : ℕ) → i < n.reactors → (members i).up ≡ signal ∷ rest → IsSparing rule → ((j : ℕ) → IsLogicalTime (made.after j).next) → Changes (federate_records_of members) made (at_one t k) → worth_up signal ≡ k + 2
     → left_of n (λ j. coordinated (with_grants n rule made) j (with_member members i (record (members i) { up = rest }) j)) + 2 ≤ left_of n members
 all_cost n rule members i signal rest made t k there e sparing tags changes worth =
     let after : ℕ → ℕ = λ j. member_worth n j (rows_of_part n j) (coordinated (with_grants n rule made) j (with_member members i (record (members i) { up = rest }) j)) in
@@ -83,7 +83,7 @@ all_cost n rule members i signal rest made t k there e sparing tags changes wort
     let d = sum_of_one_at_most t k n.reactors in
     omega arith
 
-by_change : (n : Network) (table : Table) (rule : Rule) (members : ℕ → Member) (i : ℕ) (signal : Signal) (rest : List Signal) (o : Outcome Coordinated) → i < n.reactors → (members i).up ≡ signal ∷ rest → IsSparing rule → IfDone o (IsChange (standings_of members) signal)
+by_change : (n : Network) (table : Table) (rule : Rule) (members : ℕ → Member) (i : ℕ) (signal : Signal) (rest : List Signal) (o : Outcome Coordinated) → i < n.reactors → (members i).up ≡ signal ∷ rest → IsSparing rule → IfDone o (IsChange (federate_records_of members) signal)
     → Goes n table (with_made (λ made. λ j. coordinated made j (with_member members i (record (members i) { up = rest }) j)) (with_made (with_grants n rule) o))
     → CostsSo n 2 members (with_made (λ made. λ j. coordinated made j (with_member members i (record (members i) { up = rest }) j)) (with_made (with_grants n rule) o))
 by_change n table rule members i signal rest (Refused refusal) there e sparing h g = tt
@@ -96,7 +96,7 @@ by_change n table rule members i signal rest (Done made) there e sparing h g =
 pub coordinator_costs : (n : Network) (table : Table) (rule : Rule) (members : ℕ → Member) (i : ℕ) (up : List Signal) → i < n.reactors → (members i).up ≡ up → IsSparing rule → Goes n table (coordinator_takes_from n rule members i up) → CostsSo n 2 members (coordinator_takes_from n rule members i up)
 coordinator_costs n table rule members i [] there e sparing g = tt
 coordinator_costs n table rule members i (signal ∷ rest) there e sparing g =
-    by_change n table rule members i signal rest (coordinator_takes n (standings_of members) i signal) there e sparing (change_of n (standings_of members) i signal) g
+    by_change n table rule members i signal rest (coordinator_takes n (federate_records_of members) i signal) there e sparing (change_of n (federate_records_of members) i signal) g
 
 -- what one step sends to one federate: what the signal itself makes, which is one at most, and a TAG
 tag_length : (o : Option LogicalTime) → length (tag_if o) ≤ 1
@@ -110,10 +110,10 @@ grants_length n rule made j few =
     let one = tag_length (grant_to n rule made.after j) in
     omega arith
 
-by_grants : (n : Network) (rule : Rule) (standings : ℕ → Standing) (signal : Signal) (o : Outcome Coordinated) → IfDone o (IsChange standings signal) → IfDone (with_made (with_grants n rule) o) (λ made. (j : ℕ) → length (sent_to j made.sent) ≤ 2)
-by_grants n rule standings signal (Refused refusal) h = tt
-by_grants n rule standings signal Nothing h = tt
-by_grants n rule standings signal (Done made) h = λ j. grants_length n rule made j (h.few j)
+by_grants : (n : Network) (rule : Rule) (federate_records : ℕ → FederateRecord) (signal : Signal) (o : Outcome Coordinated) → IfDone o (IsChange federate_records signal) → IfDone (with_made (with_grants n rule) o) (λ made. (j : ℕ) → length (sent_to j made.sent) ≤ 2)
+by_grants n rule federate_records signal (Refused refusal) h = tt
+by_grants n rule federate_records signal Nothing h = tt
+by_grants n rule federate_records signal (Done made) h = λ j. grants_length n rule made j (h.few j)
 
-pub coordinator_sends : (n : Network) (rule : Rule) (standings : ℕ → Standing) (i : ℕ) (signal : Signal) → IfDone (coordinator_accepts n rule standings i signal) (λ made. (j : ℕ) → length (sent_to j made.sent) ≤ 2)
-coordinator_sends n rule standings i signal = by_grants n rule standings signal (coordinator_takes n standings i signal) (change_of n standings i signal)
+pub coordinator_sends : (n : Network) (rule : Rule) (federate_records : ℕ → FederateRecord) (i : ℕ) (signal : Signal) → IfDone (coordinator_accepts n rule federate_records i signal) (λ made. (j : ℕ) → length (sent_to j made.sent) ≤ 2)
+coordinator_sends n rule federate_records i signal = by_grants n rule federate_records signal (coordinator_takes n federate_records i signal) (change_of n federate_records i signal)

@@ -13,10 +13,10 @@ use Rattle.protocol.specs.declared.refusal.Refusal.{Refusal}
 use Rattle.protocol.specs.declared.refusal.Refusal.TheVariants.{Late, OldGrant, WrongSignal, NotYours, BelowGrant, NotRising, AfterStop}
 use Rattle.protocol.specs.Outcome.{Outcome, Refused, Nothing, Done, made_or, with_made, IfDone}
 use Rattle.protocol.specs.Federate.{Federate, Stepped, accept_message, federate_accepts, federate_announces, federate_advances}
-use Rattle.protocol.specs.Standing.{Standing}
+use Rattle.protocol.specs.FederateRecord.{FederateRecord}
 use Rattle.protocol.specs.Grant.{Rule, IsSafeRule}
 use Rattle.protocol.specs.Coordinator.{Coordinated, route, coordinator_takes, with_grants, coordinator_accepts}
-use Rattle.protocol.specs.Machine.{Member, Move, ToCoordinator, ToFederate, Announce, Advance, Lose, with_member, standings_of, coordinated, coordinator_takes_from, stepped, federate_takes_from, outcome_of, after_moves}
+use Rattle.protocol.specs.Machine.{Member, Move, ToCoordinator, ToFederate, Announce, Advance, Lose, with_member, federate_records_of, coordinated, coordinator_takes_from, stepped, federate_takes_from, outcome_of, after_moves}
 use Rattle.protocol_laws.specs.Runs.{IsStuck}
 use Rattle.protocol_laws.proofs.Backing.{at_update}
 use Rattle.protocol_laws.proofs.Safety.{none_refused}
@@ -52,12 +52,12 @@ made_keeps members i rest (Refused refusal) = tt
 made_keeps members i rest Nothing = tt
 made_keeps members i rest (Done made) = kept_here members i (record (members i) { up = rest }) refl
 
-hub_keeps : (n : Network) (rule : Rule) (members : ℕ → Member) (i : ℕ) (up : List Signal) → KeepsAll members (coordinator_takes_from n rule members i up)
-hub_keeps n rule members i [] = tt
-hub_keeps n rule members i (signal ∷ rest) = made_keeps members i rest (coordinator_accepts n rule (standings_of members) i signal)
+coordinator_keeps : (n : Network) (rule : Rule) (members : ℕ → Member) (i : ℕ) (up : List Signal) → KeepsAll members (coordinator_takes_from n rule members i up)
+coordinator_keeps n rule members i [] = tt
+coordinator_keeps n rule members i (signal ∷ rest) = made_keeps members i rest (coordinator_accepts n rule (federate_records_of members) i signal)
 
 move_keeps : (n : Network) (rule : Rule) (members : ℕ → Member) (move : Move) → IsOfMember n move → KeepsAll members (outcome_of n rule members move)
-move_keeps n rule members (ToCoordinator i) there = hub_keeps n rule members i (members i).up
+move_keeps n rule members (ToCoordinator i) there = coordinator_keeps n rule members i (members i).up
 move_keeps n rule members (ToFederate i) there = take_keeps n members i (members i).down (members i).lost
 move_keeps n rule members (Announce i) there = step_keeps members i (members i).down (federate_announces (members i).federate) (members i).lost
 move_keeps n rule members (Advance i) there = step_keeps members i (members i).down (federate_advances n i (members i).federate) (members i).lost
@@ -93,16 +93,16 @@ done_if (Refused refusal) h f = absurd (f refusal refl)
 done_if Nothing h f = absurd h
 done_if (Done made) h f = refl
 
-route_answers : (n : Network) (standings : ℕ → Standing) (i : ℕ) (signal : Signal) (o : Option Connection) (tag : LogicalTime) → IsAnswer (route n standings i signal o tag)
-route_answers n standings i signal None tag = tt
-route_answers n standings i signal (Some c) tag =
-    answer_if (nat_eq c.source i) NotYours _ (answer_if (is_at_most tag n.stop) AfterStop _ (answer_if (is_past (standings c.target).granted tag) BelowGrant _ tt))
+route_answers : (n : Network) (federate_records : ℕ → FederateRecord) (i : ℕ) (signal : Signal) (o : Option Connection) (tag : LogicalTime) → IsAnswer (route n federate_records i signal o tag)
+route_answers n federate_records i signal None tag = tt
+route_answers n federate_records i signal (Some c) tag =
+    answer_if (nat_eq c.source i) NotYours _ (answer_if (is_at_most tag n.stop) AfterStop _ (answer_if (is_past (federate_records c.target).granted tag) BelowGrant _ tt))
 
-hub_answers : (n : Network) (standings : ℕ → Standing) (i : ℕ) (signal : Signal) → IsAnswer (coordinator_takes n standings i signal)
-hub_answers n standings i (Net tag) = answer_if (is_at_most tag n.stop || is_same tag forever) AfterStop _ (answer_if (is_past (standings i).completed tag) NotRising _ tt)
-hub_answers n standings i (Ltc tag) = answer_if (is_at_most tag n.stop) AfterStop _ (answer_if (is_past (standings i).completed tag) NotRising _ tt)
-hub_answers n standings i (Tag tag) = tt
-hub_answers n standings i (Msg number tag value) = route_answers n standings i (Msg number tag value) (slice_get n.connections number) tag
+coordinator_answers : (n : Network) (federate_records : ℕ → FederateRecord) (i : ℕ) (signal : Signal) → IsAnswer (coordinator_takes n federate_records i signal)
+coordinator_answers n federate_records i (Net tag) = answer_if (is_at_most tag n.stop || is_same tag forever) AfterStop _ (answer_if (is_past (federate_records i).completed tag) NotRising _ tt)
+coordinator_answers n federate_records i (Ltc tag) = answer_if (is_at_most tag n.stop) AfterStop _ (answer_if (is_past (federate_records i).completed tag) NotRising _ tt)
+coordinator_answers n federate_records i (Tag tag) = tt
+coordinator_answers n federate_records i (Msg number tag value) = route_answers n federate_records i (Msg number tag value) (slice_get n.connections number) tag
 
 message_answers : (n : Network) (j : ℕ) (f : Federate) (o : Option Connection) (tag : LogicalTime) (value : ℤ) → IsAnswer (accept_message n j f o tag value)
 message_answers n j f None tag value = tt
@@ -119,8 +119,8 @@ up_is_empty : (n : Network) (rule : Rule) (members : ℕ → Member) (i : ℕ) (
 up_is_empty n rule members i [] f e = refl
 up_is_empty n rule members i (signal ∷ rest) f e =
     let made : IsAnswer (coordinator_takes_from n rule members i (signal ∷ rest)) =
-    answer_made (λ made. λ j. coordinated made j (with_member members i (record (members i) { up = rest }) j)) (coordinator_accepts n rule (standings_of members) i signal)
-    (answer_made (with_grants n rule) (coordinator_takes n (standings_of members) i signal) (hub_answers n (standings_of members) i signal)) in
+    answer_made (λ made. λ j. coordinated made j (with_member members i (record (members i) { up = rest }) j)) (coordinator_accepts n rule (federate_records_of members) i signal)
+    (answer_made (with_grants n rule) (coordinator_takes n (federate_records_of members) i signal) (coordinator_answers n (federate_records_of members) i signal)) in
     let done : is_done (coordinator_takes_from n rule members i (signal ∷ rest)) ≡ true = done_if (coordinator_takes_from n rule members i (signal ∷ rest)) made f in
     cc
 

@@ -88,7 +88,7 @@ turn_costs n j rows m tag more =
     let made = turn_at n j f tag in
     let row = length-append f.rows (row_of_turn n j f tag ∷ []) in
     let grown : length (f.rows ++ row_of_turn n j f tag ∷ []) ≡ suc (length f.rows) = omega arith in
-    turn_numbers (turn_worth n j) rows (length f.rows) (length made.after.rows) (untold f) (untold made.after) (ungranted m.standing) (all_worth worth_up m.up)
+    turn_numbers (turn_worth n j) rows (length f.rows) (length made.after.rows) (untold f) (untold made.after) (ungranted m.federate_record) (all_worth worth_up m.up)
     (all_worth worth_up (m.up ++ made.sent)) (all_worth worth_up made.sent) (all_worth worth_down m.down) (outgoing_count n j)
     grown more refl (untold_at_most (is_told made.after.announced (next_event made.after))) (worth-append worth_up m.up made.sent) (turn_worth_up n j f tag)
 

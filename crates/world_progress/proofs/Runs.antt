@@ -56,7 +56,7 @@ waiting_at_most n members =
     sum_at_most n.reactors (λ j. length (members j).up + length (members j).down) (λ j. member_worth n j (rows_of_part n j) (members j))
     (λ j l. (
     let m = members j in
-    queues_at_most (turn_worth n j) (rows_of_part n j - length m.federate.rows) (untold m.federate) (ungranted m.standing) (all_worth worth_up m.up) (all_worth worth_down m.down) (length m.up) (length m.down)
+    queues_at_most (turn_worth n j) (rows_of_part n j - length m.federate.rows) (untold m.federate) (ungranted m.federate_record) (all_worth worth_up m.up) (all_worth worth_down m.down) (length m.up) (length m.down)
     (length_up m.up) (length_down m.down)))
 
 pub few_signals : (n : Network) (table : Table) (rules : ℕ → Rule) → IsLawful n → IsTable n table → ((k : ℕ) → IsSafeRule n table (rules k)) → ((k : ℕ) → IsSparing (rules k)) → (moves : List Move) → AreOfMembers n moves

@@ -5,15 +5,15 @@ use Rattle.tag.specs.LogicalTime.{LogicalTime, is_at_most, is_past}
 use Rattle.network.specs.Network.{Network}
 use Rattle.network.specs.Wiring.{IsWired}
 use Rattle.network.specs.Tables.{Table}
-use Rattle.protocol.specs.Standing.{Standing}
+use Rattle.protocol.specs.FederateRecord.{FederateRecord}
 use Rattle.protocol.specs.Grant.{is_eligible, grant_next, grant_widest, passes_paths, passes_connections}
 use Rattle.protocol_laws.proofs.SafeGrants.{eligible_not_granted, next_rule_is_full, widest_rule_is_full}
 use Rattle.world_progress.specs.Runs.{IsSparing}
 
-past_of : (n : Network) (table : Table) (standings : ℕ → Standing) (j : ℕ) → is_eligible n table standings j ≡ true → IsTrue (is_past (standings j).granted (standings j).next)
-past_of n table standings j h =
-    let s = standings j in
-    eligible_not_granted s.announced (is_past s.granted s.next) (is_at_most s.next n.stop) (passes_paths n table standings j s.next || passes_connections n standings j s.next) h
+past_of : (n : Network) (table : Table) (federate_records : ℕ → FederateRecord) (j : ℕ) → is_eligible n table federate_records j ≡ true → IsTrue (is_past (federate_records j).granted (federate_records j).next)
+past_of n table federate_records j h =
+    let s = federate_records j in
+    eligible_not_granted s.announced (is_past s.granted s.next) (is_at_most s.next n.stop) (passes_paths n table federate_records j s.next || passes_connections n federate_records j s.next) h
 
 at_least : (next tag : LogicalTime) (o : Option LogicalTime) → o ≡ Some tag → IsSomeAnd o (λ x. IsTrue (is_at_most next x)) → IsTrue (is_at_most next tag)
 at_least next tag o e h = let P : Option LogicalTime → Type 0 = λ x. IsSomeAnd x (λ y. IsTrue (is_at_most next y)) in subst P e h
@@ -23,11 +23,11 @@ eligible_if true x tag e = refl
 eligible_if false x tag e = cc
 
 pub widest_is_sparing : (n : Network) (table : Table) → IsWired n → IsSparing (grant_widest n table)
-widest_is_sparing n table wired standings tags j tag e =
-    let eligible : is_eligible n table standings j ≡ true = eligible_if (is_eligible n table standings j) _ tag e in
-    (past_of n table standings j eligible, at_least (standings j).next tag (grant_widest n table standings j) e (widest_rule_is_full n table wired standings tags j eligible))
+widest_is_sparing n table wired federate_records tags j tag e =
+    let eligible : is_eligible n table federate_records j ≡ true = eligible_if (is_eligible n table federate_records j) _ tag e in
+    (past_of n table federate_records j eligible, at_least (federate_records j).next tag (grant_widest n table federate_records j) e (widest_rule_is_full n table wired federate_records tags j eligible))
 
 pub next_is_sparing : (n : Network) (table : Table) → IsSparing (grant_next n table)
-next_is_sparing n table standings tags j tag e =
-    let eligible : is_eligible n table standings j ≡ true = eligible_if (is_eligible n table standings j) _ tag e in
-    (past_of n table standings j eligible, at_least (standings j).next tag (grant_next n table standings j) e (next_rule_is_full n table standings tags j eligible))
+next_is_sparing n table federate_records tags j tag e =
+    let eligible : is_eligible n table federate_records j ≡ true = eligible_if (is_eligible n table federate_records j) _ tag e in
+    (past_of n table federate_records j eligible, at_least (federate_records j).next tag (grant_next n table federate_records j) e (next_rule_is_full n table federate_records tags j eligible))

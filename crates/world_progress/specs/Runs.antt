@@ -4,7 +4,7 @@ use Rattle.std.specs.Prelude.{◌≡◌, ℕ, ◌+◌, ◌<◌, ◌≤◌, ◌++
 use Rattle.tag.specs.LogicalTime.{LogicalTime, IsLogicalTime, is_at_most, is_past}
 use Rattle.network.specs.Network.{Network}
 use Rattle.protocol.specs.Outcome.{Outcome, Refused, Nothing, Done}
-use Rattle.protocol.specs.Standing.{Standing}
+use Rattle.protocol.specs.FederateRecord.{FederateRecord}
 use Rattle.protocol.specs.Grant.{Rule}
 use Rattle.protocol.specs.Machine.{Member, Move, ToCoordinator, ToFederate, Announce, Advance, Lose, outcome_of, after_moves}
 use Rattle.protocol_laws.specs.Runs.{IsStuck}
@@ -13,8 +13,8 @@ use Rattle.world_progress.specs.Fuel.{sum_below}
 -- a rule that grants nothing to a federate whose next tag is granted already, and never less than the next tag
 abbrev pub IsSparing : Rule → Type 0
 IsSparing rule =
-    (standings : ℕ → Standing) → ((i : ℕ) → IsLogicalTime (standings i).next) → (j : ℕ) (tag : LogicalTime) → rule standings j ≡ Some tag →
-    IsTrue (is_past (standings j).granted (standings j).next) × IsTrue (is_at_most (standings j).next tag)
+    (federate_records : ℕ → FederateRecord) → ((i : ℕ) → IsLogicalTime (federate_records i).next) → (j : ℕ) (tag : LogicalTime) → rule federate_records j ≡ Some tag →
+    IsTrue (is_past (federate_records j).granted (federate_records j).next) × IsTrue (is_at_most (federate_records j).next tag)
 
 -- a move of a federate that is there, and none by which one is lost
 abbrev pub IsOfMember : Network → Move → Type 0

@@ -7,7 +7,7 @@ use Rattle.network.specs.Network.{Network}
 use Rattle.signal.specs.declared.signal.Signal.{Signal}
 use Rattle.signal.specs.declared.signal.Signal.TheVariants.{Net, Ltc, Tag, Msg}
 use Rattle.protocol.specs.Federate.{Federate, is_told, next_event}
-use Rattle.protocol.specs.Standing.{Standing}
+use Rattle.protocol.specs.FederateRecord.{FederateRecord}
 use Rattle.protocol.specs.Machine.{Member}
 use Rattle.world_progress.specs.Fuel.{sum_below, rows_of_part, turn_worth}
 
@@ -37,14 +37,14 @@ abbrev pub untold : Federate → ℕ
 untold f = if is_told f.announced (next_event f) then 0 else 5
 
 -- a TAG that may go out: the TAG on its way down (2); to send it is no move
-abbrev pub ungranted : Standing → ℕ
+abbrev pub ungranted : FederateRecord → ℕ
 ungranted s = if is_past s.granted s.next then 2 else 0
 
 -- what federate j can still do, where it is to have so many rows in the end
 abbrev pub member_worth : Network → (j rows : ℕ) → Member → ℕ
 member_worth n j rows m =
     turn_worth n j * (rows - length m.federate.rows) +
-    (untold m.federate + (ungranted m.standing + (all_worth worth_up m.up + all_worth worth_down m.down)))
+    (untold m.federate + (ungranted m.federate_record + (all_worth worth_up m.up + all_worth worth_down m.down)))
 
 -- what all of them can still do
 abbrev pub left_of : Network → (ℕ → Member) → ℕ

@@ -16,7 +16,7 @@ ghost use Rattle.network_laws.specs.Settled.{IsEnough};
 ghost use Rattle.signal.specs.declared.signal.Signal.{Signal};
 ghost use Rattle.protocol.specs.Outcome.{IfDone};
 ghost use Rattle.protocol.specs.Federate.{Federate, federate_accepts, federate_announces, federate_advances};
-ghost use Rattle.protocol.specs.Standing.{Standing};
+ghost use Rattle.protocol.specs.FederateRecord.{FederateRecord};
 ghost use Rattle.protocol.specs.Grant.{Rule, IsSafeRule, grant_next, grant_widest};
 ghost use Rattle.protocol.specs.Coordinator.{coordinator_accepts};
 ghost use Rattle.protocol.specs.Machine.{Move, initial_member, sent_to, after_moves};
@@ -61,8 +61,8 @@ pub fn a_step_sends_few_signals()
     ensures accept { (n : Network) (j : ℕ) (f : Federate) (signal : Signal) → IfDone (federate_accepts n j f signal) (λ made. length made.sent ≡ 0) }
     ensures announce { (f : Federate) → IfDone (federate_announces f) (λ made. length made.sent ≡ 1) }
     ensures advance { (n : Network) (j : ℕ) (f : Federate) → IfDone (federate_advances n j f) (λ made. length made.sent ≤ outgoing_count n j + 1) }
-    ensures coordinator { (n : Network) (rule : Rule) (standings : ℕ → Standing) (i : ℕ) (signal : Signal) →
-        IfDone (coordinator_accepts n rule standings i signal) (λ made. (j : ℕ) → length (sent_to j made.sent) ≤ 2) }
+    ensures coordinator { (n : Network) (rule : Rule) (federate_records : ℕ → FederateRecord) (i : ℕ) (signal : Signal) →
+        IfDone (coordinator_accepts n rule federate_records i signal) (λ made. (j : ℕ) → length (sent_to j made.sent) ≤ 2) }
 {}
 
 /// All federates' parts have together as many rows as the undivided program, after any number of turns; and after enough turns for

@@ -25,7 +25,7 @@ abbrev pub acted : Side → List Frame → List Act → Side
 acted s coming [] = s
 acted s coming (act ∷ rest) = acted (side_after s coming act) coming rest
 
--- an act by which nothing is taken, offered or closed; strangers are turned away at the hub alone
+-- an act by which nothing is taken, offered or closed; strangers are turned away at the coordinator alone
 abbrev pub IsQuiet : (hub : Bool) → (incarnation : ℕ) → Act → Type 0
 IsQuiet hub i (Gets place is_taken) = is_taken ≡ false
 IsQuiet hub i (Offers signals) = ⊥

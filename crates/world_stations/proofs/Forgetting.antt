@@ -20,14 +20,14 @@ next_if true x y none = let bad : ⊥ = cc in absurd bad
 next_if false x y none = refl
 
 -- there is no next incarnation
-pub no_next : {Member Row : Type 0} (core : Core Member Row) (s : Station Member) (e : Image) → length s.ends ≡ 1 → slice_get s.ends 0 ≡ Some e →
+pub no_next : {OfFederate Row : Type 0} (core : Core OfFederate Row) (s : Station OfFederate) (e : Image) → length s.ends ≡ 1 → slice_get s.ends 0 ≡ Some e →
     None ≡ (if nat_lt (e.incarnation + 1) (2 ^ 32) then Some (blank_next e) else None) → None ≡ (if has_next s.ends then Some (forgotten core s) else None)
 no_next core s e one found none =
     next_if (nat_lt (e.incarnation + 1) (2 ^ 32)) (blank_next e) (forgotten core s) none ∙
     ap (λ (ends : List Image). if has_next ends then Some (forgotten core s) else None) (sym (single s.ends e one found))
 
 -- there is one
-pub some_next : {Member Row : Type 0} (core : Core Member Row) (s : Station Member) (e n : Image) (node : Member) (after : Station Member) (ends : List Image) →
+pub some_next : {OfFederate Row : Type 0} (core : Core OfFederate Row) (s : Station OfFederate) (e n : Image) (node : OfFederate) (after : Station OfFederate) (ends : List Image) →
     length s.ends ≡ 1 → slice_get s.ends 0 ≡ Some e → Some n ≡ (if nat_lt (e.incarnation + 1) (2 ^ 32) then Some (blank_next e) else None) → node ≡ core.initial s.node → ends ≡ n ∷ [] →
     after ≡ record { node = node; ends = ends } → Some after ≡ (if has_next s.ends then Some (forgotten core s) else None)
 some_next core s e n node after ends one found next made has is =
@@ -40,21 +40,21 @@ some_next core s e n node after ends one found next made has is =
     ap (λ (x : Station _). Some x) after_is ∙ sym (ap (λ (b : Bool). if b then Some (forgotten core s) else None) there)
 
 -- what was forgotten
-pub blank_is : {Member Row : Type 0} (core : Core Member Row) (s blank : Station Member) → Some blank ≡ (if has_next s.ends then Some (forgotten core s) else None) →
+pub blank_is : {OfFederate Row : Type 0} (core : Core OfFederate Row) (s blank : Station OfFederate) → Some blank ≡ (if has_next s.ends then Some (forgotten core s) else None) →
     (has_next s.ends ≡ true) × (blank ≡ forgotten core s)
 blank_is core s blank is = let both = cond_some (has_next s.ends) (forgotten core s) blank (sym is) in (both.0, sym both.1)
 
 -- a federate that forgot still has one peer
-pub has_one_still : {Member Row : Type 0} (core : Core Member Row) (s blank : Station Member) → length s.ends ≡ 1 →
+pub has_one_still : {OfFederate Row : Type 0} (core : Core OfFederate Row) (s blank : Station OfFederate) → length s.ends ≡ 1 →
     Some blank ≡ (if has_next s.ends then Some (forgotten core s) else None) → length blank.ends ≡ 1
 has_one_still core s blank one made =
     let blank_ends : blank.ends ≡ map blank_next s.ends = ap (λ (x : Station _). x.ends) (blank_is core s blank made).1 in
     ap length blank_ends ∙ length-map s.ends blank_next ∙ one
 
 -- the world after a federate forgot
-pub put_is : {Hub Member Row : Type 0} (core : Core Member Row) (w : World Hub Member) (j : ℕ) (s blank : Station Member) → slice_get w.federates j ≡ Some s →
+pub put_is : {OfCoordinator OfFederate Row : Type 0} (core : Core OfFederate Row) (w : World OfCoordinator OfFederate) (j : ℕ) (s blank : Station OfFederate) → slice_get w.federates j ≡ Some s →
     Some blank ≡ (if has_next s.ends then Some (forgotten core s) else None) →
-    ◌≡◌ {A = Applied Hub Member}
+    ◌≡◌ {A = Applied OfCoordinator OfFederate}
     (record { world = record w { federates = set w.federates j blank }; outcome = outcome.Done })
     (forgets core w j (slice_get w.federates j))
 put_is core w j s blank found made =

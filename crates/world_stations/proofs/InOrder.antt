@@ -26,7 +26,7 @@ use Rattle.network_laws.specs.Settled.{BeginsWith}
 use Rattle.world_stations.specs.Taken.{own_end, receiver, number_taken, brought_by, newly_taken, taken_in}
 use Rattle.world_stations.proofs.Posting.{frames_to}
 use Rattle.world_stations.proofs.Course.{acted, Comes, IsCourse}
-use Rattle.world_stations.proofs.Shown.{IsShown, ups_of, with_firsts, Brings, nowhere, at_hub, at_member, lost, happened, shown_at_hub, shown_at_member, shown_lost, shown_listed, opened_shown, at_own, at_other, same_or_not, got, none_beyond, nothing_beyond}
+use Rattle.world_stations.proofs.Shown.{IsShown, ups_of, with_firsts, Brings, nowhere, happened_at_coordinator, happened_at_federate, lost, happened, shown_at_coordinator, shown_at_federate, shown_lost, shown_listed, opened_shown, at_own, at_other, same_or_not, got, none_beyond, nothing_beyond}
 use Rattle.world_stations.proofs.Courses.{some_of}
 use Rattle.world_stations.proofs.Site.{firsts_held, seconds_held}
 use Rattle.world_stations.proofs.Taking.{Took, nothing_took, course_took, not_below}
@@ -60,25 +60,25 @@ stays l brought h =
     }
 
 -- a world after a step
-record IsChanged {Hub Member : Type 0} (w : World Hub Member) (count : ℕ) (links : ℕ → Link) (brought : List Signal) : Type 0 where
+record IsChanged {OfCoordinator OfFederate : Type 0} (w : World OfCoordinator OfFederate) (count : ℕ) (links : ℕ → Link) (brought : List Signal) : Type 0 where
   after : ℕ → Link
   shown : IsShown w count after
   each : (j : ℕ) → j < count → IsTurned (links j) (after j) brought
 
-pub brings_as : {Hub Member : Type 0} (w : World Hub Member) (step : Step) (e : Event) → Brings w step e → (q : ℕ) (frame : Frame) → e ≡ event.Frame q frame → brought_by w step ≡ carried_by frame
+pub brings_as : {OfCoordinator OfFederate : Type 0} (w : World OfCoordinator OfFederate) (step : Step) (e : Event) → Brings w step e → (q : ℕ) (frame : Frame) → e ≡ event.Frame q frame → brought_by w step ≡ carried_by frame
 brings_as w step e brings q frame is = let P : Event → Type 0 = λ x. Brings w step x in subst P is brings
 
-changed_at_hub : {Hub Member HubRow : Type 0} (hub : Core Hub HubRow) (w : World Hub Member) (count : ℕ) (links : ℕ → Link) (step : Step) (e : Event) (place : ℕ) (made : Stepped Hub) (c : IsCourse hub true w.coordinator e (ups_of links) place made) → Comes w.coordinator (ups_of links) place e → Brings w step e → IsShown w count links → ((j : ℕ) → j < count → IsHeld 1 (links j)) → IsChanged (after_coordinator w made).world count links (brought_by w step)
-changed_at_hub hub w count links step e place made c comes brings shown held =
+changed_at_coordinator : {OfCoordinator OfFederate CoordinatorRow : Type 0} (of_coordinator : Core OfCoordinator CoordinatorRow) (w : World OfCoordinator OfFederate) (count : ℕ) (links : ℕ → Link) (step : Step) (e : Event) (place : ℕ) (made : Stepped OfCoordinator) (c : IsCourse of_coordinator true w.coordinator e (ups_of links) place made) → Comes w.coordinator (ups_of links) place e → Brings w step e → IsShown w count links → ((j : ℕ) → j < count → IsHeld 1 (links j)) → IsChanged (after_coordinator w made).world count links (brought_by w step)
+changed_at_coordinator of_coordinator w count links step e place made c comes brings shown held =
     record {
       after = with_firsts links (λ p. acted (links p).first (ups_of links p) (c.acts p));
-      shown = shown_at_hub hub w count links e place made c shown;
+      shown = shown_at_coordinator of_coordinator w count links e place made c shown;
       each = λ j l. (
           let at = shown.each j l in
           let seen = c.seen j (links j).first at.first in
           record {
             held = firsts_held (links j) (c.acts j) (held j l);
-            first = course_took hub true w.coordinator e (ups_of links) place made c (brought_by w step) comes (brings_as w step e brings) j (links j).first at.first;
+            first = course_took of_coordinator true w.coordinator e (ups_of links) place made c (brought_by w step) comes (brings_as w step e brings) j (links j).first at.first;
             second = takes (nothing_took (links j).second (links j).second (brought_by w step) (as_it_was (links j).second));
             up = ([], sym (append-nil (links j).second.sent));
             down = (frames_to j (frames_of made.answer), seen.frames);
@@ -96,33 +96,33 @@ one_turned count links j mine brought held turned k l =
       | inr apart ↦ (let R : Link → Type 0 = λ x. IsTurned (links k) x brought in subst R (sym (at_other links j k mine apart)) (stays (links k) brought (held k l)))
     ]
 
-changed_at_member : {Hub Member Row : Type 0} (member : Core Member Row) (w : World Hub Member) (count : ℕ) (links : ℕ → Link) (step : Step) (j : ℕ) (s : Station Member) (e : Event) (place : ℕ) (made : Stepped Member) (c : IsCourse member false s e (λ p. (links j).first.sent) place made) → slice_get w.federates j ≡ Some s → j < count → Comes s (λ p. (links j).first.sent) place e → Brings w step e → IsShown w count links → ((k : ℕ) → k < count → IsHeld 1 (links k)) → IsChanged (after_federate w j made).world count links (brought_by w step)
-changed_at_member {Member = Member} member w count links step j s e place made c is below comes brings shown held =
+changed_at_federate : {OfCoordinator OfFederate Row : Type 0} (of_federate : Core OfFederate Row) (w : World OfCoordinator OfFederate) (count : ℕ) (links : ℕ → Link) (step : Step) (j : ℕ) (s : Station OfFederate) (e : Event) (place : ℕ) (made : Stepped OfFederate) (c : IsCourse of_federate false s e (λ p. (links j).first.sent) place made) → slice_get w.federates j ≡ Some s → j < count → Comes s (λ p. (links j).first.sent) place e → Brings w step e → IsShown w count links → ((k : ℕ) → k < count → IsHeld 1 (links k)) → IsChanged (after_federate w j made).world count links (brought_by w step)
+changed_at_federate {OfFederate = OfFederate} of_federate w count links step j s e place made c is below comes brings shown held =
     let at = shown.each j below in
-    let E : Station Member → Type 0 = λ x. x.ends ≡ (links j).second.end ∷ [] in
+    let E : Station OfFederate → Type 0 = λ x. x.ends ≡ (links j).second.end ∷ [] in
     let ends : s.ends ≡ (links j).second.end ∷ [] = subst E (some_of at.station s (sym at.there ∙ is)) at.second in
     let found : slice_get s.ends 0 ≡ Some (links j).second.end = ap (λ (x : List Image). slice_get x 0) ends in
     let seen = c.seen 0 (links j).second found in
     let mine : Link = record { first = (links j).first; second = acted (links j).second (links j).first.sent (c.acts 0) } in
     record {
       after = with_one links j mine;
-      shown = shown_at_member member w count links j s e place made c is below shown;
+      shown = shown_at_federate of_federate w count links j s e place made c is below shown;
       each = one_turned count links j mine (brought_by w step) held
           (record {
             held = seconds_held (links j) (c.acts 0) (held j below);
             first = nothing_took (links j).first (links j).first (brought_by w step) (as_it_was (links j).first);
-            second = takes (course_took member false s e (λ p. (links j).first.sent) place made c (brought_by w step) comes (brings_as w step e brings) 0 (links j).second found);
+            second = takes (course_took of_federate false s e (λ p. (links j).first.sent) place made c (brought_by w step) comes (brings_as w step e brings) 0 (links j).second found);
             up = (frames_to 0 (frames_of made.answer), seen.frames);
             down = ([], sym (append-nil (links j).first.sent));
           });
     }
 
-changed_lost : {Hub Member Row : Type 0} (member : Core Member Row) (w : World Hub Member) (count : ℕ) (links : ℕ → Link) (brought : List Signal) (j : ℕ) (s : Station Member) → slice_get w.federates j ≡ Some s → j < count → IsShown w count links → ((k : ℕ) → k < count → IsHeld 1 (links k)) → IsChanged (record w { federates = set w.federates j (forgotten member s) }) count links brought
-changed_lost member w count links brought j s is below shown held =
+changed_lost : {OfCoordinator OfFederate Row : Type 0} (of_federate : Core OfFederate Row) (w : World OfCoordinator OfFederate) (count : ℕ) (links : ℕ → Link) (brought : List Signal) (j : ℕ) (s : Station OfFederate) → slice_get w.federates j ≡ Some s → j < count → IsShown w count links → ((k : ℕ) → k < count → IsHeld 1 (links k)) → IsChanged (record w { federates = set w.federates j (forgotten of_federate s) }) count links brought
+changed_lost of_federate w count links brought j s is below shown held =
     let mine : Link = record { first = (links j).first; second = replaced (links j).second } in
     record {
       after = with_one links j mine;
-      shown = shown_lost member w count links j s is below shown;
+      shown = shown_lost of_federate w count links j s is below shown;
       each = one_turned count links j mine brought held
           (record {
             held = forgets 1 (links j) (held j below);
@@ -134,14 +134,14 @@ changed_lost member w count links brought j s is below shown held =
     }
 
 -- each step turns each link
-changed : {Hub Member HubRow Row : Type 0} (hub : Core Hub HubRow) (member : Core Member Row) (w : World Hub Member) (count : ℕ) (links : ℕ → Link) (step : Step) → IsShown w count links → ((j : ℕ) → j < count → IsHeld 1 (links j)) → IsChanged (does hub member w step).world count links (brought_by w step)
-changed {Hub = Hub} {Member = Member} hub member w count links step shown held =
-    let C : Applied Hub Member → Type 0 = λ x. IsChanged x.world count links (brought_by w step) in
-    elim (happened hub member w count links step shown held) [
+changed : {OfCoordinator OfFederate CoordinatorRow Row : Type 0} (of_coordinator : Core OfCoordinator CoordinatorRow) (of_federate : Core OfFederate Row) (w : World OfCoordinator OfFederate) (count : ℕ) (links : ℕ → Link) (step : Step) → IsShown w count links → ((j : ℕ) → j < count → IsHeld 1 (links j)) → IsChanged (does of_coordinator of_federate w step).world count links (brought_by w step)
+changed {OfCoordinator = OfCoordinator} {OfFederate = OfFederate} of_coordinator of_federate w count links step shown held =
+    let C : Applied OfCoordinator OfFederate → Type 0 = λ x. IsChanged x.world count links (brought_by w step) in
+    elim (happened of_coordinator of_federate w count links step shown held) [
       | nowhere is ↦ subst C (sym is) (record { after = links; shown = shown; each = λ j l. stays (links j) (brought_by w step) (held j l) })
-      | at_hub e place comes c brings is ↦ subst C (sym is) (changed_at_hub hub w count links step e place (step_of hub true w.coordinator e) c comes brings shown held)
-      | at_member j s e place below there comes c brings is ↦ subst C (sym is) (changed_at_member member w count links step j s e place (step_of member false s e) c there below comes brings shown held)
-      | lost j s below there is_step is ↦ subst C (sym is) (changed_lost member w count links (brought_by w step) j s there below shown held)
+      | happened_at_coordinator e place comes c brings is ↦ subst C (sym is) (changed_at_coordinator of_coordinator w count links step e place (step_of of_coordinator true w.coordinator e) c comes brings shown held)
+      | happened_at_federate j s e place below there comes c brings is ↦ subst C (sym is) (changed_at_federate of_federate w count links step j s e place (step_of of_federate false s e) c there below comes brings shown held)
+      | lost j s below there is_step is ↦ subst C (sym is) (changed_lost of_federate w count links (brought_by w step) j s there below shown held)
     ]
 
 -- what is new at an end, in an incarnation
@@ -202,7 +202,7 @@ begins_on i before after taken more begins =
     (begins.0 ++ grows.0, ap (offered_in i) more.1 ∙ offered-append i [] before more.0 ∙ grows.1 ∙ ap (λ (x : List Signal). x ++ grows.0) begins.1 ∙ append_assoc taken begins.0 grows.0)
 
 -- what was taken so far, as far as it is known of links
-record IsOrdered {Hub Member : Type 0} (w : World Hub Member) (count : ℕ) (links : ℕ → Link) (taken : Dir → ℕ → List Signal) : Type 0 where
+record IsOrdered {OfCoordinator OfFederate : Type 0} (w : World OfCoordinator OfFederate) (count : ℕ) (links : ℕ → Link) (taken : Dir → ℕ → List Signal) : Type 0 where
   shown : IsShown w count links
   held : (j : ℕ) → j < count → IsHeld 1 (links j)
   begins : (dir : Dir) (i : ℕ) → BeginsWith (offered_in i (frames_in w dir)) (taken dir i)
@@ -212,24 +212,24 @@ record IsOrdered {Hub Member : Type 0} (w : World Hub Member) (count : ℕ) (lin
   downs : (j i : ℕ) → j < count → (links j).second.end.incarnation < i → taken (Down j) i ≡ []
 
 -- what is taken next
-abbrev next_taken : {Hub Member : Type 0} → World Hub Member → World Hub Member → Step → (Dir → ℕ → List Signal) → Dir → ℕ → List Signal
+abbrev next_taken : {OfCoordinator OfFederate : Type 0} → World OfCoordinator OfFederate → World OfCoordinator OfFederate → Step → (Dir → ℕ → List Signal) → Dir → ℕ → List Signal
 next_taken w after step taken dir i = taken dir i ++ newly_taken w after dir i step
 
-frames_up : {Hub Member : Type 0} (w : World Hub Member) (count : ℕ) (links : ℕ → Link) (j : ℕ) → IsShown w count links → j < count → frames_in w (Up j) ≡ (links j).second.sent
+frames_up : {OfCoordinator OfFederate : Type 0} (w : World OfCoordinator OfFederate) (count : ℕ) (links : ℕ → Link) (j : ℕ) → IsShown w count links → j < count → frames_in w (Up j) ≡ (links j).second.sent
 frames_up w count links j shown l = got w.up j (links j).second.sent [] (shown.each j l).up
 
-frames_down : {Hub Member : Type 0} (w : World Hub Member) (count : ℕ) (links : ℕ → Link) (j : ℕ) → IsShown w count links → j < count → frames_in w (Down j) ≡ (links j).first.sent
+frames_down : {OfCoordinator OfFederate : Type 0} (w : World OfCoordinator OfFederate) (count : ℕ) (links : ℕ → Link) (j : ℕ) → IsShown w count links → j < count → frames_in w (Down j) ≡ (links j).first.sent
 frames_down w count links j shown l = got w.down j (links j).first.sent [] (shown.each j l).down
 
-pub own_is : {Hub Member : Type 0} (w : World Hub Member) (count : ℕ) (links : ℕ → Link) (j : ℕ) → IsShown w count links → j < count → receiver w (Down j) ≡ Some (links j).second.end
+pub own_is : {OfCoordinator OfFederate : Type 0} (w : World OfCoordinator OfFederate) (count : ℕ) (links : ℕ → Link) (j : ℕ) → IsShown w count links → j < count → receiver w (Down j) ≡ Some (links j).second.end
 own_is w count links j shown l = let at = shown.each j l in ap own_end at.there ∙ ap (λ (x : List Image). slice_get x 0) at.second
 
 -- what is new, at the ends that stand there
-new_up : {Hub Member : Type 0} (w after : World Hub Member) (count : ℕ) (links others : ℕ → Link) (j i : ℕ) (step : Step) → IsShown w count links → IsShown after count others → j < count → newly_taken w after (Up j) i step ≡ New i (Some (links j).first.end) (Some (others j).first.end) (brought_by w step)
+new_up : {OfCoordinator OfFederate : Type 0} (w after : World OfCoordinator OfFederate) (count : ℕ) (links others : ℕ → Link) (j i : ℕ) (step : Step) → IsShown w count links → IsShown after count others → j < count → newly_taken w after (Up j) i step ≡ New i (Some (links j).first.end) (Some (others j).first.end) (brought_by w step)
 new_up w after count links others j i step shown then_shown l =
     ap (λ (o : Option Image). New i o (receiver after (Up j)) (brought_by w step)) (shown.each j l).first ∙ ap (λ (o : Option Image). New i (Some (links j).first.end) o (brought_by w step)) (then_shown.each j l).first
 
-new_down : {Hub Member : Type 0} (w after : World Hub Member) (count : ℕ) (links others : ℕ → Link) (j i : ℕ) (step : Step) → IsShown w count links → IsShown after count others → j < count → newly_taken w after (Down j) i step ≡ New i (Some (links j).second.end) (Some (others j).second.end) (brought_by w step)
+new_down : {OfCoordinator OfFederate : Type 0} (w after : World OfCoordinator OfFederate) (count : ℕ) (links others : ℕ → Link) (j i : ℕ) (step : Step) → IsShown w count links → IsShown after count others → j < count → newly_taken w after (Down j) i step ≡ New i (Some (links j).second.end) (Some (others j).second.end) (brought_by w step)
 new_down w after count links others j i step shown then_shown l =
     ap (λ (o : Option Image). New i o (receiver after (Down j)) (brought_by w step)) (own_is w count links j shown l) ∙ ap (λ (o : Option Image). New i (Some (links j).second.end) o (brought_by w step)) (own_is after count others j then_shown l)
 
@@ -280,13 +280,13 @@ down_begins l after brought taken i h t begins down =
     ]
 
 -- nothing is taken where there is no such federate
-none_beyond_up : {Hub Member : Type 0} (w after : World Hub Member) (count : ℕ) (links others : ℕ → Link) (j i : ℕ) (step : Step) → IsShown w count links → IsShown after count others → count ≤ j → newly_taken w after (Up j) i step ≡ []
+none_beyond_up : {OfCoordinator OfFederate : Type 0} (w after : World OfCoordinator OfFederate) (count : ℕ) (links others : ℕ → Link) (j i : ℕ) (step : Step) → IsShown w count links → IsShown after count others → count ≤ j → newly_taken w after (Up j) i step ≡ []
 none_beyond_up w after count links others j i step shown then_shown l =
     let before : slice_get w.coordinator.ends j ≡ None = nothing_beyond w.coordinator.ends j (let size = shown.ends in omega arith) in
     let then_so : slice_get after.coordinator.ends j ≡ None = nothing_beyond after.coordinator.ends j (let size = then_shown.ends in omega arith) in
     ap (λ (o : Option Image). New i o (receiver after (Up j)) (brought_by w step)) before ∙ ap (λ (o : Option Image). New i None o (brought_by w step)) then_so
 
-pub none_beyond_down : {Hub Member : Type 0} (w after : World Hub Member) (count : ℕ) (links others : ℕ → Link) (j i : ℕ) (step : Step) → IsShown w count links → IsShown after count others → count ≤ j → newly_taken w after (Down j) i step ≡ []
+pub none_beyond_down : {OfCoordinator OfFederate : Type 0} (w after : World OfCoordinator OfFederate) (count : ℕ) (links others : ℕ → Link) (j i : ℕ) (step : Step) → IsShown w count links → IsShown after count others → count ≤ j → newly_taken w after (Down j) i step ≡ []
 none_beyond_down w after count links others j i step shown then_shown l =
     let before : slice_get w.federates j ≡ None = nothing_beyond w.federates j (let size = shown.federates in omega arith) in
     let then_so : slice_get after.federates j ≡ None = nothing_beyond after.federates j (let size = then_shown.federates in omega arith) in
@@ -299,7 +299,7 @@ beyond_begins before after i taken more e f g begins =
     subst P (sym (ap (λ (x : List Signal). taken ++ x) g ∙ append-nil taken)) (subst Q (e ∙ sym f) begins)
 
 -- what was taken stays in order through a step
-ordered_step : {Hub Member : Type 0} (w after : World Hub Member) (count : ℕ) (links : ℕ → Link) (taken : Dir → ℕ → List Signal) (step : Step) → IsOrdered w count links taken → (c : IsChanged after count links (brought_by w step)) → IsOrdered after count c.after (next_taken w after step taken)
+ordered_step : {OfCoordinator OfFederate : Type 0} (w after : World OfCoordinator OfFederate) (count : ℕ) (links : ℕ → Link) (taken : Dir → ℕ → List Signal) (step : Step) → IsOrdered w count links taken → (c : IsChanged after count links (brought_by w step)) → IsOrdered after count c.after (next_taken w after step taken)
 ordered_step w after count links taken step o c =
     record {
       shown = c.shown;
@@ -380,28 +380,28 @@ ordered_step w after count links taken step o c =
         ap (λ (x : List Signal). x ++ New i (Some (links j).second.end) (Some (c.after j).second.end) (brought_by w step)) (o.downs j i l (omega arith)) ∙ none
 
 -- the list of steps changes nothing of this
-changed_listed : {Hub Member : Type 0} (w : World Hub Member) (count : ℕ) (links : ℕ → Link) (brought : List Signal) (steps : List Step) → IsChanged w count links brought → IsChanged (record w { steps = steps }) count links brought
+changed_listed : {OfCoordinator OfFederate : Type 0} (w : World OfCoordinator OfFederate) (count : ℕ) (links : ℕ → Link) (brought : List Signal) (steps : List Step) → IsChanged w count links brought → IsChanged (record w { steps = steps }) count links brought
 changed_listed w count links brought steps c = record { after = c.after; shown = shown_listed w count c.after steps c.shown; each = c.each }
 
-all_ordered : {Hub Member HubRow Row : Type 0} (hub : Core Hub HubRow) (member : Core Member Row) (w : World Hub Member) (count : ℕ) (links : ℕ → Link) (taken : Dir → ℕ → List Signal) (steps : List Step) → IsOrdered w count links taken → (dir : Dir) (i : ℕ) → BeginsWith (offered_in i (frames_in (after_steps hub member w steps) dir)) (taken dir i ++ taken_in hub member w dir i steps)
-all_ordered hub member w count links taken [] o dir i =
+all_ordered : {OfCoordinator OfFederate CoordinatorRow Row : Type 0} (of_coordinator : Core OfCoordinator CoordinatorRow) (of_federate : Core OfFederate Row) (w : World OfCoordinator OfFederate) (count : ℕ) (links : ℕ → Link) (taken : Dir → ℕ → List Signal) (steps : List Step) → IsOrdered w count links taken → (dir : Dir) (i : ℕ) → BeginsWith (offered_in i (frames_in (after_steps of_coordinator of_federate w steps) dir)) (taken dir i ++ taken_in of_coordinator of_federate w dir i steps)
+all_ordered of_coordinator of_federate w count links taken [] o dir i =
     let P : List Signal → Type 0 = λ x. BeginsWith (offered_in i (frames_in w dir)) x in
     subst P (sym (append-nil (taken dir i))) (o.begins dir i)
-all_ordered hub member w count links taken (step ∷ rest) o dir i =
-    let made = does hub member w step in
-    let c = changed_listed made.world count links (brought_by w step) (made.world.steps ++ step ∷ []) (changed hub member w count links step o.shown o.held) in
-    let next = (applied hub member w step).world in
-    let more = all_ordered hub member (applied hub member w step).world count c.after (next_taken w (applied hub member w step).world step taken) rest (ordered_step w (applied hub member w step).world count links taken step o c) dir i in
-    let P : List Signal → Type 0 = λ x. BeginsWith (offered_in i (frames_in (after_steps hub member (applied hub member w step).world rest) dir)) x in
-    subst P (append_assoc (taken dir i) (newly_taken w (applied hub member w step).world dir i step) (taken_in hub member (applied hub member w step).world dir i rest)) more
+all_ordered of_coordinator of_federate w count links taken (step ∷ rest) o dir i =
+    let made = does of_coordinator of_federate w step in
+    let c = changed_listed made.world count links (brought_by w step) (made.world.steps ++ step ∷ []) (changed of_coordinator of_federate w count links step o.shown o.held) in
+    let next = (applied of_coordinator of_federate w step).world in
+    let more = all_ordered of_coordinator of_federate (applied of_coordinator of_federate w step).world count c.after (next_taken w (applied of_coordinator of_federate w step).world step taken) rest (ordered_step w (applied of_coordinator of_federate w step).world count links taken step o c) dir i in
+    let P : List Signal → Type 0 = λ x. BeginsWith (offered_in i (frames_in (after_steps of_coordinator of_federate (applied of_coordinator of_federate w step).world rest) dir)) x in
+    subst P (append_assoc (taken dir i) (newly_taken w (applied of_coordinator of_federate w step).world dir i step) (taken_in of_coordinator of_federate (applied of_coordinator of_federate w step).world dir i rest)) more
 
-pub taken_in_order : {Hub Member HubRow Row : Type 0} (hub : Core Hub HubRow) (member : Core Member Row) (node : Hub) (count : ℕ) (member_at : ℕ → Member) (room : ℕ) (steps : List Step) (dir : Dir) (i : ℕ) → BeginsWith (offered_in i (frames_in (after_steps hub member (opened node count member_at room) steps) dir)) (taken_in hub member (opened node count member_at room) dir i steps)
-taken_in_order hub member node count member_at room steps dir i =
-    all_ordered hub member (opened node count member_at room) count (λ j. initial_link j 1 room) (λ d k. []) steps
+pub taken_in_order : {OfCoordinator OfFederate CoordinatorRow Row : Type 0} (of_coordinator : Core OfCoordinator CoordinatorRow) (of_federate : Core OfFederate Row) (node : OfCoordinator) (count : ℕ) (federate_at : ℕ → OfFederate) (room : ℕ) (steps : List Step) (dir : Dir) (i : ℕ) → BeginsWith (offered_in i (frames_in (after_steps of_coordinator of_federate (opened node count federate_at room) steps) dir)) (taken_in of_coordinator of_federate (opened node count federate_at room) dir i steps)
+taken_in_order of_coordinator of_federate node count federate_at room steps dir i =
+    all_ordered of_coordinator of_federate (opened node count federate_at room) count (λ j. initial_link j 1 room) (λ d k. []) steps
     (record {
-      shown = opened_shown node count member_at room;
+      shown = opened_shown node count federate_at room;
       held = λ j l. held j 1 room [];
-      begins = λ d k. (offered_in k (frames_in (opened node count member_at room) d), refl);
+      begins = λ d k. (offered_in k (frames_in (opened node count federate_at room) d), refl);
       up = λ j l. refl;
       ups = λ j k l other. refl;
       down = λ j k l is. refl;

@@ -34,7 +34,7 @@ use Rattle.protocol_laws.proofs.Replay.{newest_tag, IsReplayed, moves_replay}
 use Rattle.node.specs.declared.event.Event.{Event}
 use Rattle.node.specs.Step.{Station, step_of}
 use Rattle.network.proofs.Items.{get_set_here, get_set_other}
-use Rattle.node_cores.specs.FederateCore as member
+use Rattle.node_cores.specs.FederateCore as of_federate
 use Rattle.node_cores.specs.FederateCore.{FederateNode, federate_core}
 use Rattle.node_cores.specs.CoordinatorCore.{CoordinatorNode, coordinator_core}
 use Rattle.link_laws.specs.Link.{Side, Link, Act, replaced}
@@ -44,7 +44,7 @@ use Rattle.world_stations.specs.World.{Applied, after_federate, forgotten, blank
 use Rattle.world_stations.specs.Taken.{own_end, receiver, number_taken, brought_by, newly_taken}
 use Rattle.world_stations.specs.Federation.{Federation, world_after, step_in, rows_at, rows_in, IsLaterThan, TakesNothingLate}
 use Rattle.world_stations.proofs.Course.{acted, TakesNone, Comes, quiet, takes, notes, says, declines, cannot, IsCourse}
-use Rattle.world_stations.proofs.Shown.{Brings, nowhere, at_hub, at_member, lost as loses_all, happened, same_or_not}
+use Rattle.world_stations.proofs.Shown.{Brings, nowhere, happened_at_coordinator, happened_at_federate, lost as loses_all, happened, same_or_not}
 use Rattle.world_stations.proofs.Quiet.{TookNothing}
 use Rattle.world_stations.proofs.Site.{node_with, keeps, loses}
 use Rattle.world_stations.proofs.Moves.{done_of, nothing_of, federate_answers, rule_of}
@@ -130,7 +130,7 @@ late_at_own d programs inputs w links moves step j i s e place c lawful below th
       | takes q m handed node plain acts ↦
           elim site.own [
             | keeps is opened not_lost node_is queue frames ↦
-                let done = done_of (member.made_by (node_with d programs inputs j (members j).federate)) (federate_accepts n j (members j).federate handed.signal) m (accepts_as d programs inputs j (members j) s.node q handed.signal (Done m) node_is handed.node) in
+                let done = done_of (of_federate.made_by (node_with d programs inputs j (members j).federate)) (federate_accepts n j (members j).federate handed.signal) m (accepts_as d programs inputs j (members j) s.node q handed.signal (Done m) node_is handed.node) in
                 let safe = widest_rule_is_safe n (least_of d) (lawful_is_wired n lawful.lawful) in
                 let replayed = moves_replay n (least_of d) (λ k. rule_of d programs inputs) moves lawful.lawful lawful.facts (λ k. safe) j in
                 let later = taken_later n j (members j).federate handed.signal done.0 replayed done.1 in
@@ -143,7 +143,7 @@ late_at_own d programs inputs w links moves step j i s e place c lawful below th
       | notes q handed acts ↦
           elim site.own [
             | keeps is opened not_lost node_is queue frames ↦
-                absurd (federate_answers n j (members j).federate handed.signal (nothing_of (member.made_by (node_with d programs inputs j (members j).federate)) _ (accepts_as d programs inputs j (members j) s.node q handed.signal Nothing node_is handed.node)))
+                absurd (federate_answers n j (members j).federate handed.signal (nothing_of (of_federate.made_by (node_with d programs inputs j (members j).federate)) _ (accepts_as d programs inputs j (members j) s.node q handed.signal Nothing node_is handed.node)))
             | loses later lost ↦ absurd (never_handed d programs inputs j (links j) (members j) s.node place handed.incarnation handed.number handed.signal q site later (handed_at w (links j) s e place q Nothing ends comes handed))
           ]
       | says m speaks node plain acts ↦ none (subst A (sym (acts 0)) (tt, tt))
@@ -196,8 +196,8 @@ late_step d programs inputs w links moves step j i lawful below run =
     let own = own_is w (federate_count d) links j run.shown below in
     elim (happened coordinator_core federate_core w (federate_count d) links step run.shown held) [
       | nowhere is ↦ subst G (sym is) (subst P (sym (still_new w w step j i refl)) tt)
-      | at_hub e place comes c brings is ↦ subst G (sym is) (subst P (sym (nothing_new (number_taken i (receiver w (Down j))) (number_taken i (receiver w (Down j))) (brought_by w step) refl)) tt)
-      | at_member k s e place there_is there comes c brings is ↦
+      | happened_at_coordinator e place comes c brings is ↦ subst G (sym is) (subst P (sym (nothing_new (number_taken i (receiver w (Down j))) (number_taken i (receiver w (Down j))) (brought_by w step) refl)) tt)
+      | happened_at_federate k s e place there_is there comes c brings is ↦
           subst G (sym is)
           (elim (same_or_not k j) [
             | inl here ↦ late_here d programs inputs w links moves step j k i s e place c lawful (sym here) there_is there comes brings run own

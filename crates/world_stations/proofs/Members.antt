@@ -19,7 +19,7 @@ use Rattle.protocol.specs.Machine.{Member, Move, ToFederate, with_member, sent_t
 use Rattle.node.specs.declared.event.Event.{Event}
 use Rattle.node.specs.Core.{Made}
 use Rattle.node.specs.Step.{Station, step_of}
-use Rattle.node_cores.specs.FederateCore as member
+use Rattle.node_cores.specs.FederateCore as of_federate
 use Rattle.node_cores.specs.FederateCore.{FederateNode, federate_core, to_coordinator}
 use Rattle.link_laws.specs.Way.{offered_in}
 use Rattle.link_laws.specs.Link.{Link, Act, Gets, Offers, replaced}
@@ -31,11 +31,11 @@ use Rattle.world_stations.specs.World.{after_federate, forgotten}
 use Rattle.world_stations.specs.Federation.{Federation}
 use Rattle.world_stations.proofs.Course.{acted, taking, Comes, IsHandedOn, IsCourse}
 use Rattle.world_stations.proofs.Courses.{place_there, some_of}
-use Rattle.world_stations.proofs.Shown.{shown_at_member, shown_lost, at_own, at_other}
+use Rattle.world_stations.proofs.Shown.{shown_at_federate, shown_lost, at_own, at_other}
 use Rattle.world_stations.proofs.Quiet.{offers_at}
 use Rattle.world_stations.proofs.Site.{node_with, IsSite, keeps, loses, kept_linked, in_turn_is, takes_next}
-use Rattle.world_stations.proofs.Moves.{done_of, refused_of, rule_of, sent_up, member_move}
-use Rattle.world_stations.proofs.Runs.{IsRun, IsMoved, comes_with, member_run, same_standings, same_lost, said_incarnation, kept_does}
+use Rattle.world_stations.proofs.Moves.{done_of, refused_of, rule_of, sent_up, federate_move}
+use Rattle.world_stations.proofs.Runs.{IsRun, IsMoved, comes_with, federate_run, same_federate_records, same_lost, said_incarnation, kept_does}
 
 -- what is handed on to a federate comes from its one peer, in its turn
 pub record IsHanded (l : Link) (place incarnation number : ℕ) (signal : Signal) (q : ℕ) : Type 0 where
@@ -70,14 +70,14 @@ own_ends d programs inputs w links members j s below there run =
     subst E (some_of at.station s (sym at.there ∙ there)) at.second
 
 -- what a kept federate's node does with a signal
-pub accepts_as : (d : Draft) (programs : List Behaviour) (inputs : List Input) (j : ℕ) (m : Member) (v : FederateNode) (q : ℕ) (signal : Signal) (o : Outcome (Made FederateNode)) → v ≡ node_with d programs inputs j m.federate → member.accepts v q signal ≡ o → with_made (member.made_by (node_with d programs inputs j m.federate)) (federate_accepts (network_of d programs inputs) j m.federate signal) ≡ o
-accepts_as d programs inputs j m v q signal o is e = let P : FederateNode → Type 0 = λ x. member.accepts x q signal ≡ o in subst P is e
+pub accepts_as : (d : Draft) (programs : List Behaviour) (inputs : List Input) (j : ℕ) (m : Member) (v : FederateNode) (q : ℕ) (signal : Signal) (o : Outcome (Made FederateNode)) → v ≡ node_with d programs inputs j m.federate → of_federate.accepts v q signal ≡ o → with_made (of_federate.made_by (node_with d programs inputs j m.federate)) (federate_accepts (network_of d programs inputs) j m.federate signal) ≡ o
+accepts_as d programs inputs j m v q signal o is e = let P : FederateNode → Type 0 = λ x. of_federate.accepts x q signal ≡ o in subst P is e
 
-pub announces_as : (d : Draft) (programs : List Behaviour) (inputs : List Input) (j : ℕ) (m : Member) (v : FederateNode) (o : Outcome (Made FederateNode)) → v ≡ node_with d programs inputs j m.federate → member.announces v ≡ o → with_made (member.made_by (node_with d programs inputs j m.federate)) (federate_announces m.federate) ≡ o
-announces_as d programs inputs j m v o is e = let P : FederateNode → Type 0 = λ x. member.announces x ≡ o in subst P is e
+pub announces_as : (d : Draft) (programs : List Behaviour) (inputs : List Input) (j : ℕ) (m : Member) (v : FederateNode) (o : Outcome (Made FederateNode)) → v ≡ node_with d programs inputs j m.federate → of_federate.announces v ≡ o → with_made (of_federate.made_by (node_with d programs inputs j m.federate)) (federate_announces m.federate) ≡ o
+announces_as d programs inputs j m v o is e = let P : FederateNode → Type 0 = λ x. of_federate.announces x ≡ o in subst P is e
 
-pub advances_as : (d : Draft) (programs : List Behaviour) (inputs : List Input) (j : ℕ) (m : Member) (v : FederateNode) (o : Outcome (Made FederateNode)) → v ≡ node_with d programs inputs j m.federate → member.advances v ≡ o → with_made (member.made_by (node_with d programs inputs j m.federate)) (federate_advances (network_of d programs inputs) j m.federate) ≡ o
-advances_as d programs inputs j m v o is e = let P : FederateNode → Type 0 = λ x. member.advances x ≡ o in subst P is e
+pub advances_as : (d : Draft) (programs : List Behaviour) (inputs : List Input) (j : ℕ) (m : Member) (v : FederateNode) (o : Outcome (Made FederateNode)) → v ≡ node_with d programs inputs j m.federate → of_federate.advances v ≡ o → with_made (of_federate.made_by (node_with d programs inputs j m.federate)) (federate_advances (network_of d programs inputs) j m.federate) ≡ o
+advances_as d programs inputs j m v o is e = let P : FederateNode → Type 0 = λ x. of_federate.advances x ≡ o in subst P is e
 
 -- a kept federate takes a signal
 pub kept_takes : (d : Draft) (programs : List Behaviour) (inputs : List Input) (w : Federation) (links : ℕ → Link) (members : ℕ → Member) (j : ℕ) (s : Station FederateNode) (e : Event) (place q : ℕ) (m : Made FederateNode) (c : IsCourse federate_core false s e (λ p. (links j).first.sent) place (step_of federate_core false s e))
@@ -90,7 +90,7 @@ kept_takes d programs inputs w links members j s e place q m c below there comes
     let l = links j in
     let handed = handed_at w (links j) s e place q (Done m) (own_ends d programs inputs w links members j s below there run) comes h in
     let o = federate_accepts n j (members j).federate h.signal in
-    let done = done_of (member.made_by (node_with d programs inputs j (members j).federate)) o m (accepts_as d programs inputs j (members j) s.node q h.signal (Done m) node_is h.node) in
+    let done = done_of (of_federate.made_by (node_with d programs inputs j (members j).federate)) o m (accepts_as d programs inputs j (members j) s.node q h.signal (Done m) node_is h.node) in
     let made : Stepped = done.0 in
     let sent : sent_to 0 m.sent ≡ made.sent = ap (λ (x : Made FederateNode). sent_to 0 x.sent) done.2 ∙ sent_up made.sent in
     let linked = linked_back 1 (links j).first (links j).second (kept_linked (links j) site.held is) in
@@ -100,7 +100,7 @@ kept_takes d programs inputs w links members j s e place q m c below there comes
     let T : ℕ → Type 0 = λ x. c.acts 0 ≡ taking x place 0 (sent_to 0 m.sent) in
     record {
       after = with_member members j (stepped (members j) rest made);
-      is_made = member_move n (rule_of d programs inputs) members j h.signal rest not_lost (queue ∙ next.next) ∙ ap (with_made (λ made. with_member members j (stepped (members j) rest made))) done.1;
+      is_made = federate_move n (rule_of d programs inputs) members j h.signal rest not_lost (queue ∙ next.next) ∙ ap (with_made (λ made. with_member members j (stepped (members j) rest made))) done.1;
       run = kept_does d programs inputs w links members j s e place c (stepped (members j) rest made) made.sent (Gets place true ∷ Offers (sent_to 0 m.sent) ∷ []) below there (subst T handed.peer acts)
           refl not_lost (node ∙ ap (λ (x : Made FederateNode). x.after) done.2) (next.incarnation ∙ is) next.unclosed (tt, (tt, tt)) (next.offered ∙ ap (λ (x : List Signal). offered_in 1 (links j).second.sent ++ x) sent) refl refl is frames run;
       lost = same_lost members j (stepped (members j) rest made) refl;
@@ -108,7 +108,7 @@ kept_takes d programs inputs w links members j s e place q m c below there comes
 
 -- a kept federate says something by itself
 pub kept_says : (d : Draft) (programs : List Behaviour) (inputs : List Input) (w : Federation) (links : ℕ → Link) (members : ℕ → Member) (j : ℕ) (s : Station FederateNode) (e : Event) (place : ℕ) (m : Made FederateNode) (made : Stepped) (move : Move) (c : IsCourse federate_core false s e (λ p. (links j).first.sent) place (step_of federate_core false s e))
-    → j < federate_count d → slice_get w.federates j ≡ Some s → (step_of federate_core false s e).station.node ≡ m.after → c.acts 0 ≡ Offers (sent_to 0 m.sent) ∷ [] → m ≡ member.made_by (node_with d programs inputs j (members j).federate) made
+    → j < federate_count d → slice_get w.federates j ≡ Some s → (step_of federate_core false s e).station.node ≡ m.after → c.acts 0 ≡ Offers (sent_to 0 m.sent) ∷ [] → m ≡ of_federate.made_by (node_with d programs inputs j (members j).federate) made
     → outcome_of (network_of d programs inputs) (rule_of d programs inputs) members move ≡ Done (with_member members j (stepped (members j) (members j).down made))
     → (links j).second.end.incarnation ≡ 1 → (links j).second.end.closed ≡ false → (members j).lost ≡ false → (members j).down ≡ drop (links j).second.end.taken (offered_in 1 (links j).first.sent) → AreOf 1 (links j).second.sent → IsRun d programs inputs w links members
     → IsMoved d programs inputs (after_federate w j (step_of federate_core false s e)).world (with_one links j (record { first = (links j).first; second = acted (links j).second (links j).first.sent (c.acts 0) })) members move
@@ -134,8 +134,8 @@ unmoved d programs inputs w links members j s e place c below there site run =
     let made = step_of federate_core false s e in
     let mine : Link = record { first = (links j).first; second = acted (links j).second (links j).first.sent (c.acts 0) } in
     let L : Link → Type 0 = λ x. IsSite d programs inputs j x (members j) made.station.node in
-    member_run d programs inputs w (after_federate w j made).world links (with_one links j mine) members members j s made.station there refl refl
-    (shown_at_member federate_core w (federate_count d) links j s e place made c there below run.shown)
+    federate_run d programs inputs w (after_federate w j made).world links (with_one links j mine) members members j s made.station there refl refl
+    (shown_at_federate federate_core w (federate_count d) links j s e place made c there below run.shown)
     (λ k apart. at_other links j k mine apart) (λ k apart. refl) refl (subst L (sym (at_own links j mine)) site) run
 
 -- a federate forgets all
@@ -149,9 +149,9 @@ forgets_all d programs inputs w links members j s below there run =
     let late : 0 < (links j).second.end.incarnation = elim site.own [ keeps is opened not_lost node queue mine ↦ omega arith | loses later lost ↦ omega arith ] in
     let L : Link → Type 0 = λ x. IsSite d programs inputs j x (with_member members j m j) (forgotten federate_core s).node in
     let M : Member → Type 0 = λ x. IsSite d programs inputs j mine x (forgotten federate_core s).node in
-    member_run d programs inputs w changed links (with_one links j mine) members (with_member members j m) j s (forgotten federate_core s) there refl refl
+    federate_run d programs inputs w changed links (with_one links j mine) members (with_member members j m) j s (forgotten federate_core s) there refl refl
     (shown_lost federate_core w (federate_count d) links j s there below run.shown)
-    (λ k apart. at_other links j k mine apart) (λ k apart. at_other members j k m apart) (same_standings members j m refl)
+    (λ k apart. at_other links j k mine apart) (λ k apart. at_other members j k m apart) (same_federate_records members j m refl)
     (subst L (sym (at_own links j mine))
     (subst M (sym (at_own members j m))
     (record {
@@ -173,8 +173,8 @@ kept_refuses d programs inputs w links members j s e place q refusal below there
     let site = run.site j below s there in
     let handed = handed_at w (links j) s e place q (Refused refusal) (own_ends d programs inputs w links members j s below there run) comes h in
     let o = federate_accepts n j (members j).federate h.signal in
-    let refused = refused_of (member.made_by (node_with d programs inputs j (members j).federate)) o refusal (accepts_as d programs inputs j (members j) s.node q h.signal (Refused refusal) node_is h.node) in
+    let refused = refused_of (of_federate.made_by (node_with d programs inputs j (members j).federate)) o refusal (accepts_as d programs inputs j (members j) s.node q h.signal (Refused refusal) node_is h.node) in
     let linked = linked_back 1 (links j).first (links j).second (kept_linked (links j) site.held is) in
     let next = takes_next 1 (links j).second (links j).first place h.incarnation h.number h.signal [] linked handed.at handed.in_turn in
     let rest : List Signal = drop (acted (links j).second (links j).first.sent (Gets place true ∷ Offers [] ∷ [])).end.taken (offered_in 1 (links j).first.sent) in
-    member_move n (rule_of d programs inputs) members j h.signal rest not_lost (queue ∙ next.next) ∙ ap (with_made (λ made. with_member members j (stepped (members j) rest made))) refused
+    federate_move n (rule_of d programs inputs) members j h.signal rest not_lost (queue ∙ next.next) ∙ ap (with_made (λ made. with_member members j (stepped (members j) rest made))) refused

@@ -15,14 +15,14 @@ use Rattle.protocol.specs.declared.refusal.Refusal.{Refusal}
 use Rattle.protocol.specs.declared.refusal.Refusal.TheVariants.{Late, OldGrant, WrongSignal, NotYours, BelowGrant, NotRising, AfterStop}
 use Rattle.protocol.specs.Outcome.{Outcome, Refused, Nothing, Done, made_or, with_made}
 use Rattle.protocol.specs.Federate.{Federate, Stepped, is_told, next_event, turn_at, accept_message, advance_to, federate_accepts, federate_announces, federate_advances}
-use Rattle.protocol.specs.Standing.{Standing}
+use Rattle.protocol.specs.FederateRecord.{FederateRecord}
 use Rattle.protocol.specs.Grant.{Rule, grant_widest}
 use Rattle.protocol.specs.Coordinator.{Coordinated, route, coordinator_takes, with_grants, coordinator_accepts}
-use Rattle.protocol.specs.Standings.{standing_at, listed_after}
-use Rattle.protocol.specs.Machine.{Member, Move, ToCoordinator, ToFederate, Announce, Advance, with_member, standings_of, sent_to, coordinated, coordinator_takes_from, federate_takes_from, stepped, unless_lost, outcome_of, after_moves}
+use Rattle.protocol.specs.FederateRecords.{federate_record_at, listed_after}
+use Rattle.protocol.specs.Machine.{Member, Move, ToCoordinator, ToFederate, Announce, Advance, with_member, federate_records_of, sent_to, coordinated, coordinator_takes_from, federate_takes_from, stepped, unless_lost, outcome_of, after_moves}
 use Rattle.node.specs.Core.{Made}
 use Rattle.node_cores.specs.FederateCore.{to_coordinator}
-use Rattle.node_cores.specs.CoordinatorCore as hub
+use Rattle.node_cores.specs.CoordinatorCore as of_coordinator
 use Rattle.node_cores.specs.CoordinatorCore.{CoordinatorNode, wiring_in, rule_in}
 use Rattle.protocol_laws.proofs.Wired.{accepts_same}
 
@@ -65,24 +65,24 @@ if_refused : {A : Type 0} (b : Bool) (refusal : Refusal) (o : Outcome A) → IsS
 if_refused true refusal o h = tt
 if_refused false refusal o h = h
 
-route_something : (n : Network) (standings : ℕ → Standing) (i : ℕ) (signal : Signal) (o : Option Connection) (tag : LogicalTime) → IsSomething (route n standings i signal o tag)
-route_something n standings i signal None tag = tt
-route_something n standings i signal (Some c) tag =
+route_something : (n : Network) (federate_records : ℕ → FederateRecord) (i : ℕ) (signal : Signal) (o : Option Connection) (tag : LogicalTime) → IsSomething (route n federate_records i signal o tag)
+route_something n federate_records i signal None tag = tt
+route_something n federate_records i signal (Some c) tag =
     if_refused (not (nat_eq c.source i)) NotYours _
-    (if_refused (not (is_at_most tag n.stop)) AfterStop _ (if_refused (not (is_past (standings c.target).granted tag)) BelowGrant _ tt))
+    (if_refused (not (is_at_most tag n.stop)) AfterStop _ (if_refused (not (is_past (federate_records c.target).granted tag)) BelowGrant _ tt))
 
-takes_something : (n : Network) (standings : ℕ → Standing) (i : ℕ) (signal : Signal) → IsSomething (coordinator_takes n standings i signal)
-takes_something n standings i (Net tag) =
-    if_refused (not (is_at_most tag n.stop || is_same tag forever)) AfterStop _ (if_refused (not (is_past (standings i).completed tag)) NotRising _ tt)
-takes_something n standings i (Ltc tag) =
-    if_refused (not (is_at_most tag n.stop)) AfterStop _ (if_refused (not (is_past (standings i).completed tag)) NotRising _ tt)
-takes_something n standings i (Tag tag) = tt
-takes_something n standings i (Msg k tag v) = route_something n standings i (Msg k tag v) (slice_get n.connections k) tag
+takes_something : (n : Network) (federate_records : ℕ → FederateRecord) (i : ℕ) (signal : Signal) → IsSomething (coordinator_takes n federate_records i signal)
+takes_something n federate_records i (Net tag) =
+    if_refused (not (is_at_most tag n.stop || is_same tag forever)) AfterStop _ (if_refused (not (is_past (federate_records i).completed tag)) NotRising _ tt)
+takes_something n federate_records i (Ltc tag) =
+    if_refused (not (is_at_most tag n.stop)) AfterStop _ (if_refused (not (is_past (federate_records i).completed tag)) NotRising _ tt)
+takes_something n federate_records i (Tag tag) = tt
+takes_something n federate_records i (Msg k tag v) = route_something n federate_records i (Msg k tag v) (slice_get n.connections k) tag
 
 -- the coordinator takes each signal or refuses it
-pub coordinator_answers : (n : Network) (rule : Rule) (standings : ℕ → Standing) (i : ℕ) (signal : Signal) → coordinator_accepts n rule standings i signal ≡ Nothing → ⊥
-coordinator_answers n rule standings i signal e =
-    not_nothing (coordinator_takes n standings i signal) (takes_something n standings i signal) (nothing_of (with_grants n rule) (coordinator_takes n standings i signal) e)
+pub coordinator_answers : (n : Network) (rule : Rule) (federate_records : ℕ → FederateRecord) (i : ℕ) (signal : Signal) → coordinator_accepts n rule federate_records i signal ≡ Nothing → ⊥
+coordinator_answers n rule federate_records i signal e =
+    not_nothing (coordinator_takes n federate_records i signal) (takes_something n federate_records i signal) (nothing_of (with_grants n rule) (coordinator_takes n federate_records i signal) e)
 
 message_something : (n : Network) (j : ℕ) (f : Federate) (o : Option Connection) (tag : LogicalTime) (v : _) → IsSomething (accept_message n j f o tag v)
 message_something n j f None tag v = tt
@@ -120,19 +120,19 @@ abbrev pub rule_of : Draft → List Behaviour → List Input → Rule
 rule_of d programs inputs = grant_widest (network_of d programs inputs) (least_of d)
 
 -- what the coordinator's node makes of a step
-abbrev pub hub_makes : Network → CoordinatorNode → Coordinated → Made CoordinatorNode
-hub_makes n v made = hub.made_by v (listed_after n.reactors made)
+abbrev pub coordinator_makes : Network → CoordinatorNode → Coordinated → Made CoordinatorNode
+coordinator_makes n v made = of_coordinator.made_by v (listed_after n.reactors made)
 
 -- the coordinator's node goes by the network
-pub hub_accepts : (d : Draft) (programs : List Behaviour) (inputs : List Input) (v : CoordinatorNode) (standings : ℕ → Standing) (q : ℕ) (signal : Signal) → v.draft ≡ d → standing_at v.standings ≡ standings
-    → hub.accepts v q signal ≡ with_made (hub_makes (network_of d programs inputs) v) (coordinator_accepts (network_of d programs inputs) (rule_of d programs inputs) standings q signal)
-hub_accepts d programs inputs v standings q signal is stands =
+pub coordinator_accepts_listed : (d : Draft) (programs : List Behaviour) (inputs : List Input) (v : CoordinatorNode) (federate_records : ℕ → FederateRecord) (q : ℕ) (signal : Signal) → v.draft ≡ d → federate_record_at v.federate_records ≡ federate_records
+    → of_coordinator.accepts v q signal ≡ with_made (coordinator_makes (network_of d programs inputs) v) (coordinator_accepts (network_of d programs inputs) (rule_of d programs inputs) federate_records q signal)
+coordinator_accepts_listed d programs inputs v federate_records q signal is stands =
     let n = network_of d programs inputs in
-    let P : Draft → Type 0 = λ x. hub.accepts v q signal ≡ with_made (hub.made_by v) (with_made (listed_after (wiring_in x).reactors) (coordinator_accepts (wiring_in x) (rule_in x) (standing_at v.standings) q signal)) in
-    let Q : (ℕ → Standing) → Type 0 = λ s. hub.accepts v q signal ≡ with_made (hub_makes (network_of d programs inputs) v) (coordinator_accepts (network_of d programs inputs) (rule_of d programs inputs) s q signal) in
+    let P : Draft → Type 0 = λ x. of_coordinator.accepts v q signal ≡ with_made (of_coordinator.made_by v) (with_made (listed_after (wiring_in x).reactors) (coordinator_accepts (wiring_in x) (rule_in x) (federate_record_at v.federate_records) q signal)) in
+    let Q : (ℕ → FederateRecord) → Type 0 = λ s. of_coordinator.accepts v q signal ≡ with_made (coordinator_makes (network_of d programs inputs) v) (coordinator_accepts (network_of d programs inputs) (rule_of d programs inputs) s q signal) in
     subst Q stands
-    (subst P is refl ∙ composed (hub.made_by v) (listed_after (network_of d programs inputs).reactors) (coordinator_accepts (wiring_in d) (rule_in d) (standing_at v.standings) q signal) ∙
-    ap (with_made (hub_makes (network_of d programs inputs) v)) (sym (accepts_same (network_of d programs inputs) (rule_of d programs inputs) (standing_at v.standings) q signal)))
+    (subst P is refl ∙ composed (of_coordinator.made_by v) (listed_after (network_of d programs inputs).reactors) (coordinator_accepts (wiring_in d) (rule_in d) (federate_record_at v.federate_records) q signal) ∙
+    ap (with_made (coordinator_makes (network_of d programs inputs) v)) (sym (accepts_same (network_of d programs inputs) (rule_of d programs inputs) (federate_record_at v.federate_records) q signal)))
 
 -- what is sent to the coordinator
 pub sent_up : (signals : List Signal) → sent_to 0 (map to_coordinator signals) ≡ signals
@@ -143,16 +143,16 @@ sent_up (s ∷ rest) = ap (λ (x : List Signal). s ∷ x) (sent_up rest)
 pub moved_to : (n : Network) (rule : Rule) (moves : List Move) (move : Move) (after : ℕ → Member) → outcome_of n rule (after_moves n (λ k. rule) moves) move ≡ Done after → after_moves n (λ k. rule) (move ∷ moves) ≡ after
 moved_to n rule moves move after e = ap (made_or (after_moves n (λ k. rule) moves)) e
 
-pub hub_move : (n : Network) (rule : Rule) (members : ℕ → Member) (q : ℕ) (signal : Signal) (rest : List Signal) → (members q).up ≡ signal ∷ rest
-    → outcome_of n rule members (ToCoordinator q) ≡ with_made (λ made. λ j. coordinated made j (with_member members q (record (members q) { up = rest }) j)) (coordinator_accepts n rule (standings_of members) q signal)
-hub_move n rule members q signal rest e = ap (coordinator_takes_from n rule members q) e
+pub coordinator_move : (n : Network) (rule : Rule) (members : ℕ → Member) (q : ℕ) (signal : Signal) (rest : List Signal) → (members q).up ≡ signal ∷ rest
+    → outcome_of n rule members (ToCoordinator q) ≡ with_made (λ made. λ j. coordinated made j (with_member members q (record (members q) { up = rest }) j)) (coordinator_accepts n rule (federate_records_of members) q signal)
+coordinator_move n rule members q signal rest e = ap (coordinator_takes_from n rule members q) e
 
 if_there : (members : ℕ → Member) (j : ℕ) (o : Outcome Member) → (members j).lost ≡ false → unless_lost members j o ≡ with_made (with_member members j) o
 if_there members j o e = ap (λ (b : Bool). if b then Nothing else with_made (with_member members j) o) e
 
-pub member_move : (n : Network) (rule : Rule) (members : ℕ → Member) (j : ℕ) (signal : Signal) (rest : List Signal) → (members j).lost ≡ false → (members j).down ≡ signal ∷ rest
+pub federate_move : (n : Network) (rule : Rule) (members : ℕ → Member) (j : ℕ) (signal : Signal) (rest : List Signal) → (members j).lost ≡ false → (members j).down ≡ signal ∷ rest
     → outcome_of n rule members (ToFederate j) ≡ with_made (λ made. with_member members j (stepped (members j) rest made)) (federate_accepts n j (members j).federate signal)
-member_move n rule members j signal rest lost e =
+federate_move n rule members j signal rest lost e =
     if_there members j (federate_takes_from n j (members j) (members j).down) lost ∙
     ap (λ (x : List Signal). with_made (with_member members j) (federate_takes_from n j (members j) x)) e ∙
     composed (with_member members j) (stepped (members j) rest) (federate_accepts n j (members j).federate signal)

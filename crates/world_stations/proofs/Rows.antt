@@ -20,15 +20,15 @@ use Rattle.plan.specs.Least.{least_of}
 use Rattle.reactor_program.specs.Behaviour.{Behaviour}
 use Rattle.plan_network.specs.Network.{network_of}
 use Rattle.protocol.specs.Outcome.{Outcome, Refused, Nothing, Done}
-use Rattle.protocol.specs.Standing.{Standing}
-use Rattle.protocol.specs.Standings.{standing_at, is_finished}
+use Rattle.protocol.specs.FederateRecord.{FederateRecord}
+use Rattle.protocol.specs.FederateRecords.{federate_record_at, is_finished}
 use Rattle.protocol.specs.Federate.{federate_announces, federate_advances}
-use Rattle.protocol.specs.Machine.{Member, standings_of}
+use Rattle.protocol.specs.Machine.{Member, federate_records_of}
 use Rattle.protocol_laws.specs.Rows.{HasEveryRow}
 use Rattle.protocol_laws.specs.Runs as runs
 use Rattle.protocol_laws.proofs.Eligibility.{lawful_is_wired}
 use Rattle.protocol_laws.proofs.SafeGrants.{widest_rule_is_safe, widest_rule_is_full}
-use Rattle.protocol_laws.proofs.ListedStandings.{finished_is}
+use Rattle.protocol_laws.proofs.ListedFederateRecords.{finished_is}
 use Rattle.protocol_laws.proofs.Ending.{ends_quiet}
 use Rattle.protocol_laws.proofs.Stuck.{stuck_quiet}
 use Rattle.protocol_laws.proofs.Computes.{rows_begin_some, quiet_has_every_row}
@@ -38,7 +38,7 @@ use Rattle.node.specs.Step.{Station, acts, unsent, step_of}
 use Rattle.node.specs.declared.event.Event.{Event}
 use Rattle.node.specs.declared.event.Event.TheVariants as event
 use Rattle.node.specs.declared.node_id.NodeId.TheVariants.{Federate}
-use Rattle.node_cores.specs.FederateCore as member
+use Rattle.node_cores.specs.FederateCore as of_federate
 use Rattle.node_cores.specs.FederateCore.{FederateNode, federate_core}
 use Rattle.node_cores.specs.CoordinatorCore.{wiring_in, coordinator_core}
 use Rattle.link_laws.specs.Way.{with_offered, offered_with, offered_in}
@@ -132,9 +132,9 @@ finished_rows d programs inputs steps j lawful finished below =
     let same = rows_are d programs inputs w j (g.stands.links j) (members j) k in
     let safe = widest_rule_is_safe n (least_of d) (lawful_is_wired n lawful.lawful) in
     let rules = (λ (k : ℕ). rule_of d programs inputs) in
-    let D : Draft → Type 0 = λ x. is_finished (wiring_in x) (standing_at w.coordinator.node.standings) ≡ true in
-    let S : (ℕ → Standing) → Type 0 = λ x. is_finished (wiring_in d) x ≡ true in
-    let ends = (finished_is (wiring_in d) (standings_of members)).0 (subst S g.stands.run.standings (subst D g.stands.run.draft finished.finished)) in
+    let D : Draft → Type 0 = λ x. is_finished (wiring_in x) (federate_record_at w.coordinator.node.federate_records) ≡ true in
+    let S : (ℕ → FederateRecord) → Type 0 = λ x. is_finished (wiring_in d) x ≡ true in
+    let ends = (finished_is (wiring_in d) (federate_records_of members)).0 (subst S g.stands.run.federate_records (subst D g.stands.run.draft finished.finished)) in
     let every = quiet_has_every_row n (least_of d) rules lawful.lawful lawful.facts (λ k. safe) g.stands.moves
     (λ i there. ends_quiet n (least_of d) rules lawful.lawful lawful.facts (λ k. safe) g.stands.moves i (ends i there).1) j below in
     let P : List Row → Type 0 = λ x. HasEveryRow n j x in
@@ -209,8 +209,8 @@ queue_empty w dir most frames are is settled =
     none_left most (offered_in 1 frames) (few_offered 1 most [] frames (omega arith) (all_below w dir most frames is (subst P are (each (IsSettled w dir) (frames_in w dir) settled))))
 
 -- a federate that has nothing to announce or to run
-event_of_member : (w : Federation) (j : ℕ) (s : Station FederateNode) (e : Event) → slice_get w.federates j ≡ Some s → j < length w.federates → (happens coordinator_core federate_core w (if_there w j (record { node = Federate j; event = e }))).outcome ≡ outcome_of (step_of federate_core false s e).answer
-event_of_member w j s e there below =
+event_of_federate : (w : Federation) (j : ℕ) (s : Station FederateNode) (e : Event) → slice_get w.federates j ≡ Some s → j < length w.federates → (happens coordinator_core federate_core w (if_there w j (record { node = Federate j; event = e }))).outcome ≡ outcome_of (step_of federate_core false s e).answer
+event_of_federate w j s e there below =
     ap (λ (b : Bool). (happens coordinator_core federate_core w (if b then Some (record { node = Federate j; event = e }) else None)).outcome) (lt-ltb j (length w.federates) below) ∙
     ap (λ (o : Option (Station FederateNode)). (at_federate federate_core w j e o).outcome) there
 
@@ -233,15 +233,15 @@ stuck_at d programs inputs steps lawful stuck j below =
     (ap (number_taken 1) own ∙ own_number (g.stands.links j).second.end k.incarnation) (stuck.settled (Down j)) in
     let size = run.shown.federates in
     let here : j < length (world_after d programs inputs steps).federates = omega arith in
-    let announced = silent_is k.station (federate_core.announce k.station.node) (sym (event_of_member (world_after d programs inputs steps) j k.station event.Announce k.there here) ∙ stuck.announced j) in
-    let advanced = silent_is k.station (federate_core.advance k.station.node) (sym (event_of_member (world_after d programs inputs steps) j k.station event.Advance k.there here) ∙ stuck.advanced j) in
-    let A : FederateNode → Type 0 = λ v. member.announces v ≡ Nothing in
-    let B : FederateNode → Type 0 = λ v. member.advances v ≡ Nothing in
+    let announced = silent_is k.station (federate_core.announce k.station.node) (sym (event_of_federate (world_after d programs inputs steps) j k.station event.Announce k.there here) ∙ stuck.announced j) in
+    let advanced = silent_is k.station (federate_core.advance k.station.node) (sym (event_of_federate (world_after d programs inputs steps) j k.station event.Advance k.there here) ∙ stuck.advanced j) in
+    let A : FederateNode → Type 0 = λ v. of_federate.announces v ≡ Nothing in
+    let B : FederateNode → Type 0 = λ v. of_federate.advances v ≡ Nothing in
     record {
       up = k.up ∙ ups;
       down = k.down ∙ downs;
-      announce = nothing_of (member.made_by (node_with d programs inputs j (members_after d programs inputs g.stands.moves j).federate)) (federate_announces (members_after d programs inputs g.stands.moves j).federate) (subst A k.node announced);
-      advance = nothing_of (member.made_by (node_with d programs inputs j (members_after d programs inputs g.stands.moves j).federate)) (federate_advances (network_of d programs inputs) j (members_after d programs inputs g.stands.moves j).federate) (subst B k.node advanced);
+      announce = nothing_of (of_federate.made_by (node_with d programs inputs j (members_after d programs inputs g.stands.moves j).federate)) (federate_announces (members_after d programs inputs g.stands.moves j).federate) (subst A k.node announced);
+      advance = nothing_of (of_federate.made_by (node_with d programs inputs j (members_after d programs inputs g.stands.moves j).federate)) (federate_advances (network_of d programs inputs) j (members_after d programs inputs g.stands.moves j).federate) (subst B k.node advanced);
     }
 
 pub stuck_rows : (d : Draft) (programs : List Behaviour) (inputs : List Input) (steps : List Step) (j : ℕ) → IsLawfulWith (network_of d programs inputs) (least_of d) → IsStuck (world_after d programs inputs steps) → j < federate_count d → IsWhole d programs inputs (world_after d programs inputs steps) j

@@ -16,11 +16,11 @@ use Rattle.reactor_program.specs.Behaviour.{Behaviour}
 use Rattle.plan_network.specs.Network.{network_of}
 use Rattle.protocol.specs.declared.refusal.Refusal.{Refusal}
 use Rattle.protocol.specs.Outcome.{Outcome, Refused, Done, with_made, IfDone}
-use Rattle.protocol.specs.Standing.{Standing}
-use Rattle.protocol.specs.Standings.{standing_at, standings_listed}
+use Rattle.protocol.specs.FederateRecord.{FederateRecord}
+use Rattle.protocol.specs.FederateRecords.{federate_record_at, federate_records_listed}
 use Rattle.protocol.specs.Coordinator.{Coordinated, coordinator_accepts}
-use Rattle.protocol.specs.Machine.{Member, Move, ToCoordinator, with_member, standings_of, sent_to, coordinated, outcome_of}
-use Rattle.protocol_laws.proofs.ListedStandings.{accepts_listed, listed_length}
+use Rattle.protocol.specs.Machine.{Member, Move, ToCoordinator, with_member, federate_records_of, sent_to, coordinated, outcome_of}
+use Rattle.protocol_laws.proofs.ListedFederateRecords.{accepts_listed, listed_length}
 use Rattle.node.specs.declared.event.Event.{Event}
 use Rattle.node.specs.declared.event.Event.TheVariants as event
 use Rattle.node.specs.Core.{Made}
@@ -33,23 +33,23 @@ use Rattle.world_stations.specs.World.{after_coordinator, after_federate}
 use Rattle.world_stations.specs.Federation.{Federation}
 use Rattle.world_stations.proofs.Course.{acted, IsQuiet, taking, Comes, IsHandedOn, IsCourse}
 use Rattle.world_stations.proofs.Courses.{place_there, some_of}
-use Rattle.world_stations.proofs.Shown.{IsShown, ups_of, with_firsts, shown_at_hub, shown_at_member, at_own, at_other, same_or_not}
+use Rattle.world_stations.proofs.Shown.{IsShown, ups_of, with_firsts, shown_at_coordinator, shown_at_federate, at_own, at_other, same_or_not}
 use Rattle.world_stations.proofs.Quiet.{IsCalmAct, offers_at}
 use Rattle.link_laws.proofs.Offers.{offers_open}
-use Rattle.protocol_laws.proofs.Safety.{standing_stays}
+use Rattle.protocol_laws.proofs.Safety.{federate_record_stays}
 use Rattle.network.proofs.Items.{get_set_here, get_set_other}
 use Rattle.std.proofs.Math.Path.{fun_ext}
 use Rattle.std.proofs.lemmas.Bool.{eqb-true, eqb-false}
 use Rattle.world_stations.proofs.Site.{node_with, IsSite, keeps, with_first, with_second, quiet_first, firsts_held, seconds_held, calm_acted, TakesNext, takes_next, acts_of, kept_linked}
 use Rattle.link_laws.proofs.Carried.{linked_back}
 use Rattle.link_laws.proofs.Forgotten.{AreOf}
-use Rattle.world_stations.proofs.Moves.{done_of, refused_of, rule_of, hub_makes, hub_accepts, hub_move}
+use Rattle.world_stations.proofs.Moves.{done_of, refused_of, rule_of, coordinator_makes, coordinator_accepts_listed, coordinator_move}
 
 pub record IsRun (d : Draft) (programs : List Behaviour) (inputs : List Input) (w : Federation) (links : ℕ → Link) (members : ℕ → Member) : Type 0 where
   pub shown : IsShown w (federate_count d) links
   pub draft : w.coordinator.node.draft ≡ d
-  pub size : length w.coordinator.node.standings ≡ federate_count d
-  pub standings : standing_at w.coordinator.node.standings ≡ standings_of members
+  pub size : length w.coordinator.node.federate_records ≡ federate_count d
+  pub federate_records : federate_record_at w.coordinator.node.federate_records ≡ federate_records_of members
   pub site : (j : ℕ) → j < federate_count d → (s : Station FederateNode) → slice_get w.federates j ≡ Some s → IsSite d programs inputs j (links j) (members j) s.node
 
 -- the frame that comes
@@ -57,16 +57,16 @@ pub comes_with : {View : Type 0} (s : Station View) (came : ℕ → List Frame) 
 comes_with s came place e q frame is comes = let P : Event → Type 0 = λ x. Comes s came place x in (subst P is comes).0
 
 -- quiet acts of the coordinator
-pub quiet_hub : (d : Draft) (programs : List Behaviour) (inputs : List Input) (w : Federation) (links : ℕ → Link) (members : ℕ → Member) (e : Event) (place : ℕ) (c : IsCourse coordinator_core true w.coordinator e (ups_of links) place (step_of coordinator_core true w.coordinator e))
+pub quiet_coordinator : (d : Draft) (programs : List Behaviour) (inputs : List Input) (w : Federation) (links : ℕ → Link) (members : ℕ → Member) (e : Event) (place : ℕ) (c : IsCourse coordinator_core true w.coordinator e (ups_of links) place (step_of coordinator_core true w.coordinator e))
     → (step_of coordinator_core true w.coordinator e).station.node ≡ w.coordinator.node → ((p : ℕ) (i : Image) → slice_get w.coordinator.ends p ≡ Some i → AllByRecursion (IsQuiet true i.incarnation) (c.acts p)) → IsRun d programs inputs w links members
     → IsRun d programs inputs (after_coordinator w (step_of coordinator_core true w.coordinator e)).world (with_firsts links (λ p. acted (links p).first (ups_of links p) (c.acts p))) members
-quiet_hub d programs inputs w links members e place c node quiet run =
+quiet_coordinator d programs inputs w links members e place c node quiet run =
     let made = step_of coordinator_core true w.coordinator e in
     record {
-      shown = shown_at_hub coordinator_core w (federate_count d) links e place made c run.shown;
+      shown = shown_at_coordinator coordinator_core w (federate_count d) links e place made c run.shown;
       draft = ap (λ (v : CoordinatorNode). v.draft) node ∙ run.draft;
-      size = ap (λ (v : CoordinatorNode). length v.standings) node ∙ run.size;
-      standings = ap (λ (v : CoordinatorNode). standing_at v.standings) node ∙ run.standings;
+      size = ap (λ (v : CoordinatorNode). length v.federate_records) node ∙ run.size;
+      federate_records = ap (λ (v : CoordinatorNode). federate_record_at v.federate_records) node ∙ run.federate_records;
       site = λ j l s there. quiet_first d programs inputs j (links j) (members j) s.node true (c.acts j) (quiet j (links j).first.end (run.shown.each j l).first) (run.site j l s there);
     }
 
@@ -162,16 +162,16 @@ pub record IsMoved (d : Draft) (programs : List Behaviour) (inputs : List Input)
   pub lost : (j : ℕ) → (after j).lost ≡ (members j).lost
 
 -- the coordinator takes a signal
-pub takes_hub : (d : Draft) (programs : List Behaviour) (inputs : List Input) (w : Federation) (links : ℕ → Link) (members : ℕ → Member) (e : Event) (place q : ℕ) (m : Made CoordinatorNode) (c : IsCourse coordinator_core true w.coordinator e (ups_of links) place (step_of coordinator_core true w.coordinator e))
+pub takes_coordinator : (d : Draft) (programs : List Behaviour) (inputs : List Input) (w : Federation) (links : ℕ → Link) (members : ℕ → Member) (e : Event) (place q : ℕ) (m : Made CoordinatorNode) (c : IsCourse coordinator_core true w.coordinator e (ups_of links) place (step_of coordinator_core true w.coordinator e))
     → IsWired (network_of d programs inputs) → Comes w.coordinator (ups_of links) place e → (handed : IsHandedOn coordinator_core w.coordinator e q (Done m)) → (step_of coordinator_core true w.coordinator e).station.node ≡ m.after → ((p : ℕ) → c.acts p ≡ taking q place p (sent_to p m.sent)) → IsRun d programs inputs w links members
     → IsMoved d programs inputs (after_coordinator w (step_of coordinator_core true w.coordinator e)).world (with_firsts links (λ p. acted (links p).first (ups_of links p) (c.acts p))) members (ToCoordinator q)
-takes_hub d programs inputs w links members e place q m c wired comes handed node acts run =
+takes_coordinator d programs inputs w links members e place q m c wired comes handed node acts run =
     let n = network_of d programs inputs in
     let rule = rule_of d programs inputs in
     let v = w.coordinator.node in
-    let o = coordinator_accepts (network_of d programs inputs) (rule_of d programs inputs) (standings_of members) q handed.signal in
-    let accepts = hub_accepts d programs inputs w.coordinator.node (standings_of members) q handed.signal run.draft run.standings in
-    let done = done_of (hub_makes n w.coordinator.node) o m (sym accepts ∙ handed.node) in
+    let o = coordinator_accepts (network_of d programs inputs) (rule_of d programs inputs) (federate_records_of members) q handed.signal in
+    let accepts = coordinator_accepts_listed d programs inputs w.coordinator.node (federate_records_of members) q handed.signal run.draft run.federate_records in
+    let done = done_of (coordinator_makes n w.coordinator.node) o m (sym accepts ∙ handed.node) in
     let made : Coordinated = done.0 in
     let size = run.shown.ends in
     let placed = place_there w.coordinator.ends q handed.image handed.found in
@@ -188,20 +188,20 @@ takes_hub d programs inputs w links members e place q m c wired comes handed nod
     let queue : (members q).up ≡ handed.signal ∷ rest = site.up ∙ next.next in
     let after = made_of members q rest made in
     let sent : m.sent ≡ made.sent = ap (λ (x : Made CoordinatorNode). x.sent) done.2 in
-    let node_is : (step_of coordinator_core true w.coordinator e).station.node ≡ (hub_makes n w.coordinator.node made).after = node ∙ ap (λ (x : Made CoordinatorNode). x.after) done.2 in
-    let S : (ℕ → Standing) → Type 0 = λ x. IfDone (coordinator_accepts n rule x q handed.signal) (λ made. standing_at (standings_listed n.reactors made.after) ≡ made.after) in
-    let D : Outcome Coordinated → Type 0 = λ x. IfDone x (λ made. standing_at (standings_listed n.reactors made.after) ≡ made.after) in
-    let listed = accepts_listed n rule w.coordinator.node.standings q handed.signal wired below run.size in
-    let stands : standing_at (standings_listed n.reactors made.after) ≡ made.after = subst D done.1 (subst S run.standings listed) in
+    let node_is : (step_of coordinator_core true w.coordinator e).station.node ≡ (coordinator_makes n w.coordinator.node made).after = node ∙ ap (λ (x : Made CoordinatorNode). x.after) done.2 in
+    let S : (ℕ → FederateRecord) → Type 0 = λ x. IfDone (coordinator_accepts n rule x q handed.signal) (λ made. federate_record_at (federate_records_listed n.reactors made.after) ≡ made.after) in
+    let D : Outcome Coordinated → Type 0 = λ x. IfDone x (λ made. federate_record_at (federate_records_listed n.reactors made.after) ≡ made.after) in
+    let listed = accepts_listed n rule w.coordinator.node.federate_records q handed.signal wired below run.size in
+    let stands : federate_record_at (federate_records_listed n.reactors made.after) ≡ made.after = subst D done.1 (subst S run.federate_records listed) in
     record {
       after = made_of members q rest made;
-      is_made = hub_move n rule members q handed.signal rest queue ∙ ap (with_made (made_of members q rest)) done.1;
+      is_made = coordinator_move n rule members q handed.signal rest queue ∙ ap (with_made (made_of members q rest)) done.1;
       lost = λ j. (up_left members q rest j).1;
       run = record {
-        shown = shown_at_hub coordinator_core w (federate_count d) links e place (step_of coordinator_core true w.coordinator e) c run.shown;
+        shown = shown_at_coordinator coordinator_core w (federate_count d) links e place (step_of coordinator_core true w.coordinator e) c run.shown;
         draft = ap (λ (x : CoordinatorNode). x.draft) node_is ∙ run.draft;
-        size = ap (λ (x : CoordinatorNode). length x.standings) node_is ∙ listed_length n.reactors made.after;
-        standings = ap (λ (x : CoordinatorNode). standing_at x.standings) node_is ∙ stands;
+        size = ap (λ (x : CoordinatorNode). length x.federate_records) node_is ∙ listed_length n.reactors made.after;
+        federate_records = ap (λ (x : CoordinatorNode). federate_record_at x.federate_records) node_is ∙ stands;
         site = λ j l s there. site_after d programs inputs members q rest made j (links j) s.node place (sent_to j m.sent) (c.acts j) (acts j) (ap (sent_to j) sent)
             (λ here. (
             let N : ℕ → Type 0 = λ x. IsNextAt (links x) place (sent_to x m.sent) rest in
@@ -211,15 +211,15 @@ takes_hub d programs inputs w links members e place q m c wired comes handed nod
     }
 
 -- a world in which one federate's station and link changed
-pub member_run : (d : Draft) (programs : List Behaviour) (inputs : List Input) (w changed : Federation) (links others : ℕ → Link) (members after : ℕ → Member) (j : ℕ) (s made : Station FederateNode) → slice_get w.federates j ≡ Some s → changed.coordinator.node ≡ w.coordinator.node → changed.federates ≡ set w.federates j made
-    → IsShown changed (federate_count d) others → ((k : ℕ) → k ≢ j → others k ≡ links k) → ((k : ℕ) → k ≢ j → after k ≡ members k) → standings_of after ≡ standings_of members → IsSite d programs inputs j (others j) (after j) made.node → IsRun d programs inputs w links members
+pub federate_run : (d : Draft) (programs : List Behaviour) (inputs : List Input) (w changed : Federation) (links others : ℕ → Link) (members after : ℕ → Member) (j : ℕ) (s made : Station FederateNode) → slice_get w.federates j ≡ Some s → changed.coordinator.node ≡ w.coordinator.node → changed.federates ≡ set w.federates j made
+    → IsShown changed (federate_count d) others → ((k : ℕ) → k ≢ j → others k ≡ links k) → ((k : ℕ) → k ≢ j → after k ≡ members k) → federate_records_of after ≡ federate_records_of members → IsSite d programs inputs j (others j) (after j) made.node → IsRun d programs inputs w links members
     → IsRun d programs inputs changed others after
-member_run d programs inputs w changed links others members after j s made there node federates shown links_same members_same standings site run =
+federate_run d programs inputs w changed links others members after j s made there node federates shown links_same members_same federate_records site run =
     record {
       shown = shown;
       draft = ap (λ (v : CoordinatorNode). v.draft) node ∙ run.draft;
-      size = ap (λ (v : CoordinatorNode). length v.standings) node ∙ run.size;
-      standings = ap (λ (v : CoordinatorNode). standing_at v.standings) node ∙ run.standings ∙ sym standings;
+      size = ap (λ (v : CoordinatorNode). length v.federate_records) node ∙ run.size;
+      federate_records = ap (λ (v : CoordinatorNode). federate_record_at v.federate_records) node ∙ run.federate_records ∙ sym federate_records;
       site = λ k l t found. (
           elim (same_or_not j k) [
             | inl here ↦
@@ -236,9 +236,9 @@ member_run d programs inputs w changed links others members after j s made there
           ]);
     }
 
--- one member changed, but for its standing
-pub same_standings : (members : ℕ → Member) (j : ℕ) (m : Member) → m.standing ≡ (members j).standing → standings_of (with_member members j m) ≡ standings_of members
-same_standings members j m e = fun_ext (λ k. standing_stays members j m k e)
+-- one member changed, but for its record
+pub same_federate_records : (members : ℕ → Member) (j : ℕ) (m : Member) → m.federate_record ≡ (members j).federate_record → federate_records_of (with_member members j m) ≡ federate_records_of members
+same_federate_records members j m e = fun_ext (λ k. federate_record_stays members j m k e)
 
 pub same_lost : (members : ℕ → Member) (j : ℕ) (m : Member) → m.lost ≡ (members j).lost → (k : ℕ) → (with_member members j m k).lost ≡ (members k).lost
 same_lost members j m e k =
@@ -255,21 +255,21 @@ said_incarnation s signals o = ap (λ (x : Side). x.end.incarnation) (offers_ope
 
 -- a kept federate does something, by which its queues go from these to those
 pub kept_does : (d : Draft) (programs : List Behaviour) (inputs : List Input) (w : Federation) (links : ℕ → Link) (members : ℕ → Member) (j : ℕ) (s : Station FederateNode) (e : Event) (place : ℕ) (c : IsCourse federate_core false s e (λ p. (links j).first.sent) place (step_of federate_core false s e)) (m : Member) (signals : List Signal) (acts : List Act)
-    → j < federate_count d → slice_get w.federates j ≡ Some s → c.acts 0 ≡ acts → m.standing ≡ (members j).standing → m.lost ≡ false → (step_of federate_core false s e).station.node ≡ node_with d programs inputs j m.federate
+    → j < federate_count d → slice_get w.federates j ≡ Some s → c.acts 0 ≡ acts → m.federate_record ≡ (members j).federate_record → m.lost ≡ false → (step_of federate_core false s e).station.node ≡ node_with d programs inputs j m.federate
     → (acted (links j).second (links j).first.sent acts).end.incarnation ≡ 1 → (acted (links j).second (links j).first.sent acts).end.closed ≡ false → AllByRecursion (IsCalmAct 1) acts → offered_in 1 (acted (links j).second (links j).first.sent acts).sent ≡ offered_in 1 (links j).second.sent ++ signals
     → m.up ≡ (members j).up ++ signals → m.down ≡ drop (acted (links j).second (links j).first.sent acts).end.taken (offered_in 1 (links j).first.sent)
     → (links j).second.end.incarnation ≡ 1 → AreOf 1 (links j).second.sent → IsRun d programs inputs w links members
     → IsRun d programs inputs (after_federate w j (step_of federate_core false s e)).world (with_one links j (record { first = (links j).first; second = acted (links j).second (links j).first.sent (c.acts 0) })) (with_member members j m)
-kept_does d programs inputs w links members j s e place c m signals acts below there are standing lost node is opened calm offered up down was frames run =
+kept_does d programs inputs w links members j s e place c m signals acts below there are federate_record lost node is opened calm offered up down was frames run =
     let made = step_of federate_core false s e in
     let mine : Link = record { first = (links j).first; second = acted (links j).second (links j).first.sent (c.acts 0) } in
     let site = run.site j below s there in
     let A : List Act → Type 0 = λ x. IsSite d programs inputs j (record { first = (links j).first; second = acted (links j).second (links j).first.sent x }) m made.station.node in
     let L : Link → Type 0 = λ x. IsSite d programs inputs j x (with_member members j m j) made.station.node in
     let M : Member → Type 0 = λ x. IsSite d programs inputs j mine x made.station.node in
-    member_run d programs inputs w (after_federate w j made).world links (with_one links j mine) members (with_member members j m) j s made.station there refl refl
-    (shown_at_member federate_core w (federate_count d) links j s e place made c there below run.shown)
-    (λ k apart. at_other links j k mine apart) (λ k apart. at_other members j k m apart) (same_standings members j m standing)
+    federate_run d programs inputs w (after_federate w j made).world links (with_one links j mine) members (with_member members j m) j s made.station there refl refl
+    (shown_at_federate federate_core w (federate_count d) links j s e place made c there below run.shown)
+    (λ k apart. at_other links j k mine apart) (λ k apart. at_other members j k m apart) (same_federate_records members j m federate_record)
     (subst L (sym (at_own links j mine))
     (subst M (sym (at_own members j m))
     (subst A (sym are)
@@ -278,14 +278,14 @@ kept_does d programs inputs w links members j s e place c m signals acts below t
     (keeps is opened lost node down (acts_of (links j).second (links j).first acts (linked_back 1 (links j).first (links j).second (kept_linked (links j) site.held was)) frames)))))) run
 
 -- what the coordinator refuses, the machine refuses
-pub hub_refuses : (d : Draft) (programs : List Behaviour) (inputs : List Input) (w : Federation) (links : ℕ → Link) (members : ℕ → Member) (e : Event) (place q : ℕ) (refusal : Refusal) → Comes w.coordinator (ups_of links) place e → IsHandedOn coordinator_core w.coordinator e q (Refused refusal) → IsRun d programs inputs w links members
+pub coordinator_refuses : (d : Draft) (programs : List Behaviour) (inputs : List Input) (w : Federation) (links : ℕ → Link) (members : ℕ → Member) (e : Event) (place q : ℕ) (refusal : Refusal) → Comes w.coordinator (ups_of links) place e → IsHandedOn coordinator_core w.coordinator e q (Refused refusal) → IsRun d programs inputs w links members
     → outcome_of (network_of d programs inputs) (rule_of d programs inputs) members (ToCoordinator q) ≡ Refused refusal
-hub_refuses d programs inputs w links members e place q refusal comes handed run =
+coordinator_refuses d programs inputs w links members e place q refusal comes handed run =
     let n = network_of d programs inputs in
     let rule = rule_of d programs inputs in
-    let o = coordinator_accepts n rule (standings_of members) q handed.signal in
-    let accepts = hub_accepts d programs inputs w.coordinator.node (standings_of members) q handed.signal run.draft run.standings in
-    let refused = refused_of (hub_makes n w.coordinator.node) o refusal (sym accepts ∙ handed.node) in
+    let o = coordinator_accepts n rule (federate_records_of members) q handed.signal in
+    let accepts = coordinator_accepts_listed d programs inputs w.coordinator.node (federate_records_of members) q handed.signal run.draft run.federate_records in
+    let refused = refused_of (coordinator_makes n w.coordinator.node) o refusal (sym accepts ∙ handed.node) in
     let size = run.shown.ends in
     let placed = place_there w.coordinator.ends q handed.image handed.found in
     let below : q < federate_count d = omega arith in
@@ -296,4 +296,4 @@ hub_refuses d programs inputs w links members e place q refusal comes handed run
     let A : Image → Type 0 = λ x. answer_of x (Data handed.incarnation handed.number handed.signal) ≡ Ok arrival.Signal in
     let next = next_of d programs inputs q (links q) (members q) at.station.node place handed.incarnation handed.number handed.signal [] site comes_so (subst A same handed.in_turn) in
     let rest : List Signal = drop (acted (links q).first (links q).second.sent (Gets place true ∷ Offers [] ∷ [])).end.taken (offered_in 1 (links q).second.sent) in
-    hub_move n rule members q handed.signal rest (site.up ∙ next.next) ∙ ap (with_made (made_of members q rest)) refused
+    coordinator_move n rule members q handed.signal rest (site.up ∙ next.next) ∙ ap (with_made (made_of members q rest)) refused

@@ -33,16 +33,16 @@ use Rattle.world_stations.proofs.Course.{acted, Comes, IsCourse}
 use Rattle.world_stations.proofs.Courses.{step_course, some_of}
 
 -- federate j's link, as it stands in a world
-pub record IsAt {Hub Member : Type 0} (w : World Hub Member) (j : ℕ) (l : Link) : Type 0 where
+pub record IsAt {OfCoordinator OfFederate : Type 0} (w : World OfCoordinator OfFederate) (j : ℕ) (l : Link) : Type 0 where
   pub first : slice_get w.coordinator.ends j ≡ Some l.first.end
-  pub station : Station Member
+  pub station : Station OfFederate
   pub there : slice_get w.federates j ≡ Some station
   pub second : station.ends ≡ l.second.end ∷ []
   pub up : slice_get w.up j ≡ Some l.second.sent
   pub down : slice_get w.down j ≡ Some l.first.sent
 
 -- so many links, as they stand in a world
-pub record IsShown {Hub Member : Type 0} (w : World Hub Member) (count : ℕ) (links : ℕ → Link) : Type 0 where
+pub record IsShown {OfCoordinator OfFederate : Type 0} (w : World OfCoordinator OfFederate) (count : ℕ) (links : ℕ → Link) : Type 0 where
   pub ends : length w.coordinator.ends ≡ count
   pub federates : length w.federates ≡ count
   pub ups : length w.up ≡ count
@@ -62,7 +62,7 @@ abbrev pub with_second : (ℕ → Link) → ℕ → Side → ℕ → Link
 with_second links j side = with_one links j (record { first = (links j).first; second = side })
 
 -- the frame of an event is the one that the step delivers
-abbrev pub Brings : {Hub Member : Type 0} → World Hub Member → Step → Event → Type 0
+abbrev pub Brings : {OfCoordinator OfFederate : Type 0} → World OfCoordinator OfFederate → Step → Event → Type 0
 Brings w step (event.Frame q frame) = brought_by w step ≡ carried_by frame
 Brings w step (event.Resend q) = Unit {0}
 Brings w step (event.Hello q) = Unit {0}
@@ -70,11 +70,11 @@ Brings w step event.Announce = Unit {0}
 Brings w step event.Advance = Unit {0}
 
 -- what a step comes to
-pub data Happened {Hub Member HubRow Row : Type 0} (hub : Core Hub HubRow) (member : Core Member Row) (w : World Hub Member) (count : ℕ) (links : ℕ → Link) (step : Step) (made : Applied Hub Member) : Type 0 where
-  nowhere : made ≡ unchanged w → Happened hub member w count links step made
-  at_hub : (e : Event) (place : ℕ) → Comes w.coordinator (ups_of links) place e → IsCourse hub true w.coordinator e (ups_of links) place (step_of hub true w.coordinator e) → Brings w step e → made ≡ after_coordinator w (step_of hub true w.coordinator e) → Happened hub member w count links step made
-  at_member : (j : ℕ) (s : Station Member) (e : Event) (place : ℕ) → j < count → slice_get w.federates j ≡ Some s → Comes s (λ p. (links j).first.sent) place e → IsCourse member false s e (λ p. (links j).first.sent) place (step_of member false s e) → Brings w step e → made ≡ after_federate w j (step_of member false s e) → Happened hub member w count links step made
-  lost : (j : ℕ) (s : Station Member) → j < count → slice_get w.federates j ≡ Some s → step ≡ Forget j → made ≡ record { world = record w { federates = set w.federates j (forgotten member s) }; outcome = outcome.Done } → Happened hub member w count links step made
+pub data Happened {OfCoordinator OfFederate CoordinatorRow Row : Type 0} (of_coordinator : Core OfCoordinator CoordinatorRow) (of_federate : Core OfFederate Row) (w : World OfCoordinator OfFederate) (count : ℕ) (links : ℕ → Link) (step : Step) (made : Applied OfCoordinator OfFederate) : Type 0 where
+  nowhere : made ≡ unchanged w → Happened of_coordinator of_federate w count links step made
+  happened_at_coordinator : (e : Event) (place : ℕ) → Comes w.coordinator (ups_of links) place e → IsCourse of_coordinator true w.coordinator e (ups_of links) place (step_of of_coordinator true w.coordinator e) → Brings w step e → made ≡ after_coordinator w (step_of of_coordinator true w.coordinator e) → Happened of_coordinator of_federate w count links step made
+  happened_at_federate : (j : ℕ) (s : Station OfFederate) (e : Event) (place : ℕ) → j < count → slice_get w.federates j ≡ Some s → Comes s (λ p. (links j).first.sent) place e → IsCourse of_federate false s e (λ p. (links j).first.sent) place (step_of of_federate false s e) → Brings w step e → made ≡ after_federate w j (step_of of_federate false s e) → Happened of_coordinator of_federate w count links step made
+  lost : (j : ℕ) (s : Station OfFederate) → j < count → slice_get w.federates j ≡ Some s → step ≡ Forget j → made ≡ record { world = record w { federates = set w.federates j (forgotten of_federate s) }; outcome = outcome.Done } → Happened of_coordinator of_federate w count links step made
 
 pub got : {X : Type 0} (xs : List X) (k : ℕ) (x d : X) → slice_get xs k ≡ Some x → get_or xs k d ≡ x
 got [] k x d e = cc
@@ -128,8 +128,8 @@ one_end (x ∷ []) e size found = ap (λ (y : Image). y ∷ []) (some_of x e fou
 one_end (x ∷ y ∷ rest) e size found = absurd (omega arith)
 
 -- the coordinator's station did something
-pub shown_at_hub : {Hub Member HubRow : Type 0} (hub : Core Hub HubRow) (w : World Hub Member) (count : ℕ) (links : ℕ → Link) (e : Event) (place : ℕ) (made : Stepped Hub) (c : IsCourse hub true w.coordinator e (ups_of links) place made) → IsShown w count links → IsShown (after_coordinator w made).world count (with_firsts links (λ p. acted (links p).first (ups_of links p) (c.acts p)))
-shown_at_hub hub w count links e place made c shown =
+pub shown_at_coordinator : {OfCoordinator OfFederate CoordinatorRow : Type 0} (of_coordinator : Core OfCoordinator CoordinatorRow) (w : World OfCoordinator OfFederate) (count : ℕ) (links : ℕ → Link) (e : Event) (place : ℕ) (made : Stepped OfCoordinator) (c : IsCourse of_coordinator true w.coordinator e (ups_of links) place made) → IsShown w count links → IsShown (after_coordinator w made).world count (with_firsts links (λ p. acted (links p).first (ups_of links p) (c.acts p)))
+shown_at_coordinator of_coordinator w count links e place made c shown =
     record {
       ends = c.size ∙ shown.ends;
       federates = shown.federates;
@@ -163,11 +163,11 @@ same_or_not j k = by_number (nat_eq k j) refl
     by_number false e = inr (eqb-false k j e)
 
 -- a federate's station did something
-pub shown_at_member : {Hub Member Row : Type 0} (member : Core Member Row) (w : World Hub Member) (count : ℕ) (links : ℕ → Link) (j : ℕ) (s : Station Member) (e : Event) (place : ℕ) (made : Stepped Member) (c : IsCourse member false s e (λ p. (links j).first.sent) place made) → slice_get w.federates j ≡ Some s → j < count → IsShown w count links → IsShown (after_federate w j made).world count (with_second links j (acted (links j).second (links j).first.sent (c.acts 0)))
-shown_at_member {Member = Member} member w count links j s e place made c is below shown =
+pub shown_at_federate : {OfCoordinator OfFederate Row : Type 0} (of_federate : Core OfFederate Row) (w : World OfCoordinator OfFederate) (count : ℕ) (links : ℕ → Link) (j : ℕ) (s : Station OfFederate) (e : Event) (place : ℕ) (made : Stepped OfFederate) (c : IsCourse of_federate false s e (λ p. (links j).first.sent) place made) → slice_get w.federates j ≡ Some s → j < count → IsShown w count links → IsShown (after_federate w j made).world count (with_second links j (acted (links j).second (links j).first.sent (c.acts 0)))
+shown_at_federate {OfFederate = OfFederate} of_federate w count links j s e place made c is below shown =
     let at = shown.each j below in
     let same : at.station ≡ s = some_of at.station s (sym at.there ∙ is) in
-    let E : Station Member → Type 0 = λ x. x.ends ≡ (links j).second.end ∷ [] in
+    let E : Station OfFederate → Type 0 = λ x. x.ends ≡ (links j).second.end ∷ [] in
     let ends : s.ends ≡ (links j).second.end ∷ [] = subst E same at.second in
     let size : length s.ends ≡ 1 = ap length ends in
     let found : slice_get s.ends 0 ≡ Some (links j).second.end = ap (λ (x : List Image). slice_get x 0) ends in
@@ -212,8 +212,8 @@ shown_at_member {Member = Member} member w count links j s e place made c is bel
     }
 
 -- a federate forgot all
-pub shown_lost : {Hub Member Row : Type 0} (member : Core Member Row) (w : World Hub Member) (count : ℕ) (links : ℕ → Link) (j : ℕ) (s : Station Member) → slice_get w.federates j ≡ Some s → j < count → IsShown w count links → IsShown (record w { federates = set w.federates j (forgotten member s) }) count (with_second links j (replaced (links j).second))
-shown_lost member w count links j s is below shown =
+pub shown_lost : {OfCoordinator OfFederate Row : Type 0} (of_federate : Core OfFederate Row) (w : World OfCoordinator OfFederate) (count : ℕ) (links : ℕ → Link) (j : ℕ) (s : Station OfFederate) → slice_get w.federates j ≡ Some s → j < count → IsShown w count links → IsShown (record w { federates = set w.federates j (forgotten of_federate s) }) count (with_second links j (replaced (links j).second))
+shown_lost of_federate w count links j s is below shown =
     let at = shown.each j below in
     let same : at.station ≡ s = some_of at.station s (sym at.there ∙ is) in
     let E : Station _ → Type 0 = λ x. x.ends ≡ (links j).second.end ∷ [] in
@@ -221,22 +221,22 @@ shown_lost member w count links j s is below shown =
     let mine : Link = record { first = (links j).first; second = replaced (links j).second } in
     record {
       ends = shown.ends;
-      federates = length-set w.federates j (forgotten member s) ∙ shown.federates;
+      federates = length-set w.federates j (forgotten of_federate s) ∙ shown.federates;
       ups = shown.ups;
       downs = shown.downs;
       each = λ k l. (
-          let P : Link → Type 0 = λ x. IsAt (record w { federates = set w.federates j (forgotten member s) }) k x in
+          let P : Link → Type 0 = λ x. IsAt (record w { federates = set w.federates j (forgotten of_federate s) }) k x in
           let other = shown.each k l in
           elim (same_or_not j k) [
             | inl here ↦
-                let Q : ℕ → Type 0 = λ x. IsAt (record w { federates = set w.federates j (forgotten member s) }) x (with_one links j mine x) in
-                let R : Link → Type 0 = λ x. IsAt (record w { federates = set w.federates j (forgotten member s) }) j x in
+                let Q : ℕ → Type 0 = λ x. IsAt (record w { federates = set w.federates j (forgotten of_federate s) }) x (with_one links j mine x) in
+                let R : Link → Type 0 = λ x. IsAt (record w { federates = set w.federates j (forgotten of_federate s) }) j x in
                 subst Q (sym here)
                 (subst R (sym (at_own links j mine))
                 (record {
                   first = at.first;
-                  station = forgotten member s;
-                  there = get_set_here w.federates j s (forgotten member s) is;
+                  station = forgotten of_federate s;
+                  there = get_set_here w.federates j s (forgotten of_federate s) is;
                   second = ap (λ (x : List Image). map blank_next x) ends;
                   up = at.up;
                   down = at.down;
@@ -246,7 +246,7 @@ shown_lost member w count links j s is below shown =
                 (record {
                   first = other.first;
                   station = other.station;
-                  there = get_set_other w.federates j k (forgotten member s) apart ∙ other.there;
+                  there = get_set_other w.federates j k (forgotten of_federate s) apart ∙ other.there;
                   second = other.second;
                   up = other.up;
                   down = other.down;
@@ -266,27 +266,27 @@ abbrev Holds : (ℕ → Link) → ℕ → Type 0
 Holds links count = (j : ℕ) → j < count → IsHeld 1 (links j)
 
 -- a step that is no event
-no_event : {Hub Member HubRow Row : Type 0} (hub : Core Hub HubRow) (member : Core Member Row) (w : World Hub Member) (count : ℕ) (links : ℕ → Link) (step : Step) (o : Option Occurrence) → o ≡ None → Happened hub member w count links step (happens hub member w o)
-no_event {Hub = Hub} {Member = Member} hub member w count links step o e =
-    let P : Option Occurrence → Type 0 = λ x. Happened hub member w count links step (happens hub member w x) in
+no_event : {OfCoordinator OfFederate CoordinatorRow Row : Type 0} (of_coordinator : Core OfCoordinator CoordinatorRow) (of_federate : Core OfFederate Row) (w : World OfCoordinator OfFederate) (count : ℕ) (links : ℕ → Link) (step : Step) (o : Option Occurrence) → o ≡ None → Happened of_coordinator of_federate w count links step (happens of_coordinator of_federate w o)
+no_event {OfCoordinator = OfCoordinator} {OfFederate = OfFederate} of_coordinator of_federate w count links step o e =
+    let P : Option Occurrence → Type 0 = λ x. Happened of_coordinator of_federate w count links step (happens of_coordinator of_federate w x) in
     subst P (sym e) (nowhere refl)
 
 -- an event at the coordinator
-hub_event : {Hub Member HubRow Row : Type 0} (hub : Core Hub HubRow) (member : Core Member Row) (w : World Hub Member) (count : ℕ) (links : ℕ → Link) (step : Step) (e : Event) (place : ℕ) → Comes w.coordinator (ups_of links) place e → Brings w step e → Happened hub member w count links step (after_coordinator w (step_of hub true w.coordinator e))
-hub_event hub member w count links step e place comes brings = at_hub e place comes (step_course hub true w.coordinator e (ups_of links) place comes) brings refl
+coordinator_event : {OfCoordinator OfFederate CoordinatorRow Row : Type 0} (of_coordinator : Core OfCoordinator CoordinatorRow) (of_federate : Core OfFederate Row) (w : World OfCoordinator OfFederate) (count : ℕ) (links : ℕ → Link) (step : Step) (e : Event) (place : ℕ) → Comes w.coordinator (ups_of links) place e → Brings w step e → Happened of_coordinator of_federate w count links step (after_coordinator w (step_of of_coordinator true w.coordinator e))
+coordinator_event of_coordinator of_federate w count links step e place comes brings = happened_at_coordinator e place comes (step_course of_coordinator true w.coordinator e (ups_of links) place comes) brings refl
 
 -- an event at a federate that is there
-member_event : {Hub Member HubRow Row : Type 0} (hub : Core Hub HubRow) (member : Core Member Row) (w : World Hub Member) (count : ℕ) (links : ℕ → Link) (step : Step) (j : ℕ) (s : Station Member) (e : Event) (place : ℕ) (o : Option (Station Member)) → slice_get w.federates j ≡ o → o ≡ Some s → j < count → Comes s (λ p. (links j).first.sent) place e → Brings w step e → Happened hub member w count links step (at_federate member w j e o)
-member_event {Member = Member} hub member w count links step j s e place o is found below comes brings =
-    let P : Option (Station Member) → Type 0 = λ x. Happened hub member w count links step (at_federate member w j e x) in
-    subst P (sym found) (at_member j s e place below (is ∙ found) comes (step_course member false s e (λ p. (links j).first.sent) place comes) brings refl)
+federate_event : {OfCoordinator OfFederate CoordinatorRow Row : Type 0} (of_coordinator : Core OfCoordinator CoordinatorRow) (of_federate : Core OfFederate Row) (w : World OfCoordinator OfFederate) (count : ℕ) (links : ℕ → Link) (step : Step) (j : ℕ) (s : Station OfFederate) (e : Event) (place : ℕ) (o : Option (Station OfFederate)) → slice_get w.federates j ≡ o → o ≡ Some s → j < count → Comes s (λ p. (links j).first.sent) place e → Brings w step e → Happened of_coordinator of_federate w count links step (at_federate of_federate w j e o)
+federate_event {OfFederate = OfFederate} of_coordinator of_federate w count links step j s e place o is found below comes brings =
+    let P : Option (Station OfFederate) → Type 0 = λ x. Happened of_coordinator of_federate w count links step (at_federate of_federate w j e x) in
+    subst P (sym found) (happened_at_federate j s e place below (is ∙ found) comes (step_course of_federate false s e (λ p. (links j).first.sent) place comes) brings refl)
 
 -- a frame comes to the coordinator
-up_comes : {Hub Member HubRow Row : Type 0} (hub : Core Hub HubRow) (member : Core Member Row) (w : World Hub Member) (count : ℕ) (links : ℕ → Link) (j k : ℕ) (o : Option Frame) → IsShown w count links → Holds links count → j < count → slice_get (links j).second.sent k ≡ o → slice_get (frames_in w (Up j)) k ≡ o → Happened hub member w count links (Deliver (Up j) (suc k)) (happens hub member w (delivered (Up j) o))
-up_comes hub member w count links j k None shown held below is same = nowhere refl
-up_comes hub member w count links j k (Some frame) shown held below is same =
+up_comes : {OfCoordinator OfFederate CoordinatorRow Row : Type 0} (of_coordinator : Core OfCoordinator CoordinatorRow) (of_federate : Core OfFederate Row) (w : World OfCoordinator OfFederate) (count : ℕ) (links : ℕ → Link) (j k : ℕ) (o : Option Frame) → IsShown w count links → Holds links count → j < count → slice_get (links j).second.sent k ≡ o → slice_get (frames_in w (Up j)) k ≡ o → Happened of_coordinator of_federate w count links (Deliver (Up j) (suc k)) (happens of_coordinator of_federate w (delivered (Up j) o))
+up_comes of_coordinator of_federate w count links j k None shown held below is same = nowhere refl
+up_comes of_coordinator of_federate w count links j k (Some frame) shown held below is same =
     let at = shown.each j below in
-    hub_event hub member w count links (Deliver (Up j) (suc k)) (event.Frame j frame) k (
+    coordinator_event of_coordinator of_federate w count links (Deliver (Up j) (suc k)) (event.Frame j frame) k (
       is,
       λ e found. (
           let P : Image → Type 0 = λ x. answer_of x frame ≢ Err LinkFault.AckOfUnsent in
@@ -295,11 +295,11 @@ up_comes hub member w count links j k (Some frame) shown held below is same =
     (ap signal_in same)
 
 -- a frame comes to a federate
-down_comes : {Hub Member HubRow Row : Type 0} (hub : Core Hub HubRow) (member : Core Member Row) (w : World Hub Member) (count : ℕ) (links : ℕ → Link) (j k : ℕ) (o : Option Frame) → IsShown w count links → Holds links count → j < count → slice_get (links j).first.sent k ≡ o → slice_get (frames_in w (Down j)) k ≡ o → Happened hub member w count links (Deliver (Down j) (suc k)) (happens hub member w (delivered (Down j) o))
-down_comes hub member w count links j k None shown held below is same = nowhere refl
-down_comes hub member w count links j k (Some frame) shown held below is same =
+down_comes : {OfCoordinator OfFederate CoordinatorRow Row : Type 0} (of_coordinator : Core OfCoordinator CoordinatorRow) (of_federate : Core OfFederate Row) (w : World OfCoordinator OfFederate) (count : ℕ) (links : ℕ → Link) (j k : ℕ) (o : Option Frame) → IsShown w count links → Holds links count → j < count → slice_get (links j).first.sent k ≡ o → slice_get (frames_in w (Down j)) k ≡ o → Happened of_coordinator of_federate w count links (Deliver (Down j) (suc k)) (happens of_coordinator of_federate w (delivered (Down j) o))
+down_comes of_coordinator of_federate w count links j k None shown held below is same = nowhere refl
+down_comes of_coordinator of_federate w count links j k (Some frame) shown held below is same =
     let at = shown.each j below in
-    member_event hub member w count links (Deliver (Down j) (suc k)) j at.station (event.Frame 0 frame) k (slice_get w.federates j) refl at.there below (
+    federate_event of_coordinator of_federate w count links (Deliver (Down j) (suc k)) j at.station (event.Frame 0 frame) k (slice_get w.federates j) refl at.there below (
       is,
       λ e found. (
           let P : Image → Type 0 = λ x. answer_of x frame ≢ Err LinkFault.AckOfUnsent in
@@ -308,75 +308,75 @@ down_comes hub member w count links j k (Some frame) shown held below is same =
     (ap signal_in same)
 
 -- a frame of a direction that isn't there doesn't come
-absent : {Hub Member HubRow Row : Type 0} (hub : Core Hub HubRow) (member : Core Member Row) (w : World Hub Member) (count : ℕ) (links : ℕ → Link) (dir : Dir) (k : ℕ) → frames_in w dir ≡ [] → Happened hub member w count links (Deliver dir k) (happens hub member w (delivered dir (frame_at (frames_in w dir) k)))
-absent hub member w count links dir k none = no_event hub member w count links (Deliver dir k) (delivered dir (frame_at (frames_in w dir) k)) (ap (λ (x : List Frame). delivered dir (frame_at x k)) none ∙ none_at k)
+absent : {OfCoordinator OfFederate CoordinatorRow Row : Type 0} (of_coordinator : Core OfCoordinator CoordinatorRow) (of_federate : Core OfFederate Row) (w : World OfCoordinator OfFederate) (count : ℕ) (links : ℕ → Link) (dir : Dir) (k : ℕ) → frames_in w dir ≡ [] → Happened of_coordinator of_federate w count links (Deliver dir k) (happens of_coordinator of_federate w (delivered dir (frame_at (frames_in w dir) k)))
+absent of_coordinator of_federate w count links dir k none = no_event of_coordinator of_federate w count links (Deliver dir k) (delivered dir (frame_at (frames_in w dir) k)) (ap (λ (x : List Frame). delivered dir (frame_at x k)) none ∙ none_at k)
   where
     none_at : (k : ℕ) → delivered dir (frame_at [] k) ≡ None
     none_at zero = refl
     none_at (suc k) = refl
 
-delivers : {Hub Member HubRow Row : Type 0} (hub : Core Hub HubRow) (member : Core Member Row) (w : World Hub Member) (count : ℕ) (links : ℕ → Link) (dir : Dir) (k : ℕ) → IsShown w count links → Holds links count → Happened hub member w count links (Deliver dir k) (happens hub member w (delivered dir (frame_at (frames_in w dir) k)))
-delivers hub member w count links dir zero shown held = nowhere refl
-delivers hub member w count links (Up j) (suc k) shown held =
+delivers : {OfCoordinator OfFederate CoordinatorRow Row : Type 0} (of_coordinator : Core OfCoordinator CoordinatorRow) (of_federate : Core OfFederate Row) (w : World OfCoordinator OfFederate) (count : ℕ) (links : ℕ → Link) (dir : Dir) (k : ℕ) → IsShown w count links → Holds links count → Happened of_coordinator of_federate w count links (Deliver dir k) (happens of_coordinator of_federate w (delivered dir (frame_at (frames_in w dir) k)))
+delivers of_coordinator of_federate w count links dir zero shown held = nowhere refl
+delivers of_coordinator of_federate w count links (Up j) (suc k) shown held =
     elim (cases_lt j count) [
       | inl below ↦
           let frames : frames_in w (Up j) ≡ (links j).second.sent = got w.up j (links j).second.sent [] (shown.each j below).up in
-          up_comes hub member w count links j k (slice_get (frames_in w (Up j)) k) shown held below (ap (λ (x : List Frame). slice_get x k) (sym frames)) refl
-      | inr beyond ↦ absent hub member w count links (Up j) (suc k) (none_beyond w.up j [] (let size = shown.ups in omega arith))
+          up_comes of_coordinator of_federate w count links j k (slice_get (frames_in w (Up j)) k) shown held below (ap (λ (x : List Frame). slice_get x k) (sym frames)) refl
+      | inr beyond ↦ absent of_coordinator of_federate w count links (Up j) (suc k) (none_beyond w.up j [] (let size = shown.ups in omega arith))
     ]
-delivers hub member w count links (Down j) (suc k) shown held =
+delivers of_coordinator of_federate w count links (Down j) (suc k) shown held =
     elim (cases_lt j count) [
       | inl below ↦
           let frames : frames_in w (Down j) ≡ (links j).first.sent = got w.down j (links j).first.sent [] (shown.each j below).down in
-          down_comes hub member w count links j k (slice_get (frames_in w (Down j)) k) shown held below (ap (λ (x : List Frame). slice_get x k) (sym frames)) refl
-      | inr beyond ↦ absent hub member w count links (Down j) (suc k) (none_beyond w.down j [] (let size = shown.downs in omega arith))
+          down_comes of_coordinator of_federate w count links j k (slice_get (frames_in w (Down j)) k) shown held below (ap (λ (x : List Frame). slice_get x k) (sym frames)) refl
+      | inr beyond ↦ absent of_coordinator of_federate w count links (Down j) (suc k) (none_beyond w.down j [] (let size = shown.downs in omega arith))
     ]
 
 -- what happens where there is such a federate
-if_below : {Hub Member HubRow Row : Type 0} (hub : Core Hub HubRow) (member : Core Member Row) (w : World Hub Member) (count : ℕ) (links : ℕ → Link) (step : Step) (j : ℕ) (o : Occurrence) → IsShown w count links → (j < count → Happened hub member w count links step (happens hub member w (Some o))) → Happened hub member w count links step (happens hub member w (if_there w j o))
-if_below hub member w count links step j o shown then_so = by_number (nat_lt j (length w.federates)) refl
+if_below : {OfCoordinator OfFederate CoordinatorRow Row : Type 0} (of_coordinator : Core OfCoordinator CoordinatorRow) (of_federate : Core OfFederate Row) (w : World OfCoordinator OfFederate) (count : ℕ) (links : ℕ → Link) (step : Step) (j : ℕ) (o : Occurrence) → IsShown w count links → (j < count → Happened of_coordinator of_federate w count links step (happens of_coordinator of_federate w (Some o))) → Happened of_coordinator of_federate w count links step (happens of_coordinator of_federate w (if_there w j o))
+if_below of_coordinator of_federate w count links step j o shown then_so = by_number (nat_lt j (length w.federates)) refl
   where
-    by_number : (b : Bool) → nat_lt j (length w.federates) ≡ b → Happened hub member w count links step (happens hub member w (if b then Some o else None))
+    by_number : (b : Bool) → nat_lt j (length w.federates) ≡ b → Happened of_coordinator of_federate w count links step (happens of_coordinator of_federate w (if b then Some o else None))
     by_number true e = then_so (let below = below_is j (length w.federates) e in let size = shown.federates in omega arith)
     by_number false e = nowhere refl
 
 -- an event at a federate that its station is asked for
-asked : {Hub Member HubRow Row : Type 0} (hub : Core Hub HubRow) (member : Core Member Row) (w : World Hub Member) (count : ℕ) (links : ℕ → Link) (step : Step) (j : ℕ) (e : Event) → IsShown w count links → ((s : Station Member) → Comes s (λ p. (links j).first.sent) 0 e) → Brings w step e → j < count → Happened hub member w count links step (at_federate member w j e (slice_get w.federates j))
-asked hub member w count links step j e shown comes brings below =
+asked : {OfCoordinator OfFederate CoordinatorRow Row : Type 0} (of_coordinator : Core OfCoordinator CoordinatorRow) (of_federate : Core OfFederate Row) (w : World OfCoordinator OfFederate) (count : ℕ) (links : ℕ → Link) (step : Step) (j : ℕ) (e : Event) → IsShown w count links → ((s : Station OfFederate) → Comes s (λ p. (links j).first.sent) 0 e) → Brings w step e → j < count → Happened of_coordinator of_federate w count links step (at_federate of_federate w j e (slice_get w.federates j))
+asked of_coordinator of_federate w count links step j e shown comes brings below =
     let at = shown.each j below in
-    member_event hub member w count links step j at.station e 0 (slice_get w.federates j) refl at.there below (comes at.station) brings
+    federate_event of_coordinator of_federate w count links step j at.station e 0 (slice_get w.federates j) refl at.there below (comes at.station) brings
 
-loses : {Hub Member HubRow Row : Type 0} (hub : Core Hub HubRow) (member : Core Member Row) (w : World Hub Member) (count : ℕ) (links : ℕ → Link) (j : ℕ) (o : Option (Station Member)) → slice_get w.federates j ≡ o → IsShown w count links → Happened hub member w count links (Forget j) (forgets member w j o)
-loses hub member w count links j None is shown = nowhere refl
-loses hub member w count links j (Some s) is shown = by_next (has_next s.ends)
+loses : {OfCoordinator OfFederate CoordinatorRow Row : Type 0} (of_coordinator : Core OfCoordinator CoordinatorRow) (of_federate : Core OfFederate Row) (w : World OfCoordinator OfFederate) (count : ℕ) (links : ℕ → Link) (j : ℕ) (o : Option (Station OfFederate)) → slice_get w.federates j ≡ o → IsShown w count links → Happened of_coordinator of_federate w count links (Forget j) (forgets of_federate w j o)
+loses of_coordinator of_federate w count links j None is shown = nowhere refl
+loses of_coordinator of_federate w count links j (Some s) is shown = by_next (has_next s.ends)
   where
     there : (j < count) ⊎ (count ≤ j) → j < count
     there (inl below) = below
     there (inr beyond) = let none = nothing_beyond w.federates j (let size = shown.federates in omega arith) in cc
 
-    by_next : (b : Bool) → Happened hub member w count links (Forget j) (if b then record { world = record w { federates = set w.federates j (forgotten member s) }; outcome = outcome.Done } else unchanged w)
+    by_next : (b : Bool) → Happened of_coordinator of_federate w count links (Forget j) (if b then record { world = record w { federates = set w.federates j (forgotten of_federate s) }; outcome = outcome.Done } else unchanged w)
     by_next true = lost j s (there (cases_lt j count)) is refl refl
     by_next false = nowhere refl
 
 -- what a step comes to
-pub happened : {Hub Member HubRow Row : Type 0} (hub : Core Hub HubRow) (member : Core Member Row) (w : World Hub Member) (count : ℕ) (links : ℕ → Link) (step : Step) → IsShown w count links → ((j : ℕ) → j < count → IsHeld 1 (links j)) → Happened hub member w count links step (does hub member w step)
-happened hub member w count links (Deliver dir k) shown held = delivers hub member w count links dir k shown held
-happened hub member w count links (Resend (Up j)) shown held =
-    if_below hub member w count links (Resend (Up j)) j (sends_again (Up j)) shown (λ below. asked hub member w count links (Resend (Up j)) j (event.Resend 0) shown (λ s. tt) tt below)
-happened hub member w count links (Resend (Down j)) shown held =
-    if_below hub member w count links (Resend (Down j)) j (sends_again (Down j)) shown (λ below. hub_event hub member w count links (Resend (Down j)) (event.Resend j) 0 tt tt)
-happened hub member w count links (Reconnect (Up j)) shown held =
-    if_below hub member w count links (Reconnect (Up j)) j (greets (Up j)) shown (λ below. asked hub member w count links (Reconnect (Up j)) j (event.Hello 0) shown (λ s. tt) tt below)
-happened hub member w count links (Reconnect (Down j)) shown held =
-    if_below hub member w count links (Reconnect (Down j)) j (greets (Down j)) shown (λ below. hub_event hub member w count links (Reconnect (Down j)) (event.Hello j) 0 tt tt)
-happened hub member w count links (Announce j) shown held =
-    if_below hub member w count links (Announce j) j (record { node = Federate j; event = event.Announce }) shown (λ below. asked hub member w count links (Announce j) j event.Announce shown (λ s. tt) tt below)
-happened hub member w count links (Advance j) shown held =
-    if_below hub member w count links (Advance j) j (record { node = Federate j; event = event.Advance }) shown (λ below. asked hub member w count links (Advance j) j event.Advance shown (λ s. tt) tt below)
-happened hub member w count links (Forget j) shown held = loses hub member w count links j (slice_get w.federates j) refl shown
+pub happened : {OfCoordinator OfFederate CoordinatorRow Row : Type 0} (of_coordinator : Core OfCoordinator CoordinatorRow) (of_federate : Core OfFederate Row) (w : World OfCoordinator OfFederate) (count : ℕ) (links : ℕ → Link) (step : Step) → IsShown w count links → ((j : ℕ) → j < count → IsHeld 1 (links j)) → Happened of_coordinator of_federate w count links step (does of_coordinator of_federate w step)
+happened of_coordinator of_federate w count links (Deliver dir k) shown held = delivers of_coordinator of_federate w count links dir k shown held
+happened of_coordinator of_federate w count links (Resend (Up j)) shown held =
+    if_below of_coordinator of_federate w count links (Resend (Up j)) j (sends_again (Up j)) shown (λ below. asked of_coordinator of_federate w count links (Resend (Up j)) j (event.Resend 0) shown (λ s. tt) tt below)
+happened of_coordinator of_federate w count links (Resend (Down j)) shown held =
+    if_below of_coordinator of_federate w count links (Resend (Down j)) j (sends_again (Down j)) shown (λ below. coordinator_event of_coordinator of_federate w count links (Resend (Down j)) (event.Resend j) 0 tt tt)
+happened of_coordinator of_federate w count links (Reconnect (Up j)) shown held =
+    if_below of_coordinator of_federate w count links (Reconnect (Up j)) j (greets (Up j)) shown (λ below. asked of_coordinator of_federate w count links (Reconnect (Up j)) j (event.Hello 0) shown (λ s. tt) tt below)
+happened of_coordinator of_federate w count links (Reconnect (Down j)) shown held =
+    if_below of_coordinator of_federate w count links (Reconnect (Down j)) j (greets (Down j)) shown (λ below. coordinator_event of_coordinator of_federate w count links (Reconnect (Down j)) (event.Hello j) 0 tt tt)
+happened of_coordinator of_federate w count links (Announce j) shown held =
+    if_below of_coordinator of_federate w count links (Announce j) j (record { node = Federate j; event = event.Announce }) shown (λ below. asked of_coordinator of_federate w count links (Announce j) j event.Announce shown (λ s. tt) tt below)
+happened of_coordinator of_federate w count links (Advance j) shown held =
+    if_below of_coordinator of_federate w count links (Advance j) j (record { node = Federate j; event = event.Advance }) shown (λ below. asked of_coordinator of_federate w count links (Advance j) j event.Advance shown (λ s. tt) tt below)
+happened of_coordinator of_federate w count links (Forget j) shown held = loses of_coordinator of_federate w count links j (slice_get w.federates j) refl shown
 
 -- the steps that are listed change nothing of this
-pub shown_listed : {Hub Node : Type 0} (w : World Hub Node) (count : ℕ) (links : ℕ → Link) (steps : List Step) → IsShown w count links → IsShown (record w { steps = steps }) count links
+pub shown_listed : {OfCoordinator Node : Type 0} (w : World OfCoordinator Node) (count : ℕ) (links : ℕ → Link) (steps : List Step) → IsShown w count links → IsShown (record w { steps = steps }) count links
 shown_listed w count links steps s =
     record {
       ends = s.ends;
@@ -394,10 +394,10 @@ made_at f count j l =
     slice_get-get_or (map f (range_with_len 0 count)) j (f j) (omega arith) ∙ ap (λ x. Some x) got
 
 -- a world of which nothing was asked yet
-pub opened_shown : {Hub Member : Type 0} (hub : Hub) (count : ℕ) (member_at : ℕ → Member) (room : ℕ) → IsShown (opened hub count member_at room) count (λ j. initial_link j 1 room)
-opened_shown {Member = Member} hub count member_at room =
+pub opened_shown : {OfCoordinator OfFederate : Type 0} (of_coordinator : OfCoordinator) (count : ℕ) (federate_at : ℕ → OfFederate) (room : ℕ) → IsShown (opened of_coordinator count federate_at room) count (λ j. initial_link j 1 room)
+opened_shown {OfFederate = OfFederate} of_coordinator count federate_at room =
     let end : ℕ → Image = λ j. blank j 1 room in
-    let station : ℕ → Station Member = λ j. record { node = member_at j; ends = blank j 1 room ∷ [] } in
+    let station : ℕ → Station OfFederate = λ j. record { node = federate_at j; ends = blank j 1 room ∷ [] } in
     let none : ℕ → List Frame = λ j. [] in
     record {
       ends = length-map-range_with_len end 0 count;

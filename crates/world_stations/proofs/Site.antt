@@ -134,14 +134,14 @@ pub calm_acted : (s : Side) (coming : List Frame) (acts : List Act) → AllByRec
 calm_acted s coming [] c h = h
 calm_acted s coming (act ∷ rest) c h = calm_acted (side_after s coming act) coming rest c.1 (act_calm 1 s coming act c.0 h)
 
-member_quiet_calm : (i : ℕ) (acts : List Act) → AllByRecursion (IsQuiet false i) acts → AllByRecursion (IsCalmAct 1) acts
-member_quiet_calm i [] q = tt
-member_quiet_calm i (Gets place is_taken ∷ rest) q = (tt, member_quiet_calm i rest q.1)
-member_quiet_calm i (Offers signals ∷ rest) q = absurd q.0
-member_quiet_calm i (Resends ∷ rest) q = (tt, member_quiet_calm i rest q.1)
-member_quiet_calm i (Greets ∷ rest) q = (tt, member_quiet_calm i rest q.1)
-member_quiet_calm i (Closes number ∷ rest) q = absurd q.0
-member_quiet_calm i (TurnsAway k number ∷ rest) q = let never = q.0.0 in cc
+federate_quiet_calm : (i : ℕ) (acts : List Act) → AllByRecursion (IsQuiet false i) acts → AllByRecursion (IsCalmAct 1) acts
+federate_quiet_calm i [] q = tt
+federate_quiet_calm i (Gets place is_taken ∷ rest) q = (tt, federate_quiet_calm i rest q.1)
+federate_quiet_calm i (Offers signals ∷ rest) q = absurd q.0
+federate_quiet_calm i (Resends ∷ rest) q = (tt, federate_quiet_calm i rest q.1)
+federate_quiet_calm i (Greets ∷ rest) q = (tt, federate_quiet_calm i rest q.1)
+federate_quiet_calm i (Closes number ∷ rest) q = absurd q.0
+federate_quiet_calm i (TurnsAway k number ∷ rest) q = let never = q.0.0 in cc
 
 -- a lost federate does something
 pub lost_second : (d : Draft) (programs : List Behaviour) (inputs : List Input) (j : ℕ) (l : Link) (m : Member) (v w : FederateNode) (acts : List Act) → AllByRecursion (IsCalmAct 1) acts → 1 < l.second.end.incarnation → m.lost ≡ true → IsSite d programs inputs j l m v → IsSite d programs inputs j (record { first = l.first; second = acted l.second l.first.sent acts }) m w
@@ -167,7 +167,7 @@ quiet_second d programs inputs j l m v acts q site =
           with_second d programs inputs j l m v (acted l.second l.first.sent acts) m v [] site (seconds_held l acts site.held)
           (quiet.calm site.ups_calm) (quiet.stays.offered ∙ sym (append-nil (offered_in 1 l.second.sent))) (sym (append-nil m.up))
           (keeps (quiet.nothing.incarnation ∙ is) (quiet.stays.closed ∙ opened) not_lost node (queue ∙ ap (λ (x : ℕ). drop x (offered_in 1 l.first.sent)) (sym quiet.nothing.taken)) (acts_of l.second l.first acts linked mine))
-      | loses later lost ↦ lost_second d programs inputs j l m v v acts (member_quiet_calm l.second.end.incarnation acts q) later lost site
+      | loses later lost ↦ lost_second d programs inputs j l m v v acts (federate_quiet_calm l.second.end.incarnation acts q) later lost site
     ]
 
 -- a signal in its turn is the next one that the other side offered

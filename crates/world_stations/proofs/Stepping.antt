@@ -34,15 +34,15 @@ has_spare ends sent ready most spare count is enough memory same j there =
     let here = memory j there in
     omega arith
 
--- after a step of the hub: as many places less as frames were sent
-pub reserved_after : {View Row : Type 0} (core : Core View Row) (hub : Bool) (s after : Station View) (e : Event) (answer : Answer) (sent ready later : List SentView)
-    (most spare count used : ℕ) → record { station = after; answer = answer } ≡ step_of core hub s e → IsReserved s.ends sent most spare → AllSpare count ready →
+-- after a step of the coordinator: as many places less as frames were sent
+pub reserved_after : {View Row : Type 0} (core : Core View Row) (of_coordinator : Bool) (s after : Station View) (e : Event) (answer : Answer) (sent ready later : List SentView)
+    (most spare count used : ℕ) → record { station = after; answer = answer } ≡ step_of core of_coordinator s e → IsReserved s.ends sent most spare → AllSpare count ready →
     length ready ≡ length sent → length later ≡ length ready → ((j : ℕ) → spare_at ready j ≤ spare_at later j + used) → IsReserved after.ends later most (count - used)
-reserved_after core hub s after e answer sent ready later most spare count used is before memory same long few = record {
+reserved_after core of_coordinator s after e answer sent ready later most spare count used is before memory same long few = record {
   bounded = λ j there.
-      let ends : most_ever_to (slice_get after.ends j) ≡ most_ever_to (slice_get (step_of core hub s e).station.ends j) = ap (λ (r : Stepped _). most_ever_to (slice_get r.station.ends j)) is in
+      let ends : most_ever_to (slice_get after.ends j) ≡ most_ever_to (slice_get (step_of core of_coordinator s e).station.ends j) = ap (λ (r : Stepped _). most_ever_to (slice_get r.station.ends j)) is in
       let here = before.bounded j (omega arith) in
-      let less = never_more core hub s e j in
+      let less = never_more core of_coordinator s e j in
       omega arith;
   memory = λ j there.
       let here = memory j (omega arith) in
@@ -50,13 +50,13 @@ reserved_after core hub s after e answer sent ready later most spare count used 
       omega arith;
 }
 
--- what the hub says fits in the memory reserved
-pub hub_fits : {View Row : Type 0} (core : Core View Row) (hub : Bool) (s after : Station View) (e : Event) (answer : Answer) (outs : List Outgoing) (sent : List SentView) →
-    record { station = after; answer = answer } ≡ step_of core hub s e → outs ≡ frames_of answer → HasSpare s.ends sent → Fits outs sent
-hub_fits core hub s after e answer outs sent is says ready j there =
-    let answers : answer ≡ (step_of core hub s e).answer = ap (λ (r : Stepped _). r.answer) is in
-    let count : count_to j outs ≡ count_to j (frames_of (step_of core hub s e).answer) = ap (count_to j) (says ∙ ap frames_of answers) in
-    let bound = (within core hub s e).bounded j in
+-- what the coordinator says fits in the memory reserved
+pub coordinator_fits : {View Row : Type 0} (core : Core View Row) (of_coordinator : Bool) (s after : Station View) (e : Event) (answer : Answer) (outs : List Outgoing) (sent : List SentView) →
+    record { station = after; answer = answer } ≡ step_of core of_coordinator s e → outs ≡ frames_of answer → HasSpare s.ends sent → Fits outs sent
+coordinator_fits core of_coordinator s after e answer outs sent is says ready j there =
+    let answers : answer ≡ (step_of core of_coordinator s e).answer = ap (λ (r : Stepped _). r.answer) is in
+    let count : count_to j outs ≡ count_to j (frames_of (step_of core of_coordinator s e).answer) = ap (count_to j) (says ∙ ap frames_of answers) in
+    let bound = (within core of_coordinator s e).bounded j in
     let here = ready j there in
     omega arith
 
@@ -81,19 +81,19 @@ count_all (out ∷ rest) none =
     grind (arith, first, others)
 
 -- what a federate says fits in the memory reserved
-pub member_fits : {View Row : Type 0} (core : Core View Row) (hub : Bool) (s : Station View) (e : Event) (answer : Answer) (outs : List Outgoing) (spare : ℕ) → length s.ends ≡ 1 →
-    answer ≡ (step_of core hub s e).answer → outs ≡ frames_of answer → most_to (slice_get s.ends 0) ≤ spare → length outs ≤ spare
-member_fits core hub s e answer outs spare one is says few =
-    let same : outs ≡ frames_of (step_of core hub s e).answer = says ∙ ap frames_of is in
-    let bound : IsBounded s.ends (frames_of (step_of core hub s e).answer) = (within core hub s e).bounded in
+pub federate_fits : {View Row : Type 0} (core : Core View Row) (of_coordinator : Bool) (s : Station View) (e : Event) (answer : Answer) (outs : List Outgoing) (spare : ℕ) → length s.ends ≡ 1 →
+    answer ≡ (step_of core of_coordinator s e).answer → outs ≡ frames_of answer → most_to (slice_get s.ends 0) ≤ spare → length outs ≤ spare
+federate_fits core of_coordinator s e answer outs spare one is says few =
+    let same : outs ≡ frames_of (step_of core of_coordinator s e).answer = says ∙ ap frames_of is in
+    let bound : IsBounded s.ends (frames_of (step_of core of_coordinator s e).answer) = (within core of_coordinator s e).bounded in
     let none : (p : ℕ) → p ≢ 0 → count_to p outs ≡ 0 = λ p other.
     let past : slice_get s.ends p ≡ None = slice_get_past s.ends p (omega arith) in
-    let count : count_to p outs ≡ count_to p (frames_of (step_of core hub s e).answer) = ap (count_to p) same in
+    let count : count_to p outs ≡ count_to p (frames_of (step_of core of_coordinator s e).answer) = ap (count_to p) same in
     let most : most_to (slice_get s.ends p) ≡ 0 = ap most_to past in
     let here = bound p in
     omega arith in
     let all = count_all outs none in
-    let count : count_to 0 outs ≡ count_to 0 (frames_of (step_of core hub s e).answer) = ap (count_to 0) same in
+    let count : count_to 0 outs ≡ count_to 0 (frames_of (step_of core of_coordinator s e).answer) = ap (count_to 0) same in
     let here = bound 0 in
     omega arith
 
@@ -106,37 +106,37 @@ has_one federates j s one found =
     rw is at here
 
 -- after a step of a federate it still has one peer
-pub still_world : {View Row : Type 0} (core : Core View Row) (hub member : Bool) (federates later : List (Station View)) (j : ℕ) (s : Station View) (e : Event) →
-    IsWorld hub member federates → slice_get federates j ≡ Some s → later ≡ set federates j (step_of core member s e).station → IsWorld hub member later
-still_world core hub member federates later j s e is found stepped =
+pub still_world : {View Row : Type 0} (core : Core View Row) (of_coordinator of_federate : Bool) (federates later : List (Station View)) (j : ℕ) (s : Station View) (e : Event) →
+    IsWorld of_coordinator of_federate federates → slice_get federates j ≡ Some s → later ≡ set federates j (step_of core of_federate s e).station → IsWorld of_coordinator of_federate later
+still_world core of_coordinator of_federate federates later j s e is found stepped =
     let one = has_one federates j s is.one_peer found in
-    let stay = (within core member s e).ends_stay in
+    let stay = (within core of_federate s e).ends_stay in
     record {
-      is_hub = is.is_hub;
-      is_member = is.is_member;
-      one_peer = rw stepped (All-set (λ f. length f.ends ≡ 1) federates j (step_of core member s e).station (omega arith) is.one_peer);
+      is_coordinator = is.is_coordinator;
+      is_federate = is.is_federate;
+      one_peer = rw stepped (All-set (λ f. length f.ends ≡ 1) federates j (step_of core of_federate s e).station (omega arith) is.one_peer);
     }
 
--- the world after a step of the hub
-pub after_hub : {Hub Member HubRow Row : Type 0} (core : Core Hub HubRow) (member : Core Member Row) (flag : Bool) (w : World Hub Member) (coordinator later : Station Hub) (federates : List (Station Member))
+-- the world after a step of the coordinator
+pub after_coordinator_step : {OfCoordinator OfFederate CoordinatorRow Row : Type 0} (core : Core OfCoordinator CoordinatorRow) (of_federate : Core OfFederate Row) (flag : Bool) (w : World OfCoordinator OfFederate) (coordinator later : Station OfCoordinator) (federates : List (Station OfFederate))
     (up down down_ready down_then : List (List Frame)) (steps steps_ready steps_then : List Step) (e : Event) (step : Step) (answer : Answer) (outs : List Outgoing) (o : Outcome) →
     w ≡ record { coordinator = coordinator; federates = federates; up = up; down = down; steps = steps } → flag ≡ true →
     record { station = later; answer = answer } ≡ step_of core flag coordinator e → outs ≡ frames_of answer →
     down_ready ≡ down → down_then ≡ sent_out down_ready outs → steps_ready ≡ steps → steps_then ≡ steps_ready ++ step ∷ [] → o ≡ outcome_of answer →
-    ◌≡◌ {A = Applied Hub Member}
+    ◌≡◌ {A = Applied OfCoordinator OfFederate}
     (record { world = record { coordinator = later; federates = federates; up = up; down = down_then; steps = steps_then }; outcome = o })
-    (listed step (at_node core member w Coordinator e))
-after_hub core member flag w coordinator later federates up down down_ready down_then steps steps_ready steps_then e step answer outs o view hub stepped frames same put unchanged made told =
+    (listed step (at_node core of_federate w Coordinator e))
+after_coordinator_step core of_federate flag w coordinator later federates up down down_ready down_then steps steps_ready steps_then e step answer outs o view of_coordinator stepped frames same put unchanged made told =
     let station : later ≡ (step_of core flag coordinator e).station = ap (λ (r : Stepped _). r.station) stepped in
     let says : answer ≡ (step_of core flag coordinator e).answer = ap (λ (r : Stepped _). r.answer) stepped in
-    rw (view, told, made, unchanged, put, same, frames, station, says, hub) refl
+    rw (view, told, made, unchanged, put, same, frames, station, says, of_coordinator) refl
 
 -- another station with one peer in the place of a federate's
-pub world_with : {View : Type 0} (hub member : Bool) (federates later : List (Station View)) (j : ℕ) (s : Station View) →
-    IsWorld hub member federates → length s.ends ≡ 1 → later ≡ set federates j s → IsWorld hub member later
-world_with hub member federates later j s is one put = record {
-  is_hub = is.is_hub;
-  is_member = is.is_member;
+pub world_with : {View : Type 0} (of_coordinator of_federate : Bool) (federates later : List (Station View)) (j : ℕ) (s : Station View) →
+    IsWorld of_coordinator of_federate federates → length s.ends ≡ 1 → later ≡ set federates j s → IsWorld of_coordinator of_federate later
+world_with of_coordinator of_federate federates later j s is one put = record {
+  is_coordinator = is.is_coordinator;
+  is_federate = is.is_federate;
   one_peer = rw put (All-set (λ f. length f.ends ≡ 1) federates j s one is.one_peer);
 }
 
@@ -151,30 +151,30 @@ none_reserved ends down count most none bound =
     }
 
 -- the world after a step of a federate
-pub after_member : {Hub Member Row : Type 0} (core : Core Member Row) (flag : Bool) (w : World Hub Member) (coordinator : Station Hub) (federates later : List (Station Member))
-    (up up_ready up_then down : List (List Frame)) (steps steps_ready steps_then : List Step) (j : ℕ) (s : Station Member) (e : Event) (step : Step) (answer : Answer) (outs : List Outgoing) (o : Outcome) →
+pub after_federate_step : {OfCoordinator OfFederate Row : Type 0} (core : Core OfFederate Row) (flag : Bool) (w : World OfCoordinator OfFederate) (coordinator : Station OfCoordinator) (federates later : List (Station OfFederate))
+    (up up_ready up_then down : List (List Frame)) (steps steps_ready steps_then : List Step) (j : ℕ) (s : Station OfFederate) (e : Event) (step : Step) (answer : Answer) (outs : List Outgoing) (o : Outcome) →
     w ≡ record { coordinator = coordinator; federates = federates; up = up; down = down; steps = steps } → flag ≡ false → slice_get federates j ≡ Some s →
     answer ≡ (step_of core flag s e).answer → later ≡ set federates j (step_of core flag s e).station → outs ≡ frames_of answer →
     up_ready ≡ up → up_then ≡ set up_ready j (get_or up_ready j [] ++ map (λ out. out.frame) outs) → steps_ready ≡ steps → steps_then ≡ steps_ready ++ step ∷ [] →
     o ≡ outcome_of answer →
-    ◌≡◌ {A = Applied Hub Member}
+    ◌≡◌ {A = Applied OfCoordinator OfFederate}
     (record { world = record { coordinator = coordinator; federates = later; up = up_then; down = down; steps = steps_then }; outcome = o })
     (listed step (at_federate core w j e (slice_get w.federates j)))
-after_member core flag w coordinator federates later up up_ready up_then down steps steps_ready steps_then j s e step answer outs o view member found says stepped frames same put
+after_federate_step core flag w coordinator federates later up up_ready up_then down steps steps_ready steps_then j s e step answer outs o view of_federate found says stepped frames same put
     unchanged made told =
-    rw (view, found, told, made, unchanged, put, same, frames, stepped, says, member) refl
+    rw (view, found, told, made, unchanged, put, same, frames, stepped, says, of_federate) refl
 
 -- one step more
-pub one_more : {Hub Member HubRow Row : Type 0} (hub : Core Hub HubRow) (member : Core Member Row) (w : World Hub Member) (steps : List Step) (step : Step) →
-    after_steps hub member w (steps ++ step ∷ []) ≡ (applied hub member (after_steps hub member w steps) step).world
-one_more hub member w [] step = refl
-one_more hub member w (first ∷ steps) step = one_more hub member (applied hub member w first).world steps step
+pub one_more : {OfCoordinator OfFederate CoordinatorRow Row : Type 0} (of_coordinator : Core OfCoordinator CoordinatorRow) (of_federate : Core OfFederate Row) (w : World OfCoordinator OfFederate) (steps : List Step) (step : Step) →
+    after_steps of_coordinator of_federate w (steps ++ step ∷ []) ≡ (applied of_coordinator of_federate (after_steps of_coordinator of_federate w steps) step).world
+one_more of_coordinator of_federate w [] step = refl
+one_more of_coordinator of_federate w (first ∷ steps) step = one_more of_coordinator of_federate (applied of_coordinator of_federate w first).world steps step
 
 -- the next step of a list
-pub step_more : {Hub Member HubRow Row : Type 0} (hub : Core Hub HubRow) (member : Core Member Row) (w now later : World Hub Member) (steps : List Step) (i : ℕ) (d : Step) (o : Outcome) →
-    i < length steps → now ≡ after_steps hub member w (take i steps) → record { world = later; outcome = o } ≡ applied hub member now (get_or steps i d) →
-    later ≡ after_steps hub member w (take (i + 1) steps)
-step_more hub member w now later steps i d o there so_far made =
+pub step_more : {OfCoordinator OfFederate CoordinatorRow Row : Type 0} (of_coordinator : Core OfCoordinator CoordinatorRow) (of_federate : Core OfFederate Row) (w now later : World OfCoordinator OfFederate) (steps : List Step) (i : ℕ) (d : Step) (o : Outcome) →
+    i < length steps → now ≡ after_steps of_coordinator of_federate w (take i steps) → record { world = later; outcome = o } ≡ applied of_coordinator of_federate now (get_or steps i d) →
+    later ≡ after_steps of_coordinator of_federate w (take (i + 1) steps)
+step_more of_coordinator of_federate w now later steps i d o there so_far made =
     ap (λ (a : Applied _ _). a.world) made ∙
-    (ap (λ (x : World _ _). (applied hub member x (get_or steps i d)).world) so_far ∙
-    (sym (one_more hub member w (take i steps) (get_or steps i d)) ∙ ap (λ (made_so_far : List Step). after_steps hub member w made_so_far) (sym (take_more steps i d there))))
+    (ap (λ (x : World _ _). (applied of_coordinator of_federate x (get_or steps i d)).world) so_far ∙
+    (sym (one_more of_coordinator of_federate w (take i steps) (get_or steps i d)) ∙ ap (λ (made_so_far : List Step). after_steps of_coordinator of_federate w made_so_far) (sym (take_more steps i d there))))

@@ -14,14 +14,14 @@ use Rattle.plan_network.specs.Network.{network_of}
 use Rattle.protocol.specs.declared.refusal.Refusal.{Refusal}
 use Rattle.protocol.specs.Outcome.{Refused, Nothing, Done, with_made}
 use Rattle.protocol.specs.Federate.{federate_announces, federate_advances}
-use Rattle.protocol.specs.Machine.{Member, Move, ToCoordinator, ToFederate, Announce, Advance, Lose, with_member, standings_of, sent_to, stepped, outcome_of, after_moves}
+use Rattle.protocol.specs.Machine.{Member, Move, ToCoordinator, ToFederate, Announce, Advance, Lose, with_member, federate_records_of, sent_to, stepped, outcome_of, after_moves}
 use Rattle.protocol_laws.proofs.Eligibility.{lawful_is_wired}
 use Rattle.protocol_laws.proofs.SafeGrants.{widest_rule_is_safe}
 use Rattle.protocol_laws.proofs.Safety.{none_refused}
 use Rattle.node.specs.declared.event.Event.{Event}
 use Rattle.node.specs.Core.{Made}
 use Rattle.node.specs.Step.{Station, Answer, Silent, Says, Declines, step_of}
-use Rattle.node_cores.specs.FederateCore as member
+use Rattle.node_cores.specs.FederateCore as of_federate
 use Rattle.node_cores.specs.FederateCore.{FederateNode, federate_core}
 use Rattle.node_cores.specs.CoordinatorCore.{CoordinatorNode, coordinator_core}
 use Rattle.link_laws.specs.Link.{Link, Act, Offers, replaced}
@@ -32,10 +32,10 @@ use Rattle.world_stations.specs.World.{outcome_of as told_by, Applied, unchanged
 use Rattle.world_stations.specs.Kept.{is_forget_of}
 use Rattle.world_stations.specs.Federation.{Federation, IsPlain}
 use Rattle.world_stations.proofs.Course.{acted, Comes, IsPlainAnswer, announces, advances, quiet, takes, notes, says, declines, cannot, IsCourse}
-use Rattle.world_stations.proofs.Shown.{ups_of, with_firsts, nowhere, at_hub, at_member, lost as loses_all, happened, at_other}
+use Rattle.world_stations.proofs.Shown.{ups_of, with_firsts, nowhere, happened_at_coordinator, happened_at_federate, lost as loses_all, happened, at_other}
 use Rattle.world_stations.proofs.Site.{node_with, IsSite, keeps, loses, quiet_second, lost_second}
-use Rattle.world_stations.proofs.Moves.{done_of, refused_of, nothing_of, coordinator_answers, federate_answers, announces_freely, advances_freely, rule_of, hub_makes, hub_accepts, moved_to, announce_move, advance_move}
-use Rattle.world_stations.proofs.Runs.{IsRun, IsMoved, quiet_hub, takes_hub, hub_refuses}
+use Rattle.world_stations.proofs.Moves.{done_of, refused_of, nothing_of, coordinator_answers, federate_answers, announces_freely, advances_freely, rule_of, coordinator_makes, coordinator_accepts_listed, moved_to, announce_move, advance_move}
+use Rattle.world_stations.proofs.Runs.{IsRun, IsMoved, quiet_coordinator, takes_coordinator, coordinator_refuses}
 use Rattle.world_stations.proofs.Members.{handed_at, never_handed, own_ends, accepts_as, announces_as, advances_as, kept_takes, kept_says, unmoved, forgets_all, kept_refuses}
 
 -- the members after moves of a federation's machine
@@ -75,21 +75,21 @@ refuses_no d programs inputs moves move refusal lawful e =
     none_refused n (least_of d) (λ k. rule_of d programs inputs) moves move refusal lawful.lawful lawful.facts (λ k. safe) e
 
 -- the coordinator's station does something
-goes_at_hub : (d : Draft) (programs : List Behaviour) (inputs : List Input) (w : Federation) (links : ℕ → Link) (moves : List Move) (step : Step) (e : Event) (place : ℕ) (c : IsCourse coordinator_core true w.coordinator e (ups_of links) place (step_of coordinator_core true w.coordinator e))
+goes_at_coordinator : (d : Draft) (programs : List Behaviour) (inputs : List Input) (w : Federation) (links : ℕ → Link) (moves : List Move) (step : Step) (e : Event) (place : ℕ) (c : IsCourse coordinator_core true w.coordinator e (ups_of links) place (step_of coordinator_core true w.coordinator e))
     → IsLawfulWith (network_of d programs inputs) (least_of d) → Comes w.coordinator (ups_of links) place e → IsRun d programs inputs w links (members_after d programs inputs moves) → Goes d programs inputs (after_coordinator w (step_of coordinator_core true w.coordinator e)) step moves
-goes_at_hub d programs inputs w links moves step e place c lawful comes run =
+goes_at_coordinator d programs inputs w links moves step e place c lawful comes run =
     let made = step_of coordinator_core true w.coordinator e in
     let members = members_after d programs inputs moves in
     let after : ℕ → Link = with_firsts links (λ p. acted (links p).first (ups_of links p) (c.acts p)) in
     let wired = lawful_is_wired (network_of d programs inputs) lawful.lawful in
     elim c.kind [
-      | quiet node plain acts ↦ by_none d programs inputs (after_coordinator w made) after step moves (plain_told made.answer plain) (quiet_hub d programs inputs w links members e place c node acts run)
-      | takes q m handed node plain acts ↦ by_move d programs inputs (after_coordinator w made) after step moves (ToCoordinator q) (plain_told made.answer plain) (takes_hub d programs inputs w links members e place q m c wired comes handed node acts run)
+      | quiet node plain acts ↦ by_none d programs inputs (after_coordinator w made) after step moves (plain_told made.answer plain) (quiet_coordinator d programs inputs w links members e place c node acts run)
+      | takes q m handed node plain acts ↦ by_move d programs inputs (after_coordinator w made) after step moves (ToCoordinator q) (plain_told made.answer plain) (takes_coordinator d programs inputs w links members e place q m c wired comes handed node acts run)
       | notes q handed acts ↦
-          absurd (coordinator_answers (network_of d programs inputs) (rule_of d programs inputs) (standings_of members) q handed.signal
-          (nothing_of (hub_makes (network_of d programs inputs) w.coordinator.node) _ (sym (hub_accepts d programs inputs w.coordinator.node (standings_of members) q handed.signal run.draft run.standings) ∙ handed.node)))
+          absurd (coordinator_answers (network_of d programs inputs) (rule_of d programs inputs) (federate_records_of members) q handed.signal
+          (nothing_of (coordinator_makes (network_of d programs inputs) w.coordinator.node) _ (sym (coordinator_accepts_listed d programs inputs w.coordinator.node (federate_records_of members) q handed.signal run.draft run.federate_records) ∙ handed.node)))
       | says m speaks node plain acts ↦ absurd (elim speaks [ announces is does ↦ cc | advances is does ↦ cc ])
-      | declines q refusal handed acts ↦ absurd (refuses_no d programs inputs moves (ToCoordinator q) refusal lawful (hub_refuses d programs inputs w links members e place q refusal comes handed run))
+      | declines q refusal handed acts ↦ absurd (refuses_no d programs inputs moves (ToCoordinator q) refusal lawful (coordinator_refuses d programs inputs w links members e place q refusal comes handed run))
       | cannot refusal speaks acts ↦ absurd (elim speaks [ announces is does ↦ cc | advances is does ↦ cc ])
     ]
 
@@ -106,10 +106,10 @@ lost_goes d programs inputs w links moves step j s e place m c below there plain
     by_none d programs inputs (after_federate w j made) _ step moves (plain_told made.answer plain) (unmoved d programs inputs w links members j s e place c below there after run)
 
 -- a federate's station does something
-goes_at_member : (d : Draft) (programs : List Behaviour) (inputs : List Input) (w : Federation) (links : ℕ → Link) (moves : List Move) (step : Step) (j : ℕ) (s : Station FederateNode) (e : Event) (place : ℕ) (c : IsCourse federate_core false s e (λ p. (links j).first.sent) place (step_of federate_core false s e))
+goes_at_federate : (d : Draft) (programs : List Behaviour) (inputs : List Input) (w : Federation) (links : ℕ → Link) (moves : List Move) (step : Step) (j : ℕ) (s : Station FederateNode) (e : Event) (place : ℕ) (c : IsCourse federate_core false s e (λ p. (links j).first.sent) place (step_of federate_core false s e))
     → IsLawfulWith (network_of d programs inputs) (least_of d) → j < federate_count d → slice_get w.federates j ≡ Some s → Comes s (λ p. (links j).first.sent) place e → IsRun d programs inputs w links (members_after d programs inputs moves)
     → Goes d programs inputs (after_federate w j (step_of federate_core false s e)) step moves
-goes_at_member d programs inputs w links moves step j s e place c lawful below there comes run =
+goes_at_federate d programs inputs w links moves step j s e place c lawful below there comes run =
     let n = network_of d programs inputs in
     let rule = rule_of d programs inputs in
     let made = step_of federate_core false s e in
@@ -133,7 +133,7 @@ goes_at_member d programs inputs w links moves step j s e place c lawful below t
       | notes q handed acts ↦
           elim site.own [
             | keeps is opened not_lost node_is queue frames ↦
-                absurd (federate_answers n j (members j).federate handed.signal (nothing_of (member.made_by (node_with d programs inputs j (members j).federate)) _ (accepts_as d programs inputs j (members j) s.node q handed.signal Nothing node_is handed.node)))
+                absurd (federate_answers n j (members j).federate handed.signal (nothing_of (of_federate.made_by (node_with d programs inputs j (members j).federate)) _ (accepts_as d programs inputs j (members j) s.node q handed.signal Nothing node_is handed.node)))
             | loses later lost ↦ absurd (never_handed d programs inputs j (links j) (members j) s.node place handed.incarnation handed.number handed.signal q site later (handed_at w (links j) s e place q Nothing ends comes handed))
           ]
       | says m speaks node_after plain acts ↦
@@ -141,12 +141,12 @@ goes_at_member d programs inputs w links moves step j s e place c lawful below t
             | keeps is opened not_lost node_is queue frames ↦
                 elim speaks [
                   | announces is_event does ↦
-                      let done = done_of (member.made_by (node_with d programs inputs j (members j).federate)) (federate_announces (members j).federate) m (announces_as d programs inputs j (members j) s.node (Done m) node_is does) in
+                      let done = done_of (of_federate.made_by (node_with d programs inputs j (members j).federate)) (federate_announces (members j).federate) m (announces_as d programs inputs j (members j) s.node (Done m) node_is does) in
                       by_move d programs inputs (after_federate w j made) _ step moves (Announce j) (plain_told made.answer plain)
                       (kept_says d programs inputs w links members j s e place m done.0 (Announce j) c below there node_after (acts 0) done.2
                       (announce_move n rule members j not_lost ∙ ap (with_made (λ made. with_member members j (stepped (members j) (members j).down made))) done.1) is opened not_lost queue frames run)
                   | advances is_event does ↦
-                      let done = done_of (member.made_by (node_with d programs inputs j (members j).federate)) (federate_advances n j (members j).federate) m (advances_as d programs inputs j (members j) s.node (Done m) node_is does) in
+                      let done = done_of (of_federate.made_by (node_with d programs inputs j (members j).federate)) (federate_advances n j (members j).federate) m (advances_as d programs inputs j (members j) s.node (Done m) node_is does) in
                       by_move d programs inputs (after_federate w j made) _ step moves (Advance j) (plain_told made.answer plain)
                       (kept_says d programs inputs w links members j s e place m done.0 (Advance j) c below there node_after (acts 0) done.2
                       (advance_move n rule members j not_lost ∙ ap (with_made (λ made. with_member members j (stepped (members j) (members j).down made))) done.1) is opened not_lost queue frames run)
@@ -160,8 +160,8 @@ goes_at_member d programs inputs w links moves step j s e place c lawful below t
           ]
       | cannot refusal speaks acts ↦
           absurd (elim speaks [
-            | announces is_event does ↦ announces_freely s.node.federate refusal (refused_of (member.made_by s.node) (federate_announces s.node.federate) refusal does)
-            | advances is_event does ↦ advances_freely (member.network_at s.node) s.node.number s.node.federate (first_tag s.node.federate.undone) refusal (refused_of (member.made_by s.node) (federate_advances (member.network_at s.node) s.node.number s.node.federate) refusal does)
+            | announces is_event does ↦ announces_freely s.node.federate refusal (refused_of (of_federate.made_by s.node) (federate_announces s.node.federate) refusal does)
+            | advances is_event does ↦ advances_freely (of_federate.network_at s.node) s.node.number s.node.federate (first_tag s.node.federate.undone) refusal (refused_of (of_federate.made_by s.node) (federate_advances (of_federate.network_at s.node) s.node.number s.node.federate) refusal does)
           ])
     ]
 
@@ -196,7 +196,7 @@ goes d programs inputs w links moves step lawful run =
     let G : Applied CoordinatorNode FederateNode → Type 0 = λ x. Goes d programs inputs x step moves in
     elim (happened coordinator_core federate_core w (federate_count d) links step run.shown held) [
       | nowhere is ↦ subst G (sym is) (by_none d programs inputs (unchanged w) links step moves tt run)
-      | at_hub e place comes c brings is ↦ subst G (sym is) (goes_at_hub d programs inputs w links moves step e place c lawful comes run)
-      | at_member j s e place below there comes c brings is ↦ subst G (sym is) (goes_at_member d programs inputs w links moves step j s e place c lawful below there comes run)
+      | happened_at_coordinator e place comes c brings is ↦ subst G (sym is) (goes_at_coordinator d programs inputs w links moves step e place c lawful comes run)
+      | happened_at_federate j s e place below there comes c brings is ↦ subst G (sym is) (goes_at_federate d programs inputs w links moves step j s e place c lawful below there comes run)
       | loses_all j s below there is_step is ↦ goes_lost d programs inputs w links moves step j s made below there is_step is run
     ]

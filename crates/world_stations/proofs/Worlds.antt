@@ -13,9 +13,9 @@ use Rattle.plan.specs.Federation.{federate_count}
 use Rattle.plan.specs.Least.{least_of}
 use Rattle.reactor_program.specs.Behaviour.{Behaviour}
 use Rattle.plan_network.specs.Network.{network_of}
-use Rattle.protocol.specs.Standing.{initial_standing}
-use Rattle.protocol.specs.Machine.{Member, Move, initial_member as first_member}
-use Rattle.protocol_laws.proofs.ListedStandings.{listed_length, initial_read}
+use Rattle.protocol.specs.FederateRecord.{initial_federate_record}
+use Rattle.protocol.specs.Machine.{Member, Move, initial_member as first_federate}
+use Rattle.protocol_laws.proofs.ListedFederateRecords.{listed_length, initial_read}
 use Rattle.node.specs.Step.{Station}
 use Rattle.node_cores.specs.FederateCore.{FederateNode, federate_core}
 use Rattle.node_cores.specs.CoordinatorCore.{coordinator_core}
@@ -38,7 +38,7 @@ use Rattle.world_stations.proofs.Steps.{members_after, Goes, goes}
 
 run_listed : (d : Draft) (programs : List Behaviour) (inputs : List Input) (w : Federation) (links : ℕ → Link) (members : ℕ → Member) (steps : List Step) → IsRun d programs inputs w links members → IsRun d programs inputs (record w { steps = steps }) links members
 run_listed d programs inputs w links members steps r =
-    record { shown = shown_listed w (federate_count d) links steps r.shown; draft = r.draft; size = r.size; standings = r.standings; site = λ j l s there. r.site j l s there }
+    record { shown = shown_listed w (federate_count d) links steps r.shown; draft = r.draft; size = r.size; federate_records = r.federate_records; site = λ j l s there. r.site j l s there }
 
 -- a step of the world
 pub step_goes : (d : Draft) (programs : List Behaviour) (inputs : List Input) (w : Federation) (links : ℕ → Link) (moves : List Move) (step : Step) → IsLawfulWith (network_of d programs inputs) (least_of d) → IsRun d programs inputs w links (members_after d programs inputs moves) → Goes d programs inputs (step_in w step) step moves
@@ -92,11 +92,11 @@ initial_run d programs inputs =
     record {
       shown = opened_shown (initial_coordinator d) count (initial_member d programs inputs) LINK_ROOM;
       draft = refl;
-      size = listed_length count (λ j. initial_standing);
-      standings = fun_ext (λ j. initial_read count j);
+      size = listed_length count (λ j. initial_federate_record);
+      federate_records = fun_ext (λ j. initial_read count j);
       site = λ j l s there. (
           let same : station j ≡ s = some_of (station j) s (sym (made_at station count j l) ∙ there) in
-          let P : Station FederateNode → Type 0 = λ x. IsSite d programs inputs j (open_link j) (first_member (network_of d programs inputs) j) x.node in
+          let P : Station FederateNode → Type 0 = λ x. IsSite d programs inputs j (open_link j) (first_federate (network_of d programs inputs) j) x.node in
           subst P same
           (record {
             held = held j 1 LINK_ROOM [];

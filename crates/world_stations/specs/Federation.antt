@@ -13,8 +13,8 @@ use Rattle.plan.specs.Federation.{federate_count}
 use Rattle.reactor_program.specs.Behaviour.{Behaviour}
 use Rattle.plan_network.specs.Network.{network_of}
 use Rattle.protocol.specs.Federate.{initial_federate}
-use Rattle.protocol.specs.Standing.{initial_standing}
-use Rattle.protocol.specs.Standings.{standings_listed}
+use Rattle.protocol.specs.FederateRecord.{initial_federate_record}
+use Rattle.protocol.specs.FederateRecords.{federate_records_listed}
 use Rattle.node.specs.Step.{Station}
 use Rattle.node_cores.specs.FederateCore.{FederateNode, federate_core}
 use Rattle.node_cores.specs.CoordinatorCore.{CoordinatorNode, coordinator_core}
@@ -34,7 +34,7 @@ Federation = World CoordinatorNode FederateNode
 
 -- the coordinator, as it is made
 abbrev pub initial_coordinator : Draft → CoordinatorNode
-initial_coordinator d = record { draft = d; standings = standings_listed (federate_count d) (λ j. initial_standing) }
+initial_coordinator d = record { draft = d; federate_records = federate_records_listed (federate_count d) (λ j. initial_federate_record) }
 
 -- federate j, as it is made
 abbrev pub initial_member : Draft → List Behaviour → List Input → ℕ → FederateNode

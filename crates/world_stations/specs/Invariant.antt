@@ -4,17 +4,17 @@ use Rattle.node.specs.Step.{Station}
 use Rattle.world_stations.specs.World.{World}
 
 -- each federate has one peer
-abbrev pub HaveOnePeer : {Member : Type 0} → List (Station Member) → Type 0
+abbrev pub HaveOnePeer : {OfFederate : Type 0} → List (Station OfFederate) → Type 0
 HaveOnePeer federates = All (λ s. length s.ends ≡ 1) federates
 
--- the coordinator is the hub, no federate is, and each federate has one peer
-pub record IsWorld {Member : Type 0} (hub member : Bool) (federates : List (Station Member)) : Type 0 where
-  pub is_hub : hub ≡ true
-  pub is_member : member ≡ false
+-- the coordinator is the coordinator, no federate is, and each federate has one peer
+pub record IsWorld {OfFederate : Type 0} (of_coordinator of_federate : Bool) (federates : List (Station OfFederate)) : Type 0 where
+  pub is_coordinator : of_coordinator ≡ true
+  pub is_federate : of_federate ≡ false
   pub one_peer : HaveOnePeer federates
 
 -- these stations, which have sent nothing
-abbrev pub unused : {Hub Member : Type 0} → Station Hub → List (Station Member) → World Hub Member
+abbrev pub unused : {OfCoordinator OfFederate : Type 0} → Station OfCoordinator → List (Station OfFederate) → World OfCoordinator OfFederate
 unused coordinator federates = record {
   coordinator = coordinator;
   federates = federates;

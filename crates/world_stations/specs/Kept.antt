@@ -34,7 +34,7 @@ abbrev pub is_kept : List Step → ℕ → Bool
 is_kept steps j = not (list_any (is_forget_of j) steps)
 
 -- a frame of a direction is settled: if it carries a signal, that was taken, and its acknowledgement has come
-abbrev pub IsSettled : {Hub Member : Type 0} → World Hub Member → Dir → Frame → Type 0
+abbrev pub IsSettled : {OfCoordinator OfFederate : Type 0} → World OfCoordinator OfFederate → Dir → Frame → Type 0
 IsSettled w dir (Hello _) = Unit {0}
 IsSettled w dir (Data incarnation number signal) =
     (number ≤ number_taken incarnation (receiver w dir)) × (number ≤ number_acknowledged incarnation (sender w dir))
@@ -42,12 +42,12 @@ IsSettled w dir (Ack _ _) = Unit {0}
 IsSettled w dir (Refuse _ _) = Unit {0}
 
 -- a world is stuck: nobody forgot, every signal sent was taken and acknowledged, and nobody has anything to announce or to run
-pub record IsStuck {Hub Member HubRow Row : Type 0} (hub : Core Hub HubRow) (member : Core Member Row) (w : World Hub Member) : Type 0 where
+pub record IsStuck {OfCoordinator OfFederate CoordinatorRow Row : Type 0} (of_coordinator : Core OfCoordinator CoordinatorRow) (of_federate : Core OfFederate Row) (w : World OfCoordinator OfFederate) : Type 0 where
   pub kept : list_any is_forget w.steps ≡ false
   pub settled : (dir : Dir) → All (IsSettled w dir) (frames_in w dir)
-  pub announced : (j : ℕ) → (applied hub member w (Announce j)).outcome ≡ outcome.Nothing
-  pub advanced : (j : ℕ) → (applied hub member w (Advance j)).outcome ≡ outcome.Nothing
+  pub announced : (j : ℕ) → (applied of_coordinator of_federate w (Announce j)).outcome ≡ outcome.Nothing
+  pub advanced : (j : ℕ) → (applied of_coordinator of_federate w (Advance j)).outcome ≡ outcome.Nothing
 
 -- no end keeps a signal: all that it offered is acknowledged
-abbrev pub KeepsNothing : {Hub Member : Type 0} → World Hub Member → Type 0
+abbrev pub KeepsNothing : {OfCoordinator OfFederate : Type 0} → World OfCoordinator OfFederate → Type 0
 KeepsNothing w = (dir : Dir) → IfSome (sender w dir) (λ e. e.kept ≡ [])

@@ -1,11 +1,11 @@
 -- How out of memory is printed.
 use Rattle.std.specs.Prelude.{ℕ, List, codes}
-use Rattle.signal.specs.Fault.{told}
+use Rattle.signal.specs.Fault.{printed_fault}
 
--- the number by which it is told
+-- the number by which it is printed
 abbrev pub out_of_memory : ℕ
 out_of_memory = 90
 
 -- what is printed of it
-abbrev pub told_out_of_memory : List ℕ
-told_out_of_memory = told out_of_memory (codes "Memory")
+abbrev pub out_of_memory_text : List ℕ
+out_of_memory_text = printed_fault out_of_memory (codes "Memory")

@@ -19,15 +19,15 @@ use Rattle.world_stations.specs.declared.outcome.Outcome.{Outcome}
 use Rattle.world_stations.specs.declared.outcome.Outcome.TheVariants as outcome
 
 -- all stations; for each federate all frames that it ever sent, and all that were ever sent to it, oldest first; and the steps made
-pub record World (Hub Member : Type 0) : Type 0 where
-  pub coordinator : Station Hub
-  pub federates : List (Station Member)
+pub record World (OfCoordinator OfFederate : Type 0) : Type 0 where
+  pub coordinator : Station OfCoordinator
+  pub federates : List (Station OfFederate)
   pub up : List (List Frame)
   pub down : List (List Frame)
   pub steps : List Step
 
 -- all frames ever sent in a direction; none where there is no such federate
-abbrev pub frames_in : {Hub Member : Type 0} → World Hub Member → Dir → List Frame
+abbrev pub frames_in : {OfCoordinator OfFederate : Type 0} → World OfCoordinator OfFederate → Dir → List Frame
 frames_in w (Up j) = get_or w.up j []
 frames_in w (Down j) = get_or w.down j []
 
@@ -67,11 +67,11 @@ delivered dir None = None
 delivered dir (Some frame) = Some (comes dir frame)
 
 -- this happens, if there is such a federate
-abbrev pub if_there : {Hub Member : Type 0} → World Hub Member → ℕ → Occurrence → Option Occurrence
+abbrev pub if_there : {OfCoordinator OfFederate : Type 0} → World OfCoordinator OfFederate → ℕ → Occurrence → Option Occurrence
 if_there w j occurrence = if nat_lt j (length w.federates) then Some occurrence else None
 
 -- which event a step is, and at which node; none where it doesn't apply. To forget is no event
-abbrev pub occurrence_of : {Hub Member : Type 0} → World Hub Member → Step → Option Occurrence
+abbrev pub occurrence_of : {OfCoordinator OfFederate : Type 0} → World OfCoordinator OfFederate → Step → Option Occurrence
 occurrence_of w (Deliver dir k) = delivered dir (frame_at (frames_in w dir) k)
 occurrence_of w (Resend dir) = if_there w (federate_of dir) (sends_again dir)
 occurrence_of w (Reconnect dir) = if_there w (federate_of dir) (greets dir)
@@ -97,16 +97,16 @@ sent_out lists [] = lists
 sent_out lists (out ∷ rest) = sent_out (set lists out.peer (get_or lists out.peer [] ++ out.frame ∷ [])) rest
 
 -- the world after an event, and how that ended
-pub record Applied (Hub Member : Type 0) : Type 0 where
-  pub world : World Hub Member
+pub record Applied (OfCoordinator OfFederate : Type 0) : Type 0 where
+  pub world : World OfCoordinator OfFederate
   pub outcome : Outcome
 
 -- nothing happens
-abbrev pub unchanged : {Hub Member : Type 0} → World Hub Member → Applied Hub Member
+abbrev pub unchanged : {OfCoordinator OfFederate : Type 0} → World OfCoordinator OfFederate → Applied OfCoordinator OfFederate
 unchanged w = record { world = w; outcome = outcome.Nothing }
 
 -- the world after a step of the coordinator's station
-abbrev pub after_coordinator : {Hub Member : Type 0} → World Hub Member → Stepped Hub → Applied Hub Member
+abbrev pub after_coordinator : {OfCoordinator OfFederate : Type 0} → World OfCoordinator OfFederate → Stepped OfCoordinator → Applied OfCoordinator OfFederate
 after_coordinator w stepped =
     record {
       world = record w { coordinator = stepped.station; down = sent_out w.down (frames_of stepped.answer) };
@@ -114,7 +114,7 @@ after_coordinator w stepped =
     }
 
 -- the world after a step of federate j's station
-abbrev pub after_federate : {Hub Member : Type 0} → World Hub Member → ℕ → Stepped Member → Applied Hub Member
+abbrev pub after_federate : {OfCoordinator OfFederate : Type 0} → World OfCoordinator OfFederate → ℕ → Stepped OfFederate → Applied OfCoordinator OfFederate
 after_federate w j stepped =
     record {
       world =
@@ -126,27 +126,27 @@ after_federate w j stepped =
     }
 
 -- an event at federate j's station, if there is one
-abbrev pub at_federate : {Hub Member Row : Type 0} → Core Member Row → World Hub Member → ℕ → Event → Option (Station Member) → Applied Hub Member
-at_federate member w j e None = unchanged w
-at_federate member w j e (Some s) = after_federate w j (step_of member false s e)
+abbrev pub at_federate : {OfCoordinator OfFederate Row : Type 0} → Core OfFederate Row → World OfCoordinator OfFederate → ℕ → Event → Option (Station OfFederate) → Applied OfCoordinator OfFederate
+at_federate of_federate w j e None = unchanged w
+at_federate of_federate w j e (Some s) = after_federate w j (step_of of_federate false s e)
 
 -- an event at a node: one step of its station
-abbrev pub at_node : {Hub Member HubRow Row : Type 0} → Core Hub HubRow → Core Member Row → World Hub Member → NodeId → Event → Applied Hub Member
-at_node hub member w Coordinator e = after_coordinator w (step_of hub true w.coordinator e)
-at_node hub member w (Federate j) e = at_federate member w j e (slice_get w.federates j)
+abbrev pub at_node : {OfCoordinator OfFederate CoordinatorRow Row : Type 0} → Core OfCoordinator CoordinatorRow → Core OfFederate Row → World OfCoordinator OfFederate → NodeId → Event → Applied OfCoordinator OfFederate
+at_node of_coordinator of_federate w Coordinator e = after_coordinator w (step_of of_coordinator true w.coordinator e)
+at_node of_coordinator of_federate w (Federate j) e = at_federate of_federate w j e (slice_get w.federates j)
 
 -- an event, if there is one
-abbrev pub happens : {Hub Member HubRow Row : Type 0} → Core Hub HubRow → Core Member Row → World Hub Member → Option Occurrence → Applied Hub Member
-happens hub member w None = unchanged w
-happens hub member w (Some o) = at_node hub member w o.node o.event
+abbrev pub happens : {OfCoordinator OfFederate CoordinatorRow Row : Type 0} → Core OfCoordinator CoordinatorRow → Core OfFederate Row → World OfCoordinator OfFederate → Option Occurrence → Applied OfCoordinator OfFederate
+happens of_coordinator of_federate w None = unchanged w
+happens of_coordinator of_federate w (Some o) = at_node of_coordinator of_federate w o.node o.event
 
 -- a blank end in its place, with the next incarnation
 abbrev pub blank_next : Image → Image
 blank_next e = blank e.federate (e.incarnation + 1) e.room
 
 -- a blank station in its place: all is as it was made, but for the incarnation
-abbrev pub forgotten : {Member Row : Type 0} → Core Member Row → Station Member → Station Member
-forgotten member s = record { node = member.initial s.node; ends = map blank_next s.ends }
+abbrev pub forgotten : {OfFederate Row : Type 0} → Core OfFederate Row → Station OfFederate → Station OfFederate
+forgotten of_federate s = record { node = of_federate.initial s.node; ends = map blank_next s.ends }
 
 -- whether there is a next incarnation
 abbrev pub has_next : List Image → Bool
@@ -154,37 +154,37 @@ has_next [] = true
 has_next (e ∷ ends) = nat_lt (e.incarnation + 1) (2 ^ 32) && has_next ends
 
 -- federate j forgets all, if there is one and there is a next incarnation; the frames sent stay
-abbrev pub forgets : {Hub Member Row : Type 0} → Core Member Row → World Hub Member → ℕ → Option (Station Member) → Applied Hub Member
-forgets member w j None = unchanged w
-forgets member w j (Some s) =
+abbrev pub forgets : {OfCoordinator OfFederate Row : Type 0} → Core OfFederate Row → World OfCoordinator OfFederate → ℕ → Option (Station OfFederate) → Applied OfCoordinator OfFederate
+forgets of_federate w j None = unchanged w
+forgets of_federate w j (Some s) =
     if has_next s.ends
-    then record { world = record w { federates = set w.federates j (forgotten member s) }; outcome = outcome.Done }
+    then record { world = record w { federates = set w.federates j (forgotten of_federate s) }; outcome = outcome.Done }
     else unchanged w
 
 -- what a step does, but for the list of steps
-abbrev pub does : {Hub Member HubRow Row : Type 0} → Core Hub HubRow → Core Member Row → World Hub Member → Step → Applied Hub Member
-does hub member w (Forget j) = forgets member w j (slice_get w.federates j)
-does hub member w step = happens hub member w (occurrence_of w step)
+abbrev pub does : {OfCoordinator OfFederate CoordinatorRow Row : Type 0} → Core OfCoordinator CoordinatorRow → Core OfFederate Row → World OfCoordinator OfFederate → Step → Applied OfCoordinator OfFederate
+does of_coordinator of_federate w (Forget j) = forgets of_federate w j (slice_get w.federates j)
+does of_coordinator of_federate w step = happens of_coordinator of_federate w (occurrence_of w step)
 
 -- every step is listed, also one that is refused or doesn't apply
-abbrev pub listed : {Hub Member : Type 0} → Step → Applied Hub Member → Applied Hub Member
+abbrev pub listed : {OfCoordinator OfFederate : Type 0} → Step → Applied OfCoordinator OfFederate → Applied OfCoordinator OfFederate
 listed step made = record made { world = record made.world { steps = made.world.steps ++ step ∷ [] } }
 
 -- a step
-abbrev pub applied : {Hub Member HubRow Row : Type 0} → Core Hub HubRow → Core Member Row → World Hub Member → Step → Applied Hub Member
-applied hub member w step = listed step (does hub member w step)
+abbrev pub applied : {OfCoordinator OfFederate CoordinatorRow Row : Type 0} → Core OfCoordinator CoordinatorRow → Core OfFederate Row → World OfCoordinator OfFederate → Step → Applied OfCoordinator OfFederate
+applied of_coordinator of_federate w step = listed step (does of_coordinator of_federate w step)
 
 -- the world after steps, made one after the other
-abbrev pub after_steps : {Hub Member HubRow Row : Type 0} → Core Hub HubRow → Core Member Row → World Hub Member → List Step → World Hub Member
-after_steps hub member w [] = w
-after_steps hub member w (step ∷ steps) = after_steps hub member (applied hub member w step).world steps
+abbrev pub after_steps : {OfCoordinator OfFederate CoordinatorRow Row : Type 0} → Core OfCoordinator CoordinatorRow → Core OfFederate Row → World OfCoordinator OfFederate → List Step → World OfCoordinator OfFederate
+after_steps of_coordinator of_federate w [] = w
+after_steps of_coordinator of_federate w (step ∷ steps) = after_steps of_coordinator of_federate (applied of_coordinator of_federate w step).world steps
 
 -- a world of which nothing was asked yet: so many federates, each with this node, and the room of each link end
-abbrev pub opened : {Hub Member : Type 0} → Hub → ℕ → (ℕ → Member) → ℕ → World Hub Member
-opened hub count member_at room =
+abbrev pub opened : {OfCoordinator OfFederate : Type 0} → OfCoordinator → ℕ → (ℕ → OfFederate) → ℕ → World OfCoordinator OfFederate
+opened of_coordinator count federate_at room =
     record {
-      coordinator = record { node = hub; ends = map (λ j. blank j 1 room) (range_with_len 0 count) };
-      federates = map (λ j. record { node = member_at j; ends = blank j 1 room ∷ [] }) (range_with_len 0 count);
+      coordinator = record { node = of_coordinator; ends = map (λ j. blank j 1 room) (range_with_len 0 count) };
+      federates = map (λ j. record { node = federate_at j; ends = blank j 1 room ∷ [] }) (range_with_len 0 count);
       up = map (λ j. []) (range_with_len 0 count);
       down = map (λ j. []) (range_with_len 0 count);
       steps = [];

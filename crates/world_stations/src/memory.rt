@@ -10,7 +10,7 @@ pub struct Memory;
 impl Memory {
     ghost use Rattle.world_stations.specs.Numbers.{out_of_memory};
 
-    /// The number by which it is told.
+    /// The number by which it is printed.
     pub fn number(self) -> u16
         ensures { result ≡ out_of_memory }
     {
@@ -20,9 +20,9 @@ impl Memory {
 
 impl fmt::Display for Memory {
     ghost use Rattle.std.specs.Prelude.{Some};
-    ghost use Rattle.world_stations.specs.Numbers.{told_out_of_memory};
+    ghost use Rattle.world_stations.specs.Numbers.{out_of_memory_text};
 
-    ghost output = { λ memory. Some told_out_of_memory };
+    ghost output = { λ memory. Some out_of_memory_text };
 
     fn fmt<W: fmt::Write>(&self, f: &mut fmt::Formatter<W>) -> fmt::Result {
         let number = self.number();

@@ -64,8 +64,8 @@ impl<H: Node, M: Blank> Stations<H, M> {
         coordinator: Station<H>,
         federates: Vec<Station<M>>,
     ) -> Result<Stations<H, M>, Memory>
-        requires hub { H.HUB ≡ true }
-        requires member { M.HUB ≡ false }
+        requires coordinator { H.HUB ≡ true }
+        requires federate { M.HUB ≡ false }
         requires one_peer { HaveOnePeer federates.items }
         ensures { IfOk result (λ w. w ≡ unused coordinator federates.items) }
     {

@@ -28,7 +28,7 @@ pub fn steps_are_made_in_order()
 {}
 
 /// Whatever steps were made, no node refuses a signal at the next step, and none acknowledges what was never sent: a refusal is of a
-/// frame of another incarnation, of one ahead of its turn, at a closed end, or for want of room in a link.
+/// frame of another incarnation, of one ahead of its turn, at a closed end, or for lack of room in a link.
 #[tactic(none)]
 pub fn no_node_refuses_a_signal()
     ensures { (d : Draft) (programs : List Behaviour) (inputs : List Input) (steps : List Step) (step : Step) → IsLegal d → AreProgramsOf d programs →
@@ -53,10 +53,10 @@ pub fn no_row_is_missing()
 {}
 
 /// Whatever nodes there are, and whatever steps were made: of each direction of each link, what was taken in an incarnation is a
-/// beginning of what was offered in it.
+/// prefix of what was offered in it.
 #[tactic(none)]
 pub fn what_is_taken_was_offered<H: Node, M: Node>()
-    ensures nodes { (hub : H) (count : ℕ) (member_at : ℕ → M) (room : ℕ) (steps : List Step) → TakesInOrder H.core M.core (opened hub count member_at room) steps }
+    ensures nodes { (coordinator : H) (count : ℕ) (federate_at : ℕ → M) (room : ℕ) (steps : List Step) → TakesInOrder H.core M.core (opened coordinator count federate_at room) steps }
     ensures federation { (d : Draft) (programs : List Behaviour) (inputs : List Input) (steps : List Step) →
         TakesInOrder coordinator_core federate_core (initial_world d programs inputs) steps }
 {}

@@ -6,5 +6,5 @@ use Rattle.coordinator.proofs.sending.note_grants.Given as goal
 abbrev pub invariant-loop-post : goal.invariant-loop-post
 invariant-loop-post l = record {
   wires : l.table.wires ≡ l.fn.table.wires;
-  standings : l.table.standings ≡ all_granted l.fn.table.standings (take l.post-index l.posts);
+  federate_records : l.table.federate_records ≡ all_granted l.fn.table.federate_records (take l.post-index l.posts);
 }

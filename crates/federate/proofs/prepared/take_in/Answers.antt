@@ -7,8 +7,8 @@ use Rattle.reactor_agenda.proofs.Putting.{ordered}
 use Rattle.reactor_agenda.proofs.Filtered.{kept_put_all, filter_all, all_filter}
 use Rattle.federate.proofs.prepared.take_in.Goals as goal
 
-pub returns-in-Ok-clause-undone : goal.returns-in-Ok-clause-undone
-returns-in-Ok-clause-undone c =
+pub returns-in-Ok-clause-pending : goal.returns-in-Ok-clause-pending
+returns-in-Ok-clause-pending c =
     let old : Agenda = c.args.agenda.now in
     let events = c.args.prepared.now.scheduled.items in
     let later : AllByRecursion (λ e. is_before c.args.tag e.tag ≡ true) (in_time old.stop events) =

@@ -10,7 +10,7 @@ loop-input-preserved c =
     let is = rw c.as_slice-input-items.ensures at c.input-item.is in
     record {
       stop = c.in_ok-put_own.ensures.stop ∙ c.loop-input.invariant.stop;
-      undone = c.in_ok-put_own.ensures.undone
+      undone = c.in_ok-put_own.ensures.pending
           ∙ ap (put_all (map pending_event_of (input_events_to c.args.plan.now (c.input-item.result ∷ []) c.args.federate))) c.loop-input.invariant.undone
           ∙ sym (put_more c.args.plan.now c.args.inputs.now c.loop-input.input-index c.input-item.result c.args.federate c.args.agenda.now.undone within is);
     }

@@ -35,3 +35,6 @@ returns-in-Ok-read_schedule-clause-stands g c =
     IfErr-weaker c.print_replay.result _ _
     (λ fault stands. inr (record { sources = c.in-Ok.sources; sources_are = c.in-Ok.ensures.ok; holds = inr (all, stands) }))
     c.print_replay.ensures.stands
+
+pub returns-in-Err-clause-stands : goal.returns-in-Err-clause-stands
+returns-in-Err-clause-stands g c = inl c.in-Err.ensures.err

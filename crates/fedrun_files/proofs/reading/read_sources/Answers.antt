@@ -1,7 +1,6 @@
 use Rattle.std.proofs.Common.{rules, ◌≡◌, [], ◌∷◌, Result, Err, IfErr, subst, sym}
 use Rattle.fedrun_files.specs.Answers.{Answers, given}
 use Rattle.fedrun_files.proofs.InTurn.{answered_in_turn}
-use Rattle.fedrun_files.specs.declared.fault.SourceFault.{SourceFault}
 use Rattle.fedrun_files.specs.Refused.{IsInputFault, IsSourcesFault, federation_fault, input_fault}
 use Rattle.fedrun_files.proofs.FaultsInTurn.{input_fault_after}
 use Rattle.fedrun_files.proofs.reading.read_sources.Goals as goal
@@ -24,10 +23,11 @@ returns-in_err-inputs-clause-err g c =
     let before = g.F.Files.answers c.args.files.now in
     let mid = g.F.Files.answers c.read_federation.new.files in
     let after = g.F.Files.answers c.read_inputs.new.files in
-    let later : (fault : SourceFault) → IsInputFault d inputs (g.F.Files.contents c.read_federation.new.files) (Answers mid after) fault
-    → IsSourcesFault federation inputs (g.F.Files.contents c.args.files.now) (Answers before after) fault =
-    λ fault stands. input_fault d c.in_ok-plan.programs c.in_ok-plan.ensures.ok
+    let fault = c.in_err-inputs.field-0.0 in
+    let later : IsSourcesFault federation inputs (g.F.Files.contents c.args.files.now) (Answers before after) fault =
+    input_fault d c.in_ok-plan.programs c.in_ok-plan.ensures.ok
     (subst (λ contents. IsInputFault d inputs contents (λ added. Answers before after (given federation.now ∷ added)) fault) c.in_ok-plan.ensures.same
-    (input_fault_after (λ added come. answered_in_turn before mid after (given federation.now ∷ []) added c.in_ok-plan.ensures.asked come) d inputs _ fault stands)) in
+    (input_fault_after (λ added come. answered_in_turn before mid after (given federation.now ∷ []) added c.in_ok-plan.ensures.asked come) d inputs _ fault
+    c.in_err-inputs.ensures.err)) in
     let refused : c.from_residual-in_err-inputs.result ≡ Err c.in_err-inputs.field-0.0 = search rules in
-    if_err_at (IsSourcesFault c.args.federation c.args.inputs (g.F.Files.contents c.args.files.now) (Answers before after)) c.from_residual-in_err-inputs.result c.in_err-inputs.field-0.0 refused (later c.in_err-inputs.field-0.0 c.in_err-inputs.ensures.err)
+    if_err_at (IsSourcesFault c.args.federation c.args.inputs (g.F.Files.contents c.args.files.now) (Answers before after)) c.from_residual-in_err-inputs.result fault refused later

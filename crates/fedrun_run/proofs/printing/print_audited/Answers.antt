@@ -5,7 +5,7 @@ use Rattle.std.specs.Prelude.{OnOk}
 use Rattle.std.specs.Io.KnownBytes.{Appends}
 use Rattle.std.proofs.lemmas.Result.{on_ok_weaker}
 use Rattle.fedrun_run.specs.Printed.{claim, printed_reports}
-use Rattle.fedrun_run.proofs.Believed.{prints_so, unfinished_so}
+use Rattle.fedrun_run.proofs.Believed.{prints_so}
 use Rattle.fedrun_run.proofs.printing.print_audited.Goals as goal
 
 pub returns-clause-ok : goal.returns-clause-ok

@@ -1,22 +1,31 @@
-use Rattle.std.proofs.Common.{◌∙◌, ap}
+use Rattle.std.proofs.Common.{◌≡◌, ◌∙◌, ap, rules}
 use Rattle.std.proofs.lemmas.Result.{err_from_is_err_and}
-use Rattle.fedrun_run.proofs.Believed.{printed_of_some, fault_of_some}
+use Rattle.fedrun_run.proofs.Believed.{of_the_run, same_said, printed_of_some, fault_of_some}
 use Rattle.fedrun_run.proofs.running.print_audited_run.Goals as goal
 
-pub returns-in_err-node_reports-clause-told : goal.returns-in_err-node_reports-clause-told
-returns-in_err-node_reports-clause-told g c =
+pub returns-in_err-node_reports-clause-fault : goal.returns-in_err-node_reports-clause-fault
+returns-in_err-node_reports-clause-fault g c =
     let told = err_from_is_err_and c.from_residual.result c.from_residual.ensures.1 in
-    rw (told.1, told.2) ((rw c.in_err-node_reports.was at c.run_and_ask-audit.ensures.told) c.args.programs.now c.args.inputs.now)
+    rw (told.1, told.2)
+    (of_the_run c.args.plan.now c.args.programs.now c.args.inputs.now _ (rw c.in_err-node_reports.was at c.run_and_ask-audit.ensures.fault))
 
 pub print_audited-requires : goal.print_audited-requires
 print_audited-requires g c = record { plan = ap (λ w. w.draft) (c.run_and_ask-audit.ensures.audit ∙ c.in-Ok.ensures.begun) }
 
 pub returns-clause-ok : goal.returns-clause-ok
 returns-clause-ok g c =
-    printed_of_some c.args.plan.now c.args.programs.now c.args.inputs.now _ _ _ _ _ c.print_audited.result
+    let said = c.in_ok-node_reports.node_reports in
+    let reports : c.reports.result.now ≡ said.reports.reports = search rules in
+    let journal : c.deref.result.now ≡ said.coordinator.items = search rules in
+    printed_of_some c.args.plan.now c.args.programs.now c.args.inputs.now _ c.reports.result.now c.deref.result.now _ _ c.print_audited.result
+    (same_said reports journal (rw c.in_ok-node_reports.was at c.run_and_ask-audit.ensures.reported))
     (c.run_and_ask-audit.ensures.audit ∙ c.in-Ok.ensures.begun) c.print_audited.ensures.ok
 
-pub returns-clause-told : goal.returns-clause-told
-returns-clause-told g c =
-    fault_of_some c.args.plan.now c.args.programs.now c.args.inputs.now _ _ _ c.print_audited.result
-    (c.run_and_ask-audit.ensures.audit ∙ c.in-Ok.ensures.begun) c.print_audited.ensures.told
+pub returns-clause-fault : goal.returns-clause-fault
+returns-clause-fault g c =
+    let said = c.in_ok-node_reports.node_reports in
+    let reports : c.reports.result.now ≡ said.reports.reports = search rules in
+    let journal : c.deref.result.now ≡ said.coordinator.items = search rules in
+    fault_of_some c.args.plan.now c.args.programs.now c.args.inputs.now _ c.reports.result.now c.deref.result.now c.print_audited.result
+    (same_said reports journal (rw c.in_ok-node_reports.was at c.run_and_ask-audit.ensures.reported))
+    (c.run_and_ask-audit.ensures.audit ∙ c.in-Ok.ensures.begun) c.print_audited.ensures.fault

@@ -1,7 +1,7 @@
 use Rattle.std.proofs.Common.{◌≡◌, take}
-use Rattle.protocol.specs.Standings.{standing_at}
+use Rattle.protocol.specs.FederateRecords.{federate_record_at}
 use Rattle.grants.specs.Bounds.{first_upstream}
 use Rattle.grants.proofs.bounds.first_upstream.Given as goal
 
 abbrev pub invariant-loop-from : goal.invariant-loop-from
-invariant-loop-from l = l.first ≡ first_upstream (standing_at l.standings) (take l.from-index l.upstream)
+invariant-loop-from l = l.first ≡ first_upstream (federate_record_at l.federate_records) (take l.from-index l.upstream)

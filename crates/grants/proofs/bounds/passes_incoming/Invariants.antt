@@ -1,8 +1,8 @@
 use Rattle.std.proofs.Common.{◌≡◌, take}
 use Rattle.tag.specs.LogicalTime.{is_before, forever}
-use Rattle.protocol.specs.Standings.{standing_at}
+use Rattle.protocol.specs.FederateRecords.{federate_record_at}
 use Rattle.grants.specs.Bounds.{first_incoming}
 use Rattle.grants.proofs.bounds.passes_incoming.Given as goal
 
 abbrev pub invariant-loop-connection : goal.invariant-loop-connection
-invariant-loop-connection l = is_before l.tag (first_incoming (standing_at l.standings) (take l.connection-index l.incoming)) ≡ is_before l.tag forever
+invariant-loop-connection l = is_before l.tag (first_incoming (federate_record_at l.federate_records) (take l.connection-index l.incoming)) ≡ is_before l.tag forever

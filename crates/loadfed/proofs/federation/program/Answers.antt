@@ -12,4 +12,4 @@ returns-in-Ok-clause-ok c =
 pub returns-clause-refused : goal.returns-clause-refused
 returns-clause-refused c =
     program_told c.args.federate.now c.args.shape c.in-Err.fault c.of_program.result (rw (c.as_slice.ensures.value, c.into_parts-states.ensures.reactions, c.into_parts-states.ensures.states) at c.in-Err.ensures.refused)
-    (λ b says. c.in-Err.ensures.accepts b (rw (c.as_slice.ensures.value, c.into_parts-states.ensures.reactions, c.into_parts-states.ensures.states) says)) c.of_program.ensures.told c.of_program.ensures.memory
+    (λ b says. c.in-Err.ensures.accepts b (rw (c.as_slice.ensures.value, c.into_parts-states.ensures.reactions, c.into_parts-states.ensures.states) says)) c.of_program.ensures.fault c.of_program.ensures.memory

@@ -1,7 +1,7 @@
 use Rattle.std.proofs.Common.{◌≡◌, ◌<◌, ◌++◌, ◌∷◌, [], ◌∙◌, sym, ap, refl}
 use Rattle.tag.specs.LogicalTime.{lesser}
-use Rattle.protocol.specs.Standing.{after_message}
-use Rattle.protocol.specs.Standings.{standing_at}
+use Rattle.protocol.specs.FederateRecord.{after_message}
+use Rattle.protocol.specs.FederateRecords.{federate_record_at}
 use Rattle.signal.specs.declared.signal.Signal.TheVariants.{Msg}
 use Rattle.node.specs.Mail.{lacks_room}
 use Rattle.grants.specs.Routes.{looked_at}
@@ -57,7 +57,7 @@ pub returns-in-Err : goal.returns-in-Err
 returns-in-Err c =
     let r = c.args.self.now.table in
     let j = c.target-target.result in
-    let s = standing_at r.standings j in
+    let s = federate_record_at r.federate_records j in
     let message = Msg c.args.number c.args.tag c.args.value in
     let there = target_is_there r c.args.number j c.args.over c.in-Some.connection c.invariant.ensures c.requires.over c.in-Some.is c.target-target.ensures in
     let taken = message_passed r c.note_next.new.table c.args.peer j c.args.number c.source.result c.args.value c.args.tag c.tag.result c.tag-2.result c.tag-3.result c.next-next.result c.lesser.result c.stop.result
@@ -67,17 +67,17 @@ returns-in-Err c =
     let first = c.in_ok-push.ensures.items ∙
     (ap (λ xs. xs ++ record { peer = j; signal = Msg c.args.number c.args.tag (to_z w64 (of_z w64 c.args.value)) } ∷ []) c.clear.ensures.items ∙
     ap (λ v. record { peer = c.target-target.result; signal = Msg c.args.number c.args.tag v } ∷ []) (to_z-of_z w64 c.args.value c.ranges.value)) in
-    let back = message_back r c.note_next.new.table c.set_next.new.self j c.set_next.new.self.looks c.args.tag c.next-next.result c.invariant.ensures there taken.wires taken.standings
+    let back = message_back r c.note_next.new.table c.set_next.new.self j c.set_next.new.self.looks c.args.tag c.next-next.result c.invariant.ensures there taken.wires taken.federate_records
     c.next-next.ensures c.set_next.ensures.value in
     failed_step r c.note_next.new.table c.set_next.new.self c.args.outbox.now.mail c.prepare.new.outbox.mail c.args.peer j message
-    (routed (standing_at r.standings) message j c.args.tag) (record s { next = lesser s.next c.args.tag }) (after_message s c.args.tag) c.push.new.self.items c.in-Err.fault taken first
+    (routed (federate_record_at r.federate_records) message j c.args.tag) (record s { next = lesser s.next c.args.tag }) (after_message s c.args.tag) c.push.new.self.items c.in-Err.fault taken first
     back.0 back.1 c.prepare.ensures.mail c.in-Err.ensures.answer
 
 pub returns-then-is_err : goal.returns-then-is_err
 returns-then-is_err c =
     let r = c.args.self.now.table in
     let j = c.target-target.result in
-    let s = standing_at r.standings j in
+    let s = federate_record_at r.federate_records j in
     let message = Msg c.args.number c.args.tag c.args.value in
     let there = target_is_there r c.args.number j c.args.over c.in-Some.connection c.invariant.ensures c.requires.over c.in-Some.is c.target-target.ensures in
     let taken = message_passed r c.note_next.new.table c.args.peer j c.args.number c.source.result c.args.value c.args.tag c.tag.result c.tag-2.result c.tag-3.result c.next-next.result c.lesser.result c.stop.result
@@ -89,16 +89,16 @@ returns-then-is_err c =
     ap (λ v. record { peer = c.target-target.result; signal = Msg c.args.number c.args.tag v } ∷ []) (to_z-of_z w64 c.args.value c.ranges.value)) in
     let same = err_of c.add_transit.result (sym c.is_err.ensures.value ∙ c.if-is_err.true) c.add_transit.ensures.err in
     let back = message_back r c.add_transit.new.self c.set_next-then-is_err.new.self j c.set_next-then-is_err.new.self.looks c.args.tag c.next-next.result c.invariant.ensures there
-    (ap (λ x. x.wires) same ∙ taken.wires) (ap (λ x. x.standings) same ∙ taken.standings) c.next-next.ensures c.set_next-then-is_err.ensures.value in
+    (ap (λ x. x.wires) same ∙ taken.wires) (ap (λ x. x.federate_records) same ∙ taken.federate_records) c.next-next.ensures c.set_next-then-is_err.ensures.value in
     failed_step r c.note_next.new.table c.set_next-then-is_err.new.self c.args.outbox.now.mail c.prepare.new.outbox.mail c.args.peer j message
-    (routed (standing_at r.standings) message j c.args.tag) (record s { next = lesser s.next c.args.tag }) (after_message s c.args.tag) c.push.new.self.items fault.Memory taken first
+    (routed (federate_record_at r.federate_records) message j c.args.tag) (record s { next = lesser s.next c.args.tag }) (after_message s c.args.tag) c.push.new.self.items fault.Memory taken first
     back.0 back.1 c.prepare.ensures.mail (λ unless. absurd (unless refl))
 
 pub send-requires-clause-peers : goal.send-requires-clause-peers
 send-requires-clause-peers c =
     let r = c.args.self.now.table in
     let j = c.target-target.result in
-    let s = standing_at r.standings j in
+    let s = federate_record_at r.federate_records j in
     let message = Msg c.args.number c.args.tag c.args.value in
     let there = target_is_there r c.args.number j c.args.over c.in-Some.connection c.invariant.ensures c.requires.over c.in-Some.is c.target-target.ensures in
     let add = ok_of c.add_transit.result (sym c.is_err.ensures.value ∙ c.if-is_err.false) c.add_transit.ensures.ok in
@@ -113,7 +113,7 @@ pub returns : goal.returns
 returns c =
     let r = c.args.self.now.table in
     let j = c.target-target.result in
-    let s = standing_at r.standings j in
+    let s = federate_record_at r.federate_records j in
     let message = Msg c.args.number c.args.tag c.args.value in
     let there = target_is_there r c.args.number j c.args.over c.in-Some.connection c.invariant.ensures c.requires.over c.in-Some.is c.target-target.ensures in
     let taken = message_passed r c.note_next.new.table c.args.peer j c.args.number c.source.result c.args.value c.args.tag c.tag.result c.tag-2.result c.tag-3.result c.next-next.result c.lesser.result c.stop.result
@@ -124,9 +124,9 @@ returns c =
     (ap (λ xs. xs ++ record { peer = j; signal = Msg c.args.number c.args.tag (to_z w64 (of_z w64 c.args.value)) } ∷ []) c.clear.ensures.items ∙
     ap (λ v. record { peer = c.target-target.result; signal = Msg c.args.number c.args.tag v } ∷ []) (to_z-of_z w64 c.args.value c.ranges.value)) in
     let add = ok_of c.add_transit.result (sym c.is_err.ensures.value ∙ c.if-is_err.false) c.add_transit.ensures.ok in
-    let added = message_added r c.note_next.new.table c.add_transit.new.self j c.args.tag c.invariant.ensures there taken.wires taken.standings add in
+    let added = message_added r c.note_next.new.table c.add_transit.new.self j c.args.tag c.invariant.ensures there taken.wires taken.federate_records add in
     finished_step r c.note_next.new.table c.add_transit.new.self c.send.new.table c.args.outbox.now.mail c.prepare.new.outbox.mail c.send.new.outbox.mail c.args.peer j message
-    (routed (standing_at r.standings) message j c.args.tag) (record s { next = lesser s.next c.args.tag }) (after_message s c.args.tag) c.push.new.self.items c.as_slice.result.now taken first (message_first j c.args.number c.args.tag c.args.value)
+    (routed (federate_record_at r.federate_records) message j c.args.tag) (record s { next = lesser s.next c.args.tag }) (after_message s c.args.tag) c.push.new.self.items c.as_slice.result.now taken first (message_first j c.args.number c.args.tag c.args.value)
     added.0 added.1 (c.as_slice.ensures.value ∙ c.in_default-prepare.ensures.posts) c.prepare.ensures.mail
     (ap (λ xs. lacks_room c.prepare.new.outbox.mail.ends xs) c.as_slice.ensures.value ∙ c.in_default-prepare.ensures.ready.room)
-    c.send.ensures.wires c.send.ensures.standings c.send.ensures.mail
+    c.send.ensures.wires c.send.ensures.federate_records c.send.ensures.mail

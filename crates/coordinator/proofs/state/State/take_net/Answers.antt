@@ -1,6 +1,6 @@
 use Rattle.std.proofs.Common.{◌<◌, ◌∙◌, ap, refl, arith, []}
-use Rattle.protocol.specs.Standing.{after_net}
-use Rattle.protocol.specs.Standings.{standing_at}
+use Rattle.protocol.specs.FederateRecord.{after_net}
+use Rattle.protocol.specs.FederateRecords.{federate_record_at}
 use Rattle.protocol.specs.Coordinator.{noted}
 use Rattle.signal.specs.declared.signal.Signal.TheVariants.{Net}
 use Rattle.std.proofs.Common.{◌≤◌, ◌++◌}
@@ -19,16 +19,16 @@ returns-then-peer-federates c =
 pub returns-in-Err : goal.returns-in-Err
 returns-in-Err c =
     let r = c.args.self.now.table in
-    let s = standing_at r.standings c.args.peer in
+    let s = federate_record_at r.federate_records c.args.peer in
     let there : c.args.peer < c.args.self.now.table.wires.federates = omega arith in
     let taken = net_passed r c.note_next.new.table c.note_announced.new.table c.args.peer c.args.tag c.lesser_with-least.result c.stop.result c.least_transit.result c.completed.result c.is_next_in_time.result c.is_past.result
     c.invariant.ensures c.requires.settled there c.stop.ensures c.is_next_in_time.ensures c.if-not-is_next_in_time.false c.completed.ensures c.is_past.ensures c.if-not-is_past.false c.least_transit.ensures.least
     c.lesser_with-least.ensures c.note_next.ensures c.note_announced.ensures in
     let back = net_back r c.note_announced.new.table c.set_announced.new.self c.set_next.new.self c.args.peer c.set_announced.new.self.looks c.set_next.new.self.looks
-    c.announced-announced.result c.next-next.result (after_net s c.args.tag) c.invariant.ensures there taken.wires taken.standings refl c.announced-announced.ensures c.next-next.ensures
+    c.announced-announced.result c.next-next.result (after_net s c.args.tag) c.invariant.ensures there taken.wires taken.federate_records refl c.announced-announced.ensures c.next-next.ensures
     c.set_announced.ensures.value c.set_next.ensures.value in
     failed_step r c.note_announced.new.table c.set_next.new.self c.args.outbox.now.mail c.prepare.new.outbox.mail c.args.peer c.args.peer (Net c.args.tag)
-    (noted (standing_at r.standings) c.args.peer (after_net s c.args.tag)) (after_net s c.args.tag) (after_net s c.args.tag) c.clear.new.self.items c.in-Err.fault taken c.clear.ensures.items
+    (noted (federate_record_at r.federate_records) c.args.peer (after_net s c.args.tag)) (after_net s c.args.tag) (after_net s c.args.tag) c.clear.new.self.items c.in-Err.fault taken c.clear.ensures.items
     back.0 back.1 c.prepare.ensures.mail c.in-Err.ensures.answer
 
 pub send-requires-clause-peers : goal.send-requires-clause-peers
@@ -39,13 +39,13 @@ send-requires-clause-peers c =
 pub returns : goal.returns
 returns c =
     let r = c.args.self.now.table in
-    let s = standing_at r.standings c.args.peer in
+    let s = federate_record_at r.federate_records c.args.peer in
     let there : c.args.peer < c.args.self.now.table.wires.federates = omega arith in
     let taken = net_passed r c.note_next.new.table c.note_announced.new.table c.args.peer c.args.tag c.lesser_with-least.result c.stop.result c.least_transit.result c.completed.result c.is_next_in_time.result c.is_past.result
     c.invariant.ensures c.requires.settled there c.stop.ensures c.is_next_in_time.ensures c.if-not-is_next_in_time.false c.completed.ensures c.is_past.ensures c.if-not-is_past.false c.least_transit.ensures.least
     c.lesser_with-least.ensures c.note_next.ensures c.note_announced.ensures in
     finished_step r c.note_announced.new.table c.note_announced.new.table c.send.new.table c.args.outbox.now.mail c.prepare.new.outbox.mail c.send.new.outbox.mail c.args.peer c.args.peer (Net c.args.tag)
-    (noted (standing_at r.standings) c.args.peer (after_net s c.args.tag)) (after_net s c.args.tag) (after_net s c.args.tag) c.clear.new.self.items c.as_slice.result.now taken c.clear.ensures.items nothing_first
-    taken.wires taken.standings (c.as_slice.ensures.value ∙ c.in_default.ensures.posts) c.prepare.ensures.mail
+    (noted (federate_record_at r.federate_records) c.args.peer (after_net s c.args.tag)) (after_net s c.args.tag) (after_net s c.args.tag) c.clear.new.self.items c.as_slice.result.now taken c.clear.ensures.items nothing_first
+    taken.wires taken.federate_records (c.as_slice.ensures.value ∙ c.in_default.ensures.posts) c.prepare.ensures.mail
     (ap (λ xs. lacks_room c.prepare.new.outbox.mail.ends xs) c.as_slice.ensures.value ∙ c.in_default.ensures.ready.room)
-    c.send.ensures.wires c.send.ensures.standings c.send.ensures.mail
+    c.send.ensures.wires c.send.ensures.federate_records c.send.ensures.mail

@@ -32,7 +32,7 @@ invariant_of-result-2 c =
     let undone : c.in_ok-agenda.agenda.undone ≡ own_undone (stop_of d) c.index-federates-number.result.slots =
     rw (c.in_ok-agenda.ensures, c.stop_tag.ensures, ← c.index-federates-number.is) refl in
     let opened = opened_is d programs c.args.inputs.now c.args.number c.index-as_slice-number.result c.index-federates-number.result c.in_ok-new.field-0 _ c.put_recorded.new.agenda
-    c.in_ok-agenda.agenda.undone c.new-3.result program federate c.in_ok-new.ensures c.agenda.view_is c.in_ok-put_recorded.ensures.undone
+    c.in_ok-agenda.agenda.undone c.new-3.result program federate c.in_ok-new.ensures c.agenda.view_is c.in_ok-put_recorded.ensures.pending
     undone c.new-3.ensures in
     record {
       legal = c.invariant.ensures;
@@ -59,7 +59,7 @@ returns c =
     let undone : c.in_ok-agenda.agenda.undone ≡ own_undone (stop_of d) c.index-federates-number.result.slots =
     rw (c.in_ok-agenda.ensures, c.stop_tag.ensures, ← c.index-federates-number.is) refl in
     let opened = opened_is d programs c.args.inputs.now c.args.number c.index-as_slice-number.result c.index-federates-number.result c.in_ok-new.field-0 _ c.put_recorded.new.agenda
-    c.in_ok-agenda.agenda.undone c.new-3.result program federate c.in_ok-new.ensures c.agenda.view_is c.in_ok-put_recorded.ensures.undone
+    c.in_ok-agenda.agenda.undone c.new-3.result program federate c.in_ok-new.ensures c.agenda.view_is c.in_ok-put_recorded.ensures.pending
     undone c.new-3.ensures in
     let node_of : protocol.Federate → FederateNode = λ f. record { draft = d; programs = programs; inputs = c.args.inputs.now; number = c.args.number; federate = f } in
     ap node_of opened

@@ -5,7 +5,7 @@ use Rattle.node.specs.Mail.{Mail, lacks_room, all_posted}
 use Rattle.node.specs.Core.{IsCall}
 use Rattle.plan_network.specs.Network.{network_of}
 use Rattle.node_cores.specs.FederateCore.{FederateNode, made_by, advances}
-use Rattle.federate.specs.Invariant.{standing}
+use Rattle.federate.specs.Invariant.{federate_by_parts}
 use Rattle.federate.specs.Turn.{due_in, IsPrepared}
 use Rattle.federate.proofs.Calls.{advance_in_order, advances_done, not_reserved, done_call}
 use Rattle.federate.proofs.Turns.{slots_below, all_later, posts_are, advances_due, stands, keeps_on}
@@ -33,7 +33,7 @@ returns-in_err-reserve_all-clause-call c =
     let s = c.self.inside in
     let tag = c.in-Some.tag in
     let p = c.prepare.new.prepared in
-    let f = standing s.reactor s.agenda s.granted s.completed s.announced s.rows in
+    let f = federate_by_parts s.reactor s.agenda s.granted s.completed s.announced s.rows in
     let n = network_of s.plan.now s.programs.now s.inputs.now in
     let v : FederateNode = record { draft = s.plan.now; programs = s.programs.now; inputs = s.inputs.now; number = s.number; federate = f } in
     let made = turn_at n s.number f tag in
@@ -51,7 +51,7 @@ returns-in_err-reserve_all-clause-call c =
 pub take_in-requires : goal.take_in-requires
 take_in-requires c =
     let s = c.self.inside in
-    let due : due_in (standing s.reactor s.agenda s.granted s.completed s.announced s.rows) ≡ Some c.in-Some.tag =
+    let due : due_in (federate_by_parts s.reactor s.agenda s.granted s.completed s.announced s.rows) ≡ Some c.in-Some.tag =
     ap (λ (v : FederateNode). due_in v.federate) c.self.view_is ∙ sym c.in-Some.ensures in
     let prepares = subst (λ os. IsPrepared s.plan.now s.reactor s.agenda.undone os c.in-Some.tag c.prepare.new.prepared) c.deref.ensures.value c.in_ok-prepare.ensures in
     all_later s.plan.now s.programs.now s.inputs.now s.number s.reactor s.outlets.items s.agenda s.granted s.completed s.announced s.rows
@@ -60,12 +60,12 @@ take_in-requires c =
 pub invariant_of-self-2 : goal.invariant_of-self-2
 invariant_of-self-2 c =
     let s = c.self.inside in
-    let due : due_in (standing s.reactor s.agenda s.granted s.completed s.announced s.rows) ≡ Some c.in-Some.tag =
+    let due : due_in (federate_by_parts s.reactor s.agenda s.granted s.completed s.announced s.rows) ≡ Some c.in-Some.tag =
     ap (λ (v : FederateNode). due_in v.federate) c.self.view_is ∙ sym c.in-Some.ensures in
     let prepares = subst (λ os. IsPrepared s.plan.now s.reactor s.agenda.undone os c.in-Some.tag c.prepare.new.prepared) c.deref.ensures.value c.in_ok-prepare.ensures in
     keeps_on s.plan.now s.programs.now s.inputs.now s.number s.reactor s.outlets.items s.agenda s.granted s.completed s.announced s.rows
     c.in-Some.tag c.prepare.new.prepared c.commit_from.new.self c.take_in.new.agenda c.take_in.new.rows c.self.invariant prepares due
-    (c.commit_from.ensures, c.in_ok-take_in.ensures.undone, c.in_ok-take_in.ensures.rows) c.in_ok-take_in.ensures.stop
+    (c.commit_from.ensures, c.in_ok-take_in.ensures.pending, c.in_ok-take_in.ensures.rows) c.in_ok-take_in.ensures.stop
 
 pub returns-clause-call : goal.returns-clause-call
 returns-clause-call c = λ unless.
@@ -73,7 +73,7 @@ returns-clause-call c = λ unless.
     let tag = c.in-Some.tag in
     let p = c.prepare.new.prepared in
     let m : Mail = c.args.outbox.now.mail in
-    let f = standing s.reactor s.agenda s.granted s.completed s.announced s.rows in
+    let f = federate_by_parts s.reactor s.agenda s.granted s.completed s.announced s.rows in
     let n = network_of s.plan.now s.programs.now s.inputs.now in
     let v : FederateNode = record { draft = s.plan.now; programs = s.programs.now; inputs = s.inputs.now; number = s.number; federate = f } in
     let made = turn_at n s.number f tag in
@@ -82,7 +82,7 @@ returns-clause-call c = λ unless.
     let done : advances v ≡ Done (made_by v made) = advances_done v made (advances_due n s.number f tag due) in
     let federate_is = stands s.plan.now s.programs.now s.inputs.now s.number s.reactor s.outlets.items s.agenda s.granted s.completed s.announced s.rows
     tag p c.commit_from.new.self c.take_in.new.agenda c.take_in.new.rows c.self.invariant prepares
-    (c.commit_from.ensures, c.in_ok-take_in.ensures.undone, c.in_ok-take_in.ensures.rows) in
+    (c.commit_from.ensures, c.in_ok-take_in.ensures.pending, c.in_ok-take_in.ensures.rows) in
     let posts : p.posts.items ≡ (made_by v made).sent =
     posts_are s.plan.now s.programs.now s.inputs.now s.number s.reactor s.outlets.items s.agenda s.granted s.completed s.announced s.rows
     tag p c.self.invariant prepares in
@@ -92,7 +92,7 @@ returns-clause-call c = λ unless.
     let room : lacks_room m.ends (made_by v made).sent ≡ false =
     ap (λ (x : Mail). lacks_room x.ends (made_by v made).sent) (sym c.in_ok-reserve_all.ensures.mail)
     ∙ ap (lacks_room c.reserve_all.new.self.mail.ends) (sym (c.deref-2.ensures.value ∙ posts)) ∙ c.in_ok-reserve_all.ensures.ready.room in
-    subst (λ (x : FederateNode). IsCall x (record v { federate = standing c.commit_from.new.self c.take_in.new.agenda s.granted (Some tag) None c.take_in.new.rows }) m c.put_all.new.self.mail (Ok true) (advances x))
+    subst (λ (x : FederateNode). IsCall x (record v { federate = federate_by_parts c.commit_from.new.self c.take_in.new.agenda s.granted (Some tag) None c.take_in.new.rows }) m c.put_all.new.self.mail (Ok true) (advances x))
     c.self.view_is
-    (done_call v (record v { federate = standing c.commit_from.new.self c.take_in.new.agenda s.granted (Some tag) None c.take_in.new.rows }) m c.put_all.new.self.mail (advances v) (made_by v made) done
+    (done_call v (record v { federate = federate_by_parts c.commit_from.new.self c.take_in.new.agenda s.granted (Some tag) None c.take_in.new.rows }) m c.put_all.new.self.mail (advances v) (made_by v made) done
     (ap (λ x. record v { federate = x }) federate_is) sent room)

@@ -17,6 +17,6 @@ returns g c =
     let world : c.self.inside.world ≡ c.args.self.now = search rules in
     let one_more : c.apply.new.self ≡ with_step c.args.self.now c.args.step = search rules in
     let ended : c.in-Ok.outcome ≡ (step_in (stations_of c.args.self.now) c.args.step).outcome =
-    subst (λ (w : WorldView). c.in-Ok.outcome ≡ (step_in (stations_of w) c.args.step).outcome) world c.in-Ok.ensures.told in
+    subst (λ (w : WorldView). c.in-Ok.outcome ≡ (step_in (stations_of w) c.args.step).outcome) world c.in-Ok.ensures.outcome in
     played_one c.write_outcome.result c.args.self.now c.apply.new.self c.args.line c.args.step c.in-Ok.outcome (g.W.Write.contents c.args.out.now)
     (g.W.Write.contents c.write_outcome.new.out) one_more ended c.write_outcome.ensures.ok c.write_outcome.ensures.err

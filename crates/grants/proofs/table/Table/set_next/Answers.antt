@@ -8,18 +8,18 @@ look_at_each-requires-clause-federates c = all_there c.self.inside.wiring (may_c
 pub invariant_of-self : goal.invariant_of-self
 invariant_of-self c =
     let t = c.self.inside in
-    kept_after_looks t.wiring t.standings.items c.as_slice.result.now t.affected.eligible c.look_at_each.new.self.eligible c.args.federate
+    kept_after_looks t.wiring t.federate_records.items c.as_slice.result.now t.affected.eligible c.look_at_each.new.self.eligible c.args.federate
     c.looked_at-federates.result.now c.set_next.new.self c.invariant.ensures c.self.invariant c.as_slice.ensures.value c.looked_at-federates.ensures
     c.look_at_each.ensures.eligible
 
 pub returns-clause-few_looks : goal.returns-clause-few_looks
 returns-clause-few_looks c =
     let t = c.self.inside in
-    few_looks t.wiring t.standings.items t.affected.looks c.look_at_each.new.self.looks c.args.federate c.looked_at-federates.result.now c.args.self.now c.self.view_is
+    few_looks t.wiring t.federate_records.items t.affected.looks c.look_at_each.new.self.looks c.args.federate c.looked_at-federates.result.now c.args.self.now c.self.view_is
     (looked_at_are_few t.wiring c.args.federate c.looked_at-federates.result.now c.looked_at-federates.ensures) c.look_at_each.ensures.looks
 
 pub returns-clause-looks : goal.returns-clause-looks
 returns-clause-looks c =
     let t = c.self.inside in
-    counts_looks t.wiring t.standings.items t.affected.looks c.look_at_each.new.self.looks c.args.federate c.looked_at-federates.result.now c.set_next.new.self c.args.self.now
+    counts_looks t.wiring t.federate_records.items t.affected.looks c.look_at_each.new.self.looks c.args.federate c.looked_at-federates.result.now c.set_next.new.self c.args.self.now
     c.self.view_is c.invariant.ensures c.looked_at-federates.ensures c.look_at_each.ensures.looks

@@ -1,5 +1,5 @@
 use Rattle.std.proofs.Common.{◌∙◌, ap, subst}
-use Rattle.protocol.specs.Standings.{standing_at}
+use Rattle.protocol.specs.FederateRecords.{federate_record_at}
 use Rattle.grants.specs.Wires.{AreWires}
 use Rattle.grants.specs.Routes.{Routed}
 use Rattle.grants.proofs.Arrivals.{bound_is}
@@ -26,6 +26,6 @@ returns c =
     let w = c.self.inside in
     let at = routes_are w.routes.items w.connections.items w.stop c.args.self.now c.args.federate c.index-routes.result.now c.self.view_is c.self.invariant.1 c.requires.federate
     c.index-routes.ensures in
-    bound_is c.args.self.now (standing_at c.args.standings.now) c.args.federate c.upstream.result.now c.incoming.result.now c.first_upstream-by_paths.result
+    bound_is c.args.self.now (federate_record_at c.args.federate_records.now) c.args.federate c.upstream.result.now c.incoming.result.now c.first_upstream-by_paths.result
     c.first_incoming-by_connections.result c.greater.result (c.upstream.ensures ∙ ap (λ (r : Routed). r.upstream) at)
     (c.incoming.ensures ∙ ap (λ (r : Routed). r.incoming) at) c.first_upstream-by_paths.ensures c.first_incoming-by_connections.ensures c.greater.ensures

@@ -21,8 +21,8 @@ invariant_of-result c =
       wired = λ f. slice_get-map (λ ts. all_shown ts.items) c.in_ok-targets.targets.items f ∙ c.in_ok-targets.ensures f;
     })
 
-pub returns-clause-undone : goal.returns-clause-undone
-returns-clause-undone c = λ f tag slot there.
+pub returns-clause-pending : goal.returns-clause-pending
+returns-clause-pending c = λ f tag slot there.
     let d = c.args.plan.now in
     let open_with = c.in_ok-put_inputs.ensures in
     let many : length c.put_inputs.new.agendas ≡ length c.in_ok-agendas.agendas.items = open_with.count ∙ sym c.in_ok-agendas.ensures.count in

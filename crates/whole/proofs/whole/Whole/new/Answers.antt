@@ -15,7 +15,7 @@ invariant_of-result c =
     kept_initial c.args.plan.now c.args.inputs.now c.args.programs.now c.loop-program.reactors.items c.in_ok-new-2.field-0 c.new-5.result
     (slots_of_programs c.args.plan.now.federates c.args.programs.now c.requires.programs)
     (gives_lawful c.args.plan.now c.args.programs.now c.args.inputs.now c.invariant.ensures c.requires.programs c.requires.inputs) all
-    c.in_ok-new-2.ensures.draft c.in_ok-new-2.ensures.undone c.new-5.ensures
+    c.in_ok-new-2.ensures.draft c.in_ok-new-2.ensures.pending c.new-5.ensures
 
 pub returns : goal.returns
 returns c =

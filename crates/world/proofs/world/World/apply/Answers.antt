@@ -17,8 +17,8 @@ invariant_of-self-2 c =
     made_after c.self.inside.plan.now c.self.inside.programs.now c.self.inside.inputs.now c.self.inside.stations.value c.apply.new.self c.args.step c.in_ok-outcome.outcome
     c.self.inside.has_forgotten c.somebody_forgot-has_forgotten.result c.self.invariant (c.in_ok-outcome.ensures.done ∙ ap (λ (w : Federation). step_in w c.args.step) c.deref_mut.ensures.value) c.somebody_forgot-has_forgotten.ensures
 
-pub returns-clause-told : goal.returns-clause-told
-returns-clause-told c =
+pub returns-clause-outcome : goal.returns-clause-outcome
+returns-clause-outcome c =
     ap (λ (a : Applied CoordinatorNode FederateNode). a.outcome) c.in_ok-outcome.ensures.done ∙
     ap (λ (w : Federation). (step_in w c.args.step).outcome) c.deref_mut.ensures.value ∙
     ap (λ (w : Federation). (step_in w c.args.step).outcome) (seen c.self.view_is c.self.invariant).stations_are

@@ -1,12 +1,12 @@
 use Rattle.std.proofs.Common.{sym, length}
 use Rattle.node.specs.Step.{said}
 use Rattle.world_stations.specs.Room.{frames_of_each}
-use Rattle.world_stations.proofs.Stepping.{hub_fits, has_spare, reserved_after, after_hub}
+use Rattle.world_stations.proofs.Stepping.{coordinator_fits, has_spare, reserved_after, after_coordinator_step}
 use Rattle.world_stations.proofs.stations.Stations.at_coordinator.Goals as goal
 
 pub append_each-requires : goal.append_each-requires
 append_each-requires g c =
-    hub_fits g.H.Node.core g.H.Node.HUB c.self.inside.coordinator c.step.new.self c.args.event (said c.in_ok-reply.reply) c.frames_of-frames.result.now c.reserve_ahead.new.sent.items
+    coordinator_fits g.H.Node.core g.H.Node.HUB c.self.inside.coordinator c.step.new.self c.args.event (said c.in_ok-reply.reply) c.frames_of-frames.result.now c.reserve_ahead.new.sent.items
     c.in_ok-reply.ensures.ended c.frames_of-frames.ensures
     (has_spare c.self.inside.coordinator.ends c.self.inside.down.items c.reserve_ahead.new.sent.items c.self.inside.most c.self.inside.spare c.in_ok-self-inside.field-0
     c.self.invariant.1 c.in_ok-self-inside.ensures.enough c.in_ok-self-inside.ensures.memory c.reserve_ahead.ensures.len)
@@ -20,8 +20,8 @@ invariant_of-self-2 g c =
 
 pub returns-clause-done : goal.returns-clause-done
 returns-clause-done g c =
-    after_hub g.H.Node.core g.M.Node.core g.H.Node.HUB c.args.self.now c.self.inside.coordinator c.step.new.self c.self.inside.federates.items (frames_of_each c.self.inside.up.items)
+    after_coordinator_step g.H.Node.core g.M.Node.core g.H.Node.HUB c.args.self.now c.self.inside.coordinator c.step.new.self c.self.inside.federates.items (frames_of_each c.self.inside.up.items)
     (frames_of_each c.self.inside.down.items) (frames_of_each c.reserve_ahead.new.sent.items) (frames_of_each c.append_each.new.sent.items)
     c.self.inside.steps.items c.reserve.new.self.items c.push_reserved.new.self.items c.args.event c.args.step (said c.in_ok-reply.reply)
-    c.frames_of-frames.result.now c.outcome_of.result (sym c.self.view_is) c.self.invariant.0.is_hub c.in_ok-reply.ensures.ended c.frames_of-frames.ensures
+    c.frames_of-frames.result.now c.outcome_of.result (sym c.self.view_is) c.self.invariant.0.is_coordinator c.in_ok-reply.ensures.ended c.frames_of-frames.ensures
     c.reserve_ahead.ensures.frames c.append_each.ensures.frames c.reserve.ensures.items c.push_reserved.ensures.items c.outcome_of.ensures
