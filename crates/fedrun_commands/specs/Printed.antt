@@ -13,7 +13,7 @@ use Rattle.fedrun_words.specs.declared.request.Request.TheVariants.{Replay, Run}
 abbrev pub PrintsFor : Contents → Request → Option (List ℕ) → Option (List ℕ) → Type 0
 PrintsFor contents (Replay federation inputs schedule until_stuck) before after =
     HoldsOfSources (contents federation.now) (input_file contents inputs.now) (λ s. IsReplayed s.plan s.programs s.inputs until_stuck before after)
-PrintsFor contents (Run federation inputs turns) before after =
+PrintsFor contents (Run federation inputs turns frames) before after =
     HoldsOfSources (contents federation.now) (input_file contents inputs.now) (λ s. PrintsAudited s.plan s.programs s.inputs before after)
 PrintsFor contents request before after = ⊥
 

@@ -57,7 +57,7 @@ IsFaultOf contents answered before after (Replay federation inputs schedule unti
     ⊎ HoldsOfSources (contents federation.now) (input_file contents inputs.now)
     (λ s. IsScheduleFault schedule contents (λ later. answered (asked_sources federation.now inputs.now ++ later)) fault
     ⊎ (answered (asked_sources federation.now inputs.now ++ given schedule.now ∷ []) × IsReplayFault s before after fault))
-IsFaultOf contents answered before after (RunOf federation inputs turns) fault =
+IsFaultOf contents answered before after (RunOf federation inputs turns frames) fault =
     IsSourcesFault federation inputs contents answered fault
     ⊎ (answered (asked_sources federation.now inputs.now)
     × HoldsOfSources (contents federation.now) (input_file contents inputs.now) (λ s. IsRunFault s before after fault))

@@ -21,6 +21,7 @@ use std::net::{Net, TcpListener, TcpStream};
 use std::sync::Wait;
 use std::thread::Threads;
 use std::time::Clock;
+use wires::Terms;
 
 /// Plays a schedule and prints what `replay` does. Where there is no memory for a step, the refused steps before it are written.
 pub(crate) fn print_replay<O: Write>(
@@ -62,7 +63,7 @@ pub(crate) fn print_run<
     rt: &R,
     alloc: Global,
     sources: &Sources,
-    turns: u32,
+    terms: Terms,
     out: &mut O,
 ) -> Result<(), Fault<'static, NodeFault>>
     requires programs { AreProgramsOf sources.now.plan sources.now.programs }
@@ -77,7 +78,7 @@ pub(crate) fn print_run<
         &sources.plan,
         &sources.programs,
         &sources.inputs,
-        turns,
+        terms,
         out,
     ) {
         Ok(()) => flush(out),

@@ -18,6 +18,7 @@ use std::net::{Net, TcpListener, TcpStream};
 use std::sync::Wait;
 use std::thread::Threads;
 use std::time::Clock;
+use wires::Terms;
 
 /// Does what the words ask for.
 #[tactic(auto, using(fedrun_files::proofs::InTurn::none_answered))]
@@ -58,11 +59,20 @@ pub(crate) fn perform<
             federation,
             inputs,
             turns,
-        } => run(rt, alloc, federation, inputs, turns, files, out),
+            frames,
+        } => run(
+            rt,
+            alloc,
+            federation,
+            inputs,
+            Terms { turns, frames },
+            files,
+            out,
+        ),
     }
 }
 
-/// Runs the federation in threads, of which each makes so many turns at most, and prints the rows that the audit proved.
+/// Runs the federation in threads, of which each makes its turns at most, and prints the rows that the audit proved.
 pub(crate) fn run<
     'a,
     R: Threads + Wait + Clock + Net<Stream = TcpStream, Listener = TcpListener> + Sync,
@@ -73,16 +83,16 @@ pub(crate) fn run<
     alloc: Global,
     federation: &'a str,
     inputs: &'a str,
-    turns: u32,
+    terms: Terms,
     files: &mut F,
     out: &mut O,
 ) -> Result<(), Fault<'a, NodeFault>>
-    ensures ok { OnOk result (PrintsFor (F.contents files.old) (Request.Run federation.entry inputs.entry turns) (O.contents out.old) (O.contents out.new)) }
-    ensures stands { IfErr result (IsFaultOf (F.contents files.old) (Answers (F.answers files.old) (F.answers files.new)) (O.contents out.old) (O.contents out.new) (Request.Run federation.entry inputs.entry turns)) }
+    ensures ok { OnOk result (PrintsFor (F.contents files.old) (Request.Run federation.entry inputs.entry terms.turns terms.frames) (O.contents out.old) (O.contents out.new)) }
+    ensures stands { IfErr result (IsFaultOf (F.contents files.old) (Answers (F.answers files.old) (F.answers files.new)) (O.contents out.old) (O.contents out.new) (Request.Run federation.entry inputs.entry terms.turns terms.frames)) }
     ensures untouched { IfErr result (λ fault. status_of fault ≢ 3 → out.new ≡ out.old) }
 {
     match read_sources(alloc, federation, inputs, files) {
-        Ok(sources) => print_run(rt, alloc, &sources, turns, out),
+        Ok(sources) => print_run(rt, alloc, &sources, terms, out),
         Err(fault) => Err(fault),
     }
 }

@@ -23,10 +23,10 @@ use std::sync::Wait;
 use std::thread;
 use std::thread::Threads;
 use std::time::Clock;
-use wires::{Nodes, RunFault, WorkerResult, run_over_tcp};
+use wires::{Nodes, RunFault, Terms, WorkerResult, run_over_tcp};
 use wires_workers::NoGate;
 
-/// Runs the federation in threads over TCP on loopback until the coordinator is finished or a runner has made so many turns,
+/// Runs the federation in threads over TCP on loopback until the coordinator is finished or a runner has made its turns,
 /// audits what its nodes wrote down, and prints each federate's rows, federate by federate. The caller flushes. That a run isn't
 /// finished comes before any failure of the audit.
 pub fn print_audited_run<
@@ -38,7 +38,7 @@ pub fn print_audited_run<
     plan: &Plan,
     programs: &Programs,
     inputs: &Inputs,
-    turns: u32,
+    terms: Terms,
     out: &mut O,
 ) -> Result<(), AuditedFault>
     requires programs { AreProgramsOf plan.now programs.now }
@@ -53,7 +53,7 @@ pub fn print_audited_run<
     let Ok(nodes) = nodes_of(alloc, plan, programs, inputs) else {
         return Err(AuditedFault::Memory);
     };
-    let (audit, node_reports) = run_and_ask(rt, alloc, plan, nodes, audit, turns);
+    let (audit, node_reports) = run_and_ask(rt, alloc, plan, nodes, audit, terms);
     let node_reports = node_reports?;
     print_audited(
         alloc,
@@ -77,14 +77,14 @@ fn run_and_ask<
     plan: &'a Plan,
     nodes: Nodes<H, M>,
     audit: IncrementalAudit<'a>,
-    turns: u32,
+    terms: Terms,
 ) -> (IncrementalAudit<'a>, Result<NodeReports<'a>, AuditedFault>)
     requires each { length nodes.federates.items ≡ federate_count plan.now }
     ensures audit { result.0 ≡ audit.entry }
     ensures reported { IfOk result.1 (λ said. (left : List (Option IsLeft)) × AreReported H.core H.HUB M.core M.HUB M.tells left said.reports.reports said.coordinator.items) }
     ensures fault { IfErr result.1 IsOfTheRun }
 {
-    let (audit, results) = run_watched(rt, alloc, &nodes, audit, turns);
+    let (audit, results) = run_watched(rt, alloc, &nodes, audit, terms);
     take_apart(rt, alloc, plan, nodes, results, audit)
 }
 
@@ -99,7 +99,7 @@ fn run_watched<
     alloc: Global,
     nodes: &Nodes<H, M>,
     audit: IncrementalAudit<'a>,
-    turns: u32,
+    terms: Terms,
 ) -> (
     IncrementalAudit<'a>,
     Result<Vec<Option<WorkerResult>>, RunFault>,
@@ -111,7 +111,7 @@ fn run_watched<
         ||
             ensures { result ≡ audit.entry }
         { watch(rt, alloc, nodes, audit) },
-        || run_over_tcp(rt, alloc, nodes, &NoGate, turns),
+        || run_over_tcp(rt, alloc, nodes, &NoGate, terms),
     )
 }
 

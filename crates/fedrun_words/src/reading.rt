@@ -6,12 +6,15 @@ use std::alloc::{AllocError, Global};
 /// The turns of a run for which no number is given.
 const RUN_TURNS: u32 = 1_000_000;
 
-/// Each subcommand, with its arguments and its option.
-const SUBCOMMANDS: [(&str, &[&str], Option<&str>); 4] = [
-    ("whole", &["FED", "IN", "TURNS"], None),
-    ("check", &["FED"], None),
-    ("replay", &["FED", "IN", "SCHEDULE"], Some("until-stuck")),
-    ("run", &["FED", "IN"], Some("turns")),
+/// The version of frames of a run for which none is given.
+const RUN_FRAMES: u8 = 2;
+
+/// Each subcommand, with its arguments and its options.
+const SUBCOMMANDS: [(&str, &[&str], &[&str]); 4] = [
+    ("whole", &["FED", "IN", "TURNS"], &[]),
+    ("check", &["FED"], &[]),
+    ("replay", &["FED", "IN", "SCHEDULE"], &["until-stuck"]),
+    ("run", &["FED", "IN"], &["turns", "frames"]),
 ];
 
 /// Why the words give no request.
@@ -69,28 +72,32 @@ fn commands<'a>(alloc: Global) -> Result<Command<'a>, AllocError> {
         .disable_help_flag(true)
         .disable_help_subcommand(true)
         .subcommand_required(true);
-    for (name, arguments, option) in &SUBCOMMANDS {
-        let subcommand = subcommand(alloc, name, arguments, *option)?;
+    for (name, arguments, options) in &SUBCOMMANDS {
+        let subcommand = subcommand(alloc, name, arguments, options)?;
         command = command.subcommand(subcommand)?;
     }
     Ok(command)
 }
 
-/// A subcommand with arguments that have to be there, and an option with a value, which may be given once.
+/// A subcommand with arguments that have to be there, and options with a value each, which may be given once.
 fn subcommand<'a>(
     alloc: Global,
     name: &'a str,
-    arguments: &[&'a str],
-    option: Option<&'a str>,
+    arguments: &'a [&'a str],
+    options: &'a [&'a str],
 ) -> Result<Command<'a>, AllocError> {
     let mut command = Command::new(alloc, name).disable_help_flag(true);
     for argument in arguments {
         command = command.arg(Arg::new(alloc, *argument).required(true))?;
     }
-    match option {
-        Some(name) => command.arg(Arg::new(alloc, name).long(name).action(ArgAction::Set)),
-        None => Ok(command),
+    for option in options {
+        command = command.arg(
+            Arg::new(alloc, *option)
+                .long(*option)
+                .action(ArgAction::Set),
+        )?;
     }
+    Ok(command)
 }
 
 fn whole<'a>(given: &ArgMatches<'a>) -> Option<Request<'a>> {
@@ -125,11 +132,25 @@ fn run<'a>(given: &ArgMatches<'a>) -> Option<Request<'a>> {
         Some(turns) => count(turns)?,
         None => RUN_TURNS,
     };
+    let frames = match given.get_str("frames") {
+        Some(version) => frames(version)?,
+        None => RUN_FRAMES,
+    };
     Some(Request::Run {
         federation: given.get_str("FED")?,
         inputs: given.get_str("IN")?,
         turns,
+        frames,
     })
+}
+
+/// A version of frames, in ASCII digits.
+fn frames(text: &str) -> Option<u8> {
+    match count(text)? {
+        1 => Some(1),
+        2 => Some(2),
+        _ => None,
+    }
 }
 
 /// A number of turns or rounds, in ASCII digits.

@@ -18,10 +18,12 @@ pub enum Request<'a> {
         schedule: &'a str,
         until_stuck: Option<u32>,
     },
-    /// The rows of the federation in threads, of which each makes so many turns at most.
+    /// The rows of the federation in threads, of which each makes so many turns at most. Federates write this version of frames,
+    /// 1 or 2.
     Run {
         federation: &'a str,
         inputs: &'a str,
         turns: u32,
+        frames: u8,
     },
 }

@@ -3,10 +3,10 @@ use Rattle.std.proofs.Common.{◌≡◌, ℕ, ◌+◌, ◌-◌, List, [], length
 use Rattle.std.specs.Prelude.{cond}
 use Rattle.std.proofs.lemmas.List.{drop-drop, length-drop}
 use Rattle.signal.specs.declared.signal.Signal.{Signal}
-use Rattle.link.specs.Answer.{numbered}
+use Rattle.signal.specs.Batch.{numbered}
 use Rattle.link.specs.Image.{last_number, resent_by}
 use Rattle.link.specs.End.{End, IsLawful}
-use Rattle.link.proofs.Numbered.{drop-numbered}
+use Rattle.signal.proofs.Numbered.{drop-numbered}
 
 -- the number offered last counts all that was offered
 pub last_number-length : (e : End) → IsLawful e → last_number e.image ≡ length e.offered

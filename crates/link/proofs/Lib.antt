@@ -1,5 +1,3 @@
--- Signals as numbered frames.
-pub mod Numbered
 -- Ends with all that they ever offered: what their images tell, and that they stay lawful.
 pub mod Ends
 -- What is taken is a prefix of what was offered.

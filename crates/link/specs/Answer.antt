@@ -1,6 +1,5 @@
 -- Signals are numbered from 1 on, in the order in which they are offered.
-use Rattle.std.specs.Prelude.{ℕ, ◌+◌, Bool, ◌&&◌, if◌then◌else◌, nat_lt, nat_le, nat_eq, List, [], ◌∷◌, Ok, Err, Result}
-use Rattle.signal.specs.declared.signal.Signal.{Signal}
+use Rattle.std.specs.Prelude.{ℕ, ◌+◌, Bool, ◌&&◌, if◌then◌else◌, nat_lt, nat_le, nat_eq, Ok, Err, Result}
 use Rattle.signal.specs.declared.frame.Frame.{Frame}
 use Rattle.signal.specs.declared.frame.Frame.TheVariants.{Hello, Data, Ack, Refuse}
 use Rattle.link.specs.declared.arrival.Arrival.{Arrival}
@@ -22,8 +21,3 @@ answer_when_open offered taken (Data _ n _) =
     else Err LinkFault.Gap
 answer_when_open offered taken (Ack _ n) = if nat_lt offered n then Err LinkFault.AckOfUnsent else Ok Arrival.Acked
 answer_when_open offered taken (Refuse _ _) = Ok Arrival.Closed
-
--- the signals as frames, numbered from the first number on
-abbrev pub numbered : (incarnation first : ℕ) → List Signal → List Frame
-numbered incarnation first [] = []
-numbered incarnation first (signal ∷ signals) = Data incarnation first signal ∷ numbered incarnation (first + 1) signals

@@ -6,7 +6,8 @@ use Rattle.signal.specs.declared.frame.Frame.{Frame}
 use Rattle.signal.specs.declared.frame.Frame.TheVariants.{Hello, Data, Ack, Refuse}
 use Rattle.link.specs.declared.arrival.Arrival.{Arrival}
 use Rattle.link.specs.declared.fault.LinkFault.{LinkFault}
-use Rattle.link.specs.Answer.{is_own, answer_when_open, numbered}
+use Rattle.signal.specs.Batch.{numbered}
+use Rattle.link.specs.Answer.{is_own, answer_when_open}
 
 -- one end of the link of a federate in an incarnation, as a caller sees it
 pub record Image : Type 0 where

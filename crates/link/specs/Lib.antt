@@ -1,6 +1,6 @@
 -- The numbers and names of the refusals.
 pub mod Fault
--- Whose a frame is, what an open end answers to it, and signals as numbered frames.
+-- Whose a frame is, and what an open end answers to it.
 pub mod Answer
 -- What a caller sees of an end: what it answers, and what each call makes of it.
 pub mod Image

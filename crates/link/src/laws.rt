@@ -2,7 +2,7 @@
 ghost use Rattle.std.specs.Prelude.{◌≡◌, ◌≢◌, ◌+◌, ℕ, ◌≤◌, ◌++◌, [], length, take, drop, if◌then◌else◌, IsOk, All, List};
 ghost use Rattle.signal.specs.declared.signal.Signal.{Signal};
 ghost use Rattle.signal.specs.declared.frame.Frame.{Frame};
-ghost use Rattle.link.specs.Answer.{numbered};
+ghost use Rattle.signal.specs.Batch.{numbered};
 ghost use Rattle.link.specs.Image.{Image, IsImage, last_number, room_left, offer_of, answer_of, resent_by, after_offer, after_frame, after_close, blank};
 ghost use Rattle.link.specs.End.{End, IsLawful};
 ghost use Rattle.link.specs.End as ends;

@@ -1,5 +1,5 @@
 ghost use Rattle.std.specs.Prelude.{◌≡◌, ◌≢◌, ◌+◌, ◌-◌, ◌<◌, ◌≤◌, ◌⊎◌, length, drop, ◌^◌, IsOk, IsOkUnless, OnOk, OnErr, IfOk};
-ghost use Rattle.link.specs.Answer.{numbered};
+ghost use Rattle.signal.specs.Batch.{numbered};
 ghost use Rattle.std.specs.VecDeque.{deque_capacity, deque_len};
 
 use crate::arrival::Arrival;
@@ -202,7 +202,7 @@ impl LinkEnd {
     }
 
     /// All that is kept, as the frames that it was sent in; nothing where the end is closed.
-    #[tactic(auto, using(crate::proofs::Numbered::lengths))]
+    #[tactic(auto, using(signal::proofs::Numbered::lengths))]
     pub fn resend(&self) -> Result<Vec<Frame>, Memory>
         ensures frames { IfOk result (λ frames. frames.items ≡ resent_by self.now.image) }
         ensures none_needed { length (resent_by self.now.image) ≡ 0 → IsOk result }

@@ -6,7 +6,7 @@ use Rattle.network_laws.proofs.Lists.{each_more}
 use Rattle.signal.specs.declared.signal.Signal.{Signal}
 use Rattle.signal.specs.declared.frame.Frame.{Frame}
 use Rattle.signal.specs.declared.frame.Frame.TheVariants.{Hello, Data, Ack, Refuse}
-use Rattle.link.specs.Answer.{numbered}
+use Rattle.signal.specs.Batch.{numbered}
 use Rattle.link.specs.Image.{Image, last_number, acknowledge, after_frame, after_close, ack_of, hello_by, hello_of, resent_by}
 use Rattle.link_laws.specs.Way.{offered_in, IsSaid}
 use Rattle.link_laws.specs.Link.{Side, says, offers, notes, takes, greeting}

@@ -12,7 +12,7 @@ use Rattle.signal.specs.declared.frame.Frame.TheVariants.{Hello, Data, Ack, Refu
 use Rattle.link.specs.declared.arrival.Arrival.{Arrival}
 use Rattle.link.specs.declared.arrival.Arrival.TheVariants as arrival
 use Rattle.link.specs.declared.fault.LinkFault.{LinkFault}
-use Rattle.link.specs.Answer.{numbered}
+use Rattle.signal.specs.Batch.{numbered}
 use Rattle.link.specs.Image.{Image, last_number, answer_of, after_frame, ack_of, hello_by, resent_by}
 use Rattle.link_laws.specs.Way.{offered_in, is_old, IsSaid}
 use Rattle.link_laws.specs.Link.{Side, says, lets_in, hears, gets, greeting, side_after, Gets, Offers, Resends, Greets, Closes, TurnsAway, Act, replaced}

@@ -8,7 +8,7 @@ use Rattle.network_laws.proofs.Lists.{each, from_each, each_more, each_append}
 use Rattle.signal.specs.declared.signal.Signal.{Signal}
 use Rattle.signal.specs.declared.frame.Frame.{Frame}
 use Rattle.signal.specs.declared.frame.Frame.TheVariants.{Hello, Data, Ack, Refuse}
-use Rattle.link.specs.Answer.{numbered}
+use Rattle.signal.specs.Batch.{numbered}
 use Rattle.link_laws.specs.Way.{with_offered, offered_with, offered_in, is_old, IsSaid, IsWay}
 use Rattle.link_laws.proofs.Places.{get_seam, get_more, length_of_rest}
 

@@ -6,7 +6,7 @@ use Rattle.signal.specs.declared.frame.Frame.TheVariants.{Hello, Data, Ack, Refu
 use Rattle.link.specs.declared.arrival.Arrival.{Arrival}
 use Rattle.link.specs.declared.arrival.Arrival.TheVariants as arrival
 use Rattle.link.specs.declared.fault.LinkFault.{LinkFault}
-use Rattle.link.specs.Answer.{numbered}
+use Rattle.signal.specs.Batch.{numbered}
 use Rattle.link_laws.specs.Way.{offered_in}
 use Rattle.link.specs.Image.{Image, blank, last_number, answer_of, after_frame, after_close, ack_of, hello_of, resent_by}
 

@@ -8,7 +8,7 @@ ghost use Rattle.std.specs.Prelude.{◌≡◌, ℕ, ◌+◌, ◌≤◌, false, �
 ghost use Rattle.signal.specs.declared.signal.Signal.{Signal};
 ghost use Rattle.signal.specs.declared.frame.Frame.{Frame};
 ghost use Rattle.signal.specs.declared.frame.Frame.TheVariants.{Data};
-ghost use Rattle.link.specs.Answer.{numbered};
+ghost use Rattle.signal.specs.Batch.{numbered};
 ghost use Rattle.link.specs.Image.{after_offer, last_number};
 ghost use Rattle.link_laws.specs.Way.{offered_in, is_old, IsSaid, IsWay};
 ghost use Rattle.link_laws.specs.Link.{Side, offers, At, initial_link, after_acts, IsTakenInOrder, TellsNothingUnsent};

@@ -7,13 +7,14 @@ use Rattle.signal.specs.declared.frame.Hello as declared
 use Rattle.signal.specs.declared.frame.Frame.TheVariants.{Hello, Data, Ack, Refuse}
 use Rattle.link.specs.declared.arrival.Arrival.{Arrival}
 use Rattle.link.specs.declared.fault.LinkFault.{LinkFault}
-use Rattle.link.specs.Answer.{answer_when_open, is_own, numbered}
+use Rattle.signal.specs.Batch.{numbered}
+use Rattle.link.specs.Answer.{answer_when_open, is_own}
 use Rattle.link.specs.Image.{Image, answer_of, after_frame, resent_by, last_number}
 use Rattle.node.specs.Mail.{Mail}
 use Rattle.node.specs.Step.{changes, received, returned}
 use Rattle.node.specs.Kinds.{IsHello}
 use Rattle.network.proofs.Items.{get_set_here}
-use Rattle.link.proofs.Numbered.{length-numbered}
+use Rattle.signal.proofs.Numbered.{length-numbered}
 
 -- the end after a frame was taken in
 pub received_here : (m : Mail) (peer : ℕ) (frame : Frame) (e : Image) → slice_get m.ends peer ≡ Some e →

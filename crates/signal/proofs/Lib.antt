@@ -1,6 +1,16 @@
+pub mod Numbered
 pub mod Parts
+pub mod Signals
+pub mod Begun
+pub mod Checking
+pub mod Batches
 pub mod Bodies
+pub mod Firsts
 pub mod Framing
-pub mod Writing
 pub mod Streams
 pub mod Sessions
+pub mod Cutting
+pub mod Readable
+pub mod Readers
+pub mod Appended
+pub mod Taken

@@ -11,11 +11,11 @@ abbrev pub from : ℕ → List ℕ → List ℕ
 from place body = take (length body - place) (drop place body)
 
 -- a list is its first item and the others
-headed : (body fields : List ℕ) (first : ℕ) → 0 < length body → get_or body 0 0 ≡ first → drop 1 body ≡ fields → body ≡ first ∷ fields
+pub headed : (body fields : List ℕ) (first : ℕ) → 0 < length body → get_or body 0 0 ≡ first → drop 1 body ≡ fields → body ≡ first ∷ fields
 headed body fields first there e f = drop_more body 0 0 there ∙ rw (e, f) refl
 
 -- a field and the bytes behind it
-field_then : (bytes front rest fields : List ℕ) → bytes ≡ front ++ rest → rest ≡ fields → bytes ≡ front ++ fields
+pub field_then : (bytes front rest fields : List ℕ) → bytes ≡ front ++ rest → rest ≡ fields → bytes ≡ front ++ fields
 field_then bytes front rest fields first e = first ∙ ap (λ (r : List ℕ). front ++ r) e
 
 pub ack_parts : (body rest more : List ℕ) (incarnation last_taken : ℕ) → length body ≡ 13 → get_or body 0 0 ≡ 3

@@ -1,9 +1,9 @@
 -- What is wrong with the bytes that stand where a frame should begin, and how each fault is printed.
-use Rattle.std.specs.Prelude.{ℕ, ◌+◌, List, ◌++◌, codes, length, take, drop, slice_index, Bool, nat_lt, nat_le, ◌==◌, ◌&&◌, ◌||◌, not, if◌then◌else◌, Option, Some, None}
+use Rattle.std.specs.Prelude.{ℕ, zero, suc, ◌+◌, ◌^◌, List, ◌++◌, codes, length, take, drop, slice_index, Bool, nat_lt, nat_le, ◌==◌, ◌&&◌, ◌||◌, not, if◌then◌else◌, Option, Some, None, is_some}
 use Rattle.std.specs.Fmt.{decimal}
 use Rattle.byteorder.specs.Endian.{big_number}
 use Rattle.tag.specs.LogicalTime.{forever}
-use Rattle.signal.specs.declared.wire.TheConstants.{LENGTH_SIZE, LONGEST_BODY, HELLO_KIND, HELLO_SIZE, DATA_KIND, BEFORE_SIGNAL, ACK_KIND, ACK_SIZE, REFUSE_KIND, REFUSE_SIZE, NET_KIND, MSG_KIND, POINT_SIZE, MSG_SIZE, FOREVER_TIME, FOREVER_MICROSTEP}
+use Rattle.signal.specs.declared.wire.TheConstants.{LENGTH_SIZE, LONGEST_BODY, HELLO_KIND, HELLO_SIZE, DATA_KIND, BEFORE_SIGNAL, ACK_KIND, ACK_SIZE, REFUSE_KIND, REFUSE_SIZE, BATCH_KIND, BEFORE_SIGNALS, LEAST_SIGNALS, MOST_SIGNALS, NET_KIND, MSG_KIND, POINT_SIZE, MSG_SIZE, FOREVER_TIME, FOREVER_MICROSTEP}
 use Rattle.signal.specs.declared.fault.FrameFault.{FrameFault}
 use Rattle.signal.specs.declared.fault.FrameFault.TheVariants.{BadLength, BadKind, BadTag, Trailing}
 
@@ -56,6 +56,12 @@ signal_size kind = if kind == MSG_KIND then MSG_SIZE else POINT_SIZE
 abbrev pub tag_place : ℕ → ℕ
 tag_place kind = if kind == MSG_KIND then 3 else 1
 
+-- whether the tag of the signal at the front is one
+abbrev pub has_tag : List ℕ → Bool
+has_tag bytes =
+    let kind = slice_index bytes 0 in
+    is_tag (kind == NET_KIND) (number_at (tag_place kind) 8 bytes) (number_at (tag_place kind + 8) 4 bytes)
+
 -- the first fault of a signal, of which at least the first byte is there
 abbrev pub signal_fault : List ℕ → Option FrameFault
 signal_fault bytes =
@@ -63,24 +69,53 @@ signal_fault bytes =
     if not (is_kind MSG_KIND kind) then Some BadKind
     else if nat_lt (length bytes) (signal_size kind) then Some BadLength
     else if nat_lt (signal_size kind) (length bytes) then Some Trailing
-    else if not (is_tag (kind == NET_KIND) (number_at (tag_place kind) 8 bytes) (number_at (tag_place kind + 8) 4 bytes)) then Some BadTag
+    else if not (has_tag bytes) then Some BadTag
     else None
 
--- the least body of each kind: of a Data up to the first byte of its signal
+-- the first fault of n signals that should fill the bytes, whatever their tags are
+abbrev pub shape_fault : ℕ → List ℕ → Option FrameFault
+shape_fault zero bytes = if nat_lt 0 (length bytes) then Some Trailing else None
+shape_fault (suc n) bytes =
+    let kind = slice_index bytes 0 in
+    if nat_lt (length bytes) 1 then Some BadLength
+    else if not (is_kind MSG_KIND kind) then Some BadKind
+    else if nat_lt (length bytes) (signal_size kind) then Some BadLength
+    else shape_fault n (drop (signal_size kind) bytes)
+
+-- the fault of n signals of which one has no tag
+abbrev pub tags_fault : ℕ → List ℕ → Option FrameFault
+tags_fault zero bytes = None
+tags_fault (suc n) bytes = if not (has_tag bytes) then Some BadTag else tags_fault n (drop (signal_size (slice_index bytes 0)) bytes)
+
+-- the first fault of n signals that should fill the bytes
+abbrev pub signals_fault : ℕ → List ℕ → Option FrameFault
+signals_fault n bytes = if is_some (shape_fault n bytes) then shape_fault n bytes else tags_fault n bytes
+
+-- the first fault of a Batch, of which all is there that stands before its signals
+abbrev pub batch_fault : List ℕ → Option FrameFault
+batch_fault body =
+    let count = slice_index body 13 in
+    if nat_lt count LEAST_SIGNALS || nat_lt MOST_SIGNALS count then Some BadKind
+    else if nat_lt (2 ^ 64) (number_at 5 8 body + count) then Some BadKind
+    else signals_fault count (drop BEFORE_SIGNALS body)
+
+-- the least body of each kind: of a Data up to the first byte of its signal, of a Batch what stands before its signals
 abbrev pub least_size : ℕ → ℕ
 least_size kind =
     if kind == HELLO_KIND then HELLO_SIZE
     else if kind == DATA_KIND then BEFORE_SIGNAL + 1
     else if kind == ACK_KIND then ACK_SIZE
-    else REFUSE_SIZE
+    else if kind == REFUSE_KIND then REFUSE_SIZE
+    else BEFORE_SIGNALS
 
 -- the first fault of a whole body
 abbrev pub body_fault : List ℕ → Option FrameFault
 body_fault body =
     let kind = slice_index body 0 in
-    if not (is_kind REFUSE_KIND kind) then Some BadKind
+    if not (is_kind BATCH_KIND kind) then Some BadKind
     else if nat_lt (length body) (least_size kind) then Some BadLength
     else if kind == DATA_KIND then signal_fault (drop BEFORE_SIGNAL body)
+    else if kind == BATCH_KIND then batch_fault body
     else if nat_lt (least_size kind) (length body) then Some Trailing
     else if kind == HELLO_KIND && slice_index body 1 == 0 then Some BadKind
     else None

@@ -1,10 +1,11 @@
--- A frame as bytes: four bytes of length, and then that many bytes of body.
-use Rattle.std.specs.Prelude.{◌≡◌, ℕ, ◌^◌, ◌<◌, List, ◌++◌, ◌∷◌, length}
+-- Frames as bytes: four bytes of length, and then that many bytes of body.
+use Rattle.std.specs.Prelude.{◌≡◌, ℕ, ◌^◌, ◌<◌, List, [], ◌++◌, ◌∷◌, length}
 use Rattle.byteorder.specs.Endian.{big_bytes}
 use Rattle.signal.specs.declared.wire.TheConstants.{LENGTH_SIZE, VERSION, HELLO_KIND, DATA_KIND, ACK_KIND, REFUSE_KIND}
 use Rattle.signal.specs.declared.frame.Frame.{Frame}
 use Rattle.signal.specs.declared.frame.Frame.TheVariants.{Hello, Data, Ack, Refuse}
 use Rattle.signal.specs.Signal.{signal_bytes, IsSignal}
+use Rattle.signal.specs.Batch.{IsBatch}
 
 -- the body of a frame: its kind, for a Hello a version, and then its fields
 abbrev pub body_of : ℕ → Frame → List ℕ
@@ -17,9 +18,13 @@ body_of version (Refuse incarnation refusal) = REFUSE_KIND ∷ big_bytes 4 incar
 abbrev pub framed : List ℕ → List ℕ
 framed body = big_bytes LENGTH_SIZE (length body) ++ body
 
--- the spelling that is written
+-- the spelling of a frame by itself, where a Hello has this version
+abbrev pub frame_bytes_by : ℕ → Frame → List ℕ
+frame_bytes_by version frame = framed (body_of version frame)
+
+-- the same with the first version
 abbrev pub frame_bytes : Frame → List ℕ
-frame_bytes frame = framed (body_of VERSION frame)
+frame_bytes frame = frame_bytes_by VERSION frame
 
 -- what has a spelling: every frame of the program
 abbrev pub IsFrame : Frame → Type 0
@@ -28,7 +33,7 @@ IsFrame (Data incarnation number signal) = (incarnation < 2 ^ 32) × (number < 2
 IsFrame (Ack incarnation last_taken) = (incarnation < 2 ^ 32) × (last_taken < 2 ^ 64)
 IsFrame (Refuse incarnation refusal) = (incarnation < 2 ^ 32) × (refusal < 2 ^ 16)
 
--- the body spells the frame, whatever version from 1 on a Hello tells
+-- the body spells the frame, whatever version from 1 on a Hello has
 pub record IsBody (body : List ℕ) (frame : Frame) : Type 0 where
   pub version : ℕ
   pub from_one : 0 < version
@@ -36,8 +41,13 @@ pub record IsBody (body : List ℕ) (frame : Frame) : Type 0 where
   pub is_frame : IsFrame frame
   pub is_body : body ≡ body_of version frame
 
--- the bytes are a spelling of the frame: its body behind its length
-pub record Spells (bytes : List ℕ) (frame : Frame) : Type 0 where
+-- a body carries one frame, or those of a Batch
+pub data Carries (body : List ℕ) : List Frame → Type 0 where
+  one : (frame : Frame) → IsBody body frame → Carries body (frame ∷ [])
+  several : (frames : List Frame) → IsBatch body frames → Carries body frames
+
+-- the bytes are a spelling of these frames: a body that carries them, behind its length
+pub record Spells (bytes : List ℕ) (frames : List Frame) : Type 0 where
   pub body : List ℕ
-  pub is_body : IsBody body frame
+  pub carries : Carries body frames
   pub is_framed : bytes ≡ framed body

@@ -1,21 +1,65 @@
-//! The frame that a whole body spells.
+//! What a whole body says.
 
-ghost use Rattle.std.specs.Prelude.{◌≡◌, ◌<◌, length, slice_index, IfOk, IfErr, Some};
+ghost use Rattle.std.specs.Prelude.{◌≡◌, ◌≢◌, ◌<◌, length, slice_index, IfOk, IfErr, Some};
 ghost use Rattle.signal.specs.Frame.{IsBody};
 ghost use Rattle.signal.specs.Fault.{body_fault};
-ghost use Rattle.signal.specs.declared.wire.TheConstants.{ACK_KIND, DATA_KIND, HELLO_KIND, REFUSE_KIND};
+ghost use Rattle.signal.specs.Begun.{IsFirst};
+ghost use Rattle.signal.specs.Stream.{version_after};
+ghost use Rattle.signal.specs.declared.wire.TheConstants.{ACK_KIND, BATCH_KIND, DATA_KIND, HELLO_KIND, REFUSE_KIND};
 
+use crate::batch::{Begun, batch_of};
 use crate::fault::FrameFault;
 use crate::frame::{Frame, Hello};
+use crate::front::Front;
 use crate::numbers::{take_u16, take_u32, take_u64};
 use crate::reading::{check_size, signal_of};
 use crate::wire::{
-    ACK_KIND, ACK_SIZE, BEFORE_SIGNAL, DATA_KIND, HELLO_KIND, HELLO_SIZE, REFUSE_KIND, REFUSE_SIZE,
+    ACK_KIND, ACK_SIZE, BATCH_KIND, BEFORE_SIGNAL, BEFORE_SIGNALS, DATA_KIND, HELLO_KIND,
+    HELLO_SIZE, REFUSE_KIND, REFUSE_SIZE,
 };
 
-/// The frame that all of these bytes spell.
-pub fn frame_of(body: &[u8]) -> Result<Frame, FrameFault>
+/// The first frame that all of these bytes carry, and what is begun behind it. `version` is that of the last Hello before.
+pub fn first_of(body: &[u8], version: u8) -> Result<Front, FrameFault>
     requires { 0 < length body.now }
+    ensures first { IfOk result (IsFirst version body.now) }
+    ensures fault { IfErr result (λ e. body_fault body.now ≡ Some e) }
+{
+    if body[0] == BATCH_KIND {
+        let mut begun = batch_of(body)?;
+        let (frame, size) = begun.give(&body[BEFORE_SIGNALS..]);
+        return Ok(Front {
+            frame,
+            size: BEFORE_SIGNALS + size,
+            begun,
+            version,
+        });
+    }
+    let frame = frame_of(body)?;
+    Ok(Front {
+        frame,
+        size: body.len(),
+        begun: Begun::none(),
+        version: version_after(version, body),
+    })
+}
+
+/// The version once the frame of this body was given.
+fn version_after(before: u8, body: &[u8]) -> u8
+    requires there { 0 < length body.now }
+    requires hello { slice_index body.now 0 ≡ HELLO_KIND → 1 < length body.now }
+    ensures { result ≡ version_after before body.now }
+{
+    if body[0] == HELLO_KIND {
+        body[1]
+    } else {
+        before
+    }
+}
+
+/// The frame that all of these bytes spell, where they are no Batch.
+fn frame_of(body: &[u8]) -> Result<Frame, FrameFault>
+    requires there { 0 < length body.now }
+    requires no_batch { slice_index body.now 0 ≢ BATCH_KIND }
     ensures spelled { IfOk result (IsBody body.now) }
     ensures fault { IfErr result (λ e. body_fault body.now ≡ Some e) }
 {

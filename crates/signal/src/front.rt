@@ -1,18 +1,31 @@
-//! The frame at the front of some bytes.
+//! What stands at the front of some bytes.
 
-ghost use Rattle.std.specs.Prelude.{◌≡◌, ◌≤◌, length, take, true, Some, IfOk, IfErr, MatchOption};
-ghost use Rattle.signal.specs.Frame.{Spells};
+ghost use Rattle.std.specs.Prelude.{◌≡◌, true, Some, IfOk, IfErr, MatchOption};
 ghost use Rattle.signal.specs.Fault.{is_partial, fault_at};
+ghost use Rattle.signal.specs.Begun.{IsFront};
 
-use crate::body::frame_of;
+use crate::batch::Begun;
+use crate::body::first_of;
 use crate::fault::FrameFault;
 use crate::frame::Frame;
 use crate::numbers::take_u32;
 use crate::wire::{LENGTH_SIZE, LONGEST_BODY};
 
-/// The frame at the front and how many bytes it takes; None where the bytes end inside it.
-pub fn front_of(bytes: &[u8]) -> Result<Option<(Frame, usize)>, FrameFault>
-    ensures ok { IfOk result (λ front. MatchOption front (is_partial bytes.now ≡ true) (λ x. (x.1 ≤ length bytes.now) × Spells (take x.1 bytes.now) x.0)) }
+/// The first frame of a spelling at the front of some bytes.
+#[derive(Clone, Copy, Debug)]
+pub struct Front {
+    pub frame: Frame,
+    /// Bytes up to the signals that are still to be given.
+    pub size: usize,
+    /// What else the spelling carries.
+    pub begun: Begun,
+    /// The version of the last Hello, once the frame was given.
+    pub version: u8,
+}
+
+/// What stands at the front; None where the bytes end inside it. `version` is that of the last Hello before.
+pub fn front_of(bytes: &[u8], version: u8) -> Result<Option<Front>, FrameFault>
+    ensures ok { IfOk result (λ front. MatchOption front (is_partial bytes.now ≡ true) (IsFront version bytes.now)) }
     ensures fault { IfErr result (λ e. fault_at bytes.now ≡ Some e) }
 {
     if bytes.len() < LENGTH_SIZE {
@@ -27,6 +40,9 @@ pub fn front_of(bytes: &[u8]) -> Result<Option<(Frame, usize)>, FrameFault>
         return Ok(None);
     }
     let (body, _) = rest.split_at(length);
-    let frame = frame_of(body)?;
-    Ok(Some((frame, LENGTH_SIZE + length)))
+    let front = first_of(body, version)?;
+    Ok(Some(Front {
+        size: LENGTH_SIZE + front.size,
+        ..front
+    }))
 }

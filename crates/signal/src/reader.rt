@@ -1,28 +1,35 @@
+use crate::batch::Begun;
 use crate::fault::FrameFault;
 use crate::frame::Frame;
 use crate::front::front_of;
 use crate::memory::Memory;
+use crate::wire::VERSION;
 use std::alloc::Global;
 use std::marker::Model;
 
-/// Reads frames from a stream of bytes that comes in any pieces.
+/// Reads frames from a stream of bytes that comes in any pieces. The signals of a Batch come as the Data frames that they
+/// stand for, one after the other.
 #[derive(Debug, Drop)]
 pub struct FrameReader {
     buffer: Vec<u8>,
     // Bytes of the buffer before here were read.
     position: usize,
+    // The Batch whose signals stand here and are still to be given.
+    begun: Begun,
     fault: Option<FrameFault>,
+    version: u8,
 }
 
 impl Model for FrameReader {
-    ghost use Rattle.std.specs.Prelude.{◌≤◌, drop, vec_len};
-    ghost use Rattle.signal.specs.Stream.{Stream, IsStream};
+    ghost use Rattle.signal.specs.Stream.{Stream};
 
     ghost Value = { Stream };
 
-    ghost view = { λ r. record { fault = r.fault; rest = drop r.position r.buffer.items } };
+    ghost use Rattle.signal.specs.Inside.{stream_of, IsReader};
 
-    ghost invariant = { λ r. (r.position ≤ vec_len r.buffer) × IsStream (record { fault = r.fault; rest = drop r.position r.buffer.items }) };
+    ghost view = { stream_of };
+
+    ghost invariant = { IsReader };
 }
 
 impl FrameReader {
@@ -38,15 +45,24 @@ impl FrameReader {
         FrameReader {
             buffer: Vec::new(alloc),
             position: 0,
+            begun: Begun::none(),
             fault: None,
+            version: VERSION,
         }
     }
 
-    /// Takes the next bytes of the stream.
+    /// The version of the last Hello that `next` gave, 1 before any.
+    pub fn version(&self) -> u8
+        ensures { result ≡ self.now.version }
+    {
+        self.version
+    }
+
+    /// Takes the next bytes of the stream. Where there is no memory for them, nothing was taken.
     pub fn feed(&mut self, bytes: &[u8]) -> Result<(), Memory>
         ensures ok { OnOk result (self.new ≡ fed self.old bytes.now) }
         ensures unchanged { OnErr result (self.new ≡ self.old) }
-        ensures federate_record { IsSome self.old.fault → IsOk result }
+        ensures faulty { IsSome self.old.fault → IsOk result }
         ensures no_bytes { bytes.now ≡ [] → IsOk result }
     {
         if self.fault.is_some() || bytes.is_empty() {
@@ -57,7 +73,8 @@ impl FrameReader {
         Ok(())
     }
 
-    /// The next frame, or None where the bytes so far end inside it. An error comes again for good.
+    /// The next frame, or None where the bytes so far end inside it. A Batch that has a fault gives none of its frames. An
+    /// error comes again for good. This takes no memory.
     pub fn next(&mut self) -> Result<Option<Frame>, FrameFault>
         ensures gives { Gives self.old result self.new }
         ensures only { (answer : Result (Option Frame) FrameFault) (after : Stream) → Gives self.old answer after → (result ≡ answer) × (self.new ≡ after) }
@@ -72,10 +89,17 @@ impl FrameReader {
         if let Some(fault) = self.fault {
             return Err(fault);
         }
-        match front_of(&self.buffer[self.position..]) {
-            Ok(Some((frame, size))) => {
-                self.position += size;
-                Ok(Some(frame))
+        if self.begun.count > 0 {
+            let (frame, size) = self.begun.give(&self.buffer[self.position..]);
+            self.position += size;
+            return Ok(Some(frame));
+        }
+        match front_of(&self.buffer[self.position..], self.version) {
+            Ok(Some(front)) => {
+                self.position += front.size;
+                self.begun = front.begun;
+                self.version = front.version;
+                Ok(Some(front.frame))
             }
             Ok(None) => Ok(None),
             Err(fault) => {
@@ -85,8 +109,8 @@ impl FrameReader {
         }
     }
 
-    // Lets go of the bytes that were read, once they are as many as those that are left: so no more
-    // bytes are ever moved than are let go.
+    // Discards the bytes that were read, once they are as many as those that are left: so no more bytes are ever moved than
+    // are discarded.
     fn discard(&mut self)
         ensures { self.new ≡ self.old }
     {

@@ -3,11 +3,14 @@
 /// Bytes of the length that stands in front of each body.
 pub const LENGTH_SIZE: usize = 4;
 
-/// The longest body of a frame, in bytes.
-pub const LONGEST_BODY: usize = 64;
+/// The longest body of a frame, in bytes: that of a Batch of 64 MSGs.
+pub const LONGEST_BODY: usize = 1486;
 
-/// The version that is written into a Hello. A Hello of any version from 1 on is read.
+/// The version that `write_frame` writes into a Hello. A Hello of any version from 1 on is read.
 pub const VERSION: u8 = 1;
+
+/// From this version on a peer may be sent a Batch.
+pub const BATCHING: u8 = 2;
 
 /// The first byte of a Hello's body.
 pub const HELLO_KIND: u8 = 1;
@@ -32,6 +35,18 @@ pub const ACK_SIZE: usize = 13;
 
 /// Bytes of a Refuse's body.
 pub const REFUSE_SIZE: usize = 7;
+
+/// The first byte of a Batch's body.
+pub const BATCH_KIND: u8 = 5;
+
+/// Bytes of a Batch's body in front of its signals.
+pub const BEFORE_SIGNALS: usize = 14;
+
+/// The fewest signals of a Batch.
+pub const LEAST_SIGNALS: usize = 2;
+
+/// The most signals of a Batch.
+pub const MOST_SIGNALS: usize = 64;
 
 /// The first byte of a NET.
 pub const NET_KIND: u8 = 1;

@@ -6,7 +6,8 @@ use std::alloc::{AllocError, Global};
 use std::test::Fail;
 use tag::{FiniteTag, Tag, Time};
 
-const HELLO: [u8; 20] = [
+/// Of version 1, which is the byte at place 5.
+pub(crate) const HELLO: [u8; 20] = [
     0, 0, 0, 0x10, 0x01, 0x01, 0, 0, 0, 0, 0, 1, 0, 0, 0, 0, 0, 0, 0, 0,
 ];
 
@@ -35,11 +36,11 @@ const LTC: [u8; 30] = [
 ];
 
 /// At 10 ms.
-fn finite(microstep: u32) -> FiniteTag {
+pub(crate) fn finite(microstep: u32) -> FiniteTag {
     FiniteTag::new(Time::new(10_000_000).unwrap(), microstep)
 }
 
-fn data(number: u64, signal: Signal) -> Frame {
+pub(crate) fn data(number: u64, signal: Signal) -> Frame {
     Frame::Data {
         incarnation: 1,
         number,
@@ -104,7 +105,7 @@ fn not_given<'a>(reader: &mut FrameReader, frames: &'a [Frame]) -> Option<&'a [F
     None
 }
 
-fn gives(reader: &mut FrameReader, frames: &[Frame]) -> bool {
+pub(crate) fn gives(reader: &mut FrameReader, frames: &[Frame]) -> bool {
     matches!(not_given(reader, frames), Some([]))
 }
 
@@ -134,7 +135,7 @@ fn writes_and_reads_each_kind_of_frame(rt: HostRuntime) {
 }
 
 /// Whether the bytes, fed in pieces of this size, are read as these frames.
-fn are_read(alloc: Global, bytes: &[u8], size: usize, frames: &[Frame]) -> bool
+pub(crate) fn are_read(alloc: Global, bytes: &[u8], size: usize, frames: &[Frame]) -> bool
     requires { 0 < size }
 {
     let mut reader = FrameReader::new(alloc);
@@ -171,12 +172,14 @@ fn reads_frames_in_any_pieces(rt: HostRuntime) -> Result<(), Fail> {
 }
 
 /// Bytes, and the number of the refusal that they meet.
-const REFUSED: [(&[u8], u16); 15] = [
+const REFUSED: [(&[u8], u16); 16] = [
     (&[0, 0, 0, 0], 40),
-    (&[0, 0, 0, 0x41], 40),
+    (&[0, 0, 0x05, 0xcf], 40),
     (&[0xff, 0, 0, 0], 40),
     // an Ack needs 13 bytes
     (&[0, 0, 0, 5, 0x03, 0, 0, 0, 1], 40),
+    // a Batch needs 14 bytes
+    (&[0, 0, 0, 1, 0x05], 40),
     // no signal byte
     (
         &[0, 0, 0, 0x0d, 0x02, 0, 0, 0, 1, 0, 0, 0, 0, 0, 0, 0, 1],

@@ -72,21 +72,30 @@ fn reads_replay(rt: HostRuntime) {
     }
 }
 
-/// Words of a run of `f` and `-`, and the turns of each runner.
-const RUNS: &[(&[&str], u32)] = &[
-    (&["run", "f", "-"], 1_000_000),
-    (&["run", "f", "-", "--turns", "0"], 0),
-    (&["run", "--turns=007", "f", "-"], 7),
-    (&["run", "f", "--turns", "4294967295", "-"], 4_294_967_295),
+/// Words of a run of `f` and `-`, the turns of each runner, and the version of frames.
+const RUNS: &[(&[&str], u32, u8)] = &[
+    (&["run", "f", "-"], 1_000_000, 2),
+    (&["run", "f", "-", "--turns", "0"], 0, 2),
+    (&["run", "--turns=007", "f", "-"], 7, 2),
+    (
+        &["run", "f", "--turns", "4294967295", "-"],
+        4_294_967_295,
+        2,
+    ),
+    (&["run", "f", "-", "--frames", "1"], 1_000_000, 1),
+    (&["run", "--frames=2", "f", "-"], 1_000_000, 2),
+    (&["run", "f", "-", "--frames", "02"], 1_000_000, 2),
+    (&["run", "--frames", "1", "f", "-", "--turns", "9"], 9, 1),
 ];
 
 #[test]
 fn reads_run(rt: HostRuntime) {
-    for (words, turns) in RUNS {
+    for (words, turns, frames) in RUNS {
         let run = Request::Run {
             federation: "f",
             inputs: "-",
             turns: *turns,
+            frames: *frames,
         };
         assert!(rt; ask(rt.alloc(), words, Ok(run)), "{words:?}");
     }
@@ -106,8 +115,17 @@ const REFUSED: &[&[&str]] = &[
     &["whole", "f", "-", "4294967296"],
     &["whole", "f", "-i", "4"],
     &["whole", "f", "-", "4", "--until-stuck", "4"],
+    &["whole", "f", "-", "4", "--frames", "1"],
     &["check"],
     &["check", "f", "f"],
+    &["check", "f", "--frames", "1"],
+    &["run", "f", "-", "--frames"],
+    &["run", "f", "-", "--frames", ""],
+    &["run", "f", "-", "--frames", "0"],
+    &["run", "f", "-", "--frames", "3"],
+    &["run", "f", "-", "--frames", "257"],
+    &["run", "f", "-", "--frames", "+1"],
+    &["run", "f", "-", "--frames", "1", "--frames", "1"],
     &["replay", "f", "-"],
     &["replay", "f", "-", "s", "t"],
     &["replay", "f", "-", "s", "--until-stuck"],

@@ -13,6 +13,8 @@ mod alone;
 #[cfg(test)]
 mod asked;
 #[cfg(test)]
+mod batches_sent;
+#[cfg(test)]
 mod breaking;
 #[cfg(test)]
 mod counted;

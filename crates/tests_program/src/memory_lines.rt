@@ -7,7 +7,7 @@ use std::alloc::Global;
 use std::sync::Wait;
 use std::thread::Threads;
 use std::time::Clock;
-use wires::{Endpoint, Gathered, run};
+use wires::{Endpoint, Gathered, Terms, run};
 use wires_transports::{
     Accepted, Acceptor, Connection, Cut, Dial, Ending, MemoryCut, MemoryTransport, Transport, pair,
 };
@@ -102,8 +102,30 @@ pub(crate) fn ran_in_memory<
     gate: &G,
     wrap: W,
 ) -> Option<Gathered<Coordinator<'a>, Federate<'a>>> {
+    ran_by_frames(rt, alloc, federation, gate, wrap, 2)
+}
+
+/// The same, where federates write this version of frames.
+pub(crate) fn ran_by_frames<
+    'a,
+    R: Threads + Wait + Clock + Sync,
+    G: Gate + Sync,
+    T: Transport + Send,
+    W: Wrap<T> + Copy + Send + Drop,
+>(
+    rt: &R,
+    alloc: Global,
+    federation: &'a Federation,
+    gate: &G,
+    wrap: W,
+    frames: u8,
+) -> Option<Gathered<Coordinator<'a>, Federate<'a>>> {
     let nodes = nodes_of(alloc, federation)?;
     let lines = lines(alloc, nodes.federates.len(), wrap)?;
-    let left = run(rt, alloc, &nodes, lines, NoEntrance, gate, 100_000).ok()?;
+    let terms = Terms {
+        turns: 100_000,
+        frames,
+    };
+    let left = run(rt, alloc, &nodes, lines, NoEntrance, gate, terms).ok()?;
     nodes.gather(alloc, left).ok()
 }

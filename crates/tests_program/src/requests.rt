@@ -11,6 +11,9 @@ const REFUSED: &[&[&str]] = &[
     &["--help"],
     &["run"],
     &["run", "fed.toml", "-", "--turns", "x"],
+    &["run", "fed.toml", "-", "--frames", "0"],
+    &["run", "fed.toml", "-", "--frames", "3"],
+    &["run", "fed.toml", "-", "--frames", "2", "--frames", "2"],
 ];
 
 #[test]

@@ -6,6 +6,7 @@ use fedrun_run::{AuditedFault, print_audited_run};
 use std::net::{Net, TcpListener, TcpStream};
 use std::test::Fail;
 use tests_samples::COUNTER;
+use wires::Terms;
 
 /// Prints the rows of a run of at most so many turns; whether it is printed that the run isn't finished.
 fn is_unfinished<R: Machine + Net<Stream = TcpStream, Listener = TcpListener>>(
@@ -20,7 +21,7 @@ fn is_unfinished<R: Machine + Net<Stream = TcpStream, Listener = TcpListener>>(
         &federation.plan,
         &federation.programs,
         &federation.inputs,
-        turns,
+        Terms { turns, frames: 2 },
         out,
     ) {
         Ok(()) => Some(false),

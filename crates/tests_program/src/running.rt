@@ -8,7 +8,7 @@ use reactor::Rows;
 use std::alloc::Global;
 use std::net::{Net, TcpListener, TcpStream};
 use tests_samples::COUNTER;
-use wires::{Gathered, run_over_tcp};
+use wires::{Gathered, Terms, run_over_tcp};
 use wires_workers::NoGate;
 
 /// The desks after a run over TCP; None where there are none.
@@ -18,7 +18,7 @@ fn ran<'a, R: Machine + Net<Stream = TcpStream, Listener = TcpListener>>(
     turns: u32,
 ) -> Option<Gathered<Coordinator<'a>, Federate<'a>>> {
     let nodes = nodes_of(rt.alloc(), federation)?;
-    let left = run_over_tcp(rt, rt.alloc(), &nodes, &NoGate, turns).ok()?;
+    let left = run_over_tcp(rt, rt.alloc(), &nodes, &NoGate, Terms { turns, frames: 2 }).ok()?;
     nodes.gather(rt.alloc(), left).ok()
 }
 

@@ -54,6 +54,16 @@ fn prints_rows_federate_by_federate(rt: HostRuntime) {
     }
 }
 
+#[test]
+fn prints_the_same_rows_by_each_version_of_frames(rt: HostRuntime) {
+    for version in ["1", "2"] {
+        let words = ["run", "fed.toml", "in.toml", "--frames", version];
+        for (federation, inputs, rows) in ROWS {
+            assert_answers(&rt, &words, &[*federation], &[*inputs], (0, rows, ""));
+        }
+    }
+}
+
 /// So few turns of each runner aren't enough for the counter.
 #[test]
 fn prints_that_a_run_of_too_few_turns_is_not_finished(rt: HostRuntime) {

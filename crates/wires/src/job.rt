@@ -14,8 +14,8 @@ use wires_workers::{Context, Gate, WakeUps, WriterQueue, read, read_dialed, runn
 /// What one thread does.
 #[derive(Drop)]
 pub enum Job<'a, H: Node, M: Node, G: Gate, T: Drop, C: Drop, D: Drop, E: Drop> {
-    /// Writes what a node sends to one peer.
-    Write(&'a WriterQueue<T, C>, &'a Ending),
+    /// Writes what a node sends to one peer, by this version of frames.
+    Write(&'a WriterQueue<T, C>, &'a Ending, u8),
     /// Runs a federate for so many turns.
     Run(Context<'a, M, G, T, C>, &'a WakeUps, u32),
     /// Lets connections in.
@@ -43,8 +43,8 @@ impl<'a, H: Node, M: Node, G: Gate, T: Transport, C: Cut, D: Dial<T, C> + Drop, 
     for Job<'a, H, M, G, T, C, D, E> {
     fn work<R: Wait + Clock>(self, rt: &R, alloc: Global) -> Option<WorkerResult> {
         match self {
-            Job::Write(queue, ending) => {
-                write(rt, alloc, queue, ending);
+            Job::Write(queue, ending, frames) => {
+                write(rt, alloc, queue, ending, frames);
                 None
             }
             Job::LetIn(acceptor, ending) => {

@@ -14,11 +14,13 @@ pub mod node_workers;
 pub mod nodes;
 pub mod run_fault;
 pub mod running;
+pub mod terms;
 
 pub use job::{Job, Work, WorkerResult, start};
 pub use node_workers::{NodeWorkers, channels};
 pub use nodes::{Gathered, Nodes};
 pub use run_fault::{Cause, RunFault};
 pub use running::{Endpoint, run, run_over_tcp};
+pub use terms::Terms;
 pub use wires_transports::Transport;
 pub use wires_workers::{Gate, Point};

@@ -3,7 +3,7 @@
 //! A federate has three threads: one reads, one writes, one runs. The coordinator has two for each federate, which read and write, and one
 //! more that lets connections in. They end in any case: a runner sees within its turns that the run is to end, then writers
 //! do, then readers come to the end of what was sent.
-use crate::{Cause, Job, NodeWorkers, Nodes, RunFault, WorkerResult, channels, start};
+use crate::{Cause, Job, NodeWorkers, Nodes, RunFault, Terms, WorkerResult, channels, start};
 use crossbeam_channel::Receiver;
 use desk::Shared;
 use node::{Node, NodeId};
@@ -41,6 +41,9 @@ struct Dialers<D: Drop, E: Drop> {
     acceptor: E,
 }
 
+// The version of frames that the coordinator writes.
+const COORDINATOR_FRAMES: u8 = 2;
+
 // What all jobs of a run are passed.
 #[derive(Drop)]
 struct RunContext<'a, 'n, H: Node, M: Node, G: Gate, T: Drop, C: Drop> {
@@ -48,10 +51,10 @@ struct RunContext<'a, 'n, H: Node, M: Node, G: Gate, T: Drop, C: Drop> {
     federates: &'a [Linked<'n, M, T, C>],
     gate: &'a G,
     ending: &'a Ending,
-    turns: u32,
+    terms: Terms,
 }
 
-/// Runs a federation in threads, until the coordinator is finished or a federate's runner has made so many turns; what its workers leave. All
+/// Runs a federation in threads, until the coordinator is finished or a federate's runner has made its turns; what its workers leave. All
 /// of them have ended when it returns, and the run is at its end. Where a thread can't be started, the others end: `NoThread`.
 pub fn run<
     R: Threads + Wait + Clock + Sync,
@@ -69,9 +72,9 @@ pub fn run<
     lines: Vec<Endpoint<D, T, C>>,
     acceptor: E,
     gate: &G,
-    turns: u32,
+    terms: Terms,
 ) -> Result<Vec<Option<WorkerResult>>, RunFault> {
-    let results = run_lines(rt, alloc, nodes, lines, acceptor, gate, turns);
+    let results = run_lines(rt, alloc, nodes, lines, acceptor, gate, terms);
     nodes.ending.set();
     results
 }
@@ -93,7 +96,7 @@ fn run_lines<
     lines: Vec<Endpoint<D, T, C>>,
     acceptor: E,
     gate: &G,
-    turns: u32,
+    terms: Terms,
 ) -> Result<Vec<Option<WorkerResult>>, RunFault> {
     let coordinator = NodeWorkers::new(
         alloc,
@@ -111,7 +114,7 @@ fn run_lines<
         &federates,
         dialers,
         gate,
-        turns,
+        terms,
         &nodes.ending,
     )
 }
@@ -161,7 +164,7 @@ fn run_all<
     federates: &'a [Linked<'n, M, T, C>],
     dialers: Dialers<D, E>,
     gate: &'a G,
-    turns: u32,
+    terms: Terms,
     ending: &'a Ending,
 ) -> Result<Vec<Option<WorkerResult>>, RunFault> {
     if federates.is_empty() {
@@ -172,7 +175,7 @@ fn run_all<
         federates,
         gate,
         ending,
-        turns,
+        terms,
     };
     let jobs = jobs_of(alloc, &run, dialers)?;
     start(rt, alloc, jobs, ending)
@@ -197,22 +200,33 @@ fn add_workers<'a, 'n, H: Node, M: Node, G: Gate, T: Drop, C: Drop, D: Drop, E: 
     jobs: &mut Vec<Job<'a, H, M, G, T, C, D, E>>,
     run: &RunContext<'a, 'n, H, M, G, T, C>,
 ) -> Result<(), RunFault> {
-    add_writers(jobs, &run.coordinator.writers, run.ending)?;
+    add_writers(
+        jobs,
+        &run.coordinator.writers,
+        run.ending,
+        COORDINATOR_FRAMES,
+    )?;
     for federate in run.federates {
-        add_writers(jobs, &federate.workers.writers, run.ending)?;
+        add_writers(
+            jobs,
+            &federate.workers.writers,
+            run.ending,
+            run.terms.frames,
+        )?;
         add_runner(jobs, run, &federate.workers)?;
     }
     Ok(())
 }
 
-// Adds a node's writers.
+// Adds a node's writers, which write this version of frames.
 fn add_writers<'a, H: Node, M: Node, G: Gate, T: Drop, C: Drop, D: Drop, E: Drop>(
     jobs: &mut Vec<Job<'a, H, M, G, T, C, D, E>>,
     writers: &'a [WriterQueue<T, C>],
     ending: &'a Ending,
+    frames: u8,
 ) -> Result<(), RunFault> {
     for writer in writers {
-        jobs.push(Job::Write(writer, ending))?;
+        jobs.push(Job::Write(writer, ending, frames))?;
     }
     Ok(())
 }
@@ -224,7 +238,11 @@ fn add_runner<'a, 'n, H: Node, M: Node, G: Gate, T: Drop, C: Drop, D: Drop, E: D
     workers: &'a NodeWorkers<'n, M, T, C>,
 ) -> Result<(), RunFault> {
     if let Some(wake_ups) = &workers.runner {
-        jobs.push(Job::Run(workers.context(run.gate, run.ending), wake_ups, run.turns))?;
+        jobs.push(Job::Run(
+            workers.context(run.gate, run.ending),
+            wake_ups,
+            run.terms.turns,
+        ))?;
     }
     Ok(())
 }
@@ -255,10 +273,10 @@ pub fn run_over_tcp<
     alloc: Global,
     nodes: &Nodes<H, M>,
     gate: &G,
-    turns: u32,
+    terms: Terms,
 ) -> Result<Vec<Option<WorkerResult>>, RunFault> {
     match open(rt, alloc, nodes.federates.len()) {
-        Ok((lines, acceptor)) => run(rt, alloc, nodes, lines, acceptor, gate, turns),
+        Ok((lines, acceptor)) => run(rt, alloc, nodes, lines, acceptor, gate, terms),
         Err(fault) => {
             nodes.ending.set();
             Err(fault)

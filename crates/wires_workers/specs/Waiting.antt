@@ -1,16 +1,24 @@
--- The frames that wait for a writer's next send.
-use Rattle.std.specs.Prelude.{ℕ, Bool, false, ◌&&◌, if◌then◌else◌, nat_eq, nat_le, List, [], ◌++◌, Option, None, Some}
+-- The frames that wait for a writer's next send, and the versions by which they are written.
+use Rattle.std.specs.Prelude.{ℕ, Bool, false, ◌&&◌, if◌then◌else◌, nat_eq, nat_le, List, [], ◌∷◌, ◌++◌, Option, None, Some}
 use Rattle.signal.specs.declared.frame.Frame.{Frame}
 use Rattle.signal.specs.declared.frame.Frame.TheVariants.{Hello, Data, Ack, Refuse}
-use Rattle.signal.specs.Frame.{frame_bytes}
+use Rattle.signal.specs.Cut.{written}
 
--- the bytes of the frames that wait, and behind them the last Ack, if one waits
+-- the node's own version, that of the peer's last Hello on this connection, the frames that wait, and behind them the last Ack, if
+-- one waits
 pub record Waiting : Type 0 where
-  pub bytes : List ℕ
+  pub own : ℕ
+  pub peer : ℕ
+  pub frames : List Frame
   pub ack : Option Frame
 
-abbrev pub nothing : Waiting
-nothing = record { bytes = []; ack = None }
+-- nothing waits on a new connection: no Hello has come on it, so its peer is taken to read version 1 alone
+abbrev pub fresh : ℕ → Waiting
+fresh own = record { own = own; peer = 1; frames = []; ack = None }
+
+-- nothing waits any more
+abbrev pub emptied : Waiting → Waiting
+emptied w = record w { frames = []; ack = None }
 
 -- where this frame is an Ack, the other one needn't be sent besides: it is an Ack of the same incarnation, and says no more
 abbrev pub covers : Frame → Frame → Bool
@@ -22,24 +30,28 @@ covers (Hello hello) frame = false
 covers (Data incarnation number signal) frame = false
 covers (Refuse incarnation refusal) frame = false
 
--- the bytes of the Ack, if one waits
-abbrev pub ack_bytes : Option Frame → List ℕ
-ack_bytes None = []
-ack_bytes (Some ack) = frame_bytes ack
+-- the Ack, if one waits
+abbrev pub acks : Option Frame → List Frame
+acks None = []
+acks (Some ack) = ack ∷ []
 
 -- all that is to be sent, in this order
-abbrev pub all_bytes : Waiting → List ℕ
-all_bytes w = w.bytes ++ ack_bytes w.ack
+abbrev pub all_frames : Waiting → List Frame
+all_frames w = w.frames ++ acks w.ack
 
--- the bytes of the Ack that waits, where the new one doesn't cover it
-abbrev pub uncovered : Option Frame → Frame → List ℕ
+-- its bytes
+abbrev pub all_bytes : Waiting → List ℕ
+all_bytes w = written w.own w.peer (all_frames w)
+
+-- the Ack that waits, where the new one doesn't cover it
+abbrev pub uncovered : Option Frame → Frame → List Frame
 uncovered None frame = []
-uncovered (Some ack) frame = if covers frame ack then [] else frame_bytes ack
+uncovered (Some ack) frame = if covers frame ack then [] else ack ∷ []
 
 -- a frame waits too: an Ack in place of the one before, if it covers that
 abbrev pub with_frame : Waiting → Frame → Waiting
 with_frame w (Ack incarnation last_taken) =
-    record { bytes = w.bytes ++ uncovered w.ack (Ack incarnation last_taken); ack = Some (Ack incarnation last_taken) }
-with_frame w (Hello hello) = record w { bytes = w.bytes ++ frame_bytes (Hello hello) }
-with_frame w (Data incarnation number signal) = record w { bytes = w.bytes ++ frame_bytes (Data incarnation number signal) }
-with_frame w (Refuse incarnation refusal) = record w { bytes = w.bytes ++ frame_bytes (Refuse incarnation refusal) }
+    record w { frames = w.frames ++ uncovered w.ack (Ack incarnation last_taken); ack = Some (Ack incarnation last_taken) }
+with_frame w (Hello hello) = record w { frames = w.frames ++ Hello hello ∷ [] }
+with_frame w (Data incarnation number signal) = record w { frames = w.frames ++ Data incarnation number signal ∷ [] }
+with_frame w (Refuse incarnation refusal) = record w { frames = w.frames ++ Refuse incarnation refusal ∷ [] }

@@ -220,6 +220,13 @@ impl<'a, N: Node, G: Gate, T: Drop, C: Drop> Context<'a, N, G, T, C> {
         }
     }
 
+    /// Says to a peer's writer which version the peer's Hello on this connection has.
+    pub fn hear<R: Wait>(&self, rt: &R, peer: usize, version: u8) {
+        if let Some(writer) = self.writers.get(peer) {
+            writer.hear(rt, version);
+        }
+    }
+
     /// Hands the frames to their peers' writers, to each its own at once where there is memory to sort them.
     pub fn send<R: Wait>(&self, rt: &R, mut frames: Vec<Outgoing>) {
         if self.writers.len() > 1 {

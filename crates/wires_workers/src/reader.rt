@@ -110,8 +110,9 @@ fn read_on<R: Wait + Clock, N: Node, G: Gate, T: Transport, C: Drop>(
     incoming: &mut T,
     frames: &mut FrameReader,
 ) {
+    let mut heard = frames.version();
     for _ in rt.forever() {
-        match take_some(rt, alloc, context, share, peer, frames) {
+        match take_some(rt, alloc, context, share, peer, frames, &mut heard) {
             Some(true) => {}
             Some(false) if has_read(rt, incoming, frames) => {}
             _ => break,
@@ -129,7 +130,7 @@ fn has_read<R: Wait, T: Transport>(rt: &R, incoming: &mut T, frames: &mut FrameR
 }
 
 // Hands in whole frames, as many as are handed in at once; whether there may be more. What comes after them, and is no frame, is
-// no event: then none.
+// no event: then none. Where a Hello has another version than the last one, the writer hears of it before the node answers.
 fn take_some<R: Wait + Clock, N: Node, G: Gate, T: Drop, C: Drop>(
     rt: &R,
     alloc: Global,
@@ -137,11 +138,18 @@ fn take_some<R: Wait + Clock, N: Node, G: Gate, T: Drop, C: Drop>(
     share: &mut Share,
     peer: usize,
     frames: &mut FrameReader,
+    heard: &mut u8,
 ) -> Option<bool>
-    ensures { (events : List IsEvent) × (stream : Stream) × AreRead peer frames.old events stream × AreHandedIn share.old events share.new × IfSome result (λ _. frames.new ≡ stream) }
+    ensures events { (events : List IsEvent) × (stream : Stream) × AreRead peer frames.old events stream × AreHandedIn share.old events share.new × IfSome result (λ _. frames.new ≡ stream) }
+    ensures heard { heard.new ≡ frames.new.version }
 {
     let mut events = Vec::new(alloc);
     let next = collect(peer, frames, &mut events);
+    let version = frames.version();
+    if version != *heard {
+        context.hear(rt, peer, version);
+        *heard = version;
+    }
     context.hand_in(rt, alloc, share, &events);
     next
 }

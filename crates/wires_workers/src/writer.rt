@@ -1,11 +1,11 @@
 //! The worker that writes what a node sends to one peer.
-ghost use Rattle.std.specs.Prelude.{◌≡◌, OnOk, OnErr};
-ghost use Rattle.wires_workers.specs.Waiting.{nothing, with_frame, covers, all_bytes};
+ghost use Rattle.std.specs.Prelude.{◌≡◌, ◌<◌, [], OnOk, OnErr};
+ghost use Rattle.wires_workers.specs.Waiting.{fresh, emptied, with_frame, covers, all_bytes};
 
 use crate::side::Side;
-use crate::writer_queue::WriterQueue;
+use crate::writer_queue::{Asked, WriterQueue};
 use node::Outgoing;
-use signal::{Frame, Memory, write_frame};
+use signal::{Frame, Memory, write_frames};
 use std::alloc::Global;
 use std::marker::Model;
 use std::sync::Wait;
@@ -13,32 +13,45 @@ use std::thread;
 use std::time::Clock;
 use wires_transports::{Cut, Ending, Transport};
 
-/// A writer: the connection on which it writes, if there is one, and what it writes next. Of Acks that a later one covers only
-/// the later one is written, behind all else.
+/// A writer: the connection on which it writes, if there is one, and the frames that it writes next. Of Acks that a later one
+/// covers only the later one is written, behind all else.
 #[derive(Drop)]
 pub struct Writer<T: Drop, C: Drop> {
     side: Option<Side<T, C>>,
-    bytes: Vec<u8>,
+    // The version that its node writes, 1 or more.
+    own: u8,
+    // The version of the peer's last Hello on this connection, 1 before any.
+    peer: u8,
+    frames: Vec<Frame>,
     ack: Option<Frame>,
+    // Room for the bytes of a send.
+    bytes: Vec<u8>,
 }
 
 impl<T: Drop, C: Drop> Model for Writer<T, C> {
+    ghost use Rattle.std.specs.Prelude.{◌<◌};
     ghost use Rattle.wires_workers.specs.Waiting as waiting;
 
     ghost Value = { waiting.Waiting };
 
-    ghost view = { λ w. record { bytes = w.bytes.items; ack = w.ack } };
+    ghost view = { λ w. record { own = w.own; peer = w.peer; frames = w.frames.items; ack = w.ack } };
+
+    ghost invariant = { λ w. 0 < w.own };
 }
 
 impl<T: Transport, C: Cut> Writer<T, C> {
-    /// It has no connection, and nothing to write.
-    pub fn new(alloc: Global) -> Writer<T, C>
-        ensures { result ≡ nothing }
+    /// It has no connection, and nothing to write. Its node writes this version of frames, 1 or more.
+    pub fn new(alloc: Global, own: u8) -> Writer<T, C>
+        requires { 0 < own }
+        ensures { result ≡ fresh own }
     {
         Writer {
             side: None,
-            bytes: Vec::new(alloc),
+            own,
+            peer: 1,
+            frames: Vec::new(alloc),
             ack: None,
+            bytes: Vec::new(alloc),
         }
     }
 
@@ -50,31 +63,46 @@ impl<T: Transport, C: Cut> Writer<T, C> {
         if let Frame::Ack { .. } = frame {
             if let Some(earlier) = &self.ack {
                 if !covers(frame, earlier) {
-                    write_frame(earlier, &mut self.bytes)?;
+                    self.frames.push(*earlier)?;
                 }
             }
             self.ack = Some(*frame);
             Ok(())
         } else {
-            write_frame(frame, &mut self.bytes)
+            self.frames.push(*frame)?;
+            Ok(())
         }
     }
 
-    /// Writes from now on on this connection. What was not yet sent is dropped.
+    /// Writes from now on on this connection. What was not yet sent is dropped, and no Hello has come on it.
     pub fn begin(&mut self, side: Side<T, C>)
-        ensures { self.new ≡ nothing }
+        ensures { self.new ≡ fresh self.old.own }
     {
         self.side = Some(side);
+        self.peer = 1;
         self.clear();
     }
 
-    /// Sends all that is to be written, at once. A connection that fails is cut. An Ack for which there is no memory is lost.
-    pub fn flush<R: Wait>(&mut self, rt: &R)
-        ensures { self.new ≡ nothing }
+    /// The peer's last Hello on this connection has this version.
+    pub fn hear(&mut self, version: u8)
+        ensures { self.new ≡ record self.old { peer = version } }
     {
-        if let Some(ack) = self.ack.take() {
-            let _ = write_frame(&ack, &mut self.bytes);
-        }
+        self.peer = version;
+    }
+
+    /// Sends all that is to be written, at once. A connection that fails is cut. Where there is no memory for the bytes, the
+    /// frames are lost, as on a line that loses frames.
+    pub fn flush<R: Wait>(&mut self, rt: &R)
+        ensures { self.new ≡ emptied self.old }
+    {
+        self.bytes.clear();
+        let _ = write_waiting(
+            &mut self.frames,
+            self.ack,
+            self.own,
+            self.peer,
+            &mut self.bytes,
+        );
         let has_failed = match &mut self.side {
             Some(side) if !self.bytes.is_empty() => side.transport.send(rt, &self.bytes).is_err(),
             _ => false,
@@ -89,9 +117,9 @@ impl<T: Transport, C: Cut> Writer<T, C> {
 
     // Forgets what is to be written.
     fn clear(&mut self)
-        ensures { self.new ≡ nothing }
+        ensures { self.new ≡ emptied self.old }
     {
-        self.bytes.clear();
+        self.frames.clear();
         self.ack = None;
     }
 
@@ -110,6 +138,25 @@ impl<T: Transport, C: Cut> Writer<T, C> {
             let _ = self.add(&outgoing.frame);
         }
     }
+}
+
+// The bytes of all frames, and of the Ack behind them. Where there is no memory, there are none.
+fn write_waiting(
+    frames: &mut Vec<Frame>,
+    ack: Option<Frame>,
+    own: u8,
+    peer: u8,
+    bytes: &mut Vec<u8>,
+) -> Result<(), Memory>
+    requires own { 0 < own }
+    requires none { bytes.old.items ≡ [] }
+    ensures all { OnOk result (bytes.new.items ≡ all_bytes (record { own = own; peer = peer; frames = frames.old.items; ack = ack })) }
+    ensures nothing { OnErr result (bytes.new.items ≡ []) }
+{
+    if let Some(ack) = ack {
+        frames.push(ack)?;
+    }
+    write_frames(frames, own, peer, bytes)
 }
 
 // Whether an Ack needn't be sent where this one is.
@@ -131,23 +178,27 @@ fn covers(frame: &Frame, ack: &Frame) -> bool
     }
 }
 
-/// Writes what is waiting, each time in one send, until the run is to end. What was asked before the end is still written.
+/// Writes what is waiting, each time in one send, until the run is to end, by this version of frames: 1, or 2 or more with Batches
+/// where the peer reads them. What was asked before the end is still written.
 pub fn write<R: Wait + Clock, T: Transport, C: Cut>(
     rt: &R,
     alloc: Global,
     queue: &WriterQueue<T, C>,
     ending: &Ending,
+    own: u8,
 ) {
-    let mut writer = Writer::new(alloc);
+    let mut writer = Writer::new(alloc, own.max(1));
     let mut frames = Vec::new(alloc);
     for _ in rt.forever() {
         // Before it sees whether the run is to end: else the notification of the end may be the one that it has had already.
         queue.look();
         let is_last = ending.is_set();
         frames.clear();
-        if let Some(side) = queue.take(rt, &mut frames) {
+        let Asked { side, peer } = queue.take(rt, &mut frames);
+        if let Some(side) = side {
             writer.begin(side);
         }
+        writer.hear(peer);
         writer.add_all(&frames);
         writer.flush(rt);
         if is_last {

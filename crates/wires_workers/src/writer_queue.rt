@@ -19,18 +19,31 @@ use wires_transports::times::WRITER_WAIT_MS;
 struct Waiting<T: Drop, C: Drop> {
     // The connection on which it writes from now on, if that is a new one.
     side: Option<Side<T, C>>,
+    // The version of the last Hello that came on the connection, 1 before any.
+    peer: u8,
     // What it writes, oldest first.
     frames: Vec<Outgoing>,
+}
+
+/// What a writer is asked beside the frames.
+#[derive(Drop)]
+pub(crate) struct Asked<T: Drop, C: Drop> {
+    /// The connection on which it writes from now on, if that is a new one.
+    pub side: Option<Side<T, C>>,
+    /// The version of the last Hello that came on the connection, 1 before any.
+    pub peer: u8,
 }
 
 impl<T: Drop, C: Drop> Waiting<T, C> {
     // Nothing.
     fn new(alloc: Global) -> Waiting<T, C>
         ensures side { result.side ≡ None }
+        ensures peer { result.peer ≡ 1 }
         ensures frames { result.frames.items ≡ [] }
     {
         Waiting {
             side: None,
+            peer: 1,
             frames: Vec::new(alloc),
         }
     }
@@ -39,15 +52,27 @@ impl<T: Drop, C: Drop> Waiting<T, C> {
     // greeted.
     fn begin(&mut self, side: Side<T, C>, greeting: Vec<Outgoing>)
         ensures side { self.new.side ≡ Some side }
+        ensures peer { self.new.peer ≡ 1 }
         ensures frames { self.new.frames.items ≡ greeting.items }
     {
         self.side = Some(side);
+        self.peer = 1;
         self.frames = greeting;
+    }
+
+    // The peer's last Hello has this version.
+    fn hear(&mut self, version: u8)
+        ensures side { self.new.side ≡ self.old.side }
+        ensures peer { self.new.peer ≡ version }
+        ensures frames { self.new.frames.items ≡ self.old.frames.items }
+    {
+        self.peer = version;
     }
 
     // More frames, behind all others.
     fn add(&mut self, frames: &[Outgoing]) -> Result<(), AllocError>
         ensures side { self.new.side ≡ self.old.side }
+        ensures peer { self.new.peer ≡ self.old.peer }
         ensures frames { OnOk result (self.new.frames.items ≡ self.old.frames.items ++ frames.now) }
         ensures unchanged { OnErr result (self.new.frames.items ≡ self.old.frames.items) }
     {
@@ -55,15 +80,20 @@ impl<T: Drop, C: Drop> Waiting<T, C> {
     }
 
     // All that it does next, in exchange for room without frames.
-    fn take(&mut self, frames: &mut Vec<Outgoing>) -> Option<Side<T, C>>
+    fn take(&mut self, frames: &mut Vec<Outgoing>) -> Asked<T, C>
         requires { frames.old.items ≡ [] }
-        ensures side { result ≡ self.old.side }
+        ensures side { result.side ≡ self.old.side }
+        ensures peer { result.peer ≡ self.old.peer }
         ensures frames { frames.new.items ≡ self.old.frames.items }
         ensures no_side { self.new.side ≡ None }
+        ensures same_peer { self.new.peer ≡ self.old.peer }
         ensures no_frames { self.new.frames.items ≡ [] }
     {
         mem::swap(&mut self.frames, frames);
-        self.side.take()
+        Asked {
+            side: self.side.take(),
+            peer: self.peer,
+        }
     }
 }
 
@@ -99,6 +129,12 @@ impl<T: Drop, C: Drop> WriterQueue<T, C> {
         self.notify(rt);
     }
 
+    /// Says which version the peer's Hello on this connection has: what is written from now on, and waits already, may be of it.
+    pub fn hear<R: Wait>(&self, rt: &R, version: u8) {
+        let mut waiting = self.waiting.lock(rt);
+        waiting.hear(version);
+    }
+
     /// Asks the writer to send these frames, in this order. Where there is no memory for them, they are lost, as on a line that
     /// loses frames.
     pub fn send<R: Wait>(&self, rt: &R, frames: &[Outgoing]) {
@@ -121,7 +157,7 @@ impl<T: Drop, C: Drop> WriterQueue<T, C> {
     }
 
     /// All that the writer is asked, in exchange for room without frames.
-    pub(crate) fn take<R: Wait>(&self, rt: &R, frames: &mut Vec<Outgoing>) -> Option<Side<T, C>>
+    pub(crate) fn take<R: Wait>(&self, rt: &R, frames: &mut Vec<Outgoing>) -> Asked<T, C>
         requires { frames.old.items ≡ [] }
     {
         let mut waiting = self.waiting.lock(rt);

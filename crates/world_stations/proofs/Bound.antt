@@ -3,7 +3,7 @@ use Rattle.std.proofs.Common.{◌≡◌, ◌≢◌, ℕ, ◌+◌, ◌≤◌, Boo
 use Rattle.std.specs.Prelude.{nat_eq, ◌-◌, ◌&&◌, not}
 use Rattle.std.proofs.lemmas.Bool.Decides.{nat_tests}
 use Rattle.std.proofs.lemmas.List.{length_push, length-set, length-map}
-use Rattle.link.proofs.Numbered.{length-numbered}
+use Rattle.signal.proofs.Numbered.{length-numbered}
 use Rattle.node.proofs.Posts.{all_posted_bare}
 use Rattle.node.specs.Mail.{bare}
 use Rattle.std.proofs.Common.{length-drop}
@@ -14,7 +14,7 @@ use Rattle.link.specs.declared.arrival.Arrival.{Arrival}
 use Rattle.link.specs.declared.arrival.Arrival.TheVariants as arrival
 use Rattle.link.specs.declared.fault.LinkFault.{LinkFault}
 use Rattle.link.specs.Fault.{number_of as number_of_fault}
-use Rattle.link.specs.Answer.{numbered}
+use Rattle.signal.specs.Batch.{numbered}
 use Rattle.link.specs.Image.{Image, room_left, offer_of, after_offer, answer_of, after_frame, after_close, resent_by, ack_of, hello_of}
 use Rattle.protocol.specs.declared.post.Post.{Post}
 use Rattle.node.specs.declared.outgoing.Outgoing.{Outgoing}

@@ -7,7 +7,7 @@ use Rattle.std.proofs.lemmas.Bool.{eqb-true, eqb-false, eq-eqb}
 use Rattle.signal.specs.declared.signal.Signal.{Signal}
 use Rattle.signal.specs.declared.frame.Frame.{Frame}
 use Rattle.signal.specs.declared.frame.Frame.TheVariants.{Data}
-use Rattle.link.specs.Answer.{numbered}
+use Rattle.signal.specs.Batch.{numbered}
 use Rattle.link.specs.Image.{Image, last_number, room_left, offer_of, after_offer}
 use Rattle.protocol.specs.declared.post.Post.{Post}
 use Rattle.protocol.specs.Machine.{sent_to}

@@ -1,7 +1,7 @@
 use Rattle.std.proofs.Common.{◌+◌, drop}
 use Rattle.network_laws.proofs.Lists.{from_each}
 use Rattle.link_laws.specs.Way.{IsSaid}
-use Rattle.link.specs.Answer.{numbered}
+use Rattle.signal.specs.Batch.{numbered}
 use Rattle.link_laws.proofs.Ways.{way_with_more, way_with_old, resent_said}
 use Rattle.link_laws.proofs.a_direction_says_what_it_offered.Goals as goal
 

@@ -25,7 +25,7 @@ pub returns-in-Replay-clause-stands : goal.returns-in-Replay-clause-stands
 returns-in-Replay-clause-stands g c = IfErr-weaker c.replay.result _ _ (λ fault stands. refused.more (Replay c.in-Replay.federation c.in-Replay.inputs c.in-Replay.schedule c.in-Replay.until_stuck) stands) c.replay.ensures.stands
 
 pub returns-in-Run-clause-ok : goal.returns-in-Run-clause-ok
-returns-in-Run-clause-ok g c = on_ok_weaker c.run.result (λ done. printed.more (Run c.in-Run.federation c.in-Run.inputs c.in-Run.turns) done) c.run.ensures.ok
+returns-in-Run-clause-ok g c = on_ok_weaker c.run.result (λ done. printed.more (Run c.in-Run.federation c.in-Run.inputs c.in-Run.turns c.in-Run.frames) done) c.run.ensures.ok
 
 pub returns-in-Run-clause-stands : goal.returns-in-Run-clause-stands
-returns-in-Run-clause-stands g c = IfErr-weaker c.run.result _ _ (λ fault stands. refused.more (Run c.in-Run.federation c.in-Run.inputs c.in-Run.turns) stands) c.run.ensures.stands
+returns-in-Run-clause-stands g c = IfErr-weaker c.run.result _ _ (λ fault stands. refused.more (Run c.in-Run.federation c.in-Run.inputs c.in-Run.turns c.in-Run.frames) stands) c.run.ensures.stands

@@ -1,7 +1,7 @@
 use Rattle.std.proofs.Common.{◌+◌, arith}
 use Rattle.std.proofs.lemmas.Iterator.Consumers.{YieldsList-from_deque, YieldsList-turn}
 use Rattle.std.proofs.lemmas.List.{length_push}
-use Rattle.link.proofs.Numbered.{numbered-push}
+use Rattle.signal.proofs.Numbered.{numbered-push}
 use Rattle.link.proofs.link_end.data_frames.Goals as goal
 
 pub overflow_add-number : goal.overflow_add-number

@@ -1,6 +1,6 @@
 use Rattle.std.proofs.Common.{◌≡◌, ◌+◌, length, map, vec_len}
 use Rattle.std.specs.Vec.{vec_capacity}
-use Rattle.link.specs.Answer.{numbered}
+use Rattle.signal.specs.Batch.{numbered}
 use Rattle.link.proofs.link_end.data_frames.Given as goal
 
 -- the frames of the signals so far, and place for those of all

@@ -4,6 +4,6 @@ use Rattle.signal.proofs.Framing.{same_reading}
 use Rattle.signal.proofs.laws.one_reading.Goals as goal
 
 pub returns : goal.returns
-returns c = λ a b x y f g p q e.
-    let both = same_reading a b x y f g p q e in
-    (both.0, append_cancel_right a b y (ap (λ (r : List ℕ). a ++ r) (sym both.1) ∙ e), both.1)
+returns c = λ a b x y frames others p q e.
+    let both = same_reading a b x y frames others p q e in
+    (both.frames_are, append_cancel_right a b y (ap (λ (r : List ℕ). a ++ r) (sym both.rest_is) ∙ e), both.rest_is)

@@ -1,22 +1,18 @@
-use Rattle.std.proofs.Common.{refl}
+use Rattle.std.proofs.Common.{arith, lit<}
 use Rattle.signal.specs.Frame.{frame_bytes}
-use Rattle.signal.specs.declared.frame.Frame.{Frame}
-use Rattle.signal.specs.declared.frame.Frame.TheVariants.{Hello, Data, Ack}
-use Rattle.signal.proofs.Writing.{written_as}
+use Rattle.signal.proofs.Appended.{all_written, as_before}
+use Rattle.signal.proofs.Readable.{frame_spells}
 use Rattle.signal.proofs.write.write_frame.Goals as goal
 
-pub returns-in-Hello-clause-written : goal.returns-in-Hello-clause-written
-returns-in-Hello-clause-written c =
-    written_as c.args.frame.now (Hello c.in-Hello.hello) c.hello_bytes.result c.args.bytes.now.items c.append.new.bytes.items c.append.result
-    c.in-Hello.is c.hello_bytes.ensures c.append.ensures.written
+pub returns-clause-written : goal.returns-clause-written
+returns-clause-written c =
+    all_written c.write_by-result.result c.or_as_before.result c.args.bytes.now.items c.write_by-result.new.bytes.items c.or_as_before.new.bytes.items (frame_bytes c.args.frame.now)
+    c.or_as_before.ensures.same c.or_as_before.ensures.all c.write_by-result.ensures.written
 
-pub returns-in-Data-clause-written : goal.returns-in-Data-clause-written
-returns-in-Data-clause-written c =
-    let told : Frame = Data c.in-Data.incarnation c.in-Data.number c.in-Data.signal in
-    written_as c.args.frame.now told (frame_bytes told) c.args.bytes.now.items c.write_data.new.bytes.items c.write_data.result
-    c.in-Data.is refl c.write_data.ensures.written
+pub returns-clause-unchanged : goal.returns-clause-unchanged
+returns-clause-unchanged c =
+    as_before c.write_by-result.result c.or_as_before.result c.len-before.result c.args.bytes.now.items c.write_by-result.new.bytes.items c.or_as_before.new.bytes.items
+    c.or_as_before.ensures.same (omega (arith, c.args.bytes.now.ok.0, c.len-before.ensures)) c.or_as_before.ensures.nothing c.write_by-result.ensures.extended
 
-pub returns-in-Ack-clause-written : goal.returns-in-Ack-clause-written
-returns-in-Ack-clause-written c =
-    written_as c.args.frame.now (Ack c.in-Ack.incarnation c.in-Ack.last_taken) c.ack_bytes.result c.args.bytes.now.items c.append-in-Ack.new.bytes.items c.append-in-Ack.result
-    c.in-Ack.is c.ack_bytes.ensures c.append-in-Ack.ensures.written
+pub returns-clause-readable : goal.returns-clause-readable
+returns-clause-readable c = frame_spells 1 c.args.frame.now (lit< tt) (lit< tt) c.write_by-result.ensures.is_frame

@@ -2,7 +2,7 @@
 use Rattle.std.proofs.Common.{◌≡◌, ℕ, zero, suc, ◌+◌, List, [], ◌∷◌, ◌++◌, length, map, drop, arith, refl, ap}
 use Rattle.signal.specs.declared.signal.Signal.{Signal}
 use Rattle.signal.specs.declared.frame.Frame.TheVariants.{Data}
-use Rattle.link.specs.Answer.{numbered}
+use Rattle.signal.specs.Batch.{numbered}
 
 -- one more signal, read by `v`, is one more frame
 pub numbered-push : {X : Type 0} (v : X → Signal) (incarnation first : ℕ) (xs : List X) (x : X) (n : ℕ) → n ≡ first + length xs →
