@@ -1,6 +1,8 @@
 -- What the program answers.
 -- exit statuses, and how faults are printed
 pub mod Faults
+-- the schedule in a file
+pub mod Schedules
 -- what is printed where all went well
 pub mod Printed
 -- which fault stands where not

@@ -5,14 +5,17 @@ use Rattle.fedrun_files.specs.Loaded.{input_file, HoldsOfSources}
 use Rattle.fedrun_whole.specs.Printed as every
 use Rattle.fedrun_replay.specs.Replayed.{IsReplayed}
 use Rattle.fedrun_run.specs.Printed.{PrintsAudited}
+use Rattle.fedrun_commands.specs.Schedules.{HoldsOfSchedule}
 use Rattle.fedrun_words.specs.declared.request.Request.{Request}
 use Rattle.fedrun_words.specs.declared.request.Request.TheVariants.{Replay, Run}
 
--- what a request of nodes that was done printed, of the federation in a file with the recorded inputs in another: what a schedule's
--- world refuses and the rows after its steps, after closing rounds where some were asked for; or the rows of a run that an audit proved
+-- what a request of nodes that was done printed, of the federation in a file with the recorded inputs in another: what is refused of the
+-- steps that the lines of a third file make, each with its line's number, and of those of closing rounds where some were asked for, and
+-- the rows after them; or the rows of a run that an audit proved
 abbrev pub PrintsFor : Contents → Request → Option (List ℕ) → Option (List ℕ) → Type 0
 PrintsFor contents (Replay federation inputs schedule until_stuck) before after =
-    HoldsOfSources (contents federation.now) (input_file contents inputs.now) (λ s. IsReplayed s.plan s.programs s.inputs until_stuck before after)
+    HoldsOfSources (contents federation.now) (input_file contents inputs.now)
+    (λ s. HoldsOfSchedule (contents schedule.now) s.plan (λ script. IsReplayed s.plan s.programs s.inputs script until_stuck before after))
 PrintsFor contents (Run federation inputs turns frames) before after =
     HoldsOfSources (contents federation.now) (input_file contents inputs.now) (λ s. PrintsAudited s.plan s.programs s.inputs before after)
 PrintsFor contents request before after = ⊥

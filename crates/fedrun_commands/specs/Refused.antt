@@ -2,10 +2,11 @@
 -- writer holds before and after is said of faults that come after that.
 use Rattle.std.specs.Prelude.{◌≡◌, ℕ, ◌⊎◌, List, [], ◌∷◌, ◌++◌, Option, IfSome}
 use Rattle.std.specs.Borrow.{Bor}
+use Rattle.plan.specs.declared.draft.Draft.{Draft}
 use Rattle.world_stations.specs.declared.memory.Memory as steps
 use Rattle.fedrun_script.specs.declared.fault.ScriptFault.{ScriptFault}
 use Rattle.fedrun_script.specs.declared.script.TheConstants.{MOST_BYTES}
-use Rattle.fedrun_script.specs.Scripts.{IsFaultOf as IsScriptFault}
+use Rattle.fedrun_script.specs.Scripts.{Script, IsFaultOf as IsScriptFault}
 use Rattle.fedrun_fault.specs.declared.fault.Fault.{Fault}
 use Rattle.fedrun_fault.specs.declared.fault.Fault.TheVariants.{CannotWrite, More}
 use Rattle.fedrun_files.specs.Answers.{Answer, given}
@@ -21,14 +22,15 @@ use Rattle.desk.specs.declared.memory.Memory as run
 use Rattle.fedrun_whole.specs.Refused as every
 use Rattle.fedrun_words.specs.declared.request.Request.{Request}
 use Rattle.fedrun_words.specs.declared.request.Request.TheVariants.{Replay, Run as RunOf}
+use Rattle.fedrun_commands.specs.Schedules.{HoldsOfSchedule}
 use Rattle.fedrun_commands.specs.declared.fault.NodeFault.{NodeFault}
 use Rattle.fedrun_commands.specs.declared.fault.NodeFault.TheVariants.{Schedule, World, NotFinished, Unproved, Run}
 
--- why the schedule file isn't taken
-pub data IsScheduleFault (name : Bor (List ℕ)) (contents : Contents) (answered : List Answer → Type 0) (fault : Fault NodeFault) : Type 0 where
-  schedule_unread : IsUnread MOST_BYTES name (contents name.now) answered fault → IsScheduleFault name contents answered fault
+-- why the schedule file isn't taken, for this federation
+pub data IsScheduleFault (d : Draft) (name : Bor (List ℕ)) (contents : Contents) (answered : List Answer → Type 0) (fault : Fault NodeFault) : Type 0 where
+  schedule_unread : IsUnread MOST_BYTES name (contents name.now) answered fault → IsScheduleFault d name contents answered fault
   schedule_refused : answered (given name.now ∷ []) → (why : ScriptFault) → fault ≡ More (Schedule why)
-      → IfSome (contents name.now) (λ bytes. IsScriptFault bytes why) → IsScheduleFault name contents answered fault
+      → IfSome (contents name.now) (λ bytes. IsScriptFault d bytes why) → IsScheduleFault d name contents answered fault
 
 -- a run isn't finished, reports of it can't be believed, or there was no memory for it
 abbrev pub IsUnprintedRun : Sources → Fault NodeFault → Type 0
@@ -37,11 +39,11 @@ IsUnprintedRun s fault =
     ⊎ (((failure : AuditFailure) × (fault ≡ More (Unproved failure)) × IsAuditFailure s.plan s.programs s.inputs failure)
     ⊎ ((memory : run.Memory) × (fault ≡ More (Run memory))))
 
--- why a replay breaks off, once all was loaded: it can't be written, or there was no memory for a step; then what was refused of those
--- before it is written
-abbrev pub IsReplayFault : Sources → Option (List ℕ) → Option (List ℕ) → Fault NodeFault → Type 0
-IsReplayFault s before after fault =
-    ((memory : steps.Memory) × (fault ≡ More (World memory)) × IsBrokenOff s.plan s.programs s.inputs before after (broken.World memory))
+-- why a replay of a schedule breaks off, once all was loaded: it can't be written, or there was no memory for a step; then what was refused
+-- of those before it is written
+abbrev pub IsReplayFault : Sources → Script → Option ℕ → Option (List ℕ) → Option (List ℕ) → Fault NodeFault → Type 0
+IsReplayFault s script closing before after fault =
+    ((memory : steps.Memory) × (fault ≡ More (World memory)) × IsBrokenOff s.plan s.programs s.inputs script closing before after (broken.World memory))
     ⊎ (fault ≡ CannotWrite)
 
 -- why a run isn't printed, once all was loaded: it can't be written; or it isn't finished, an audit doesn't believe it, or there was no
@@ -55,8 +57,9 @@ abbrev pub IsFaultOf : Contents → (List Answer → Type 0) → Option (List �
 IsFaultOf contents answered before after (Replay federation inputs schedule until_stuck) fault =
     IsSourcesFault federation inputs contents answered fault
     ⊎ HoldsOfSources (contents federation.now) (input_file contents inputs.now)
-    (λ s. IsScheduleFault schedule contents (λ later. answered (asked_sources federation.now inputs.now ++ later)) fault
-    ⊎ (answered (asked_sources federation.now inputs.now ++ given schedule.now ∷ []) × IsReplayFault s before after fault))
+    (λ s. IsScheduleFault s.plan schedule contents (λ later. answered (asked_sources federation.now inputs.now ++ later)) fault
+    ⊎ (answered (asked_sources federation.now inputs.now ++ given schedule.now ∷ [])
+    × HoldsOfSchedule (contents schedule.now) s.plan (λ script. IsReplayFault s script until_stuck before after fault)))
 IsFaultOf contents answered before after (RunOf federation inputs turns frames) fault =
     IsSourcesFault federation inputs contents answered fault
     ⊎ (answered (asked_sources federation.now inputs.now)

@@ -33,8 +33,8 @@ pub(crate) fn print_replay<O: Write>(
 ) -> Result<(), Fault<'static, NodeFault>>
     requires programs { AreProgramsOf sources.now.plan sources.now.programs }
     requires inputs { AreInputsOf sources.now.plan sources.now.inputs }
-    ensures ok { OnOk result (IsReplayed sources.now.plan sources.now.programs sources.now.inputs until_stuck (O.contents out.old) (O.contents out.new)) }
-    ensures stands { IfErr result (IsReplayFault sources.now (O.contents out.old) (O.contents out.new)) }
+    ensures ok { OnOk result (IsReplayed sources.now.plan sources.now.programs sources.now.inputs script.now until_stuck (O.contents out.old) (O.contents out.new)) }
+    ensures stands { IfErr result (IsReplayFault sources.now script.now until_stuck (O.contents out.old) (O.contents out.new)) }
     ensures late { IfErr result (λ fault. status_of fault ≡ 3) }
 {
     match replay(

@@ -1,7 +1,8 @@
-ghost use Rattle.std.specs.Prelude.{◌≡◌, [], ◌∷◌, OnOk, IfErr};
+ghost use Rattle.std.specs.Prelude.{◌≡◌, [], ◌∷◌, OnOk, IfOk, IfErr};
 ghost use Rattle.fedrun_files.specs.Answers.{Answers, given};
 ghost use Rattle.fedrun_commands.specs.Faults.{status_of};
 ghost use Rattle.fedrun_commands.specs.Refused.{IsScheduleFault};
+ghost use Rattle.fedrun_commands.specs.Schedules.{IsSchedule};
 
 use crate::fault::NodeFault;
 use fedrun_fault::Fault;
@@ -18,7 +19,8 @@ pub(crate) fn read_schedule<'a, F: Files>(
     files: &mut F,
 ) -> Result<Script, Fault<'a, NodeFault>>
     ensures asked { OnOk result (Answers (F.answers files.old) (F.answers files.new) (given name.entry.now ∷ [])) }
-    ensures err { IfErr result (IsScheduleFault name.entry (F.contents files.old) (Answers (F.answers files.old) (F.answers files.new))) }
+    ensures ok { IfOk result (IsSchedule (F.contents files.old name.entry.now) plan.now) }
+    ensures err { IfErr result (IsScheduleFault plan.now name.entry (F.contents files.old) (Answers (F.answers files.old) (F.answers files.new))) }
     ensures early { IfErr result (λ fault. status_of fault ≡ 1) }
 {
     let bytes = match bytes_of(name, files, MOST_BYTES) {

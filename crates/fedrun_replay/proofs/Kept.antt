@@ -6,6 +6,7 @@ use Rattle.plan.specs.declared.draft.Draft.{Draft}
 use Rattle.plan.specs.declared.input.Input.{Input}
 use Rattle.reactor_program.specs.Behaviour.{Behaviour}
 use Rattle.world.specs.World.{WorldView}
+use Rattle.fedrun_script.specs.Scripts.{Script}
 use Rattle.fedrun_replay.specs.Replayed.{IsEnded, IsReplayed, IsBrokenOff}
 use Rattle.fedrun_replay.specs.declared.fault.ReplayFault.{ReplayFault}
 use Rattle.fedrun_replay.specs.declared.fault.ReplayFault.TheVariants.{World, CannotWrite}
@@ -18,9 +19,9 @@ ended_kept (Some most) w before mid after ended kept =
 
 -- all of a replay
 pub replayed_kept :
-    (d : Draft) (programs : List Behaviour) (inputs : List Input) (closing : Option ℕ) (before mid after : Option (List ℕ)) →
-    IsReplayed d programs inputs closing before mid → Keeps mid after → IsReplayed d programs inputs closing before after
-replayed_kept d programs inputs closing before mid after replayed kept =
+    (d : Draft) (programs : List Behaviour) (inputs : List Input) (s : Script) (closing : Option ℕ) (before mid after : Option (List ℕ)) →
+    IsReplayed d programs inputs s closing before mid → Keeps mid after → IsReplayed d programs inputs s closing before after
+replayed_kept d programs inputs s closing before mid after replayed kept =
     record {
       last = replayed.last;
       played = replayed.played;
@@ -31,15 +32,21 @@ replayed_kept d programs inputs closing before mid after replayed kept =
 
 -- the refused steps of one that broke off
 pub broken_off_kept :
-    (d : Draft) (programs : List Behaviour) (inputs : List Input) (why : ReplayFault) (before mid after : Option (List ℕ)) →
-    IsBrokenOff d programs inputs before mid why → Keeps mid after → IsBrokenOff d programs inputs before after why
-broken_off_kept d programs inputs (World memory) before mid after broken kept =
-    let plays = broken.1 in (
+    (d : Draft) (programs : List Behaviour) (inputs : List Input) (s : Script) (closing : Option ℕ) (why : ReplayFault) (before mid after : Option (List ℕ)) →
+    IsBrokenOff d programs inputs s closing before mid why → Keeps mid after → IsBrokenOff d programs inputs s closing before after why
+broken_off_kept d programs inputs s closing (World memory) before mid after broken kept =
+    let some = broken.1 in
+    let plays = some.plays.plays in (
       broken.0,
       record {
-        made = plays.made;
-        later_is = plays.later_is;
-        printed = Appends-kept before mid after _ plays.printed kept;
+        rounds = some.rounds;
+        may = some.may;
+        plays = record {
+          made = some.plays.made;
+          unmade = some.plays.unmade;
+          first = some.plays.first;
+          plays = record { later_is = plays.later_is; printed = Appends-kept before mid after _ plays.printed kept };
+        };
       },
     )
-broken_off_kept d programs inputs CannotWrite before mid after broken kept = tt
+broken_off_kept d programs inputs s closing CannotWrite before mid after broken kept = tt

@@ -1,5 +1,7 @@
 -- What is printed of a world that is replayed.
--- what its steps print as they are made
+-- which steps are made, and what they print
 pub mod Play
+-- how many closing rounds are made
+pub mod Closing
 -- what is printed at the end, and all together
 pub mod Replayed

@@ -1,5 +1,5 @@
 -- All that a replay prints: the refused steps, how the closing rounds ended, and each federate's history.
-use Rattle.std.specs.Prelude.{◌≡◌, ◌↔◌, ℕ, Bool, IsTrue, if◌then◌else◌, List, [], ◌++◌, Option, None, Some, codes}
+use Rattle.std.specs.Prelude.{◌↔◌, ℕ, Bool, IsTrue, if◌then◌else◌, List, ◌++◌, Option, None, Some, codes}
 use Rattle.std.specs.Fmt.{decimal}
 use Rattle.std.specs.Io.KnownBytes.{Appends}
 use Rattle.plan.specs.declared.draft.Draft.{Draft}
@@ -14,7 +14,9 @@ use Rattle.world.specs.World.{WorldView, stations_of}
 use Rattle.world.specs.Faithful.{IsFaithful}
 use Rattle.fedrun_replay.specs.declared.fault.ReplayFault.{ReplayFault}
 use Rattle.fedrun_replay.specs.declared.fault.ReplayFault.TheVariants.{World, CannotWrite}
-use Rattle.fedrun_replay.specs.Play.{Plays}
+use Rattle.fedrun_script.specs.Scripts.{Script}
+use Rattle.fedrun_replay.specs.Play.{unasked_player}
+use Rattle.fedrun_replay.specs.Closing.{PlaysSchedule, PlaysSomeOf}
 
 -- federate j's rows where it kept its state, else that it forgot
 abbrev pub history : WorldView → ℕ → List ℕ
@@ -31,10 +33,6 @@ histories w = printed_each (history w) (federate_count w.draft) ++ codes "end\n"
 abbrev pub verdict : ℕ → Bool → List ℕ
 verdict most is_stuck = if is_stuck then codes "stuck\n" else codes "stopped at " ++ (decimal most ++ codes " rounds\n")
 
--- a federation's world of which nothing was asked
-abbrev pub unasked : Draft → List Behaviour → List Input → WorldView
-unasked d programs inputs = record { draft = d; programs = programs; inputs = inputs; steps = [] }
-
 -- a writer's bytes grew by how at most so many closing rounds ended, and by each federate's history
 pub record IsClosed (most : ℕ) (w : WorldView) (before after : Option (List ℕ)) : Type 0 where
   pub is_stuck : Bool
@@ -46,16 +44,17 @@ abbrev pub IsEnded : Option ℕ → WorldView → Option (List ℕ) → Option (
 IsEnded None w before after = Appends before after (histories w)
 IsEnded (Some most) w before after = IsClosed most w before after
 
--- a writer's bytes grew by what is printed of some steps in a world of which nothing was asked, and then by what is printed at the end
--- of the world after them: all that is known of worlds holds of it
-pub record IsReplayed (d : Draft) (programs : List Behaviour) (inputs : List Input) (closing : Option ℕ) (before after : Option (List ℕ)) : Type 0 where
+-- a writer's bytes grew by what is printed of the steps of a schedule and its closing rounds, in a world of which nothing was asked, and then
+-- by what is printed at the end of the world after them: all that is known of worlds holds of it
+pub record IsReplayed (d : Draft) (programs : List Behaviour) (inputs : List Input) (s : Script) (closing : Option ℕ) (before after : Option (List ℕ)) : Type 0 where
   pub last : WorldView
   pub played : Option (List ℕ)
-  pub plays : Plays (unasked d programs inputs) last before played
+  pub plays : PlaysSchedule s closing (unasked_player d programs inputs) last before played
   pub ended : IsEnded closing last played after
   pub faithful : IsFaithful last
 
--- out of memory a writer's bytes grew by what is printed of some steps, and no more
-abbrev pub IsBrokenOff : Draft → List Behaviour → List Input → Option (List ℕ) → Option (List ℕ) → ReplayFault → Type 0
-IsBrokenOff d programs inputs before after (World memory) = (later : WorldView) × Plays (unasked d programs inputs) later before after
-IsBrokenOff d programs inputs before after CannotWrite = Unit {0}
+-- out of memory a writer's bytes grew by what is printed of the first of these steps, and no more
+abbrev pub IsBrokenOff : Draft → List Behaviour → List Input → Script → Option ℕ → Option (List ℕ) → Option (List ℕ) → ReplayFault → Type 0
+IsBrokenOff d programs inputs s closing before after (World memory) =
+    (later : WorldView) × PlaysSomeOf s closing (unasked_player d programs inputs) later before after
+IsBrokenOff d programs inputs s closing before after CannotWrite = Unit {0}

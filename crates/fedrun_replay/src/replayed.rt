@@ -12,9 +12,9 @@ use reactor_programs::Programs;
 use std::alloc::Global;
 use std::io::Write;
 
-/// Plays a schedule in a world of which nothing was asked, and prints the refused steps as they come; then, with `closing`,
-/// makes closing rounds until the world is stuck or so many were made, and prints which of both; then each federate's history,
-/// and the end. The caller flushes.
+/// Plays a schedule in a world of which nothing was asked, and prints the refused steps as they come, each with its line's number;
+/// then, with `closing`, makes closing rounds until the world is stuck or so many were made, and prints which of both; then each
+/// federate's history, and the end. The caller flushes.
 pub fn replay<W: Write>(
     alloc: Global,
     out: &mut W,
@@ -26,8 +26,8 @@ pub fn replay<W: Write>(
 ) -> Result<(), ReplayFault>
     requires programs { AreProgramsOf plan.now programs.now }
     requires inputs { AreInputsOf plan.now inputs.now }
-    ensures printed { OnOk result (IsReplayed plan.now programs.now inputs.now closing (W.contents out.old) (W.contents out.new)) }
-    ensures broken_off { IfErr result (IsBrokenOff plan.now programs.now inputs.now (W.contents out.old) (W.contents out.new)) }
+    ensures printed { OnOk result (IsReplayed plan.now programs.now inputs.now script.now closing (W.contents out.old) (W.contents out.new)) }
+    ensures broken_off { IfErr result (IsBrokenOff plan.now programs.now inputs.now script.now closing (W.contents out.old) (W.contents out.new)) }
 {
     let mut player = match Player::new(alloc, plan, programs, inputs) {
         Ok(player) => player,

@@ -1,5 +1,5 @@
 -- A schedule: its commands and their lines, and what is wrong with a file.
-use Rattle.std.specs.Prelude.{◌≡◌, ℕ, ◌+◌, ◌<◌, ◌≤◌, ◌^◌, Bool, true, not, ◌==◌, if◌then◌else◌, List, [], ◌∷◌, length, map, All, AllPairs}
+use Rattle.std.specs.Prelude.{◌≡◌, ℕ, ◌+◌, ◌<◌, ◌≤◌, ◌^◌, Bool, true, not, ◌||◌, ◌==◌, if◌then◌else◌, List, [], ◌∷◌, ◌++◌, length, map, All, AllPairs, Option, None, Some, is_some}
 use Rattle.std.specs.List.{onto_first}
 use Rattle.plan.specs.declared.draft.Draft.{Draft}
 use Rattle.plan.specs.Federation.{federate_count}
@@ -7,6 +7,7 @@ use Rattle.world_stations.specs.declared.dir.Dir.{Dir}
 use Rattle.world_stations.specs.declared.step.Step.{Step}
 use Rattle.world_stations.specs.declared.step.Step.TheVariants.{Deliver, Resend, Reconnect, Announce, Advance, Forget}
 use Rattle.world_stations.specs.World.{federate_of}
+use Rattle.fedrun_script.specs.Words.{words_of, command_of}
 use Rattle.fedrun_script.specs.declared.command.Command.{Command}
 use Rattle.fedrun_script.specs.declared.command.Command.TheVariants.{Make, Skip, Round}
 use Rattle.fedrun_script.specs.declared.script.ScheduleLine.{ScheduleLine}
@@ -39,6 +40,23 @@ abbrev pub asking : ℕ → List (List ℕ) → List ℕ
 asking number [] = []
 asking number (line ∷ rest) = if is_idle line then asking (number + 1) rest else number ∷ asking (number + 1) rest
 
+-- the command of a line of this number, listed with it; none where the line has no form
+abbrev pub listed : ℕ → Option Command → List ScheduleLine
+listed number None = []
+listed number (Some command) = record { number = number; command = command } ∷ []
+
+-- the commands that lines spell, in order, the first line having this number; a line that does nothing spells none
+abbrev pub spelled : Draft → ℕ → List (List ℕ) → List ScheduleLine
+spelled d number [] = []
+spelled d number (line ∷ rest) =
+    if is_idle line then spelled d (number + 1) rest else listed number (command_of d (words_of line)) ++ spelled d (number + 1) rest
+
+-- the number of the first line that does something, but has no form that there is or names no federate
+abbrev pub first_bad : Draft → ℕ → List (List ℕ) → Option ℕ
+first_bad d number [] = None
+first_bad d number (line ∷ rest) =
+    if is_idle line || is_some (command_of d (words_of line)) then first_bad d (number + 1) rest else Some number
+
 -- a direction of a federate that is there
 abbrev pub IsDirOf : Draft → Dir → Type 0
 IsDirOf d dir = federate_of dir < federate_count d
@@ -69,14 +87,18 @@ pub record AreLinesOf (d : Draft) (last : ℕ) (lines : List ScheduleLine) : Typ
   pub numbered : All (λ line. (0 < line.number) × (line.number ≤ last)) lines
   pub in_order : AllPairs (λ line later. line.number < later.number) lines
 
--- what is sure of a schedule that was read from a file, whatever its lines say
+-- a schedule that was read from a file: no line is bad, and its commands are those that the lines spell. So they are about federates that
+-- are there, and have the numbers of all lines that ask for something
 pub record IsScriptOf (d : Draft) (file : List ℕ) (s : Script) : Type 0 where
+  pub good : first_bad d 1 (lines_of file) ≡ None
+  pub spells : s.lines ≡ spelled d 1 (lines_of file)
   pub lines : AreLinesOf d s.last_line s.lines
   pub every : map (λ line. line.number) s.lines ≡ asking 1 (lines_of file)
   pub last : s.last_line ≡ line_count file
 
--- what is answered of a file; a line that is answered is one of its lines
-abbrev pub IsFaultOf : List ℕ → ScriptFault → Type 0
-IsFaultOf file fault.OverLimit = MOST_BYTES < length file
-IsFaultOf file (fault.ScheduleLine number) = (0 < number) × (number ≤ line_count file)
-IsFaultOf file fault.Memory = length file ≤ MOST_BYTES
+-- what is answered of a file; a line that is answered is the first bad one, and one of its lines
+abbrev pub IsFaultOf : Draft → List ℕ → ScriptFault → Type 0
+IsFaultOf d file fault.OverLimit = MOST_BYTES < length file
+IsFaultOf d file (fault.ScheduleLine number) =
+    (first_bad d 1 (lines_of file) ≡ Some number) × (0 < number) × (number ≤ line_count file)
+IsFaultOf d file fault.Memory = length file ≤ MOST_BYTES

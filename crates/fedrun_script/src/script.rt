@@ -29,10 +29,14 @@ pub struct Script {
 
 impl Model for Script {
     ghost use Rattle.fedrun_script.specs.Scripts.{Script as ScriptOf};
+    ghost use Rattle.std.specs.Prelude.{◌≤◌};
+    ghost use Rattle.fedrun_script.specs.declared.script.TheConstants.{MOST_BYTES};
 
     ghost Value = { ScriptOf };
 
     ghost view = { λ s. record { lines = s.lines.items; last_line = s.last } };
+
+    ghost invariant = { λ s. s.last ≤ MOST_BYTES };
 }
 
 impl Script {
@@ -49,14 +53,21 @@ impl Script {
     {
         self.last
     }
+
+    /// The number of the line after it.
+    pub fn line_after(&self) -> usize
+        ensures { result ≡ self.now.last_line + 1 }
+    {
+        self.last + 1
+    }
 }
 
-/// The commands of a schedule file for a plan. Of a file that is too long nothing else is answered; of others the first line that is no
-/// command, or out of memory.
+/// The commands that the lines of a schedule file spell, for a plan. Of a file that is too long nothing else is answered; of others the
+/// first line that spells none, or out of memory.
 pub fn read_script(alloc: Global, bytes: &[u8], plan: &Plan) -> Result<Script, ScriptFault>
     ensures ok { IfOk result (IsScriptOf plan.now bytes.now) }
     ensures over { (result ≡ Err ScriptFault.OverLimit) ↔ (MOST_BYTES < length bytes.now) }
-    ensures refused { IfErr result (IsFaultOf bytes.now) }
+    ensures refused { IfErr result (IsFaultOf plan.now bytes.now) }
 {
     if bytes.len() > MOST_BYTES {
         return Err(ScriptFault::OverLimit);
@@ -64,11 +75,11 @@ pub fn read_script(alloc: Global, bytes: &[u8], plan: &Plan) -> Result<Script, S
     read_lines(alloc, bytes, plan)
 }
 
-#[tactic(auto, using(crate::proofs::Lines::asked_nothing, crate::proofs::Lines::asked_something))]
+#[tactic(auto, using(crate::proofs::Lines::asked_nothing, crate::proofs::Lines::asked_something, crate::proofs::Spelling::spelled_nothing, crate::proofs::Spelling::spelled_one, crate::proofs::Spelling::good_so_far, crate::proofs::Spelling::bad_line))]
 fn read_lines(alloc: Global, bytes: &[u8], plan: &Plan) -> Result<Script, ScriptFault>
     requires { length bytes.now ≤ MOST_BYTES }
     ensures ok { IfOk result (IsScriptOf plan.now bytes.now) }
-    ensures refused { IfErr result (λ fault. IsFaultOf bytes.now fault × (fault ≢ ScriptFault.OverLimit)) }
+    ensures refused { IfErr result (λ fault. IsFaultOf plan.now bytes.now fault × (fault ≢ ScriptFault.OverLimit)) }
 {
     let mut lines = Vec::new(alloc);
     let mut last = 0;

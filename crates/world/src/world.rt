@@ -150,7 +150,11 @@ impl<'a> World<'a> {
     pub fn kept(&self, federate: usize) -> bool
         ensures { result ≡ is_kept self.now.steps federate }
     {
-        !is_among(federate, self.steps())
+        if self.has_forgotten {
+            !is_among(federate, self.steps())
+        } else {
+            true
+        }
     }
 
     /// Whether the coordinator says that all is finished.

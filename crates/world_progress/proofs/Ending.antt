@@ -68,7 +68,7 @@ still_kept members (Refused refusal) h k j = k j
 still_kept members Nothing h k j = k j
 still_kept members (Done after) h k j = h j ∙ k j
 
-nobody_lost : (n : Network) (rules : ℕ → Rule) (moves : List Move) → AreOfMembers n moves → (j : ℕ) → (after_moves n rules moves j).lost ≡ false
+pub nobody_lost : (n : Network) (rules : ℕ → Rule) (moves : List Move) → AreOfMembers n moves → (j : ℕ) → (after_moves n rules moves j).lost ≡ false
 nobody_lost n rules [] there j = refl
 nobody_lost n rules (move ∷ earlier) there j =
     still_kept (after_moves n rules earlier) (outcome_after n rules earlier move) (move_keeps n (rules (length earlier)) (after_moves n rules earlier) move there.0) (nobody_lost n rules earlier there.1) j

@@ -24,3 +24,31 @@ pub mod SparingGrants
 pub mod Parts
 -- Each run ends where all are stuck.
 pub mod Ending
+-- A step of a world, beside the machine.
+pub mod Walking
+-- What acts make of a side's numbers.
+pub mod Growing
+-- A world in which nobody forgot, and how much is still to be done in it.
+pub mod Reached
+-- The two sides of a direction in such a world.
+pub mod Facing
+-- What a node sends in one step fits an empty link.
+pub mod Fitting
+-- What certain steps do in such a world.
+pub mod Happening
+-- What a federate does by itself, where nothing is done.
+pub mod Speaking
+-- What stays through steps and tasks.
+pub mod Serving
+-- A direction that is served.
+pub mod Settling
+-- Where nothing more can be done.
+pub mod Halting
+-- Closing rounds end stuck.
+pub mod ClosingRounds
+-- Fair schedules end stuck.
+pub mod FairSchedules
+-- A stuck world's coordinator is finished.
+pub mod Finished
+-- What a player is to do, one thing after the other.
+pub mod TaskLists

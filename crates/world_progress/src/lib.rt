@@ -1,12 +1,14 @@
-//! How much a run of the machine of queues can still do: laws over every lawful network, with no code.
+//! How much a run of the machine of queues can still do, and that closing rounds of a world do it: laws, with no code.
 //!
 //! Promise to the layer above: where nobody is lost, by rules that grant what is safe and only to who asked for it, the
 //! moves that do something, and the signals that are sent, are at most as many as a number that goes by the rows of the
-//! undivided program. Begin with `specs/Fuel`, which is that number, and `few_moves_do_anything`; `specs/Worth` is what
-//! is left of it.
+//! undivided program; and after twice as many closing rounds a federation's world was stuck. Begin with `specs/Fuel`,
+//! which is that number, and `few_moves_do_anything`; `specs/Worth` is what is left of it. Then `specs/Rounds` and
+//! `closing_rounds_end_stuck`.
 #![tactic(auto)]
 
-ghost use Rattle.std.specs.Prelude.{◌≡◌, ℕ, ◌+◌, ◌*◌, ◌<◌, ◌≤◌, List, length};
+ghost use Rattle.std.specs.Prelude.{◌≡◌, ℕ, ◌+◌, ◌*◌, ◌^◌, ◌<◌, ◌≤◌, true, false, List, ◌++◌, length};
+ghost use Rattle.std.specs.List.{list_any};
 ghost use Rattle.network.specs.Network.{Network};
 ghost use Rattle.network.specs.Lawful.{IsLawful};
 ghost use Rattle.network.specs.Wiring.{IsWired};
@@ -21,6 +23,23 @@ ghost use Rattle.protocol.specs.Grant.{Rule, IsSafeRule, grant_next, grant_wides
 ghost use Rattle.protocol.specs.Coordinator.{coordinator_accepts};
 ghost use Rattle.protocol.specs.Machine.{Move, initial_member, sent_to, after_moves};
 ghost use Rattle.protocol_laws.specs.Runs.{IsStuck};
+ghost use Rattle.plan.specs.declared.draft.Draft.{Draft};
+ghost use Rattle.plan.specs.declared.input.Input.{Input};
+ghost use Rattle.plan.specs.External.{AreInputsOf};
+ghost use Rattle.plan.specs.Federation.{federate_count};
+ghost use Rattle.plan.specs.Legal.{IsLegal};
+ghost use Rattle.reactor_program.specs.Behaviour.{Behaviour};
+ghost use Rattle.reactor_programs.specs.Programs.{AreProgramsOf};
+ghost use Rattle.plan_network.specs.Network.{network_of};
+ghost use Rattle.node_cores.specs.CoordinatorCore.{coordinator_core};
+ghost use Rattle.world_stations.specs.declared.limits.TheConstants.{LINK_ROOM};
+ghost use Rattle.world_stations.specs.declared.step.Step.{Step};
+ghost use Rattle.world_stations.specs.Kept.{is_forget};
+ghost use Rattle.world_stations.specs.Federation as world;
+ghost use Rattle.world_stations.specs.Federation.{world_after};
+ghost use Rattle.world_progress.specs.Rounds.{Playing, IsWithinSent, steps_of_tasks, closing_rounds_tasks, after_closing_rounds};
+ghost use Rattle.world_progress.specs.SmallWorlds.{unplayed, quiet_steps, startup_steps};
+ghost use Rattle.world_progress.specs.Fair.{AreFair, after_these, all_steps};
 ghost use Rattle.world_progress.specs.Fuel.{sum_below, enough_turns, rows_of_part, outgoing_count, fuel_of};
 ghost use Rattle.world_progress.specs.Worth.{left_of};
 ghost use Rattle.world_progress.specs.Runs.{IsSparing, IsOfMember, AreOfMembers, takes, outcome_after, count_done, count_taken, count_waiting, NothingDoes, EndsStuck};
@@ -88,4 +107,44 @@ pub fn runs_end_stuck()
     ensures more { (n : Network) (table : Table) (rules : ℕ → Rule) → IsLawful n → IsTable n table →
         ((move : ℕ) → IsSafeRule n table (rules move)) → ((move : ℕ) → IsSparing (rules move)) →
         (moves : List Move) → AreOfMembers n moves → EndsStuck n rules moves (fuel_of n) }
+{}
+
+/// Whatever a node sends in one step fits a link of which nothing waits for its acknowledgement: what a federate sends as it runs a
+/// tag, or as it announces one, and what the coordinator sends to each federate as it takes a signal.
+pub fn a_turn_fits()
+    ensures turn { (d : Draft) (programs : List Behaviour) (inputs : List Input) (j : ℕ) (f : Federate) → IsLegal d →
+        IfDone (federate_advances (network_of d programs inputs) j f) (λ made. length made.sent ≤ LINK_ROOM) }
+    ensures announcement { (f : Federate) → IfDone (federate_announces f) (λ made. length made.sent ≤ LINK_ROOM) }
+    ensures coordinator { (n : Network) (rule : Rule) (federate_records : ℕ → FederateRecord) (i : ℕ) (signal : Signal) →
+        IfDone (coordinator_accepts n rule federate_records i signal) (λ made. (j : ℕ) → length (sent_to j made.sent) ≤ LINK_ROOM) }
+{}
+
+/// In a world in which nobody forgot, whatever happened to its frames before and wherever rounds stand, one of the next
+/// `2 * fuel_of` closing rounds leads to a stuck world. (`fuel_of` is below 2^63 as links number their signals below 2^64.)
+pub fn closing_rounds_end_stuck()
+    ensures { (d : Draft) (programs : List Behaviour) (inputs : List Input) (steps : List Step) (p : Playing) → IsLegal d → AreProgramsOf d programs →
+        AreInputsOf d inputs → list_any is_forget steps ≡ false → p.world ≡ world_after d programs inputs steps → IsWithinSent p →
+        fuel_of (network_of d programs inputs) < 2 ^ 63 →
+        (rounds : ℕ) × (rounds ≤ 2 * fuel_of (network_of d programs inputs)) × world.IsStuck (after_closing_rounds (federate_count d) rounds p).world }
+{}
+
+/// So does any schedule by which nobody forgets, if in each of its segments every federate is asked and every direction is served, and
+/// it has more segments than `fuel_of`: after some of them the world is stuck.
+pub fn fair_schedules_end_stuck()
+    ensures { (d : Draft) (programs : List Behaviour) (inputs : List Input) (steps : List Step) (segments : List (List Step)) → IsLegal d → AreProgramsOf d programs →
+        AreInputsOf d inputs → AreFair (federate_count d) (world_after d programs inputs steps) segments → list_any is_forget steps ≡ false →
+        list_any is_forget (all_steps segments) ≡ false → fuel_of (network_of d programs inputs) < 2 ^ 63 → fuel_of (network_of d programs inputs) < length segments →
+        (before : List (List Step)) × (after : List (List Step)) × (segments ≡ before ++ after) × world.IsStuck (after_these (world_after d programs inputs steps) (all_steps before)) }
+{}
+
+/// A stuck world's coordinator says that all is finished.
+pub fn a_stuck_world_is_finished()
+    ensures { (d : Draft) (programs : List Behaviour) (inputs : List Input) (steps : List Step) → IsLegal d → AreProgramsOf d programs → AreInputsOf d inputs →
+        world.IsStuck (world_after d programs inputs steps) → coordinator_core.finished (world_after d programs inputs steps).coordinator.node ≡ true }
+{}
+
+/// Two worlds of one federate each, reckoned by hand: which steps closing rounds make.
+pub fn closing_rounds_by_hand()
+    ensures quiet { steps_of_tasks (closing_rounds_tasks 1 2) (unplayed false) ≡ quiet_steps }
+    ensures startup { steps_of_tasks (closing_rounds_tasks 1 4) (unplayed true) ≡ startup_steps }
 {}

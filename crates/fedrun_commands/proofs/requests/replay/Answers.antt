@@ -1,9 +1,10 @@
 use Rattle.std.proofs.Common.{[], ◌∷◌, ◌++◌, refl, inl, inr, subst}
-use Rattle.std.proofs.lemmas.Result.{IfErr-weaker}
+use Rattle.std.proofs.lemmas.Result.{on_ok_weaker, IfErr-weaker}
 use Rattle.fedrun_files.specs.Answers.{Answers, given}
 use Rattle.fedrun_files.proofs.InTurn.{answered_in_turn}
 use Rattle.fedrun_files.specs.Refused.{asked_sources}
 use Rattle.fedrun_commands.specs.Refused.{IsScheduleFault}
+use Rattle.fedrun_commands.specs.Schedules.{IsSchedule}
 use Rattle.fedrun_commands.proofs.InTurn.{schedule_fault_after}
 use Rattle.fedrun_commands.proofs.requests.replay.Goals as goal
 
@@ -18,8 +19,8 @@ returns-clause-stands g c =
       sources = c.in-Ok.sources;
       sources_are = c.in-Ok.ensures.ok;
       holds = inl (
-          subst (λ contents. IsScheduleFault c.args.schedule contents (λ later. Answers before after (asked ++ later)) fault) c.in-Ok.ensures.same
-          (schedule_fault_after (λ later come. answered_in_turn before mid after asked later c.in-Ok.ensures.asked come) c.args.schedule
+          subst (λ contents. IsScheduleFault c.in-Ok.sources.plan c.args.schedule contents (λ later. Answers before after (asked ++ later)) fault) c.in-Ok.ensures.same
+          (schedule_fault_after (λ later come. answered_in_turn before mid after asked later c.in-Ok.ensures.asked come) c.in-Ok.sources.plan c.args.schedule
           (g.F.Files.contents c.read_sources.new.files) fault c.in-Err-read_schedule.ensures.err)
           );
     })
@@ -32,9 +33,27 @@ returns-in-Ok-read_schedule-clause-stands g c =
     let after = g.F.Files.answers c.read_schedule.new.files in
     let all : Answers before after (asked ++ given c.args.schedule.now ∷ [])
     = answered_in_turn before mid after asked (given c.args.schedule.now ∷ []) c.in-Ok.ensures.asked c.in-Ok-read_schedule.ensures.asked in
+    let there : IsSchedule (g.F.Files.contents c.args.files.now c.args.schedule.now) c.in-Ok.sources.plan c.in-Ok-read_schedule.script =
+    subst (λ contents. IsSchedule (contents c.args.schedule.now) c.in-Ok.sources.plan c.in-Ok-read_schedule.script) c.in-Ok.ensures.same c.in-Ok-read_schedule.ensures.ok in
     IfErr-weaker c.print_replay.result _ _
-    (λ fault stands. inr (record { sources = c.in-Ok.sources; sources_are = c.in-Ok.ensures.ok; holds = inr (all, stands) }))
+    (λ fault stands. inr (record {
+      sources = c.in-Ok.sources;
+      sources_are = c.in-Ok.ensures.ok;
+      holds = inr (all, record { script = c.in-Ok-read_schedule.script; script_is = there; holds = stands });
+    }))
     c.print_replay.ensures.stands
+
+pub returns-in-Ok-read_schedule-clause-ok : goal.returns-in-Ok-read_schedule-clause-ok
+returns-in-Ok-read_schedule-clause-ok g c =
+    let there : IsSchedule (g.F.Files.contents c.args.files.now c.args.schedule.now) c.in-Ok.sources.plan c.in-Ok-read_schedule.script =
+    subst (λ contents. IsSchedule (contents c.args.schedule.now) c.in-Ok.sources.plan c.in-Ok-read_schedule.script) c.in-Ok.ensures.same c.in-Ok-read_schedule.ensures.ok in
+    on_ok_weaker c.print_replay.result
+    (λ printed. record {
+      sources = c.in-Ok.sources;
+      sources_are = c.in-Ok.ensures.ok;
+      holds = record { script = c.in-Ok-read_schedule.script; script_is = there; holds = printed };
+    })
+    c.print_replay.ensures.ok
 
 pub returns-in-Err-clause-stands : goal.returns-in-Err-clause-stands
 returns-in-Err-clause-stands g c = inl c.in-Err.ensures.err
