@@ -16,6 +16,8 @@ use Rattle.fedrun_text.specs.PlanText.{printed_each}
 use Rattle.wires.specs.declared.job.WorkerResult.{WorkerResult}
 use Rattle.wires.specs.declared.run_fault.Cause.{Cause}
 use Rattle.wires.specs.declared.run_fault.Cause.TheVariants.{TurnsUsedUp}
+use Rattle.wires.specs.declared.run_fault.RunFault.{RunFault}
+use Rattle.wires.specs.declared.run_fault.RunFault.TheVariants as run
 use Rattle.recorder_reports.specs.declared.report.Report.{Report}
 use Rattle.recorder_reports.specs.declared.unproved.Unproved.{Unproved}
 use Rattle.recorder_reports.specs.Reports.{reported_rows}
@@ -92,6 +94,11 @@ IsAuditedFault d programs inputs (fault.Unproved failure) = IsAuditFailure d pro
 IsAuditedFault d programs inputs (fault.NotFinished cause) = Unit {0}
 IsAuditedFault d programs inputs fault.Memory = Unit {0}
 IsAuditedFault d programs inputs fault.CannotWrite = Unit {0}
+
+-- why a run gives no desks, as the fault that is printed
+abbrev pub fault_of_run : RunFault → AuditedFault
+fault_of_run (run.NotFinished cause) = fault.NotFinished cause
+fault_of_run run.Memory = fault.Memory
 
 -- the fault of a run whose nodes give nothing to audit
 abbrev pub IsOfTheRun : AuditedFault → Type 0

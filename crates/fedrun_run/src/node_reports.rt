@@ -1,9 +1,10 @@
 //! What the desks of a finished run's nodes say.
-ghost use Rattle.std.specs.Prelude.{◌≡◌, true, length, [], ◌∷◌, ◌++◌, IfErr, IfOk, IsOkAnd, OnOk};
+ghost use Rattle.std.specs.Prelude.{◌≡◌, true, false, length, [], ◌∷◌, ◌++◌, IfErr, IfOk, IsOkAnd, OnOk, Err};
 ghost use Rattle.plan.specs.Federation.{federate_count};
 ghost use Rattle.recorder_reports.specs.Reports.{IsFirst};
 ghost use Rattle.wires.specs.Gathered.{AreGathered};
-ghost use Rattle.fedrun_run.specs.Printed.{IsOfTheRun};
+ghost use Rattle.wires.specs.declared.run_fault.Cause.TheVariants.{TurnsUsedUp};
+ghost use Rattle.fedrun_run.specs.Printed.{IsOfTheRun, fault_of_run};
 ghost use Rattle.fedrun_run.specs.Reported.{IsReportOf, AreReportsOf, AreReported};
 
 use crate::AuditedFault;
@@ -55,6 +56,7 @@ fn gathered<H: Node, M: Node>(
 ) -> Result<Gathered<H, M>, RunFault>
     ensures each { IfOk result (λ gathered. length gathered.federates.items ≡ length nodes.federates.items) }
     ensures shares { IfOk result (λ gathered. IsOkAnd results (λ left. AreGathered gathered.coordinator gathered.federates.items left.items)) }
+    ensures run { IfErr results (λ why. result ≡ Err why) }
 {
     match results {
         Ok(results) => nodes.gather(alloc, results),
@@ -68,7 +70,8 @@ fn finished<H: Node, M: Node>(
 ) -> Result<Gathered<H, M>, AuditedFault>
     ensures same { IfOk result (λ desks. gathered ≡ Ok desks) }
     ensures finished { IfOk result (λ desks. H.core.finished desks.coordinator.station.node ≡ true) }
-    ensures fault { IfErr result IsOfTheRun }
+    ensures unfinished { IfErr result (λ fault. IfOk gathered (λ desks. (H.core.finished desks.coordinator.station.node ≡ false) × (fault ≡ AuditedFault.NotFinished TurnsUsedUp))) }
+    ensures fault { IfErr result (λ fault. IfErr gathered (λ why. fault ≡ fault_of_run why)) }
 {
     match gathered {
         Ok(desks) => {
@@ -78,8 +81,17 @@ fn finished<H: Node, M: Node>(
                 Err(AuditedFault::NotFinished(Cause::TurnsUsedUp))
             }
         }
-        Err(RunFault::NotFinished(cause)) => Err(AuditedFault::NotFinished(cause)),
-        Err(RunFault::Memory) => Err(AuditedFault::Memory),
+        Err(why) => Err(fault_of_run(why)),
+    }
+}
+
+// Why a run gives no desks, as the fault that is printed.
+fn fault_of_run(why: RunFault) -> AuditedFault
+    ensures { result ≡ fault_of_run why }
+{
+    match why {
+        RunFault::NotFinished(cause) => AuditedFault::NotFinished(cause),
+        RunFault::Memory => AuditedFault::Memory,
     }
 }
 

@@ -1,10 +1,9 @@
 //! Which files a command asks for, and what it is answered about them.
 use crate::known_file::{Answered, KnownFile};
-use crate::machine::Machine;
 use crate::outcome::outcome_over;
 use fedrun_files::FileFault;
 use std::net::{Net, TcpListener, TcpStream};
-use tests_samples::COUNTER;
+use tests_samples::{COUNTER, Machine};
 
 /// Words of a command where `fed.toml` alone is there, its status, and the files that it asks for: each with why its bytes
 /// aren't given, none where they are.

@@ -1,10 +1,10 @@
 //! As many as there may be, and one more. The numbers are those of docs/FORMATS.md, written out: tests that cited the
 //! constants of the code would pass with any.
-use crate::machine::Machine;
 use crate::outcome::{Outcome, outcome_of, shown};
 use std::alloc::Global;
 use std::net::{Net, TcpListener, TcpStream};
 use std::test::Fail;
+use tests_samples::Machine;
 
 const OVER_PLAN: &str = "fedrun: 14 OverLimit\n";
 

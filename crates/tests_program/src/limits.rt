@@ -1,9 +1,8 @@
 //! Files of the longest length and one byte more, and out of memory for a file.
-use crate::machine::Machine;
 use crate::outcome::{Outcome, outcome_of, outcome_over, shown};
 use crate::two_files::NoMemory;
 use std::net::{Net, TcpListener, TcpStream};
-use tests_samples::COUNTER;
+use tests_samples::{COUNTER, Machine};
 
 /// No row is asked for.
 const WORDS: &[&str] = &["whole", "fed.toml", "in.toml", "0"];

@@ -2,12 +2,13 @@
 //! state are a prefix of its part of the undivided program's rows.
 ghost use Rattle.std.specs.Prelude.{◌<◌, length};
 
-use crate::loading::{Federation, is_same, loaded, undivided, world_of};
+use crate::worlds::world_of;
 use reactor::Rows;
 use std::alloc::Global;
 use std::test::Fail;
 use tests_samples::{
-    CHAIN, CHAIN_INPUT, COUNTER, DELAYED_COUNTER, LOOP, REPLACED, STARTED_COUNTER,
+    CHAIN, CHAIN_INPUT, COUNTER, DELAYED_COUNTER, Federation, LOOP, REPLACED, STARTED_COUNTER,
+    is_same, loaded, undivided,
 };
 use world::World;
 use world_stations::{Dir, Outcome, Step};

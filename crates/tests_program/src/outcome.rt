@@ -1,10 +1,10 @@
 //! What a command answers and writes, over files in memory.
-use crate::machine::Machine;
 use crate::two_files::TwoFiles;
 use fedrun_commands::command;
 use fedrun_files::Files;
 use std::alloc::Global;
 use std::net::{Net, TcpListener, TcpStream};
+use tests_samples::Machine;
 
 /// What a command answered and wrote.
 #[derive(Drop)]

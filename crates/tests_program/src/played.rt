@@ -1,11 +1,12 @@
 //! What a replay prints.
-use crate::loading::{Federation, loaded};
 use crate::outcome::joined;
 use fedrun_replay::replay;
 use fedrun_script::{Script, read_script};
 use std::alloc::Global;
+use tests_samples::{Federation, loaded};
 
 /// A replay, and what it prints.
+#[derive(Drop)]
 pub(crate) struct Case<'a> {
     pub federation: &'a str,
     pub inputs: &'a str,
@@ -36,7 +37,7 @@ fn printed(
     schedule: &str,
     closing: Option<u32>,
 ) -> Option<Vec<u8>> {
-    let script = read_script(alloc, schedule.as_bytes(), &federation.plan).ok()?;
+    let script = read_script(alloc, schedule.as_bytes(), federation.plan()).ok()?;
     let mut out = Vec::new(alloc);
     if is_replayed(alloc, federation, &script, closing, &mut out) {
         Some(out)
@@ -56,9 +57,9 @@ fn is_replayed(
     replay(
         alloc,
         out,
-        &federation.plan,
-        &federation.programs,
-        &federation.inputs,
+        federation.plan(),
+        federation.programs(),
+        federation.inputs(),
         script,
         closing,
     )

@@ -1,11 +1,10 @@
 //! A writer that refuses every write.
-use crate::loading::{Federation, loaded};
 use fedrun_replay::{ReplayFault, replay};
 use fedrun_script::{Script, read_script};
 use std::alloc::Global;
 use std::io;
 use std::io::Write;
-use tests_samples::COUNTER;
+use tests_samples::{COUNTER, Federation, loaded};
 
 #[derive(Drop)]
 struct Refusing;
@@ -24,9 +23,9 @@ fn cannot_write(alloc: Global, federation: &Federation, script: &Script) -> bool
     let played = replay(
         alloc,
         &mut Refusing,
-        &federation.plan,
-        &federation.programs,
-        &federation.inputs,
+        federation.plan(),
+        federation.programs(),
+        federation.inputs(),
         script,
         None,
     );
@@ -34,7 +33,7 @@ fn cannot_write(alloc: Global, federation: &Federation, script: &Script) -> bool
 }
 
 fn tells_of(alloc: Global, federation: &Federation, schedule: &str) -> Option<bool> {
-    let script = read_script(alloc, schedule.as_bytes(), &federation.plan).ok()?;
+    let script = read_script(alloc, schedule.as_bytes(), federation.plan()).ok()?;
     Some(cannot_write(alloc, federation, &script))
 }
 

@@ -1,11 +1,10 @@
 //! Replays: what is printed, what is printed of schedules, and that nothing is printed where one is refused.
-use crate::machine::Machine;
 use crate::outcome::{Outcome, joined, outcome_over, shown};
 use crate::two_files::TwoFiles;
-use crate::worked_rows::COUNTER_ROWS;
 use std::net::{Net, TcpListener, TcpStream};
 use std::test::Fail;
-use tests_samples::COUNTER;
+use tests_samples::worked_rows::COUNTER_ROWS;
+use tests_samples::{COUNTER, Machine};
 
 /// A replay of a schedule, over the counter.
 fn outcome<R: Machine + Net<Stream = TcpStream, Listener = TcpListener>>(

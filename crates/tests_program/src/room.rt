@@ -1,23 +1,28 @@
 //! The room of a link: how many signals a federate sends that aren't acknowledged. The number is that of docs/FORMATS.md, written
 //! out: a test that cited the constant of the code would pass with any.
-use crate::loading::{Federation, loaded, world_of};
 use crate::schedules::TICKS;
+use crate::worlds::world_of;
 use std::alloc::Global;
 use std::test::Fail;
+use tests_samples::{Federation, loaded};
 use world::World;
 use world_stations::{Dir, Outcome, Step};
 
 /// It announces, and is granted all that it has to run. The acknowledgement, the first frame that goes to it, is on its way.
-const GRANTED: &[Step] = &[
+pub(crate) const GRANTED: &[Step] = &[
     Step::Announce(0),
     Step::Deliver(Dir::Up(0), 1),
     Step::Deliver(Dir::Down(0), 2),
 ];
 
 /// How often a federate advances, one signal each time, before something else happens, and what; none within so many times.
-fn advances(world: &mut World<'_>, most: usize) -> Option<(usize, Outcome)> {
+pub(crate) fn advances(
+    world: &mut World<'_>,
+    federate: usize,
+    most: usize,
+) -> Option<(usize, Outcome)> {
     for count in 0..most {
-        let outcome = world.apply(Step::Advance(0)).ok()?;
+        let outcome = world.apply(Step::Advance(federate)).ok()?;
         if outcome != Outcome::Done {
             return Some((count, outcome));
         }
@@ -33,9 +38,9 @@ fn advances_twice(
 ) -> Option<[(usize, Outcome); 2]> {
     let mut world = world_of(alloc, federation)?;
     world.run(GRANTED).ok()?;
-    let first = advances(&mut world, most)?;
+    let first = advances(&mut world, 0, most)?;
     world.apply(Step::Deliver(Dir::Down(0), 1)).ok()?;
-    let second = advances(&mut world, most)?;
+    let second = advances(&mut world, 0, most)?;
     Some([first, second])
 }
 

@@ -1,9 +1,9 @@
 //! Rows and plans, by the words that ask for them.
 use crate::federations::{BOTH_WAYS, THREE, TICKS};
 use crate::outcome::{assert_answers, joined};
-use crate::worked_rows::{CARRIED_ROWS, LOOP_ROWS, REPLACED_ROWS};
 use std::alloc::Global;
 use std::test::Fail;
+use tests_samples::worked_rows::{CARRIED_ROWS, LOOP_ROWS, REPLACED_ROWS};
 use tests_samples::{
     CARRIED, CARRIED_INPUTS, CHAIN, CHAIN_INPUT, COUNTER, DELAYED_COUNTER, LOOP, REPLACED,
     STARTED_COUNTER,

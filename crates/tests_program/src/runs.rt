@@ -1,7 +1,9 @@
 //! Runs in threads: the rows that are printed, and what is printed where a run isn't finished.
 use crate::federations::{IDLE, ONE};
 use crate::outcome::assert_answers;
-use crate::worked_rows::{CARRIED_ROWS, CHAIN_ROWS, COUNTER_ROWS, LOOP_ROWS, REPLACED_ROWS};
+use tests_samples::worked_rows::{
+    CARRIED_ROWS, CHAIN_ROWS, COUNTER_ROWS, LOOP_ROWS, REPLACED_ROWS,
+};
 use tests_samples::{
     CARRIED, CARRIED_INPUTS, CHAIN, CHAIN_INPUT, COUNTER, DELAYED_COUNTER, LOOP, REPLACED,
     STARTED_COUNTER,

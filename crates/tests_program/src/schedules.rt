@@ -2,8 +2,8 @@
 use crate::federations::IDLE;
 use crate::outcome::joined;
 use crate::played::Case;
-use crate::worked_rows::{CHAIN_ROWS, COUNTER_ROWS};
 use std::test::Fail;
+use tests_samples::worked_rows::{CHAIN_ROWS, COUNTER_ROWS};
 use tests_samples::{CHAIN, CHAIN_INPUT, COUNTER};
 
 /// A timer of one nanosecond.
@@ -207,6 +207,55 @@ end
         rounds: 0,
         closing: Some(20),
         text: &["stuck\nend\n"],
+    },
+    // Four rounds. In the second src runs its first tag, and snk is granted its own first at the end of it. In the third snk says what it
+    // has next and then runs it; what comes next it says in the fourth, and isn't granted before the end of that.
+    Case {
+        federation: COUNTER,
+        inputs: "",
+        schedule: "round\nround\nround\nround\n",
+        rounds: 0,
+        closing: None,
+        text: &[
+            "src (0, 0) [t] -> [y=1]
+src (10 ms, 0) [t] -> [y=2]
+src (20 ms, 0) [t] -> [y=3]
+snk (0, 0) [x=1] -> [total=1]
+end
+",
+        ],
+    },
+    // Closing rounds after a federate forgot, whose steps have the number after the last line's: what snk announces is refused in each of
+    // them; the first message of src in the second and, sent again, in the third; its second message in the third.
+    Case {
+        federation: COUNTER,
+        inputs: "",
+        schedule: "forget snk\n",
+        rounds: 0,
+        closing: Some(3),
+        text: &[
+            "step 2 refused 51
+step 2 refused 51
+step 2 refused 51
+step 2 refused 51
+step 2 refused 51
+step 2 refused 51
+stopped at 3 rounds
+src (0, 0) [t] -> [y=1]
+src (10 ms, 0) [t] -> [y=2]
+snk forgotten
+end
+",
+        ],
+    },
+    // A TAG that rounds leave out is sent again by the coordinator.
+    Case {
+        federation: COUNTER,
+        inputs: "",
+        schedule: "announce src\ndeliver up src 1\nskip down src\n",
+        rounds: 0,
+        closing: Some(20),
+        text: &["stuck\n", COUNTER_ROWS, "end\n"],
     },
     // A new incarnation.
     Case {

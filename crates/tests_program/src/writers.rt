@@ -1,12 +1,11 @@
 //! Writers that refuse.
-use crate::machine::Machine;
 use crate::outcome::{given, text};
 use crate::two_files::TwoFiles;
 use fedrun_commands::command;
 use std::io;
 use std::io::Write;
 use std::net::{Net, TcpListener, TcpStream};
-use tests_samples::COUNTER;
+use tests_samples::{COUNTER, Machine};
 
 /// A writer that takes so many bytes, and then refuses.
 #[derive(Drop)]

@@ -1,7 +1,17 @@
-//! The worked federations and their input files, which tests of several crates load. No part of the product.
+//! The worked federations and their input files, which tests of several crates load, and the rows that they must have: as they
+//! were worked out, and as the undivided program gives them. No part of the product.
 //!
-//! Federations that differ from the counter in a few lines are made of the same text.
+//! Federations that differ from the counter in a few lines are made of the same text. Begin with `federation`.
 #![tactic(auto)]
+
+pub mod federation;
+pub mod machine;
+pub mod undivided_rows;
+pub mod worked_rows;
+
+pub use federation::{Federation, load_both, loaded};
+pub use machine::Machine;
+pub use undivided_rows::{are_rows_of, is_same, undivided};
 
 /// The counter's sender, with the stop time, and what follows it.
 macro_rules! sender_and {

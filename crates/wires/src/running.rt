@@ -13,8 +13,8 @@ use std::sync::Wait;
 use std::thread::Threads;
 use std::time::Clock;
 use wires_transports::{
-    Accepted, Acceptor, Cut, Dial, Ending, TcpAcceptor, TcpCut, TcpDial, TcpTransport, Transport,
-    listen,
+    Accepted, Acceptor, Cut, Dial, Ending, ExpectedPeers, TcpAcceptor, TcpCut, TcpDial,
+    TcpTransport, Transport, listen,
 };
 use wires_workers::{Gate, WriterQueue};
 
@@ -262,7 +262,8 @@ fn add_readers<'a, 'n, H: Node, M: Node, G: Gate, T: Drop, C: Drop, D: Drop, E: 
     Ok(())
 }
 
-/// Runs a federation in threads over TCP on loopback, on a port that the system gives: see `run`.
+/// Runs a federation in threads over TCP on loopback, on a port that the system gives: see `run`. A connection that none of its
+/// federates has made is closed before anything is read of it.
 pub fn run_over_tcp<
     R: Threads + Wait + Clock + Net<Stream = TcpStream, Listener = TcpListener> + Sync,
     H: Node + Send,
@@ -275,24 +276,40 @@ pub fn run_over_tcp<
     gate: &G,
     terms: Terms,
 ) -> Result<Vec<Option<WorkerResult>>, RunFault> {
-    match open(rt, alloc, nodes.federates.len()) {
-        Ok((lines, acceptor)) => run(rt, alloc, nodes, lines, acceptor, gate, terms),
-        Err(fault) => {
-            nodes.ending.set();
-            Err(fault)
-        }
-    }
+    let results = run_on_loopback(rt, alloc, nodes, gate, terms);
+    nodes.ending.set();
+    results
+}
+
+// Runs a federation in threads over TCP; what its workers leave.
+fn run_on_loopback<
+    R: Threads + Wait + Clock + Net<Stream = TcpStream, Listener = TcpListener> + Sync,
+    H: Node + Send,
+    M: Node + Send,
+    G: Gate + Sync,
+>(
+    rt: &R,
+    alloc: Global,
+    nodes: &Nodes<H, M>,
+    gate: &G,
+    terms: Terms,
+) -> Result<Vec<Option<WorkerResult>>, RunFault> {
+    let count = nodes.federates.len();
+    let expected = ExpectedPeers::new(alloc, count)?;
+    let (lines, acceptor) = open(rt, alloc, &expected, count)?;
+    run(rt, alloc, nodes, lines, acceptor, gate, terms)
 }
 
 // An acceptor on a port that the system gives, and for each of so many federates a line to it.
 fn open<'a, R: Net<Stream = TcpStream, Listener = TcpListener>>(
     rt: &'a R,
     alloc: Global,
+    expected: &'a ExpectedPeers,
     count: usize,
 ) -> Result<
     (
         Vec<Endpoint<TcpDial<'a, R>, TcpTransport, TcpCut>>,
-        TcpAcceptor,
+        TcpAcceptor<'a>,
     ),
     RunFault,
 > {
@@ -304,9 +321,14 @@ fn open<'a, R: Net<Stream = TcpStream, Listener = TcpListener>>(
     };
     let (readers, arrivals) = channels(alloc, count)?;
     let mut lines = Vec::with_capacity(alloc, count)?;
-    for arrivals in arrivals {
-        let dial = TcpDial { net: rt, address };
+    for (federate, arrivals) in arrivals.into_iter().enumerate() {
+        let dial = TcpDial {
+            net: rt,
+            address,
+            expected,
+            federate,
+        };
         lines.push(Endpoint { dial, arrivals })?;
     }
-    Ok((lines, TcpAcceptor::new(alloc, listener, readers)?))
+    Ok((lines, TcpAcceptor::new(alloc, listener, expected, readers)?))
 }

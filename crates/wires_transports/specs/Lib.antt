@@ -4,3 +4,5 @@ pub mod Fault
 pub mod Pipe
 -- Who a connection is, by its first frame.
 pub mod Greeter
+-- Whose a connection is, by what the dialers of a run are at.
+pub mod ExpectedPeers

@@ -3,16 +3,24 @@ ghost use Rattle.std.specs.Prelude.{◌≡◌};
 
 use crate::connection::Accepted;
 use crate::cut::Cut;
+use crate::deadline::Deadline;
 use crate::ending::Ending;
+use crate::expected_peers::{ExpectedPeers, Origin};
 use crate::pending_connection::{HandshakeState, PendingConnection};
-use crate::tcp::{TcpCut, TcpTransport, accept};
+use crate::tcp::{TcpCut, TcpTransport, connection};
 use crate::times::{END_MS, PAUSE_MS};
 use crossbeam_channel::Sender;
 use std::alloc::{AllocError, Global};
-use std::net::TcpListener;
+use std::net::{TcpListener, TcpStream};
 use std::sync::{Arc, Wait};
 use std::thread;
 use std::time::{Clock, Duration};
+
+// Connections that are taken from the listener in a row, at most.
+const AT_ONCE: usize = 64;
+
+// Connections of which it isn't clear whose they are, at most. Of more the oldest are closed.
+const UNCLEAR_MOST: usize = 64;
 
 /// How connections come to the node to which the others are linked.
 pub trait Acceptor: Drop {
@@ -20,64 +28,106 @@ pub trait Acceptor: Drop {
     fn let_in<R: Wait + Clock>(self, rt: &R, alloc: Global, ending: &Ending);
 }
 
-/// Lets connections in over TCP. Each federate's go to its reader, and the older one, if there is one, is ended. A connection
-/// that doesn't begin with a federate's Hello is closed; one that is silent keeps no other waiting. What its readers haven't
-/// read to the end a second after the run is to end is ended.
+/// Lets connections in over TCP that federates of the run have made, each once; all others are closed before anything is read of
+/// them. Each federate's go to its reader, and the older one, if there is one, is ended. A federate's connection that doesn't begin
+/// with a federate's Hello is closed; one that is silent keeps no other waiting. What its readers haven't read to the end a second
+/// after the run is to end is ended.
 #[derive(Drop)]
-pub struct TcpAcceptor {
+pub struct TcpAcceptor<'a> {
     listener: TcpListener,
+    expected: &'a ExpectedPeers,
     // To the reader of each federate, by its number.
     readers: Vec<Sender<Accepted<TcpTransport, TcpCut>>>,
     // The connection of each federate, while it has one.
     current: Vec<Option<Arc<TcpCut>>>,
 }
 
-impl TcpAcceptor {
-    /// What comes to this listener (see `listen`) goes to these readers, of each federate by its number.
+impl<'a> TcpAcceptor<'a> {
+    /// What comes to this listener (see `listen`) and is expected goes to these readers, of each federate by its number.
     pub fn new(
         alloc: Global,
         listener: TcpListener,
+        expected: &'a ExpectedPeers,
         readers: Vec<Sender<Accepted<TcpTransport, TcpCut>>>,
-    ) -> Result<TcpAcceptor, AllocError> {
+    ) -> Result<TcpAcceptor<'a>, AllocError> {
         let mut current = Vec::new(alloc);
         current.resize_with(readers.len(), || None)?;
         Ok(TcpAcceptor {
             listener,
+            expected,
             readers,
             current,
         })
     }
 }
 
-impl Acceptor for TcpAcceptor {
+impl<'a> Acceptor for TcpAcceptor<'a> {
     fn let_in<R: Wait + Clock>(self, rt: &R, alloc: Global, ending: &Ending) {
         let TcpAcceptor {
             listener,
+            expected,
             readers,
             mut current,
         } = self;
+        let mut arrived = Vec::new(alloc);
         let mut pending = Vec::new(alloc);
         for _ in rt.forever() {
             if ending.is_set() {
                 break;
             }
-            match accept(alloc, &listener) {
-                Ok(connection) => {
-                    // Without memory it is closed.
-                    let _ = pending.push(PendingConnection::new(alloc, connection));
-                }
-                // None is waiting.
-                Err(_) => thread::sleep(rt, Duration::from_millis(PAUSE_MS)),
+            if !accept_some(&listener, &mut arrived) {
+                thread::sleep(rt, Duration::from_millis(PAUSE_MS));
             }
+            arrived = sort_out(rt, alloc, expected, arrived, &mut pending);
             pending = listen_to(rt, alloc, pending, &readers, &mut current);
         }
         end_all(rt, &current);
     }
 }
 
+// Takes connections that came, so many at most; whether one came. One for which there is no memory is closed.
+fn accept_some(listener: &TcpListener, arrived: &mut Vec<TcpStream>) -> bool {
+    for count in 0..AT_ONCE {
+        match listener.accept() {
+            Ok((stream, _)) => {
+                let _ = arrived.push(stream);
+            }
+            Err(_) => return count > 0,
+        }
+    }
+    true
+}
+
+// Puts federates' connections to those that are pending, and closes strangers'; those that aren't clear yet.
+fn sort_out<R: Wait + Clock>(
+    rt: &R,
+    alloc: Global,
+    expected: &ExpectedPeers,
+    arrived: Vec<TcpStream>,
+    pending: &mut Vec<PendingConnection>,
+) -> Vec<TcpStream> {
+    let mut unclear = Vec::new(alloc);
+    for stream in arrived {
+        match expected.origin(rt, &stream) {
+            Origin::Federate(_) => {
+                if let Ok(connection) = connection(alloc, stream) {
+                    let _ = pending.push(PendingConnection::new(rt, alloc, connection));
+                }
+            }
+            Origin::Unclear => {
+                let _ = unclear.push(stream);
+            }
+            Origin::Stranger => {}
+        }
+    }
+    let too_many = unclear.len().saturating_sub(UNCLEAR_MOST);
+    unclear.drain(..too_many);
+    unclear
+}
+
 // Listens to all pending; those that are pending still. One that says whose it is goes to its reader, one that can't say it
 // any more is closed, and so is one that there is no memory to keep.
-fn listen_to<R: Wait>(
+fn listen_to<R: Wait + Clock>(
     rt: &R,
     alloc: Global,
     pending: Vec<PendingConnection>,
@@ -86,45 +136,52 @@ fn listen_to<R: Wait>(
 ) -> Vec<PendingConnection> {
     let mut left = Vec::new(alloc);
     for mut connection in pending {
-        match connection.listen(readers.len()) {
+        match connection.listen(rt, readers.len()) {
             HandshakeState::NotYet => {
                 let _ = left.push(connection);
             }
-            HandshakeState::Hello(federate) => {
-                replace(rt, current, federate, connection.cut());
-                if let Some(reader) = readers.get(federate) {
-                    let _ = reader.send(rt, connection.into_accepted());
-                }
-            }
+            HandshakeState::Hello(federate) => hand_on(rt, readers, current, federate, connection),
             HandshakeState::NoHello => connection.cut().cut(rt),
         }
     }
     left
 }
 
-// Ends the federate's older connection, and keeps this one in its place.
-fn replace<R: Wait>(
+// Hands a connection to its federate's reader, in place of the older one, which is ended. Where there is no memory for it, it is
+// ended too, so that the federate connects again.
+fn hand_on<R: Wait>(
     rt: &R,
+    readers: &[Sender<Accepted<TcpTransport, TcpCut>>],
     current: &mut [Option<Arc<TcpCut>>],
     federate: usize,
-    cut: &Arc<TcpCut>,
+    connection: PendingConnection,
 ) {
-    if let Some(place) = current.get_mut(federate) {
-        if let Some(older) = place.take() {
-            older.cut(rt);
+    let Some(reader) = readers.get(federate) else {
+        return;
+    };
+    let Some(place) = current.get_mut(federate) else {
+        return;
+    };
+    if let Some(older) = place.take() {
+        older.cut(rt);
+    }
+    if let Ok(cut) = Arc::try_clone(connection.cut()) {
+        match reader.send(rt, connection.into_accepted()) {
+            Ok(()) => *place = Some(cut),
+            Err(_) => cut.cut(rt),
         }
-        *place = Arc::try_clone(cut).ok();
     }
 }
 
 // Ends the connections, once no worker has them any more or the time for that is over.
 fn end_all<R: Wait + Clock>(rt: &R, current: &[Option<Arc<TcpCut>>]) {
-    for _ in 0..END_MS {
-        if current
+    let deadline = Deadline::after(rt, END_MS);
+    for _ in rt.forever() {
+        let is_read = current
             .iter()
             .flatten()
-            .all(|cut| Arc::strong_count(cut) == 1)
-        {
+            .all(|cut| Arc::strong_count(cut) == 1);
+        if is_read || deadline.has_passed(rt) {
             break;
         }
         thread::sleep(rt, Duration::from_millis(PAUSE_MS));

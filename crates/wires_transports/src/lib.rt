@@ -2,21 +2,23 @@
 //! let in and ended.
 //!
 //! Promise to the layer above: a call over a connection fails only where the connection counted a failure, bytes over memory are
-//! taken in the order in which they were sent, and a connection that is let in began with a Hello. Nothing is said of when a
-//! call returns.
+//! taken in the order in which they were sent, and a connection that is let in over TCP was made by a federate of the run and began
+//! with a Hello. Nothing is said of when a call returns.
 //!
-//!     Dial::dial ---- connects ----> Acceptor::let_in: PendingConnection::listen, until its Hello is there ----> its federate's reader
+//!     Dial::dial ---- connects ----> Acceptor::let_in: ExpectedPeers, whose it is ----> PendingConnection, its Hello ----> its federate's reader
 //!
-//! Begin with `transport`, then `connection`, then `tcp` and `in_memory`; `specs/Pipe`, `specs/Greeter` and `specs/Fault` are its
-//! definitions.
+//! Begin with `transport`, then `connection`, then `tcp` and `in_memory`, then `expected_peers`; `specs/Pipe`, `specs/Greeter`,
+//! `specs/ExpectedPeers` and `specs/Fault` are its definitions.
 #![tactic(auto)]
 
 pub mod acceptor;
 pub mod broken;
 pub mod connection;
 pub mod cut;
+pub mod deadline;
 pub mod dial;
 pub mod ending;
+pub mod expected_peers;
 pub mod failures;
 pub mod in_memory;
 pub mod memory;
@@ -30,8 +32,10 @@ pub use acceptor::{Acceptor, TcpAcceptor};
 pub use broken::Broken;
 pub use connection::{Accepted, Connection};
 pub use cut::Cut;
+pub use deadline::Deadline;
 pub use dial::{Dial, TcpDial};
 pub use ending::Ending;
+pub use expected_peers::ExpectedPeers;
 pub use failures::Failures;
 pub use in_memory::{MemoryCut, MemoryTransport, pair};
 pub use memory::Memory;

@@ -3,11 +3,13 @@ ghost use Rattle.std.specs.Prelude.{◌≡◌};
 ghost use Rattle.wires_transports.specs.Greeter.{greeter_of};
 
 use crate::connection::{Accepted, Connection};
+use crate::deadline::Deadline;
 use crate::tcp::{TcpCut, TcpTransport};
 use crate::times::SILENCE_MS;
 use signal::{Frame, FrameReader};
 use std::alloc::Global;
 use std::sync::Arc;
+use std::time::Clock;
 
 // A Hello's bytes: no more are read at once, and a whole frame is there after them or never.
 const HELLO_BYTES: usize = 20;
@@ -40,12 +42,13 @@ pub(crate) struct PendingConnection {
     connection: Connection<TcpTransport, TcpCut>,
     frames: FrameReader,
     first: Vec<u8>,
-    looks: u32,
+    silence: Deadline,
 }
 
 impl PendingConnection {
     /// Nothing came of it so far.
-    pub(crate) fn new(
+    pub(crate) fn new<R: Clock>(
+        rt: &R,
         alloc: Global,
         connection: Connection<TcpTransport, TcpCut>,
     ) -> PendingConnection {
@@ -53,7 +56,7 @@ impl PendingConnection {
             connection,
             frames: FrameReader::new(alloc),
             first: Vec::new(alloc),
-            looks: 0,
+            silence: Deadline::after(rt, SILENCE_MS),
         }
     }
 
@@ -73,14 +76,13 @@ impl PendingConnection {
     }
 
     /// Reads what has come, without waiting.
-    pub(crate) fn listen(&mut self, federates: usize) -> HandshakeState {
-        self.looks = self.looks.saturating_add(1);
+    pub(crate) fn listen<R: Clock>(&mut self, rt: &R, federates: usize) -> HandshakeState {
         match self.next_frame() {
             Some(Some(frame)) => match greeter(&frame, federates) {
                 Some(federate) => HandshakeState::Hello(federate),
                 None => HandshakeState::NoHello,
             },
-            Some(None) if self.looks < SILENCE_MS => HandshakeState::NotYet,
+            Some(None) if !self.silence.has_passed(rt) => HandshakeState::NotYet,
             _ => HandshakeState::NoHello,
         }
     }

@@ -5,12 +5,14 @@ use crate::broken::Broken;
 use crate::connection::Connection;
 use crate::cut::Cut;
 use crate::failures::Failures;
+use crate::times::CONNECT_MS;
 use crate::transport::Transport;
 use std::alloc::Global;
 use std::io;
 use std::io::{ErrorKind, Read, Write};
 use std::net::{Net, Shutdown, SocketAddr, TcpListener, TcpStream};
 use std::sync::{Arc, Wait};
+use std::time::Duration;
 
 /// One end of a connection over TCP.
 #[derive(Drop)]
@@ -80,26 +82,35 @@ pub fn listen<R: Net<Stream = TcpStream, Listener = TcpListener>>(
     Ok(listener)
 }
 
+/// A connection that was made, with its socket and that one's own address.
+#[derive(Drop)]
+pub(crate) struct Connected {
+    pub connection: Connection<TcpTransport, TcpCut>,
+    pub socket: TcpStream,
+    pub address: SocketAddr,
+}
+
 /// A new connection to a listener.
-pub fn connect<R: Net<Stream = TcpStream>>(
+pub(crate) fn connect<R: Net<Stream = TcpStream>>(
     rt: &R,
     alloc: Global,
     address: SocketAddr,
-) -> io::Result<Connection<TcpTransport, TcpCut>> {
-    connection(alloc, TcpStream::connect(rt, address)?)
+) -> io::Result<Connected> {
+    let stream = TcpStream::connect_timeout(rt, &address, Duration::from_millis(CONNECT_MS))?;
+    let socket = stream.try_clone()?;
+    let address = stream.local_addr()?;
+    Ok(Connected {
+        connection: connection(alloc, stream)?,
+        socket,
+        address,
+    })
 }
 
-/// The next connection that came to a listener.
-pub fn accept(
+/// A connected stream as a connection, for its two workers. Frames are small and go at once.
+pub fn connection(
     alloc: Global,
-    listener: &TcpListener,
+    stream: TcpStream,
 ) -> io::Result<Connection<TcpTransport, TcpCut>> {
-    let (stream, _) = listener.accept()?;
-    connection(alloc, stream)
-}
-
-// The stream for its two workers. Frames are small and go at once.
-fn connection(alloc: Global, stream: TcpStream) -> io::Result<Connection<TcpTransport, TcpCut>> {
     stream.set_nodelay(true)?;
     let outgoing = stream.try_clone()?;
     let cut = stream.try_clone()?;

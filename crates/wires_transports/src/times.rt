@@ -15,11 +15,14 @@ pub const WAITS_BEFORE_RESEND: u8 = 10;
 /// The longest wait until a writer sees by itself that the run is to end.
 pub const WRITER_WAIT_MS: u64 = 100;
 
-/// A connection that hasn't said whose it is after about so long is closed: it is looked at once in each pause.
-pub const SILENCE_MS: u32 = 5000;
+/// An attempt to connect that takes longer has failed.
+pub const CONNECT_MS: u64 = 3000;
+
+/// A connection that hasn't said whose it is after so long is closed.
+pub const SILENCE_MS: u64 = 5000;
 
 /// So long the readers have, once the run is to end, to read what was sent.
-pub const END_MS: u32 = 1000;
+pub const END_MS: u64 = 1000;
 
 /// How long an audit beside a run leaves its nodes alone where nothing new was written down.
 pub const AUDIT_PAUSE_MS: u64 = 1;

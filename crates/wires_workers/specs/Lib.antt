@@ -8,3 +8,5 @@ pub mod HandedIn
 pub mod AreRead
 -- The frames that wait for a writer's next send.
 pub mod Waiting
+-- What a reply says: whether something was done, and the frames.
+pub mod Replies

@@ -13,11 +13,11 @@ pub record RetryState : Type 0 where
 abbrev pub turn_of : ℕ → Next
 turn_of turns = if nat_eq turns 0 then End else Turn
 
--- after a turn
-abbrev pub turned : RetryState → RetryState
-turned p = record { turns = p.turns - 1; waits = p.waits }
+-- after so many turns
+abbrev pub turned : RetryState → (made : ℕ) → RetryState
+turned p made = record { turns = p.turns - made; waits = p.waits }
 
--- after a turn in which nothing was done it waits, where a turn is left
+-- after a turn, whose state this is: it waits where nothing was done and a turn is left
 abbrev pub after_turn : RetryState → (idle : Bool) → Next
 after_turn p idle = if not (nat_eq p.turns 0) && idle then Wait else turn_of p.turns
 

@@ -1,14 +1,15 @@
-ghost use Rattle.std.specs.Prelude.{◌≡◌, ℕ, ◌≤◌, None, ◌∷◌, ◌++◌, List, [], IfSome};
+ghost use Rattle.std.specs.Prelude.{◌≡◌, ℕ, ◌≤◌, None, false, ◌||◌, ◌∷◌, ◌++◌, List, [], IfSome, OnOk, OnErr};
 ghost use Rattle.node.specs.declared.event.Event.TheVariants as Events;
 ghost use Rattle.desk.specs.declared.slip.Slip.{Slip};
 ghost use Rattle.wires_workers.specs.HandedIn.{AreHandedIn, HandedIn, events_of_turns};
+ghost use Rattle.wires_workers.specs.Replies.{is_done, frames_of};
 
 use crate::gate::{Gate, Point};
 use crate::wake_ups::{WakeUp, WakeUps};
 use crate::writer_queue::WriterQueue;
 use desk::{Locked, Share, Shared};
 use node::{Event, Node, NodeId, Outgoing, Reply};
-use std::alloc::Global;
+use std::alloc::{AllocError, Global};
 use std::sync::Wait;
 use std::time::Clock;
 use wires_transports::Ending;
@@ -22,38 +23,52 @@ struct BatchReply {
 
 impl BatchReply {
     // Nothing.
-    fn new(alloc: Global) -> BatchReply {
+    fn new(alloc: Global) -> BatchReply
+        ensures frames { result.frames.items ≡ [] }
+        ensures has_done { result.has_done ≡ false }
+    {
         BatchReply {
             frames: Vec::new(alloc),
             has_done: false,
         }
     }
 
-    // Adds what a reply says; whether it did something. Frames for which there is no memory are lost, as on a line that loses
-    // frames.
-    fn add(&mut self, reply: Reply) -> bool {
+    // Adds what a reply says. Without memory its frames aren't added.
+    fn add(&mut self, reply: Reply) -> Result<(), AllocError>
+        ensures has_done { self.new.has_done ≡ self.old.has_done || is_done reply }
+        ensures frames { OnOk result (self.new.frames.items ≡ self.old.frames.items ++ frames_of reply) }
+        ensures unchanged { OnErr result (self.new.frames.items ≡ self.old.frames.items) }
+    {
         match reply {
             Reply::Done(frames) => {
                 self.has_done = true;
-                self.add_frames(frames);
-                true
+                self.add_frames(frames)
             }
-            Reply::Refused(_, frames) => {
-                self.add_frames(frames);
-                false
-            }
-            Reply::Nothing => false,
+            Reply::Refused(_, frames) => self.add_frames(frames),
+            Reply::Nothing => Ok(()),
         }
     }
 
     // Adds frames. The first ones are taken as they are.
-    fn add_frames(&mut self, frames: Vec<Outgoing>) {
+    fn add_frames(&mut self, frames: Vec<Outgoing>) -> Result<(), AllocError>
+        ensures has_done { self.new.has_done ≡ self.old.has_done }
+        ensures frames { OnOk result (self.new.frames.items ≡ self.old.frames.items ++ frames.items) }
+        ensures unchanged { OnErr result (self.new.frames.items ≡ self.old.frames.items) }
+    {
         if self.frames.is_empty() {
             self.frames = frames;
+            Ok(())
         } else {
-            let _ = self.frames.extend_from_slice(&frames);
+            self.frames.extend_from_slice(&frames)
         }
     }
+}
+
+// Whether a reply says that something was done.
+fn is_done(reply: &Reply) -> bool
+    ensures { result ≡ is_done reply.now }
+{
+    matches!(reply, Reply::Done(_))
 }
 
 /// Turns that were made.
@@ -88,7 +103,7 @@ impl<'a, N: Node, G: Gate, T: Drop, C: Drop> Context<'a, N, G, T, C> {
         self.gate.pass(rt, self.node, Point::of(&event));
         match self.shared.handle(rt, share, event) {
             Ok(reply) => {
-                if let Reply::Done(_) = reply {
+                if is_done(&reply) {
                     self.wake_up(rt, WakeUp::Done);
                 }
                 Some(reply)
@@ -98,7 +113,7 @@ impl<'a, N: Node, G: Gate, T: Drop, C: Drop> Context<'a, N, G, T, C> {
     }
 
     /// Makes the events' steps one after the other, and hands the frames of the replies to the writers while the desk's lock is
-    /// held: so frames for one peer are written in the order of the steps, whoever hands in. Where the gate is open the lock is
+    /// held. Where the gate is open the lock is
     /// held over all of them, and else the gate is passed before each. Whether one of them did something.
     pub fn hand_in<R: Wait + Clock>(
         &self,
@@ -118,6 +133,13 @@ impl<'a, N: Node, G: Gate, T: Drop, C: Drop> Context<'a, N, G, T, C> {
             self.wake_up(rt, WakeUp::Done);
         }
         has_done
+    }
+
+    /// Greets the node's one peer again, and sends again all that it hasn't acknowledged.
+    pub fn repeat<R: Wait + Clock>(&self, rt: &R, alloc: Global, share: &mut Share)
+        ensures { AreHandedIn share.old (Events.Hello 0 ∷ Events.Resend 0 ∷ []) share.new }
+    {
+        self.hand_in(rt, alloc, share, &[Event::Hello(0), Event::Resend(0)]);
     }
 
     /// Makes turns, an announcement and then an advance each, until one of them did nothing, at most so many but one at least.
@@ -198,7 +220,7 @@ impl<'a, N: Node, G: Gate, T: Drop, C: Drop> Context<'a, N, G, T, C> {
     // Hands on what was said, gives the lock up, and ends the run where the node is finished.
     fn leave<R: Wait>(&self, rt: &R, desk: Locked<'_, N>, said: BatchReply) {
         let is_finished = !self.ending.is_set() && desk.finished();
-        self.send(rt, said.frames);
+        self.send(rt, &desk, said.frames);
         desk.release();
         if is_finished {
             self.end(rt);
@@ -227,8 +249,9 @@ impl<'a, N: Node, G: Gate, T: Drop, C: Drop> Context<'a, N, G, T, C> {
         }
     }
 
-    /// Hands the frames to their peers' writers, to each its own at once where there is memory to sort them.
-    pub fn send<R: Wait>(&self, rt: &R, mut frames: Vec<Outgoing>) {
+    // Hands the frames to their peers' writers, to each its own at once where there is memory to sort them. Only who holds the desk's
+    // lock may: so frames for one peer are written in the order of the steps, whoever hands in.
+    fn send<R: Wait>(&self, rt: &R, _held: &Locked<'_, N>, mut frames: Vec<Outgoing>) {
         if self.writers.len() > 1 {
             let _ = frames.sort_by_key(|outgoing| outgoing.peer);
         }
@@ -259,7 +282,12 @@ fn enter<N: Node>(
     ensures { HandedIn share.old event share.new }
 {
     match desk.handle(share, event) {
-        Ok(reply) => said.add(reply),
+        Ok(reply) => {
+            let has_done = is_done(&reply);
+            // Frames for which there is no memory are lost, as on a line that loses frames.
+            let _ = said.add(reply);
+            has_done
+        }
         Err(_) => false,
     }
 }

@@ -34,6 +34,6 @@ pub use gate::{Gate, NoGate, Point};
 pub use reader::read;
 pub use retry_state::{Next, RetryState};
 pub use side::Side;
-pub use wake_ups::{WakeUp, WakeUps};
+pub use wake_ups::{Waited, WakeUp, WakeUps};
 pub use writer::write;
 pub use writer_queue::WriterQueue;

@@ -62,12 +62,12 @@ impl RetryState {
         }
     }
 
-    /// A turn was made, idle where it did nothing. An attempt to connect that failed is one too.
-    pub fn after_turn(&mut self, idle: bool) -> Next
-        ensures state { self.new ≡ turned self.old }
+    /// So many turns were made, the last of them idle where it did nothing. An attempt to connect that failed is one too.
+    pub fn after_turns(&mut self, made: u32, idle: bool) -> Next
+        ensures state { self.new ≡ turned self.old made }
         ensures next { result ≡ after_turn self.new idle }
     {
-        self.turns = self.turns.saturating_sub(1);
+        self.turns = self.turns.saturating_sub(made);
         if self.turns > 0 && idle {
             Next::Wait
         } else {

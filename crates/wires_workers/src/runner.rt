@@ -6,7 +6,7 @@ use crate::gate::Gate;
 use crate::retry_state::{Next, RetryState};
 use crate::wake_ups::{Waited, WakeUp, WakeUps};
 use desk::Share;
-use node::{Event, Node};
+use node::Node;
 use std::alloc::Global;
 use std::sync::Wait;
 use std::time::Clock;
@@ -33,11 +33,11 @@ pub fn run<R: Wait + Clock, N: Node, G: Gate, T: Drop, C: Drop>(
             Next::Turn => take_turns(rt, alloc, context, wake_ups, &mut share, &mut state),
             Next::Wait => match wake_ups.wait(rt) {
                 Some(WakeUp::Done) => state.after_wait(true),
-                Some(WakeUp::NotConnected) => state.after_turn(true),
+                Some(WakeUp::NotConnected) => state.after_turns(1, true),
                 None => state.after_wait(false),
             },
             Next::Repeat => {
-                context.hand_in(rt, alloc, &mut share, &[Event::Hello(0), Event::Resend(0)]);
+                context.repeat(rt, alloc, &mut share);
                 state.turn()
             }
             Next::End => break,
@@ -60,16 +60,11 @@ fn take_turns<R: Wait + Clock, N: Node, G: Gate, T: Drop, C: Drop>(
     if has_done {
         state.after_wait(true);
     }
-    for _ in 0..failed {
-        state.after_turn(true);
-    }
+    state.after_turns(failed, true);
     if state.turn() == Next::End {
         return Next::End;
     }
     let most = state.turns_left().min(TURNS_AT_ONCE);
     let Turns { made, is_idle } = context.take_turns(rt, alloc, share, most);
-    for _ in 1..made {
-        state.after_turn(false);
-    }
-    state.after_turn(is_idle)
+    state.after_turns(made, is_idle)
 }

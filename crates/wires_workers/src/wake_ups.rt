@@ -16,7 +16,7 @@ pub enum WakeUp {
 
 /// The wake-ups that were waiting.
 #[derive(Clone, Copy, Debug, PartialEq, Eq)]
-pub(crate) struct Waited {
+pub struct Waited {
     /// Whether something was done.
     pub has_done: bool,
     /// How many attempts to connect failed.
@@ -59,7 +59,7 @@ impl WakeUps {
 
     /// Takes all wake-ups that are waiting, before a turn that answers them. What is done before it ends is seen by that turn, and of
     /// what is done after it there is a wake-up again.
-    pub(crate) fn take_waiting<R: Wait>(&self, rt: &R) -> Waited {
+    pub fn take_waiting<R: Wait>(&self, rt: &R) -> Waited {
         let mut waited = Waited {
             has_done: false,
             failed: 0,

@@ -1,12 +1,11 @@
 //! How an audit's failures are printed.
-use crate::loading::loaded;
 use fedrun_run::AuditFailure;
 use node::NodeId;
 use plan::Plan;
 use recorder::Unproved;
 use std::alloc::Global;
 use std::test::Fail;
-use tests_samples::COUNTER;
+use tests_samples::{COUNTER, loaded};
 
 fn spelled(alloc: Global, failure: &AuditFailure) -> Option<String> {
     format!(in alloc; "{failure}").ok()
@@ -22,7 +21,7 @@ fn is_told_of(alloc: Global, plan: &Plan, fault: Unproved, text: &str) -> bool {
 
 fn is_told(alloc: Global, fault: Unproved, text: &str) -> bool {
     match loaded(alloc, COUNTER, "") {
-        Some(federation) => is_told_of(alloc, &federation.plan, fault, text),
+        Some(federation) => is_told_of(alloc, federation.plan(), fault, text),
         None => false,
     }
 }

@@ -1,6 +1,5 @@
 //! A frame that was never sent: a coordinator grants before it heard of anything, and a federate announces after the grant.
-use crate::counted::told_of;
-use crate::loading::{Federation, loaded};
+use crate::reported::told_of;
 use node::{Event, NodeId};
 use reactor::Rows;
 use recorder::{Report, Unproved};
@@ -8,6 +7,7 @@ use signal::{Frame, Signal};
 use std::alloc::Global;
 use std::test::Fail;
 use tag::{FiniteTag, Tag, Time};
+use tests_samples::{Federation, loaded};
 
 /// One federate, which runs once.
 const ALONE: &str = r#"

@@ -1,12 +1,11 @@
 //! Reports of strangers, second ones, and missing ones.
-use crate::loading::{Federation, loaded};
-use node::Event;
+use crate::reported::told_of;
 use plan::Plan;
 use reactor::Rows;
-use recorder::{Collector, Report, ReportFault, Unproved, audit};
+use recorder::{Collector, Report, ReportFault, Unproved};
 use std::alloc::Global;
 use std::test::Fail;
-use tests_samples::COUNTER;
+use tests_samples::{COUNTER, loaded};
 
 fn empty(alloc: Global, federate: usize) -> Report {
     Report {
@@ -23,24 +22,6 @@ fn all_empty(alloc: Global, federates: &[usize]) -> Option<Vec<Report>> {
         reports.push(empty(alloc, *federate)).ok()?;
     }
     Some(reports)
-}
-
-/// What an audit answers of these reports and the coordinator's journal.
-pub(crate) fn told_of(
-    alloc: Global,
-    federation: &Federation,
-    reports: &[Report],
-    coordinator: &[Event],
-) -> Option<Unproved> {
-    audit(
-        alloc,
-        &federation.plan,
-        &federation.programs,
-        &federation.inputs,
-        reports,
-        coordinator,
-    )
-    .err()
 }
 
 /// What an audit of two federates answers of empty reports of these.
@@ -92,7 +73,7 @@ fn answers_strangers_before_doubles_before_missing_reports(rt: HostRuntime) -> R
 #[test]
 fn collects_one_report_of_each_federate(rt: HostRuntime) -> Result<(), Fail> {
     let federation = loaded(rt.alloc(), COUNTER, "");
-    assert!(rt; federation.is_some_and(|federation| collects(rt.alloc(), &federation.plan)));
+    assert!(rt; federation.is_some_and(|federation| collects(rt.alloc(), federation.plan())));
     assert_eq!(rt; ReportFault::Stranger.number(), 80);
     assert_eq!(rt; ReportFault::Double.number(), 81);
     Ok(())

@@ -1,13 +1,12 @@
 //! Where both ends have version 2 and many signals wait, Batches go over a connection; where one has version 1, none does.
 ghost use Rattle.std.specs.Prelude.{◌≡◌};
 
-use crate::loading::{Federation, loaded};
-use crate::machine::Machine;
 use crate::memory_lines::{Wrap, ran_by_frames};
-use crate::running::has_all_rows;
+use crate::nodes::has_all_rows;
 use std::alloc::Global;
 use std::sync::Wait;
 use std::sync::atomic::{AtomicU64, Ordering};
+use tests_samples::{Federation, Machine, loaded};
 use wires_transports::{Broken, Failures, MemoryTransport, Transport};
 use wires_workers::NoGate;
 

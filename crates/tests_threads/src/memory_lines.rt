@@ -1,5 +1,5 @@
 //! Federations in threads over connections in memory.
-use crate::loading::{Federation, nodes_of};
+use crate::nodes::nodes_of;
 use coordinator::Coordinator;
 use crossbeam_channel::{Sender, unbounded};
 use federate::Federate;
@@ -7,6 +7,7 @@ use std::alloc::Global;
 use std::sync::Wait;
 use std::thread::Threads;
 use std::time::Clock;
+use tests_samples::Federation;
 use wires::{Endpoint, Gathered, Terms, run};
 use wires_transports::{
     Accepted, Acceptor, Connection, Cut, Dial, Ending, MemoryCut, MemoryTransport, Transport, pair,

@@ -1,15 +1,24 @@
 //! Federations in threads over TCP.
-use crate::loading::{ALL, Federation, are_rows_of, loaded, nodes_of, undivided};
-use crate::machine::Machine;
+use crate::nodes::{has_all_rows, is_finished, nodes_of};
 use coordinator::Coordinator;
 use federate::Federate;
-use node::Node;
-use reactor::Rows;
-use std::alloc::Global;
 use std::net::{Net, TcpListener, TcpStream};
-use tests_samples::COUNTER;
+use tests_samples::{
+    CHAIN, CHAIN_INPUT, COUNTER, DELAYED_COUNTER, Federation, LOOP, Machine, REPLACED,
+    STARTED_COUNTER, loaded,
+};
 use wires::{Gathered, Terms, run_over_tcp};
 use wires_workers::NoGate;
+
+/// The federations that are run, each with its input file.
+const ALL: &[(&str, &str)] = &[
+    (COUNTER, ""),
+    (DELAYED_COUNTER, ""),
+    (REPLACED, ""),
+    (LOOP, ""),
+    (CHAIN, CHAIN_INPUT),
+    (STARTED_COUNTER, ""),
+];
 
 /// The desks after a run over TCP; None where there are none.
 fn ran<'a, R: Machine + Net<Stream = TcpStream, Listener = TcpListener>>(
@@ -20,33 +29,6 @@ fn ran<'a, R: Machine + Net<Stream = TcpStream, Listener = TcpListener>>(
     let nodes = nodes_of(rt.alloc(), federation)?;
     let left = run_over_tcp(rt, rt.alloc(), &nodes, &NoGate, Terms { turns, frames: 2 }).ok()?;
     nodes.gather(rt.alloc(), left).ok()
-}
-
-/// Whether the coordinator is finished.
-pub(crate) fn is_finished(gathered: &Gathered<Coordinator<'_>, Federate<'_>>) -> bool {
-    gathered.coordinator.station().node().finished()
-}
-
-/// Whether the coordinator is finished, and each federate has these rows among all.
-pub(crate) fn has_rows(gathered: &Gathered<Coordinator<'_>, Federate<'_>>, all: &Rows) -> bool {
-    for (number, desk) in gathered.federates.iter().enumerate() {
-        if !are_rows_of(desk.station().node().rows(), number, all) {
-            return false;
-        }
-    }
-    is_finished(gathered)
-}
-
-/// Whether the coordinator is finished, and each federate has its rows of the undivided program.
-pub(crate) fn has_all_rows(
-    alloc: Global,
-    federation: &Federation,
-    gathered: &Gathered<Coordinator<'_>, Federate<'_>>,
-) -> bool {
-    match undivided(alloc, federation) {
-        Some(whole) => has_rows(gathered, whole.rows()),
-        None => false,
-    }
 }
 
 /// Whether a run has the rows of the undivided program.

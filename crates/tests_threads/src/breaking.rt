@@ -1,15 +1,14 @@
 //! Each federate's connection breaks once in its midst: it connects again, and the rows are the same.
 ghost use Rattle.std.specs.Prelude.{◌≡◌};
 
-use crate::loading::{Federation, loaded};
 use crate::memory_lines::{Wrap, ran_in_memory};
-use crate::running::has_all_rows;
+use crate::nodes::has_all_rows;
 use std::alloc::Global;
 use std::sync::Wait;
 use std::sync::atomic::{AtomicU64, Ordering};
 use std::thread::Threads;
 use std::time::Clock;
-use tests_samples::COUNTER;
+use tests_samples::{COUNTER, Federation, loaded};
 use wires_transports::{Broken, Failures, MemoryTransport, Transport};
 use wires_workers::NoGate;
 

@@ -1,11 +1,9 @@
 //! A run over TCP prints its rows, federate by federate; one with too few turns prints none.
-use crate::loading::{Federation, loaded};
-use crate::machine::Machine;
-use crate::worked_rows::COUNTER_ROWS;
 use fedrun_run::{AuditedFault, print_audited_run};
 use std::net::{Net, TcpListener, TcpStream};
 use std::test::Fail;
-use tests_samples::COUNTER;
+use tests_samples::worked_rows::COUNTER_ROWS;
+use tests_samples::{COUNTER, Federation, Machine, loaded};
 use wires::Terms;
 
 /// Prints the rows of a run of at most so many turns; whether it is printed that the run isn't finished.
@@ -18,9 +16,9 @@ fn is_unfinished<R: Machine + Net<Stream = TcpStream, Listener = TcpListener>>(
     match print_audited_run(
         rt,
         rt.alloc(),
-        &federation.plan,
-        &federation.programs,
-        &federation.inputs,
+        federation.plan(),
+        federation.programs(),
+        federation.inputs(),
         Terms { turns, frames: 2 },
         out,
     ) {

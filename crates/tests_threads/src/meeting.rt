@@ -1,7 +1,6 @@
 //! Two federates that have nothing to do with each other run at the same time.
-use crate::loading::{Federation, loaded};
 use crate::memory_lines::{Plain, ran_in_memory};
-use crate::running::is_finished;
+use crate::nodes::is_finished;
 use node::NodeId;
 use std::alloc::Global;
 use std::sync::Wait;
@@ -9,7 +8,7 @@ use std::sync::atomic::{AtomicBool, Ordering};
 use std::thread;
 use std::thread::Threads;
 use std::time::{Clock, Duration};
-use tests_samples::APART;
+use tests_samples::{APART, Federation, loaded};
 use wires_workers::{Gate, Point};
 
 /// Each of two federates waits before it advances until the other has come too, at most 10,000 times 1 ms.

@@ -1,0 +1,229 @@
+//! Reports of desks are collected and audited. A report that is refused is handed back, an audit that is out of memory may be made
+//! again, and one that is begun while journals grow goes on.
+use crate::desks::{Run, played};
+use crate::loading::loaded;
+use desk::Desk;
+use federate::Federate;
+use node::{Event, NodeId};
+use recorder::{
+    AuditedRun, Collector, IncrementalAudit, Refused, Report, ReportFault, Unproved, audit,
+};
+use std::alloc::Global;
+use tests_samples::Federation;
+use world_stations::Step;
+
+// ---- reports
+
+/// How much a report says: whose it is, its rows, and its events.
+#[derive(Clone, Copy, PartialEq, Eq)]
+struct Size {
+    federate: usize,
+    rows: usize,
+    events: usize,
+}
+
+fn size_of(report: &Report) -> Size {
+    Size {
+        federate: report.federate,
+        rows: report.rows.len(),
+        events: report.journal.len(),
+    }
+}
+
+/// Whether a report is taken: at once, or where it was out of memory and handed back, and all is as before, the next time.
+fn takes(collector: &mut Collector<'_>, report: Report) -> bool {
+    let count = collector.reports().len();
+    let size = size_of(&report);
+    match collector.add(report) {
+        Ok(()) => true,
+        Err(refused) => {
+            let Refused { report, fault } = refused;
+            fault == ReportFault::Memory
+                && fault.number() == 85
+                && size_of(&report) == size
+                && collector.reports().len() == count
+                && collector.add(report).is_ok()
+        }
+    }
+}
+
+/// What a federate's desk says.
+fn report_of(federate: usize, desk: Desk<Federate<'_>>) -> Report {
+    let (station, journal) = desk.into_parts();
+    Report {
+        federate,
+        rows: station.into_node().into_rows(),
+        journal,
+    }
+}
+
+/// Whether all reports are taken.
+fn takes_all(collector: &mut Collector<'_>, desks: Vec<Desk<Federate<'_>>>) -> bool {
+    for (federate, desk) in desks.into_iter().enumerate() {
+        if !takes(collector, report_of(federate, desk)) {
+            return false;
+        }
+    }
+    collector.reports().len() == 2
+}
+
+// ---- audits
+
+/// What the nodes of a run say.
+#[derive(Clone, Copy)]
+struct Said<'a> {
+    reports: &'a [Report],
+    coordinator: &'a [Event],
+}
+
+/// How many events all journals have: each of them is one step.
+fn event_count(said: Said<'_>) -> usize {
+    let mut count = said.coordinator.len();
+    for report in said.reports {
+        count = count.saturating_add(report.journal.len());
+    }
+    count
+}
+
+fn audited_at_once(
+    alloc: Global,
+    federation: &Federation,
+    said: Said<'_>,
+) -> Result<Vec<Step>, Unproved> {
+    audit(
+        alloc,
+        federation.plan(),
+        federation.programs(),
+        federation.inputs(),
+        said.reports,
+        said.coordinator,
+    )
+}
+
+/// The steps of an audit, at the second attempt where the first was out of memory.
+fn audited(alloc: Global, federation: &Federation, said: Said<'_>) -> Option<Vec<Step>> {
+    match audited_at_once(alloc, federation, said) {
+        Ok(steps) => Some(steps),
+        Err(fault) => {
+            if fault.number() == 85 {
+                audited_at_once(alloc, federation, said).ok()
+            } else {
+                None
+            }
+        }
+    }
+}
+
+/// Whether two audits find the same steps, one for each event.
+fn audits_twice(alloc: Global, federation: &Federation, said: Said<'_>) -> Option<bool> {
+    let first = audited(alloc, federation, said)?;
+    let second = audited(alloc, federation, said)?;
+    Some(first.as_slice() == second.as_slice() && first.len() == event_count(said))
+}
+
+// ---- audits of journals that grow
+
+/// Whether an audit knows these events of a node too: at once, or where it was out of memory and knows none of them, the next time.
+fn learns(audit: &mut IncrementalAudit<'_>, node: NodeId, events: &[Event]) -> bool {
+    let known = audit.known(node);
+    if audit.add(node, events).is_err() {
+        if audit.known(node) != known || audit.add(node, events).is_err() {
+            return false;
+        }
+    }
+    audit.known(node) == known.saturating_add(events.len())
+}
+
+/// The first half of a journal, or the second.
+fn half(journal: &[Event], is_first: bool) -> &[Event] {
+    let (first, second) = journal.split_at(journal.len() / 2);
+    if is_first { first } else { second }
+}
+
+/// Whether an audit knows a half of each journal too.
+fn learns_half(audit: &mut IncrementalAudit<'_>, said: Said<'_>, is_first: bool) -> bool {
+    if !learns(audit, NodeId::Coordinator, half(said.coordinator, is_first)) {
+        return false;
+    }
+    for report in said.reports {
+        let node = NodeId::Federate(report.federate);
+        if !learns(audit, node, half(&report.journal, is_first)) {
+            return false;
+        }
+    }
+    true
+}
+
+/// What an audit says at the end that went on after each half of the journals; None where a half isn't known.
+fn concluded_at_once(
+    alloc: Global,
+    federation: &Federation,
+    said: Said<'_>,
+) -> Option<Result<AuditedRun, Unproved>> {
+    let mut audit = match IncrementalAudit::new(
+        alloc,
+        federation.plan(),
+        federation.programs(),
+        federation.inputs(),
+    ) {
+        Ok(audit) => audit,
+        Err(fault) => return Some(Err(fault)),
+    };
+    for is_first in [true, false] {
+        if !learns_half(&mut audit, said, is_first) {
+            return None;
+        }
+        audit.go_on(alloc);
+    }
+    Some(audit.conclude(alloc, said.reports, said.coordinator))
+}
+
+/// The same, where it is a run that it believes, at the second attempt where the first was out of memory.
+fn concluded(alloc: Global, federation: &Federation, said: Said<'_>) -> Option<AuditedRun> {
+    match concluded_at_once(alloc, federation, said)? {
+        Ok(audited) => Some(audited),
+        Err(fault) => {
+            if fault.number() == 85 {
+                concluded_at_once(alloc, federation, said)?.ok()
+            } else {
+                None
+            }
+        }
+    }
+}
+
+/// Whether such an audit finds a step for each event, and the run finished.
+fn concludes(alloc: Global, federation: &Federation, said: Said<'_>) -> Option<bool> {
+    let audited = concluded(alloc, federation, said)?;
+    Some(audited.is_finished && audited.steps.len() == event_count(said))
+}
+
+// ---- all of it
+
+fn is_believed(alloc: Global, federation: &Federation, said: Said<'_>) -> Option<bool> {
+    Some(audits_twice(alloc, federation, said)? && concludes(alloc, federation, said)?)
+}
+
+/// Whether the reports of a run are taken and believed.
+fn collects_and_audits(alloc: Global) -> Option<bool> {
+    let federation = loaded(alloc)?;
+    let Run {
+        coordinator,
+        federates,
+        ..
+    } = played(alloc, &federation)?;
+    let mut collector = Collector::new(alloc, federation.plan());
+    if !takes_all(&mut collector, federates) {
+        return Some(false);
+    }
+    let said = Said {
+        reports: collector.reports(),
+        coordinator: coordinator.journal(),
+    };
+    is_believed(alloc, &federation, said)
+}
+
+#[test]
+fn believes_the_same_reports_after_a_refusal(rt: HostRuntime) {
+    assert_eq!(rt; collects_and_audits(rt.alloc()), Some(true));
+}

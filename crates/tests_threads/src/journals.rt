@@ -1,0 +1,75 @@
+//! What is copied of a journal while its node runs.
+use crate::nodes::nodes_of;
+use desk::{Share, Shared};
+use federate::Federate;
+use node::Event;
+use std::alloc::Global;
+use std::sync::Wait;
+use tests_samples::{Machine, SENDER, loaded};
+
+/// What is handed in, and so stands in the journal.
+fn handed_in() -> [Event; 4] {
+    [
+        Event::Hello(0),
+        Event::Announce,
+        Event::Advance,
+        Event::Resend(0),
+    ]
+}
+
+/// What is in a list before the events that are copied behind it.
+const BEFORE: Event = Event::Resend(7);
+
+/// From which place on events are copied, how many at most, and between which places they stand.
+const COPIED: &[(usize, usize, usize, usize)] = &[
+    (0, 10, 0, 4),
+    (0, 4, 0, 4),
+    (1, 2, 1, 3),
+    (3, 1, 3, 4),
+    (0, 0, 0, 0),
+    (4, 5, 0, 0),
+    (9, 5, 0, 0),
+];
+
+/// Whether these events are copied of the journal, behind what is in the list before.
+fn copies<R: Wait>(
+    rt: &R,
+    alloc: Global,
+    shared: &Shared<Federate<'_>>,
+    place: usize,
+    most: usize,
+    wanted: &[Event],
+) -> Option<bool> {
+    let mut events = Vec::new(alloc);
+    events.push(BEFORE).ok()?;
+    shared.copy_events(rt, place, most, &mut events).ok()?;
+    let (first, copied) = events.as_slice().split_first()?;
+    Some(*first == BEFORE && copied == wanted)
+}
+
+/// Whether all of them are.
+fn copies_each<R: Wait>(rt: &R, alloc: Global, shared: &Shared<Federate<'_>>) -> Option<bool> {
+    let mut share = Share::new(alloc);
+    let events = handed_in();
+    for event in &events {
+        shared.handle(rt, &mut share, *event).ok()?;
+    }
+    for (place, most, from, to) in COPIED {
+        let wanted = events.get(*from..*to)?;
+        if !copies(rt, alloc, shared, *place, *most, wanted)? {
+            return Some(false);
+        }
+    }
+    Some(true)
+}
+
+fn copies_of_sender<R: Machine>(rt: &R) -> Option<bool> {
+    let federation = loaded(rt.alloc(), SENDER, "")?;
+    let nodes = nodes_of(rt.alloc(), &federation)?;
+    copies_each(rt, rt.alloc(), nodes.federates.first()?)
+}
+
+#[test]
+fn copies_events_of_a_journal(rt: HostRuntime) {
+    assert_eq!(rt; copies_of_sender(&rt), Some(true));
+}

@@ -1,0 +1,35 @@
+//! Tests of federations in threads, and of audits: over TCP they have the rows of the undivided program, also where each connection
+//! breaks; what two federates do over memory at the same time; what workers are told; what is printed of a run, and what an audit
+//! answers of reports. No program uses this crate.
+//!
+//! Begin with `nodes`, then `running` for runs over TCP, `memory_lines` for runs over memory, and `reported` for audits.
+#![tactic(auto)]
+
+#[cfg(test)]
+mod batches_sent;
+#[cfg(test)]
+mod breaking;
+#[cfg(test)]
+mod counted;
+#[cfg(test)]
+mod journals;
+#[cfg(test)]
+mod listening;
+#[cfg(test)]
+mod meeting;
+#[cfg(test)]
+mod memory_lines;
+#[cfg(test)]
+mod nodes;
+#[cfg(test)]
+mod reported;
+#[cfg(test)]
+mod rows_printed;
+#[cfg(test)]
+mod running;
+#[cfg(test)]
+mod told;
+#[cfg(test)]
+mod unsent;
+#[cfg(test)]
+mod workers;

@@ -1,0 +1,5 @@
+//! Tests of connections over TCP: which of them are let in, and how they end. No program uses this crate.
+#![tactic(auto)]
+
+#[cfg(test)]
+mod letting_in;
