@@ -13,6 +13,7 @@ import pathlib
 import struct
 import subprocess
 import tempfile
+import time
 
 SOURCE = r"""
 #define _GNU_SOURCE
@@ -89,6 +90,7 @@ class Answer:
     status: int | None
     out: str
     err: str
+    seconds: float
     # Whether its main began, how many requests it made from then on, and how many of them were refused.
     has_begun: bool
     asked: int
@@ -116,13 +118,16 @@ class Refuser:
             counts.flush()
             variables = {"REFUSED_COUNTS": counts.name, "REFUSED_FIRST": str(first), "REFUSED_LAST": str(last)}
             environment = os.environ | variables | {"LD_PRELOAD": str(self.files / "refuser.so")}
+            begin = time.monotonic()
             try:
                 got = subprocess.run(words, env=environment, stdin=subprocess.DEVNULL, capture_output=True, timeout=seconds, **options)
                 status, out, err = got.returncode, got.stdout, got.stderr
             except subprocess.TimeoutExpired as late:
                 status, out, err = None, late.stdout or b"", late.stderr or b""
+            took = time.monotonic() - begin
             has_begun, asked, refused = struct.unpack("3q", pathlib.Path(counts.name).read_bytes())
-        return Answer(status, out.decode(errors="replace"), err.decode(errors="replace"), has_begun == 1, asked, refused)
+        out, err = out.decode(errors="replace"), err.decode(errors="replace")
+        return Answer(status, out, err, took, has_begun == 1, asked, refused)
 
 
 def each(run, jobs=1):
