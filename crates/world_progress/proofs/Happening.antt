@@ -1,10 +1,8 @@
 -- What certain steps do in a world in which nobody forgot: what is sent again, a signal that comes once more, an acknowledgement, and a
 -- signal in its turn where there is room for what its receiver sends.
-use Rattle.std.proofs.Common.{◌≡◌, ℕ, suc, ◌+◌, ◌<◌, max, Bool, true, false, List, [], ◌∷◌, ◌++◌, length, map, set, get_or, slice_get, refl, sym, ap, subst, ◌∙◌, arith, Option, None, Some, Ok, IsTrue, if◌then◌else◌}
-use Rattle.std.specs.Prelude.{nat_eq}
-use Rattle.std.proofs.lemmas.Bool.{lt-ltb, eqb-true, eqb-false}
-use Rattle.std.proofs.lemmas.List.{append-nil, append_assoc}
-use Rattle.network.proofs.Items.{get_set_here, get_set_other}
+use Rattle.std.proofs.Common.{◌≡◌, ℕ, suc, ◌<◌, max, Bool, true, false, List, [], ◌∷◌, ◌++◌, length, map, set, get_or, slice_get, refl, sym, ap, subst, ◌∙◌, arith, Option, None, Some, Ok, IsTrue, if◌then◌else◌}
+use Rattle.std.proofs.lemmas.Bool.{lt-ltb}
+use Rattle.network.proofs.Items.{get_set_here}
 use Rattle.signal.specs.declared.signal.Signal.{Signal}
 use Rattle.signal.specs.declared.frame.Frame.{Frame}
 use Rattle.signal.specs.declared.frame.Frame.TheVariants.{Data, Ack}
@@ -36,29 +34,13 @@ use Rattle.world_stations.specs.declared.step.Step.TheVariants.{Deliver, Resend}
 use Rattle.world_stations.specs.World.{frames_in, federate_of, delivered, Occurrence, if_there, frames_of, sent_out, Applied, after_coordinator, after_federate, at_federate, happens, outcome_of}
 use Rattle.world_stations.specs.Taken.{own_end, receiver, sender}
 use Rattle.world_stations.specs.Federation.{Federation, IsPlain, is_plain, step_in}
-use Rattle.world_stations.proofs.Posting.{frame_if, frames_to, to_itself}
+use Rattle.world_stations.proofs.Posting.{frames_to, to_itself}
 use Rattle.world_stations.proofs.Course.{IsPlainAnswer}
 use Rattle.world_stations.proofs.Courses.{frames_with, some_of}
-use Rattle.world_stations.proofs.Shown.{got}
+use Rattle.world_stations.proofs.Shown.{got, sent_out_at}
 use Rattle.world_progress.proofs.Reached.{Reached}
 use Rattle.world_progress.specs.Fair.{back}
 use Rattle.world_progress.proofs.Facing.{side_out, side_in}
-
--- what is sent to a peer is appended to what was sent to it
-sent_out_at : (lists : List (List Frame)) (outs : List Outgoing) (p : ℕ) (xs : List Frame) → slice_get lists p ≡ Some xs → slice_get (sent_out lists outs) p ≡ Some (xs ++ frames_to p outs)
-sent_out_at lists [] p xs found = found ∙ ap (λ (x : List Frame). Some x) (sym (append-nil xs))
-sent_out_at lists (o ∷ outs) p xs found =
-    sent_out_at (set lists o.peer (get_or lists o.peer [] ++ o.frame ∷ [])) outs p (xs ++ frame_if (nat_eq p o.peer) o.frame) (by_number (nat_eq p o.peer) refl) ∙
-    ap (λ (x : List Frame). Some x) (append_assoc xs (frame_if (nat_eq p o.peer) o.frame) (frames_to p outs))
-  where
-    by_number : (b : Bool) → nat_eq p o.peer ≡ b → slice_get (set lists o.peer (get_or lists o.peer [] ++ o.frame ∷ [])) p ≡ Some (xs ++ frame_if b o.frame)
-    by_number true e =
-        let same : o.peer ≡ p = sym (eqb-true p o.peer e) in
-        let P : ℕ → Type 0 = λ x. slice_get (set lists x (get_or lists x [] ++ o.frame ∷ [])) p ≡ Some (xs ++ o.frame ∷ []) in
-        subst P (sym same)
-        (get_set_here lists p xs (get_or lists p [] ++ o.frame ∷ []) found ∙ ap (λ (x : List Frame). Some (x ++ o.frame ∷ [])) (got lists p xs [] found))
-    by_number false e =
-        get_set_other lists o.peer p (get_or lists o.peer [] ++ o.frame ∷ []) (eqb-false p o.peer e) ∙ found ∙ ap (λ (x : List Frame). Some x) (sym (append-nil xs))
 
 -- the frames of a station's answer, as they are appended
 unaddressed : (q : ℕ) (frames : List Frame) → map (λ (out : Outgoing). out.frame) (addressed q frames) ≡ frames

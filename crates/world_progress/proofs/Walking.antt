@@ -15,13 +15,10 @@ use Rattle.plan.specs.Federation.{federate_count}
 use Rattle.plan.specs.Least.{least_of}
 use Rattle.reactor_program.specs.Behaviour.{Behaviour}
 use Rattle.plan_network.specs.Network.{network_of}
-use Rattle.protocol.specs.declared.refusal.Refusal.{Refusal}
-use Rattle.protocol.specs.Outcome.{Refused, Nothing, Done, with_made}
+use Rattle.protocol.specs.Outcome.{Nothing, Done, with_made}
 use Rattle.protocol.specs.Federate.{federate_announces, federate_advances}
 use Rattle.protocol.specs.Machine.{Member, Move, ToCoordinator, ToFederate, Announce, Advance, Lose, with_member, federate_records_of, sent_to, stepped, outcome_of}
 use Rattle.protocol_laws.proofs.Eligibility.{lawful_is_wired}
-use Rattle.protocol_laws.proofs.SafeGrants.{widest_rule_is_safe}
-use Rattle.protocol_laws.proofs.Safety.{none_refused}
 use Rattle.node.specs.declared.event.Event.{Event}
 use Rattle.node.specs.Step.{Station, step_of}
 use Rattle.node_cores.specs.FederateCore as of_federate
@@ -42,7 +39,7 @@ use Rattle.world_stations.proofs.Taking.{quiet_none}
 use Rattle.world_stations.proofs.Moves.{done_of, refused_of, nothing_of, coordinator_answers, federate_answers, announces_freely, advances_freely, rule_of, coordinator_makes, coordinator_accepts_listed, moved_to, announce_move, advance_move}
 use Rattle.world_stations.proofs.Runs.{IsRun, IsMoved, quiet_coordinator, takes_coordinator, coordinator_refuses}
 use Rattle.world_stations.proofs.Members.{own_ends, accepts_as, announces_as, advances_as, kept_takes, kept_says, unmoved, kept_refuses}
-use Rattle.world_stations.proofs.Steps.{members_after}
+use Rattle.world_stations.proofs.Steps.{members_after, refuses_no}
 
 -- how many signals acts take
 abbrev pub count_taking : List Act → ℕ
@@ -177,13 +174,6 @@ quiet_counted : (d : Draft) (programs : List Behaviour) (inputs : List Input) (w
     → (j : ℕ) → j < federate_count d → count_taking (acts j) ≤ 0
 quiet_counted d programs inputs w links members acts are run j l =
     none_taking (acts j) (quiet_none true (links j).first.end.incarnation (acts j) (are j (links j).first.end (run.shown.each j l).first))
-
--- no move is refused
-refuses_no : (d : Draft) (programs : List Behaviour) (inputs : List Input) (moves : List Move) (move : Move) (refusal : Refusal) → IsLawfulWith (network_of d programs inputs) (least_of d) → outcome_of (network_of d programs inputs) (rule_of d programs inputs) (members_after d programs inputs moves) move ≡ Refused refusal → ⊥
-refuses_no d programs inputs moves move refusal lawful e =
-    let n = network_of d programs inputs in
-    let safe = widest_rule_is_safe n (least_of d) (lawful_is_wired n lawful.lawful) in
-    none_refused n (least_of d) (λ k. rule_of d programs inputs) moves move refusal lawful.lawful lawful.facts (λ k. safe) e
 
 -- the coordinator's station does something
 walks_at_coordinator : (d : Draft) (programs : List Behaviour) (inputs : List Input) (w : Federation) (links : ℕ → Link) (moves : List Move) (e : Event) (place : ℕ) (c : IsCourse coordinator_core true w.coordinator e (ups_of links) place (step_of coordinator_core true w.coordinator e))

@@ -91,7 +91,8 @@ nothing_beyond [] k l = refl
 nothing_beyond (x ∷ xs) zero l = absurd (omega arith)
 nothing_beyond (x ∷ xs) (suc k) l = nothing_beyond xs k (omega arith)
 
-sent_out_at : (lists : List (List Frame)) (outs : List Outgoing) (p : ℕ) (xs : List Frame) → slice_get lists p ≡ Some xs → slice_get (sent_out lists outs) p ≡ Some (xs ++ frames_to p outs)
+-- what is sent to a peer is appended to what was sent to it
+pub sent_out_at : (lists : List (List Frame)) (outs : List Outgoing) (p : ℕ) (xs : List Frame) → slice_get lists p ≡ Some xs → slice_get (sent_out lists outs) p ≡ Some (xs ++ frames_to p outs)
 sent_out_at lists [] p xs found = found ∙ ap (λ (x : List Frame). Some x) (sym (append-nil xs))
 sent_out_at lists (o ∷ outs) p xs found =
     sent_out_at (set lists o.peer (get_or lists o.peer [] ++ o.frame ∷ [])) outs p (xs ++ frame_if (nat_eq p o.peer) o.frame) (by_number (nat_eq p o.peer) refl) ∙

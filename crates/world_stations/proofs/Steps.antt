@@ -68,7 +68,7 @@ by_none : (d : Draft) (programs : List Behaviour) (inputs : List Input) (made : 
 by_none d programs inputs made links step moves plain run = record { links = links; moved = moves; run = run; plain = plain; lost = λ j other. refl }
 
 -- no move is refused
-refuses_no : (d : Draft) (programs : List Behaviour) (inputs : List Input) (moves : List Move) (move : Move) (refusal : Refusal) → IsLawfulWith (network_of d programs inputs) (least_of d) → outcome_of (network_of d programs inputs) (rule_of d programs inputs) (members_after d programs inputs moves) move ≡ Refused refusal → ⊥
+pub refuses_no : (d : Draft) (programs : List Behaviour) (inputs : List Input) (moves : List Move) (move : Move) (refusal : Refusal) → IsLawfulWith (network_of d programs inputs) (least_of d) → outcome_of (network_of d programs inputs) (rule_of d programs inputs) (members_after d programs inputs moves) move ≡ Refused refusal → ⊥
 refuses_no d programs inputs moves move refusal lawful e =
     let n = network_of d programs inputs in
     let safe = widest_rule_is_safe n (least_of d) (lawful_is_wired n lawful.lawful) in
