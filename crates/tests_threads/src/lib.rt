@@ -16,6 +16,8 @@ mod journals;
 #[cfg(test)]
 mod listening;
 #[cfg(test)]
+mod lone_acks;
+#[cfg(test)]
 mod meeting;
 #[cfg(test)]
 mod memory_lines;

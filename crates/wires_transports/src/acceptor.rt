@@ -8,7 +8,7 @@ use crate::ending::Ending;
 use crate::expected_peers::{ExpectedPeers, Origin};
 use crate::pending_connection::{HandshakeState, PendingConnection};
 use crate::tcp::{TcpCut, TcpTransport, connection};
-use crate::times::{END_MS, PAUSE_MS};
+use crate::times::{CALM_PAUSE_MS, END_MS, PAUSE_MS};
 use crossbeam_channel::Sender;
 use std::alloc::{AllocError, Global};
 use std::net::{TcpListener, TcpStream};
@@ -76,13 +76,24 @@ impl<'a> Acceptor for TcpAcceptor<'a> {
                 break;
             }
             if !accept_some(&listener, &mut arrived) {
-                thread::sleep(rt, Duration::from_millis(PAUSE_MS));
+                let is_calm = arrived.is_empty() && pending.is_empty() && are_all_there(&current);
+                thread::sleep(rt, Duration::from_millis(pause(is_calm)));
             }
             arrived = sort_out(rt, alloc, expected, arrived, &mut pending);
             pending = listen_to(rt, alloc, pending, &readers, &mut current);
         }
         end_all(rt, &current);
     }
+}
+
+// Whether every federate has a connection.
+fn are_all_there(current: &[Option<Arc<TcpCut>>]) -> bool {
+    current.iter().all(|cut| cut.is_some())
+}
+
+// How long it waits for connections before it looks again, in ms.
+fn pause(is_calm: bool) -> u64 {
+    if is_calm { CALM_PAUSE_MS } else { PAUSE_MS }
 }
 
 // Takes connections that came, so many at most; whether one came. One for which there is no memory is closed.

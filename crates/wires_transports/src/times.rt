@@ -6,6 +6,9 @@
 /// Between two looks at a listener, and before the next attempt to connect.
 pub const PAUSE_MS: u64 = 1;
 
+/// Between two looks at a listener while every federate has a connection and no other waits to be let in.
+pub const CALM_PAUSE_MS: u64 = 10;
+
 /// The longest wait of a runner for a wake-up.
 pub const RUNNER_WAIT_MS: u64 = 10;
 
@@ -14,6 +17,9 @@ pub const WAITS_BEFORE_RESEND: u8 = 10;
 
 /// The longest wait until a writer sees by itself that the run is to end.
 pub const WRITER_WAIT_MS: u64 = 100;
+
+/// The longest wait of an Ack for another frame to the same peer.
+pub const ACK_WAIT_MS: u64 = 1;
 
 /// An attempt to connect that takes longer has failed.
 pub const CONNECT_MS: u64 = 3000;

@@ -8,5 +8,7 @@ pub mod HandedIn
 pub mod AreRead
 -- The frames that wait for a writer's next send.
 pub mod Waiting
+-- Which frames may wait until there are others for their peer.
+pub mod LoneAcks
 -- What a reply says: whether something was done, and the frames.
 pub mod Replies

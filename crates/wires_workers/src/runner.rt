@@ -12,7 +12,7 @@ use std::sync::Wait;
 use std::time::Clock;
 
 // As many as take no longer than a lock, a notification and a wake-up for each would.
-const TURNS_AT_ONCE: u32 = 16;
+const TURNS_AT_ONCE: u32 = 64;
 
 /// Runs a node for so many turns, or until the run is to end; its share. Where its turns are used up, the run is to end.
 pub fn run<R: Wait + Clock, N: Node, G: Gate, T: Drop, C: Drop>(

@@ -179,7 +179,8 @@ fn covers(frame: &Frame, ack: &Frame) -> bool
 }
 
 /// Writes what is waiting, each time in one send, until the run is to end, by this version of frames: 1, or 2 or more with Batches
-/// where the peer reads them. What was asked before the end is still written.
+/// where the peer reads them. Acks alone, while they are few, wait a little for other frames. What was asked before the end is still
+/// written.
 pub fn write<R: Wait + Clock, T: Transport, C: Cut>(
     rt: &R,
     alloc: Global,
@@ -189,12 +190,17 @@ pub fn write<R: Wait + Clock, T: Transport, C: Cut>(
 ) {
     let mut writer = Writer::new(alloc, own.max(1));
     let mut frames = Vec::new(alloc);
+    let mut is_late = false;
     for _ in rt.forever() {
         // Before it sees whether the run is to end: else the notification of the end may be the one that it has had already.
         queue.look();
         let is_last = ending.is_set();
         frames.clear();
-        let Asked { side, peer } = queue.take(rt, &mut frames);
+        let Asked {
+            side,
+            peer,
+            looks_soon,
+        } = queue.take(rt, is_late || is_last, &mut frames);
         if let Some(side) = side {
             writer.begin(side);
         }
@@ -204,7 +210,7 @@ pub fn write<R: Wait + Clock, T: Transport, C: Cut>(
         if is_last {
             break;
         }
-        queue.wait(rt);
+        is_late = !queue.wait(rt, looks_soon);
         // What is asked until others have run is written in the same send.
         thread::yield_now();
     }

@@ -1,0 +1,26 @@
+-- Which frames may wait until there are others for their peer.
+use Rattle.std.specs.Prelude.{Bool, true, false, not, ◌&&◌, nat_lt, List, length}
+use Rattle.std.specs.List.{list_all}
+use Rattle.signal.specs.declared.frame.Frame.{Frame}
+use Rattle.signal.specs.declared.frame.Frame.TheVariants.{Hello, Data, Ack, Refuse}
+use Rattle.node.specs.declared.outgoing.Outgoing.{Outgoing}
+use Rattle.wires_workers.specs.declared.writer_queue.TheConstants.{ACKS_AT_ONCE}
+
+-- an Ack
+abbrev pub is_ack : Frame → Bool
+is_ack (Ack incarnation last_taken) = true
+is_ack (Hello hello) = false
+is_ack (Data incarnation number signal) = false
+is_ack (Refuse incarnation refusal) = false
+
+-- Acks alone
+abbrev pub are_acks : List Outgoing → Bool
+are_acks frames = list_all (λ outgoing. is_ack outgoing.frame) frames
+
+-- Acks alone, fewer than are sent without other frames
+abbrev pub are_few_acks : List Outgoing → Bool
+are_few_acks frames = nat_lt (length frames) ACKS_AT_ONCE && are_acks frames
+
+-- whether what waits is left: it isn't late, there is no new connection, and of frames few Acks alone wait
+abbrev pub is_left : (is_late is_new : Bool) → List Outgoing → Bool
+is_left is_late is_new frames = not is_late && (not is_new && are_few_acks frames)
