@@ -1,18 +1,18 @@
 -- Closing rounds that are made one after the other.
-use Rattle.std.proofs.Common.{◌≡◌, ℕ, suc, ◌+◌, ◌<◌, ◌≤◌, inl, inr, List, [], ◌++◌, Option, None, Some, Result, Ok, Err, refl, sym, ap, ◌∙◌, subst, append-nil, arith}
+use Rattle.std.proofs.Common.{◌≡◌, ℕ, suc, ◌+◌, ◌<◌, inl, inr, List, ◌++◌, Option, None, Some, Result, Ok, Err, refl, sym, ap, ◌∙◌, subst, append-nil, arith}
 use Rattle.std.proofs.lemmas.Bool.{cases_lt}
 use Rattle.plan.specs.declared.draft.Draft.{Draft}
 use Rattle.plan.specs.declared.input.Input.{Input}
 use Rattle.plan.specs.Federation.{federate_count}
 use Rattle.reactor_program.specs.Behaviour.{Behaviour}
 use Rattle.world_stations.specs.Federation.{IsStuck}
-use Rattle.world_progress.specs.Rounds.{Playing, closing_round_tasks, closing_rounds_tasks, after_closing_rounds, steps_of_tasks, after_tasks}
-use Rattle.world.specs.World.{WorldView, stations_of}
+use Rattle.world_progress.specs.Rounds.{Playing, closing_round_tasks, closing_rounds_tasks, after_closing_rounds, steps_of_tasks}
+use Rattle.world.specs.World.{stations_of}
 use Rattle.fedrun_script.specs.Scripts.{Script}
 use Rattle.fedrun_replay.specs.declared.fault.ReplayFault.{ReplayFault}
 use Rattle.fedrun_replay.specs.declared.fault.ReplayFault.TheVariants.{World, CannotWrite}
-use Rattle.fedrun_replay.specs.Play.{PlayerView, playing_of, count_in, unasked, unasked_player, after_lines, Made, made_for, made_by, Plays, PlaysSome}
-use Rattle.fedrun_replay.specs.Closing.{MayMake, MakesAll, HasClosed, HasClosedSome, IsClosing, most_rounds, made_in_all, PlaysSchedule, PlaysSomeOf, IsPlaying}
+use Rattle.fedrun_replay.specs.Play.{PlayerView, playing_of, count_in, unasked, unasked_player, Made, made_for, made_by, Plays, PlaysSome}
+use Rattle.fedrun_replay.specs.Closing.{MayMake, MakesAll, HasClosed, IsClosing, made_in_all, PlaysSchedule, PlaysSomeOf, IsPlaying}
 use Rattle.fedrun_replay.proofs.Playing.{plays_on, some_on, some_of_none}
 use Rattle.fedrun_replay.proofs.Doing.{Does, Stops, does_nothing, each_on, stopped_on}
 use Rattle.fedrun_replay.proofs.Obeying.{Obeys, StopsIn, same_count}

@@ -4,11 +4,11 @@ use Rattle.world_stations.specs.declared.dir.Dir.{Dir}
 use Rattle.world_stations.specs.declared.step.Step.{Step}
 use Rattle.world_stations.specs.declared.step.Step.TheVariants.{Deliver}
 use Rattle.world_stations.specs.Federation.{Federation}
-use Rattle.world_progress.specs.Rounds.{Cursors, Playing, brings, delivers, waiting, with_made, with_cursor, moved_to, sent_in}
+use Rattle.world_progress.specs.Rounds.{Playing, brings, delivers, waiting, with_made, with_cursor, moved_to, sent_in}
 use Rattle.world_progress.proofs.TaskLists.{delivers_append, world_after_append}
 use Rattle.world.specs.World.{stations_of}
 use Rattle.fedrun_replay.specs.declared.fault.ReplayFault.{ReplayFault}
-use Rattle.fedrun_replay.specs.Play.{PlayerView, playing_of, Made, made_for, Plays, HasMade, HasStopped, HasPlayed, HasTried}
+use Rattle.fedrun_replay.specs.Play.{PlayerView, playing_of, made_for, Plays, HasMade, HasStopped, HasPlayed, HasTried}
 use Rattle.fedrun_replay.proofs.Playing.{plays_nothing, made_for_append, played_on, stopped_of_more}
 use Rattle.fedrun_replay.proofs.Doing.{Does, Stops}
 

@@ -1,11 +1,12 @@
 -- Tasks that a player does one after the other.
-use Rattle.std.proofs.Common.{◌≡◌, ℕ, suc, ◌+◌, ◌-◌, ◌<◌, ◌≤◌, List, [], ◌∷◌, ◌++◌, Option, Result, Ok, Err, refl, sym, ap, ◌∙◌, subst, append_assoc, append-nil, arith}
+use Rattle.std.proofs.Common.{◌≡◌, ℕ, suc, ◌+◌, ◌<◌, List, [], ◌∷◌, ◌++◌, Option, Result, Ok, Err, refl, sym, ap, ◌∙◌, subst, arith}
+use Rattle.plan.specs.Federation.{federate_count}
 use Rattle.world_stations.specs.declared.dir.Dir.{Dir}
 use Rattle.world_progress.specs.Rounds.{Playing, Task, skips, moved_to, sent_in, steps_of_tasks, after_tasks, for_each}
 use Rattle.world_progress.proofs.TaskLists.{steps_append, after_append, Parts, each_parts}
-use Rattle.world.specs.World.{stations_of}
+use Rattle.world.specs.World.{WorldView, stations_of}
 use Rattle.fedrun_replay.specs.declared.fault.ReplayFault.{ReplayFault}
-use Rattle.fedrun_replay.specs.Play.{PlayerView, playing_of, Made, made_for, Plays, HasMade, HasStopped, HasPlayed, HasDone}
+use Rattle.fedrun_replay.specs.Play.{PlayerView, playing_of, count_in, Made, made_for, Plays, HasMade, HasStopped, HasPlayed, HasDone}
 use Rattle.fedrun_replay.proofs.Playing.{plays_nothing, made_for_append, played_on, stopped_of_more}
 
 -- a player did this for a line
@@ -79,6 +80,19 @@ pub if_stopped : {T : Type 0} (result : Result T ReplayFault) (fault : ReplayFau
     → result ≡ Err fault → HasStopped fault asked v.world later.world a b → HasPlayed result asked then v later a b
 if_stopped {T} result fault asked then v later a b failed stopped =
     subst (λ (r : Result T ReplayFault). HasPlayed r asked then v later a b) (sym failed) stopped
+
+-- a call that failed with this stopped while it did that of one federate
+pub each_failed : {T : Type 0} (result : Result T ReplayFault) (fault : ReplayFault) (line : ℕ) (tasks : ℕ → List Task) (k : ℕ) (v mid later : PlayerView) (a b c : Option (List ℕ))
+    → result ≡ Err fault → k < count_in v → Does line (for_each tasks k) v mid a b → Stops fault line (tasks k) mid later b c
+    → HasDone result line (for_each tasks (count_in v)) v later a c
+each_failed result fault line tasks k v mid later a b c failed below first stopped =
+    let all : List Task = for_each tasks (count_in v) in
+    if_stopped result fault (made_for line (steps_of_tasks all (playing_of v))) (after_tasks all (playing_of v)) v later a c failed
+    (each_stopped fault line tasks k (count_in v) v mid later a b c below first stopped)
+
+-- the count of a world's federates, where the world is a player's
+pub counted : (count : ℕ) (w : WorldView) (v : PlayerView) → count ≡ federate_count w.draft → w ≡ v.world → count ≡ count_in v
+counted count w v count_is same = count_is ∙ ap (λ (world : WorldView). federate_count world.draft) same
 
 -- a cursor was moved, and no step was made
 pub skipped : (line : ℕ) (dir : Dir) (v later : PlayerView) (bytes : Option (List ℕ)) → later.world ≡ v.world

@@ -28,6 +28,9 @@ replayed_kept d programs inputs s closing before mid after replayed kept =
       plays = replayed.plays;
       ended = ended_kept closing replayed.last replayed.played mid after replayed.ended kept;
       faithful = replayed.faithful;
+      enough = λ asks.
+          let whole = replayed.enough asks in
+          record { stuck = whole.stuck; printed = Appends-kept replayed.played mid after _ whole.printed kept };
     }
 
 -- the refused steps of one that broke off

@@ -9,5 +9,9 @@ pub mod Delivering
 pub mod Obeying
 -- closing rounds that are made one after the other
 pub mod Closed
+-- where the lines of a schedule leave a player
+pub mod Leaving
+-- closing rounds that are enough end stuck, with every row
+pub mod Enough
 -- what a replay printed stays printed
 pub mod Kept

@@ -1,7 +1,7 @@
 -- How many closing rounds come after a schedule's lines.
 use Rattle.std.specs.Prelude.{◌≡◌, ◌⊎◌, ℕ, ◌+◌, ◌<◌, ◌≤◌, List, ◌++◌, Option, None, Some, Result, Ok, Err}
 use Rattle.world_stations.specs.Federation.{IsStuck}
-use Rattle.world_progress.specs.Rounds.{Playing, steps_of_tasks, after_tasks, closing_rounds_tasks, after_closing_rounds}
+use Rattle.world_progress.specs.Rounds.{Playing, steps_of_tasks, closing_rounds_tasks, after_closing_rounds}
 use Rattle.world.specs.World.{WorldView}
 use Rattle.fedrun_script.specs.Scripts.{Script}
 use Rattle.fedrun_replay.specs.declared.fault.ReplayFault.{ReplayFault}

@@ -3,5 +3,7 @@
 pub mod Play
 -- how many closing rounds are made
 pub mod Closing
+-- when closing rounds are enough, and how a replay ends then
+pub mod Enough
 -- what is printed at the end, and all together
 pub mod Replayed

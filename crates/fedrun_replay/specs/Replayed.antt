@@ -17,6 +17,7 @@ use Rattle.fedrun_replay.specs.declared.fault.ReplayFault.TheVariants.{World, Ca
 use Rattle.fedrun_script.specs.Scripts.{Script}
 use Rattle.fedrun_replay.specs.Play.{unasked_player}
 use Rattle.fedrun_replay.specs.Closing.{PlaysSchedule, PlaysSomeOf}
+use Rattle.fedrun_replay.specs.Enough.{AsksForEnough, EndsWithEveryRow}
 
 -- federate j's rows where it kept its state, else that it forgot
 abbrev pub history : WorldView → ℕ → List ℕ
@@ -45,13 +46,15 @@ IsEnded None w before after = Appends before after (histories w)
 IsEnded (Some most) w before after = IsClosed most w before after
 
 -- a writer's bytes grew by what is printed of the steps of a schedule and its closing rounds, in a world of which nothing was asked, and then
--- by what is printed at the end of the world after them: all that is known of worlds holds of it
+-- by what is printed at the end of the world after them: all that is known of worlds holds of it, and where closing rounds were enough it is
+-- stuck, and every row is printed
 pub record IsReplayed (d : Draft) (programs : List Behaviour) (inputs : List Input) (s : Script) (closing : Option ℕ) (before after : Option (List ℕ)) : Type 0 where
   pub last : WorldView
   pub played : Option (List ℕ)
   pub plays : PlaysSchedule s closing (unasked_player d programs inputs) last before played
   pub ended : IsEnded closing last played after
   pub faithful : IsFaithful last
+  pub enough : AsksForEnough d programs inputs s closing → EndsWithEveryRow d programs inputs last played after
 
 -- out of memory a writer's bytes grew by what is printed of the first of these steps, and no more
 abbrev pub IsBrokenOff : Draft → List Behaviour → List Input → Script → Option ℕ → Option (List ℕ) → Option (List ℕ) → ReplayFault → Type 0

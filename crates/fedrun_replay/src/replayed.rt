@@ -14,7 +14,8 @@ use std::io::Write;
 
 /// Plays a schedule in a world of which nothing was asked, and prints the refused steps as they come, each with its line's number;
 /// then, with `closing`, makes closing rounds until the world is stuck or so many were made, and prints which of both; then each
-/// federate's history, and the end. The caller flushes.
+/// federate's history, and the end. Where nobody forgets by the schedule and `closing` is enough (`specs/Enough`), the world ends
+/// stuck, and every row is printed. The caller flushes.
 pub fn replay<W: Write>(
     alloc: Global,
     out: &mut W,
@@ -29,6 +30,7 @@ pub fn replay<W: Write>(
     ensures printed { OnOk result (IsReplayed plan.now programs.now inputs.now script.now closing (W.contents out.old) (W.contents out.new)) }
     ensures broken_off { IfErr result (IsBrokenOff plan.now programs.now inputs.now script.now closing (W.contents out.old) (W.contents out.new)) }
 {
+    plan.invariant();
     let mut player = match Player::new(alloc, plan, programs, inputs) {
         Ok(player) => player,
         Err(memory) => return Err(ReplayFault::World(memory)),

@@ -1,11 +1,8 @@
-use Rattle.std.proofs.Common.{◌≡◌, ◌<◌, ℕ, List, [], ◌∷◌, Err, rules, ap, ◌∙◌, arith}
+use Rattle.std.proofs.Common.{◌≡◌, ◌<◌, [], ◌∷◌, Err, rules, arith}
 use Rattle.world_stations.specs.declared.dir.Dir.TheVariants.{Up}
-use Rattle.world_progress.specs.Rounds.{for_each, brings}
-use Rattle.world_progress.specs.Rounds.{Task, steps_of_tasks, after_tasks}
-use Rattle.plan.specs.Federation.{federate_count}
-use Rattle.world.specs.World.{WorldView}
-use Rattle.fedrun_replay.specs.Play.{playing_of, count_in, made_for}
-use Rattle.fedrun_replay.proofs.Doing.{does_nothing, each_on, each_stopped, each_all, if_stopped}
+use Rattle.world_progress.specs.Rounds.{brings}
+use Rattle.fedrun_replay.specs.Play.{count_in}
+use Rattle.fedrun_replay.proofs.Doing.{does_nothing, each_on, each_failed, each_all, counted}
 use Rattle.fedrun_replay.proofs.player.Player.deliver_from_each.Goals as goal
 
 pub loop-sender-init : goal.loop-sender-init
@@ -13,20 +10,14 @@ loop-sender-init g c = does_nothing c.args.line c.args.self.now (g.W.Write.conte
 
 pub returns-in_err-deliver : goal.returns-in_err-deliver
 returns-in_err-deliver g c =
-    let v = c.args.self.now in
-    let before = g.W.Write.contents c.args.out.now in
-    let mid = g.W.Write.contents c.loop-sender.out in
-    let after = g.W.Write.contents c.deliver.new.out in
     let fault = c.in_err-deliver.field-0.0 in
     let failed : c.from_residual.result ≡ Err fault = search rules in
-    let tasks : ℕ → List Task = λ sender. brings (Up sender) ∷ [] in
     let world : c.self.inside.world ≡ c.args.self.now.world = search rules in
-    let count : c.federate_count-count.result ≡ count_in c.args.self.now =
-    c.federate_count-count.ensures ∙ ap (λ (w : WorldView). federate_count w.draft) world in
-    let below : c.loop-sender.sender < count_in v = omega arith in
-    let all : List Task = for_each tasks (count_in v) in
-    if_stopped c.from_residual.result fault (made_for c.args.line (steps_of_tasks all (playing_of v))) (after_tasks all (playing_of v)) v c.deliver.new.self before after
-    failed (each_stopped fault c.args.line tasks c.loop-sender.sender (count_in v) v c.loop-sender.self c.deliver.new.self before mid after below c.loop-sender.invariant c.in_err-deliver.ensures)
+    let count = counted c.federate_count-count.result c.self.inside.world c.args.self.now c.federate_count-count.ensures world in
+    let below : c.loop-sender.sender < count_in c.args.self.now = omega arith in
+    each_failed c.from_residual.result fault c.args.line (λ sender. brings (Up sender) ∷ []) c.loop-sender.sender c.args.self.now c.loop-sender.self c.deliver.new.self
+    (g.W.Write.contents c.args.out.now) (g.W.Write.contents c.loop-sender.out) (g.W.Write.contents c.deliver.new.out) failed below c.loop-sender.invariant
+    c.in_err-deliver.ensures
 
 pub loop-sender-preserved : goal.loop-sender-preserved
 loop-sender-preserved g c =
@@ -36,8 +27,7 @@ loop-sender-preserved g c =
 pub returns : goal.returns
 returns g c =
     let world : c.self.inside.world ≡ c.args.self.now.world = search rules in
-    let count : c.federate_count-count.result ≡ count_in c.args.self.now =
-    c.federate_count-count.ensures ∙ ap (λ (w : WorldView). federate_count w.draft) world in
+    let count = counted c.federate_count-count.result c.self.inside.world c.args.self.now c.federate_count-count.ensures world in
     let all : c.loop-sender.sender ≡ count_in c.args.self.now = omega arith in
     each_all c.args.line (λ sender. brings (Up sender) ∷ []) c.loop-sender.sender (count_in c.args.self.now) c.args.self.now c.loop-sender.self (g.W.Write.contents c.args.out.now)
     (g.W.Write.contents c.loop-sender.out) all c.loop-sender.invariant

@@ -1,7 +1,6 @@
-use Rattle.std.proofs.Common.{◌≡◌, [], ◌∷◌}
+use Rattle.std.proofs.Common.{[], ◌∷◌}
 use Rattle.world_stations.specs.declared.dir.Dir.TheVariants.{Down}
 use Rattle.world_progress.specs.Rounds.{for_each, brings}
-use Rattle.fedrun_replay.specs.Play.{count_in}
 use Rattle.fedrun_replay.proofs.Doing.{Does}
 use Rattle.fedrun_replay.proofs.player.Player.deliver_to_each.Given as goal
 

@@ -1,4 +1,4 @@
-use Rattle.std.proofs.Common.{◌≡◌, ◌-◌, ◌≤◌}
+use Rattle.std.proofs.Common.{◌-◌, ◌≤◌}
 use Rattle.world_progress.specs.Rounds.{cursor_in, delivers}
 use Rattle.fedrun_replay.proofs.Delivering.{Tries}
 use Rattle.fedrun_replay.proofs.player.Player.deliver_until.Given as goal

@@ -1,5 +1,4 @@
 use Rattle.std.proofs.Common.{[], ◌∷◌, rules, ◌≡◌, subst, sym}
-use Rattle.world_stations.specs.declared.step.Step.{Step}
 use Rattle.world_stations.specs.Federation.{step_in}
 use Rattle.world.specs.World.{WorldView, stations_of, with_step}
 use Rattle.fedrun_replay.specs.Play.{made_for, PlaysSome}

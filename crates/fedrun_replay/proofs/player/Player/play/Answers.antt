@@ -1,4 +1,4 @@
-use Rattle.std.proofs.Common.{◌≡◌, List, take, Err, rules, arith, subst}
+use Rattle.std.proofs.Common.{◌≡◌, List, take, Err, rules, subst}
 use Rattle.std.proofs.lemmas.List.{take_all}
 use Rattle.fedrun_script.specs.declared.script.ScheduleLine.{ScheduleLine}
 use Rattle.fedrun_replay.specs.Play.{playing_of, count_in, made_by, after_lines}

@@ -1,4 +1,4 @@
-use Rattle.std.proofs.Common.{◌≡◌, take}
+use Rattle.std.proofs.Common.{take}
 use Rattle.fedrun_replay.proofs.Obeying.{Obeys}
 use Rattle.fedrun_replay.proofs.player.Player.play.Given as goal
 

@@ -1,6 +1,4 @@
-use Rattle.std.proofs.Common.{◌≡◌, [], ◌∷◌}
 use Rattle.world_progress.specs.Rounds.{for_each, resend_tasks}
-use Rattle.fedrun_replay.specs.Play.{count_in}
 use Rattle.fedrun_replay.proofs.Doing.{Does}
 use Rattle.fedrun_replay.proofs.player.Player.resend_each.Given as goal
 
