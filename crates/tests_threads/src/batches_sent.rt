@@ -1,13 +1,10 @@
 //! Where both ends have version 2 and many signals wait, Batches go over a connection; where one has version 1, none does.
-ghost use Rattle.std.specs.Prelude.{◌≡◌};
-
-use crate::memory_lines::{Wrap, ran_by_frames};
-use crate::nodes::has_all_rows;
-use std::alloc::Global;
-use std::sync::Wait;
 use std::sync::atomic::{AtomicU64, Ordering};
-use tests_samples::{Federation, Machine, loaded};
-use wires_transports::{Broken, Failures, MemoryTransport, Transport};
+use tests_lines::lines::{AMPLE, ran_in_memory};
+use tests_lines::nodes::has_all_rows;
+use tests_lines::tap::{End, Fate, Tap};
+use tests_samples::{Machine, loaded};
+use wires::Terms;
 use wires_workers::NoGate;
 
 /// One federate that hears from nobody: it is granted all of its 201 ticks at once, and so makes many turns in a row.
@@ -50,73 +47,29 @@ fn batches(bytes: &[u8]) -> u64 {
     count
 }
 
-/// One end of a connection, whose Batches are counted as they are sent.
+/// Counts the Batches that are sent over all connections.
 #[derive(Drop)]
-struct Counting<'a> {
-    inner: MemoryTransport,
-    sent: &'a AtomicU64,
-    failures: Failures,
+struct Counting {
+    sent: AtomicU64,
 }
 
-impl<'a> Transport for Counting<'a> {
-    ghost failures = { λ t. t.failures };
-
-    fn send<R: Wait>(&mut self, rt: &R, bytes: &[u8]) -> Result<(), Broken> {
+impl Tap for Counting {
+    fn sends(&self, _end: End, _before: u64, bytes: &[u8]) -> Fate {
         self.sent.fetch_add(batches(bytes), Ordering::SeqCst);
-        match self.inner.send(rt, bytes) {
-            Ok(()) => Ok(()),
-            Err(_) => self.failures.tell(()),
-        }
-    }
-
-    fn recv<R: Wait>(&mut self, rt: &R, room: &mut [u8]) -> Result<usize, Broken> {
-        match self.inner.recv(rt, room) {
-            Ok(count) => Ok(count),
-            Err(_) => self.failures.tell(0),
-        }
-    }
-
-    fn finish<R: Wait>(&mut self, rt: &R) {
-        self.inner.finish(rt);
+        Fate::whole()
     }
 }
 
-/// Counts over all connections.
-#[derive(Clone, Copy)]
-struct Counts<'a> {
-    sent: &'a AtomicU64,
-}
-
-impl<'a> Wrap<Counting<'a>> for Counts<'a> {
-    fn wrap(&self, _federate: usize, end: MemoryTransport) -> Counting<'a> {
-        Counting {
-            inner: end,
-            sent: self.sent,
-            failures: Failures::new(),
-        }
-    }
-}
-
-/// Whether a run has all its rows, where federates write this version of frames.
-fn has_rows<R: Machine>(
-    rt: &R,
-    alloc: Global,
-    federation: &Federation,
-    frames: u8,
-    sent: &AtomicU64,
-) -> bool {
-    match ran_by_frames(rt, alloc, federation, &NoGate, Counts { sent }, frames) {
-        Some(gathered) => has_all_rows(alloc, federation, &gathered),
-        None => false,
-    }
-}
-
-/// How many Batches are sent in a run of many ticks; None where it hasn't its rows.
+/// How many Batches are sent in a run of many ticks, where federates write this version of frames; None where it hasn't its rows.
 fn batches_sent<R: Machine>(rt: &R, frames: u8) -> Option<u64> {
     let federation = loaded(rt.alloc(), MANY_TICKS, "")?;
-    let sent = AtomicU64::new(0);
-    if has_rows(rt, rt.alloc(), &federation, frames, &sent) {
-        Some(sent.load(Ordering::SeqCst))
+    let counting = Counting {
+        sent: AtomicU64::new(0),
+    };
+    let terms = Terms { frames, ..AMPLE };
+    let gathered = ran_in_memory(rt, rt.alloc(), &federation, &NoGate, &counting, terms)?;
+    if has_all_rows(rt.alloc(), &federation, &gathered) {
+        Some(counting.sent.load(Ordering::SeqCst))
     } else {
         None
     }

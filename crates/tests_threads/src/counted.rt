@@ -1,10 +1,10 @@
 //! Reports of strangers, second ones, and missing ones.
-use crate::reported::told_of;
 use plan::Plan;
 use reactor::Rows;
 use recorder::{Collector, Report, ReportFault, Unproved};
 use std::alloc::Global;
 use std::test::Fail;
+use tests_lines::reported::told_of;
 use tests_samples::{COUNTER, loaded};
 
 fn empty(alloc: Global, federate: usize) -> Report {

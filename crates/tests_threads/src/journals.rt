@@ -1,10 +1,10 @@
 //! What is copied of a journal while its node runs.
-use crate::nodes::nodes_of;
 use desk::{Share, Shared};
 use federate::Federate;
 use node::Event;
 use std::alloc::Global;
 use std::sync::Wait;
+use tests_lines::nodes::nodes_of;
 use tests_samples::{Machine, SENDER, loaded};
 
 /// What is handed in, and so stands in the journal.

@@ -1,16 +1,16 @@
-//! Tests of federations in threads, and of audits: over TCP they have the rows of the undivided program, also where each connection
-//! breaks; what two federates do over memory at the same time; what workers are told; what is printed of a run, and what an audit
-//! answers of reports. No program uses this crate.
+//! Tests of federations in threads, and of audits: over TCP they have the rows of the undivided program; what two federates do over
+//! memory at the same time; what workers are told, and what they hand on; what is printed of a run, and what an audit answers of
+//! reports. No program uses this crate.
 //!
-//! Begin with `nodes`, then `running` for runs over TCP, `memory_lines` for runs over memory, and `reported` for audits.
+//! Begin with `running` for runs over TCP, `meeting` for runs over memory, and `counted` for audits.
 #![tactic(auto)]
 
 #[cfg(test)]
 mod batches_sent;
 #[cfg(test)]
-mod breaking;
-#[cfg(test)]
 mod counted;
+#[cfg(test)]
+mod handing;
 #[cfg(test)]
 mod journals;
 #[cfg(test)]
@@ -19,12 +19,6 @@ mod listening;
 mod lone_acks;
 #[cfg(test)]
 mod meeting;
-#[cfg(test)]
-mod memory_lines;
-#[cfg(test)]
-mod nodes;
-#[cfg(test)]
-mod reported;
 #[cfg(test)]
 mod rows_printed;
 #[cfg(test)]

@@ -1,11 +1,11 @@
 //! Where a run listens, and that one which can't listen anywhere ends.
-use crate::nodes::nodes_of;
 use std::io;
 use std::io::ErrorKind;
 use std::net::{Net, SocketAddr, TcpListener, TcpStream};
 use std::sync::Wait;
 use std::thread::Threads;
 use std::time::{Clock, Duration};
+use tests_lines::nodes::nodes_of;
 use tests_samples::{COUNTER, Machine, loaded};
 use wires::{Cause, RunFault, Terms, run_over_tcp};
 use wires_transports::listen;

@@ -1,6 +1,4 @@
 //! Two federates that have nothing to do with each other run at the same time.
-use crate::memory_lines::{Plain, ran_in_memory};
-use crate::nodes::is_finished;
 use node::NodeId;
 use std::alloc::Global;
 use std::sync::Wait;
@@ -8,6 +6,9 @@ use std::sync::atomic::{AtomicBool, Ordering};
 use std::thread;
 use std::thread::Threads;
 use std::time::{Clock, Duration};
+use tests_lines::lines::{AMPLE, ran_in_memory};
+use tests_lines::nodes::is_finished;
+use tests_lines::tap::Untouched;
 use tests_samples::{APART, Federation, loaded};
 use wires_workers::{Gate, Point};
 
@@ -69,7 +70,7 @@ fn meets<R: Threads + Wait + Clock + Sync>(
     federation: &Federation,
     meeting: &Meeting,
 ) -> bool {
-    match ran_in_memory(rt, alloc, federation, meeting, Plain) {
+    match ran_in_memory(rt, alloc, federation, meeting, &Untouched, AMPLE) {
         Some(gathered) => is_finished(&gathered) && meeting.is_held(),
         None => false,
     }

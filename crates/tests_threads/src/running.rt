@@ -1,8 +1,8 @@
 //! Federations in threads over TCP.
-use crate::nodes::{has_all_rows, is_finished, nodes_of};
 use coordinator::Coordinator;
 use federate::Federate;
 use std::net::{Net, TcpListener, TcpStream};
+use tests_lines::nodes::{has_all_rows, is_finished, nodes_of};
 use tests_samples::{
     CHAIN, CHAIN_INPUT, COUNTER, DELAYED_COUNTER, Federation, LOOP, Machine, REPLACED,
     STARTED_COUNTER, loaded,

@@ -1,5 +1,4 @@
 //! A frame that was never sent: a coordinator grants before it heard of anything, and a federate announces after the grant.
-use crate::reported::told_of;
 use node::{Event, NodeId};
 use reactor::Rows;
 use recorder::{Report, Unproved};
@@ -7,6 +6,7 @@ use signal::{Frame, Signal};
 use std::alloc::Global;
 use std::test::Fail;
 use tag::{FiniteTag, Tag, Time};
+use tests_lines::reported::told_of;
 use tests_samples::{Federation, loaded};
 
 /// One federate, which runs once.

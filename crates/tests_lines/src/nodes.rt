@@ -9,7 +9,7 @@ use tests_samples::{Federation, are_rows_of, undivided};
 use wires::{Gathered, Nodes};
 
 /// The nodes of a federation, before their workers begin.
-pub(crate) fn nodes_of<'a>(
+pub fn nodes_of<'a>(
     alloc: Global,
     federation: &'a Federation,
 ) -> Option<Nodes<Coordinator<'a>, Federate<'a>>> {
@@ -25,7 +25,7 @@ pub(crate) fn nodes_of<'a>(
 }
 
 /// Whether the coordinator is finished.
-pub(crate) fn is_finished(gathered: &Gathered<Coordinator<'_>, Federate<'_>>) -> bool {
+pub fn is_finished(gathered: &Gathered<Coordinator<'_>, Federate<'_>>) -> bool {
     gathered.coordinator.station().node().finished()
 }
 
@@ -40,7 +40,7 @@ fn has_rows(gathered: &Gathered<Coordinator<'_>, Federate<'_>>, all: &Rows) -> b
 }
 
 /// Whether the coordinator is finished, and each federate has its rows of the undivided program.
-pub(crate) fn has_all_rows(
+pub fn has_all_rows(
     alloc: Global,
     federation: &Federation,
     gathered: &Gathered<Coordinator<'_>, Federate<'_>>,

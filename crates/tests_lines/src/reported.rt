@@ -10,7 +10,7 @@ use tests_samples::Federation;
 use wires::Gathered;
 
 /// What an audit answers of these reports and the coordinator's journal; None where it proves them.
-pub(crate) fn told_of(
+pub fn told_of(
     alloc: Global,
     federation: &Federation,
     reports: &[Report],
@@ -28,7 +28,7 @@ pub(crate) fn told_of(
 }
 
 /// What a desk says, as this federate's.
-pub(crate) fn report(federate: usize, desk: Desk<Federate<'_>>) -> Report {
+fn report(federate: usize, desk: Desk<Federate<'_>>) -> Report {
     let (station, journal) = desk.into_parts();
     Report {
         federate,
@@ -38,7 +38,7 @@ pub(crate) fn report(federate: usize, desk: Desk<Federate<'_>>) -> Report {
 }
 
 /// What each federate's desk says; None where there is no memory for it.
-fn reports(alloc: Global, desks: Vec<Desk<Federate<'_>>>) -> Option<Vec<Report>> {
+pub fn reports(alloc: Global, desks: Vec<Desk<Federate<'_>>>) -> Option<Vec<Report>> {
     let mut reports = Vec::new(alloc);
     for desk in desks {
         let federate = reports.len();
@@ -64,7 +64,7 @@ fn is_proved(
 }
 
 /// Whether a run is finished, with each federate's rows of the undivided program, and an audit proves it.
-pub(crate) fn is_right(
+pub fn is_right(
     alloc: Global,
     federation: &Federation,
     gathered: Option<Gathered<Coordinator<'_>, Federate<'_>>>,

@@ -1,0 +1,102 @@
+//! Attempts to connect that come to nothing count as turns: where no connection is made, and where no frame comes on one.
+use coordinator::Coordinator;
+use federate::Federate;
+use node::{Event, NodeId};
+use std::sync::Wait;
+use std::sync::atomic::{AtomicBool, AtomicU64, Ordering};
+use std::thread;
+use std::time::{Clock, Duration};
+use tests_lines::lines::ran_in_memory;
+use tests_lines::nodes::is_finished;
+use tests_lines::tap::{End, Tap};
+use tests_samples::{Machine, SENDER, loaded};
+use wires::{Gathered, Terms};
+use wires_workers::{Gate, Point};
+
+/// How many turns a federate has.
+const TURNS: u32 = 5;
+
+/// How many attempts come to nothing before the federate's first turn.
+const ATTEMPTS: u64 = 3;
+
+/// Lets no attempt come to anything. The federate's first turn waits until so many have come to nothing, at most 10,000 times 1 ms.
+#[derive(Drop)]
+struct InVain {
+    /// Whether a connection is made, on which nothing comes.
+    connects: bool,
+    attempts: AtomicU64,
+    has_waited_in_vain: AtomicBool,
+}
+
+impl Tap for InVain {
+    fn connects(&self, _federate: usize) -> bool {
+        self.attempts.fetch_add(1, Ordering::SeqCst);
+        self.connects
+    }
+
+    fn breaks(&self, end: End) -> bool {
+        end.is_own
+    }
+}
+
+impl Gate for InVain {
+    fn is_open(&self) -> bool {
+        false
+    }
+
+    // The runner was told of an attempt before the next one is made.
+    fn pass<R: Wait + Clock>(&self, rt: &R, _node: NodeId, point: Point) {
+        if point != Point::Announce {
+            return;
+        }
+        for _ in 0..10_000 {
+            if self.attempts.load(Ordering::SeqCst) > ATTEMPTS {
+                return;
+            }
+            thread::sleep(rt, Duration::from_millis(1));
+        }
+        self.has_waited_in_vain.store(true, Ordering::SeqCst);
+    }
+}
+
+/// How many turns the first federate made, where the run isn't finished.
+fn turns_made(gathered: &Gathered<Coordinator<'_>, Federate<'_>>) -> Option<usize> {
+    if is_finished(gathered) {
+        return None;
+    }
+    let journal = gathered.federates.first()?.journal();
+    Some(
+        journal
+            .iter()
+            .filter(|event| **event == Event::Announce)
+            .count(),
+    )
+}
+
+/// How many turns a federate makes before these and its attempts to connect are as many as it has.
+fn turns_beside_attempts<R: Machine>(rt: &R, connects: bool) -> Option<usize> {
+    let federation = loaded(rt.alloc(), SENDER, "")?;
+    let in_vain = InVain {
+        connects,
+        attempts: AtomicU64::new(0),
+        has_waited_in_vain: AtomicBool::new(false),
+    };
+    let terms = Terms {
+        turns: TURNS,
+        frames: 2,
+    };
+    let gathered = ran_in_memory(rt, rt.alloc(), &federation, &in_vain, &in_vain, terms)?;
+    if in_vain.has_waited_in_vain.load(Ordering::SeqCst) {
+        return None;
+    }
+    turns_made(&gathered)
+}
+
+/// Three attempts or more are turns of the five, so at most two are made otherwise, and one at least, in which the attempts came.
+#[test]
+fn counts_attempts_that_come_to_nothing_as_turns(rt: HostRuntime) {
+    for connects in [false, true] {
+        let turns = turns_beside_attempts(&rt, connects);
+        assert!(rt; matches!(turns, Some(1..=2)), "{connects}: {turns:?}");
+    }
+}

@@ -1,0 +1,77 @@
+//! What is sent first on each connection.
+use signal::Frame;
+use std::alloc::Global;
+use std::sync::atomic::{AtomicU64, Ordering};
+use tests_lines::federations::BY_TURNS;
+use tests_lines::lines::{AMPLE, ran_in_memory};
+use tests_lines::reported::is_right;
+use tests_lines::tap::{End, Fate, Tap, frames_of};
+use tests_samples::{Machine, loaded};
+use wires_workers::NoGate;
+
+/// Counts the connections that begin with a Hello, and those that don't, at both ends of each. One send in ten fails until so many
+/// have.
+#[derive(Drop)]
+struct Beginnings {
+    alloc: Global,
+    sends: AtomicU64,
+    greeted: AtomicU64,
+    others: AtomicU64,
+}
+
+impl Beginnings {
+    /// Notes the first send on a connection.
+    fn note(&self, bytes: &[u8]) {
+        let is_greeting = match frames_of(self.alloc, bytes) {
+            Some(frames) => matches!(frames.first(), Some(Frame::Hello(_))),
+            None => false,
+        };
+        let count = if is_greeting {
+            &self.greeted
+        } else {
+            &self.others
+        };
+        count.fetch_add(1, Ordering::SeqCst);
+    }
+}
+
+impl Tap for Beginnings {
+    fn sends(&self, _end: End, before: u64, bytes: &[u8]) -> Fate {
+        if before == 0 {
+            self.note(bytes);
+        }
+        match self.sends.fetch_add(1, Ordering::SeqCst) {
+            10 | 20 | 30 => Fate::broken(0),
+            _ => Fate::whole(),
+        }
+    }
+}
+
+/// How many ends of connections begin with a Hello, and how many don't; none where the run isn't right.
+fn begun<R: Machine>(rt: &R) -> Option<(u64, u64)> {
+    let federation = loaded(rt.alloc(), BY_TURNS, "")?;
+    let beginnings = Beginnings {
+        alloc: rt.alloc(),
+        sends: AtomicU64::new(0),
+        greeted: AtomicU64::new(0),
+        others: AtomicU64::new(0),
+    };
+    let gathered = ran_in_memory(rt, rt.alloc(), &federation, &NoGate, &beginnings, AMPLE);
+    if is_right(rt.alloc(), &federation, gathered) {
+        let greeted = beginnings.greeted.load(Ordering::SeqCst);
+        let others = beginnings.others.load(Ordering::SeqCst);
+        Some((greeted, others))
+    } else {
+        None
+    }
+}
+
+/// The two first connections have two ends each, and each of three failures makes a new connection.
+#[test]
+fn begins_each_connection_with_a_greeting(rt: HostRuntime) {
+    let begun = begun(&rt);
+    assert!(rt;
+        matches!(begun, Some((greeted, 0)) if greeted >= 7),
+        "{begun:?}"
+    );
+}
