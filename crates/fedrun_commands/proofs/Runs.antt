@@ -5,12 +5,13 @@ use Rattle.std.proofs.KnownBytes.{Appends-kept}
 use Rattle.plan.specs.declared.draft.Draft.{Draft}
 use Rattle.plan.specs.declared.input.Input.{Input}
 use Rattle.reactor_program.specs.Behaviour.{Behaviour}
+use Rattle.fedrun_run.specs.declared.output.RunOutput.{RunOutput}
 use Rattle.fedrun_run.specs.Printed.{PrintsAudited}
 
 pub audited_kept :
-    (d : Draft) (programs : List Behaviour) (inputs : List Input) (before mid after : Option (List ℕ)) →
-    PrintsAudited d programs inputs before mid → Keeps mid after → PrintsAudited d programs inputs before after
-audited_kept d programs inputs before mid after audited kept =
+    (output : RunOutput) (d : Draft) (programs : List Behaviour) (inputs : List Input) (before mid after : Option (List ℕ)) →
+    PrintsAudited output d programs inputs before mid → Keeps mid after → PrintsAudited output d programs inputs before after
+audited_kept output d programs inputs before mid after audited kept =
     let prints = audited.prints in
     record {
       left = audited.left;

@@ -21,7 +21,7 @@ use Rattle.fedrun_run.specs.declared.audit_failure.AuditFailure.{AuditFailure}
 use Rattle.desk.specs.declared.memory.Memory as run
 use Rattle.fedrun_whole.specs.Refused as every
 use Rattle.fedrun_words.specs.declared.request.Request.{Request}
-use Rattle.fedrun_words.specs.declared.request.Request.TheVariants.{Replay, Run as RunOf}
+use Rattle.fedrun_words.specs.declared.request.Request.TheVariants.{Replay, Run as RunOf, Record}
 use Rattle.fedrun_commands.specs.Schedules.{HoldsOfSchedule}
 use Rattle.fedrun_commands.specs.declared.fault.NodeFault.{NodeFault}
 use Rattle.fedrun_commands.specs.declared.fault.NodeFault.TheVariants.{Schedule, World, NotFinished, Unproved, Run}
@@ -51,6 +51,14 @@ IsReplayFault s script closing before after fault =
 abbrev pub IsRunFault : Sources → Option (List ℕ) → Option (List ℕ) → Fault NodeFault → Type 0
 IsRunFault s before after fault = (fault ≡ CannotWrite) ⊎ (IsUnprintedRun s fault × (after ≡ before))
 
+-- why a run of the federation in a file isn't printed, and what was answered about files till then: the federation file's fault comes first,
+-- then the input file's
+abbrev pub IsFaultOfRun : Contents → (List Answer → Type 0) → Option (List ℕ) → Option (List ℕ) → Bor (List ℕ) → Bor (List ℕ) → Fault NodeFault → Type 0
+IsFaultOfRun contents answered before after federation inputs fault =
+    IsSourcesFault federation inputs contents answered fault
+    ⊎ (answered (asked_sources federation.now inputs.now)
+    × HoldsOfSources (contents federation.now) (input_file contents inputs.now) (λ s. IsRunFault s before after fault))
+
 -- why a request of nodes isn't done, and what was answered about files till then: the federation file's fault comes first, then the
 -- input file's, then the schedule's.
 abbrev pub IsFaultOf : Contents → (List Answer → Type 0) → Option (List ℕ) → Option (List ℕ) → Request → Fault NodeFault → Type 0
@@ -60,10 +68,8 @@ IsFaultOf contents answered before after (Replay federation inputs schedule unti
     (λ s. IsScheduleFault s.plan schedule contents (λ later. answered (asked_sources federation.now inputs.now ++ later)) fault
     ⊎ (answered (asked_sources federation.now inputs.now ++ given schedule.now ∷ [])
     × HoldsOfSchedule (contents schedule.now) s.plan (λ script. IsReplayFault s script until_stuck before after fault)))
-IsFaultOf contents answered before after (RunOf federation inputs turns frames) fault =
-    IsSourcesFault federation inputs contents answered fault
-    ⊎ (answered (asked_sources federation.now inputs.now)
-    × HoldsOfSources (contents federation.now) (input_file contents inputs.now) (λ s. IsRunFault s before after fault))
+IsFaultOf contents answered before after (RunOf federation inputs turns frames) fault = IsFaultOfRun contents answered before after federation inputs fault
+IsFaultOf contents answered before after (Record federation inputs turns frames) fault = IsFaultOfRun contents answered before after federation inputs fault
 IsFaultOf contents answered before after request fault = ⊥
 
 -- the fault is one of words, and no file was asked for, or it stands against some request

@@ -13,7 +13,7 @@ use crate::fault::NodeFault;
 use fedrun_fault::Fault;
 use fedrun_files::Sources;
 use fedrun_replay::{ReplayFault, replay};
-use fedrun_run::{AuditedFault, print_audited_run};
+use fedrun_run::{AuditedFault, RunOutput, print_audited_run};
 use fedrun_script::Script;
 use std::alloc::Global;
 use std::io::Write;
@@ -55,7 +55,7 @@ pub(crate) fn print_replay<O: Write>(
     }
 }
 
-/// Runs the federation in threads, audits the run, and prints the rows.
+/// Runs the federation in threads, audits the run, and prints the rows, or the steps of the audit.
 pub(crate) fn print_run<
     R: Threads + Wait + Clock + Net<Stream = TcpStream, Listener = TcpListener> + Sync,
     O: Write,
@@ -64,11 +64,12 @@ pub(crate) fn print_run<
     alloc: Global,
     sources: &Sources,
     terms: Terms,
+    output: RunOutput,
     out: &mut O,
 ) -> Result<(), Fault<'static, NodeFault>>
     requires programs { AreProgramsOf sources.now.plan sources.now.programs }
     requires inputs { AreInputsOf sources.now.plan sources.now.inputs }
-    ensures ok { OnOk result (PrintsAudited sources.now.plan sources.now.programs sources.now.inputs (O.contents out.old) (O.contents out.new)) }
+    ensures ok { OnOk result (PrintsAudited output sources.now.plan sources.now.programs sources.now.inputs (O.contents out.old) (O.contents out.new)) }
     ensures stands { IfErr result (IsRunFault sources.now (O.contents out.old) (O.contents out.new)) }
     ensures late { IfErr result (λ fault. status_of fault ≡ 3) }
 {
@@ -79,6 +80,7 @@ pub(crate) fn print_run<
         &sources.programs,
         &sources.inputs,
         terms,
+        output,
         out,
     ) {
         Ok(()) => flush(out),

@@ -2,14 +2,15 @@
 ghost use Rattle.std.specs.Prelude.{◌≡◌, ◌≢◌, IfErr, OnOk};
 ghost use Rattle.fedrun_files.specs.Answers.{Answers};
 ghost use Rattle.fedrun_commands.specs.Faults.{status_of};
-ghost use Rattle.fedrun_commands.specs.Printed.{PrintsFor, PrintsAnswer};
-ghost use Rattle.fedrun_commands.specs.Refused.{IsFaultOf, Stands};
+ghost use Rattle.fedrun_commands.specs.Printed.{PrintsFor, PrintsRun, PrintsAnswer};
+ghost use Rattle.fedrun_commands.specs.Refused.{IsFaultOf, IsFaultOfRun, Stands};
 
 use crate::fault::NodeFault;
 use crate::printing::{print_replay, print_run};
 use crate::schedules::read_schedule;
 use fedrun_fault::Fault;
 use fedrun_files::{Files, read_sources};
+use fedrun_run::RunOutput;
 use fedrun_whole::{check, whole};
 use fedrun_words::{Request, read_words};
 use std::alloc::Global;
@@ -66,13 +67,30 @@ pub(crate) fn perform<
             federation,
             inputs,
             Terms { turns, frames },
+            RunOutput::Rows,
+            files,
+            out,
+        ),
+        Request::Record {
+            federation,
+            inputs,
+            turns,
+            frames,
+        } => run(
+            rt,
+            alloc,
+            federation,
+            inputs,
+            Terms { turns, frames },
+            RunOutput::Steps,
             files,
             out,
         ),
     }
 }
 
-/// Runs the federation in threads, of which each makes its turns at most, and prints the rows that the audit proved.
+/// Runs the federation in threads, of which each makes its turns at most, and prints the rows that the audit proved, or the steps by
+/// which it did.
 pub(crate) fn run<
     'a,
     R: Threads + Wait + Clock + Net<Stream = TcpStream, Listener = TcpListener> + Sync,
@@ -84,15 +102,16 @@ pub(crate) fn run<
     federation: &'a str,
     inputs: &'a str,
     terms: Terms,
+    output: RunOutput,
     files: &mut F,
     out: &mut O,
 ) -> Result<(), Fault<'a, NodeFault>>
-    ensures ok { OnOk result (PrintsFor (F.contents files.old) (Request.Run federation.entry inputs.entry terms.turns terms.frames) (O.contents out.old) (O.contents out.new)) }
-    ensures stands { IfErr result (IsFaultOf (F.contents files.old) (Answers (F.answers files.old) (F.answers files.new)) (O.contents out.old) (O.contents out.new) (Request.Run federation.entry inputs.entry terms.turns terms.frames)) }
+    ensures ok { OnOk result (PrintsRun output (F.contents files.old) federation.entry inputs.entry (O.contents out.old) (O.contents out.new)) }
+    ensures stands { IfErr result (IsFaultOfRun (F.contents files.old) (Answers (F.answers files.old) (F.answers files.new)) (O.contents out.old) (O.contents out.new) federation.entry inputs.entry) }
     ensures untouched { IfErr result (λ fault. status_of fault ≢ 3 → out.new ≡ out.old) }
 {
     match read_sources(alloc, federation, inputs, files) {
-        Ok(sources) => print_run(rt, alloc, &sources, terms, out),
+        Ok(sources) => print_run(rt, alloc, &sources, terms, output, out),
         Err(fault) => Err(fault),
     }
 }

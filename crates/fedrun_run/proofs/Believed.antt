@@ -12,16 +12,17 @@ use Rattle.recorder.specs.declared.audited_run.AuditedRun.{AuditedRun}
 use Rattle.recorder_reports.specs.declared.report.Report.{Report}
 use Rattle.recorder.specs.Audited.{HasEnded}
 use Rattle.wires.specs.declared.job.WorkerResult.{WorkerResult}
+use Rattle.fedrun_run.specs.declared.output.RunOutput.{RunOutput}
 use Rattle.fedrun_run.specs.declared.fault.AuditedFault.{AuditedFault}
 use Rattle.fedrun_run.specs.declared.fault.AuditedFault.TheVariants.{NotFinished, Unproved, Memory, CannotWrite}
-use Rattle.fedrun_run.specs.Printed.{claim, printed_reports, PrintsReports, PrintsAudited, IsAuditedFault, IsAuditedFaultOf, IsOfTheRun}
+use Rattle.fedrun_run.specs.Printed.{claim, printed_run, PrintsReports, PrintsAudited, IsAuditedFault, IsAuditedFaultOf, IsOfTheRun}
 use Rattle.fedrun_run.specs.Reported.{AreReportedBy}
 
 module _ (d : Draft) (programs : List Behaviour) (inputs : List Input) (reports : List Report) (coordinator : List Event) where
-  -- the rows of reports that an audit proved, and whose coordinator is finished, are printed
-  pub prints_so : (audited : AuditedRun) (before after : Option (List ℕ)) → HasEnded (claim d programs inputs reports coordinator) audited → audited.is_finished ≡ true →
-      Appends before after (printed_reports d reports) → PrintsReports d programs inputs reports coordinator before after
-  prints_so audited before after ended is printed =
+  -- what is printed is of reports that an audit proved, and whose coordinator is finished
+  pub prints_so : (output : RunOutput) (audited : AuditedRun) (before after : Option (List ℕ)) → HasEnded (claim d programs inputs reports coordinator) audited → audited.is_finished ≡ true →
+      Appends before after (printed_run output d reports audited.steps.items) → PrintsReports output d programs inputs reports coordinator before after
+  prints_so output audited before after ended is printed =
       let finished = ended.finished.0 is in
       record {
         steps = audited.steps.items;
@@ -58,16 +59,16 @@ same_said {reports} {said} {coordinator} {journal} same_reports same_journal run
 )
 
 -- the federation of an audit is the one that it was begun for
-pub printed_of_some : (d : Draft) (programs : List Behaviour) (inputs : List Input) (w : WorldView) (reports : List Report) (coordinator : List Event) (before after : Option (List ℕ))
+pub printed_of_some : (output : RunOutput) (d : Draft) (programs : List Behaviour) (inputs : List Input) (w : WorldView) (reports : List Report) (coordinator : List Event) (before after : Option (List ℕ))
     (result : Result (Unit {0}) AuditedFault) → (left : List (Option WorkerResult)) × AreReportedBy left reports coordinator → w ≡ initial_of d programs inputs →
-    OnOk result (PrintsReports d w.programs w.inputs reports coordinator before after) → OnOk result (PrintsAudited d programs inputs before after)
-printed_of_some d programs inputs w reports coordinator before after result run is =
-    on_ok_weaker {P = PrintsReports d w.programs w.inputs reports coordinator before after} {Q = PrintsAudited d programs inputs before after} result (λ prints. record {
+    OnOk result (PrintsReports output d w.programs w.inputs reports coordinator before after) → OnOk result (PrintsAudited output d programs inputs before after)
+printed_of_some output d programs inputs w reports coordinator before after result run is =
+    on_ok_weaker {P = PrintsReports output d w.programs w.inputs reports coordinator before after} {Q = PrintsAudited output d programs inputs before after} result (λ prints. record {
       left = run.0;
       reports = reports;
       coordinator = coordinator;
       reported = run.1;
-      prints = subst (λ (x : WorldView). PrintsReports d x.programs x.inputs reports coordinator before after) is prints;
+      prints = subst (λ (x : WorldView). PrintsReports output d x.programs x.inputs reports coordinator before after) is prints;
     })
 
 pub fault_of_some : (d : Draft) (programs : List Behaviour) (inputs : List Input) (w : WorldView) (reports : List Report) (coordinator : List Event)

@@ -13,6 +13,7 @@ use Rattle.node.specs.declared.event.Event.{Event}
 use Rattle.world_stations.specs.declared.step.Step.{Step}
 use Rattle.fedrun_text.specs.RowText.{printed_rows}
 use Rattle.fedrun_text.specs.PlanText.{printed_each}
+use Rattle.fedrun_record.specs.StepText.{printed_steps}
 use Rattle.wires.specs.declared.job.WorkerResult.{WorkerResult}
 use Rattle.wires.specs.declared.run_fault.Cause.{Cause}
 use Rattle.wires.specs.declared.run_fault.Cause.TheVariants.{TurnsUsedUp}
@@ -23,6 +24,8 @@ use Rattle.recorder_reports.specs.declared.unproved.Unproved.{Unproved}
 use Rattle.recorder_reports.specs.Reports.{reported_rows}
 use Rattle.recorder.specs.Audited.{Claim, IsProvedBy, IsFinishedBy, IsUnproved}
 use Rattle.fedrun_run.specs.declared.audit_failure.AuditFailure.{AuditFailure}
+use Rattle.fedrun_run.specs.declared.output.RunOutput.{RunOutput}
+use Rattle.fedrun_run.specs.declared.output.RunOutput.TheVariants.{Rows, Steps}
 use Rattle.fedrun_run.specs.declared.fault.AuditedFault.{AuditedFault}
 use Rattle.fedrun_run.specs.declared.fault.AuditedFault.TheVariants as fault
 use Rattle.fedrun_run.specs.AuditFailures.{IsFailureOf}
@@ -37,8 +40,13 @@ claim d programs inputs reports coordinator =
 abbrev pub printed_reports : Draft → List Report → List ℕ
 printed_reports d reports = printed_each (λ j. printed_rows d.federates (reported_rows reports j)) (federate_count d)
 
--- a writer's bytes grew by the rows of these reports, which an audit proved with this journal of the coordinator:
-pub record PrintsReports (d : Draft) (programs : List Behaviour) (inputs : List Input) (reports : List Report) (coordinator : List Event) (before after : Option (List ℕ)) : Type 0 where
+-- what is printed of reports that these steps prove: their rows, or the steps as a schedule file
+abbrev pub printed_run : RunOutput → Draft → List Report → List Step → List ℕ
+printed_run Rows d reports steps = printed_reports d reports
+printed_run Steps d reports steps = printed_steps d steps
+
+-- a writer's bytes grew by what is printed of these reports, which an audit proved with this journal of the coordinator:
+pub record PrintsReports (output : RunOutput) (d : Draft) (programs : List Behaviour) (inputs : List Input) (reports : List Report) (coordinator : List Event) (before after : Option (List ℕ)) : Type 0 where
   pub steps : List Step
   -- these steps of the federation's world give each federate's journal and rows as it reports them, and the coordinator's journal
   pub proved : IsProvedBy (claim d programs inputs reports coordinator) steps
@@ -49,16 +57,16 @@ pub record PrintsReports (d : Draft) (programs : List Behaviour) (inputs : List 
       (turns : ℕ) × BeginsWith (part j (whole (network_of d programs inputs) turns)) (reported_rows reports j)
   -- and none of that part is missing
   pub whole_part : (j : ℕ) → j < federate_count d → HasEveryRow (network_of d programs inputs) j (reported_rows reports j)
-  -- they are printed, federate by federate
-  pub printed : Appends before after (printed_reports d reports)
+  -- they are printed, federate by federate, or these very steps are
+  pub printed : Appends before after (printed_run output d reports steps)
 
 -- the same of the reports and the coordinator's journal that a run's nodes gave, from what all its workers left
-pub record PrintsAudited (d : Draft) (programs : List Behaviour) (inputs : List Input) (before after : Option (List ℕ)) : Type 0 where
+pub record PrintsAudited (output : RunOutput) (d : Draft) (programs : List Behaviour) (inputs : List Input) (before after : Option (List ℕ)) : Type 0 where
   pub left : List (Option WorkerResult)
   pub reports : List Report
   pub coordinator : List Event
   pub reported : AreReportedBy left reports coordinator
-  pub prints : PrintsReports d programs inputs reports coordinator before after
+  pub prints : PrintsReports output d programs inputs reports coordinator before after
 
 -- an audit doesn't believe these reports with this journal of the coordinator, and answers this failure
 pub record IsAuditFailureOf (d : Draft) (programs : List Behaviour) (inputs : List Input) (reports : List Report) (coordinator : List Event) (failure : AuditFailure) : Type 0 where
@@ -80,7 +88,7 @@ pub record IsUnfinished (d : Draft) (programs : List Behaviour) (inputs : List I
   pub proved : IsProvedBy (claim d programs inputs reports coordinator) steps
   pub unfinished : ¬ IsFinishedBy (claim d programs inputs reports coordinator)
 
--- why the rows of these reports, with this journal of the coordinator, aren't printed, or not all of them. Of the output nothing is
+-- why nothing is printed of these reports, with this journal of the coordinator, or not all of it. Of the output nothing is
 -- said; an audit that is out of memory is among its failures
 abbrev pub IsAuditedFaultOf : Draft → List Behaviour → List Input → List Report → List Event → AuditedFault → Type 0
 IsAuditedFaultOf d programs inputs reports coordinator (fault.Unproved failure) = IsAuditFailureOf d programs inputs reports coordinator failure
@@ -88,7 +96,7 @@ IsAuditedFaultOf d programs inputs reports coordinator (fault.NotFinished cause)
 IsAuditedFaultOf d programs inputs reports coordinator fault.Memory = ⊥
 IsAuditedFaultOf d programs inputs reports coordinator fault.CannotWrite = Unit {0}
 
--- why a run's rows aren't printed, or not all of them. Of the machine, its memory and how far a run came nothing is said
+-- why nothing is printed of a run, or not all of it. Of the machine, its memory and how far a run came nothing is said
 abbrev pub IsAuditedFault : Draft → List Behaviour → List Input → AuditedFault → Type 0
 IsAuditedFault d programs inputs (fault.Unproved failure) = IsAuditFailure d programs inputs failure
 IsAuditedFault d programs inputs (fault.NotFinished cause) = Unit {0}

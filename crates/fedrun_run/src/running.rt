@@ -9,7 +9,7 @@ ghost use Rattle.fedrun_run.specs.Printed.{PrintsAudited, IsAuditedFault, IsOfTh
 use crate::node_reports::{NodeReports, reports_by};
 use crate::reporting::Reporting;
 use crate::watching::watch;
-use crate::{AuditedFault, coordinator_desk, federate_desks, print_audited};
+use crate::{AuditedFault, RunOutput, coordinator_desk, federate_desks, print_audited};
 use coordinator::Coordinator;
 use federate::Federate;
 use node::Node;
@@ -27,8 +27,8 @@ use wires::{Nodes, RunFault, Terms, WorkerResult, run_over_tcp};
 use wires_workers::NoGate;
 
 /// Runs the federation in threads over TCP on loopback until the coordinator is finished or a runner has made its turns,
-/// audits what its nodes wrote down, and prints each federate's rows, federate by federate. The caller flushes. That a run isn't
-/// finished comes before any failure of the audit.
+/// audits what its nodes wrote down, and prints each federate's rows, federate by federate, or the steps that prove them. The caller
+/// flushes. That a run isn't finished comes before any failure of the audit.
 pub fn print_audited_run<
     R: Threads + Wait + Clock + Net<Stream = TcpStream, Listener = TcpListener> + Sync,
     O: Write,
@@ -39,11 +39,12 @@ pub fn print_audited_run<
     programs: &Programs,
     inputs: &Inputs,
     terms: Terms,
+    output: RunOutput,
     out: &mut O,
 ) -> Result<(), AuditedFault>
     requires programs { AreProgramsOf plan.now programs.now }
     requires inputs { AreInputsOf plan.now inputs.now }
-    ensures ok { OnOk result (PrintsAudited plan.now programs.now inputs.now (O.contents out.old) (O.contents out.new)) }
+    ensures ok { OnOk result (PrintsAudited output plan.now programs.now inputs.now (O.contents out.old) (O.contents out.new)) }
     ensures fault { IfErr result (IsAuditedFault plan.now programs.now inputs.now) }
     ensures untouched { IfErr result (λ fault. fault ≢ AuditedFault.CannotWrite → O.contents out.new ≡ O.contents out.old) }
 {
@@ -61,6 +62,7 @@ pub fn print_audited_run<
         audit,
         node_reports.reports.reports(),
         &node_reports.coordinator,
+        output,
         out,
     )
 }

@@ -9,12 +9,38 @@ const RUN_TURNS: u32 = 1_000_000;
 /// The version of frames of a run for which none is given.
 const RUN_FRAMES: u8 = 2;
 
-/// Each subcommand, with its arguments and its options.
-const SUBCOMMANDS: [(&str, &[&str], &[&str]); 4] = [
-    ("whole", &["FED", "IN", "TURNS"], &[]),
-    ("check", &["FED"], &[]),
-    ("replay", &["FED", "IN", "SCHEDULE"], &["until-stuck"]),
-    ("run", &["FED", "IN"], &["turns", "frames"]),
+/// The subcommands.
+#[derive(Clone, Copy)]
+enum CommandKind {
+    Whole,
+    Check,
+    Replay,
+    Run,
+    Record,
+}
+
+/// Each subcommand with its name, its arguments and its options.
+const SUBCOMMANDS: [(CommandKind, &str, &[&str], &[&str]); 5] = [
+    (CommandKind::Whole, "whole", &["FED", "IN", "TURNS"], &[]),
+    (CommandKind::Check, "check", &["FED"], &[]),
+    (
+        CommandKind::Replay,
+        "replay",
+        &["FED", "IN", "SCHEDULE"],
+        &["until-stuck"],
+    ),
+    (
+        CommandKind::Run,
+        "run",
+        &["FED", "IN"],
+        &["turns", "frames"],
+    ),
+    (
+        CommandKind::Record,
+        "record",
+        &["FED", "IN"],
+        &["turns", "frames"],
+    ),
 ];
 
 /// Why the words give no request.
@@ -53,16 +79,23 @@ fn fault_of(error: &Error) -> WordsFault {
 
 /// The request of words that were parsed.
 fn requested<'a>(matches: &ArgMatches<'a>) -> Option<Request<'a>> {
-    if let Some(given) = matches.subcommand_matches("whole") {
-        return whole(given);
+    for (subcommand, name, _, _) in &SUBCOMMANDS {
+        if let Some(given) = matches.subcommand_matches(name) {
+            return request(*subcommand, given);
+        }
     }
-    if let Some(given) = matches.subcommand_matches("check") {
-        return check(given);
+    None
+}
+
+/// The request of a subcommand with these arguments and options.
+fn request<'a>(subcommand: CommandKind, given: &ArgMatches<'a>) -> Option<Request<'a>> {
+    match subcommand {
+        CommandKind::Whole => whole(given),
+        CommandKind::Check => check(given),
+        CommandKind::Replay => replay(given),
+        CommandKind::Run => run(given),
+        CommandKind::Record => record(given),
     }
-    if let Some(given) = matches.subcommand_matches("replay") {
-        return replay(given);
-    }
-    run(matches.subcommand_matches("run")?)
 }
 
 /// The subcommands, with their arguments and options.
@@ -72,7 +105,7 @@ fn commands<'a>(alloc: Global) -> Result<Command<'a>, AllocError> {
         .disable_help_flag(true)
         .disable_help_subcommand(true)
         .subcommand_required(true);
-    for (name, arguments, options) in &SUBCOMMANDS {
+    for (_, name, arguments, options) in &SUBCOMMANDS {
         let subcommand = subcommand(alloc, name, arguments, options)?;
         command = command.subcommand(subcommand)?;
     }
@@ -128,28 +161,40 @@ fn replay<'a>(given: &ArgMatches<'a>) -> Option<Request<'a>> {
 }
 
 fn run<'a>(given: &ArgMatches<'a>) -> Option<Request<'a>> {
-    let turns = match given.get_str("turns") {
-        Some(turns) => count(turns)?,
-        None => RUN_TURNS,
-    };
-    let frames = match given.get_str("frames") {
-        Some(version) => frames(version)?,
-        None => RUN_FRAMES,
-    };
     Some(Request::Run {
         federation: given.get_str("FED")?,
         inputs: given.get_str("IN")?,
-        turns,
-        frames,
+        turns: turns(given)?,
+        frames: frames(given)?,
     })
 }
 
-/// A version of frames, in ASCII digits.
-fn frames(text: &str) -> Option<u8> {
-    match count(text)? {
-        1 => Some(1),
-        2 => Some(2),
-        _ => None,
+fn record<'a>(given: &ArgMatches<'a>) -> Option<Request<'a>> {
+    Some(Request::Record {
+        federation: given.get_str("FED")?,
+        inputs: given.get_str("IN")?,
+        turns: turns(given)?,
+        frames: frames(given)?,
+    })
+}
+
+/// How many turns a run may make.
+fn turns(given: &ArgMatches<'_>) -> Option<u32> {
+    match given.get_str("turns") {
+        Some(turns) => count(turns),
+        None => Some(RUN_TURNS),
+    }
+}
+
+/// The version of frames that a run's federates write, in ASCII digits.
+fn frames(given: &ArgMatches<'_>) -> Option<u8> {
+    match given.get_str("frames") {
+        Some(version) => match count(version)? {
+            1 => Some(1),
+            2 => Some(2),
+            _ => None,
+        },
+        None => Some(RUN_FRAMES),
     }
 }
 

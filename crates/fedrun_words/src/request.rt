@@ -26,4 +26,11 @@ pub enum Request<'a> {
         turns: u32,
         frames: u8,
     },
+    /// The steps of such a run, as a schedule.
+    Record {
+        federation: &'a str,
+        inputs: &'a str,
+        turns: u32,
+        frames: u8,
+    },
 }

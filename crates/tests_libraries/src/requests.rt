@@ -101,6 +101,26 @@ fn reads_run(rt: HostRuntime) {
     }
 }
 
+/// Words of a record of `f` and `-`, the turns of each runner, and the version of frames.
+const RECORDS: &[(&[&str], u32, u8)] = &[
+    (&["record", "f", "-"], 1_000_000, 2),
+    (&["record", "--turns=007", "f", "-"], 7, 2),
+    (&["record", "--frames", "1", "f", "-", "--turns", "9"], 9, 1),
+];
+
+#[test]
+fn reads_record(rt: HostRuntime) {
+    for (words, turns, frames) in RECORDS {
+        let record = Request::Record {
+            federation: "f",
+            inputs: "-",
+            turns: *turns,
+            frames: *frames,
+        };
+        assert!(rt; ask(rt.alloc(), words, Ok(record)), "{words:?}");
+    }
+}
+
 /// Words that are no command.
 const REFUSED: &[&[&str]] = &[
     &[],
@@ -154,6 +174,11 @@ const REFUSED: &[&[&str]] = &[
     &["run", "f", "-", "--turns", "4294967296"],
     &["run", "f", "-", "--turns", "1", "--turns", "1"],
     &["run", "f", "-", "--until-stuck", "1"],
+    &["record", "f"],
+    &["record", "f", "-", "s"],
+    &["record", "f", "-", "--turns", "x"],
+    &["record", "f", "-", "--until-stuck", "1"],
+    &["Record", "f", "-"],
     &["replay", "--help"],
     &["replay", "-h"],
     &["-V"],

@@ -1,5 +1,5 @@
 //! What is printed of reports that an audit doesn't prove.
-use fedrun_run::{AuditedFault, print_audited};
+use fedrun_run::{AuditedFault, RunOutput, print_audited};
 use node::Event;
 use recorder::{IncrementalAudit, Report};
 use std::alloc::Global;
@@ -20,7 +20,15 @@ pub(crate) fn printed(
         federation.inputs(),
     ).ok()?;
     let mut out = Vec::new(alloc);
-    match print_audited(alloc, plan, audit, reports, coordinator, &mut out) {
+    match print_audited(
+        alloc,
+        plan,
+        audit,
+        reports,
+        coordinator,
+        RunOutput::Rows,
+        &mut out,
+    ) {
         Err(AuditedFault::Unproved(_)) => Some(out.len()),
         _ => None,
     }

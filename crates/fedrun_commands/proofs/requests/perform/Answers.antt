@@ -1,5 +1,5 @@
 use Rattle.std.proofs.lemmas.Result.{on_ok_weaker, IfErr-weaker}
-use Rattle.fedrun_words.specs.declared.request.Request.TheVariants.{Replay, Run}
+use Rattle.fedrun_words.specs.declared.request.Request.TheVariants.{Replay, Run, Record}
 use Rattle.fedrun_whole.specs.Printed as printed
 use Rattle.fedrun_whole.specs.Refused as refused
 use Rattle.fedrun_commands.proofs.requests.perform.Goals as goal
@@ -29,3 +29,9 @@ returns-in-Run-clause-ok g c = on_ok_weaker c.run.result (λ done. printed.more 
 
 pub returns-in-Run-clause-stands : goal.returns-in-Run-clause-stands
 returns-in-Run-clause-stands g c = IfErr-weaker c.run.result _ _ (λ fault stands. refused.more (Run c.in-Run.federation c.in-Run.inputs c.in-Run.turns c.in-Run.frames) stands) c.run.ensures.stands
+
+pub returns-in-Record-clause-ok : goal.returns-in-Record-clause-ok
+returns-in-Record-clause-ok g c = on_ok_weaker c.run-in-Record.result (λ done. printed.more (Record c.in-Record.federation c.in-Record.inputs c.in-Record.turns c.in-Record.frames) done) c.run-in-Record.ensures.ok
+
+pub returns-in-Record-clause-stands : goal.returns-in-Record-clause-stands
+returns-in-Record-clause-stands g c = IfErr-weaker c.run-in-Record.result _ _ (λ fault stands. refused.more (Record c.in-Record.federation c.in-Record.inputs c.in-Record.turns c.in-Record.frames) stands) c.run-in-Record.ensures.stands

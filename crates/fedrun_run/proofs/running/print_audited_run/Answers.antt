@@ -17,7 +17,7 @@ returns-clause-ok g c =
     let said = c.in_ok-node_reports.node_reports in
     let reports : c.reports.result.now ≡ said.reports.reports = search rules in
     let journal : c.deref.result.now ≡ said.coordinator.items = search rules in
-    printed_of_some c.args.plan.now c.args.programs.now c.args.inputs.now _ c.reports.result.now c.deref.result.now _ _ c.print_audited.result
+    printed_of_some c.args.output c.args.plan.now c.args.programs.now c.args.inputs.now _ c.reports.result.now c.deref.result.now _ _ c.print_audited.result
     (same_said reports journal (rw c.in_ok-node_reports.was at c.run_and_ask-audit.ensures.reported))
     (c.run_and_ask-audit.ensures.audit ∙ c.in-Ok.ensures.begun) c.print_audited.ensures.ok
 

@@ -1,0 +1,3 @@
+-- Lemmas.
+-- a replay of recorded steps
+mod PlayedAgain

@@ -1,0 +1,3 @@
+-- Recorded steps.
+-- what a replay of them prints
+pub mod PlayedAgain

@@ -1,0 +1,17 @@
+//! What holds of steps that were recorded. Each function is a law: it does nothing.
+ghost use Rattle.std.specs.Prelude.{ℕ, List, Option, None};
+ghost use Rattle.world_stations.specs.declared.step.Step.{Step};
+ghost use Rattle.recorder.specs.Audited.{Claim, IsProvedBy};
+ghost use Rattle.fedrun_script.specs.Scripts.{Script, IsScriptOf};
+ghost use Rattle.fedrun_record.specs.StepText.{printed_steps};
+ghost use Rattle.fedrun_record.specs.ReadAgain.{AreRecorded};
+ghost use Rattle.fedrun_replay.specs.Replayed.{IsReplayed};
+ghost use Rattle.fedrun_record_laws.specs.PlayedAgain.{PrintsAgain};
+
+/// Where steps prove reports, a replay of the schedule that is read from their text makes just these steps, and prints the rows of the
+/// reports: before them which steps were refused, as they were in the run, and after them the end.
+#[tactic(none)]
+pub fn a_replay_of_recorded_steps_has_the_rows()
+    ensures { (c : Claim) (steps : List Step) (s : Script) (before after : Option (List ℕ)) → AreRecorded c.draft steps → IsProvedBy c steps →
+        IsScriptOf c.draft (printed_steps c.draft steps) s → IsReplayed c.draft c.programs c.inputs s None before after → PrintsAgain c steps before after }
+{}

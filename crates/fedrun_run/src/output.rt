@@ -1,0 +1,8 @@
+/// What is printed of a run that an audit proved.
+#[derive(Clone, Copy, Debug, PartialEq, Eq)]
+pub enum RunOutput {
+    /// The rows that each federate reports, federate by federate.
+    Rows,
+    /// The steps by which the audit proved them, as a schedule file.
+    Steps,
+}
