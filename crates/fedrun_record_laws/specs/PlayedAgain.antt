@@ -2,10 +2,16 @@
 use Rattle.std.specs.Prelude.{ℕ, ◌+◌, List, [], ◌∷◌, ◌++◌, Option, codes}
 use Rattle.std.specs.Io.KnownBytes.{Appends}
 use Rattle.world_stations.specs.declared.step.Step.{Step}
+use Rattle.world_stations.specs.declared.step.Step.TheVariants.{Deliver}
 use Rattle.world.specs.World.{stations_of}
 use Rattle.recorder.specs.Audited.{Claim, world_of}
 use Rattle.fedrun_replay.specs.Play.{Made, refusals}
 use Rattle.fedrun_run.specs.Printed.{printed_reports}
+
+-- the number of the frame that a step delivers; 0 where it delivers none
+abbrev pub frame_in : Step → ℕ
+frame_in (Deliver dir k) = k
+frame_in step = 0
 
 -- steps that are made for lines one after the other, the first of which has this number
 abbrev pub made_from : ℕ → List Step → List Made

@@ -1,5 +1,5 @@
 -- Where the lines of a schedule by which nobody forgets leave a player: nobody forgot, and rounds went past no more frames than were sent.
-use Rattle.std.proofs.Common.{◌≡◌, ℕ, zero, suc, ◌-◌, ◌≤◌, inl, inr, false, List, [], ◌∷◌, ◌++◌, get_or, set, refl, sym, ap, ◌∙◌, subst, arith}
+use Rattle.std.proofs.Common.{◌≡◌, ℕ, zero, suc, ◌-◌, ◌≤◌, false, List, [], ◌∷◌, ◌++◌, refl, sym, ap, ◌∙◌, subst, arith}
 use Rattle.std.specs.List.{list_any, AllByRecursion}
 use Rattle.std.proofs.lemmas.Bool.{or_parts, or_from}
 use Rattle.network.specs.Tables.{IsLawfulWith}
@@ -18,10 +18,10 @@ use Rattle.world_stations.specs.declared.step.Step.{Step}
 use Rattle.world_stations.specs.World.{after_steps}
 use Rattle.world_stations.specs.Kept.{is_forget}
 use Rattle.world_stations.specs.Federation.{Federation, initial_world, world_after}
-use Rattle.world_progress.specs.Rounds.{Playing, cursor_in, sent_in, with_cursor, waiting, Task, makes, brings, skips, after_task, after_tasks, for_each, turn_tasks, round_tasks, IsWithinSent}
+use Rattle.world_progress.specs.Rounds.{Playing, cursor_in, sent_in, waiting, Task, makes, brings, skips, after_task, after_tasks, for_each, turn_tasks, round_tasks, IsWithinSent}
 use Rattle.world_progress.proofs.TaskLists.{world_after_append}
 use Rattle.world_progress.proofs.Reached.{Reached}
-use Rattle.world_progress.proofs.Serving.{AreWithin, same_dir, deliveries_keep, within_task}
+use Rattle.world_progress.proofs.Serving.{AreWithin, deliveries_keep, within_cursor, within_task}
 use Rattle.world_progress.proofs.Halting.{reached_steps}
 use Rattle.fedrun_script.specs.declared.command.Command.{Command}
 use Rattle.fedrun_script.specs.declared.command.Command.TheVariants.{Make, Skip, Round}
@@ -66,28 +66,6 @@ command_keeping : (count : ℕ) (command : Command) → is_forgetting command �
 command_keeping count (Make step) keeps = (keeps, tt)
 command_keeping count (Skip dir) keeps = (tt, tt)
 command_keeping count Round keeps = round_keeping count
-
--- a cursor that goes to a number is there, or it is at 0
-set_own : (xs : List ℕ) (j count : ℕ) → get_or (set xs j count) j 0 ≤ count
-set_own [] j count = omega arith
-set_own (x ∷ xs) zero count = omega arith
-set_own (x ∷ xs) (suc j) count = set_own xs j count
-
-own_cursor : (p : Playing) (dir : Dir) (count : ℕ) → cursor_in (with_cursor p dir count).cursors dir ≤ count
-own_cursor p (Up j) count = set_own p.cursors.up j count
-own_cursor p (Down j) count = set_own p.cursors.down j count
-
-within_skip : (d : Draft) (p : Playing) (skipped : Dir) → AreWithin d p → AreWithin d (with_cursor p skipped (sent_in p skipped))
-within_skip d p skipped within dir below =
-    let before : cursor_in p.cursors dir ≤ sent_in p dir = within dir below in
-    elim (same_dir skipped dir) [
-      | inl here ↦
-          let P : Dir → Type 0 = λ other. cursor_in (with_cursor p skipped (sent_in p skipped)).cursors other ≤ sent_in p other in
-          subst P here (own_cursor p skipped (sent_in p skipped))
-      | inr apart ↦
-          let Q : ℕ → Type 0 = λ cursor. cursor ≤ sent_in p dir in
-          subst Q (sym (apart p (sent_in p skipped))) before
-    ]
 
 -- the world after these steps from another
 abbrev after : Federation → List Step → Federation
@@ -148,7 +126,7 @@ module _ (d : Draft) (programs : List Behaviour) (inputs : List Input) (lawful :
     within = within_task d programs inputs lawful p.world (reached_left p left) p (brings dir) tt (reached_left p left) left.within;
   }
   task_left (skips dir) p keeps left =
-      record { steps = left.steps; kept = left.kept; is = left.is; within = within_skip d p dir left.within }
+      record { steps = left.steps; kept = left.kept; is = left.is; within = within_cursor d programs inputs lawful p.world (reached_left p left) p dir left.within }
 
   tasks_left : (tasks : List Task) (p : Playing) → AllByRecursion IsKeeping tasks → IsLeft d programs inputs p → IsLeft d programs inputs (after_tasks tasks p)
   tasks_left [] p keeps left = left

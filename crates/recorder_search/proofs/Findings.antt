@@ -31,6 +31,7 @@ nothing_read motion initial journals count p state read = (
   [],
   record {
     made = state;
+    each = tt;
     none_forgets = refl;
     within = λ place. rw read (rw (none_of count place) (omega arith));
     events = λ node. rw read (rw (none_of count (place_of node)) refl);
@@ -44,6 +45,7 @@ module _ {State : Type 0} (motion : Motion State) (initial : State) (journals : 
   -- all journals are read to their ends
   pub all_there : IsFirstUnread journals p.read None → Agrees motion initial steps journals
   all_there used = record {
+    each = reading.each;
     none_forgets = reading.none_forgets;
     events = λ node. reading.events node ∙ take_all (get_or p.read (place_of node) 0) (journal_of journals node) (used (place_of node));
   }

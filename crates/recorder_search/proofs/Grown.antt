@@ -13,6 +13,7 @@ longer_read motion initial journals longer p grew reading = (
   reading.0,
   record {
     made = reading.1.made;
+    each = reading.1.each;
     none_forgets = reading.1.none_forgets;
     within = λ place.
         let more : length (get_or longer place []) ≡ length (get_or journals place []) + length (grew place).0 =

@@ -1,5 +1,5 @@
 -- Reading goes on by one event, and by one journal.
-use Rattle.std.proofs.Common.{◌≡◌, ◌≢◌, ◌∙◌, ℕ, zero, suc, ◌+◌, ◌<◌, ◌≤◌, Bool, true, false, List, [], ◌∷◌, ◌++◌, length, get_or, set, take, slice_get, Some, None, ⊎_elim, ◌⊎◌, inl, inr, add-one, refl, sym, ap, append-nil, arith}
+use Rattle.std.proofs.Common.{◌≡◌, ◌≢◌, ◌∙◌, ℕ, zero, suc, ◌+◌, ◌<◌, ◌≤◌, Bool, true, false, List, [], ◌∷◌, ◌++◌, length, get_or, set, take, slice_get, Some, None, is_some, ⊎_elim, ◌⊎◌, inl, inr, add-one, refl, sym, ap, append-nil, arith}
 use Rattle.std.proofs.lemmas.Bool.Decides.{nat_tests}
 use Rattle.std.proofs.lemmas.Bool.{cases_eq}
 use Rattle.std.proofs.lemmas.List.{get_or-set_same, get_or-set_other}
@@ -12,7 +12,7 @@ use Rattle.world_stations.specs.declared.step.Step.TheVariants.{Forget}
 use Rattle.recorder_search.specs.Motion.{Motion, after_all, IsEvent}
 use Rattle.recorder_search.specs.Journals.{place_of, node_at, journal_of, event_at, events_at}
 use Rattle.recorder_search.specs.Reading.{Position, HasRead, IsBlocked, unread, GoesOn}
-use Rattle.recorder_search.proofs.Pushed.{after_push, events_push, no_forget, none_forgets_push}
+use Rattle.recorder_search.proofs.Pushed.{after_push, events_push, each_push, no_forget, none_forgets_push}
 
 pub placed : (place : ℕ) → place_of (node_at place) ≡ place
 placed zero = refl
@@ -81,6 +81,7 @@ module _ {State : Type 0} (motion : Motion State) (forgetting : (state : State) 
       before.0 ++ step ∷ [],
       record {
         made = state ∙ ap (λ s. motion.after s step) before.1.made ∙ sym (after_push motion initial before.0 step);
+        each = each_push motion initial before.0 step before.1.each (ap (λ s. is_some (motion.occurrence s step)) (sym before.1.made) ∙ ap is_some is);
         none_forgets = none_forgets_push before.0 step before.1.none_forgets (no_forget motion forgetting p.state step (node_at place) e is);
         within = λ k. rw read (read_within before.1.within k);
         events = λ node. rw read (read_events initial before.0 before.1 node);

@@ -1,6 +1,6 @@
 -- When a list of steps agrees with journals, and when no further event can be placed. The journals are a list: the coordinator's,
 -- then the federates' by number.
-use Rattle.std.specs.Prelude.{◌≡◌, ℕ, zero, suc, ◌+◌, ◌<◌, ◌≤◌, nat_eq, false, if◌then◌else◌, List, [], ◌∷◌, ◌++◌, length, get_or, slice_get, Option, None, Some}
+use Rattle.std.specs.Prelude.{◌≡◌, ℕ, zero, suc, ◌+◌, ◌<◌, ◌≤◌, nat_eq, false, if◌then◌else◌, List, [], ◌∷◌, ◌++◌, length, get_or, slice_get, Option, None, Some, IsSome}
 use Rattle.std.specs.List.{list_any}
 use Rattle.node.specs.declared.event.Event.{Event}
 use Rattle.node.specs.declared.node_id.NodeId.{NodeId}
@@ -37,8 +37,14 @@ events_at motion node state [] = []
 events_at motion node state (step ∷ steps) =
     event_at node (motion.occurrence state step) ++ events_at motion node (motion.after state step) steps
 
--- steps agree with journals: no federate forgets, and each node's events are its journal
+-- each of these steps, made one after the other, is an event at a node
+abbrev pub AreEvents : {State : Type 0} → Motion State → State → List Step → Type 0
+AreEvents motion state [] = Unit {0}
+AreEvents motion state (step ∷ steps) = IsSome (motion.occurrence state step) × AreEvents motion (motion.after state step) steps
+
+-- steps agree with journals: each is an event, no federate forgets, and each node's events are its journal
 pub record Agrees {State : Type 0} (motion : Motion State) (initial : State) (steps : List Step) (journals : List (List Event)) : Type 0 where
+  pub each : AreEvents motion initial steps
   pub none_forgets : list_any is_forget steps ≡ false
   pub events : (node : NodeId) → events_at motion node initial steps ≡ journal_of journals node
 

@@ -6,16 +6,17 @@ use Rattle.node.specs.declared.node_id.NodeId.{NodeId}
 use Rattle.world_stations.specs.declared.step.Step.{Step}
 use Rattle.world_stations.specs.Kept.{is_forget}
 use Rattle.recorder_search.specs.Motion.{Motion, after_all, IsNoStep}
-use Rattle.recorder_search.specs.Journals.{place_of, node_at, journal_of, events_at}
+use Rattle.recorder_search.specs.Journals.{place_of, node_at, journal_of, events_at, AreEvents}
 
 -- the machine's state, and how many events of each journal are read
 pub record Position (State : Type 0) : Type 0 where
   pub state : State
   pub read : List ℕ
 
--- these steps are made, and each node's events are what is read of its journal
+-- these steps are made, each is an event, and each node's events are what is read of its journal
 pub record HasRead {State : Type 0} (motion : Motion State) (initial : State) (journals : List (List Event)) (p : Position State) (steps : List Step) : Type 0 where
   pub made : p.state ≡ after_all motion initial steps
+  pub each : AreEvents motion initial steps
   pub none_forgets : list_any is_forget steps ≡ false
   pub within : (place : ℕ) → get_or p.read place 0 ≤ length (get_or journals place [])
   pub events : (node : NodeId) → events_at motion node initial steps ≡ take (get_or p.read (place_of node) 0) (journal_of journals node)

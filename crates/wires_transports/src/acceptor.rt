@@ -8,7 +8,7 @@ use crate::ending::Ending;
 use crate::expected_peers::{ExpectedPeers, Origin};
 use crate::pending_connection::{HandshakeState, PendingConnection};
 use crate::tcp::{TcpCut, TcpTransport, connection};
-use crate::times::{CALM_PAUSE_MS, END_MS, PAUSE_MS};
+use crate::times::{CALM_AFTER_MS, CALM_PAUSE_MS, END_MS, PAUSE_MS};
 use crossbeam_channel::Sender;
 use std::alloc::{AllocError, Global};
 use std::net::{TcpListener, TcpStream};
@@ -71,13 +71,17 @@ impl<'a> Acceptor for TcpAcceptor<'a> {
         } = self;
         let mut arrived = Vec::new(alloc);
         let mut pending = Vec::new(alloc);
+        let mut calm = Deadline::after(rt, CALM_AFTER_MS);
         for _ in rt.forever() {
             if ending.is_set() {
                 break;
             }
-            if !accept_some(&listener, &mut arrived) {
-                let is_calm = arrived.is_empty() && pending.is_empty() && are_all_there(&current);
-                thread::sleep(rt, Duration::from_millis(pause(is_calm)));
+            let came = accept_some(&listener, &mut arrived);
+            if came || !arrived.is_empty() || !pending.is_empty() || !are_all_there(&current) {
+                calm = Deadline::after(rt, CALM_AFTER_MS);
+            }
+            if !came {
+                thread::sleep(rt, Duration::from_millis(pause(calm.has_passed(rt))));
             }
             arrived = sort_out(rt, alloc, expected, arrived, &mut pending);
             pending = listen_to(rt, alloc, pending, &readers, &mut current);

@@ -6,8 +6,12 @@
 /// Between two looks at a listener, and before the next attempt to connect.
 pub const PAUSE_MS: u64 = 1;
 
-/// Between two looks at a listener while every federate has a connection and no other waits to be let in.
+/// Between two looks at a listener that is calm.
 pub const CALM_PAUSE_MS: u64 = 10;
+
+/// A listener is calm where every federate has a connection, and for so long nobody came and no other waited to be let in. Until then
+/// it is looked at so often that a crowd can't fill the system's queue, in which a federate's own connection would have no place.
+pub const CALM_AFTER_MS: u64 = 200;
 
 /// The longest wait of a runner for a wake-up.
 pub const RUNNER_WAIT_MS: u64 = 10;

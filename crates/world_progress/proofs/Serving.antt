@@ -205,7 +205,7 @@ module _ (d : Draft) (programs : List Behaviour) (inputs : List Input) (lawful :
   within_steps (step ∷ rest) p kept r within =
       within_steps rest (after_one p step) kept.1 (next d programs inputs lawful p.world r step kept.0).now (within_step p step kept.0 r within)
 
-  within_cursor : (p : Playing) (moved : Dir) → AreWithin d p → AreWithin d (with_cursor p moved (sent_in p moved))
+  pub within_cursor : (p : Playing) (moved : Dir) → AreWithin d p → AreWithin d (with_cursor p moved (sent_in p moved))
   within_cursor p moved within dir below =
       let same : length (frames_in (with_cursor p moved (sent_in p moved)).world dir) ≡ length (frames_in p.world dir) = ap (λ (w : Federation). length (frames_in w dir)) (world_moved p moved (sent_in p moved)) in
       let before = within dir below in
