@@ -15,7 +15,8 @@ use Rattle.fedrun_files.specs.declared.reading.Sources.{Sources}
 use Rattle.fedrun_files.specs.Loaded.{input_file, HoldsOfSources}
 use Rattle.fedrun_files.specs.Refused.{asked_sources, IsUnread, IsSourcesFault}
 use Rattle.fedrun_replay.specs.declared.fault.ReplayFault.TheVariants as broken
-use Rattle.fedrun_replay.specs.Replayed.{IsBrokenOff}
+use Rattle.fedrun_text.specs.declared.row_format.RowFormat.{RowFormat}
+use Rattle.fedrun_replay.specs.AsCsv.{IsBrokenOffIn}
 use Rattle.fedrun_run.specs.Printed.{IsAuditFailure}
 use Rattle.fedrun_run.specs.declared.audit_failure.AuditFailure.{AuditFailure}
 use Rattle.desk.specs.declared.memory.Memory as run
@@ -40,10 +41,10 @@ IsUnprintedRun s fault =
     ⊎ ((memory : run.Memory) × (fault ≡ More (Run memory))))
 
 -- why a replay of a schedule breaks off, once all was loaded: it can't be written, or there was no memory for a step; then what was refused
--- of those before it is written
-abbrev pub IsReplayFault : Sources → Script → Option ℕ → Option (List ℕ) → Option (List ℕ) → Fault NodeFault → Type 0
-IsReplayFault s script closing before after fault =
-    ((memory : steps.Memory) × (fault ≡ More (World memory)) × IsBrokenOff s.plan s.programs s.inputs script closing before after (broken.World memory))
+-- of those before it is written, or as comma-separated values nothing
+abbrev pub IsReplayFault : Sources → Script → Option ℕ → RowFormat → Option (List ℕ) → Option (List ℕ) → Fault NodeFault → Type 0
+IsReplayFault s script closing format before after fault =
+    ((memory : steps.Memory) × (fault ≡ More (World memory)) × IsBrokenOffIn format s.plan s.programs s.inputs script closing before after (broken.World memory))
     ⊎ (fault ≡ CannotWrite)
 
 -- why a run isn't printed, once all was loaded: it can't be written; or it isn't finished, an audit doesn't believe it, or there was no
@@ -62,13 +63,13 @@ IsFaultOfRun contents answered before after federation inputs fault =
 -- why a request of nodes isn't done, and what was answered about files till then: the federation file's fault comes first, then the
 -- input file's, then the schedule's.
 abbrev pub IsFaultOf : Contents → (List Answer → Type 0) → Option (List ℕ) → Option (List ℕ) → Request → Fault NodeFault → Type 0
-IsFaultOf contents answered before after (Replay federation inputs schedule until_stuck) fault =
+IsFaultOf contents answered before after (Replay federation inputs schedule until_stuck format) fault =
     IsSourcesFault federation inputs contents answered fault
     ⊎ HoldsOfSources (contents federation.now) (input_file contents inputs.now)
     (λ s. IsScheduleFault s.plan schedule contents (λ later. answered (asked_sources federation.now inputs.now ++ later)) fault
     ⊎ (answered (asked_sources federation.now inputs.now ++ given schedule.now ∷ [])
-    × HoldsOfSchedule (contents schedule.now) s.plan (λ script. IsReplayFault s script until_stuck before after fault)))
-IsFaultOf contents answered before after (RunOf federation inputs turns frames) fault = IsFaultOfRun contents answered before after federation inputs fault
+    × HoldsOfSchedule (contents schedule.now) s.plan (λ script. IsReplayFault s script until_stuck format before after fault)))
+IsFaultOf contents answered before after (RunOf federation inputs turns frames format) fault = IsFaultOfRun contents answered before after federation inputs fault
 IsFaultOf contents answered before after (Record federation inputs turns frames) fault = IsFaultOfRun contents answered before after federation inputs fault
 IsFaultOf contents answered before after request fault = ⊥
 

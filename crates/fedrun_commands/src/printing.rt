@@ -3,7 +3,7 @@ ghost use Rattle.std.specs.Prelude.{◌≡◌, IfErr, OnOk};
 ghost use Rattle.std.specs.Io.KnownBytes.{Keeps};
 ghost use Rattle.plan.specs.External.{AreInputsOf};
 ghost use Rattle.reactor_programs.specs.Programs.{AreProgramsOf};
-ghost use Rattle.fedrun_replay.specs.Replayed.{IsReplayed};
+ghost use Rattle.fedrun_replay.specs.AsCsv.{IsReplayedIn};
 ghost use Rattle.fedrun_run.specs.Printed.{PrintsAudited};
 ghost use Rattle.fedrun_fault.specs.declared.fault.Fault.TheVariants.{CannotWrite as cannot_write};
 ghost use Rattle.fedrun_commands.specs.Faults.{status_of};
@@ -12,9 +12,10 @@ ghost use Rattle.fedrun_commands.specs.Refused.{IsReplayFault, IsRunFault};
 use crate::fault::NodeFault;
 use fedrun_fault::Fault;
 use fedrun_files::Sources;
-use fedrun_replay::{ReplayFault, replay};
+use fedrun_replay::{ReplayFault, replay_in};
 use fedrun_run::{AuditedFault, RunOutput, print_audited_run};
 use fedrun_script::Script;
+use fedrun_text::RowFormat;
 use std::alloc::Global;
 use std::io::Write;
 use std::net::{Net, TcpListener, TcpStream};
@@ -23,21 +24,23 @@ use std::thread::Threads;
 use std::time::Clock;
 use wires::Terms;
 
-/// Plays a schedule and prints what `replay` does. Where there is no memory for a step, the refused steps before it are written.
+/// Plays a schedule and prints what `replay_in` does. Where there is no memory for a step, the refused steps before it are written,
+/// or as comma-separated values nothing.
 pub(crate) fn print_replay<O: Write>(
     alloc: Global,
     sources: &Sources,
     script: &Script,
     until_stuck: Option<u32>,
+    format: RowFormat,
     out: &mut O,
 ) -> Result<(), Fault<'static, NodeFault>>
     requires programs { AreProgramsOf sources.now.plan sources.now.programs }
     requires inputs { AreInputsOf sources.now.plan sources.now.inputs }
-    ensures ok { OnOk result (IsReplayed sources.now.plan sources.now.programs sources.now.inputs script.now until_stuck (O.contents out.old) (O.contents out.new)) }
-    ensures stands { IfErr result (IsReplayFault sources.now script.now until_stuck (O.contents out.old) (O.contents out.new)) }
+    ensures ok { OnOk result (IsReplayedIn format sources.now.plan sources.now.programs sources.now.inputs script.now until_stuck (O.contents out.old) (O.contents out.new)) }
+    ensures stands { IfErr result (IsReplayFault sources.now script.now until_stuck format (O.contents out.old) (O.contents out.new)) }
     ensures late { IfErr result (λ fault. status_of fault ≡ 3) }
 {
-    match replay(
+    match replay_in(
         alloc,
         out,
         &sources.plan,
@@ -45,6 +48,7 @@ pub(crate) fn print_replay<O: Write>(
         &sources.inputs,
         script,
         until_stuck,
+        format,
     ) {
         Ok(()) => flush(out),
         Err(ReplayFault::World(memory)) => {

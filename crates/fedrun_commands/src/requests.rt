@@ -11,6 +11,7 @@ use crate::schedules::read_schedule;
 use fedrun_fault::Fault;
 use fedrun_files::{Files, read_sources};
 use fedrun_run::RunOutput;
+use fedrun_text::RowFormat;
 use fedrun_whole::{check, whole};
 use fedrun_words::{Request, read_words};
 use std::alloc::Global;
@@ -48,26 +49,38 @@ pub(crate) fn perform<
             federation,
             inputs,
             turns,
-        } => whole(alloc, federation, inputs, turns, files, out),
+            format,
+        } => whole(alloc, federation, inputs, turns, format, files, out),
         Request::Check { federation } => check(alloc, federation, files, out),
         Request::Replay {
             federation,
             inputs,
             schedule,
             until_stuck,
-        } => replay(alloc, federation, inputs, schedule, until_stuck, files, out),
+            format,
+        } => replay(
+            alloc,
+            federation,
+            inputs,
+            schedule,
+            until_stuck,
+            format,
+            files,
+            out,
+        ),
         Request::Run {
             federation,
             inputs,
             turns,
             frames,
+            format,
         } => run(
             rt,
             alloc,
             federation,
             inputs,
             Terms { turns, frames },
-            RunOutput::Rows,
+            RunOutput::Rows(format),
             files,
             out,
         ),
@@ -116,7 +129,7 @@ pub(crate) fn run<
     }
 }
 
-/// Prints what a schedule's world refuses, and the rows after it.
+/// Prints what a schedule's world refuses, and the rows after it; as comma-separated values the rows alone.
 #[tactic(auto, using(fedrun_files::proofs::InTurn::answered_in_turn))]
 pub(crate) fn replay<'a, F: Files, O: Write>(
     alloc: Global,
@@ -124,11 +137,12 @@ pub(crate) fn replay<'a, F: Files, O: Write>(
     inputs: &'a str,
     schedule: &'a str,
     until_stuck: Option<u32>,
+    format: RowFormat,
     files: &mut F,
     out: &mut O,
 ) -> Result<(), Fault<'a, NodeFault>>
-    ensures ok { OnOk result (PrintsFor (F.contents files.old) (Request.Replay federation.entry inputs.entry schedule.entry until_stuck) (O.contents out.old) (O.contents out.new)) }
-    ensures stands { IfErr result (IsFaultOf (F.contents files.old) (Answers (F.answers files.old) (F.answers files.new)) (O.contents out.old) (O.contents out.new) (Request.Replay federation.entry inputs.entry schedule.entry until_stuck)) }
+    ensures ok { OnOk result (PrintsFor (F.contents files.old) (Request.Replay federation.entry inputs.entry schedule.entry until_stuck format) (O.contents out.old) (O.contents out.new)) }
+    ensures stands { IfErr result (IsFaultOf (F.contents files.old) (Answers (F.answers files.old) (F.answers files.new)) (O.contents out.old) (O.contents out.new) (Request.Replay federation.entry inputs.entry schedule.entry until_stuck format)) }
     ensures untouched { IfErr result (λ fault. status_of fault ≢ 3 → out.new ≡ out.old) }
 {
     let sources = match read_sources(alloc, federation, inputs, files) {
@@ -136,7 +150,7 @@ pub(crate) fn replay<'a, F: Files, O: Write>(
         Err(fault) => return Err(fault),
     };
     match read_schedule(alloc, schedule, &sources.plan, files) {
-        Ok(script) => print_replay(alloc, &sources, &script, until_stuck, out),
+        Ok(script) => print_replay(alloc, &sources, &script, until_stuck, format, out),
         Err(fault) => Err(fault),
     }
 }

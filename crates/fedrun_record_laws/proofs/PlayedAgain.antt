@@ -14,6 +14,7 @@ use Rattle.world_progress.specs.Rounds.{Playing, makes, after_tasks}
 use Rattle.world.specs.World.{WorldView, stations_of, with_steps}
 use Rattle.recorder.specs.Audited.{Claim, world_of, IsProvedBy}
 use Rattle.recorder_reports.specs.Reports.{reported_rows}
+use Rattle.fedrun_text.specs.declared.row_format.RowFormat.TheVariants.{Text}
 use Rattle.fedrun_text.specs.RowText.{printed_rows}
 use Rattle.fedrun_text.specs.PlanText.{federate_name, printed_each}
 use Rattle.fedrun_script.specs.Scripts.{Script, IsScriptOf}
@@ -52,16 +53,16 @@ module _ (c : Claim) (steps : List Step) (proved : IsProvedBy c steps) where
       (ap (list_any is_forget) (listed_so c.draft c.programs c.inputs steps) ∙ proved.agrees.none_forgets) j
 
   -- a federate's history is the rows that it reports
-  history_again : (j : ℕ) → j < federate_count c.draft → history (world_of c steps) j ≡ printed_rows c.draft.federates (reported_rows c.reports j)
+  history_again : (j : ℕ) → j < federate_count c.draft → history Text (world_of c steps) j ≡ printed_rows c.draft.federates (reported_rows c.reports j)
   history_again j below =
       ap (λ b. if b then printed_rows c.draft.federates (rows_in (stations_of (world_of c steps)) j) else federate_name c.draft j ++ codes " forgotten\n") (kept_there j)
       ∙ ap (printed_rows c.draft.federates) (sym (proved.rows j below))
 
   histories_again : (count : ℕ) → count ≤ federate_count c.draft →
-      printed_each (history (world_of c steps)) count ≡ printed_each (λ j. printed_rows c.draft.federates (reported_rows c.reports j)) count
+      printed_each (history Text (world_of c steps)) count ≡ printed_each (λ j. printed_rows c.draft.federates (reported_rows c.reports j)) count
   histories_again zero few = refl
   histories_again (suc count) few =
-      ap (λ front. front ++ history (world_of c steps) count) (histories_again count (omega arith))
+      ap (λ front. front ++ history Text (world_of c steps) count) (histories_again count (omega arith))
       ∙ ap (λ last. printed_each (λ j. printed_rows c.draft.federates (reported_rows c.reports j)) count ++ last) (history_again count (omega arith))
 
   -- the replay prints them, after what was refused
@@ -78,6 +79,6 @@ module _ (c : Claim) (steps : List Step) (proved : IsProvedBy c steps) where
       subst (λ (made : List Made). Appends before replayed.played (refusals (stations_of (world_of c [])) made)) all played.plays.printed in
       let ended : Appends replayed.played after (histories (world_of c steps)) =
       subst (λ (w : WorldView). Appends replayed.played after (histories w)) last replayed.ended in
-      let rows : Appends replayed.played after (printed_reports c.draft c.reports ++ codes "end\n") =
+      let rows : Appends replayed.played after (printed_reports Text c.draft c.reports ++ codes "end\n") =
       subst (λ (text : List ℕ). Appends replayed.played after (text ++ codes "end\n")) (histories_again (federate_count c.draft) (omega arith)) ended in
       Appends-trans before replayed.played after _ _ refused rows

@@ -5,6 +5,7 @@ use Rattle.world_stations.specs.declared.step.Step.{Step}
 use Rattle.world_stations.specs.declared.step.Step.TheVariants.{Deliver}
 use Rattle.world.specs.World.{stations_of}
 use Rattle.recorder.specs.Audited.{Claim, world_of}
+use Rattle.fedrun_text.specs.declared.row_format.RowFormat.TheVariants.{Text}
 use Rattle.fedrun_replay.specs.Play.{Made, refusals}
 use Rattle.fedrun_run.specs.Printed.{printed_reports}
 
@@ -22,4 +23,4 @@ made_from number (step ∷ rest) = record { line = number; step = step } ∷ mad
 -- reports, federate by federate; then by the end
 abbrev pub PrintsAgain : Claim → List Step → Option (List ℕ) → Option (List ℕ) → Type 0
 PrintsAgain c steps before after =
-    Appends before after (refusals (stations_of (world_of c [])) (made_from 1 steps) ++ (printed_reports c.draft c.reports ++ codes "end\n"))
+    Appends before after (refusals (stations_of (world_of c [])) (made_from 1 steps) ++ (printed_reports Text c.draft c.reports ++ codes "end\n"))

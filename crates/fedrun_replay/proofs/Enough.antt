@@ -30,14 +30,18 @@ use Rattle.world_progress.proofs.TaskLists.{world_after_append, world_after_task
 use Rattle.world_progress.proofs.ClosingRounds.{closing_rounds_end}
 use Rattle.world.specs.World.{WorldView, stations_of, with_steps}
 use Rattle.world.specs.Faithful.{IsFaithful}
-use Rattle.fedrun_text.specs.RowText.{printed_rows}
-use Rattle.fedrun_text.specs.PlanText.{federate_name, printed_each}
+use Rattle.fedrun_text.specs.declared.row_format.RowFormat.{RowFormat}
+use Rattle.fedrun_text.specs.declared.row_format.RowFormat.TheVariants.{Text, Csv}
+use Rattle.fedrun_text.specs.CsvText.{csv_header}
+use Rattle.fedrun_text.specs.Formats.{formatted_rows}
+use Rattle.fedrun_text.specs.PlanText.{printed_each}
 use Rattle.fedrun_script.specs.declared.script.ScheduleLine.{ScheduleLine}
 use Rattle.fedrun_script.specs.Scripts.{Script}
 use Rattle.fedrun_replay.specs.Play.{playing_of, unasked, unasked_player, tasks_of, after_lines, Made, made_for, made_by, steps_of}
 use Rattle.fedrun_replay.specs.Closing.{most_rounds, made_in_all, PlaysSchedule}
-use Rattle.fedrun_replay.specs.Enough.{AsksForEnough, whole_part, every_row, EndsWithEveryRow}
-use Rattle.fedrun_replay.specs.Replayed.{history, histories, verdict, IsClosed, IsEnded, IsReplayed}
+use Rattle.fedrun_replay.specs.Enough.{AsksForEnough, whole_part, every_row, EndsWithEveryRow, every_row_as_csv, EndsWithEveryRowAsCsv}
+use Rattle.fedrun_replay.specs.Replayed.{forgotten, history, each_history, histories, verdict, IsClosed, IsEnded, IsReplayed}
+use Rattle.fedrun_replay.specs.AsCsv.{HasPlayedUnseen, IsReplayedAsCsv}
 use Rattle.fedrun_replay.proofs.Playing.{stations_after, steps_made_for}
 use Rattle.fedrun_replay.proofs.Leaving.{IsLeft, unasked_left, lines_left, within_left}
 
@@ -144,31 +148,35 @@ each_same f g (suc count) same =
     ∙ ap (λ (text : List ℕ). printed_each g count ++ text) (same count (omega arith))
 
 -- in a stuck world each federate's history is its whole part
-history_is_whole : (d : Draft) (programs : List Behaviour) (inputs : List Input) (steps : List Step) (j : ℕ) → IsLawful (network_of d programs inputs)
+history_is_whole : (format : RowFormat) (d : Draft) (programs : List Behaviour) (inputs : List Input) (steps : List Step) (j : ℕ) → IsLawful (network_of d programs inputs)
     → IsFaithful (with_steps (unasked d programs inputs) steps) → IsStuck (stations_of (with_steps (unasked d programs inputs) steps)) → j < federate_count d
-    → history (with_steps (unasked d programs inputs) steps) j ≡ printed_rows d.federates (whole_part d programs inputs j)
-history_is_whole d programs inputs steps j lawful faithful stuck below =
+    → history format (with_steps (unasked d programs inputs) steps) j ≡ formatted_rows format d.federates (whole_part d programs inputs j)
+history_is_whole format d programs inputs steps j lawful faithful stuck below =
     let w : WorldView = with_steps (unasked d programs inputs) steps in
     let rows : List Row = rows_in (stations_of w) j in
     let kept : is_kept w.steps j ≡ true = all_kept d programs inputs w.steps stuck.kept j in
-    ap (λ (b : Bool). if b then printed_rows d.federates rows else federate_name d j ++ codes " forgotten\n") kept
-    ∙ ap (printed_rows d.federates)
+    ap (λ (b : Bool). if b then formatted_rows format d.federates rows else forgotten format d j) kept
+    ∙ ap (formatted_rows format d.federates)
     (rows_are_whole d programs inputs (stations_of w) j lawful (faithful.prefix j below kept) (faithful.stuck stuck j below))
+
+-- so all histories are every row
+histories_are_whole : (format : RowFormat) (d : Draft) (programs : List Behaviour) (inputs : List Input) (last : WorldView) (steps : List Step)
+    → IsLawful (network_of d programs inputs) → last ≡ with_steps (unasked d programs inputs) steps → IsFaithful last → IsStuck (stations_of last)
+    → each_history format last ≡ printed_each (λ j. formatted_rows format d.federates (whole_part d programs inputs j)) (federate_count d)
+histories_are_whole format d programs inputs last steps lawful is faithful stuck =
+    ap (each_history format) is
+    ∙ each_same (history format (with_steps (unasked d programs inputs) steps)) (λ j. formatted_rows format d.federates (whole_part d programs inputs j)) (federate_count d)
+    (λ j below. history_is_whole format d programs inputs steps j lawful (subst IsFaithful is faithful) (subst (λ (v : WorldView). IsStuck (stations_of v)) is stuck) below)
 
 -- what is printed at the end of a stuck world is every row
 closed_whole : (d : Draft) (programs : List Behaviour) (inputs : List Input) (most : ℕ) (last : WorldView) (steps : List Step) (before after : Option (List ℕ))
     → IsLawful (network_of d programs inputs) → last ≡ with_steps (unasked d programs inputs) steps → IsFaithful last → IsStuck (stations_of last)
     → IsClosed most last before after → EndsWithEveryRow d programs inputs last before after
 closed_whole d programs inputs most last steps before after lawful is faithful stuck closed =
-    let w : WorldView = with_steps (unasked d programs inputs) steps in
     let tells : closed.is_stuck ≡ true = closed.tells.1 stuck in
-    let each : histories w ≡ printed_each (λ j. printed_rows d.federates (whole_part d programs inputs j)) (federate_count d) ++ codes "end\n" =
-    ap (λ (text : List ℕ). text ++ codes "end\n")
-    (each_same (history w) (λ j. printed_rows d.federates (whole_part d programs inputs j)) (federate_count d)
-    (λ j below. history_is_whole d programs inputs steps j lawful (subst IsFaithful is faithful) (subst (λ (v : WorldView). IsStuck (stations_of v)) is stuck) below)) in
     let text : verdict most closed.is_stuck ++ histories last ≡ every_row d programs inputs =
-    ap (λ (b : Bool). verdict most b ++ histories last) tells ∙ ap (λ (v : WorldView). codes "stuck\n" ++ histories v) is
-    ∙ ap (λ (rows : List ℕ). codes "stuck\n" ++ rows) each in
+    ap (λ (b : Bool). verdict most b ++ histories last) tells
+    ∙ ap (λ (rows : List ℕ). codes "stuck\n" ++ (rows ++ codes "end\n")) (histories_are_whole Text d programs inputs last steps lawful is faithful stuck) in
     record { stuck = stuck; printed = subst (Appends before after) text closed.printed }
 
 -- all of a replay
@@ -185,3 +193,21 @@ replayed d programs inputs s closing last before played after legal are given fe
         let steps : List Step = steps_of (made_in_all (federate_count d) s plays.rounds (playing_of (unasked_player d programs inputs))) in
         let stuck : IsStuck (stations_of last) = ends_stuck d programs inputs s most last before played legal are given few asks plays in
         closed_whole d programs inputs most last steps played after (gives_lawful d programs inputs legal are given) plays.plays.later_is faithful stuck ended
+
+-- all of one whose rows are printed as comma-separated values
+pub replayed_as_csv : (d : Draft) (programs : List Behaviour) (inputs : List Input) (s : Script) (closing : Option ℕ) (last : WorldView) (before after : Option (List ℕ))
+    → IsLegal d → AreProgramsOf d programs → AreInputsOf d inputs → most_rounds closing < 2 ^ 32 → HasPlayedUnseen s closing (unasked_player d programs inputs) last
+    → Appends before after (csv_header ++ each_history Csv last) → IsFaithful last → IsReplayedAsCsv d programs inputs s closing before after
+replayed_as_csv d programs inputs s closing last before after legal are given few plays printed faithful =
+    record { last = last; plays = plays; printed = printed; faithful = faithful; enough = whole_if_enough closing few plays }
+  where
+    whole_if_enough : (closing : Option ℕ) → most_rounds closing < 2 ^ 32 → HasPlayedUnseen s closing (unasked_player d programs inputs) last
+        → AsksForEnough d programs inputs s closing → EndsWithEveryRowAsCsv d programs inputs last before after
+    whole_if_enough None few plays asks = absurd asks
+    whole_if_enough (Some most) few plays asks =
+        let steps : List Step = steps_of (made_in_all (federate_count d) s plays.rounds (playing_of (unasked_player d programs inputs))) in
+        let stuck : IsStuck (stations_of last) = ends_stuck d programs inputs s most last None None legal are given few asks plays in
+        let text : csv_header ++ each_history Csv last ≡ every_row_as_csv d programs inputs =
+        ap (λ (rows : List ℕ). csv_header ++ rows)
+        (histories_are_whole Csv d programs inputs last steps (gives_lawful d programs inputs legal are given) plays.plays.later_is faithful stuck) in
+        record { stuck = stuck; printed = subst (Appends before after) text printed }

@@ -12,7 +12,10 @@ use Rattle.world_stations.specs.Kept.{is_forget}
 use Rattle.world_stations.specs.Federation.{IsStuck}
 use Rattle.world_progress.specs.Fuel.{enough_turns, fuel_of}
 use Rattle.world.specs.World.{WorldView, stations_of}
+use Rattle.fedrun_text.specs.declared.row_format.RowFormat.TheVariants.{Csv}
 use Rattle.fedrun_text.specs.RowText.{printed_rows}
+use Rattle.fedrun_text.specs.CsvText.{csv_header}
+use Rattle.fedrun_text.specs.Formats.{formatted_rows}
 use Rattle.fedrun_text.specs.PlanText.{printed_each}
 use Rattle.fedrun_script.specs.declared.command.Command.{Command}
 use Rattle.fedrun_script.specs.declared.command.Command.TheVariants.{Make, Skip, Round}
@@ -46,7 +49,17 @@ abbrev pub every_row : Draft → List Behaviour → List Input → List ℕ
 every_row d programs inputs =
     codes "stuck\n" ++ (printed_each (λ j. printed_rows d.federates (whole_part d programs inputs j)) (federate_count d) ++ codes "end\n")
 
+-- every row as comma-separated values: each federate's whole part, in order, under the header
+abbrev pub every_row_as_csv : Draft → List Behaviour → List Input → List ℕ
+every_row_as_csv d programs inputs =
+    csv_header ++ printed_each (λ j. formatted_rows Csv d.federates (whole_part d programs inputs j)) (federate_count d)
+
 -- a replay ended with the world stuck, and a writer's bytes grew by that and by every row
 pub record EndsWithEveryRow (d : Draft) (programs : List Behaviour) (inputs : List Input) (w : WorldView) (before after : Option (List ℕ)) : Type 0 where
   pub stuck : IsStuck (stations_of w)
   pub printed : Appends before after (every_row d programs inputs)
+
+-- the same, and they grew by every row as comma-separated values
+pub record EndsWithEveryRowAsCsv (d : Draft) (programs : List Behaviour) (inputs : List Input) (w : WorldView) (before after : Option (List ℕ)) : Type 0 where
+  pub stuck : IsStuck (stations_of w)
+  pub printed : Appends before after (every_row_as_csv d programs inputs)

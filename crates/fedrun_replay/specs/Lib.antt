@@ -7,3 +7,5 @@ pub mod Closing
 pub mod Enough
 -- what is printed at the end, and all together
 pub mod Replayed
+-- the rows alone, as comma-separated values
+pub mod AsCsv

@@ -1,5 +1,5 @@
 -- All that a replay prints: the refused steps, how the closing rounds ended, and each federate's history.
-use Rattle.std.specs.Prelude.{◌↔◌, ℕ, Bool, IsTrue, if◌then◌else◌, List, ◌++◌, Option, None, Some, codes}
+use Rattle.std.specs.Prelude.{◌↔◌, ℕ, Bool, IsTrue, if◌then◌else◌, List, [], ◌++◌, Option, None, Some, codes}
 use Rattle.std.specs.Fmt.{decimal}
 use Rattle.std.specs.Io.KnownBytes.{Appends}
 use Rattle.plan.specs.declared.draft.Draft.{Draft}
@@ -8,7 +8,9 @@ use Rattle.plan.specs.Federation.{federate_count}
 use Rattle.reactor_program.specs.Behaviour.{Behaviour}
 use Rattle.world_stations.specs.Kept.{is_kept}
 use Rattle.world_stations.specs.Federation.{IsStuck, rows_in}
-use Rattle.fedrun_text.specs.RowText.{printed_rows}
+use Rattle.fedrun_text.specs.declared.row_format.RowFormat.{RowFormat}
+use Rattle.fedrun_text.specs.declared.row_format.RowFormat.TheVariants.{Text, Csv}
+use Rattle.fedrun_text.specs.Formats.{formatted_rows}
 use Rattle.fedrun_text.specs.PlanText.{federate_name, printed_each}
 use Rattle.world.specs.World.{WorldView, stations_of}
 use Rattle.world.specs.Faithful.{IsFaithful}
@@ -19,16 +21,25 @@ use Rattle.fedrun_replay.specs.Play.{unasked_player}
 use Rattle.fedrun_replay.specs.Closing.{PlaysSchedule, PlaysSomeOf}
 use Rattle.fedrun_replay.specs.Enough.{AsksForEnough, EndsWithEveryRow}
 
--- federate j's rows where it kept its state, else that it forgot
-abbrev pub history : WorldView → ℕ → List ℕ
-history w j =
-    if is_kept w.steps j
-    then printed_rows w.draft.federates (rows_in (stations_of w) j)
-    else federate_name w.draft j ++ codes " forgotten\n"
+-- that federate j forgot; among comma-separated values nothing says so
+abbrev pub forgotten : RowFormat → Draft → ℕ → List ℕ
+forgotten Text d j = federate_name d j ++ codes " forgotten\n"
+forgotten Csv d j = []
 
--- each federate's history, in order, and the end
+-- federate j's rows where it kept its state, else that it forgot
+abbrev pub history : RowFormat → WorldView → ℕ → List ℕ
+history format w j =
+    if is_kept w.steps j
+    then formatted_rows format w.draft.federates (rows_in (stations_of w) j)
+    else forgotten format w.draft j
+
+-- each federate's history, in order
+abbrev pub each_history : RowFormat → WorldView → List ℕ
+each_history format w = printed_each (history format w) (federate_count w.draft)
+
+-- the same, and the end
 abbrev pub histories : WorldView → List ℕ
-histories w = printed_each (history w) (federate_count w.draft) ++ codes "end\n"
+histories w = each_history Text w ++ codes "end\n"
 
 -- how closing rounds ended: the world is stuck, or so many were made
 abbrev pub verdict : ℕ → Bool → List ℕ

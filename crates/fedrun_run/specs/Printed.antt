@@ -1,5 +1,5 @@
 -- What is printed of a run that an audit proved, and what stands where nothing is.
-use Rattle.std.specs.Prelude.{◌≡◌, ◌⊎◌, ℕ, ◌<◌, List, Option}
+use Rattle.std.specs.Prelude.{◌≡◌, ◌⊎◌, ℕ, ◌<◌, List, ◌++◌, Option}
 use Rattle.std.specs.Io.KnownBytes.{Appends}
 use Rattle.network.specs.Undivided.{whole, part}
 use Rattle.network_laws.specs.Settled.{BeginsWith}
@@ -11,7 +11,8 @@ use Rattle.reactor_program.specs.Behaviour.{Behaviour}
 use Rattle.plan_network.specs.Network.{network_of}
 use Rattle.node.specs.declared.event.Event.{Event}
 use Rattle.world_stations.specs.declared.step.Step.{Step}
-use Rattle.fedrun_text.specs.RowText.{printed_rows}
+use Rattle.fedrun_text.specs.declared.row_format.RowFormat.{RowFormat}
+use Rattle.fedrun_text.specs.Formats.{heading, formatted_rows}
 use Rattle.fedrun_text.specs.PlanText.{printed_each}
 use Rattle.fedrun_record.specs.StepText.{printed_steps}
 use Rattle.wires.specs.declared.job.WorkerResult.{WorkerResult}
@@ -36,13 +37,14 @@ abbrev pub claim : Draft → List Behaviour → List Input → List Report → L
 claim d programs inputs reports coordinator =
     record { draft = d; programs = programs; inputs = inputs; reports = reports; coordinator = coordinator }
 
--- the rows that each federate reports, federate by federate
-abbrev pub printed_reports : Draft → List Report → List ℕ
-printed_reports d reports = printed_each (λ j. printed_rows d.federates (reported_rows reports j)) (federate_count d)
+-- the rows that each federate reports, federate by federate, in a format
+abbrev pub printed_reports : RowFormat → Draft → List Report → List ℕ
+printed_reports format d reports =
+    heading format ++ printed_each (λ j. formatted_rows format d.federates (reported_rows reports j)) (federate_count d)
 
 -- what is printed of reports that these steps prove: their rows, or the steps as a schedule file
 abbrev pub printed_run : RunOutput → Draft → List Report → List Step → List ℕ
-printed_run Rows d reports steps = printed_reports d reports
+printed_run (Rows format) d reports steps = printed_reports format d reports
 printed_run Steps d reports steps = printed_steps d steps
 
 -- a writer's bytes grew by what is printed of these reports, which an audit proved with this journal of the coordinator:

@@ -1,6 +1,6 @@
 ghost use Rattle.std.specs.Prelude.{◌≡◌, ◌≢◌, OnOk, IfErr};
 ghost use Rattle.std.specs.Io.KnownBytes.{Appends};
-ghost use Rattle.fedrun_text.specs.RowText.{printed_rows};
+ghost use Rattle.fedrun_text.specs.Formats.{formatted_rows};
 ghost use Rattle.recorder_reports.specs.Reports.{reported_rows};
 ghost use Rattle.fedrun_run.specs.Printed.{PrintsReports, IsAuditedFaultOf, printed_reports, printed_run};
 
@@ -8,7 +8,7 @@ use crate::audit_failure::AuditFailure;
 use crate::fault::AuditedFault;
 use crate::output::RunOutput;
 use fedrun_record::write_steps;
-use fedrun_text::{CannotWrite, write_rows};
+use fedrun_text::{CannotWrite, RowFormat, write_heading, write_rows};
 use node::Event;
 use plan::Plan;
 use recorder::IncrementalAudit;
@@ -56,7 +56,7 @@ fn print_run<O: Write>(
     ensures { OnOk result (Appends (O.contents out.old) (O.contents out.new) (printed_run output plan.now reports.now steps.now)) }
 {
     match output {
-        RunOutput::Rows => print_reports(out, plan, reports),
+        RunOutput::Rows(format) => print_reports(out, plan, reports, format),
         RunOutput::Steps => match write_steps(out, plan, steps) {
             Ok(()) => Ok(()),
             Err(_) => Err(CannotWrite),
@@ -64,12 +64,18 @@ fn print_run<O: Write>(
     }
 }
 
-// Prints the rows that each federate reports, federate by federate.
-fn print_reports<O: Write>(out: &mut O, plan: &Plan, reports: &[Report]) -> Result<(), CannotWrite>
-    ensures { OnOk result (Appends (O.contents out.old) (O.contents out.new) (printed_reports plan.now reports.now)) }
+// Prints the rows that each federate reports, federate by federate, under their heading.
+fn print_reports<O: Write>(
+    out: &mut O,
+    plan: &Plan,
+    reports: &[Report],
+    format: RowFormat,
+) -> Result<(), CannotWrite>
+    ensures { OnOk result (Appends (O.contents out.old) (O.contents out.new) (printed_reports format plan.now reports.now)) }
 {
+    write_heading(out, format)?;
     for federate in 0..plan.federate_count() {
-        print_report(out, plan, reports, federate)?;
+        print_report(out, plan, reports, federate, format)?;
     }
     Ok(())
 }
@@ -80,11 +86,12 @@ fn print_report<O: Write>(
     plan: &Plan,
     reports: &[Report],
     federate: usize,
+    format: RowFormat,
 ) -> Result<(), CannotWrite>
-    ensures { OnOk result (Appends (O.contents out.old) (O.contents out.new) (printed_rows plan.now.federates (reported_rows reports.now federate))) }
+    ensures { OnOk result (Appends (O.contents out.old) (O.contents out.new) (formatted_rows format plan.now.federates (reported_rows reports.now federate))) }
 {
     match report_of(reports, federate) {
-        Some(report) => write_rows(out, plan, &report.rows),
+        Some(report) => write_rows(out, plan, &report.rows, format),
         None => Ok(()),
     }
 }

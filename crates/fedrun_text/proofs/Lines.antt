@@ -10,7 +10,9 @@ use Rattle.network.specs.Event.{Entry}
 use Rattle.tag.specs.Printed.{printed_tag}
 use Rattle.network.specs.Undivided.{Row}
 use Rattle.plan.specs.declared.draft.Federate.{Federate}
-use Rattle.fedrun_text.specs.RowText.{printed_input, printed_output, bracketed, spaced_tag, printed_inputs, printed_outputs, printed_turn, printed_line, printed_rows}
+use Rattle.fedrun_text.specs.RowText.{printed_input, printed_output, bracketed, spaced_tag, printed_inputs, printed_outputs, printed_turn}
+use Rattle.fedrun_text.specs.Formats.{formatted_row, formatted_rows}
+use Rattle.fedrun_text.specs.declared.row_format.RowFormat.{RowFormat}
 
 parts : (a t i o : List ℕ) → a ++ ((codes " " ++ (t ++ codes " ")) ++ ((i ++ codes " -> ") ++ (o ++ codes "\n"))) ≡ (a ++ (codes " " ++ (t ++ (codes " " ++ (i ++ (codes " -> " ++ o)))))) ++ codes "\n"
 parts a t i o =
@@ -30,30 +32,30 @@ unfolding digits
 zero_is = refl
 
 -- one row more, of those from the first on
-pub one_more : (federates : List Federate) (rows : List Row) (first place : ℕ) (row : Row) → first ≤ place → place < length rows → row ≡ get_or rows place row →
-    printed_rows federates (slice_range rows first (place + 1)) ≡ printed_rows federates (slice_range rows first place) ++ printed_line federates row
-one_more federates rows first place row after there is =
+pub one_more : (format : RowFormat) (federates : List Federate) (rows : List Row) (first place : ℕ) (row : Row) → first ≤ place → place < length rows → row ≡ get_or rows place row →
+    formatted_rows format federates (slice_range rows first (place + 1)) ≡ formatted_rows format federates (slice_range rows first place) ++ formatted_row format federates row
+one_more format federates rows first place row after there is =
     let step : place + 1 - first ≡ place - first + 1 = omega arith in
     let at : first + (place - first) ≡ place = omega arith in
     let many : length (drop first rows) ≡ length rows - first = length-drop first rows in
     let within : place - first < length (drop first rows) = omega arith in
     let here : get_or (drop first rows) (place - first) row ≡ row = get_or-drop first rows (place - first) row ∙ (ap (λ k. get_or rows k row) at ∙ sym is) in
-    ap (λ k. printed_rows federates (take k (drop first rows))) step
-    ∙ (ap (printed_rows federates) (take_more (drop first rows) (place - first) row within)
-    ∙ (ap (λ r. printed_rows federates (take (place - first) (drop first rows) ++ r ∷ [])) here
-    ∙ (flat_map-append (printed_line federates) (take (place - first) (drop first rows)) (row ∷ [])
-    ∙ ap (λ t. printed_rows federates (take (place - first) (drop first rows)) ++ t) (append-nil (printed_line federates row)))))
+    ap (λ k. formatted_rows format federates (take k (drop first rows))) step
+    ∙ (ap (formatted_rows format federates) (take_more (drop first rows) (place - first) row within)
+    ∙ (ap (λ r. formatted_rows format federates (take (place - first) (drop first rows) ++ r ∷ [])) here
+    ∙ (flat_map-append (formatted_row format federates) (take (place - first) (drop first rows)) (row ∷ [])
+    ∙ ap (λ t. formatted_rows format federates (take (place - first) (drop first rows)) ++ t) (append-nil (formatted_row format federates row)))))
 
 -- some rows more, after the first ones
-pub some_more : (federates : List Federate) (rows : List Row) (first end : ℕ) → first ≤ end →
-    printed_rows federates (take end rows) ≡ printed_rows federates (take first rows) ++ printed_rows federates (slice_range rows first end)
-some_more federates rows first end after =
+pub some_more : (format : RowFormat) (federates : List Federate) (rows : List Row) (first end : ℕ) → first ≤ end →
+    formatted_rows format federates (take end rows) ≡ formatted_rows format federates (take first rows) ++ formatted_rows format federates (slice_range rows first end)
+some_more format federates rows first end after =
     let whole : first + (end - first) ≡ end = omega arith in
     let rest : drop first (take end rows) ≡ slice_range rows first end = ap (λ k. drop first (take k rows)) (sym whole) ∙ drop-take first (end - first) rows in
-    ap (printed_rows federates) (sym (take-append-drop first (take end rows)))
-    ∙ (flat_map-append (printed_line federates) (take first (take end rows)) (drop first (take end rows))
-    ∙ (ap (λ t. printed_rows federates t ++ printed_rows federates (drop first (take end rows))) (take-take first end rows after)
-    ∙ ap (λ t. printed_rows federates (take first rows) ++ printed_rows federates t) rest))
+    ap (formatted_rows format federates) (sym (take-append-drop first (take end rows)))
+    ∙ (flat_map-append (formatted_row format federates) (take first (take end rows)) (drop first (take end rows))
+    ∙ (ap (λ t. formatted_rows format federates t ++ formatted_rows format federates (drop first (take end rows))) (take-take first end rows after)
+    ∙ ap (λ t. formatted_rows format federates (take first rows) ++ formatted_rows format federates t) rest))
 
 -- one entry more
 pub entry_more :

@@ -1,18 +1,19 @@
-//! Rows as text, written as they are asked for: no memory is needed.
+//! Rows, written as they are asked for: no memory is needed. How each looks as text; `csv_rows` has the other format.
 ghost use Rattle.std.specs.Prelude.{◌≡◌, ◌≤◌, ◌++◌, OnOk, codes, length, slice_range};
 ghost use Rattle.std.specs.Fmt.{signed_decimal};
 ghost use Rattle.std.specs.Io.KnownBytes.{Appends};
-ghost use Rattle.plan_slots.specs.Numbering.{timer_names};
-ghost use Rattle.reactor_program.specs.Resolution.{slot_names};
-ghost use Rattle.fedrun_text.specs.RowText.{name_at, printed_input, printed_output, printed_inputs, printed_outputs, spaced_tag, printed_turn, printed_line, printed_rows};
+ghost use Rattle.fedrun_text.specs.RowText.{printed_input, printed_output, printed_inputs, printed_outputs, spaced_tag, printed_turn, printed_line};
+ghost use Rattle.fedrun_text.specs.Formats.{heading, formatted_row, formatted_rows};
 
+use crate::csv_rows::write_csv_row;
 use crate::fixed::FixedBytes;
+use crate::names::{name_of, slot_name};
 use crate::put::{CannotWrite, put};
+use crate::row_format::RowFormat;
 use crate::spelling::Spelling;
 use crate::tags::write_value;
 use itoa::Buffer;
-use plan::{Federate, Plan, Slots, Timer};
-use plan_names::Text;
+use plan::{Federate, Plan, Slots};
 use reactor::{RowView, Rows};
 use reactor_program::Entry;
 use std::io::Write;
@@ -20,9 +21,24 @@ use std::io::Write;
 /// How many rows are put together before they are written.
 const ROWS_AT_ONCE: usize = 128;
 
-/// Writes the rows of a plan's federates, one a line. Where the writer refuses, some of them may have been written.
-pub fn write_rows<W: Write>(out: &mut W, plan: &Plan, rows: &Rows) -> Result<(), CannotWrite>
-    ensures { OnOk result (Appends (W.contents out.old) (W.contents out.new) (printed_rows plan.now.federates rows.now)) }
+/// Writes what stands above all rows in this format.
+pub fn write_heading<W: Write>(out: &mut W, format: RowFormat) -> Result<(), CannotWrite>
+    ensures { OnOk result (Appends (W.contents out.old) (W.contents out.new) (heading format)) }
+{
+    match format {
+        RowFormat::Text => Ok(()),
+        RowFormat::Csv => put(out, b"federate,time_ns,microstep,kind,name,value\n"),
+    }
+}
+
+/// Writes the rows of a plan's federates, each on lines of its own. Where the writer refuses, some of them may have been written.
+pub fn write_rows<W: Write>(
+    out: &mut W,
+    plan: &Plan,
+    rows: &Rows,
+    format: RowFormat,
+) -> Result<(), CannotWrite>
+    ensures { OnOk result (Appends (W.contents out.old) (W.contents out.new) (formatted_rows format plan.now.federates rows.now)) }
 {
     let mut room = FixedBytes::new();
     let mut spelling = Spelling::new();
@@ -36,6 +52,7 @@ pub fn write_rows<W: Write>(out: &mut W, plan: &Plan, rows: &Rows) -> Result<(),
             &mut spelling,
             plan.federates(),
             rows,
+            format,
             first,
             end,
         )?;
@@ -51,17 +68,18 @@ fn write_some<W: Write>(
     spelling: &mut Spelling,
     federates: &[Federate],
     rows: &Rows,
+    format: RowFormat,
     first: usize,
     end: usize,
 ) -> Result<(), CannotWrite>
     requires in_order { first ≤ end }
     requires there { end ≤ length rows.now }
-    ensures { OnOk result (Appends (W.contents out.old) (W.contents out.new) (printed_rows federates.now (slice_range rows.now first end))) }
+    ensures { OnOk result (Appends (W.contents out.old) (W.contents out.new) (formatted_rows format federates.now (slice_range rows.now first end))) }
 {
     room.clear();
-    match write_lines(room, spelling, federates, rows, first, end) {
+    match write_lines(room, spelling, federates, rows, format, first, end) {
         Ok(()) => put(out, room.as_slice()),
-        Err(_) => write_lines(out, spelling, federates, rows, first, end),
+        Err(_) => write_lines(out, spelling, federates, rows, format, first, end),
     }
 }
 
@@ -71,17 +89,34 @@ fn write_lines<W: Write>(
     spelling: &mut Spelling,
     federates: &[Federate],
     rows: &Rows,
+    format: RowFormat,
     first: usize,
     end: usize,
 ) -> Result<(), CannotWrite>
     requires in_order { first ≤ end }
     requires there { end ≤ length rows.now }
-    ensures { OnOk result (Appends (W.contents out.old) (W.contents out.new) (printed_rows federates.now (slice_range rows.now first end))) }
+    ensures { OnOk result (Appends (W.contents out.old) (W.contents out.new) (formatted_rows format federates.now (slice_range rows.now first end))) }
 {
     for place in first..end {
-        write_line(out, spelling, federates, &rows.row(place))?;
+        write_row(out, spelling, federates, &rows.row(place), format)?;
     }
     Ok(())
+}
+
+/// Writes a row, with the ends of its lines.
+fn write_row<W: Write>(
+    out: &mut W,
+    spelling: &mut Spelling,
+    federates: &[Federate],
+    row: &RowView<'_>,
+    format: RowFormat,
+) -> Result<(), CannotWrite>
+    ensures { OnOk result (Appends (W.contents out.old) (W.contents out.new) (formatted_row format federates.now row.now)) }
+{
+    match format {
+        RowFormat::Text => write_line(out, spelling, federates, row),
+        RowFormat::Csv => write_csv_row(out, &mut spelling.digits, federates, row),
+    }
 }
 
 /// Writes a row and the end of its line.
@@ -238,49 +273,4 @@ fn write_next_output<W: Write>(
 {
     put(out, b" ")?;
     write_output(out, digits, slots, entry)
-}
-
-/// The name of a slot; empty where there is none.
-fn slot_name(slots: &Slots, slot: usize) -> &str
-    ensures { result.now ≡ name_at (slot_names slots.now) slot }
-{
-    if slot == 0 {
-        return "startup";
-    }
-    let place = slot - 1;
-    let inputs = slots.inputs.as_slice();
-    if place < inputs.len() {
-        return name_of(inputs, place);
-    }
-    let place = place - inputs.len();
-    let timers = slots.timers.as_slice();
-    if place < timers.len() {
-        return timer_name(timers, place);
-    }
-    let place = place - timers.len();
-    let actions = slots.actions.as_slice();
-    if place < actions.len() {
-        return name_of(actions, place);
-    }
-    name_of(slots.physical.as_slice(), place - actions.len())
-}
-
-/// The name at a place; empty where there is none.
-fn name_of(names: &[Text], place: usize) -> &str
-    ensures { result.now ≡ name_at names.now place }
-{
-    match names.get(place) {
-        Some(name) => name.as_str(),
-        None => "",
-    }
-}
-
-/// The name of the timer at a place; empty where there is none.
-fn timer_name(timers: &[Timer], place: usize) -> &str
-    ensures { result.now ≡ name_at (timer_names timers.now) place }
-{
-    match timers.get(place) {
-        Some(timer) => timer.name.as_str(),
-        None => "",
-    }
 }

@@ -55,7 +55,12 @@ fn write_time<W: Write>(out: &mut W, digits: &mut Buffer, time: u64) -> Result<(
     put(out, unit.as_bytes())
 }
 
-fn write_count<W: Write>(out: &mut W, digits: &mut Buffer, count: u64) -> Result<(), CannotWrite>
+/// Writes a number.
+pub fn write_count<W: Write>(
+    out: &mut W,
+    digits: &mut Buffer,
+    count: u64,
+) -> Result<(), CannotWrite>
     ensures { OnOk result (Appends (W.contents out.old) (W.contents out.new) (decimal count)) }
 {
     put(out, digits.format(count).as_bytes())

@@ -1,5 +1,5 @@
 -- What is printed of an undivided program: the rows of its turns, all that were asked for or those before the one that found no memory.
-use Rattle.std.specs.Prelude.{◌≡◌, ℕ, ◌+◌, ◌<◌, ◌≤◌, List, [], length, Option}
+use Rattle.std.specs.Prelude.{◌≡◌, ℕ, ◌+◌, ◌<◌, ◌≤◌, List, [], ◌++◌, length, Option}
 use Rattle.std.specs.Io.KnownBytes.{Appends}
 use Rattle.plan.specs.declared.draft.Draft.{Draft}
 use Rattle.plan.specs.declared.input.Input.{Input}
@@ -7,7 +7,8 @@ use Rattle.network.specs.Undivided.{whole}
 use Rattle.reactor_program.specs.Behaviour.{Behaviour}
 use Rattle.plan_network.specs.Network.{network_of}
 use Rattle.whole.specs.Progress.{Progress, pending_in, all_rows_in}
-use Rattle.fedrun_text.specs.RowText.{printed_rows}
+use Rattle.fedrun_text.specs.declared.row_format.RowFormat.{RowFormat}
+use Rattle.fedrun_text.specs.Formats.{heading, formatted_rows}
 
 -- an undivided program after at most so many turns, fewer only where nothing is left to do
 pub record IsTurned (d : Draft) (programs : List Behaviour) (inputs : List Input) (turns : ℕ) (p : Progress) : Type 0 where
@@ -17,17 +18,17 @@ pub record IsTurned (d : Draft) (programs : List Behaviour) (inputs : List Input
   pub most : p.turns ≤ turns
   pub finished : p.turns < turns → pending_in p ≡ []
 
--- a writer's bytes grew by the rows of an undivided program after at most so many turns
-pub record PrintsRows (d : Draft) (programs : List Behaviour) (inputs : List Input) (turns : ℕ) (before after : Option (List ℕ)) : Type 0 where
+-- a writer's bytes grew by the rows of an undivided program after at most so many turns, in a format
+pub record PrintsRows (d : Draft) (programs : List Behaviour) (inputs : List Input) (turns : ℕ) (format : RowFormat) (before after : Option (List ℕ)) : Type 0 where
   pub progress : Progress
   pub turned : IsTurned d programs inputs turns progress
-  pub printed : Appends before after (printed_rows d.federates (all_rows_in progress))
+  pub printed : Appends before after (heading format ++ formatted_rows format d.federates (all_rows_in progress))
 
 -- a writer's bytes grew by the rows of the undivided program's first turns, at most so many
-pub record PrintsFirstRows (d : Draft) (programs : List Behaviour) (inputs : List Input) (turns : ℕ) (before after : Option (List ℕ)) : Type 0 where
+pub record PrintsFirstRows (d : Draft) (programs : List Behaviour) (inputs : List Input) (turns : ℕ) (format : RowFormat) (before after : Option (List ℕ)) : Type 0 where
   pub made : ℕ
   pub most : made ≤ turns
-  pub printed : Appends before after (printed_rows d.federates (whole (network_of d programs inputs) made))
+  pub printed : Appends before after (heading format ++ formatted_rows format d.federates (whole (network_of d programs inputs) made))
 
 -- an undivided program so many turns later, with all rows let go
 abbrev pub let_go_after : ℕ → Progress → Progress
@@ -41,7 +42,7 @@ let_go_after turns p =
     }
 
 -- a writer's bytes grew by the rows of all turns of an undivided program, one for each, and these were let go
-pub record IsPrinted (p : Progress) (before after : Option (List ℕ)) : Type 0 where
+pub record IsPrinted (p : Progress) (format : RowFormat) (before after : Option (List ℕ)) : Type 0 where
   pub discard : p.discarded ≡ p.turns
   pub one_for_each_turn : length (all_rows_in p) ≡ p.turns
-  pub printed : Appends before after (printed_rows p.draft.federates (all_rows_in p))
+  pub printed : Appends before after (heading format ++ formatted_rows format p.draft.federates (all_rows_in p))

@@ -7,6 +7,7 @@ use Rattle.plan.specs.declared.input.Input.{Input}
 use Rattle.reactor_program.specs.Behaviour.{Behaviour}
 use Rattle.reactor.specs.declared.memory.Memory as turns
 use Rattle.fedrun_text.specs.declared.memory.Memory as text
+use Rattle.fedrun_text.specs.declared.row_format.RowFormat.{RowFormat}
 use Rattle.fedrun_words.specs.declared.reading.WordsFault.{WordsFault}
 use Rattle.fedrun_words.specs.declared.request.Request.{Request}
 use Rattle.fedrun_fault.specs.declared.fault.Fault.{Fault}
@@ -29,9 +30,9 @@ IsNoSuchCommand answered fault = ((which : NoSuchCommand) × (fault ≡ More whi
 
 -- why not all rows are printed, once all was loaded: it can't be written, or there was no memory for a turn; then the rows of those
 -- before it are written
-abbrev pub IsTurnsFault : {M : Type 0} → Draft → List Behaviour → List Input → ℕ → Option (List ℕ) → Option (List ℕ) → Fault M → Type 0
-IsTurnsFault d programs inputs most before after fault =
-    ((memory : turns.Memory) × (fault ≡ Turns memory) × PrintsFirstRows d programs inputs most before after) ⊎ (fault ≡ CannotWrite)
+abbrev pub IsTurnsFault : {M : Type 0} → Draft → List Behaviour → List Input → ℕ → RowFormat → Option (List ℕ) → Option (List ℕ) → Fault M → Type 0
+IsTurnsFault d programs inputs most format before after fault =
+    ((memory : turns.Memory) × (fault ≡ Turns memory) × PrintsFirstRows d programs inputs most format before after) ⊎ (fault ≡ CannotWrite)
 
 -- why the plan isn't printed, once it was loaded: it can't be written, or there was no memory for its text; then nothing is written
 abbrev pub IsPlanFault : {M : Type 0} → Option (List ℕ) → Option (List ℕ) → Fault M → Type 0
@@ -45,11 +46,11 @@ pub record IsPrintFault {M : Type 0} (federation before after : Option (List ℕ
   pub later : IsPlanFault before after fault
 
 -- why `whole` isn't done, and what was answered about files till then: the federation file's fault comes first, then the input file's
-abbrev pub IsWholeFault : {M : Type 0} → Contents → (List Answer → Type 0) → Option (List ℕ) → Option (List ℕ) → Bor (List ℕ) → Bor (List ℕ) → ℕ → Fault M → Type 0
-IsWholeFault contents answered before after federation inputs turns fault =
+abbrev pub IsWholeFault : {M : Type 0} → Contents → (List Answer → Type 0) → Option (List ℕ) → Option (List ℕ) → Bor (List ℕ) → Bor (List ℕ) → ℕ → RowFormat → Fault M → Type 0
+IsWholeFault contents answered before after federation inputs turns format fault =
     IsSourcesFault federation inputs contents answered fault
     ⊎ (answered (asked_sources federation.now inputs.now)
-    × HoldsOfSources (contents federation.now) (input_file contents inputs.now) (λ s. IsTurnsFault s.plan s.programs s.inputs turns before after fault))
+    × HoldsOfSources (contents federation.now) (input_file contents inputs.now) (λ s. IsTurnsFault s.plan s.programs s.inputs turns format before after fault))
 
 -- why `check` isn't done, and what was answered about files till then
 abbrev pub IsCheckFault : {M : Type 0} → Contents → (List Answer → Type 0) → Option (List ℕ) → Option (List ℕ) → Bor (List ℕ) → Fault M → Type 0
@@ -60,7 +61,7 @@ IsCheckFault contents answered before after federation fault =
 -- the fault is one of words, and no file was asked for, or it stands against some request, of a further command as is said of it
 pub data Stands {M : Type 0} (further : Contents → (List Answer → Type 0) → Option (List ℕ) → Option (List ℕ) → Request → Fault M → Type 0) (contents : Contents) (answered : List Answer → Type 0) (before after : Option (List ℕ)) (fault : Fault M) : Type 0 where
   words : IsWordsFault fault → answered [] → Stands further contents answered before after fault
-  whole : (federation inputs : Bor (List ℕ)) (turns : ℕ) → IsWholeFault contents answered before after federation inputs turns fault
+  whole : (federation inputs : Bor (List ℕ)) (turns : ℕ) (format : RowFormat) → IsWholeFault contents answered before after federation inputs turns format fault
       → Stands further contents answered before after fault
   check : (federation : Bor (List ℕ)) → IsCheckFault contents answered before after federation fault
       → Stands further contents answered before after fault

@@ -10,6 +10,7 @@ use crate::printing::print_plan;
 use crate::turns::print_turns;
 use fedrun_fault::{Fault, MoreFault, NoSuchCommand};
 use fedrun_files::{Files, read_federation, read_sources};
+use fedrun_text::RowFormat;
 use fedrun_words::{Request, read_words};
 use std::alloc::Global;
 use std::io::Write;
@@ -35,23 +36,25 @@ pub(crate) fn perform<'a, F: Files, O: Write>(
             federation,
             inputs,
             turns,
-        } => whole(alloc, federation, inputs, turns, files, out),
+            format,
+        } => whole(alloc, federation, inputs, turns, format, files, out),
         Request::Check { federation } => check(alloc, federation, files, out),
         _ => Err(Fault::More(NoSuchCommand)),
     }
 }
 
-/// Prints the rows of the undivided program after at most so many turns.
+/// Prints the rows of the undivided program after at most so many turns, in this format.
 pub fn whole<'a, M: MoreFault, F: Files, O: Write>(
     alloc: Global,
     federation: &'a str,
     inputs: &'a str,
     turns: u32,
+    format: RowFormat,
     files: &mut F,
     out: &mut O,
 ) -> Result<(), Fault<'a, M>>
-    ensures ok { OnOk result (PrintsWhole (F.contents files.old) federation.entry.now inputs.entry.now turns (O.contents out.old) (O.contents out.new)) }
-    ensures stands { IfErr result (IsWholeFault (F.contents files.old) (Answers (F.answers files.old) (F.answers files.new)) (O.contents out.old) (O.contents out.new) federation.entry inputs.entry turns) }
+    ensures ok { OnOk result (PrintsWhole (F.contents files.old) federation.entry.now inputs.entry.now turns format (O.contents out.old) (O.contents out.new)) }
+    ensures stands { IfErr result (IsWholeFault (F.contents files.old) (Answers (F.answers files.old) (F.answers files.new)) (O.contents out.old) (O.contents out.new) federation.entry inputs.entry turns format) }
     ensures untouched { IfErr result (λ fault. status_of M.status_of fault ≢ 3 → out.new ≡ out.old) }
 {
     match read_sources(alloc, federation, inputs, files) {
@@ -61,6 +64,7 @@ pub fn whole<'a, M: MoreFault, F: Files, O: Write>(
             &sources.programs,
             &sources.inputs,
             turns,
+            format,
             out,
         ),
         Err(fault) => Err(fault),

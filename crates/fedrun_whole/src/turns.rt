@@ -1,13 +1,15 @@
 ghost use Rattle.std.specs.Prelude.{◌≡◌, ◌<◌, ◌≤◌, ℕ, List, [], Option, IfOk, IfErr, OnOk, OnErr};
+ghost use Rattle.std.specs.Io.KnownBytes.{Appends};
 ghost use Rattle.plan.specs.External.{AreInputsOf};
 ghost use Rattle.reactor_programs.specs.Programs.{AreProgramsOf};
 ghost use Rattle.whole.specs.Progress.{pending_in};
+ghost use Rattle.fedrun_text.specs.Formats.{heading};
 ghost use Rattle.fedrun_fault.specs.Faults.{status_of};
 ghost use Rattle.fedrun_whole.specs.PrintedTurns.{PrintsRows, PrintsFirstRows, IsPrinted, let_go_after};
 ghost use Rattle.fedrun_whole.specs.Refused.{IsTurnsFault};
 
 use fedrun_fault::{Fault, MoreFault};
-use fedrun_text::{CannotWrite, write_rows};
+use fedrun_text::{CannotWrite, RowFormat, write_heading, write_rows};
 use plan::{Inputs, Plan};
 use reactor_programs::Programs;
 use std::alloc::Global;
@@ -17,7 +19,7 @@ use whole::Whole;
 /// Of how many turns the rows are kept before they are written.
 const TURNS_AT_ONCE: u32 = 1024;
 
-/// Prints the rows of the undivided program after at most so many turns, one a line, as they are made. Where there is no
+/// Prints the rows of the undivided program after at most so many turns, in this format, as they are made. Where there is no
 /// memory for a turn, the rows before it are written.
 pub fn print_turns<M: MoreFault, O: Write>(
     alloc: Global,
@@ -25,35 +27,16 @@ pub fn print_turns<M: MoreFault, O: Write>(
     programs: &Programs,
     inputs: &Inputs,
     turns: u32,
+    format: RowFormat,
     out: &mut O,
 ) -> Result<(), Fault<'static, M>>
     requires programs { AreProgramsOf plan.now programs.now }
     requires inputs { AreInputsOf plan.now inputs.now }
-    ensures ok { OnOk result (PrintsRows plan.now programs.now inputs.now turns (O.contents out.old) (O.contents out.new)) }
-    ensures stands { IfErr result (IsTurnsFault plan.now programs.now inputs.now turns (O.contents out.old) (O.contents out.new)) }
+    ensures ok { OnOk result (PrintsRows plan.now programs.now inputs.now turns format (O.contents out.old) (O.contents out.new)) }
+    ensures stands { IfErr result (IsTurnsFault plan.now programs.now inputs.now turns format (O.contents out.old) (O.contents out.new)) }
     ensures late { IfErr result (λ fault. status_of M.status_of fault ≡ 3) }
 {
-    match Whole::new(alloc, plan, programs, inputs) {
-        Ok(mut program) => print_all(&mut program, plan, turns, out),
-        Err(memory) => Err(Fault::Turns(memory)),
-    }
-}
-
-/// Prints the rows of at most so many turns, and hands all of the text on.
-fn print_all<M: MoreFault, O: Write>(
-    program: &mut Whole<'_>,
-    plan: &Plan,
-    turns: u32,
-    out: &mut O,
-) -> Result<(), Fault<'static, M>>
-    requires draft { program.old.draft ≡ plan.now }
-    requires none_made { program.old.turns ≡ 0 }
-    requires none_discarded { program.old.discarded ≡ 0 }
-    ensures ok { OnOk result (PrintsRows plan.now program.old.programs program.old.inputs turns (O.contents out.old) (O.contents out.new)) }
-    ensures stands { IfErr result (IsTurnsFault plan.now program.old.programs program.old.inputs turns (O.contents out.old) (O.contents out.new)) }
-    ensures late { IfErr result (λ fault. status_of M.status_of fault ≡ 3) }
-{
-    let Ok(turned) = print_in_batches(program, plan, turns, out) else {
+    let Ok(turned) = print_all(alloc, plan, programs, inputs, turns, format, out) else {
         return Err(Fault::CannotWrite);
     };
     if out.flush().is_err() {
@@ -65,23 +48,46 @@ fn print_all<M: MoreFault, O: Write>(
     }
 }
 
-/// Makes at most so many turns, or as many as there is memory for, and prints their rows.
+/// Makes at most so many turns, or as many as there is memory for, and prints their rows under their heading.
+fn print_all<O: Write>(
+    alloc: Global,
+    plan: &Plan,
+    programs: &Programs,
+    inputs: &Inputs,
+    turns: u32,
+    format: RowFormat,
+    out: &mut O,
+) -> Result<Result<(), reactor::Memory>, CannotWrite>
+    requires programs { AreProgramsOf plan.now programs.now }
+    requires inputs { AreInputsOf plan.now inputs.now }
+    ensures ok { IfOk result (λ turned. OnOk turned (PrintsRows plan.now programs.now inputs.now turns format (O.contents out.old) (O.contents out.new))) }
+    ensures err { IfOk result (λ turned. OnErr turned (PrintsFirstRows plan.now programs.now inputs.now turns format (O.contents out.old) (O.contents out.new))) }
+{
+    write_heading(out, format)?;
+    match Whole::new(alloc, plan, programs, inputs) {
+        Ok(mut program) => print_in_batches(&mut program, plan, turns, format, out),
+        Err(memory) => Ok(Err(memory)),
+    }
+}
+
+/// Makes at most so many turns, or as many as there is memory for, and prints their rows, for which the heading is written.
 fn print_in_batches<O: Write>(
     program: &mut Whole<'_>,
     plan: &Plan,
     turns: u32,
+    format: RowFormat,
     out: &mut O,
 ) -> Result<Result<(), reactor::Memory>, CannotWrite>
     requires draft { program.old.draft ≡ plan.now }
     requires none_made { program.old.turns ≡ 0 }
     requires none_discarded { program.old.discarded ≡ 0 }
-    ensures ok { IfOk result (λ turned. OnOk turned (PrintsRows plan.now program.old.programs program.old.inputs turns (O.contents out.old) (O.contents out.new))) }
-    ensures err { IfOk result (λ turned. OnErr turned (PrintsFirstRows plan.now program.old.programs program.old.inputs turns (O.contents out.old) (O.contents out.new))) }
+    ensures ok { IfOk result (λ turned. OnOk turned ((before : Option (List ℕ)) → Appends before (O.contents out.old) (heading format) → PrintsRows plan.now program.old.programs program.old.inputs turns format before (O.contents out.new))) }
+    ensures err { IfOk result (λ turned. OnErr turned ((before : Option (List ℕ)) → Appends before (O.contents out.old) (heading format) → PrintsFirstRows plan.now program.old.programs program.old.inputs turns format before (O.contents out.new))) }
 {
     let mut left = turns;
     while left > 0 {
         let most = left.min(TURNS_AT_ONCE);
-        match print_batch(program, plan, most, out)? {
+        match print_batch(program, plan, most, format, out)? {
             Ok(made) if made == most => left -= made,
             Ok(_) => return Ok(Ok(())),
             Err(memory) => return Ok(Err(memory)),
@@ -95,15 +101,16 @@ fn print_batch<O: Write>(
     program: &mut Whole<'_>,
     plan: &Plan,
     most: u32,
+    format: RowFormat,
     out: &mut O,
 ) -> Result<Result<u32, reactor::Memory>, CannotWrite>
     requires { program.old.draft ≡ plan.now }
-    ensures printed { OnOk result ((before : Option (List ℕ)) → IsPrinted program.old before (O.contents out.old) → IsPrinted program.new before (O.contents out.new)) }
+    ensures printed { OnOk result ((before : Option (List ℕ)) → IsPrinted program.old format before (O.contents out.old) → IsPrinted program.new format before (O.contents out.new)) }
     ensures made { IfOk result (λ turned. IfOk turned (λ made. (program.new ≡ let_go_after made program.old) × (made ≤ most) × (made < most → pending_in program.new ≡ []))) }
     ensures err { IfOk result (λ turned. OnErr turned ((made : ℕ) × (program.new ≡ let_go_after made program.old) × (made < most))) }
 {
     let turned = program.turns(most);
-    write_rows(out, plan, program.rows())?;
+    write_rows(out, plan, program.rows(), format)?;
     program.discard();
     Ok(turned)
 }

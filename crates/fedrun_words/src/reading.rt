@@ -1,6 +1,7 @@
 use crate::request::Request;
 use clap::error::{Error, ErrorKind};
 use clap::{Arg, ArgAction, ArgMatches, Command};
+use fedrun_text::RowFormat;
 use std::alloc::{AllocError, Global};
 
 /// The turns of a run for which no number is given.
@@ -9,7 +10,7 @@ const RUN_TURNS: u32 = 1_000_000;
 /// The version of frames of a run for which none is given.
 const RUN_FRAMES: u8 = 2;
 
-/// The subcommands.
+/// Which subcommand it is.
 #[derive(Clone, Copy)]
 enum CommandKind {
     Whole,
@@ -19,28 +20,63 @@ enum CommandKind {
     Record,
 }
 
-/// Each subcommand with its name, its arguments and its options.
-const SUBCOMMANDS: [(CommandKind, &str, &[&str], &[&str]); 5] = [
-    (CommandKind::Whole, "whole", &["FED", "IN", "TURNS"], &[]),
-    (CommandKind::Check, "check", &["FED"], &[]),
-    (
-        CommandKind::Replay,
-        "replay",
-        &["FED", "IN", "SCHEDULE"],
-        &["until-stuck"],
-    ),
-    (
-        CommandKind::Run,
-        "run",
-        &["FED", "IN"],
-        &["turns", "frames"],
-    ),
-    (
-        CommandKind::Record,
-        "record",
-        &["FED", "IN"],
-        &["turns", "frames"],
-    ),
+/// A subcommand, and the names of what is given to it.
+#[derive(Clone, Copy)]
+struct Subcommand {
+    kind: CommandKind,
+    name: &'static str,
+    /// The arguments that have to be there.
+    arguments: &'static [&'static str],
+    /// The arguments that may stand after these.
+    may_follow: &'static [&'static str],
+    /// The options with a value each.
+    options: &'static [&'static str],
+    /// The options without a value.
+    flags: &'static [&'static str],
+}
+
+/// The subcommands.
+const SUBCOMMANDS: [Subcommand; 5] = [
+    Subcommand {
+        kind: CommandKind::Whole,
+        name: "whole",
+        arguments: &["FED", "IN", "TURNS"],
+        may_follow: &[],
+        options: &[],
+        flags: &["csv"],
+    },
+    Subcommand {
+        kind: CommandKind::Check,
+        name: "check",
+        arguments: &["FED"],
+        may_follow: &[],
+        options: &[],
+        flags: &[],
+    },
+    Subcommand {
+        kind: CommandKind::Replay,
+        name: "replay",
+        arguments: &["FED", "IN", "SCHEDULE"],
+        may_follow: &[],
+        options: &["until-stuck"],
+        flags: &["csv"],
+    },
+    Subcommand {
+        kind: CommandKind::Run,
+        name: "run",
+        arguments: &["FED", "IN"],
+        may_follow: &[],
+        options: &["turns", "frames"],
+        flags: &["csv"],
+    },
+    Subcommand {
+        kind: CommandKind::Record,
+        name: "record",
+        arguments: &["FED", "IN"],
+        may_follow: &[],
+        options: &["turns", "frames"],
+        flags: &[],
+    },
 ];
 
 /// Why the words give no request.
@@ -79,17 +115,17 @@ fn fault_of(error: &Error) -> WordsFault {
 
 /// The request of words that were parsed.
 fn requested<'a>(matches: &ArgMatches<'a>) -> Option<Request<'a>> {
-    for (subcommand, name, _, _) in &SUBCOMMANDS {
-        if let Some(given) = matches.subcommand_matches(name) {
-            return request(*subcommand, given);
+    for subcommand in &SUBCOMMANDS {
+        if let Some(given) = matches.subcommand_matches(subcommand.name) {
+            return request(subcommand.kind, given);
         }
     }
     None
 }
 
 /// The request of a subcommand with these arguments and options.
-fn request<'a>(subcommand: CommandKind, given: &ArgMatches<'a>) -> Option<Request<'a>> {
-    match subcommand {
+fn request<'a>(kind: CommandKind, given: &ArgMatches<'a>) -> Option<Request<'a>> {
+    match kind {
         CommandKind::Whole => whole(given),
         CommandKind::Check => check(given),
         CommandKind::Replay => replay(given),
@@ -105,29 +141,33 @@ fn commands<'a>(alloc: Global) -> Result<Command<'a>, AllocError> {
         .disable_help_flag(true)
         .disable_help_subcommand(true)
         .subcommand_required(true);
-    for (_, name, arguments, options) in &SUBCOMMANDS {
-        let subcommand = subcommand(alloc, name, arguments, options)?;
-        command = command.subcommand(subcommand)?;
+    for subcommand in &SUBCOMMANDS {
+        command = command.subcommand(described(alloc, *subcommand)?)?;
     }
     Ok(command)
 }
 
-/// A subcommand with arguments that have to be there, and options with a value each, which may be given once.
-fn subcommand<'a>(
-    alloc: Global,
-    name: &'a str,
-    arguments: &'a [&'a str],
-    options: &'a [&'a str],
-) -> Result<Command<'a>, AllocError> {
-    let mut command = Command::new(alloc, name).disable_help_flag(true);
-    for argument in arguments {
+/// A subcommand as `clap` has it. An option, with a value or without, may be given once.
+fn described<'a>(alloc: Global, subcommand: Subcommand) -> Result<Command<'a>, AllocError> {
+    let mut command = Command::new(alloc, subcommand.name).disable_help_flag(true);
+    for argument in subcommand.arguments {
         command = command.arg(Arg::new(alloc, *argument).required(true))?;
     }
-    for option in options {
+    for argument in subcommand.may_follow {
+        command = command.arg(Arg::new(alloc, *argument))?;
+    }
+    for option in subcommand.options {
         command = command.arg(
             Arg::new(alloc, *option)
                 .long(*option)
                 .action(ArgAction::Set),
+        )?;
+    }
+    for flag in subcommand.flags {
+        command = command.arg(
+            Arg::new(alloc, *flag)
+                .long(*flag)
+                .action(ArgAction::SetTrue),
         )?;
     }
     Ok(command)
@@ -138,6 +178,7 @@ fn whole<'a>(given: &ArgMatches<'a>) -> Option<Request<'a>> {
         federation: given.get_str("FED")?,
         inputs: given.get_str("IN")?,
         turns: count(given.get_str("TURNS")?)?,
+        format: row_format(given),
     })
 }
 
@@ -157,6 +198,7 @@ fn replay<'a>(given: &ArgMatches<'a>) -> Option<Request<'a>> {
         inputs: given.get_str("IN")?,
         schedule: given.get_str("SCHEDULE")?,
         until_stuck,
+        format: row_format(given),
     })
 }
 
@@ -166,6 +208,7 @@ fn run<'a>(given: &ArgMatches<'a>) -> Option<Request<'a>> {
         inputs: given.get_str("IN")?,
         turns: turns(given)?,
         frames: frames(given)?,
+        format: row_format(given),
     })
 }
 
@@ -176,6 +219,15 @@ fn record<'a>(given: &ArgMatches<'a>) -> Option<Request<'a>> {
         turns: turns(given)?,
         frames: frames(given)?,
     })
+}
+
+/// The format in which rows are written.
+fn row_format(given: &ArgMatches<'_>) -> RowFormat {
+    if given.get_flag("csv") {
+        RowFormat::Csv
+    } else {
+        RowFormat::Text
+    }
 }
 
 /// How many turns a run may make.

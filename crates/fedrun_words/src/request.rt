@@ -1,30 +1,36 @@
+use fedrun_text::RowFormat;
+
 /// What the words ask for. Files are given by their names; an `inputs` of `-` is a file without any.
 #[derive(Clone, Copy, Debug, PartialEq, Eq)]
 pub enum Request<'a> {
-    /// The rows of the undivided program after at most so many turns.
+    /// The rows of the undivided program after at most so many turns, in this format.
     Whole {
         federation: &'a str,
         inputs: &'a str,
         turns: u32,
+        format: RowFormat,
     },
     /// The plan.
     Check {
         federation: &'a str,
     },
-    /// The steps that a schedule's world refuses, and the rows after it; with `until_stuck`, after so many closing rounds at most.
+    /// The steps that a schedule's world refuses, and the rows after it, or in the other format the rows alone; with `until_stuck`,
+    /// after so many closing rounds at most.
     Replay {
         federation: &'a str,
         inputs: &'a str,
         schedule: &'a str,
         until_stuck: Option<u32>,
+        format: RowFormat,
     },
-    /// The rows of the federation in threads, of which each makes so many turns at most. Federates write this version of frames,
-    /// 1 or 2.
+    /// The rows of the federation in threads, of which each makes so many turns at most, in this format. Federates write this version
+    /// of frames, 1 or 2.
     Run {
         federation: &'a str,
         inputs: &'a str,
         turns: u32,
         frames: u8,
+        format: RowFormat,
     },
     /// The steps of such a run, as a schedule.
     Record {

@@ -1,4 +1,5 @@
 //! What the words of the command line ask for.
+use fedrun_text::RowFormat;
 use fedrun_words::{Request, WordsFault, read_words};
 use std::alloc::Global;
 
@@ -27,6 +28,7 @@ const REQUESTS: &[(&[&str], Request<'static>)] = &[
             federation: "f",
             inputs: "i",
             turns: 0,
+            format: RowFormat::Text,
         },
     ),
     (
@@ -35,6 +37,31 @@ const REQUESTS: &[(&[&str], Request<'static>)] = &[
             federation: "f",
             inputs: "-",
             turns: 4_294_967_295,
+            format: RowFormat::Text,
+        },
+    ),
+    (
+        &["whole", "--csv", "f", "-", "7"],
+        Request::Whole {
+            federation: "f",
+            inputs: "-",
+            turns: 7,
+            format: RowFormat::Csv,
+        },
+    ),
+    (
+        &["whole", "f", "i", "--", "7"],
+        Request::Whole {
+            federation: "f",
+            inputs: "i",
+            turns: 7,
+            format: RowFormat::Text,
+        },
+    ),
+    (
+        &["check", "--", "--csv"],
+        Request::Check {
+            federation: "--csv",
         },
     ),
     (&["check", "--", "-f"], Request::Check { federation: "-f" }),
@@ -47,55 +74,104 @@ fn reads_whole_and_check(rt: HostRuntime) {
     }
 }
 
-/// Words of a replay of `f`, `-` and `s`, and its closing rounds.
-const REPLAYS: &[(&[&str], Option<u32>)] = &[
-    (&["replay", "f", "-", "s"], None),
-    (&["replay", "f", "-", "s", "--until-stuck", "0"], Some(0)),
-    (&["replay", "--until-stuck", "7", "f", "-", "s"], Some(7)),
-    (&["replay", "f", "--until-stuck=007", "-", "s"], Some(7)),
+/// Words of a replay of `f`, `-` and `s`, its closing rounds, and the format of its rows.
+const REPLAYS: &[(&[&str], Option<u32>, RowFormat)] = &[
+    (&["replay", "f", "-", "s"], None, RowFormat::Text),
+    (
+        &["replay", "f", "-", "s", "--until-stuck", "0"],
+        Some(0),
+        RowFormat::Text,
+    ),
+    (
+        &["replay", "--until-stuck", "7", "f", "-", "s"],
+        Some(7),
+        RowFormat::Text,
+    ),
+    (
+        &["replay", "f", "--until-stuck=007", "-", "s"],
+        Some(7),
+        RowFormat::Text,
+    ),
     (
         &["replay", "--until-stuck", "4294967295", "--", "f", "-", "s"],
         Some(4_294_967_295),
+        RowFormat::Text,
+    ),
+    (&["replay", "f", "-", "s", "--csv"], None, RowFormat::Csv),
+    (
+        &["replay", "--csv", "f", "-", "--until-stuck", "7", "s"],
+        Some(7),
+        RowFormat::Csv,
     ),
 ];
 
 #[test]
 fn reads_replay(rt: HostRuntime) {
-    for (words, until_stuck) in REPLAYS {
+    for (words, until_stuck, format) in REPLAYS {
         let replay = Request::Replay {
             federation: "f",
             inputs: "-",
             schedule: "s",
             until_stuck: *until_stuck,
+            format: *format,
         };
         assert!(rt; ask(rt.alloc(), words, Ok(replay)), "{words:?}");
     }
 }
 
-/// Words of a run of `f` and `-`, the turns of each runner, and the version of frames.
-const RUNS: &[(&[&str], u32, u8)] = &[
-    (&["run", "f", "-"], 1_000_000, 2),
-    (&["run", "f", "-", "--turns", "0"], 0, 2),
-    (&["run", "--turns=007", "f", "-"], 7, 2),
+/// Words of a run of `f` and `-`, the turns of each runner, the version of frames, and the format of rows.
+const RUNS: &[(&[&str], u32, u8, RowFormat)] = &[
+    (&["run", "f", "-"], 1_000_000, 2, RowFormat::Text),
+    (&["run", "f", "-", "--turns", "0"], 0, 2, RowFormat::Text),
+    (&["run", "--turns=007", "f", "-"], 7, 2, RowFormat::Text),
     (
         &["run", "f", "--turns", "4294967295", "-"],
         4_294_967_295,
         2,
+        RowFormat::Text,
     ),
-    (&["run", "f", "-", "--frames", "1"], 1_000_000, 1),
-    (&["run", "--frames=2", "f", "-"], 1_000_000, 2),
-    (&["run", "f", "-", "--frames", "02"], 1_000_000, 2),
-    (&["run", "--frames", "1", "f", "-", "--turns", "9"], 9, 1),
+    (
+        &["run", "f", "-", "--frames", "1"],
+        1_000_000,
+        1,
+        RowFormat::Text,
+    ),
+    (
+        &["run", "--frames=2", "f", "-"],
+        1_000_000,
+        2,
+        RowFormat::Text,
+    ),
+    (
+        &["run", "f", "-", "--frames", "02"],
+        1_000_000,
+        2,
+        RowFormat::Text,
+    ),
+    (
+        &["run", "--frames", "1", "f", "-", "--turns", "9"],
+        9,
+        1,
+        RowFormat::Text,
+    ),
+    (&["run", "f", "-", "--csv"], 1_000_000, 2, RowFormat::Csv),
+    (
+        &["run", "--turns", "9", "--csv", "--frames=1", "f", "-"],
+        9,
+        1,
+        RowFormat::Csv,
+    ),
 ];
 
 #[test]
 fn reads_run(rt: HostRuntime) {
-    for (words, turns, frames) in RUNS {
+    for (words, turns, frames, format) in RUNS {
         let run = Request::Run {
             federation: "f",
             inputs: "-",
             turns: *turns,
             frames: *frames,
+            format: *format,
         };
         assert!(rt; ask(rt.alloc(), words, Ok(run)), "{words:?}");
     }
@@ -136,9 +212,16 @@ const REFUSED: &[&[&str]] = &[
     &["whole", "f", "-i", "4"],
     &["whole", "f", "-", "4", "--until-stuck", "4"],
     &["whole", "f", "-", "4", "--frames", "1"],
+    &["whole", "f", "-", "4", "--csv", "--csv"],
+    &["whole", "f", "-", "4", "--csv=1"],
+    &["whole", "f", "-", "4", "--csv="],
+    &["whole", "f", "-", "--csv", "4", "5"],
+    &["whole", "f", "-", "4", "--CSV"],
+    &["whole", "f", "-", "4", "--", "--csv"],
     &["check"],
     &["check", "f", "f"],
     &["check", "f", "--frames", "1"],
+    &["check", "f", "--csv"],
     &["run", "f", "-", "--frames"],
     &["run", "f", "-", "--frames", ""],
     &["run", "f", "-", "--frames", "0"],
@@ -166,6 +249,8 @@ const REFUSED: &[&[&str]] = &[
     ],
     &["replay", "f", "-", "s", "--until", "1"],
     &["replay", "f", "-", "s", "--turns", "1"],
+    &["replay", "f", "-", "s", "--csv", "--csv"],
+    &["--csv", "replay", "f", "-", "s"],
     &["--until-stuck", "1", "replay", "f", "-", "s"],
     &["run"],
     &["run", "f"],
@@ -174,10 +259,13 @@ const REFUSED: &[&[&str]] = &[
     &["run", "f", "-", "--turns", "4294967296"],
     &["run", "f", "-", "--turns", "1", "--turns", "1"],
     &["run", "f", "-", "--until-stuck", "1"],
+    &["run", "f", "--csv", "-", "--csv"],
+    &["run", "f", "-", "--turns", "--csv"],
     &["record", "f"],
     &["record", "f", "-", "s"],
     &["record", "f", "-", "--turns", "x"],
     &["record", "f", "-", "--until-stuck", "1"],
+    &["record", "f", "-", "--csv"],
     &["Record", "f", "-"],
     &["replay", "--help"],
     &["replay", "-h"],

@@ -1,5 +1,6 @@
 //! What is printed of reports that an audit doesn't prove.
 use fedrun_run::{AuditedFault, RunOutput, print_audited};
+use fedrun_text::RowFormat;
 use node::Event;
 use recorder::{IncrementalAudit, Report};
 use std::alloc::Global;
@@ -26,7 +27,7 @@ pub(crate) fn printed(
         audit,
         reports,
         coordinator,
-        RunOutput::Rows,
+        RunOutput::Rows(RowFormat::Text),
         &mut out,
     ) {
         Err(AuditedFault::Unproved(_)) => Some(out.len()),

@@ -1,5 +1,6 @@
 //! A run over TCP prints its rows, federate by federate; one with too few turns prints none.
 use fedrun_run::{AuditedFault, RunOutput, print_audited_run};
+use fedrun_text::RowFormat;
 use std::net::{Net, TcpListener, TcpStream};
 use std::test::Fail;
 use tests_samples::worked_rows::COUNTER_ROWS;
@@ -20,7 +21,7 @@ fn is_unfinished<R: Machine + Net<Stream = TcpStream, Listener = TcpListener>>(
         federation.programs(),
         federation.inputs(),
         Terms { turns, frames: 2 },
-        RunOutput::Rows,
+        RunOutput::Rows(RowFormat::Text),
         out,
     ) {
         Ok(()) => Some(false),

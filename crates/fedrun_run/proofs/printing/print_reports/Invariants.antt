@@ -1,5 +1,5 @@
 use Rattle.std.specs.Io.KnownBytes.{Appends}
-use Rattle.fedrun_text.specs.RowText.{printed_rows}
+use Rattle.fedrun_text.specs.Formats.{formatted_rows}
 use Rattle.fedrun_text.specs.PlanText.{printed_each}
 use Rattle.recorder_reports.specs.Reports.{reported_rows}
 use Rattle.fedrun_run.proofs.printing.print_reports.Given as goal
@@ -8,4 +8,4 @@ use Rattle.fedrun_run.proofs.printing.print_reports.Given as goal
 abbrev pub invariant-loop-federate : goal.invariant-loop-federate
 invariant-loop-federate g l =
     Appends (g.O.Write.contents l.initial.out) (g.O.Write.contents l.out)
-    (printed_each (λ j. printed_rows l.plan.federates (reported_rows l.reports j)) l.federate)
+    (printed_each (λ j. formatted_rows l.format l.plan.federates (reported_rows l.reports j)) l.federate)

@@ -1,7 +1,7 @@
 use Rattle.std.proofs.Common.{sym, subst, arith, ◌≡◌, ◌≤◌, ◌+◌, ◌-◌, min, slice_range}
 use Rattle.std.proofs.KnownBytes.{Appends-trans}
 use Rattle.std.specs.Io.KnownBytes.{Appends}
-use Rattle.fedrun_text.specs.RowText.{printed_rows}
+use Rattle.fedrun_text.specs.Formats.{formatted_rows}
 use Rattle.fedrun_text.proofs.Lines.{some_more}
 use Rattle.fedrun_text.proofs.rows.write_rows.Goals as goal
 
@@ -10,6 +10,7 @@ loop-first-preserved g c =
     let first = c.loop-first.first in
     let end = first + c.min.result in
     let rows = c.args.rows.now in
+    let format = c.args.format in
     let federates = c.args.plan.now.federates in
     let before = g.W.Write.contents c.args.out.now in
     let middle = g.W.Write.contents c.loop-first.out in
@@ -19,10 +20,10 @@ loop-first-preserved g c =
     let few : c.min.result ≡ min 128 (c.len-count.result - first) = c.min.ensures in
     let within : end ≤ c.len-count.result = omega (arith, few, low) in
     let rising : first ≤ end = omega arith in
-    let added : Appends middle after (printed_rows federates (slice_range rows first end)) =
-    subst (λ fs. Appends middle after (printed_rows fs (slice_range rows first end))) c.federates.ensures c.in_ok-write_some.ensures in (
+    let added : Appends middle after (formatted_rows format federates (slice_range rows first end)) =
+    subst (λ fs. Appends middle after (formatted_rows format fs (slice_range rows first end))) c.federates.ensures c.in_ok-write_some.ensures in (
       c.len-count.ensures,
       within,
-      subst (λ text. Appends before after text) (sym (some_more federates rows first end rising))
+      subst (λ text. Appends before after text) (sym (some_more format federates rows first end rising))
           (Appends-trans before middle after _ _ inv.2 added),
     )

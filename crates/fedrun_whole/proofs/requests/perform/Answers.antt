@@ -7,11 +7,11 @@ use Rattle.fedrun_whole.proofs.requests.perform.Goals as goal
 
 pub returns-in-Whole-clause-ok : goal.returns-in-Whole-clause-ok
 returns-in-Whole-clause-ok g c =
-    on_ok_weaker c.whole.result (λ done. printed.rows c.in-Whole.federation.now c.in-Whole.inputs.now c.in-Whole.turns done) c.whole.ensures.ok
+    on_ok_weaker c.whole.result (λ done. printed.rows c.in-Whole.federation.now c.in-Whole.inputs.now c.in-Whole.turns c.in-Whole.format done) c.whole.ensures.ok
 
 pub returns-in-Whole-clause-stands : goal.returns-in-Whole-clause-stands
 returns-in-Whole-clause-stands g c =
-    IfErr-weaker c.whole.result _ _ (λ fault stands. refused.whole c.in-Whole.federation c.in-Whole.inputs c.in-Whole.turns stands) c.whole.ensures.stands
+    IfErr-weaker c.whole.result _ _ (λ fault stands. refused.whole c.in-Whole.federation c.in-Whole.inputs c.in-Whole.turns c.in-Whole.format stands) c.whole.ensures.stands
 
 pub returns-in-Check-clause-ok : goal.returns-in-Check-clause-ok
 returns-in-Check-clause-ok g c = on_ok_weaker c.check.result (λ done. printed.plan c.in-Check.federation.now done) c.check.ensures.ok

@@ -19,6 +19,6 @@ returns-clause-printed g c before so_far =
       discarded = k.turns;
     } in
     let last : c.discard.new.self ≡ let_go_after later.0 p = c.discard.ensures ∙ ap let_go_of later.1 in
-    printed_further p q c.discard.new.self later.0 c.args.plan.now.federates c.rows.result.now before (g.O.Write.contents c.args.out.now)
+    printed_further c.args.format p q c.discard.new.self later.0 c.args.plan.now.federates c.rows.result.now before (g.O.Write.contents c.args.out.now)
     (g.O.Write.contents c.write_rows.new.out) so_far later.1 c.rows.ensures.rows c.rows.ensures.one_for_each_turn
     (ap (λ (d : Draft). d.federates) (sym c.requires)) c.in_ok-write_rows.ensures last

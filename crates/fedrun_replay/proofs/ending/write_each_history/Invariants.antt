@@ -1,8 +1,8 @@
 use Rattle.std.specs.Io.KnownBytes.{Appends}
 use Rattle.fedrun_text.specs.PlanText.{printed_each}
 use Rattle.fedrun_replay.specs.Replayed.{history}
-use Rattle.fedrun_replay.proofs.ending.write_histories.Given as goal
+use Rattle.fedrun_replay.proofs.ending.write_each_history.Given as goal
 
 abbrev pub invariant-loop-federate : goal.invariant-loop-federate
 invariant-loop-federate g l =
-    Appends (g.W.Write.contents l.initial.out) (g.W.Write.contents l.out) (printed_each (history l.world) l.federate)
+    Appends (g.W.Write.contents l.initial.out) (g.W.Write.contents l.out) (printed_each (history l.format l.world) l.federate)

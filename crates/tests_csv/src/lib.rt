@@ -1,0 +1,10 @@
+//! Tests of rows as comma-separated values: what `whole`, `run` and `replay` print with `--csv`, and the line of a row that has neither
+//! inputs nor outputs. No program uses this crate.
+#![tactic(auto)]
+
+#[cfg(test)]
+mod bare_rows;
+#[cfg(test)]
+mod commands;
+#[cfg(test)]
+mod files;
