@@ -5,3 +5,5 @@ pub mod Results
 pub mod InTurn
 -- what a run printed stays printed
 pub mod Runs
+-- what was printed of a schedule or drawn stays printed
+pub mod Kept

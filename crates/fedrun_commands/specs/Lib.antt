@@ -3,6 +3,8 @@
 pub mod Faults
 -- the schedule in a file
 pub mod Schedules
+-- what is printed of a schedule that is played, and why it isn't
+pub mod Played
 -- what is printed where all went well
 pub mod Printed
 -- which fault stands where not

@@ -3,7 +3,6 @@
 use Rattle.std.specs.Prelude.{◌≡◌, ℕ, ◌⊎◌, List, [], ◌∷◌, ◌++◌, Option, IfSome}
 use Rattle.std.specs.Borrow.{Bor}
 use Rattle.plan.specs.declared.draft.Draft.{Draft}
-use Rattle.world_stations.specs.declared.memory.Memory as steps
 use Rattle.fedrun_script.specs.declared.fault.ScriptFault.{ScriptFault}
 use Rattle.fedrun_script.specs.declared.script.TheConstants.{MOST_BYTES}
 use Rattle.fedrun_script.specs.Scripts.{Script, IsFaultOf as IsScriptFault}
@@ -12,20 +11,23 @@ use Rattle.fedrun_fault.specs.declared.fault.Fault.TheVariants.{CannotWrite, Mor
 use Rattle.fedrun_files.specs.Answers.{Answer, given}
 use Rattle.fedrun_files.specs.Contents.{Contents}
 use Rattle.fedrun_files.specs.declared.reading.Sources.{Sources}
-use Rattle.fedrun_files.specs.Loaded.{input_file, HoldsOfSources}
-use Rattle.fedrun_files.specs.Refused.{asked_sources, IsUnread, IsSourcesFault}
-use Rattle.fedrun_replay.specs.declared.fault.ReplayFault.TheVariants as broken
-use Rattle.fedrun_text.specs.declared.row_format.RowFormat.{RowFormat}
-use Rattle.fedrun_replay.specs.AsCsv.{IsBrokenOffIn}
+use Rattle.reactor_program.specs.Behaviour.{Behaviour}
+use Rattle.fedrun_files.specs.Loaded.{input_file, IsFederation, HoldsOfSources}
+use Rattle.fedrun_files.specs.Refused.{asked_sources, IsUnread, IsFederationFault, IsSourcesFault}
+use Rattle.fedrun_draw.specs.Drawn.{IsInterrupted}
+use Rattle.fedrun_draw.specs.declared.fault.DrawFault.{DrawFault}
 use Rattle.fedrun_run.specs.Printed.{IsAuditFailure}
 use Rattle.fedrun_run.specs.declared.audit_failure.AuditFailure.{AuditFailure}
 use Rattle.desk.specs.declared.memory.Memory as run
 use Rattle.fedrun_whole.specs.Refused as every
 use Rattle.fedrun_words.specs.declared.request.Request.{Request}
-use Rattle.fedrun_words.specs.declared.request.Request.TheVariants.{Replay, Run as RunOf, Record}
+use Rattle.fedrun_words.specs.declared.request.Request.TheVariants.{Replay, Run as RunOf, Record, Frames, DrawFederation, DrawSchedule}
+use Rattle.fedrun_commands.specs.declared.play_output.PlayOutput.{PlayOutput}
+use Rattle.fedrun_commands.specs.declared.play_output.PlayOutput.TheVariants as played
+use Rattle.fedrun_commands.specs.Played.{IsPlayFault}
 use Rattle.fedrun_commands.specs.Schedules.{HoldsOfSchedule}
 use Rattle.fedrun_commands.specs.declared.fault.NodeFault.{NodeFault}
-use Rattle.fedrun_commands.specs.declared.fault.NodeFault.TheVariants.{Schedule, World, NotFinished, Unproved, Run}
+use Rattle.fedrun_commands.specs.declared.fault.NodeFault.TheVariants.{Schedule, Undrawn, NotFinished, Unproved, Run}
 
 -- why the schedule file isn't taken, for this federation
 pub data IsScheduleFault (d : Draft) (name : Bor (List ℕ)) (contents : Contents) (answered : List Answer → Type 0) (fault : Fault NodeFault) : Type 0 where
@@ -40,12 +42,10 @@ IsUnprintedRun s fault =
     ⊎ (((failure : AuditFailure) × (fault ≡ More (Unproved failure)) × IsAuditFailure s.plan s.programs s.inputs failure)
     ⊎ ((memory : run.Memory) × (fault ≡ More (Run memory))))
 
--- why a replay of a schedule breaks off, once all was loaded: it can't be written, or there was no memory for a step; then what was refused
--- of those before it is written, or as comma-separated values nothing
-abbrev pub IsReplayFault : Sources → Script → Option ℕ → RowFormat → Option (List ℕ) → Option (List ℕ) → Fault NodeFault → Type 0
-IsReplayFault s script closing format before after fault =
-    ((memory : steps.Memory) × (fault ≡ More (World memory)) × IsBrokenOffIn format s.plan s.programs s.inputs script closing before after (broken.World memory))
-    ⊎ (fault ≡ CannotWrite)
+-- why a picture of a federation isn't printed, once it was loaded: it isn't drawn for want of memory, and nothing was printed; or it can't be written
+abbrev pub IsPictureFault : Option (List ℕ) → Option (List ℕ) → Fault NodeFault → Type 0
+IsPictureFault before after fault =
+    ((why : DrawFault) × (fault ≡ More (Undrawn why)) × IsInterrupted why × (after ≡ before)) ⊎ (fault ≡ CannotWrite)
 
 -- why a run isn't printed, once all was loaded: it can't be written; or it isn't finished, an audit doesn't believe it, or there was no
 -- memory for it, and then nothing is written
@@ -60,15 +60,35 @@ IsFaultOfRun contents answered before after federation inputs fault =
     ⊎ (answered (asked_sources federation.now inputs.now)
     × HoldsOfSources (contents federation.now) (input_file contents inputs.now) (λ s. IsRunFault s before after fault))
 
--- why a request of nodes isn't done, and what was answered about files till then: the federation file's fault comes first, then the
--- input file's, then the schedule's.
-abbrev pub IsFaultOf : Contents → (List Answer → Type 0) → Option (List ℕ) → Option (List ℕ) → Request → Fault NodeFault → Type 0
-IsFaultOf contents answered before after (Replay federation inputs schedule until_stuck format) fault =
+-- why a schedule isn't played or printed, and what was answered about files till then: the federation file's fault comes first, then the
+-- input file's, then the schedule's
+abbrev pub IsFaultOfPlay : PlayOutput → Contents → (List Answer → Type 0) → Option (List ℕ) → Option (List ℕ) → Bor (List ℕ) → Bor (List ℕ) → Bor (List ℕ) → Option ℕ → Fault NodeFault → Type 0
+IsFaultOfPlay output contents answered before after federation inputs schedule closing fault =
     IsSourcesFault federation inputs contents answered fault
     ⊎ HoldsOfSources (contents federation.now) (input_file contents inputs.now)
     (λ s. IsScheduleFault s.plan schedule contents (λ later. answered (asked_sources federation.now inputs.now ++ later)) fault
     ⊎ (answered (asked_sources federation.now inputs.now ++ given schedule.now ∷ [])
-    × HoldsOfSchedule (contents schedule.now) s.plan (λ script. IsReplayFault s script until_stuck format before after fault)))
+    × HoldsOfSchedule (contents schedule.now) s.plan (λ script. IsPlayFault output s script closing before after fault)))
+
+-- the federation file is taken, and this fault comes after it
+pub record IsLateDrawFault (federation before after : Option (List ℕ)) (fault : Fault NodeFault) : Type 0 where
+  pub draft : Draft
+  pub programs : List Behaviour
+  pub federation_is : IsFederation federation draft programs
+  pub later : IsPictureFault before after fault
+
+-- why a picture of the federation in a file isn't printed, and what was answered about files till then
+abbrev pub IsDrawFault : Contents → (List Answer → Type 0) → Option (List ℕ) → Option (List ℕ) → Bor (List ℕ) → Fault NodeFault → Type 0
+IsDrawFault contents answered before after federation fault =
+    IsFederationFault federation contents answered fault
+    ⊎ (answered (given federation.now ∷ []) × IsLateDrawFault (contents federation.now) before after fault)
+
+-- why a request isn't done, and what was answered about files till then
+abbrev pub IsFaultOf : Contents → (List Answer → Type 0) → Option (List ℕ) → Option (List ℕ) → Request → Fault NodeFault → Type 0
+IsFaultOf contents answered before after (Replay federation inputs schedule until_stuck format) fault = IsFaultOfPlay (played.Rows format) contents answered before after federation inputs schedule until_stuck fault
+IsFaultOf contents answered before after (Frames federation inputs schedule until_stuck) fault = IsFaultOfPlay played.Frames contents answered before after federation inputs schedule until_stuck fault
+IsFaultOf contents answered before after (DrawSchedule federation inputs schedule until_stuck) fault = IsFaultOfPlay played.Picture contents answered before after federation inputs schedule until_stuck fault
+IsFaultOf contents answered before after (DrawFederation federation) fault = IsDrawFault contents answered before after federation fault
 IsFaultOf contents answered before after (RunOf federation inputs turns frames format) fault = IsFaultOfRun contents answered before after federation inputs fault
 IsFaultOf contents answered before after (Record federation inputs turns frames) fault = IsFaultOfRun contents answered before after federation inputs fault
 IsFaultOf contents answered before after request fault = ⊥

@@ -1,4 +1,4 @@
-ghost use Rattle.std.specs.Prelude.{◌≡◌, ◌≢◌, ◌≤◌};
+ghost use Rattle.std.specs.Prelude.{◌≡◌, ◌≢◌, ◌≤◌, ◌⊎◌};
 ghost use Rattle.fedrun_words.specs.Lines.{PrintsFault};
 ghost use Rattle.fedrun_words.specs.Pieces.{AppendsPrefix, AppendsPrinted};
 ghost use Rattle.fedrun_files.specs.Answers.{Answers};

@@ -1,3 +1,7 @@
+ghost use Rattle.std.specs.Prelude.{◌≡◌};
+ghost use Rattle.fedrun_commands.specs.Faults.{drawing_status};
+
+use fedrun_draw::DrawFault;
 use fedrun_fault::MoreFault;
 use fedrun_run::AuditFailure;
 use fedrun_script::ScriptFault;
@@ -9,8 +13,11 @@ use std::fmt;
 pub enum NodeFault {
     /// The schedule isn't taken, and the inner fault says why. Nothing was printed.
     Schedule(ScriptFault),
-    /// No memory for a step of a replay. What was refused before it is printed. The same command may be given again, with fewer steps.
+    /// No memory for a step of a schedule. What was printed of the steps before it stands. The same command may be given again, with
+    /// fewer steps.
     World(world_stations::Memory),
+    /// The picture isn't drawn, and the inner fault says why. Nothing was printed.
+    Undrawn(DrawFault),
     /// The coordinator of a run isn't finished: a runner had made its turns before, or there was no listener, or a thread couldn't
     /// be started. Nothing was printed. The same command may be given again, with more turns.
     NotFinished,
@@ -31,6 +38,7 @@ impl MoreFault for NodeFault {
     fn status(&self) -> u8 {
         match self {
             NodeFault::Schedule(_) => 1,
+            NodeFault::Undrawn(fault) => drawing_status(fault),
             NodeFault::World(_)
             | NodeFault::NotFinished
             | NodeFault::Unproved(_)
@@ -51,9 +59,20 @@ impl fmt::Display for NodeFault {
         match self {
             NodeFault::Schedule(fault) => write!(f, "{fault}"),
             NodeFault::World(memory) => write!(f, "{memory}"),
+            NodeFault::Undrawn(fault) => write!(f, "{fault}"),
             NodeFault::NotFinished => write!(f, "not finished"),
             NodeFault::Unproved(failure) => write!(f, "{failure}"),
             NodeFault::Run(memory) => write!(f, "{memory}"),
         }
+    }
+}
+
+/// The exit status where a picture isn't drawn: 1 where it would be too great.
+fn drawing_status(fault: &DrawFault) -> u8
+    ensures { result ≡ drawing_status fault.now }
+{
+    match fault {
+        DrawFault::TooManySteps(_) | DrawFault::TooManyFrames(_) => 1,
+        DrawFault::Memory | DrawFault::CannotWrite => 3,
     }
 }

@@ -7,6 +7,7 @@
 
 pub mod answering;
 pub mod fault;
+pub mod play_output;
 mod printing;
 mod requests;
 mod schedules;

@@ -1,5 +1,5 @@
 //! What a request prints, once its files are read.
-ghost use Rattle.std.specs.Prelude.{◌≡◌, IfErr, OnOk};
+ghost use Rattle.std.specs.Prelude.{◌≡◌, ◌≢◌, IfErr, OnOk};
 ghost use Rattle.std.specs.Io.KnownBytes.{Keeps};
 ghost use Rattle.plan.specs.External.{AreInputsOf};
 ghost use Rattle.reactor_programs.specs.Programs.{AreProgramsOf};
@@ -7,15 +7,22 @@ ghost use Rattle.fedrun_replay.specs.AsCsv.{IsReplayedIn};
 ghost use Rattle.fedrun_run.specs.Printed.{PrintsAudited};
 ghost use Rattle.fedrun_fault.specs.declared.fault.Fault.TheVariants.{CannotWrite as cannot_write};
 ghost use Rattle.fedrun_commands.specs.Faults.{status_of};
-ghost use Rattle.fedrun_commands.specs.Refused.{IsReplayFault, IsRunFault};
+ghost use Rattle.fedrun_frames.specs.Shown.{ShowsSchedule};
+ghost use Rattle.fedrun_draw.specs.Drawn.{HasPicture};
+ghost use Rattle.fedrun_commands.specs.Played.{IsDrawn, IsPlayedAs, IsPlayFault};
+ghost use Rattle.fedrun_commands.specs.Refused.{IsPictureFault, IsRunFault};
 
 use crate::fault::NodeFault;
+use crate::play_output::PlayOutput;
+use fedrun_draw::{DrawFault, draw_federation, draw_schedule};
 use fedrun_fault::Fault;
 use fedrun_files::Sources;
+use fedrun_frames::frames;
 use fedrun_replay::{ReplayFault, replay_in};
 use fedrun_run::{AuditedFault, RunOutput, print_audited_run};
 use fedrun_script::Script;
 use fedrun_text::RowFormat;
+use plan::Plan;
 use std::alloc::Global;
 use std::io::Write;
 use std::net::{Net, TcpListener, TcpStream};
@@ -24,9 +31,31 @@ use std::thread::Threads;
 use std::time::Clock;
 use wires::Terms;
 
+/// Plays a schedule and prints what is asked for. Where there is no memory for a step, what is printed of the steps before it stands.
+pub(crate) fn print_played<O: Write>(
+    alloc: Global,
+    sources: &Sources,
+    script: &Script,
+    until_stuck: Option<u32>,
+    output: PlayOutput,
+    out: &mut O,
+) -> Result<(), Fault<'static, NodeFault>>
+    requires programs { AreProgramsOf sources.now.plan sources.now.programs }
+    requires inputs { AreInputsOf sources.now.plan sources.now.inputs }
+    ensures ok { OnOk result (IsPlayedAs output sources.now.plan sources.now.programs sources.now.inputs script.now until_stuck (O.contents out.old) (O.contents out.new)) }
+    ensures stands { IfErr result (IsPlayFault output sources.now script.now until_stuck (O.contents out.old) (O.contents out.new)) }
+    ensures untouched { IfErr result (λ fault. status_of fault ≢ 3 → out.new ≡ out.old) }
+{
+    match output {
+        PlayOutput::Rows(format) => print_replay(alloc, sources, script, until_stuck, format, out),
+        PlayOutput::Frames => print_frames(alloc, sources, script, until_stuck, out),
+        PlayOutput::Picture => print_schedule_picture(alloc, sources, script, until_stuck, out),
+    }
+}
+
 /// Plays a schedule and prints what `replay_in` does. Where there is no memory for a step, the refused steps before it are written,
 /// or as comma-separated values nothing.
-pub(crate) fn print_replay<O: Write>(
+fn print_replay<O: Write>(
     alloc: Global,
     sources: &Sources,
     script: &Script,
@@ -37,7 +66,7 @@ pub(crate) fn print_replay<O: Write>(
     requires programs { AreProgramsOf sources.now.plan sources.now.programs }
     requires inputs { AreInputsOf sources.now.plan sources.now.inputs }
     ensures ok { OnOk result (IsReplayedIn format sources.now.plan sources.now.programs sources.now.inputs script.now until_stuck (O.contents out.old) (O.contents out.new)) }
-    ensures stands { IfErr result (IsReplayFault sources.now script.now until_stuck format (O.contents out.old) (O.contents out.new)) }
+    ensures stands { IfErr result (IsPlayFault (PlayOutput.Rows format) sources.now script.now until_stuck (O.contents out.old) (O.contents out.new)) }
     ensures late { IfErr result (λ fault. status_of fault ≡ 3) }
 {
     match replay_in(
@@ -56,6 +85,84 @@ pub(crate) fn print_replay<O: Write>(
             Err(Fault::More(NodeFault::World(memory)))
         }
         Err(ReplayFault::CannotWrite) => Err(Fault::CannotWrite),
+    }
+}
+
+/// Plays a schedule and prints what `frames` does. Where there is no memory for a step, those before it are written.
+fn print_frames<O: Write>(
+    alloc: Global,
+    sources: &Sources,
+    script: &Script,
+    until_stuck: Option<u32>,
+    out: &mut O,
+) -> Result<(), Fault<'static, NodeFault>>
+    requires programs { AreProgramsOf sources.now.plan sources.now.programs }
+    requires inputs { AreInputsOf sources.now.plan sources.now.inputs }
+    ensures ok { OnOk result (ShowsSchedule sources.now.plan sources.now.programs sources.now.inputs script.now until_stuck (O.contents out.old) (O.contents out.new)) }
+    ensures stands { IfErr result (IsPlayFault PlayOutput.Frames sources.now script.now until_stuck (O.contents out.old) (O.contents out.new)) }
+    ensures late { IfErr result (λ fault. status_of fault ≡ 3) }
+{
+    match frames(
+        alloc,
+        out,
+        &sources.plan,
+        &sources.programs,
+        &sources.inputs,
+        script,
+        until_stuck,
+    ) {
+        Ok(()) => flush(out),
+        Err(ReplayFault::World(memory)) => {
+            flush(out)?;
+            Err(Fault::More(NodeFault::World(memory)))
+        }
+        Err(ReplayFault::CannotWrite) => Err(Fault::CannotWrite),
+    }
+}
+
+/// Plays a schedule and prints a picture of it.
+fn print_schedule_picture<O: Write>(
+    alloc: Global,
+    sources: &Sources,
+    script: &Script,
+    until_stuck: Option<u32>,
+    out: &mut O,
+) -> Result<(), Fault<'static, NodeFault>>
+    requires programs { AreProgramsOf sources.now.plan sources.now.programs }
+    requires inputs { AreInputsOf sources.now.plan sources.now.inputs }
+    ensures ok { OnOk result (IsDrawn sources.now.plan sources.now.programs sources.now.inputs script.now until_stuck (O.contents out.old) (O.contents out.new)) }
+    ensures stands { IfErr result (IsPlayFault PlayOutput.Picture sources.now script.now until_stuck (O.contents out.old) (O.contents out.new)) }
+    ensures untouched { IfErr result (λ fault. status_of fault ≢ 3 → out.new ≡ out.old) }
+{
+    match draw_schedule(
+        alloc,
+        out,
+        &sources.plan,
+        &sources.programs,
+        &sources.inputs,
+        script,
+        until_stuck,
+    ) {
+        Ok(()) => flush(out),
+        Err(DrawFault::CannotWrite) => Err(Fault::CannotWrite),
+        Err(fault) => Err(Fault::More(NodeFault::Undrawn(fault))),
+    }
+}
+
+/// Prints a picture of a federation.
+pub(crate) fn print_federation_picture<O: Write>(
+    alloc: Global,
+    plan: &Plan,
+    out: &mut O,
+) -> Result<(), Fault<'static, NodeFault>>
+    ensures ok { OnOk result (HasPicture (O.contents out.old) (O.contents out.new)) }
+    ensures stands { IfErr result (IsPictureFault (O.contents out.old) (O.contents out.new)) }
+    ensures untouched { IfErr result (λ fault. status_of fault ≢ 3 → out.new ≡ out.old) }
+{
+    match draw_federation(alloc, out, plan) {
+        Ok(()) => flush(out),
+        Err(DrawFault::CannotWrite) => Err(Fault::CannotWrite),
+        Err(fault) => Err(Fault::More(NodeFault::Undrawn(fault))),
     }
 }
 

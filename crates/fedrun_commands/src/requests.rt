@@ -1,17 +1,17 @@
 //! Each request: its files are read first, and then it prints.
-ghost use Rattle.std.specs.Prelude.{◌≡◌, ◌≢◌, IfErr, OnOk};
+ghost use Rattle.std.specs.Prelude.{◌≡◌, ◌≢◌, ◌⊎◌, IfErr, OnOk};
 ghost use Rattle.fedrun_files.specs.Answers.{Answers};
 ghost use Rattle.fedrun_commands.specs.Faults.{status_of};
-ghost use Rattle.fedrun_commands.specs.Printed.{PrintsFor, PrintsRun, PrintsAnswer};
-ghost use Rattle.fedrun_commands.specs.Refused.{IsFaultOf, IsFaultOfRun, Stands};
+ghost use Rattle.fedrun_commands.specs.Printed.{PrintsPicture, PrintsPlayed, PrintsRun, PrintsAnswer};
+ghost use Rattle.fedrun_commands.specs.Refused.{IsDrawFault, IsFaultOfPlay, IsFaultOfRun, Stands};
 
 use crate::fault::NodeFault;
-use crate::printing::{print_replay, print_run};
+use crate::play_output::PlayOutput;
+use crate::printing::{print_federation_picture, print_played, print_run};
 use crate::schedules::read_schedule;
 use fedrun_fault::Fault;
-use fedrun_files::{Files, read_sources};
+use fedrun_files::{Files, read_federation, read_sources};
 use fedrun_run::RunOutput;
-use fedrun_text::RowFormat;
 use fedrun_whole::{check, whole};
 use fedrun_words::{Request, read_words};
 use std::alloc::Global;
@@ -38,7 +38,8 @@ pub(crate) fn perform<
 ) -> Result<(), Fault<'a, NodeFault>>
     ensures ok { OnOk result (PrintsAnswer (F.contents files.old) (O.contents out.old) (O.contents out.new)) }
     ensures stands { IfErr result (Stands (F.contents files.old) (Answers (F.answers files.old) (F.answers files.new)) (O.contents out.old) (O.contents out.new)) }
-    ensures untouched { IfErr result (λ fault. status_of fault ≢ 3 → out.new ≡ out.old) }
+    ensures untouched { IfErr result (λ fault. status_of fault ≡ 1 → out.new ≡ out.old) }
+    ensures unused { IfErr result (λ fault. status_of fault ≡ 2 → out.new ≡ out.old) }
 {
     let request = match read_words(alloc, words) {
         Ok(request) => request,
@@ -58,13 +59,44 @@ pub(crate) fn perform<
             schedule,
             until_stuck,
             format,
-        } => replay(
+        } => play(
             alloc,
             federation,
             inputs,
             schedule,
             until_stuck,
-            format,
+            PlayOutput::Rows(format),
+            files,
+            out,
+        ),
+        Request::Frames {
+            federation,
+            inputs,
+            schedule,
+            until_stuck,
+        } => play(
+            alloc,
+            federation,
+            inputs,
+            schedule,
+            until_stuck,
+            PlayOutput::Frames,
+            files,
+            out,
+        ),
+        Request::DrawFederation { federation } => draw(alloc, federation, files, out),
+        Request::DrawSchedule {
+            federation,
+            inputs,
+            schedule,
+            until_stuck,
+        } => play(
+            alloc,
+            federation,
+            inputs,
+            schedule,
+            until_stuck,
+            PlayOutput::Picture,
             files,
             out,
         ),
@@ -129,20 +161,20 @@ pub(crate) fn run<
     }
 }
 
-/// Prints what a schedule's world refuses, and the rows after it; as comma-separated values the rows alone.
+/// Prints what is asked for of a schedule, played over the federation's world.
 #[tactic(auto, using(fedrun_files::proofs::InTurn::answered_in_turn))]
-pub(crate) fn replay<'a, F: Files, O: Write>(
+pub(crate) fn play<'a, F: Files, O: Write>(
     alloc: Global,
     federation: &'a str,
     inputs: &'a str,
     schedule: &'a str,
     until_stuck: Option<u32>,
-    format: RowFormat,
+    output: PlayOutput,
     files: &mut F,
     out: &mut O,
 ) -> Result<(), Fault<'a, NodeFault>>
-    ensures ok { OnOk result (PrintsFor (F.contents files.old) (Request.Replay federation.entry inputs.entry schedule.entry until_stuck format) (O.contents out.old) (O.contents out.new)) }
-    ensures stands { IfErr result (IsFaultOf (F.contents files.old) (Answers (F.answers files.old) (F.answers files.new)) (O.contents out.old) (O.contents out.new) (Request.Replay federation.entry inputs.entry schedule.entry until_stuck format)) }
+    ensures ok { OnOk result (PrintsPlayed output (F.contents files.old) federation.entry inputs.entry schedule.entry until_stuck (O.contents out.old) (O.contents out.new)) }
+    ensures stands { IfErr result (IsFaultOfPlay output (F.contents files.old) (Answers (F.answers files.old) (F.answers files.new)) (O.contents out.old) (O.contents out.new) federation.entry inputs.entry schedule.entry until_stuck) }
     ensures untouched { IfErr result (λ fault. status_of fault ≢ 3 → out.new ≡ out.old) }
 {
     let sources = match read_sources(alloc, federation, inputs, files) {
@@ -150,7 +182,24 @@ pub(crate) fn replay<'a, F: Files, O: Write>(
         Err(fault) => return Err(fault),
     };
     match read_schedule(alloc, schedule, &sources.plan, files) {
-        Ok(script) => print_replay(alloc, &sources, &script, until_stuck, format, out),
+        Ok(script) => print_played(alloc, &sources, &script, until_stuck, output, out),
+        Err(fault) => Err(fault),
+    }
+}
+
+/// Prints a picture of the federation.
+pub(crate) fn draw<'a, F: Files, O: Write>(
+    alloc: Global,
+    federation: &'a str,
+    files: &mut F,
+    out: &mut O,
+) -> Result<(), Fault<'a, NodeFault>>
+    ensures ok { OnOk result (PrintsPicture (F.contents files.old federation.entry.now) (O.contents out.old) (O.contents out.new)) }
+    ensures stands { IfErr result (IsDrawFault (F.contents files.old) (Answers (F.answers files.old) (F.answers files.new)) (O.contents out.old) (O.contents out.new) federation.entry) }
+    ensures untouched { IfErr result (λ fault. status_of fault ≢ 3 → out.new ≡ out.old) }
+{
+    match read_federation(alloc, federation, files) {
+        Ok((plan, _programs)) => print_federation_picture(alloc, &plan, out),
         Err(fault) => Err(fault),
     }
 }

@@ -83,8 +83,13 @@ impl<'a> Player<'a> {
         Ok(())
     }
 
-    // Makes closing rounds for a line until the world is stuck, or so many were made.
-    fn close<W: Write>(&mut self, out: &mut W, line: usize, most: u32) -> Result<(), ReplayFault>
+    /// Makes closing rounds for a line until the world is stuck, or so many were made.
+    pub fn close<W: Write>(
+        &mut self,
+        out: &mut W,
+        line: usize,
+        most: u32,
+    ) -> Result<(), ReplayFault>
         ensures { IsClosing result line most self.old self.new (W.contents out.old) (W.contents out.new) }
     {
         for _made in 0..most {
@@ -96,8 +101,8 @@ impl<'a> Player<'a> {
         Ok(())
     }
 
-    // Does what a line asks for.
-    fn obey<W: Write>(&mut self, out: &mut W, line: ScheduleLine) -> Result<(), ReplayFault>
+    /// Does what a line asks for.
+    pub fn obey<W: Write>(&mut self, out: &mut W, line: ScheduleLine) -> Result<(), ReplayFault>
         ensures { HasDone result line.number (tasks_of (count_in self.old) line.command) self.old self.new (W.contents out.old) (W.contents out.new) }
     {
         match line.command {

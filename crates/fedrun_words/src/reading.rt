@@ -18,6 +18,8 @@ enum CommandKind {
     Replay,
     Run,
     Record,
+    Frames,
+    Draw,
 }
 
 /// A subcommand, and the names of what is given to it.
@@ -36,7 +38,7 @@ struct Subcommand {
 }
 
 /// The subcommands.
-const SUBCOMMANDS: [Subcommand; 5] = [
+const SUBCOMMANDS: [Subcommand; 7] = [
     Subcommand {
         kind: CommandKind::Whole,
         name: "whole",
@@ -75,6 +77,22 @@ const SUBCOMMANDS: [Subcommand; 5] = [
         arguments: &["FED", "IN"],
         may_follow: &[],
         options: &["turns", "frames"],
+        flags: &[],
+    },
+    Subcommand {
+        kind: CommandKind::Frames,
+        name: "frames",
+        arguments: &["FED", "IN", "SCHEDULE"],
+        may_follow: &[],
+        options: &["until-stuck"],
+        flags: &[],
+    },
+    Subcommand {
+        kind: CommandKind::Draw,
+        name: "draw",
+        arguments: &["FED"],
+        may_follow: &["IN", "SCHEDULE"],
+        options: &["until-stuck"],
         flags: &[],
     },
 ];
@@ -131,6 +149,8 @@ fn request<'a>(kind: CommandKind, given: &ArgMatches<'a>) -> Option<Request<'a>>
         CommandKind::Replay => replay(given),
         CommandKind::Run => run(given),
         CommandKind::Record => record(given),
+        CommandKind::Frames => frames_of_schedule(given),
+        CommandKind::Draw => draw(given),
     }
 }
 
@@ -189,15 +209,11 @@ fn check<'a>(given: &ArgMatches<'a>) -> Option<Request<'a>> {
 }
 
 fn replay<'a>(given: &ArgMatches<'a>) -> Option<Request<'a>> {
-    let until_stuck = match given.get_str("until-stuck") {
-        Some(rounds) => Some(count(rounds)?),
-        None => None,
-    };
     Some(Request::Replay {
         federation: given.get_str("FED")?,
         inputs: given.get_str("IN")?,
         schedule: given.get_str("SCHEDULE")?,
-        until_stuck,
+        until_stuck: until_stuck(given)?,
         format: row_format(given),
     })
 }
@@ -219,6 +235,42 @@ fn record<'a>(given: &ArgMatches<'a>) -> Option<Request<'a>> {
         turns: turns(given)?,
         frames: frames(given)?,
     })
+}
+
+fn frames_of_schedule<'a>(given: &ArgMatches<'a>) -> Option<Request<'a>> {
+    Some(Request::Frames {
+        federation: given.get_str("FED")?,
+        inputs: given.get_str("IN")?,
+        schedule: given.get_str("SCHEDULE")?,
+        until_stuck: until_stuck(given)?,
+    })
+}
+
+/// The federation alone, or a schedule of it.
+fn draw<'a>(given: &ArgMatches<'a>) -> Option<Request<'a>> {
+    let federation = given.get_str("FED")?;
+    match (
+        given.get_str("IN"),
+        given.get_str("SCHEDULE"),
+        until_stuck(given)?,
+    ) {
+        (None, None, None) => Some(Request::DrawFederation { federation }),
+        (Some(inputs), Some(schedule), until_stuck) => Some(Request::DrawSchedule {
+            federation,
+            inputs,
+            schedule,
+            until_stuck,
+        }),
+        _ => None,
+    }
+}
+
+/// How many closing rounds there may be, where some are asked for. None where the words say no number.
+fn until_stuck(given: &ArgMatches<'_>) -> Option<Option<u32>> {
+    match given.get_str("until-stuck") {
+        Some(rounds) => Some(Some(count(rounds)?)),
+        None => Some(None),
+    }
 }
 
 /// The format in which rows are written.

@@ -39,4 +39,22 @@ pub enum Request<'a> {
         turns: u32,
         frames: u8,
     },
+    /// Each step of a schedule, with the frames that it sent; with `until_stuck`, those of so many closing rounds at most too.
+    Frames {
+        federation: &'a str,
+        inputs: &'a str,
+        schedule: &'a str,
+        until_stuck: Option<u32>,
+    },
+    /// The picture of the federation.
+    DrawFederation {
+        federation: &'a str,
+    },
+    /// The picture of a schedule; with `until_stuck`, of so many closing rounds at most too.
+    DrawSchedule {
+        federation: &'a str,
+        inputs: &'a str,
+        schedule: &'a str,
+        until_stuck: Option<u32>,
+    },
 }

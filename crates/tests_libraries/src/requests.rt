@@ -197,6 +197,54 @@ fn reads_record(rt: HostRuntime) {
     }
 }
 
+/// Words of `frames` and `draw`, and the request that they are.
+const LOOKED_AT: &[(&[&str], Request<'static>)] = &[
+    (
+        &["frames", "f", "-", "s"],
+        Request::Frames {
+            federation: "f",
+            inputs: "-",
+            schedule: "s",
+            until_stuck: None,
+        },
+    ),
+    (
+        &["frames", "--until-stuck", "7", "f", "i", "s"],
+        Request::Frames {
+            federation: "f",
+            inputs: "i",
+            schedule: "s",
+            until_stuck: Some(7),
+        },
+    ),
+    (&["draw", "f"], Request::DrawFederation { federation: "f" }),
+    (
+        &["draw", "f", "-", "s"],
+        Request::DrawSchedule {
+            federation: "f",
+            inputs: "-",
+            schedule: "s",
+            until_stuck: None,
+        },
+    ),
+    (
+        &["draw", "f", "i", "s", "--until-stuck=0"],
+        Request::DrawSchedule {
+            federation: "f",
+            inputs: "i",
+            schedule: "s",
+            until_stuck: Some(0),
+        },
+    ),
+];
+
+#[test]
+fn reads_frames_and_draw(rt: HostRuntime) {
+    for (words, request) in LOOKED_AT {
+        assert!(rt; ask(rt.alloc(), words, Ok(*request)), "{words:?}");
+    }
+}
+
 /// Words that are no command.
 const REFUSED: &[&[&str]] = &[
     &[],
@@ -267,6 +315,16 @@ const REFUSED: &[&[&str]] = &[
     &["record", "f", "-", "--until-stuck", "1"],
     &["record", "f", "-", "--csv"],
     &["Record", "f", "-"],
+    &["frames", "f", "-"],
+    &["frames", "f", "-", "s", "--until-stuck", "x"],
+    &["frames", "f", "-", "s", "--csv"],
+    &["draw"],
+    &["draw", "f", "-"],
+    &["draw", "f", "-", "s", "t"],
+    &["draw", "f", "--until-stuck", "1"],
+    &["draw", "f", "-", "--until-stuck", "1"],
+    &["draw", "f", "-", "s", "--until-stuck", "x"],
+    &["lint", "f"],
     &["replay", "--help"],
     &["replay", "-h"],
     &["-V"],

@@ -1,5 +1,5 @@
 use Rattle.std.proofs.lemmas.Result.{on_ok_weaker, IfErr-weaker}
-use Rattle.fedrun_words.specs.declared.request.Request.TheVariants.{Replay, Run, Record}
+use Rattle.fedrun_words.specs.declared.request.Request.TheVariants.{Replay, Run, Record, Frames, DrawFederation, DrawSchedule}
 use Rattle.fedrun_whole.specs.Printed as printed
 use Rattle.fedrun_whole.specs.Refused as refused
 use Rattle.fedrun_commands.proofs.requests.perform.Goals as goal
@@ -19,10 +19,28 @@ pub returns-in-Check-clause-stands : goal.returns-in-Check-clause-stands
 returns-in-Check-clause-stands g c = IfErr-weaker c.check.result _ _ (λ fault stands. refused.check c.in-Check.federation stands) c.check.ensures.stands
 
 pub returns-in-Replay-clause-ok : goal.returns-in-Replay-clause-ok
-returns-in-Replay-clause-ok g c = on_ok_weaker c.replay.result (λ done. printed.more (Replay c.in-Replay.federation c.in-Replay.inputs c.in-Replay.schedule c.in-Replay.until_stuck c.in-Replay.format) done) c.replay.ensures.ok
+returns-in-Replay-clause-ok g c = on_ok_weaker c.play.result (λ done. printed.more (Replay c.in-Replay.federation c.in-Replay.inputs c.in-Replay.schedule c.in-Replay.until_stuck c.in-Replay.format) done) c.play.ensures.ok
 
 pub returns-in-Replay-clause-stands : goal.returns-in-Replay-clause-stands
-returns-in-Replay-clause-stands g c = IfErr-weaker c.replay.result _ _ (λ fault stands. refused.more (Replay c.in-Replay.federation c.in-Replay.inputs c.in-Replay.schedule c.in-Replay.until_stuck c.in-Replay.format) stands) c.replay.ensures.stands
+returns-in-Replay-clause-stands g c = IfErr-weaker c.play.result _ _ (λ fault stands. refused.more (Replay c.in-Replay.federation c.in-Replay.inputs c.in-Replay.schedule c.in-Replay.until_stuck c.in-Replay.format) stands) c.play.ensures.stands
+
+pub returns-in-Frames-clause-ok : goal.returns-in-Frames-clause-ok
+returns-in-Frames-clause-ok g c = on_ok_weaker c.play-in-Frames.result (λ done. printed.more (Frames c.in-Frames.federation c.in-Frames.inputs c.in-Frames.schedule c.in-Frames.until_stuck) done) c.play-in-Frames.ensures.ok
+
+pub returns-in-Frames-clause-stands : goal.returns-in-Frames-clause-stands
+returns-in-Frames-clause-stands g c = IfErr-weaker c.play-in-Frames.result _ _ (λ fault stands. refused.more (Frames c.in-Frames.federation c.in-Frames.inputs c.in-Frames.schedule c.in-Frames.until_stuck) stands) c.play-in-Frames.ensures.stands
+
+pub returns-in-DrawFederation-clause-ok : goal.returns-in-DrawFederation-clause-ok
+returns-in-DrawFederation-clause-ok g c = on_ok_weaker c.draw.result (λ done. printed.more (DrawFederation c.in-DrawFederation.federation) done) c.draw.ensures.ok
+
+pub returns-in-DrawFederation-clause-stands : goal.returns-in-DrawFederation-clause-stands
+returns-in-DrawFederation-clause-stands g c = IfErr-weaker c.draw.result _ _ (λ fault stands. refused.more (DrawFederation c.in-DrawFederation.federation) stands) c.draw.ensures.stands
+
+pub returns-in-DrawSchedule-clause-ok : goal.returns-in-DrawSchedule-clause-ok
+returns-in-DrawSchedule-clause-ok g c = on_ok_weaker c.play-in-DrawSchedule.result (λ done. printed.more (DrawSchedule c.in-DrawSchedule.federation c.in-DrawSchedule.inputs c.in-DrawSchedule.schedule c.in-DrawSchedule.until_stuck) done) c.play-in-DrawSchedule.ensures.ok
+
+pub returns-in-DrawSchedule-clause-stands : goal.returns-in-DrawSchedule-clause-stands
+returns-in-DrawSchedule-clause-stands g c = IfErr-weaker c.play-in-DrawSchedule.result _ _ (λ fault stands. refused.more (DrawSchedule c.in-DrawSchedule.federation c.in-DrawSchedule.inputs c.in-DrawSchedule.schedule c.in-DrawSchedule.until_stuck) stands) c.play-in-DrawSchedule.ensures.stands
 
 pub returns-in-Run-clause-ok : goal.returns-in-Run-clause-ok
 returns-in-Run-clause-ok g c = on_ok_weaker c.run.result (λ done. printed.more (Run c.in-Run.federation c.in-Run.inputs c.in-Run.turns c.in-Run.frames c.in-Run.format) done) c.run.ensures.ok

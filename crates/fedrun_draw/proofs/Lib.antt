@@ -1,0 +1,2 @@
+-- why a schedule isn't drawn
+pub mod Drawing

@@ -1,0 +1,5 @@
+-- Which pictures are drawn, and why one isn't.
+-- how faults are printed
+pub mod Faults
+-- which schedules are drawn, and which aren't
+pub mod Drawn

@@ -1,0 +1,34 @@
+use crate::brought::Brought;
+use crate::counts::LinkCounts;
+use reactor::Rows;
+use std::marker::Model;
+use world_stations::{Outcome, Step};
+
+/// What is written of a step.
+#[derive(Drop)]
+pub(crate) struct Account {
+    /// The line that it was made for.
+    pub(crate) line: usize,
+    pub(crate) step: Step,
+    pub(crate) brought: Brought,
+    pub(crate) outcome: Outcome,
+    /// The row that it made, if it made one.
+    pub(crate) row: Rows,
+    /// How many frames had been sent over each link before it, by federate.
+    pub(crate) before: Vec<LinkCounts>,
+}
+
+impl Model for Account {
+    ghost use Rattle.fedrun_frames.specs.Accounts.{Account as AccountOf};
+
+    ghost Value = { AccountOf };
+
+    ghost view = { λ a. record {
+      line = a.line;
+      step = a.step;
+      brought = a.brought;
+      outcome = a.outcome;
+      row = a.row;
+      before = a.before.items;
+    } };
+}

@@ -1,0 +1,4 @@
+-- texts that are written one after the other
+pub mod Texts
+-- escaped texts have no tags
+pub mod Harmless

@@ -1,0 +1,12 @@
+//! Tests of the commands: of rows as comma-separated values, which `whole`, `run` and `replay` print with `--csv`, and the line of a row that
+//! has neither inputs nor outputs; of what `frames` and `draw` answer. No program uses this crate.
+#![tactic(auto)]
+
+#[cfg(test)]
+mod bare_rows;
+#[cfg(test)]
+mod commands;
+#[cfg(test)]
+mod files;
+#[cfg(test)]
+mod further;
