@@ -1,4 +1,4 @@
-ghost use Rattle.std.specs.Prelude.{◌≡◌, ◌<◌, ℕ, List, [], ◌∷◌, ◌++◌, length, take, drop, vec_len, IfOk, OnOk, OnErr};
+ghost use Rattle.std.specs.Prelude.{◌≡◌, ◌<◌, ℕ, List, [], ◌∷◌, ◌++◌, length, take, drop, slice_get, option_map, vec_len, IfOk, OnOk, OnErr};
 ghost use Rattle.node.specs.declared.event.Event.{Event as IsEvent};
 ghost use Rattle.std.specs.Vec.{vec_capacity};
 ghost use Rattle.node.specs.Step.{said, step_of};
@@ -16,7 +16,8 @@ use std::sync::{Mutex, MutexGuard, Wait};
 /// journal beside it.
 ///
 /// A contract can't name what lies under a lock. That `handle` answers as the desk does, and that its slip has the event's place
-/// in the journal, is said by `enter`, which is passed the locked desk. That `finished` answers as the node does isn't said.
+/// in the journal, is said by `enter`, which is passed the locked desk; what `unacked` answers, by the function of that name. That
+/// `finished` answers as the node does isn't said.
 #[derive(Drop)]
 pub struct Shared<N: Node> {
     desk: Mutex<Desk<N>>,
@@ -97,6 +98,11 @@ impl<'a, N: Node> Locked<'a, N> {
         self.desk.station().node().finished()
     }
 
+    /// How many signals a peer hasn't acknowledged; none where there is no such peer.
+    pub fn unacked(&self, peer: usize) -> Option<usize> {
+        unacked(&self.desk, peer)
+    }
+
     /// Gives the lock up.
     pub fn release(self) {
         let Locked { desk } = self;
@@ -126,6 +132,13 @@ fn copy_some(
     let count = most.min(journal.len() - from);
     events.extend_from_slice(&journal[from..from + count])?;
     Ok(())
+}
+
+// How many signals the end for a peer keeps.
+fn unacked<N: Node>(desk: &Desk<N>, peer: usize) -> Option<usize>
+    ensures { result ≡ option_map (λ e. length e.kept) (slice_get desk.now.station.ends peer) }
+{
+    Some(desk.station().end(peer)?.unacked())
 }
 
 // Handles the event at the locked desk, and adds its slip, for which there is room.

@@ -24,8 +24,14 @@ mod rows_printed;
 #[cfg(test)]
 mod running;
 #[cfg(test)]
+mod taking_in;
+#[cfg(test)]
 mod told;
 #[cfg(test)]
+mod turns_counted;
+#[cfg(test)]
 mod unsent;
+#[cfg(test)]
+mod who_writes;
 #[cfg(test)]
 mod workers;

@@ -35,7 +35,8 @@ impl<'a> Work for Part<'a> {
             }
             Part::AtTheEnd(queue, ending, mut incoming, came) => {
                 let mut frames = FrameReader::new(alloc);
-                queue.send(rt, &[ack(1)]);
+                queue.put(rt, &[ack(1)], false);
+                queue.send(rt);
                 ending.set();
                 queue.notify(rt);
                 if next_ack(rt, &mut incoming, &mut frames) == Some(1) {
@@ -70,7 +71,8 @@ fn one_by_one<R: Wait>(
 ) {
     let mut frames = FrameReader::new(alloc);
     for last_taken in 1..=ACKS {
-        queue.send(rt, &[ack(last_taken)]);
+        queue.put(rt, &[ack(last_taken)], false);
+        queue.send(rt);
         if next_ack(rt, incoming, &mut frames) == Some(last_taken) {
             came.fetch_add(1, Ordering::SeqCst);
         }

@@ -10,5 +10,7 @@ pub mod AreRead
 pub mod Waiting
 -- Which frames may wait until there are others for their peer.
 pub mod LoneAcks
+-- Who sends what waits for a peer.
+pub mod Sending
 -- What a reply says: whether something was done, and the frames.
 pub mod Replies

@@ -1,75 +1,28 @@
-ghost use Rattle.std.specs.Prelude.{◌≡◌, ℕ, ◌≤◌, None, false, ◌||◌, ◌∷◌, ◌++◌, List, [], IfSome, OnOk, OnErr};
+ghost use Rattle.std.specs.Prelude.{◌≡◌, ℕ, ◌≤◌, ◌+◌, None, ◌∷◌, ◌++◌, List, [], IfSome};
 ghost use Rattle.node.specs.declared.event.Event.TheVariants as Events;
 ghost use Rattle.desk.specs.declared.slip.Slip.{Slip};
 ghost use Rattle.wires_workers.specs.HandedIn.{AreHandedIn, HandedIn, events_of_turns};
-ghost use Rattle.wires_workers.specs.Replies.{is_done, frames_of};
+ghost use Rattle.wires_workers.specs.RetryState.{turned};
+ghost use Rattle.wires_workers.specs.Sending.{is_behind};
 
+use crate::batch_reply::{BatchReply, is_done};
 use crate::gate::{Gate, Point};
+use crate::retry_state::{Next, RetryState};
 use crate::wake_ups::{WakeUp, WakeUps};
 use crate::writer_queue::WriterQueue;
 use desk::{Locked, Share, Shared};
 use node::{Event, Node, NodeId, Outgoing, Reply};
-use std::alloc::{AllocError, Global};
+use std::alloc::Global;
 use std::sync::Wait;
 use std::time::Clock;
-use wires_transports::Ending;
+use wires_transports::{Cut, Ending, Transport};
 
-// What a desk says to several events: the frames of all its replies, and whether one of them did something.
-#[derive(Drop)]
-struct BatchReply {
-    frames: Vec<Outgoing>,
-    has_done: bool,
-}
+/// So many turns are made while a desk's lock is held, at most.
+pub(crate) const TURNS_AT_ONCE: u32 = 64;
 
-impl BatchReply {
-    // Nothing.
-    fn new(alloc: Global) -> BatchReply
-        ensures frames { result.frames.items ≡ [] }
-        ensures has_done { result.has_done ≡ false }
-    {
-        BatchReply {
-            frames: Vec::new(alloc),
-            has_done: false,
-        }
-    }
-
-    // Adds what a reply says. Without memory its frames aren't added.
-    fn add(&mut self, reply: Reply) -> Result<(), AllocError>
-        ensures has_done { self.new.has_done ≡ self.old.has_done || is_done reply }
-        ensures frames { OnOk result (self.new.frames.items ≡ self.old.frames.items ++ frames_of reply) }
-        ensures unchanged { OnErr result (self.new.frames.items ≡ self.old.frames.items) }
-    {
-        match reply {
-            Reply::Done(frames) => {
-                self.has_done = true;
-                self.add_frames(frames)
-            }
-            Reply::Refused(_, frames) => self.add_frames(frames),
-            Reply::Nothing => Ok(()),
-        }
-    }
-
-    // Adds frames. The first ones are taken as they are.
-    fn add_frames(&mut self, frames: Vec<Outgoing>) -> Result<(), AllocError>
-        ensures has_done { self.new.has_done ≡ self.old.has_done }
-        ensures frames { OnOk result (self.new.frames.items ≡ self.old.frames.items ++ frames.items) }
-        ensures unchanged { OnErr result (self.new.frames.items ≡ self.old.frames.items) }
-    {
-        if self.frames.is_empty() {
-            self.frames = frames;
-            Ok(())
-        } else {
-            self.frames.extend_from_slice(&frames)
-        }
-    }
-}
-
-// Whether a reply says that something was done.
-fn is_done(reply: &Reply) -> bool
-    ensures { result ≡ is_done reply.now }
-{
-    matches!(reply, Reply::Done(_))
-}
+/// A peer that hasn't acknowledged so many signals is behind. Fewer of them, 20 KiB at most, have room on a connection that nobody
+/// reads; so who writes them doesn't wait for a reader.
+pub(crate) const SIGNALS_BEHIND: usize = 512;
 
 /// Turns that were made.
 #[derive(Clone, Copy, Debug, PartialEq, Eq)]
@@ -78,6 +31,15 @@ pub struct Turns {
     pub made: u32,
     /// Whether the last of them did nothing.
     pub is_idle: bool,
+}
+
+impl Turns {
+    /// No turn, behind which nothing or something is left to do.
+    pub(crate) fn none(is_idle: bool) -> Turns
+        ensures { result.made ≡ 0 }
+    {
+        Turns { made: 0, is_idle }
+    }
 }
 
 /// What the workers of one node are passed.
@@ -93,7 +55,7 @@ pub struct Context<'a, N: Node, G: Gate, T: Drop, C: Drop> {
     pub ending: &'a Ending,
 }
 
-impl<'a, N: Node, G: Gate, T: Drop, C: Drop> Context<'a, N, G, T, C> {
+impl<'a, N: Node, G: Gate, T: Transport, C: Cut> Context<'a, N, G, T, C> {
     /// Passes the gate and makes the event's step. Where it did something, the runner gets a wake-up. None where there was no
     /// memory: then nothing has changed.
     pub fn step<R: Wait + Clock>(&self, rt: &R, share: &mut Share, event: Event) -> Option<Reply>
@@ -112,9 +74,9 @@ impl<'a, N: Node, G: Gate, T: Drop, C: Drop> Context<'a, N, G, T, C> {
         }
     }
 
-    /// Makes the events' steps one after the other, and hands the frames of the replies to the writers while the desk's lock is
-    /// held. Where the gate is open the lock is
-    /// held over all of them, and else the gate is passed before each. Whether one of them did something.
+    /// Makes the events' steps one after the other, and puts the frames of the replies to what waits for their peers while the desk's
+    /// lock is held. Where the gate is open the lock is held over all of them, and else the gate is passed before each. Whether one of
+    /// them did something.
     pub fn hand_in<R: Wait + Clock>(
         &self,
         rt: &R,
@@ -135,6 +97,27 @@ impl<'a, N: Node, G: Gate, T: Drop, C: Drop> Context<'a, N, G, T, C> {
         has_done
     }
 
+    /// Makes the steps of what a peer sent, as `hand_in` does. Where the gate is open, the turns that they allow are made under the same
+    /// lock, unless the runner makes some at the moment: it gets a wake-up where there may be more to do. How many were made.
+    #[tactic(auto, using(crate::proofs::SeveralTurns::and_no_turn))]
+    pub fn take_in<R: Wait + Clock>(
+        &self,
+        rt: &R,
+        alloc: Global,
+        share: &mut Share,
+        events: &[Event],
+    ) -> u32
+        ensures handed_in { AreHandedIn share.old (events.now ++ events_of_turns result) share.new }
+        ensures no_runner { self.now.runner ≡ None → result ≡ 0 }
+    {
+        if self.gate.is_open() {
+            self.make_all_and_turns(rt, alloc, share, events)
+        } else {
+            self.hand_in(rt, alloc, share, events);
+            0
+        }
+    }
+
     /// Greets the node's one peer again, and sends again all that it hasn't acknowledged.
     pub fn repeat<R: Wait + Clock>(&self, rt: &R, alloc: Global, share: &mut Share)
         ensures { AreHandedIn share.old (Events.Hello 0 ∷ Events.Resend 0 ∷ []) share.new }
@@ -144,7 +127,7 @@ impl<'a, N: Node, G: Gate, T: Drop, C: Drop> Context<'a, N, G, T, C> {
 
     /// Makes turns, an announcement and then an advance each, until one of them did nothing, at most so many but one at least.
     /// Where the gate is open the desk's lock is held over them; else one turn is made, and the gate is passed before each of its
-    /// events. The runner makes them, so it gets no wake-up of them.
+    /// events. The runner makes them so, and gets no wake-up of them.
     pub fn take_turns<R: Wait + Clock>(
         &self,
         rt: &R,
@@ -191,9 +174,7 @@ impl<'a, N: Node, G: Gate, T: Drop, C: Drop> Context<'a, N, G, T, C> {
     {
         let mut desk = self.shared.lock(rt);
         let mut said = BatchReply::new(alloc);
-        for event in events {
-            enter(&mut desk, share, *event, &mut said);
-        }
+        enter_all(&mut desk, share, events, &mut said);
         let has_done = said.has_done;
         self.leave(rt, desk, said);
         has_done
@@ -207,24 +188,67 @@ impl<'a, N: Node, G: Gate, T: Drop, C: Drop> Context<'a, N, G, T, C> {
     {
         let mut desk = self.shared.lock(rt);
         let mut said = BatchReply::new(alloc);
-        let mut is_idle = turn_is_idle(&mut desk, share, &mut said);
-        let mut made = 1;
-        while made < most && !is_idle {
-            is_idle = turn_is_idle(&mut desk, share, &mut said);
-            made += 1;
-        }
+        let turns = enter_turns(&mut desk, share, most, &mut said);
         self.leave(rt, desk, said);
-        Turns { made, is_idle }
+        turns
     }
 
-    // Hands on what was said, gives the lock up, and ends the run where the node is finished.
+    // Makes the events' steps, and the turns that they allow, under one lock. How many turns.
+    fn make_all_and_turns<R: Wait>(
+        &self,
+        rt: &R,
+        alloc: Global,
+        share: &mut Share,
+        events: &[Event],
+    ) -> u32
+        ensures handed_in { AreHandedIn share.old (events.now ++ events_of_turns result) share.new }
+        ensures no_runner { self.now.runner ≡ None → result ≡ 0 }
+    {
+        let mut desk = self.shared.lock(rt);
+        let mut said = BatchReply::new(alloc);
+        enter_all(&mut desk, share, events, &mut said);
+        let Turns { made, is_idle } = self.follow(&mut desk, share, &mut said);
+        self.leave(rt, desk, said);
+        if !is_idle {
+            self.wake_up(rt, WakeUp::Done);
+        }
+        made
+    }
+
+    // Makes the turns that are allowed by what was done, if anything was: none where the runner makes some at the moment, and at a
+    // node without one. It is idle where the runner needn't go on.
+    #[tactic(auto, using(crate::proofs::SeveralTurns::no_turn))]
+    fn follow(&self, desk: &mut Locked<'_, N>, share: &mut Share, said: &mut BatchReply) -> Turns
+        ensures handed_in { AreHandedIn share.old (events_of_turns result.made) share.new }
+        ensures no_runner { self.now.runner ≡ None → result.made ≡ 0 }
+    {
+        let Some(runner) = self.runner else {
+            return Turns::none(true);
+        };
+        if !said.has_done {
+            return Turns::none(true);
+        }
+        match runner.try_state() {
+            Some(mut state) => enter_some(desk, share, &mut state, said),
+            None => Turns::none(false),
+        }
+    }
+
+    // Puts what was said to what waits for its peers, gives the lock up, and sends it. Where the node is finished the run is to end,
+    // also if a send waits for a peer that reads nothing.
     fn leave<R: Wait>(&self, rt: &R, desk: Locked<'_, N>, said: BatchReply) {
         let is_finished = !self.ending.is_set() && desk.finished();
-        self.send(rt, &desk, said.frames);
+        let BatchReply { mut frames, .. } = said;
+        if self.writers.len() > 1 {
+            // Where there is no memory to sort them, a peer's are put in several parts.
+            let _ = frames.sort_by_key(|outgoing| outgoing.peer);
+        }
+        self.put(rt, &desk, &frames);
         desk.release();
         if is_finished {
             self.end(rt);
         }
+        self.send(rt, &frames);
     }
 
     /// Asks the node whether nothing is left to do: then the run is to end.
@@ -249,19 +273,29 @@ impl<'a, N: Node, G: Gate, T: Drop, C: Drop> Context<'a, N, G, T, C> {
         }
     }
 
-    // Hands the frames to their peers' writers, to each its own at once where there is memory to sort them. Only who holds the desk's
-    // lock may: so frames for one peer are written in the order of the steps, whoever hands in.
-    fn send<R: Wait>(&self, rt: &R, _held: &Locked<'_, N>, mut frames: Vec<Outgoing>) {
-        if self.writers.len() > 1 {
-            let _ = frames.sort_by_key(|outgoing| outgoing.peer);
-        }
+    // Puts the frames to what waits for their peers. Only who holds the desk's lock may: so frames for one peer are written in the
+    // order of the steps, whoever hands in.
+    fn put<R: Wait>(&self, rt: &R, held: &Locked<'_, N>, frames: &[Outgoing]) {
         for part in frames.chunk_by(|one, other| one.peer == other.peer) {
-            if let Some(&Outgoing { peer, .. }) = part.first() {
-                if let Some(writer) = self.writers.get(peer) {
-                    writer.send(rt, part);
-                }
+            if let Some((peer, writer)) = self.writer_of(part) {
+                writer.put(rt, part, is_behind(held.unacked(peer)));
             }
         }
+    }
+
+    // Sends what waits for the peers of these frames, with no lock held.
+    fn send<R: Wait>(&self, rt: &R, frames: &[Outgoing]) {
+        for part in frames.chunk_by(|one, other| one.peer == other.peer) {
+            if let Some((_, writer)) = self.writer_of(part) {
+                writer.send(rt);
+            }
+        }
+    }
+
+    // The peer of these frames, which have the same, and what its writer is asked.
+    fn writer_of(&self, part: &[Outgoing]) -> Option<(usize, &'a WriterQueue<T, C>)> {
+        let peer = part.first()?.peer;
+        Some((peer, self.writers.get(peer)?))
     }
 
     /// Tells the runner.
@@ -270,6 +304,13 @@ impl<'a, N: Node, G: Gate, T: Drop, C: Drop> Context<'a, N, G, T, C> {
             runner.tell(rt, wake_up);
         }
     }
+}
+
+// Whether a peer is behind that hasn't acknowledged so many signals.
+fn is_behind(unacked: Option<usize>) -> bool
+    ensures { result ≡ is_behind unacked }
+{
+    matches!(unacked, Some(count) if SIGNALS_BEHIND <= count)
 }
 
 // Makes the event's step, and adds what is said. Whether it did something.
@@ -290,6 +331,73 @@ fn enter<N: Node>(
         }
         Err(_) => false,
     }
+}
+
+// Makes the events' steps, and adds what is said.
+fn enter_all<N: Node>(
+    desk: &mut Locked<'_, N>,
+    share: &mut Share,
+    events: &[Event],
+    said: &mut BatchReply,
+)
+    ensures { AreHandedIn share.old events.now share.new }
+{
+    for event in events {
+        enter(desk, share, *event, said);
+    }
+}
+
+/// Counts turns that were made. They are idle where the last one did nothing and more are left.
+pub(crate) fn counted(state: &mut RetryState, turns: Turns) -> Turns
+    ensures made { result.made ≡ turns.made }
+    ensures state { state.new ≡ turned state.old turns.made }
+{
+    let Turns { made, is_idle } = turns;
+    let next = state.after_turns(made, is_idle);
+    Turns {
+        made,
+        is_idle: next == Next::Wait,
+    }
+}
+
+// Makes turns that are left, as many as are made at once, and counts them.
+#[tactic(auto, using(crate::proofs::SeveralTurns::no_turn))]
+fn enter_some<N: Node>(
+    desk: &mut Locked<'_, N>,
+    share: &mut Share,
+    state: &mut RetryState,
+    said: &mut BatchReply,
+) -> Turns
+    ensures handed_in { AreHandedIn share.old (events_of_turns result.made) share.new }
+    ensures counted { state.new.turns + result.made ≡ state.old.turns }
+{
+    let most = state.turns_left().min(TURNS_AT_ONCE);
+    if most == 0 {
+        return Turns::none(false);
+    }
+    let turns = enter_turns(desk, share, most, said);
+    state.after_wait(true);
+    counted(state, turns)
+}
+
+// Makes turns until one of them did nothing, at most so many but one at least, and adds what is said.
+fn enter_turns<N: Node>(
+    desk: &mut Locked<'_, N>,
+    share: &mut Share,
+    most: u32,
+    said: &mut BatchReply,
+) -> Turns
+    ensures handed_in { AreHandedIn share.old (events_of_turns result.made) share.new }
+    ensures one { 1 ≤ result.made }
+    ensures most { 1 ≤ most → result.made ≤ most }
+{
+    let mut is_idle = turn_is_idle(desk, share, said);
+    let mut made = 1;
+    while made < most && !is_idle {
+        is_idle = turn_is_idle(desk, share, said);
+        made += 1;
+    }
+    Turns { made, is_idle }
 }
 
 // Makes a turn, and adds what is said. Whether it did nothing.

@@ -69,7 +69,7 @@ fn has_read<R: Wait + Clock, N: Node, G: Gate, T: Transport, C: Cut, D: Dial<T, 
 }
 
 // Tells the runner that an attempt failed, and waits a little before the next one.
-fn tell_failure<R: Wait + Clock, N: Node, G: Gate, T: Drop, C: Drop>(
+fn tell_failure<R: Wait + Clock, N: Node, G: Gate, T: Transport, C: Cut>(
     rt: &R,
     context: &Context<'_, N, G, T, C>,
 ) {

@@ -1,21 +1,22 @@
 //! The workers that stand between a connection and a node: a reader, a writer, a runner.
 //!
-//! Promise to the layer above: what is handed in is the frame that was read, and no more; what a runner does next is
-//! `specs/RetryState`. Nothing is said of when a call returns.
+//! Promise to the layer above: what is handed in are the frames that were read, and whole turns, and no more; what a runner does next
+//! is `specs/RetryState`. Nothing is said of when a call returns.
 //!
 //!     federate                                                  coordinator
 //!     dialed::read_dialed -- connects, Hello first ----------> an acceptor --- the connection ---+
 //!         |  reads frames                                                                        v
-//!         +--> Context::hand_in: gate, then the node's desk                                 reader::read
+//!         +--> Context::take_in: gate, then the node's desk, and turns there                reader::read
 //!                   |            |                                                               |
-//!            WriterQueue       WakeUp::Done                                        Context::hand_in <---+
-//!                   v            v                                               |
-//!            writer::write    runner::run --> Context::take_turns          writer::write, one for each federate
+//!            WriterQueue       WakeUp::Done                                        Context::take_in <---+
+//!              |         |       v                                               |
+//!            sends   writer::write    runner::run --> Context::take_turns    WriterQueue, one for each federate
 //!
 //! All workers of a node share one `Context`. A run ends where `Ending` is set: runners stop and tell their writers, writers
 //! end what they send, readers come to the end of what was sent. Begin with `gate`, then `context`, then `reader`.
 #![tactic(auto)]
 
+mod batch_reply;
 pub mod context;
 pub mod dialed;
 pub mod gate;

@@ -1,9 +1,9 @@
 //! The worker that reads what one peer sends to a node.
-ghost use Rattle.std.specs.Prelude.{◌≡◌, List, [], IfSome};
+ghost use Rattle.std.specs.Prelude.{◌≡◌, ℕ, List, [], ◌++◌, None, IfSome};
 ghost use Rattle.signal.specs.Stream.{Stream};
 ghost use Rattle.node.specs.declared.event.Event.{Event as IsEvent};
 ghost use Rattle.wires_workers.specs.AreRead.{AreRead};
-ghost use Rattle.wires_workers.specs.HandedIn.{AreHandedIn};
+ghost use Rattle.wires_workers.specs.HandedIn.{AreHandedIn, events_of_turns};
 
 use crate::context::Context;
 use crate::gate::Gate;
@@ -52,7 +52,7 @@ pub fn read<R: Wait + Clock, N: Node, G: Gate, T: Transport, C: Cut>(
 }
 
 // Greets the peer on a new connection. The reply has the frame that is sent first; it is nothing where the end is closed.
-pub(crate) fn greet<R: Wait + Clock, N: Node, G: Gate, T: Drop, C: Drop>(
+pub(crate) fn greet<R: Wait + Clock, N: Node, G: Gate, T: Transport, C: Cut>(
     rt: &R,
     context: &Context<'_, N, G, T, C>,
     share: &mut Share,
@@ -101,7 +101,7 @@ pub(crate) fn read_connection<R: Wait + Clock, N: Node, G: Gate, T: Transport, C
 }
 
 // Hands in all whole frames that are there, and reads what comes next, to the end of the connection or what is no frame.
-fn read_on<R: Wait + Clock, N: Node, G: Gate, T: Transport, C: Drop>(
+fn read_on<R: Wait + Clock, N: Node, G: Gate, T: Transport, C: Cut>(
     rt: &R,
     alloc: Global,
     context: &Context<'_, N, G, T, C>,
@@ -129,9 +129,10 @@ fn has_read<R: Wait, T: Transport>(rt: &R, incoming: &mut T, frames: &mut FrameR
     }
 }
 
-// Hands in whole frames, as many as are handed in at once; whether there may be more. What comes after them, and is no frame, is
-// no event: then none. Where a Hello has another version than the last one, the writer hears of it before the node answers.
-fn take_some<R: Wait + Clock, N: Node, G: Gate, T: Drop, C: Drop>(
+// Hands in whole frames, as many as are handed in at once, and makes turns behind them; whether there may be more frames. What comes
+// after them, and is no frame, is no event: then none. Where a Hello has another version than the last one, the writer hears of it
+// before the node answers.
+fn take_some<R: Wait + Clock, N: Node, G: Gate, T: Transport, C: Cut>(
     rt: &R,
     alloc: Global,
     context: &Context<'_, N, G, T, C>,
@@ -140,7 +141,7 @@ fn take_some<R: Wait + Clock, N: Node, G: Gate, T: Drop, C: Drop>(
     frames: &mut FrameReader,
     heard: &mut u8,
 ) -> Option<bool>
-    ensures events { (events : List IsEvent) × (stream : Stream) × AreRead peer frames.old events stream × AreHandedIn share.old events share.new × IfSome result (λ _. frames.new ≡ stream) }
+    ensures events { (events : List IsEvent) × (stream : Stream) × (turns : ℕ) × AreRead peer frames.old events stream × AreHandedIn share.old (events ++ events_of_turns turns) share.new × (context.now.runner ≡ None → turns ≡ 0) × IfSome result (λ _. frames.new ≡ stream) }
     ensures heard { heard.new ≡ frames.new.version }
 {
     let mut events = Vec::new(alloc);
@@ -150,7 +151,7 @@ fn take_some<R: Wait + Clock, N: Node, G: Gate, T: Drop, C: Drop>(
         context.hear(rt, peer, version);
         *heard = version;
     }
-    context.hand_in(rt, alloc, share, &events);
+    context.take_in(rt, alloc, share, &events);
     next
 }
 

@@ -17,7 +17,7 @@ pub enum Next {
     End,
 }
 
-/// How many turns a runner has left, and how long it has waited.
+/// How many turns are left to a runner and to those who make turns in its place, and how long it has waited.
 #[derive(Debug, Drop)]
 pub struct RetryState {
     turns: u32,

@@ -1,7 +1,8 @@
 //! The worker that makes a node say and run what comes next.
-ghost use Rattle.std.specs.Prelude.{◌≡◌};
+ghost use Rattle.std.specs.Prelude.{◌≡◌, ◌+◌};
+ghost use Rattle.wires_workers.specs.HandedIn.{AreHandedIn, events_of_turns};
 
-use crate::context::{Context, Turns};
+use crate::context::{Context, TURNS_AT_ONCE, Turns, counted};
 use crate::gate::Gate;
 use crate::retry_state::{Next, RetryState};
 use crate::wake_ups::{Waited, WakeUp, WakeUps};
@@ -10,12 +11,11 @@ use node::Node;
 use std::alloc::Global;
 use std::sync::Wait;
 use std::time::Clock;
+use wires_transports::{Cut, Transport};
 
-// As many as take no longer than a lock, a notification and a wake-up for each would.
-const TURNS_AT_ONCE: u32 = 64;
-
-/// Runs a node for so many turns, or until the run is to end; its share. Where its turns are used up, the run is to end.
-pub fn run<R: Wait + Clock, N: Node, G: Gate, T: Drop, C: Drop>(
+/// Runs a node for so many turns, those that its reader makes among them, or until the run is to end; its share. Where the turns are
+/// used up, the run is to end.
+pub fn run<R: Wait + Clock, N: Node, G: Gate, T: Transport, C: Cut>(
     rt: &R,
     alloc: Global,
     context: &Context<'_, N, G, T, C>,
@@ -23,22 +23,17 @@ pub fn run<R: Wait + Clock, N: Node, G: Gate, T: Drop, C: Drop>(
     turns: u32,
 ) -> Share {
     let mut share = Share::new(alloc);
-    let mut state = RetryState::new(turns);
-    let mut next = state.turn();
+    let mut next = begin(rt, wake_ups, turns);
     for _ in rt.forever() {
         if context.ending.is_set() {
             break;
         }
         next = match next {
-            Next::Turn => take_turns(rt, alloc, context, wake_ups, &mut share, &mut state),
-            Next::Wait => match wake_ups.wait(rt) {
-                Some(WakeUp::Done) => state.after_wait(true),
-                Some(WakeUp::NotConnected) => state.after_turns(1, true),
-                None => state.after_wait(false),
-            },
+            Next::Turn => take_turns(rt, alloc, context, wake_ups, &mut share),
+            Next::Wait => wait(rt, wake_ups),
             Next::Repeat => {
                 context.repeat(rt, alloc, &mut share);
-                state.turn()
+                wake_ups.state(rt).turn()
             }
             Next::End => break,
         };
@@ -47,24 +42,58 @@ pub fn run<R: Wait + Clock, N: Node, G: Gate, T: Drop, C: Drop>(
     share
 }
 
+// So many turns may be made from now on.
+fn begin<R: Wait>(rt: &R, wake_ups: &WakeUps, turns: u32) -> Next {
+    let mut state = wake_ups.state(rt);
+    *state = RetryState::new(turns);
+    state.turn()
+}
+
+// Waits for a wake-up; what comes then.
+fn wait<R: Wait + Clock>(rt: &R, wake_ups: &WakeUps) -> Next {
+    let wake_up = wake_ups.wait(rt);
+    let mut state = wake_ups.state(rt);
+    match wake_up {
+        Some(WakeUp::Done) => state.after_wait(true),
+        Some(WakeUp::NotConnected) => state.after_turns(1, true),
+        None => state.after_wait(false),
+    }
+}
+
 // Makes turns, which answer the wake-ups that are waiting, where one is left; what comes then.
-fn take_turns<R: Wait + Clock, N: Node, G: Gate, T: Drop, C: Drop>(
+fn take_turns<R: Wait + Clock, N: Node, G: Gate, T: Transport, C: Cut>(
     rt: &R,
     alloc: Global,
     context: &Context<'_, N, G, T, C>,
     wake_ups: &WakeUps,
     share: &mut Share,
-    state: &mut RetryState,
 ) -> Next {
     let Waited { has_done, failed } = wake_ups.take_waiting(rt);
+    let mut state = wake_ups.state(rt);
     if has_done {
         state.after_wait(true);
     }
     state.after_turns(failed, true);
-    if state.turn() == Next::End {
-        return Next::End;
-    }
+    let Turns { is_idle, .. } = make_turns(rt, alloc, context, &mut state, share);
+    if is_idle { Next::Wait } else { state.turn() }
+}
+
+// Makes turns that are left, as many as are made at once, and counts them.
+#[tactic(auto, using(crate::proofs::SeveralTurns::no_turn))]
+fn make_turns<R: Wait + Clock, N: Node, G: Gate, T: Transport, C: Cut>(
+    rt: &R,
+    alloc: Global,
+    context: &Context<'_, N, G, T, C>,
+    state: &mut RetryState,
+    share: &mut Share,
+) -> Turns
+    ensures handed_in { AreHandedIn share.old (events_of_turns result.made) share.new }
+    ensures counted { state.new.turns + result.made ≡ state.old.turns }
+{
     let most = state.turns_left().min(TURNS_AT_ONCE);
-    let Turns { made, is_idle } = context.take_turns(rt, alloc, share, most);
-    state.after_turns(made, is_idle)
+    if most == 0 {
+        return Turns::none(false);
+    }
+    let turns = context.take_turns(rt, alloc, share, most);
+    counted(state, turns)
 }

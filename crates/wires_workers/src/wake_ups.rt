@@ -1,7 +1,8 @@
+use crate::retry_state::RetryState;
 use crossbeam_channel::{Receiver, Sender, unbounded};
 use std::alloc::{AllocError, Global};
-use std::sync::Wait;
 use std::sync::atomic::{AtomicBool, Ordering};
+use std::sync::{Mutex, MutexGuard, Wait};
 use std::time::{Clock, Duration};
 use wires_transports::times::RUNNER_WAIT_MS;
 
@@ -23,23 +24,27 @@ pub struct Waited {
     pub failed: u32,
 }
 
-/// The wake-ups of a node's workers to its runner. However much is done, a `Done` that waits is not sent again.
+/// The wake-ups of a node's workers to its runner, and how many turns are left to them. However much is done, a `Done` that waits is
+/// not sent again.
 #[derive(Drop)]
 pub struct WakeUps {
     sender: Sender<WakeUp>,
     receiver: Receiver<WakeUp>,
     // Whether `Done` was sent since the runner last took what was waiting.
     is_done_told: AtomicBool,
+    // Whoever makes turns of the node has it, so that all of them are counted.
+    state: Mutex<RetryState>,
 }
 
 impl WakeUps {
-    /// None is waiting.
+    /// None is waiting, and no turn is left.
     pub fn new(alloc: Global) -> Result<WakeUps, AllocError> {
         let (sender, receiver) = unbounded(alloc)?;
         Ok(WakeUps {
             sender,
             receiver,
             is_done_told: AtomicBool::new(false),
+            state: Mutex::new(RetryState::new(0)),
         })
     }
 
@@ -73,5 +78,16 @@ impl WakeUps {
         }
         self.is_done_told.store(false, Ordering::SeqCst);
         waited
+    }
+
+    /// Waits until nobody else makes turns; how many are left.
+    pub(crate) fn state<R: Wait>(&self, rt: &R) -> MutexGuard<'_, RetryState> {
+        self.state.lock(rt)
+    }
+
+    /// How many turns are left, unless somebody else makes some. Who holds a desk's lock doesn't wait for the runner, which may be
+    /// waiting for that lock.
+    pub(crate) fn try_state(&self) -> Option<MutexGuard<'_, RetryState>> {
+        self.state.try_lock()
     }
 }

@@ -3,7 +3,7 @@ ghost use Rattle.std.specs.Prelude.{◌≡◌, ◌<◌, [], OnOk, OnErr};
 ghost use Rattle.wires_workers.specs.Waiting.{fresh, emptied, with_frame, covers, all_bytes};
 
 use crate::side::Side;
-use crate::writer_queue::{Asked, WriterQueue};
+use crate::writer_queue::WriterQueue;
 use node::Outgoing;
 use signal::{Frame, Memory, write_frames};
 use std::alloc::Global;
@@ -132,8 +132,8 @@ impl<T: Transport, C: Cut> Writer<T, C> {
         }
     }
 
-    // Puts frames behind what is written next. A frame for which there is no memory is lost, as on a line that loses frames.
-    fn add_all(&mut self, frames: &[Outgoing]) {
+    /// Puts frames behind what is written next. A frame for which there is no memory is lost, as on a line that loses frames.
+    pub(crate) fn add_all(&mut self, frames: &[Outgoing]) {
         for outgoing in frames {
             let _ = self.add(&outgoing.frame);
         }
@@ -178,9 +178,9 @@ fn covers(frame: &Frame, ack: &Frame) -> bool
     }
 }
 
-/// Writes what is waiting, each time in one send, until the run is to end, by this version of frames: 1, or 2 or more with Batches
-/// where the peer reads them. Acks alone, while they are few, wait a little for other frames. What was asked before the end is still
-/// written.
+/// Writes what is waiting and nobody else writes, each time in one send, until the run is to end, by this version of frames: 1, or 2 or
+/// more with Batches where the peer reads them. Acks alone, while they are few, wait a little for other frames. What was asked before
+/// the end is still written.
 pub fn write<R: Wait + Clock, T: Transport, C: Cut>(
     rt: &R,
     alloc: Global,
@@ -188,25 +188,13 @@ pub fn write<R: Wait + Clock, T: Transport, C: Cut>(
     ending: &Ending,
     own: u8,
 ) {
-    let mut writer = Writer::new(alloc, own.max(1));
-    let mut frames = Vec::new(alloc);
+    queue.open(rt, alloc, own.max(1));
     let mut is_late = false;
     for _ in rt.forever() {
         // Before it sees whether the run is to end: else the notification of the end may be the one that it has had already.
         queue.look();
         let is_last = ending.is_set();
-        frames.clear();
-        let Asked {
-            side,
-            peer,
-            looks_soon,
-        } = queue.take(rt, is_late || is_last, &mut frames);
-        if let Some(side) = side {
-            writer.begin(side);
-        }
-        writer.hear(peer);
-        writer.add_all(&frames);
-        writer.flush(rt);
+        let looks_soon = queue.send_all(rt, is_late || is_last);
         if is_last {
             break;
         }
@@ -214,5 +202,5 @@ pub fn write<R: Wait + Clock, T: Transport, C: Cut>(
         // What is asked until others have run is written in the same send.
         thread::yield_now();
     }
-    writer.finish(rt);
+    queue.finish(rt);
 }

@@ -1,7 +1,7 @@
 use Rattle.std.proofs.Common.{◌≤◌, length, arith}
 use Rattle.wires_workers.specs.HandedIn.{none}
 use Rattle.wires_workers.proofs.SeveralEvents.{all_handed_in, next_handed_in}
-use Rattle.wires_workers.proofs.context.Context.make_all.Goals as goal
+use Rattle.wires_workers.proofs.context.enter_all.Goals as goal
 
 pub loop-event-init : goal.loop-event-init
 loop-event-init g c = none

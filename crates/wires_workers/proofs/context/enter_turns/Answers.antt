@@ -1,7 +1,7 @@
 use Rattle.std.proofs.Common.{arith}
 use Rattle.wires_workers.specs.HandedIn.{none}
 use Rattle.wires_workers.proofs.SeveralTurns.{one_more_turn}
-use Rattle.wires_workers.proofs.context.Context.make_turns.Goals as goal
+use Rattle.wires_workers.proofs.context.enter_turns.Goals as goal
 
 pub loop-made-init : goal.loop-made-init
 loop-made-init g c =
@@ -13,12 +13,3 @@ loop-made-preserved g c = (
   omega arith,
   λ some. omega (arith, some, c.loop-made-test.true),
 )
-
-pub returns-clause-handed_in : goal.returns-clause-handed_in
-returns-clause-handed_in g c = c.loop-made.invariant.0
-
-pub returns-clause-one : goal.returns-clause-one
-returns-clause-one g c = c.loop-made.invariant.1
-
-pub returns-clause-most : goal.returns-clause-most
-returns-clause-most g c = c.loop-made.invariant.2

@@ -1,6 +1,6 @@
 use Rattle.std.proofs.Common.{◌-◌, ◌≤◌}
 use Rattle.wires_workers.specs.HandedIn.{AreHandedIn, events_of_turns}
-use Rattle.wires_workers.proofs.context.Context.make_turns.Given as goal
+use Rattle.wires_workers.proofs.context.enter_turns.Given as goal
 
 -- the turns so far are handed in, at least one, and no more than may be made
 abbrev pub invariant-loop-made : goal.invariant-loop-made
