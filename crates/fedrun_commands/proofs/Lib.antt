@@ -7,3 +7,5 @@ pub mod InTurn
 pub mod Runs
 -- what was printed of a schedule or drawn stays printed
 pub mod Kept
+-- where nothing was printed, or what is wrong
+pub mod Reported

@@ -10,7 +10,7 @@ use Rattle.fedrun_draw.specs.declared.fault.DrawFault.{DrawFault}
 use Rattle.fedrun_draw.specs.declared.fault.DrawFault.TheVariants as undrawn
 use Rattle.fedrun_run.specs.AuditFailures.{printed_failure}
 use Rattle.fedrun_commands.specs.declared.fault.NodeFault.{NodeFault}
-use Rattle.fedrun_commands.specs.declared.fault.NodeFault.TheVariants.{Schedule, World, Undrawn, NotFinished, Unproved, Run}
+use Rattle.fedrun_commands.specs.declared.fault.NodeFault.TheVariants.{Schedule, World, Undrawn, NotTaken, NotFinished, Unproved, Run}
 
 -- the exit status where a picture isn't drawn: 1 where it would be too great
 abbrev pub drawing_status : DrawFault → ℕ
@@ -19,12 +19,13 @@ drawing_status (undrawn.TooManyFrames count) = 1
 drawing_status undrawn.Memory = 3
 drawing_status undrawn.CannotWrite = 3
 
--- the exit status of a fault of nodes: 1 for a schedule that isn't taken or has too many steps to be drawn; 3 for what
--- stopped the program after that
+-- the exit status of a fault of nodes: 1 for a schedule that isn't taken or has too many steps to be drawn, and where files that were looked
+-- at aren't taken; 3 for what stopped the program after that
 abbrev pub node_status : NodeFault → ℕ
 node_status (Schedule fault) = 1
 node_status (World memory) = 3
 node_status (Undrawn fault) = drawing_status fault
+node_status NotTaken = 1
 node_status NotFinished = 3
 node_status (Unproved failure) = 3
 node_status (Run memory) = 3
@@ -34,6 +35,7 @@ abbrev pub printed_node_fault : NodeFault → List ℕ
 printed_node_fault (Schedule fault) = script.printed_fault fault
 printed_node_fault (World memory) = out_of_memory_text
 printed_node_fault (Undrawn fault) = picture.printed_fault fault
+printed_node_fault NotTaken = codes "not taken"
 printed_node_fault NotFinished = codes "not finished"
 printed_node_fault (Unproved failure) = printed_failure failure
 printed_node_fault (Run memory) = memory_text

@@ -5,6 +5,8 @@ pub mod Faults
 pub mod Schedules
 -- what is printed of a schedule that is played, and why it isn't
 pub mod Played
+-- what is printed of files that are looked at
+pub mod Linted
 -- what is printed where all went well
 pub mod Printed
 -- which fault stands where not

@@ -1,5 +1,5 @@
 -- What the program prints where all went well.
-use Rattle.std.specs.Prelude.{ℕ, List, Option}
+use Rattle.std.specs.Prelude.{ℕ, false, List, Option}
 use Rattle.std.specs.Borrow.{Bor}
 use Rattle.fedrun_files.specs.Contents.{Contents}
 use Rattle.plan.specs.declared.draft.Draft.{Draft}
@@ -12,10 +12,11 @@ use Rattle.fedrun_run.specs.Printed.{PrintsAudited}
 use Rattle.fedrun_draw.specs.Drawn.{HasPicture}
 use Rattle.fedrun_commands.specs.declared.play_output.PlayOutput.{PlayOutput}
 use Rattle.fedrun_commands.specs.declared.play_output.PlayOutput.TheVariants as played
+use Rattle.fedrun_commands.specs.Linted.{PrintsLint}
 use Rattle.fedrun_commands.specs.Played.{IsPlayedAs}
 use Rattle.fedrun_commands.specs.Schedules.{HoldsOfSchedule}
 use Rattle.fedrun_words.specs.declared.request.Request.{Request}
-use Rattle.fedrun_words.specs.declared.request.Request.TheVariants.{Replay, Run, Record, Frames, DrawFederation, DrawSchedule}
+use Rattle.fedrun_words.specs.declared.request.Request.TheVariants.{Replay, Run, Record, Frames, DrawFederation, DrawSchedule, Lint}
 
 -- of a run of the federation in a file, with the recorded inputs in another, this was printed: the rows that an audit proved, or the steps by
 -- which it did, as a schedule
@@ -46,6 +47,7 @@ PrintsFor contents (DrawSchedule federation inputs schedule until_stuck) before 
 PrintsFor contents (DrawFederation federation) before after = PrintsPicture (contents federation.now) before after
 PrintsFor contents (Run federation inputs turns frames format) before after = PrintsRun (Rows format) contents federation inputs before after
 PrintsFor contents (Record federation inputs turns frames) before after = PrintsRun Steps contents federation inputs before after
+PrintsFor contents (Lint federation inputs) before after = PrintsLint contents federation.now inputs.now false before after
 PrintsFor contents request before after = ⊥
 
 -- what `whole` or `check` prints was printed, or for some request of nodes, what it asks for

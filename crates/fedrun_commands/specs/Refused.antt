@@ -21,9 +21,10 @@ use Rattle.fedrun_run.specs.declared.audit_failure.AuditFailure.{AuditFailure}
 use Rattle.desk.specs.declared.memory.Memory as run
 use Rattle.fedrun_whole.specs.Refused as every
 use Rattle.fedrun_words.specs.declared.request.Request.{Request}
-use Rattle.fedrun_words.specs.declared.request.Request.TheVariants.{Replay, Run as RunOf, Record, Frames, DrawFederation, DrawSchedule}
+use Rattle.fedrun_words.specs.declared.request.Request.TheVariants.{Replay, Run as RunOf, Record, Frames, DrawFederation, DrawSchedule, Lint}
 use Rattle.fedrun_commands.specs.declared.play_output.PlayOutput.{PlayOutput}
 use Rattle.fedrun_commands.specs.declared.play_output.PlayOutput.TheVariants as played
+use Rattle.fedrun_commands.specs.Linted.{IsLintFault}
 use Rattle.fedrun_commands.specs.Played.{IsPlayFault}
 use Rattle.fedrun_commands.specs.Schedules.{HoldsOfSchedule}
 use Rattle.fedrun_commands.specs.declared.fault.NodeFault.{NodeFault}
@@ -91,6 +92,7 @@ IsFaultOf contents answered before after (DrawSchedule federation inputs schedul
 IsFaultOf contents answered before after (DrawFederation federation) fault = IsDrawFault contents answered before after federation fault
 IsFaultOf contents answered before after (RunOf federation inputs turns frames format) fault = IsFaultOfRun contents answered before after federation inputs fault
 IsFaultOf contents answered before after (Record federation inputs turns frames) fault = IsFaultOfRun contents answered before after federation inputs fault
+IsFaultOf contents answered before after (Lint federation inputs) fault = IsLintFault contents answered before after federation inputs fault
 IsFaultOf contents answered before after request fault = ⊥
 
 -- the fault is one of words, and no file was asked for, or it stands against some request

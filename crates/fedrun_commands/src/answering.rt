@@ -3,6 +3,7 @@ ghost use Rattle.fedrun_words.specs.Lines.{PrintsFault};
 ghost use Rattle.fedrun_words.specs.Pieces.{AppendsPrefix, AppendsPrinted};
 ghost use Rattle.fedrun_files.specs.Answers.{Answers};
 ghost use Rattle.fedrun_commands.specs.Faults.{status_of, printed_fault};
+ghost use Rattle.fedrun_commands.specs.Linted.{HasToldWrong};
 ghost use Rattle.fedrun_commands.specs.Printed.{PrintsAnswer};
 ghost use Rattle.fedrun_commands.specs.Refused.{Stands};
 
@@ -16,7 +17,7 @@ use std::thread::Threads;
 use std::time::Clock;
 
 /// Does what the words ask for, over these files, and answers the exit status: 0 where it is done, 1 where what it was given
-/// is refused or can't be read, 2 where the words are no command, 3 where it couldn't finish. What it has to say of a
+/// is refused or can't be read, or where `lint` told of something wrong, 2 where the words are no command, 3 where it couldn't finish. What it has to say of a
 /// failure is one line to `err`: what `err` gains is a prefix of that line, and `answer` says whether it is all of it; what
 /// `err` refuses changes nothing else. With 0, `run` printed the rows of reports that the audit proved, and whose coordinator is
 /// finished.
@@ -34,7 +35,7 @@ pub fn command<
     ensures done { result ≡ 0 → PrintsAnswer (F.contents files.old) (O.contents out.old) (O.contents out.new) }
     ensures quiet { result ≡ 0 → err.new ≡ err.old }
     ensures printed { result ≢ 0 → PrintsFault (Stands (F.contents files.old) (Answers (F.answers files.old) (F.answers files.new)) (O.contents out.old) (O.contents out.new)) status_of printed_fault result (AppendsPrefix (E.contents err.old) (E.contents err.new)) }
-    ensures untouched { result ≡ 1 → out.new ≡ out.old }
+    ensures untouched { result ≡ 1 → (out.new ≡ out.old) ⊎ HasToldWrong (F.contents files.old) (O.contents out.old) (O.contents out.new) }
     ensures unused { result ≡ 2 → out.new ≡ out.old }
     ensures statuses { result ≤ 3 }
 {
@@ -56,7 +57,7 @@ pub fn answer<
     ensures done { result.status ≡ 0 → PrintsAnswer (F.contents files.old) (O.contents out.old) (O.contents out.new) }
     ensures quiet { result.status ≡ 0 → err.new ≡ err.old }
     ensures printed { result.status ≢ 0 → PrintsFault (Stands (F.contents files.old) (Answers (F.answers files.old) (F.answers files.new)) (O.contents out.old) (O.contents out.new)) status_of printed_fault result.status (AppendsPrinted result.is_printed (E.contents err.old) (E.contents err.new)) }
-    ensures untouched { result.status ≡ 1 → out.new ≡ out.old }
+    ensures untouched { result.status ≡ 1 → (out.new ≡ out.old) ⊎ HasToldWrong (F.contents files.old) (O.contents out.old) (O.contents out.new) }
     ensures unused { result.status ≡ 2 → out.new ≡ out.old }
     ensures statuses { result.status ≤ 3 }
 {

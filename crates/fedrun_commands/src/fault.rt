@@ -18,6 +18,8 @@ pub enum NodeFault {
     World(world_stations::Memory),
     /// The picture isn't drawn, and the inner fault says why. Nothing was printed.
     Undrawn(DrawFault),
+    /// Something is wrong in the files that were looked at. What it is was printed.
+    NotTaken,
     /// The coordinator of a run isn't finished: a runner had made its turns before, or there was no listener, or a thread couldn't
     /// be started. Nothing was printed. The same command may be given again, with more turns.
     NotFinished,
@@ -37,7 +39,7 @@ impl MoreFault for NodeFault {
 
     fn status(&self) -> u8 {
         match self {
-            NodeFault::Schedule(_) => 1,
+            NodeFault::Schedule(_) | NodeFault::NotTaken => 1,
             NodeFault::Undrawn(fault) => drawing_status(fault),
             NodeFault::World(_)
             | NodeFault::NotFinished
@@ -60,6 +62,7 @@ impl fmt::Display for NodeFault {
             NodeFault::Schedule(fault) => write!(f, "{fault}"),
             NodeFault::World(memory) => write!(f, "{memory}"),
             NodeFault::Undrawn(fault) => write!(f, "{fault}"),
+            NodeFault::NotTaken => write!(f, "not taken"),
             NodeFault::NotFinished => write!(f, "not finished"),
             NodeFault::Unproved(failure) => write!(f, "{failure}"),
             NodeFault::Run(memory) => write!(f, "{memory}"),

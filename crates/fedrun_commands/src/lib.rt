@@ -7,6 +7,7 @@
 
 pub mod answering;
 pub mod fault;
+mod linting;
 pub mod play_output;
 mod printing;
 mod requests;

@@ -2,10 +2,12 @@
 ghost use Rattle.std.specs.Prelude.{◌≡◌, ◌≢◌, ◌⊎◌, IfErr, OnOk};
 ghost use Rattle.fedrun_files.specs.Answers.{Answers};
 ghost use Rattle.fedrun_commands.specs.Faults.{status_of};
+ghost use Rattle.fedrun_commands.specs.Linted.{HasToldWrong};
 ghost use Rattle.fedrun_commands.specs.Printed.{PrintsPicture, PrintsPlayed, PrintsRun, PrintsAnswer};
 ghost use Rattle.fedrun_commands.specs.Refused.{IsDrawFault, IsFaultOfPlay, IsFaultOfRun, Stands};
 
 use crate::fault::NodeFault;
+use crate::linting::lint;
 use crate::play_output::PlayOutput;
 use crate::printing::{print_federation_picture, print_played, print_run};
 use crate::schedules::read_schedule;
@@ -38,7 +40,7 @@ pub(crate) fn perform<
 ) -> Result<(), Fault<'a, NodeFault>>
     ensures ok { OnOk result (PrintsAnswer (F.contents files.old) (O.contents out.old) (O.contents out.new)) }
     ensures stands { IfErr result (Stands (F.contents files.old) (Answers (F.answers files.old) (F.answers files.new)) (O.contents out.old) (O.contents out.new)) }
-    ensures untouched { IfErr result (λ fault. status_of fault ≡ 1 → out.new ≡ out.old) }
+    ensures untouched { IfErr result (λ fault. status_of fault ≡ 1 → (out.new ≡ out.old) ⊎ HasToldWrong (F.contents files.old) (O.contents out.old) (O.contents out.new)) }
     ensures unused { IfErr result (λ fault. status_of fault ≡ 2 → out.new ≡ out.old) }
 {
     let request = match read_words(alloc, words) {
@@ -100,6 +102,7 @@ pub(crate) fn perform<
             files,
             out,
         ),
+        Request::Lint { federation, inputs } => lint(alloc, federation, inputs, files, out),
         Request::Run {
             federation,
             inputs,

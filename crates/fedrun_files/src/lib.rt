@@ -11,4 +11,4 @@ pub mod reading;
 
 pub use machine::{MachineFiles, read_to_end};
 pub use named::{FileFault, Files};
-pub use reading::{Sources, bytes_of, read_federation, read_sources};
+pub use reading::{Sources, bytes_of, fault_of, read_federation, read_sources};

@@ -99,8 +99,8 @@ pub fn bytes_of<'a, M, F: Files>(
     }
 }
 
-/// The fault of a file whose bytes can't be had.
-fn fault_of<'a, M>(name: &'a str, why: FileFault) -> Fault<'a, M>
+/// The fault of a file of this name whose bytes can't be had.
+pub fn fault_of<'a, M>(name: &'a str, why: FileFault) -> Fault<'a, M>
     ensures { result ≡ fault_of_file name.entry why }
 {
     match why {

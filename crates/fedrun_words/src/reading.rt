@@ -20,6 +20,7 @@ enum CommandKind {
     Record,
     Frames,
     Draw,
+    Lint,
 }
 
 /// A subcommand, and the names of what is given to it.
@@ -38,7 +39,7 @@ struct Subcommand {
 }
 
 /// The subcommands.
-const SUBCOMMANDS: [Subcommand; 7] = [
+const SUBCOMMANDS: [Subcommand; 8] = [
     Subcommand {
         kind: CommandKind::Whole,
         name: "whole",
@@ -93,6 +94,14 @@ const SUBCOMMANDS: [Subcommand; 7] = [
         arguments: &["FED"],
         may_follow: &["IN", "SCHEDULE"],
         options: &["until-stuck"],
+        flags: &[],
+    },
+    Subcommand {
+        kind: CommandKind::Lint,
+        name: "lint",
+        arguments: &["FED"],
+        may_follow: &["IN"],
+        options: &[],
         flags: &[],
     },
 ];
@@ -151,6 +160,7 @@ fn request<'a>(kind: CommandKind, given: &ArgMatches<'a>) -> Option<Request<'a>>
         CommandKind::Record => record(given),
         CommandKind::Frames => frames_of_schedule(given),
         CommandKind::Draw => draw(given),
+        CommandKind::Lint => lint(given),
     }
 }
 
@@ -263,6 +273,13 @@ fn draw<'a>(given: &ArgMatches<'a>) -> Option<Request<'a>> {
         }),
         _ => None,
     }
+}
+
+fn lint<'a>(given: &ArgMatches<'a>) -> Option<Request<'a>> {
+    Some(Request::Lint {
+        federation: given.get_str("FED")?,
+        inputs: given.get_str("IN").unwrap_or("-"),
+    })
 }
 
 /// How many closing rounds there may be, where some are asked for. None where the words say no number.

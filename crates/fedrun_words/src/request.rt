@@ -57,4 +57,9 @@ pub enum Request<'a> {
         schedule: &'a str,
         until_stuck: Option<u32>,
     },
+    /// All that is wrong or odd in the two files.
+    Lint {
+        federation: &'a str,
+        inputs: &'a str,
+    },
 }

@@ -1,4 +1,4 @@
-//! What `frames` and `draw` answer and write. The lines are reckoned by hand; of a picture the beginning and the end are looked at.
+//! What `frames`, `draw` and `lint` answer and write. The lines are reckoned by hand; of a picture the beginning and the end are looked at.
 use crate::files::{Outcome, Texts, outcome_of};
 use tests_samples::COUNTER;
 
@@ -10,6 +10,24 @@ const ANNOUNCED: Texts = Texts {
 deliver up src 1
 deliver up src 2
 ",
+};
+
+/// Each port is connected, and each reaction does something.
+const NOTHING_ODD: Texts = Texts {
+    federation: r#"stop = "0"
+connection = [{ from = "src.y", to = "snk.x" }]
+[[federate]]
+name = "src"
+outputs = ["y"]
+reaction = [{ triggers = ["startup"], body = ["out.y = 1"] }]
+[[federate]]
+name = "snk"
+inputs = ["x"]
+state = [{ name = "s", value = 0 }]
+reaction = [{ triggers = ["x"], body = ["s = in.x"] }]
+"#,
+    inputs: "[[input]]",
+    schedule: "",
 };
 
 const NO_TOML: Texts = Texts {
@@ -52,6 +70,22 @@ const EXACT: &[(&[&str], Texts, u8, &str, &str)] = &[
         "fedrun: cannot read g\n",
     ),
     (&["draw", "f", "-"], ANNOUNCED, 2, "", "fedrun: usage\n"),
+    (&["lint", "f"], NOTHING_ODD, 0, "", ""),
+    (&["lint", "f", "-"], NOTHING_ODD, 0, "", ""),
+    (
+        &["lint", "g"],
+        NOTHING_ODD,
+        1,
+        "",
+        "fedrun: cannot read g\n",
+    ),
+    (
+        &["lint", "f", "g"],
+        NOTHING_ODD,
+        1,
+        "",
+        "fedrun: cannot read g\n",
+    ),
 ];
 
 /// Words, files, the status, the beginning and the end of what is on standard output, and what is on standard error.
@@ -72,6 +106,22 @@ const BEGUN: &[(&[&str], Texts, u8, &str, &str, &str)] = &[
         "</svg>\n",
         "",
     ),
+    (
+        &["lint", "f"],
+        NO_TOML,
+        1,
+        "f:2: wrong: 30 NotToml: ",
+        "\n",
+        "fedrun: not taken\n",
+    ),
+    (
+        &["lint", "f", "i"],
+        NOTHING_ODD,
+        1,
+        "i:1: wrong: 31 WrongShape ",
+        "\n",
+        "fedrun: not taken\n",
+    ),
 ];
 
 fn shown(outcome: &Option<Outcome>) -> Option<(u8, &str, &str)> {
@@ -79,7 +129,7 @@ fn shown(outcome: &Option<Outcome>) -> Option<(u8, &str, &str)> {
 }
 
 #[test]
-fn answers_frames_and_draw(rt: HostRuntime) {
+fn answers_frames_draw_and_lint(rt: HostRuntime) {
     for (words, texts, status, out, err) in EXACT {
         let outcome = outcome_of(&rt, words, *texts);
         assert_eq!(rt; shown(&outcome), Some((*status, *out, *err)), "{words:?}");
@@ -93,7 +143,7 @@ fn framed<'a>(outcome: &'a Option<Outcome>, begin: &str, end: &str) -> Option<(u
 }
 
 #[test]
-fn writes_pictures(rt: HostRuntime) {
+fn writes_pictures_and_what_is_wrong(rt: HostRuntime) {
     for (words, texts, status, begin, end, err) in BEGUN {
         let outcome = outcome_of(&rt, words, *texts);
         assert_eq!(rt;

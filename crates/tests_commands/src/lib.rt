@@ -1,5 +1,5 @@
 //! Tests of the commands: of rows as comma-separated values, which `whole`, `run` and `replay` print with `--csv`, and the line of a row that
-//! has neither inputs nor outputs; of what `frames` and `draw` answer. No program uses this crate.
+//! has neither inputs nor outputs; of what `frames`, `draw` and `lint` answer. No program uses this crate.
 #![tactic(auto)]
 
 #[cfg(test)]

@@ -197,7 +197,7 @@ fn reads_record(rt: HostRuntime) {
     }
 }
 
-/// Words of `frames` and `draw`, and the request that they are.
+/// Words of `frames`, `draw` and `lint`, and the request that they are.
 const LOOKED_AT: &[(&[&str], Request<'static>)] = &[
     (
         &["frames", "f", "-", "s"],
@@ -236,10 +236,24 @@ const LOOKED_AT: &[(&[&str], Request<'static>)] = &[
             until_stuck: Some(0),
         },
     ),
+    (
+        &["lint", "f"],
+        Request::Lint {
+            federation: "f",
+            inputs: "-",
+        },
+    ),
+    (
+        &["lint", "f", "i"],
+        Request::Lint {
+            federation: "f",
+            inputs: "i",
+        },
+    ),
 ];
 
 #[test]
-fn reads_frames_and_draw(rt: HostRuntime) {
+fn reads_frames_draw_and_lint(rt: HostRuntime) {
     for (words, request) in LOOKED_AT {
         assert!(rt; ask(rt.alloc(), words, Ok(*request)), "{words:?}");
     }
@@ -324,7 +338,9 @@ const REFUSED: &[&[&str]] = &[
     &["draw", "f", "--until-stuck", "1"],
     &["draw", "f", "-", "--until-stuck", "1"],
     &["draw", "f", "-", "s", "--until-stuck", "x"],
-    &["lint", "f"],
+    &["lint"],
+    &["lint", "f", "-", "s"],
+    &["lint", "f", "--csv"],
     &["replay", "--help"],
     &["replay", "-h"],
     &["-V"],

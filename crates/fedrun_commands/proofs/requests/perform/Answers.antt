@@ -1,7 +1,9 @@
+use Rattle.std.proofs.Common.{inl}
 use Rattle.std.proofs.lemmas.Result.{on_ok_weaker, IfErr-weaker}
-use Rattle.fedrun_words.specs.declared.request.Request.TheVariants.{Replay, Run, Record, Frames, DrawFederation, DrawSchedule}
+use Rattle.fedrun_words.specs.declared.request.Request.TheVariants.{Replay, Run, Record, Frames, DrawFederation, DrawSchedule, Lint}
 use Rattle.fedrun_whole.specs.Printed as printed
 use Rattle.fedrun_whole.specs.Refused as refused
+use Rattle.fedrun_commands.proofs.Reported.{early}
 use Rattle.fedrun_commands.proofs.requests.perform.Goals as goal
 
 pub returns-in-Whole-clause-ok : goal.returns-in-Whole-clause-ok
@@ -42,6 +44,12 @@ returns-in-DrawSchedule-clause-ok g c = on_ok_weaker c.play-in-DrawSchedule.resu
 pub returns-in-DrawSchedule-clause-stands : goal.returns-in-DrawSchedule-clause-stands
 returns-in-DrawSchedule-clause-stands g c = IfErr-weaker c.play-in-DrawSchedule.result _ _ (λ fault stands. refused.more (DrawSchedule c.in-DrawSchedule.federation c.in-DrawSchedule.inputs c.in-DrawSchedule.schedule c.in-DrawSchedule.until_stuck) stands) c.play-in-DrawSchedule.ensures.stands
 
+pub returns-in-Lint-clause-ok : goal.returns-in-Lint-clause-ok
+returns-in-Lint-clause-ok g c = on_ok_weaker c.lint.result (λ done. printed.more (Lint c.in-Lint.federation c.in-Lint.inputs) done) c.lint.ensures.ok
+
+pub returns-in-Lint-clause-stands : goal.returns-in-Lint-clause-stands
+returns-in-Lint-clause-stands g c = IfErr-weaker c.lint.result _ _ (λ fault stands. refused.more (Lint c.in-Lint.federation c.in-Lint.inputs) stands) c.lint.ensures.stands
+
 pub returns-in-Run-clause-ok : goal.returns-in-Run-clause-ok
 returns-in-Run-clause-ok g c = on_ok_weaker c.run.result (λ done. printed.more (Run c.in-Run.federation c.in-Run.inputs c.in-Run.turns c.in-Run.frames c.in-Run.format) done) c.run.ensures.ok
 
@@ -53,3 +61,30 @@ returns-in-Record-clause-ok g c = on_ok_weaker c.run-in-Record.result (λ done. 
 
 pub returns-in-Record-clause-stands : goal.returns-in-Record-clause-stands
 returns-in-Record-clause-stands g c = IfErr-weaker c.run-in-Record.result _ _ (λ fault stands. refused.more (Record c.in-Record.federation c.in-Record.inputs c.in-Record.turns c.in-Record.frames) stands) c.run-in-Record.ensures.stands
+
+pub returns-in-Whole-clause-untouched : goal.returns-in-Whole-clause-untouched
+returns-in-Whole-clause-untouched g c = IfErr-weaker c.whole.result _ _ (λ fault kept one. inl (kept (early one))) c.whole.ensures.untouched
+
+pub returns-in-Check-clause-untouched : goal.returns-in-Check-clause-untouched
+returns-in-Check-clause-untouched g c = IfErr-weaker c.check.result _ _ (λ fault kept one. inl (kept (early one))) c.check.ensures.untouched
+
+pub returns-in-Replay-clause-untouched : goal.returns-in-Replay-clause-untouched
+returns-in-Replay-clause-untouched g c = IfErr-weaker c.play.result _ _ (λ fault kept one. inl (kept (early one))) c.play.ensures.untouched
+
+pub returns-in-Frames-clause-untouched : goal.returns-in-Frames-clause-untouched
+returns-in-Frames-clause-untouched g c = IfErr-weaker c.play-in-Frames.result _ _ (λ fault kept one. inl (kept (early one))) c.play-in-Frames.ensures.untouched
+
+pub returns-in-DrawFederation-clause-untouched : goal.returns-in-DrawFederation-clause-untouched
+returns-in-DrawFederation-clause-untouched g c = IfErr-weaker c.draw.result _ _ (λ fault kept one. inl (kept (early one))) c.draw.ensures.untouched
+
+pub returns-in-DrawSchedule-clause-untouched : goal.returns-in-DrawSchedule-clause-untouched
+returns-in-DrawSchedule-clause-untouched g c = IfErr-weaker c.play-in-DrawSchedule.result _ _ (λ fault kept one. inl (kept (early one))) c.play-in-DrawSchedule.ensures.untouched
+
+pub returns-in-Run-clause-untouched : goal.returns-in-Run-clause-untouched
+returns-in-Run-clause-untouched g c = IfErr-weaker c.run.result _ _ (λ fault kept one. inl (kept (early one))) c.run.ensures.untouched
+
+pub returns-in-Record-clause-untouched : goal.returns-in-Record-clause-untouched
+returns-in-Record-clause-untouched g c = IfErr-weaker c.run-in-Record.result _ _ (λ fault kept one. inl (kept (early one))) c.run-in-Record.ensures.untouched
+
+pub returns-in-Lint-clause-unused : goal.returns-in-Lint-clause-unused
+returns-in-Lint-clause-unused g c = IfErr-weaker c.lint.result _ _ (λ fault used two. absurd (used two)) c.lint.ensures.used

@@ -1,0 +1,117 @@
+//! Looking at files: all that is wrong in them, and what is odd.
+ghost use Rattle.std.specs.Prelude.{◌≡◌, ◌≢◌, ◌⊎◌, [], ◌∷◌, false, IfErr, IfOk, OnOk, option_copied};
+ghost use Rattle.loadfed.specs.declared.fault.LoadFault.TheVariants.{Memory};
+ghost use Rattle.loadfed.specs.declared.recorded.TheConstants.{MOST_INPUT_BYTES as most_input_bytes};
+ghost use Rattle.fedrun_fault.specs.declared.fault.Fault.TheVariants.{Load};
+ghost use Rattle.fedrun_files.specs.Answers.{Answers, refused};
+ghost use Rattle.fedrun_files.specs.Loaded.{input_file};
+ghost use Rattle.fedrun_files.specs.declared.named.FileFault.TheVariants.{OverLimit as over_limit};
+ghost use Rattle.fedrun_lint.specs.Answered.{PrintsReport};
+ghost use Rattle.fedrun_commands.specs.Faults.{status_of};
+ghost use Rattle.fedrun_commands.specs.Linted.{AreLookedAt, OneAnswer, known_bytes, file_of, PrintsLint, HasToldWrong, IsReportFault, IsLintFault};
+
+use crate::fault::NodeFault;
+use fedrun_fault::Fault;
+use fedrun_files::{FileFault, Files, fault_of};
+use fedrun_lint::{LintFault, NamedFile, print_report};
+use loadfed::{LoadFault, MOST_BYTES, MOST_INPUT_BYTES};
+use std::alloc::Global;
+use std::io::Write;
+
+/// Prints all that is wrong or odd in a federation file and a file of recorded inputs. Something that is wrong is a fault, once it
+/// was printed.
+pub(crate) fn lint<'a, F: Files, O: Write>(
+    alloc: Global,
+    federation: &'a str,
+    inputs: &'a str,
+    files: &mut F,
+    out: &mut O,
+) -> Result<(), Fault<'a, NodeFault>>
+    ensures ok { OnOk result (PrintsLint (F.contents files.old) federation.entry.now inputs.entry.now false (O.contents out.old) (O.contents out.new)) }
+    ensures stands { IfErr result (IsLintFault (F.contents files.old) (Answers (F.answers files.old) (F.answers files.new)) (O.contents out.old) (O.contents out.new) federation.entry inputs.entry) }
+    ensures untouched { IfErr result (λ fault. status_of fault ≡ 1 → (out.new ≡ out.old) ⊎ HasToldWrong (F.contents files.old) (O.contents out.old) (O.contents out.new)) }
+    ensures used { IfErr result (λ fault. status_of fault ≢ 2) }
+{
+    let first = match bytes_if_few(federation, files, MOST_BYTES) {
+        Ok(bytes) => bytes,
+        Err(why) => return Err(fault_of(federation, why)),
+    };
+    let second = match inputs_if_few(alloc, inputs, files) {
+        Ok(bytes) => bytes,
+        Err(why) => return Err(fault_of(inputs, why)),
+    };
+    print_lint(alloc, federation, &first, inputs, &second, out)
+}
+
+/// Prints the report on two files, of which one that is too long has no bytes here.
+fn print_lint<'a, O: Write>(
+    alloc: Global,
+    federation: &'a str,
+    first: &Option<Vec<u8>>,
+    inputs: &'a str,
+    second: &Option<Vec<u8>>,
+    out: &mut O,
+) -> Result<(), Fault<'a, NodeFault>>
+    ensures ok { OnOk result (PrintsReport (file_of federation.now first.now) (file_of inputs.now second.now) false (O.contents out.old) (O.contents out.new)) }
+    ensures stands { IfErr result (IsReportFault (file_of federation.now first.now) (file_of inputs.now second.now) (O.contents out.old) (O.contents out.new)) }
+    ensures untouched { result ≡ Err (Load Memory) → out.new ≡ out.old }
+{
+    let first = NamedFile {
+        name: federation,
+        bytes: bytes_in(first),
+    };
+    let second = NamedFile {
+        name: inputs,
+        bytes: bytes_in(second),
+    };
+    match print_report(alloc, &first, &second, out) {
+        Ok(false) => Ok(()),
+        Ok(true) => Err(Fault::More(NodeFault::NotTaken)),
+        Err(LintFault::Memory) => Err(Fault::Load(LoadFault::Memory)),
+        Err(LintFault::CannotWrite) => Err(Fault::CannotWrite),
+    }
+}
+
+/// The bytes of a file, where they were read.
+fn bytes_in(file: &Option<Vec<u8>>) -> Option<&[u8]>
+    ensures { option_copied result ≡ known_bytes file.now }
+{
+    match file {
+        Some(bytes) => Some(bytes.as_slice()),
+        None => None,
+    }
+}
+
+/// The bytes of a file; none where it has more than so many.
+fn bytes_if_few<F: Files>(
+    name: &str,
+    files: &mut F,
+    most: usize,
+) -> Result<Option<Vec<u8>>, FileFault>
+    ensures ok { IfOk result (λ read. AreLookedAt most (F.contents files.old name.now) (known_bytes read)) }
+    ensures one { OnOk result (OneAnswer (F.answers files.old) (F.answers files.new)) }
+    ensures err { IfErr result (λ why. (why ≢ over_limit) × Answers (F.answers files.old) (F.answers files.new) (refused name.now why ∷ [])) }
+    ensures same { F.contents files.new ≡ F.contents files.old }
+{
+    match files.bytes(name, most) {
+        Ok(bytes) => Ok(Some(bytes)),
+        Err(FileFault::OverLimit) => Ok(None),
+        Err(why) => Err(why),
+    }
+}
+
+/// The bytes of a file of recorded inputs; `-` is one without any.
+fn inputs_if_few<F: Files>(
+    alloc: Global,
+    name: &str,
+    files: &mut F,
+) -> Result<Option<Vec<u8>>, FileFault>
+    ensures ok { IfOk result (λ read. AreLookedAt most_input_bytes (input_file (F.contents files.old) name.now) (known_bytes read)) }
+    ensures err { IfErr result (λ why. (why ≢ over_limit) × Answers (F.answers files.old) (F.answers files.new) (refused name.now why ∷ [])) }
+{
+    if name == "-" {
+        Ok(Some(Vec::new(alloc)))
+    } else {
+        bytes_if_few(name, files, MOST_INPUT_BYTES)
+    }
+}
