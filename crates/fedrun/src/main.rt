@@ -1,22 +1,37 @@
 //! The program `fedrun`: reads its words and files, and prints the rows of a federation.
 //!
-//! All it does is `fedrun_commands::command`, a function over words, files and writers; `main` hands it the machine's.
+//! All it does is `fedrun_commands::command`, a function over words, files and writers; `main` hands it the machine's, and shows
+//! beside it how far it is, where that is asked for.
 #![tactic(auto)]
 
 use fedrun_commands::{NodeFault, command};
 use fedrun_fault::{Fault, refuse};
 use fedrun_files::MachineFiles;
+use fedrun_progress::{NoProgress, ProgressLine, asks_for_progress};
 use fedrun_whole::OUT_BYTES;
 use fedrun_words::{WordsFault, given_words};
 use std::io::{BufWriter, Stdout};
 use std::process::ExitCode;
+use std::thread;
 
 fn main(rt: HostRuntime) -> ExitCode {
     let mut err = rt.stderr();
     let status = match given(&rt) {
         Ok((words, mut out)) => {
+            let words = words.as_slice();
             let mut files = MachineFiles::new(&rt);
-            command(&rt, words.as_slice(), &mut files, &mut out, &mut err)
+            if asks_for_progress(words) {
+                let line = ProgressLine::new(&rt);
+                let mut shown = rt.stderr();
+                let (_, status) = thread::join(
+                    &rt,
+                    || line.show(rt.alloc(), &mut shown),
+                    || command(&rt, words, &mut files, &mut out, &mut err, &line),
+                );
+                status
+            } else {
+                command(&rt, words, &mut files, &mut out, &mut err, &NoProgress)
+            }
         }
         Err(why) => {
             let fault: Fault<'_, NodeFault> = Fault::of_words(why);

@@ -10,6 +10,7 @@ ghost use Rattle.fedrun_commands.specs.Refused.{Stands};
 use crate::requests::perform;
 use fedrun_fault::{Answered, refuse};
 use fedrun_files::Files;
+use fedrun_progress::Progress;
 use std::io::Write;
 use std::net::{Net, TcpListener, TcpStream};
 use std::sync::Wait;
@@ -31,7 +32,8 @@ pub fn command<
     F: Files,
     O: Write,
     E: Write,
->(rt: &R, words: &[String], files: &mut F, out: &mut O, err: &mut E) -> u8
+    P: Progress + Sync,
+>(rt: &R, words: &[String], files: &mut F, out: &mut O, err: &mut E, progress: &P) -> u8
     ensures done { result ≡ 0 → PrintsAnswer (F.contents files.old) (O.contents out.old) (O.contents out.new) }
     ensures quiet { result ≡ 0 → err.new ≡ err.old }
     ensures printed { result ≢ 0 → PrintsFault (Stands (F.contents files.old) (Answers (F.answers files.old) (F.answers files.new)) (O.contents out.old) (O.contents out.new)) status_of printed_fault result (AppendsPrefix (E.contents err.old) (E.contents err.new)) }
@@ -39,7 +41,7 @@ pub fn command<
     ensures unused { result ≡ 2 → out.new ≡ out.old }
     ensures statuses { result ≤ 3 }
 {
-    answer(rt, words, files, out, err).status
+    answer(rt, words, files, out, err, progress).status
 }
 
 /// As `command`; the answer says too whether the line of its fault could be written.
@@ -53,7 +55,8 @@ pub fn answer<
     F: Files,
     O: Write,
     E: Write,
->(rt: &R, words: &[String], files: &mut F, out: &mut O, err: &mut E) -> Answered
+    P: Progress + Sync,
+>(rt: &R, words: &[String], files: &mut F, out: &mut O, err: &mut E, progress: &P) -> Answered
     ensures done { result.status ≡ 0 → PrintsAnswer (F.contents files.old) (O.contents out.old) (O.contents out.new) }
     ensures quiet { result.status ≡ 0 → err.new ≡ err.old }
     ensures printed { result.status ≢ 0 → PrintsFault (Stands (F.contents files.old) (Answers (F.answers files.old) (F.answers files.new)) (O.contents out.old) (O.contents out.new)) status_of printed_fault result.status (AppendsPrinted result.is_printed (E.contents err.old) (E.contents err.new)) }
@@ -61,7 +64,9 @@ pub fn answer<
     ensures unused { result.status ≡ 2 → out.new ≡ out.old }
     ensures statuses { result.status ≤ 3 }
 {
-    match perform(rt, rt.alloc(), words, files, out) {
+    let done = perform(rt, rt.alloc(), words, files, out, progress);
+    progress.end();
+    match done {
         Ok(()) => Answered {
             status: 0,
             is_printed: false,

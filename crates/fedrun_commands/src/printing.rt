@@ -18,6 +18,7 @@ use fedrun_draw::{DrawFault, draw_federation, draw_schedule};
 use fedrun_fault::Fault;
 use fedrun_files::Sources;
 use fedrun_frames::frames;
+use fedrun_progress::Progress;
 use fedrun_replay::{ReplayFault, replay_in};
 use fedrun_run::{AuditedFault, RunOutput, print_audited_run};
 use fedrun_script::Script;
@@ -32,13 +33,14 @@ use std::time::Clock;
 use wires::Terms;
 
 /// Plays a schedule and prints what is asked for. Where there is no memory for a step, what is printed of the steps before it stands.
-pub(crate) fn print_played<O: Write>(
+pub(crate) fn print_played<O: Write, P: Progress>(
     alloc: Global,
     sources: &Sources,
     script: &Script,
     until_stuck: Option<u32>,
     output: PlayOutput,
     out: &mut O,
+    progress: &P,
 ) -> Result<(), Fault<'static, NodeFault>>
     requires programs { AreProgramsOf sources.now.plan sources.now.programs }
     requires inputs { AreInputsOf sources.now.plan sources.now.inputs }
@@ -47,7 +49,15 @@ pub(crate) fn print_played<O: Write>(
     ensures untouched { IfErr result (λ fault. status_of fault ≢ 3 → out.new ≡ out.old) }
 {
     match output {
-        PlayOutput::Rows(format) => print_replay(alloc, sources, script, until_stuck, format, out),
+        PlayOutput::Rows(format) => print_replay(
+            alloc,
+            sources,
+            script,
+            until_stuck,
+            format,
+            out,
+            progress,
+        ),
         PlayOutput::Frames => print_frames(alloc, sources, script, until_stuck, out),
         PlayOutput::Picture => print_schedule_picture(alloc, sources, script, until_stuck, out),
     }
@@ -55,13 +65,14 @@ pub(crate) fn print_played<O: Write>(
 
 /// Plays a schedule and prints what `replay_in` does. Where there is no memory for a step, the refused steps before it are written,
 /// or as comma-separated values nothing.
-fn print_replay<O: Write>(
+fn print_replay<O: Write, P: Progress>(
     alloc: Global,
     sources: &Sources,
     script: &Script,
     until_stuck: Option<u32>,
     format: RowFormat,
     out: &mut O,
+    progress: &P,
 ) -> Result<(), Fault<'static, NodeFault>>
     requires programs { AreProgramsOf sources.now.plan sources.now.programs }
     requires inputs { AreInputsOf sources.now.plan sources.now.inputs }
@@ -78,6 +89,7 @@ fn print_replay<O: Write>(
         script,
         until_stuck,
         format,
+        progress,
     ) {
         Ok(()) => flush(out),
         Err(ReplayFault::World(memory)) => {
@@ -170,6 +182,7 @@ pub(crate) fn print_federation_picture<O: Write>(
 pub(crate) fn print_run<
     R: Threads + Wait + Clock + Net<Stream = TcpStream, Listener = TcpListener> + Sync,
     O: Write,
+    P: Progress + Sync,
 >(
     rt: &R,
     alloc: Global,
@@ -177,6 +190,7 @@ pub(crate) fn print_run<
     terms: Terms,
     output: RunOutput,
     out: &mut O,
+    progress: &P,
 ) -> Result<(), Fault<'static, NodeFault>>
     requires programs { AreProgramsOf sources.now.plan sources.now.programs }
     requires inputs { AreInputsOf sources.now.plan sources.now.inputs }
@@ -193,6 +207,7 @@ pub(crate) fn print_run<
         terms,
         output,
         out,
+        progress,
     ) {
         Ok(()) => flush(out),
         Err(AuditedFault::NotFinished(_)) => Err(Fault::More(NodeFault::NotFinished)),

@@ -13,6 +13,7 @@ use crate::printing::{print_federation_picture, print_played, print_run};
 use crate::schedules::read_schedule;
 use fedrun_fault::Fault;
 use fedrun_files::{Files, read_federation, read_sources};
+use fedrun_progress::Progress;
 use fedrun_run::RunOutput;
 use fedrun_whole::{check, whole};
 use fedrun_words::{Request, read_words};
@@ -31,12 +32,14 @@ pub(crate) fn perform<
     R: Threads + Wait + Clock + Net<Stream = TcpStream, Listener = TcpListener> + Sync,
     F: Files,
     O: Write,
+    P: Progress + Sync,
 >(
     rt: &R,
     alloc: Global,
     words: &'a [String],
     files: &mut F,
     out: &mut O,
+    progress: &P,
 ) -> Result<(), Fault<'a, NodeFault>>
     ensures ok { OnOk result (PrintsAnswer (F.contents files.old) (O.contents out.old) (O.contents out.new)) }
     ensures stands { IfErr result (Stands (F.contents files.old) (Answers (F.answers files.old) (F.answers files.new)) (O.contents out.old) (O.contents out.new)) }
@@ -53,7 +56,9 @@ pub(crate) fn perform<
             inputs,
             turns,
             format,
-        } => whole(alloc, federation, inputs, turns, format, files, out),
+        } => whole(
+            alloc, federation, inputs, turns, format, files, out, progress,
+        ),
         Request::Check { federation } => check(alloc, federation, files, out),
         Request::Replay {
             federation,
@@ -70,6 +75,7 @@ pub(crate) fn perform<
             PlayOutput::Rows(format),
             files,
             out,
+            progress,
         ),
         Request::Frames {
             federation,
@@ -85,6 +91,7 @@ pub(crate) fn perform<
             PlayOutput::Frames,
             files,
             out,
+            progress,
         ),
         Request::DrawFederation { federation } => draw(alloc, federation, files, out),
         Request::DrawSchedule {
@@ -101,6 +108,7 @@ pub(crate) fn perform<
             PlayOutput::Picture,
             files,
             out,
+            progress,
         ),
         Request::Lint { federation, inputs } => lint(alloc, federation, inputs, files, out),
         Request::Run {
@@ -118,6 +126,7 @@ pub(crate) fn perform<
             RunOutput::Rows(format),
             files,
             out,
+            progress,
         ),
         Request::Record {
             federation,
@@ -133,6 +142,7 @@ pub(crate) fn perform<
             RunOutput::Steps,
             files,
             out,
+            progress,
         ),
     }
 }
@@ -144,6 +154,7 @@ pub(crate) fn run<
     R: Threads + Wait + Clock + Net<Stream = TcpStream, Listener = TcpListener> + Sync,
     F: Files,
     O: Write,
+    P: Progress + Sync,
 >(
     rt: &R,
     alloc: Global,
@@ -153,20 +164,21 @@ pub(crate) fn run<
     output: RunOutput,
     files: &mut F,
     out: &mut O,
+    progress: &P,
 ) -> Result<(), Fault<'a, NodeFault>>
     ensures ok { OnOk result (PrintsRun output (F.contents files.old) federation.entry inputs.entry (O.contents out.old) (O.contents out.new)) }
     ensures stands { IfErr result (IsFaultOfRun (F.contents files.old) (Answers (F.answers files.old) (F.answers files.new)) (O.contents out.old) (O.contents out.new) federation.entry inputs.entry) }
     ensures untouched { IfErr result (λ fault. status_of fault ≢ 3 → out.new ≡ out.old) }
 {
     match read_sources(alloc, federation, inputs, files) {
-        Ok(sources) => print_run(rt, alloc, &sources, terms, output, out),
+        Ok(sources) => print_run(rt, alloc, &sources, terms, output, out, progress),
         Err(fault) => Err(fault),
     }
 }
 
 /// Prints what is asked for of a schedule, played over the federation's world.
 #[tactic(auto, using(fedrun_files::proofs::InTurn::answered_in_turn))]
-pub(crate) fn play<'a, F: Files, O: Write>(
+pub(crate) fn play<'a, F: Files, O: Write, P: Progress>(
     alloc: Global,
     federation: &'a str,
     inputs: &'a str,
@@ -175,6 +187,7 @@ pub(crate) fn play<'a, F: Files, O: Write>(
     output: PlayOutput,
     files: &mut F,
     out: &mut O,
+    progress: &P,
 ) -> Result<(), Fault<'a, NodeFault>>
     ensures ok { OnOk result (PrintsPlayed output (F.contents files.old) federation.entry inputs.entry schedule.entry until_stuck (O.contents out.old) (O.contents out.new)) }
     ensures stands { IfErr result (IsFaultOfPlay output (F.contents files.old) (Answers (F.answers files.old) (F.answers files.new)) (O.contents out.old) (O.contents out.new) federation.entry inputs.entry schedule.entry until_stuck) }
@@ -185,7 +198,7 @@ pub(crate) fn play<'a, F: Files, O: Write>(
         Err(fault) => return Err(fault),
     };
     match read_schedule(alloc, schedule, &sources.plan, files) {
-        Ok(script) => print_played(alloc, &sources, &script, until_stuck, output, out),
+        Ok(script) => print_played(alloc, &sources, &script, until_stuck, output, out, progress),
         Err(fault) => Err(fault),
     }
 }

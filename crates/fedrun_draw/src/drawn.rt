@@ -9,6 +9,7 @@ use crate::fault::{DrawFault, MOST_FRAMES, MOST_STEPS};
 use crate::playing::history_of;
 use crate::reading::figures_of;
 use fedrun_pictures::{History, Picture, federation_picture, schedule_picture, write_picture};
+use fedrun_progress::NoProgress;
 use fedrun_replay::{Player, ReplayFault};
 use fedrun_script::Script;
 use plan::{Inputs, Plan};
@@ -123,7 +124,7 @@ fn play(player: &mut Player<'_>, script: &Script, closing: Option<u32>) -> Resul
     ensures err { IfErr result IsInterrupted }
 {
     let mut out = sink();
-    match player.play_on(&mut out, script, closing) {
+    match player.play_on(&mut out, script, closing, &NoProgress) {
         Ok(()) => Ok(()),
         Err(ReplayFault::World(_)) => Err(DrawFault::Memory),
         Err(ReplayFault::CannotWrite) => Err(DrawFault::CannotWrite),

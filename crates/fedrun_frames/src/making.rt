@@ -7,6 +7,7 @@ ghost use Rattle.fedrun_frames.specs.Making.{ListsTasks, ListsLines, ListsRounds
 ghost use Rattle.fedrun_frames.specs.Shown.{AreStepsOf};
 
 use crate::made_step::MadeStep;
+use fedrun_progress::NoProgress;
 use fedrun_replay::{Player, ReplayFault};
 use fedrun_script::{ScheduleLine, Script};
 use plan::{Inputs, Plan};
@@ -95,7 +96,7 @@ fn make_closing_rounds(
 {
     let before = player.world().steps().len();
     let mut unread = sink();
-    player.close(&mut unread, line, most)?;
+    player.close(&mut unread, line, most, &NoProgress)?;
     match list(made, line, player.world().steps(), before) {
         Ok(()) => Ok(()),
         Err(memory) => Err(ReplayFault::World(memory)),

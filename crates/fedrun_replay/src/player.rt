@@ -9,6 +9,7 @@ ghost use Rattle.fedrun_replay.specs.Closing.{IsClosing, IsPlaying};
 
 use crate::cursors::Cursors;
 use crate::fault::ReplayFault;
+use fedrun_progress::Progress;
 use fedrun_script::{Command, ScheduleLine, Script};
 use plan::{Inputs, Plan};
 use reactor_programs::Programs;
@@ -58,37 +59,45 @@ impl<'a> Player<'a> {
     }
 
     /// Does what a schedule asks for; then closing rounds, for the line after its last, where they are asked for.
-    pub fn play_on<W: Write>(
+    pub fn play_on<W: Write, P: Progress>(
         &mut self,
         out: &mut W,
         script: &Script,
         closing: Option<u32>,
+        progress: &P,
     ) -> Result<(), ReplayFault>
         ensures { IsPlaying result script.now closing self.old self.new (W.contents out.old) (W.contents out.new) }
     {
-        self.play(out, script.lines())?;
+        self.play(out, script.lines(), progress)?;
         match closing {
-            Some(most) => self.close(out, script.line_after(), most),
+            Some(most) => self.close(out, script.line_after(), most, progress),
             None => Ok(()),
         }
     }
 
     // Does what the lines of a schedule ask for, one after the other.
-    fn play<W: Write>(&mut self, out: &mut W, lines: &[ScheduleLine]) -> Result<(), ReplayFault>
+    fn play<W: Write, P: Progress>(
+        &mut self,
+        out: &mut W,
+        lines: &[ScheduleLine],
+        progress: &P,
+    ) -> Result<(), ReplayFault>
         ensures { HasPlayed result (made_by (count_in self.old) lines.now (playing_of self.old)) (after_lines (count_in self.old) lines.now (playing_of self.old)) self.old self.new (W.contents out.old) (W.contents out.new) }
     {
         for line in lines {
             self.obey(out, *line)?;
+            progress.steps(self.world.steps().len());
         }
         Ok(())
     }
 
     /// Makes closing rounds for a line until the world is stuck, or so many were made.
-    pub fn close<W: Write>(
+    pub fn close<W: Write, P: Progress>(
         &mut self,
         out: &mut W,
         line: usize,
         most: u32,
+        progress: &P,
     ) -> Result<(), ReplayFault>
         ensures { IsClosing result line most self.old self.new (W.contents out.old) (W.contents out.new) }
     {
@@ -97,6 +106,7 @@ impl<'a> Player<'a> {
                 return Ok(());
             }
             self.closing_round(out, line)?;
+            progress.steps(self.world.steps().len());
         }
         Ok(())
     }

@@ -7,6 +7,7 @@ ghost use Rattle.fedrun_replay.specs.AsCsv.{IsReplayedAsCsv, IsUnprinted, IsRepl
 use crate::ending::{write_csv_histories, write_end};
 use crate::fault::ReplayFault;
 use crate::player::Player;
+use fedrun_progress::Progress;
 use fedrun_script::Script;
 use fedrun_text::RowFormat;
 use plan::{Inputs, Plan};
@@ -19,7 +20,7 @@ use std::io::Write;
 /// then, with `closing`, makes closing rounds until the world is stuck or so many were made, and prints which of both; then each
 /// federate's history, and the end. Where nobody forgets by the schedule and `closing` is enough (`specs/Enough`), the world ends
 /// stuck, and every row is printed. The caller flushes.
-pub fn replay<W: Write>(
+pub fn replay<W: Write, P: Progress>(
     alloc: Global,
     out: &mut W,
     plan: &Plan,
@@ -27,6 +28,7 @@ pub fn replay<W: Write>(
     inputs: &Inputs,
     script: &Script,
     closing: Option<u32>,
+    progress: &P,
 ) -> Result<(), ReplayFault>
     requires programs { AreProgramsOf plan.now programs.now }
     requires inputs { AreInputsOf plan.now inputs.now }
@@ -38,14 +40,14 @@ pub fn replay<W: Write>(
         Ok(player) => player,
         Err(memory) => return Err(ReplayFault::World(memory)),
     };
-    player.play_on(out, script, closing)?;
+    player.play_on(out, script, closing, progress)?;
     player.world().invariant();
     write_end(out, plan, player.world(), closing).map_err(|_| ReplayFault::CannotWrite)
 }
 
 /// As `replay`; as comma-separated values the rows alone are printed, under their header: no refused step, how closing rounds ended
 /// neither, nor who forgot. Out of memory for a step nothing is then printed.
-pub fn replay_in<W: Write>(
+pub fn replay_in<W: Write, P: Progress>(
     alloc: Global,
     out: &mut W,
     plan: &Plan,
@@ -54,6 +56,7 @@ pub fn replay_in<W: Write>(
     script: &Script,
     closing: Option<u32>,
     format: RowFormat,
+    progress: &P,
 ) -> Result<(), ReplayFault>
     requires programs { AreProgramsOf plan.now programs.now }
     requires inputs { AreInputsOf plan.now inputs.now }
@@ -61,13 +64,17 @@ pub fn replay_in<W: Write>(
     ensures broken_off { IfErr result (IsBrokenOffIn format plan.now programs.now inputs.now script.now closing (W.contents out.old) (W.contents out.new)) }
 {
     match format {
-        RowFormat::Text => replay(alloc, out, plan, programs, inputs, script, closing),
-        RowFormat::Csv => replay_as_csv(alloc, out, plan, programs, inputs, script, closing),
+        RowFormat::Text => replay(
+            alloc, out, plan, programs, inputs, script, closing, progress,
+        ),
+        RowFormat::Csv => replay_as_csv(
+            alloc, out, plan, programs, inputs, script, closing, progress,
+        ),
     }
 }
 
 /// Plays a schedule and makes closing rounds as `replay` does, and then prints the rows of each federate that kept its state.
-fn replay_as_csv<W: Write>(
+fn replay_as_csv<W: Write, P: Progress>(
     alloc: Global,
     out: &mut W,
     plan: &Plan,
@@ -75,6 +82,7 @@ fn replay_as_csv<W: Write>(
     inputs: &Inputs,
     script: &Script,
     closing: Option<u32>,
+    progress: &P,
 ) -> Result<(), ReplayFault>
     requires programs { AreProgramsOf plan.now programs.now }
     requires inputs { AreInputsOf plan.now inputs.now }
@@ -87,7 +95,7 @@ fn replay_as_csv<W: Write>(
         Err(memory) => return Err(ReplayFault::World(memory)),
     };
     let mut unseen = io::sink();
-    player.play_on(&mut unseen, script, closing)?;
+    player.play_on(&mut unseen, script, closing, progress)?;
     player.world().invariant();
     write_csv_histories(out, plan, player.world()).map_err(|_| ReplayFault::CannotWrite)
 }

@@ -12,6 +12,7 @@ use crate::watching::watch;
 use crate::{AuditedFault, RunOutput, coordinator_desk, federate_desks, print_audited};
 use coordinator::Coordinator;
 use federate::Federate;
+use fedrun_progress::Progress;
 use node::Node;
 use plan::{Inputs, Plan};
 use reactor_programs::Programs;
@@ -32,6 +33,7 @@ use wires_workers::NoGate;
 pub fn print_audited_run<
     R: Threads + Wait + Clock + Net<Stream = TcpStream, Listener = TcpListener> + Sync,
     O: Write,
+    P: Progress + Sync,
 >(
     rt: &R,
     alloc: Global,
@@ -41,6 +43,7 @@ pub fn print_audited_run<
     terms: Terms,
     output: RunOutput,
     out: &mut O,
+    progress: &P,
 ) -> Result<(), AuditedFault>
     requires programs { AreProgramsOf plan.now programs.now }
     requires inputs { AreInputsOf plan.now inputs.now }
@@ -48,13 +51,15 @@ pub fn print_audited_run<
     ensures fault { IfErr result (IsAuditedFault plan.now programs.now inputs.now) }
     ensures untouched { IfErr result (λ fault. fault ≢ AuditedFault.CannotWrite → O.contents out.new ≡ O.contents out.old) }
 {
+    progress.until(plan.stop_time());
     let Ok(audit) = IncrementalAudit::new(alloc, plan, programs, inputs) else {
         return Err(AuditedFault::Memory);
     };
     let Ok(nodes) = nodes_of(alloc, plan, programs, inputs) else {
         return Err(AuditedFault::Memory);
     };
-    let (audit, node_reports) = run_and_ask(rt, alloc, plan, nodes, audit, terms);
+    let (audit, node_reports) = run_and_ask(rt, alloc, plan, nodes, audit, terms, progress);
+    progress.end();
     let node_reports = node_reports?;
     print_audited(
         alloc,
@@ -73,6 +78,7 @@ fn run_and_ask<
     R: Threads + Wait + Clock + Net<Stream = TcpStream, Listener = TcpListener> + Sync,
     H: Node + Send,
     M: Reporting + Send,
+    P: Progress + Sync,
 >(
     rt: &R,
     alloc: Global,
@@ -80,13 +86,14 @@ fn run_and_ask<
     nodes: Nodes<H, M>,
     audit: IncrementalAudit<'a>,
     terms: Terms,
+    progress: &P,
 ) -> (IncrementalAudit<'a>, Result<NodeReports<'a>, AuditedFault>)
     requires each { length nodes.federates.items ≡ federate_count plan.now }
     ensures audit { result.0 ≡ audit.entry }
     ensures reported { IfOk result.1 (λ said. (left : List (Option IsLeft)) × AreReported H.core H.HUB M.core M.HUB M.tells left said.reports.reports said.coordinator.items) }
     ensures fault { IfErr result.1 IsOfTheRun }
 {
-    let (audit, results) = run_watched(rt, alloc, &nodes, audit, terms);
+    let (audit, results) = run_watched(rt, alloc, &nodes, audit, terms, progress);
     take_apart(rt, alloc, plan, nodes, results, audit)
 }
 
@@ -96,12 +103,14 @@ fn run_watched<
     R: Threads + Wait + Clock + Net<Stream = TcpStream, Listener = TcpListener> + Sync,
     H: Node + Send,
     M: Node + Send,
+    P: Progress + Sync,
 >(
     rt: &R,
     alloc: Global,
     nodes: &Nodes<H, M>,
     audit: IncrementalAudit<'a>,
     terms: Terms,
+    progress: &P,
 ) -> (
     IncrementalAudit<'a>,
     Result<Vec<Option<WorkerResult>>, RunFault>,
@@ -112,7 +121,7 @@ fn run_watched<
         rt,
         ||
             ensures { result ≡ audit.entry }
-        { watch(rt, alloc, nodes, audit) },
+        { watch(rt, alloc, nodes, audit, progress) },
         || run_over_tcp(rt, alloc, nodes, &NoGate, terms),
     )
 }

@@ -2,8 +2,10 @@
 ghost use Rattle.std.specs.Prelude.{◌≡◌};
 
 use desk::Shared;
+use fedrun_progress::Progress;
 use node::{Event, Node, NodeId};
 use recorder::IncrementalAudit;
+use signal::{Frame, Signal};
 use std::alloc::Global;
 use std::sync::Wait;
 use std::thread;
@@ -16,11 +18,12 @@ const AT_ONCE: usize = 16_384;
 
 // Reads what the nodes write down, and makes steps for it; when the run is to end, it only reads what is left. Nothing rests on
 // how much of it is read.
-pub(crate) fn watch<'a, R: Wait + Clock, H: Node, M: Node>(
+pub(crate) fn watch<'a, R: Wait + Clock, H: Node, M: Node, P: Progress>(
     rt: &R,
     alloc: Global,
     nodes: &Nodes<H, M>,
     mut audit: IncrementalAudit<'a>,
+    progress: &P,
 ) -> IncrementalAudit<'a>
     ensures { result ≡ audit.entry }
 {
@@ -30,7 +33,7 @@ pub(crate) fn watch<'a, R: Wait + Clock, H: Node, M: Node>(
             break;
         }
         let is_ending = nodes.ending.is_set();
-        let is_new = look(rt, nodes, &mut audit, &mut events);
+        let is_new = look(rt, nodes, &mut audit, &mut events, progress);
         if !is_ending {
             if is_new {
                 audit.go_on(alloc);
@@ -45,15 +48,17 @@ pub(crate) fn watch<'a, R: Wait + Clock, H: Node, M: Node>(
 }
 
 // Takes in what the nodes wrote down since; whether that is anything.
-fn look<R: Wait, H: Node, M: Node>(
+fn look<R: Wait, H: Node, M: Node, P: Progress>(
     rt: &R,
     nodes: &Nodes<H, M>,
     audit: &mut IncrementalAudit<'_>,
     events: &mut Vec<Event>,
+    progress: &P,
 ) -> bool
     ensures { audit.new ≡ audit.old }
 {
     let mut is_new = take(rt, &nodes.coordinator, NodeId::Coordinator, audit, events);
+    tell(events, progress);
     for (number, federate) in nodes.federates.iter().enumerate() {
         if take(rt, federate, NodeId::Federate(number), audit, events) {
             is_new = true;
@@ -75,4 +80,20 @@ fn take<N: Node, R: Wait>(
     events.clear();
     let copied = shared.copy_events(rt, audit.known(node), AT_ONCE, events);
     copied.is_ok() && !events.is_empty() && audit.add(node, events).is_ok()
+}
+
+// Tells how many rows federates have completed by what the coordinator hears. One that is heard of twice counts twice.
+fn tell<P: Progress>(events: &[Event], progress: &P) {
+    for event in events {
+        if let Event::Frame(
+            _,
+            Frame::Data {
+                signal: Signal::Ltc(tag),
+                ..
+            },
+        ) = event
+        {
+            progress.rows(1, tag.tag());
+        }
+    }
 }

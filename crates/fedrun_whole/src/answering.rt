@@ -9,6 +9,7 @@ ghost use Rattle.fedrun_whole.specs.Refused.{StandsAlone};
 use crate::requests::perform;
 use fedrun_fault::{Answered, NoSuchCommand, refuse};
 use fedrun_files::Files;
+use fedrun_progress::Progress;
 use std::alloc::Global;
 use std::io::Write;
 
@@ -16,12 +17,13 @@ use std::io::Write;
 /// is refused or can't be read, 2 where the words are no command of the program, 3 where it couldn't finish. What it has to say
 /// of a failure is one line to `err`: what `err` gains is a prefix of that line, and `answer` says whether it is all of it; what
 /// `err` refuses changes nothing else.
-pub fn command<F: Files, O: Write, E: Write>(
+pub fn command<F: Files, O: Write, E: Write, P: Progress>(
     alloc: Global,
     words: &[String],
     files: &mut F,
     out: &mut O,
     err: &mut E,
+    progress: &P,
 ) -> u8
     ensures done { result ≡ 0 → PrintsAlone (F.contents files.old) (O.contents out.old) (O.contents out.new) }
     ensures quiet { result ≡ 0 → err.new ≡ err.old }
@@ -30,16 +32,17 @@ pub fn command<F: Files, O: Write, E: Write>(
     ensures unused { result ≡ 2 → out.new ≡ out.old }
     ensures statuses { result ≤ 3 }
 {
-    answer(alloc, words, files, out, err).status
+    answer(alloc, words, files, out, err, progress).status
 }
 
 /// As `command`; the answer says too whether the line of its fault could be written.
-pub fn answer<F: Files, O: Write, E: Write>(
+pub fn answer<F: Files, O: Write, E: Write, P: Progress>(
     alloc: Global,
     words: &[String],
     files: &mut F,
     out: &mut O,
     err: &mut E,
+    progress: &P,
 ) -> Answered
     ensures done { result.status ≡ 0 → PrintsAlone (F.contents files.old) (O.contents out.old) (O.contents out.new) }
     ensures quiet { result.status ≡ 0 → err.new ≡ err.old }
@@ -48,7 +51,9 @@ pub fn answer<F: Files, O: Write, E: Write>(
     ensures unused { result.status ≡ 2 → out.new ≡ out.old }
     ensures statuses { result.status ≤ 3 }
 {
-    match perform(alloc, words, files, out) {
+    let done = perform(alloc, words, files, out, progress);
+    progress.end();
+    match done {
         Ok(()) => Answered {
             status: 0,
             is_printed: false,

@@ -10,6 +10,7 @@ use crate::printing::print_plan;
 use crate::turns::print_turns;
 use fedrun_fault::{Fault, MoreFault, NoSuchCommand};
 use fedrun_files::{Files, read_federation, read_sources};
+use fedrun_progress::Progress;
 use fedrun_text::RowFormat;
 use fedrun_words::{Request, read_words};
 use std::alloc::Global;
@@ -17,11 +18,12 @@ use std::io::Write;
 
 /// Does what the words ask for, where the program has no more commands.
 #[tactic(auto, using(fedrun_files::proofs::InTurn::none_answered))]
-pub(crate) fn perform<'a, F: Files, O: Write>(
+pub(crate) fn perform<'a, F: Files, O: Write, P: Progress>(
     alloc: Global,
     words: &'a [String],
     files: &mut F,
     out: &mut O,
+    progress: &P,
 ) -> Result<(), Fault<'a, NoSuchCommand>>
     ensures ok { OnOk result (PrintsAlone (F.contents files.old) (O.contents out.old) (O.contents out.new)) }
     ensures stands { IfErr result (StandsAlone (F.contents files.old) (Answers (F.answers files.old) (F.answers files.new)) (O.contents out.old) (O.contents out.new)) }
@@ -37,14 +39,16 @@ pub(crate) fn perform<'a, F: Files, O: Write>(
             inputs,
             turns,
             format,
-        } => whole(alloc, federation, inputs, turns, format, files, out),
+        } => whole(
+            alloc, federation, inputs, turns, format, files, out, progress,
+        ),
         Request::Check { federation } => check(alloc, federation, files, out),
         _ => Err(Fault::More(NoSuchCommand)),
     }
 }
 
 /// Prints the rows of the undivided program after at most so many turns, in this format.
-pub fn whole<'a, M: MoreFault, F: Files, O: Write>(
+pub fn whole<'a, M: MoreFault, F: Files, O: Write, P: Progress>(
     alloc: Global,
     federation: &'a str,
     inputs: &'a str,
@@ -52,6 +56,7 @@ pub fn whole<'a, M: MoreFault, F: Files, O: Write>(
     format: RowFormat,
     files: &mut F,
     out: &mut O,
+    progress: &P,
 ) -> Result<(), Fault<'a, M>>
     ensures ok { OnOk result (PrintsWhole (F.contents files.old) federation.entry.now inputs.entry.now turns format (O.contents out.old) (O.contents out.new)) }
     ensures stands { IfErr result (IsWholeFault (F.contents files.old) (Answers (F.answers files.old) (F.answers files.new)) (O.contents out.old) (O.contents out.new) federation.entry inputs.entry turns format) }
@@ -66,6 +71,7 @@ pub fn whole<'a, M: MoreFault, F: Files, O: Write>(
             turns,
             format,
             out,
+            progress,
         ),
         Err(fault) => Err(fault),
     }

@@ -9,8 +9,10 @@ ghost use Rattle.fedrun_whole.specs.PrintedTurns.{PrintsRows, PrintsFirstRows, I
 ghost use Rattle.fedrun_whole.specs.Refused.{IsTurnsFault};
 
 use fedrun_fault::{Fault, MoreFault};
+use fedrun_progress::Progress;
 use fedrun_text::{CannotWrite, RowFormat, write_heading, write_rows};
 use plan::{Inputs, Plan};
+use reactor::Rows;
 use reactor_programs::Programs;
 use std::alloc::Global;
 use std::io::Write;
@@ -21,7 +23,7 @@ const TURNS_AT_ONCE: u32 = 1024;
 
 /// Prints the rows of the undivided program after at most so many turns, in this format, as they are made. Where there is no
 /// memory for a turn, the rows before it are written.
-pub fn print_turns<M: MoreFault, O: Write>(
+pub fn print_turns<M: MoreFault, O: Write, P: Progress>(
     alloc: Global,
     plan: &Plan,
     programs: &Programs,
@@ -29,6 +31,7 @@ pub fn print_turns<M: MoreFault, O: Write>(
     turns: u32,
     format: RowFormat,
     out: &mut O,
+    progress: &P,
 ) -> Result<(), Fault<'static, M>>
     requires programs { AreProgramsOf plan.now programs.now }
     requires inputs { AreInputsOf plan.now inputs.now }
@@ -36,7 +39,8 @@ pub fn print_turns<M: MoreFault, O: Write>(
     ensures stands { IfErr result (IsTurnsFault plan.now programs.now inputs.now turns format (O.contents out.old) (O.contents out.new)) }
     ensures late { IfErr result (λ fault. status_of M.status_of fault ≡ 3) }
 {
-    let Ok(turned) = print_all(alloc, plan, programs, inputs, turns, format, out) else {
+    progress.until(plan.stop_time());
+    let Ok(turned) = print_all(alloc, plan, programs, inputs, turns, format, out, progress) else {
         return Err(Fault::CannotWrite);
     };
     if out.flush().is_err() {
@@ -49,7 +53,7 @@ pub fn print_turns<M: MoreFault, O: Write>(
 }
 
 /// Makes at most so many turns, or as many as there is memory for, and prints their rows under their heading.
-fn print_all<O: Write>(
+fn print_all<O: Write, P: Progress>(
     alloc: Global,
     plan: &Plan,
     programs: &Programs,
@@ -57,6 +61,7 @@ fn print_all<O: Write>(
     turns: u32,
     format: RowFormat,
     out: &mut O,
+    progress: &P,
 ) -> Result<Result<(), reactor::Memory>, CannotWrite>
     requires programs { AreProgramsOf plan.now programs.now }
     requires inputs { AreInputsOf plan.now inputs.now }
@@ -65,18 +70,19 @@ fn print_all<O: Write>(
 {
     write_heading(out, format)?;
     match Whole::new(alloc, plan, programs, inputs) {
-        Ok(mut program) => print_in_batches(&mut program, plan, turns, format, out),
+        Ok(mut program) => print_in_batches(&mut program, plan, turns, format, out, progress),
         Err(memory) => Ok(Err(memory)),
     }
 }
 
 /// Makes at most so many turns, or as many as there is memory for, and prints their rows, for which the heading is written.
-fn print_in_batches<O: Write>(
+fn print_in_batches<O: Write, P: Progress>(
     program: &mut Whole<'_>,
     plan: &Plan,
     turns: u32,
     format: RowFormat,
     out: &mut O,
+    progress: &P,
 ) -> Result<Result<(), reactor::Memory>, CannotWrite>
     requires draft { program.old.draft ≡ plan.now }
     requires none_made { program.old.turns ≡ 0 }
@@ -87,7 +93,7 @@ fn print_in_batches<O: Write>(
     let mut left = turns;
     while left > 0 {
         let most = left.min(TURNS_AT_ONCE);
-        match print_batch(program, plan, most, format, out)? {
+        match print_batch(program, plan, most, format, out, progress)? {
             Ok(made) if made == most => left -= made,
             Ok(_) => return Ok(Ok(())),
             Err(memory) => return Ok(Err(memory)),
@@ -97,12 +103,13 @@ fn print_in_batches<O: Write>(
 }
 
 /// Makes at most so many turns, prints their rows, and lets go of them.
-fn print_batch<O: Write>(
+fn print_batch<O: Write, P: Progress>(
     program: &mut Whole<'_>,
     plan: &Plan,
     most: u32,
     format: RowFormat,
     out: &mut O,
+    progress: &P,
 ) -> Result<Result<u32, reactor::Memory>, CannotWrite>
     requires { program.old.draft ≡ plan.now }
     ensures printed { OnOk result ((before : Option (List ℕ)) → IsPrinted program.old format before (O.contents out.old) → IsPrinted program.new format before (O.contents out.new)) }
@@ -111,6 +118,14 @@ fn print_batch<O: Write>(
 {
     let turned = program.turns(most);
     write_rows(out, plan, program.rows(), format)?;
+    tell(program.rows(), progress);
     program.discard();
     Ok(turned)
+}
+
+/// Tells that these rows are made.
+fn tell<P: Progress>(rows: &Rows, progress: &P) {
+    if let Some(last) = rows.len().checked_sub(1) {
+        progress.rows(rows.len(), rows.row(last).tag());
+    }
 }

@@ -46,7 +46,7 @@ const SUBCOMMANDS: [Subcommand; 8] = [
         arguments: &["FED", "IN", "TURNS"],
         may_follow: &[],
         options: &[],
-        flags: &["csv"],
+        flags: &["csv", "progress"],
     },
     Subcommand {
         kind: CommandKind::Check,
@@ -62,7 +62,7 @@ const SUBCOMMANDS: [Subcommand; 8] = [
         arguments: &["FED", "IN", "SCHEDULE"],
         may_follow: &[],
         options: &["until-stuck"],
-        flags: &["csv"],
+        flags: &["csv", "progress"],
     },
     Subcommand {
         kind: CommandKind::Run,
@@ -70,7 +70,7 @@ const SUBCOMMANDS: [Subcommand; 8] = [
         arguments: &["FED", "IN"],
         may_follow: &[],
         options: &["turns", "frames"],
-        flags: &["csv"],
+        flags: &["csv", "progress"],
     },
     Subcommand {
         kind: CommandKind::Record,
@@ -78,7 +78,7 @@ const SUBCOMMANDS: [Subcommand; 8] = [
         arguments: &["FED", "IN"],
         may_follow: &[],
         options: &["turns", "frames"],
-        flags: &[],
+        flags: &["progress"],
     },
     Subcommand {
         kind: CommandKind::Frames,

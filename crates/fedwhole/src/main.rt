@@ -1,19 +1,44 @@
 //! The program `fedwhole`: `whole` and `check` alone, as `fedrun` has them. It stands on few crates, and so is proved sooner.
 //!
-//! All it does is `fedrun_whole::command`, a function over words, files and writers; `main` hands it the machine's.
+//! All it does is `fedrun_whole::command`, a function over words, files and writers; `main` hands it the machine's, and shows
+//! beside it how far it is, where that is asked for.
 #![tactic(auto)]
 
 use fedrun_fault::{Fault, NoSuchCommand, refuse};
 use fedrun_files::MachineFiles;
+use fedrun_progress::{NoProgress, ProgressLine, asks_for_progress};
 use fedrun_whole::{OUT_BYTES, command};
 use fedrun_words::{WordsFault, given_words};
-use std::io::{BufWriter, Stderr};
+use std::io::{BufWriter, Stdout};
 use std::process::ExitCode;
+use std::thread;
 
 fn main(rt: HostRuntime) -> ExitCode {
     let mut err = rt.stderr();
-    let status = match perform(&rt, &mut err) {
-        Ok(status) => status,
+    let status = match given(&rt) {
+        Ok((words, mut out)) => {
+            let words = words.as_slice();
+            let mut files = MachineFiles::new(&rt);
+            if asks_for_progress(words) {
+                let line = ProgressLine::new(&rt);
+                let mut shown = rt.stderr();
+                let (_, status) = thread::join(
+                    &rt,
+                    || line.show(rt.alloc(), &mut shown),
+                    || command(rt.alloc(), words, &mut files, &mut out, &mut err, &line),
+                );
+                status
+            } else {
+                command(
+                    rt.alloc(),
+                    words,
+                    &mut files,
+                    &mut out,
+                    &mut err,
+                    &NoProgress,
+                )
+            }
+        }
         Err(why) => {
             let fault: Fault<'_, NoSuchCommand> = Fault::of_words(why);
             refuse(&fault, &mut err).status
@@ -22,17 +47,11 @@ fn main(rt: HostRuntime) -> ExitCode {
     ExitCode::from(status)
 }
 
-/// Does what the machine's words ask for, with its output through a buffer.
-fn perform(rt: &HostRuntime, err: &mut Stderr) -> Result<u8, WordsFault> {
+/// The machine's words, and its output through a buffer.
+fn given(rt: &HostRuntime) -> Result<(Vec<String>, BufWriter<Stdout>), WordsFault> {
     let words = given_words(rt)?;
     match BufWriter::with_capacity(rt.alloc(), OUT_BYTES, rt.stdout()) {
-        Ok(mut out) => Ok(command(
-            rt.alloc(),
-            words.as_slice(),
-            &mut MachineFiles::new(rt),
-            &mut out,
-            err,
-        )),
+        Ok(out) => Ok((words, out)),
         Err(_) => Err(WordsFault::Memory),
     }
 }

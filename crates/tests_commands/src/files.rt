@@ -1,6 +1,7 @@
 //! What a command answers and writes, over files in memory.
 use fedrun_commands::command;
 use fedrun_files::{FileFault, Files};
+use fedrun_progress::{NoProgress, Progress};
 use std::alloc::Global;
 use std::net::{Net, TcpListener, TcpStream};
 use tests_samples::Machine;
@@ -56,6 +57,14 @@ pub fn outcome_of<R: Machine + Net<Stream = TcpStream, Listener = TcpListener>>(
     words: &[&str],
     texts: Texts,
 ) -> Option<Outcome> {
+    outcome_told(rt, words, texts, &NoProgress)
+}
+
+/// What the words give over these files, told how far they are; None where there is no memory.
+pub fn outcome_told<
+    R: Machine + Net<Stream = TcpStream, Listener = TcpListener>,
+    P: Progress + Sync,
+>(rt: &R, words: &[&str], texts: Texts, progress: &P) -> Option<Outcome> {
     let alloc = rt.alloc();
     let mut given = Vec::new(alloc);
     for word in words {
@@ -64,7 +73,14 @@ pub fn outcome_of<R: Machine + Net<Stream = TcpStream, Listener = TcpListener>>(
     let mut files = TextFiles { alloc, texts };
     let mut out = Vec::new(alloc);
     let mut err = Vec::new(alloc);
-    let status = command(rt, given.as_slice(), &mut files, &mut out, &mut err);
+    let status = command(
+        rt,
+        given.as_slice(),
+        &mut files,
+        &mut out,
+        &mut err,
+        progress,
+    );
     Some(Outcome {
         status,
         out: String::from_utf8(out).ok()?,

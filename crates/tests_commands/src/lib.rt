@@ -1,5 +1,6 @@
 //! Tests of the commands: of rows as comma-separated values, which `whole`, `run` and `replay` print with `--csv`, and the line of a row that
-//! has neither inputs nor outputs; of what `frames`, `draw` and `lint` answer. No program uses this crate.
+//! has neither inputs nor outputs; of what `frames`, `draw` and `lint` answer; of what is
+//! shown of how far a command is. No program uses this crate.
 #![tactic(auto)]
 
 #[cfg(test)]
@@ -10,3 +11,7 @@ mod commands;
 mod files;
 #[cfg(test)]
 mod further;
+#[cfg(test)]
+mod progress_line;
+#[cfg(test)]
+mod progress_told;

@@ -59,6 +59,15 @@ const REQUESTS: &[(&[&str], Request<'static>)] = &[
         },
     ),
     (
+        &["whole", "f", "--progress", "i", "7"],
+        Request::Whole {
+            federation: "f",
+            inputs: "i",
+            turns: 7,
+            format: RowFormat::Text,
+        },
+    ),
+    (
         &["check", "--", "--csv"],
         Request::Check {
             federation: "--csv",
@@ -99,6 +108,11 @@ const REPLAYS: &[(&[&str], Option<u32>, RowFormat)] = &[
     ),
     (&["replay", "f", "-", "s", "--csv"], None, RowFormat::Csv),
     (
+        &["replay", "f", "-", "s", "--progress"],
+        None,
+        RowFormat::Text,
+    ),
+    (
         &["replay", "--csv", "f", "-", "--until-stuck", "7", "s"],
         Some(7),
         RowFormat::Csv,
@@ -123,6 +137,12 @@ fn reads_replay(rt: HostRuntime) {
 const RUNS: &[(&[&str], u32, u8, RowFormat)] = &[
     (&["run", "f", "-"], 1_000_000, 2, RowFormat::Text),
     (&["run", "f", "-", "--turns", "0"], 0, 2, RowFormat::Text),
+    (
+        &["run", "--progress", "f", "-", "--csv"],
+        1_000_000,
+        2,
+        RowFormat::Csv,
+    ),
     (&["run", "--turns=007", "f", "-"], 7, 2, RowFormat::Text),
     (
         &["run", "f", "--turns", "4294967295", "-"],
@@ -182,6 +202,7 @@ const RECORDS: &[(&[&str], u32, u8)] = &[
     (&["record", "f", "-"], 1_000_000, 2),
     (&["record", "--turns=007", "f", "-"], 7, 2),
     (&["record", "--frames", "1", "f", "-", "--turns", "9"], 9, 1),
+    (&["record", "f", "-", "--progress"], 1_000_000, 2),
 ];
 
 #[test]
@@ -284,6 +305,9 @@ const REFUSED: &[&[&str]] = &[
     &["check", "f", "f"],
     &["check", "f", "--frames", "1"],
     &["check", "f", "--csv"],
+    &["check", "f", "--progress"],
+    &["whole", "f", "-", "4", "--progress", "--progress"],
+    &["frames", "f", "-", "s", "--progress"],
     &["run", "f", "-", "--frames"],
     &["run", "f", "-", "--frames", ""],
     &["run", "f", "-", "--frames", "0"],

@@ -1,6 +1,7 @@
 //! `whole` and `check` by themselves, which take no other command.
 use crate::outcome::{Outcome, given, shown};
 use crate::two_files::TwoFiles;
+use fedrun_progress::NoProgress;
 use fedrun_whole::command;
 use std::alloc::Global;
 use tests_samples::COUNTER;
@@ -38,7 +39,14 @@ fn answer(alloc: Global, words: &[&str]) -> Option<Outcome> {
     let mut files = TwoFiles::new(alloc, COUNTER, "");
     let mut out = Vec::new(alloc);
     let mut err = Vec::new(alloc);
-    let status = command(alloc, words.as_slice(), &mut files, &mut out, &mut err);
+    let status = command(
+        alloc,
+        words.as_slice(),
+        &mut files,
+        &mut out,
+        &mut err,
+        &NoProgress,
+    );
     Some(Outcome { status, out, err })
 }
 

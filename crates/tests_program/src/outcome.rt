@@ -2,6 +2,7 @@
 use crate::two_files::TwoFiles;
 use fedrun_commands::command;
 use fedrun_files::Files;
+use fedrun_progress::NoProgress;
 use std::alloc::Global;
 use std::net::{Net, TcpListener, TcpStream};
 use tests_samples::Machine;
@@ -54,7 +55,7 @@ pub fn outcome_over<R: Machine + Net<Stream = TcpStream, Listener = TcpListener>
     let words = given(alloc, words)?;
     let mut out = Vec::new(alloc);
     let mut err = Vec::new(alloc);
-    let status = command(rt, words.as_slice(), files, &mut out, &mut err);
+    let status = command(rt, words.as_slice(), files, &mut out, &mut err, &NoProgress);
     Some(Outcome { status, out, err })
 }
 

@@ -1,5 +1,6 @@
 //! What a replay prints.
 use crate::outcome::joined;
+use fedrun_progress::NoProgress;
 use fedrun_replay::replay;
 use fedrun_script::{Script, read_script};
 use std::alloc::Global;
@@ -62,6 +63,7 @@ fn is_replayed(
         federation.inputs(),
         script,
         closing,
+        &NoProgress,
     )
     .is_ok()
 }

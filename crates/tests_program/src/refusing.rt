@@ -1,4 +1,5 @@
 //! A writer that refuses every write.
+use fedrun_progress::NoProgress;
 use fedrun_replay::{ReplayFault, replay};
 use fedrun_script::{Script, read_script};
 use std::alloc::Global;
@@ -28,6 +29,7 @@ fn cannot_write(alloc: Global, federation: &Federation, script: &Script) -> bool
         federation.inputs(),
         script,
         None,
+        &NoProgress,
     );
     matches!(played, Err(ReplayFault::CannotWrite))
 }

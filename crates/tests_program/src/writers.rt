@@ -2,6 +2,7 @@
 use crate::outcome::{given, text};
 use crate::two_files::TwoFiles;
 use fedrun_commands::command;
+use fedrun_progress::NoProgress;
 use std::io;
 use std::io::Write;
 use std::net::{Net, TcpListener, TcpStream};
@@ -60,7 +61,7 @@ fn status<R: Machine + Net<Stream = TcpStream, Listener = TcpListener>, O: Write
 ) -> Option<u8> {
     let words = given(rt.alloc(), words)?;
     let mut files = TwoFiles::new(rt.alloc(), federation, "");
-    Some(command(rt, words.as_slice(), &mut files, out, err))
+    Some(command(rt, words.as_slice(), &mut files, out, err, &NoProgress))
 }
 
 /// A command whose rows can't be written says so.

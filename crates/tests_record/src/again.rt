@@ -1,6 +1,7 @@
 //! A run is recorded, and its record is played again, by the program's commands over files in memory.
 use fedrun_commands::command;
 use fedrun_files::{FileFault, Files};
+use fedrun_progress::NoProgress;
 use std::alloc::Global;
 use std::net::{Net, TcpListener, TcpStream};
 use tests_samples::worked_rows::{
@@ -68,7 +69,7 @@ fn outcome_of<R: Machine + Net<Stream = TcpStream, Listener = TcpListener>>(
     let words = given(alloc, words)?;
     let mut out = Vec::new(alloc);
     let mut err = Vec::new(alloc);
-    let status = command(rt, words.as_slice(), files, &mut out, &mut err);
+    let status = command(rt, words.as_slice(), files, &mut out, &mut err, &NoProgress);
     Some(Outcome {
         status,
         out: String::from_utf8(out).ok()?,

@@ -1,4 +1,5 @@
 //! A run over TCP prints its rows, federate by federate; one with too few turns prints none.
+use fedrun_progress::NoProgress;
 use fedrun_run::{AuditedFault, RunOutput, print_audited_run};
 use fedrun_text::RowFormat;
 use std::net::{Net, TcpListener, TcpStream};
@@ -23,6 +24,7 @@ fn is_unfinished<R: Machine + Net<Stream = TcpStream, Listener = TcpListener>>(
         Terms { turns, frames: 2 },
         RunOutput::Rows(RowFormat::Text),
         out,
+        &NoProgress,
     ) {
         Ok(()) => Some(false),
         Err(AuditedFault::NotFinished(_)) => Some(true),
