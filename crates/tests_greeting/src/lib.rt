@@ -1,0 +1,14 @@
+//! Tests of the greeting between machines: HMAC-SHA-256 by published examples, a greeting worked by hand, and attacks. No program
+//! uses this crate.
+#![tactic(auto)]
+
+#[cfg(test)]
+mod attacks;
+#[cfg(test)]
+mod secrets;
+#[cfg(test)]
+mod sides;
+#[cfg(test)]
+mod vectors;
+#[cfg(test)]
+mod worked;
