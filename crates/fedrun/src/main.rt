@@ -34,7 +34,7 @@ fn main(rt: HostRuntime) -> ExitCode {
             }
         }
         Err(why) => {
-            let fault: Fault<'_, NodeFault> = Fault::of_words(why);
+            let fault: Fault<'_, NodeFault<'_>> = Fault::of_words(why);
             refuse(&fault, &mut err).status
         }
     };

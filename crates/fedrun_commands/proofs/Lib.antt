@@ -9,3 +9,5 @@ pub mod Runs
 pub mod Kept
 -- where nothing was printed, or what is wrong
 pub mod Reported
+-- report files, one after the other
+pub mod TakenInTurn

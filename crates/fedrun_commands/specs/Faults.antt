@@ -1,5 +1,5 @@
 -- The program's faults: the exit status that goes with each, and how it is printed.
-use Rattle.std.specs.Prelude.{ℕ, List, codes}
+use Rattle.std.specs.Prelude.{ℕ, List, ◌++◌, codes}
 use Rattle.fedrun_fault.specs.Faults as every
 use Rattle.fedrun_fault.specs.declared.fault.Fault.{Fault}
 use Rattle.fedrun_script.specs.Faults as script
@@ -10,7 +10,8 @@ use Rattle.fedrun_draw.specs.declared.fault.DrawFault.{DrawFault}
 use Rattle.fedrun_draw.specs.declared.fault.DrawFault.TheVariants as undrawn
 use Rattle.fedrun_run.specs.AuditFailures.{printed_failure}
 use Rattle.fedrun_commands.specs.declared.fault.NodeFault.{NodeFault}
-use Rattle.fedrun_commands.specs.declared.fault.NodeFault.TheVariants.{Schedule, World, Undrawn, NotTaken, NotFinished, Unproved, Run}
+use Rattle.fedrun_reports.specs.Faults.{file_text}
+use Rattle.fedrun_commands.specs.declared.fault.NodeFault.TheVariants.{Schedule, World, Undrawn, NotTaken, ReportFile, NotFinished, Unproved, Run}
 
 -- the exit status where a picture isn't drawn: 1 where it would be too great
 abbrev pub drawing_status : DrawFault → ℕ
@@ -26,6 +27,7 @@ node_status (Schedule fault) = 1
 node_status (World memory) = 3
 node_status (Undrawn fault) = drawing_status fault
 node_status NotTaken = 1
+node_status (ReportFile name fault) = 1
 node_status NotFinished = 3
 node_status (Unproved failure) = 3
 node_status (Run memory) = 3
@@ -36,6 +38,7 @@ printed_node_fault (Schedule fault) = script.printed_fault fault
 printed_node_fault (World memory) = out_of_memory_text
 printed_node_fault (Undrawn fault) = picture.printed_fault fault
 printed_node_fault NotTaken = codes "not taken"
+printed_node_fault (ReportFile name fault) = name.now ++ codes ": " ++ file_text fault
 printed_node_fault NotFinished = codes "not finished"
 printed_node_fault (Unproved failure) = printed_failure failure
 printed_node_fault (Run memory) = memory_text

@@ -7,6 +7,8 @@ pub mod Schedules
 pub mod Played
 -- what is printed of files that are looked at
 pub mod Linted
+-- what is printed of report files that an audit proves
+pub mod ReportFiles
 -- what is printed where all went well
 pub mod Printed
 -- which fault stands where not

@@ -1,10 +1,9 @@
 -- What is printed of a schedule that was played over the world of a federation, and why it isn't.
-use Rattle.std.specs.Prelude.{◌≡◌, ℕ, ◌⊎◌, List, Option}
+use Rattle.std.specs.Prelude.{◌≡◌, ℕ, List, Option}
 use Rattle.plan.specs.declared.draft.Draft.{Draft}
 use Rattle.plan.specs.declared.input.Input.{Input}
 use Rattle.reactor_program.specs.Behaviour.{Behaviour}
 use Rattle.world_stations.specs.declared.memory.Memory as steps
-use Rattle.fedrun_text.specs.declared.row_format.RowFormat.{RowFormat}
 use Rattle.fedrun_script.specs.Scripts.{Script}
 use Rattle.fedrun_fault.specs.declared.fault.Fault.{Fault}
 use Rattle.fedrun_fault.specs.declared.fault.Fault.TheVariants.{CannotWrite, More}

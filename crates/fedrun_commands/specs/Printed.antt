@@ -16,7 +16,8 @@ use Rattle.fedrun_commands.specs.Linted.{PrintsLint}
 use Rattle.fedrun_commands.specs.Played.{IsPlayedAs}
 use Rattle.fedrun_commands.specs.Schedules.{HoldsOfSchedule}
 use Rattle.fedrun_words.specs.declared.request.Request.{Request}
-use Rattle.fedrun_words.specs.declared.request.Request.TheVariants.{Replay, Run, Record, Frames, DrawFederation, DrawSchedule, Lint}
+use Rattle.fedrun_words.specs.declared.request.Request.TheVariants.{Replay, Run, Record, Frames, DrawFederation, DrawSchedule, Lint, Audit}
+use Rattle.fedrun_commands.specs.ReportFiles.{PrintsReportFiles}
 
 -- of a run of the federation in a file, with the recorded inputs in another, this was printed: the rows that an audit proved, or the steps by
 -- which it did, as a schedule
@@ -47,6 +48,7 @@ PrintsFor contents (DrawSchedule federation inputs schedule until_stuck) before 
 PrintsFor contents (DrawFederation federation) before after = PrintsPicture (contents federation.now) before after
 PrintsFor contents (Run federation inputs turns frames format) before after = PrintsRun (Rows format) contents federation inputs before after
 PrintsFor contents (Record federation inputs turns frames) before after = PrintsRun Steps contents federation inputs before after
+PrintsFor contents (Audit federation inputs coordinator federates format) before after = PrintsReportFiles format contents federation.now inputs.now coordinator.now federates.items before after
 PrintsFor contents (Lint federation inputs) before after = PrintsLint contents federation.now inputs.now false before after
 PrintsFor contents request before after = ⊥
 

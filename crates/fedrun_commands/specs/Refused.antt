@@ -5,7 +5,7 @@ use Rattle.std.specs.Borrow.{Bor}
 use Rattle.plan.specs.declared.draft.Draft.{Draft}
 use Rattle.fedrun_script.specs.declared.fault.ScriptFault.{ScriptFault}
 use Rattle.fedrun_script.specs.declared.script.TheConstants.{MOST_BYTES}
-use Rattle.fedrun_script.specs.Scripts.{Script, IsFaultOf as IsScriptFault}
+use Rattle.fedrun_script.specs.Scripts.{IsFaultOf as IsScriptFault}
 use Rattle.fedrun_fault.specs.declared.fault.Fault.{Fault}
 use Rattle.fedrun_fault.specs.declared.fault.Fault.TheVariants.{CannotWrite, More}
 use Rattle.fedrun_files.specs.Answers.{Answer, given}
@@ -21,7 +21,8 @@ use Rattle.fedrun_run.specs.declared.audit_failure.AuditFailure.{AuditFailure}
 use Rattle.desk.specs.declared.memory.Memory as run
 use Rattle.fedrun_whole.specs.Refused as every
 use Rattle.fedrun_words.specs.declared.request.Request.{Request}
-use Rattle.fedrun_words.specs.declared.request.Request.TheVariants.{Replay, Run as RunOf, Record, Frames, DrawFederation, DrawSchedule, Lint}
+use Rattle.fedrun_words.specs.declared.request.Request.TheVariants.{Replay, Run as RunOf, Record, Frames, DrawFederation, DrawSchedule, Lint, Audit}
+use Rattle.fedrun_commands.specs.ReportFiles.{IsFaultOfReports}
 use Rattle.fedrun_commands.specs.declared.play_output.PlayOutput.{PlayOutput}
 use Rattle.fedrun_commands.specs.declared.play_output.PlayOutput.TheVariants as played
 use Rattle.fedrun_commands.specs.Linted.{IsLintFault}
@@ -92,6 +93,7 @@ IsFaultOf contents answered before after (DrawSchedule federation inputs schedul
 IsFaultOf contents answered before after (DrawFederation federation) fault = IsDrawFault contents answered before after federation fault
 IsFaultOf contents answered before after (RunOf federation inputs turns frames format) fault = IsFaultOfRun contents answered before after federation inputs fault
 IsFaultOf contents answered before after (Record federation inputs turns frames) fault = IsFaultOfRun contents answered before after federation inputs fault
+IsFaultOf contents answered before after (Audit federation inputs coordinator federates format) fault = IsFaultOfReports contents answered before after federation inputs coordinator federates.items fault
 IsFaultOf contents answered before after (Lint federation inputs) fault = IsLintFault contents answered before after federation inputs fault
 IsFaultOf contents answered before after request fault = ⊥
 

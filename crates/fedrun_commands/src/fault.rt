@@ -3,6 +3,7 @@ ghost use Rattle.fedrun_commands.specs.Faults.{drawing_status};
 
 use fedrun_draw::DrawFault;
 use fedrun_fault::MoreFault;
+use fedrun_reports::ReportFileFault;
 use fedrun_run::AuditFailure;
 use fedrun_script::ScriptFault;
 use std::fmt;
@@ -10,7 +11,7 @@ use std::fmt;
 /// Why a command of nodes isn't done: those faults that `whole` and `check` don't have. What a library answered is kept as it is,
 /// and printed as the library has it.
 #[derive(Drop)]
-pub enum NodeFault {
+pub enum NodeFault<'a> {
     /// The schedule isn't taken, and the inner fault says why. Nothing was printed.
     Schedule(ScriptFault),
     /// No memory for a step of a schedule. What was printed of the steps before it stands. The same command may be given again, with
@@ -20,16 +21,18 @@ pub enum NodeFault {
     Undrawn(DrawFault),
     /// Something is wrong in the files that were looked at. What it is was printed.
     NotTaken,
-    /// The coordinator of a run isn't finished: a runner had made its turns before, or there was no listener, or a thread couldn't
+    /// The report file of this name isn't taken, and the inner fault says why. Nothing was printed.
+    ReportFile(&'a str, ReportFileFault),
+    /// The coordinator of a run isn't finished: a federate's turns were made before, or there was no listener, or a thread couldn't
     /// be started. Nothing was printed. The same command may be given again, with more turns.
     NotFinished,
-    /// The audit doesn't believe what a run's nodes reported, and the inner failure says why. Nothing was printed.
+    /// An audit doesn't believe what a run's nodes reported, and the inner failure says why. Nothing was printed.
     Unproved(AuditFailure),
     /// No memory for a run's nodes, workers or reports. Nothing was printed. The same command may be given again.
     Run(desk::Memory),
 }
 
-impl MoreFault for NodeFault {
+impl MoreFault for NodeFault<'_> {
     ghost use Rattle.std.specs.Prelude.{refl};
     ghost use Rattle.fedrun_commands.specs.Faults.{node_status, printed_node_fault};
 
@@ -39,7 +42,7 @@ impl MoreFault for NodeFault {
 
     fn status(&self) -> u8 {
         match self {
-            NodeFault::Schedule(_) | NodeFault::NotTaken => 1,
+            NodeFault::Schedule(_) | NodeFault::NotTaken | NodeFault::ReportFile(_, _) => 1,
             NodeFault::Undrawn(fault) => drawing_status(fault),
             NodeFault::World(_)
             | NodeFault::NotFinished
@@ -51,7 +54,7 @@ impl MoreFault for NodeFault {
     ghost displayed = { λ _. refl };
 }
 
-impl fmt::Display for NodeFault {
+impl fmt::Display for NodeFault<'_> {
     ghost use Rattle.std.specs.Prelude.{Some};
     ghost use Rattle.fedrun_commands.specs.Faults.{printed_node_fault};
 
@@ -63,6 +66,7 @@ impl fmt::Display for NodeFault {
             NodeFault::World(memory) => write!(f, "{memory}"),
             NodeFault::Undrawn(fault) => write!(f, "{fault}"),
             NodeFault::NotTaken => write!(f, "not taken"),
+            NodeFault::ReportFile(name, fault) => write!(f, "{name}: {fault}"),
             NodeFault::NotFinished => write!(f, "not finished"),
             NodeFault::Unproved(failure) => write!(f, "{failure}"),
             NodeFault::Run(memory) => write!(f, "{memory}"),

@@ -2,10 +2,11 @@
 //!
 //! Promise to the layer above: with status 0, what the words ask for was printed (`specs/Printed`); with another status, a fault
 //! stands (`specs/Refused`), and it is printed on one line (`specs/Faults`). Begin with `command` in `answering.rt`, then
-//! `perform` in `requests.rt`: `whole` and `check` are those of `fedrun_whole`.
+//! `perform` and `fulfil` in `requests.rt`: `whole` and `check` are those of `fedrun_whole`.
 #![tactic(auto)]
 
 pub mod answering;
+mod auditing;
 pub mod fault;
 mod linting;
 pub mod play_output;

@@ -26,7 +26,7 @@ pub(crate) fn lint<'a, F: Files, O: Write>(
     inputs: &'a str,
     files: &mut F,
     out: &mut O,
-) -> Result<(), Fault<'a, NodeFault>>
+) -> Result<(), Fault<'a, NodeFault<'a>>>
     ensures ok { OnOk result (PrintsLint (F.contents files.old) federation.entry.now inputs.entry.now false (O.contents out.old) (O.contents out.new)) }
     ensures stands { IfErr result (IsLintFault (F.contents files.old) (Answers (F.answers files.old) (F.answers files.new)) (O.contents out.old) (O.contents out.new) federation.entry inputs.entry) }
     ensures untouched { IfErr result (λ fault. status_of fault ≡ 1 → (out.new ≡ out.old) ⊎ HasToldWrong (F.contents files.old) (O.contents out.old) (O.contents out.new)) }
@@ -51,7 +51,7 @@ fn print_lint<'a, O: Write>(
     inputs: &'a str,
     second: &Option<Vec<u8>>,
     out: &mut O,
-) -> Result<(), Fault<'a, NodeFault>>
+) -> Result<(), Fault<'a, NodeFault<'a>>>
     ensures ok { OnOk result (PrintsReport (file_of federation.now first.now) (file_of inputs.now second.now) false (O.contents out.old) (O.contents out.new)) }
     ensures stands { IfErr result (IsReportFault (file_of federation.now first.now) (file_of inputs.now second.now) (O.contents out.old) (O.contents out.new)) }
     ensures untouched { result ≡ Err (Load Memory) → out.new ≡ out.old }

@@ -41,7 +41,7 @@ pub(crate) fn print_played<O: Write, P: Progress>(
     output: PlayOutput,
     out: &mut O,
     progress: &P,
-) -> Result<(), Fault<'static, NodeFault>>
+) -> Result<(), Fault<'static, NodeFault<'static>>>
     requires programs { AreProgramsOf sources.now.plan sources.now.programs }
     requires inputs { AreInputsOf sources.now.plan sources.now.inputs }
     ensures ok { OnOk result (IsPlayedAs output sources.now.plan sources.now.programs sources.now.inputs script.now until_stuck (O.contents out.old) (O.contents out.new)) }
@@ -73,7 +73,7 @@ fn print_replay<O: Write, P: Progress>(
     format: RowFormat,
     out: &mut O,
     progress: &P,
-) -> Result<(), Fault<'static, NodeFault>>
+) -> Result<(), Fault<'static, NodeFault<'static>>>
     requires programs { AreProgramsOf sources.now.plan sources.now.programs }
     requires inputs { AreInputsOf sources.now.plan sources.now.inputs }
     ensures ok { OnOk result (IsReplayedIn format sources.now.plan sources.now.programs sources.now.inputs script.now until_stuck (O.contents out.old) (O.contents out.new)) }
@@ -107,7 +107,7 @@ fn print_frames<O: Write>(
     script: &Script,
     until_stuck: Option<u32>,
     out: &mut O,
-) -> Result<(), Fault<'static, NodeFault>>
+) -> Result<(), Fault<'static, NodeFault<'static>>>
     requires programs { AreProgramsOf sources.now.plan sources.now.programs }
     requires inputs { AreInputsOf sources.now.plan sources.now.inputs }
     ensures ok { OnOk result (ShowsSchedule sources.now.plan sources.now.programs sources.now.inputs script.now until_stuck (O.contents out.old) (O.contents out.new)) }
@@ -139,7 +139,7 @@ fn print_schedule_picture<O: Write>(
     script: &Script,
     until_stuck: Option<u32>,
     out: &mut O,
-) -> Result<(), Fault<'static, NodeFault>>
+) -> Result<(), Fault<'static, NodeFault<'static>>>
     requires programs { AreProgramsOf sources.now.plan sources.now.programs }
     requires inputs { AreInputsOf sources.now.plan sources.now.inputs }
     ensures ok { OnOk result (IsDrawn sources.now.plan sources.now.programs sources.now.inputs script.now until_stuck (O.contents out.old) (O.contents out.new)) }
@@ -166,7 +166,7 @@ pub(crate) fn print_federation_picture<O: Write>(
     alloc: Global,
     plan: &Plan,
     out: &mut O,
-) -> Result<(), Fault<'static, NodeFault>>
+) -> Result<(), Fault<'static, NodeFault<'static>>>
     ensures ok { OnOk result (HasPicture (O.contents out.old) (O.contents out.new)) }
     ensures stands { IfErr result (IsPictureFault (O.contents out.old) (O.contents out.new)) }
     ensures untouched { IfErr result (λ fault. status_of fault ≢ 3 → out.new ≡ out.old) }
@@ -191,7 +191,7 @@ pub(crate) fn print_run<
     output: RunOutput,
     out: &mut O,
     progress: &P,
-) -> Result<(), Fault<'static, NodeFault>>
+) -> Result<(), Fault<'static, NodeFault<'static>>>
     requires programs { AreProgramsOf sources.now.plan sources.now.programs }
     requires inputs { AreInputsOf sources.now.plan sources.now.inputs }
     ensures ok { OnOk result (PrintsAudited output sources.now.plan sources.now.programs sources.now.inputs (O.contents out.old) (O.contents out.new)) }
@@ -218,7 +218,7 @@ pub(crate) fn print_run<
 }
 
 /// Sends on what was written.
-fn flush<O: Write>(out: &mut O) -> Result<(), Fault<'static, NodeFault>>
+pub(crate) fn flush<O: Write>(out: &mut O) -> Result<(), Fault<'static, NodeFault<'static>>>
     ensures kept { Keeps (O.contents out.old) (O.contents out.new) }
     ensures err { IfErr result (λ fault. fault ≡ cannot_write) }
 {

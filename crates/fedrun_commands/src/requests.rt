@@ -6,6 +6,7 @@ ghost use Rattle.fedrun_commands.specs.Linted.{HasToldWrong};
 ghost use Rattle.fedrun_commands.specs.Printed.{PrintsPicture, PrintsPlayed, PrintsRun, PrintsAnswer};
 ghost use Rattle.fedrun_commands.specs.Refused.{IsDrawFault, IsFaultOfPlay, IsFaultOfRun, Stands};
 
+use crate::auditing::audit;
 use crate::fault::NodeFault;
 use crate::linting::lint;
 use crate::play_output::PlayOutput;
@@ -40,17 +41,40 @@ pub(crate) fn perform<
     files: &mut F,
     out: &mut O,
     progress: &P,
-) -> Result<(), Fault<'a, NodeFault>>
+) -> Result<(), Fault<'a, NodeFault<'a>>>
     ensures ok { OnOk result (PrintsAnswer (F.contents files.old) (O.contents out.old) (O.contents out.new)) }
     ensures stands { IfErr result (Stands (F.contents files.old) (Answers (F.answers files.old) (F.answers files.new)) (O.contents out.old) (O.contents out.new)) }
     ensures untouched { IfErr result (λ fault. status_of fault ≡ 1 → (out.new ≡ out.old) ⊎ HasToldWrong (F.contents files.old) (O.contents out.old) (O.contents out.new)) }
     ensures unused { IfErr result (λ fault. status_of fault ≡ 2 → out.new ≡ out.old) }
 {
-    let request = match read_words(alloc, words) {
-        Ok(request) => request,
-        Err(why) => return Err(Fault::of_words(why)),
-    };
-    match request {
+    match read_words(alloc, words) {
+        Ok(request) => fulfil(rt, alloc, &request, files, out, progress),
+        Err(why) => Err(Fault::of_words(why)),
+    }
+}
+
+/// Does what is asked for.
+#[tactic(auto, using(fedrun_files::proofs::InTurn::none_answered))]
+fn fulfil<
+    'a,
+    R: Threads + Wait + Clock + Net<Stream = TcpStream, Listener = TcpListener> + Sync,
+    F: Files,
+    O: Write,
+    P: Progress + Sync,
+>(
+    rt: &R,
+    alloc: Global,
+    request: &Request<'a>,
+    files: &mut F,
+    out: &mut O,
+    progress: &P,
+) -> Result<(), Fault<'a, NodeFault<'a>>>
+    ensures ok { OnOk result (PrintsAnswer (F.contents files.old) (O.contents out.old) (O.contents out.new)) }
+    ensures stands { IfErr result (Stands (F.contents files.old) (Answers (F.answers files.old) (F.answers files.new)) (O.contents out.old) (O.contents out.new)) }
+    ensures untouched { IfErr result (λ fault. status_of fault ≡ 1 → (out.new ≡ out.old) ⊎ HasToldWrong (F.contents files.old) (O.contents out.old) (O.contents out.new)) }
+    ensures unused { IfErr result (λ fault. status_of fault ≡ 2 → out.new ≡ out.old) }
+{
+    match *request {
         Request::Whole {
             federation,
             inputs,
@@ -110,6 +134,22 @@ pub(crate) fn perform<
             out,
             progress,
         ),
+        Request::Audit {
+            federation,
+            inputs,
+            coordinator,
+            ref federates,
+            ref format,
+        } => audit(
+            alloc,
+            federation,
+            inputs,
+            coordinator,
+            federates.as_slice(),
+            *format,
+            files,
+            out,
+        ),
         Request::Lint { federation, inputs } => lint(alloc, federation, inputs, files, out),
         Request::Run {
             federation,
@@ -165,7 +205,7 @@ pub(crate) fn run<
     files: &mut F,
     out: &mut O,
     progress: &P,
-) -> Result<(), Fault<'a, NodeFault>>
+) -> Result<(), Fault<'a, NodeFault<'a>>>
     ensures ok { OnOk result (PrintsRun output (F.contents files.old) federation.entry inputs.entry (O.contents out.old) (O.contents out.new)) }
     ensures stands { IfErr result (IsFaultOfRun (F.contents files.old) (Answers (F.answers files.old) (F.answers files.new)) (O.contents out.old) (O.contents out.new) federation.entry inputs.entry) }
     ensures untouched { IfErr result (λ fault. status_of fault ≢ 3 → out.new ≡ out.old) }
@@ -188,7 +228,7 @@ pub(crate) fn play<'a, F: Files, O: Write, P: Progress>(
     files: &mut F,
     out: &mut O,
     progress: &P,
-) -> Result<(), Fault<'a, NodeFault>>
+) -> Result<(), Fault<'a, NodeFault<'a>>>
     ensures ok { OnOk result (PrintsPlayed output (F.contents files.old) federation.entry inputs.entry schedule.entry until_stuck (O.contents out.old) (O.contents out.new)) }
     ensures stands { IfErr result (IsFaultOfPlay output (F.contents files.old) (Answers (F.answers files.old) (F.answers files.new)) (O.contents out.old) (O.contents out.new) federation.entry inputs.entry schedule.entry until_stuck) }
     ensures untouched { IfErr result (λ fault. status_of fault ≢ 3 → out.new ≡ out.old) }
@@ -209,7 +249,7 @@ pub(crate) fn draw<'a, F: Files, O: Write>(
     federation: &'a str,
     files: &mut F,
     out: &mut O,
-) -> Result<(), Fault<'a, NodeFault>>
+) -> Result<(), Fault<'a, NodeFault<'a>>>
     ensures ok { OnOk result (PrintsPicture (F.contents files.old federation.entry.now) (O.contents out.old) (O.contents out.new)) }
     ensures stands { IfErr result (IsDrawFault (F.contents files.old) (Answers (F.answers files.old) (F.answers files.new)) (O.contents out.old) (O.contents out.new) federation.entry) }
     ensures untouched { IfErr result (λ fault. status_of fault ≢ 3 → out.new ≡ out.old) }

@@ -17,7 +17,7 @@ pub(crate) fn read_schedule<'a, F: Files>(
     name: &'a str,
     plan: &Plan,
     files: &mut F,
-) -> Result<Script, Fault<'a, NodeFault>>
+) -> Result<Script, Fault<'a, NodeFault<'a>>>
     ensures asked { OnOk result (Answers (F.answers files.old) (F.answers files.new) (given name.entry.now ∷ [])) }
     ensures ok { IfOk result (IsSchedule (F.contents files.old name.entry.now) plan.now) }
     ensures err { IfErr result (IsScheduleFault plan.now name.entry (F.contents files.old) (Answers (F.answers files.old) (F.answers files.new))) }

@@ -11,4 +11,6 @@ pub mod reading;
 
 pub use machine::{MachineFiles, read_to_end};
 pub use named::{FileFault, Files};
-pub use reading::{Sources, bytes_of, fault_of, read_federation, read_sources};
+pub use reading::{
+    SourceBytes, Sources, bytes_of, fault_of, read_federation, read_sources, read_sources_and_bytes,
+};

@@ -1,7 +1,7 @@
 -- The digest at the end of a file, and the name and the digests at its front.
 use Rattle.std.proofs.Common.{◌≡◌, ◌≢◌, ℕ, ◌+◌, ◌-◌, ◌≤◌, List, ◌++◌, length, take, drop, Option, Some, None, refl, sym, ap, ◌∙◌, append_assoc, arith}
 use Rattle.std.specs.Prelude.{MatchOption}
-use Rattle.std.proofs.lemmas.List.{take_at, drop_at, take-append-drop, length-append}
+use Rattle.std.proofs.lemmas.List.{append_cancel_left, take_at, drop_at, length-append}
 use Rattle.sha2.specs.Sha256.{sha256}
 use Rattle.sha2.proofs.Facts256.{length-sha256}
 use Rattle.fedrun_reports.specs.declared.file_digests.FileDigests.{FileDigests}
@@ -26,18 +26,11 @@ unsealed bytes content seal front back apart other e =
     let end = at_the_end bytes other e in
     apart (back ∙ end.1 ∙ ap sha256 (sym end.0 ∙ sym front))
 
-pub is_sealed : (bytes content seal : List ℕ) → content ≡ take (length bytes - 32) bytes → seal ≡ drop (length bytes - 32) bytes → seal ≡ sha256 content → bytes ≡ sealed content
-is_sealed bytes content seal front back same =
-    sym (take-append-drop (length bytes - 32) bytes) ∙ ap (λ (b : List ℕ). b ++ drop (length bytes - 32) bytes) (sym front) ∙ ap (λ (b : List ℕ). content ++ b) (sym back ∙ same)
-
 -- one content is sealed by a digest at the end
 pub one_content : (bytes content other : List ℕ) → bytes ≡ sealed content → bytes ≡ sealed other → content ≡ other
 one_content bytes content other e f = sym (at_the_end bytes content e).0 ∙ (at_the_end bytes other f).0
 
 -- ---- the name and the digests of two files
-
-pub same_behind : (front a b : List ℕ) → front ++ a ≡ front ++ b → a ≡ b
-same_behind front a b e = sym (drop_at front a (length front) refl) ∙ ap (drop (length front)) e ∙ drop_at front b (length front) refl
 
 -- what doesn't begin with the name isn't headed so
 pub no_name : (files : FileDigests) (content named : List ℕ) → named ≡ format → ((rest : List ℕ) → content ≢ named ++ rest) → (said : List ℕ) → content ≢ headed files said
@@ -49,8 +42,8 @@ no_name files content named n h said e =
 pub behind_both : (files : FileDigests) (content named rest others said : List ℕ) → named ≡ format → content ≡ named ++ rest → rest ≡ files.federation ++ others → content ≡ headed files said → others ≡ files.inputs ++ said
 behind_both files content named rest others said n a b e =
     let inside = files.inputs ++ said in
-    let same : rest ≡ files.federation ++ inside = same_behind format rest (files.federation ++ inside) (ap (λ (l : List ℕ). l ++ rest) (sym n) ∙ sym a ∙ e) in
-    same_behind files.federation others inside (sym b ∙ same)
+    let same : rest ≡ files.federation ++ inside = append_cancel_left format rest (files.federation ++ inside) (ap (λ (l : List ℕ). l ++ rest) (sym n) ∙ sym a ∙ e) in
+    append_cancel_left files.federation others inside (sym b ∙ same)
 
 pub headed_so : (files : FileDigests) (content named rest others said : List ℕ) → named ≡ format → content ≡ named ++ rest → rest ≡ files.federation ++ others → others ≡ files.inputs ++ said → content ≡ headed files said
 headed_so files content named rest others said n a b d =

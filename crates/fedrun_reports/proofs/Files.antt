@@ -1,6 +1,7 @@
 -- Whole files: one says one thing, and none that is a report has a fault.
 use Rattle.std.proofs.Common.{◌≡◌, ℕ, List, ◌++◌, Ok, Err, refl, ap, ◌∙◌, append_assoc, arith}
 use Rattle.std.specs.Prelude.{Result, IfOk, IfErr, MatchResult}
+use Rattle.std.proofs.lemmas.List.{append_cancel_left}
 use Rattle.sha2.specs.Sha256.{sha256}
 use Rattle.fedrun_reports.specs.declared.file_digests.FileDigests.{FileDigests}
 use Rattle.fedrun_reports.specs.declared.read_fault.ReadFault.{ReadFault}
@@ -11,14 +12,14 @@ use Rattle.fedrun_reports.specs.Spelling.{said_bytes}
 use Rattle.fedrun_reports.specs.Reading.{said_at, Fails, Gives}
 use Rattle.fedrun_reports.specs.File.{format, sealed, headed, IsReportOf, IsNamed, IsReadFault}
 use Rattle.fedrun_reports.proofs.AllAgain.{said_again, one_saying}
-use Rattle.fedrun_reports.proofs.Ends.{one_content, same_behind}
+use Rattle.fedrun_reports.proofs.Ends.{one_content}
 
 -- what is said behind the head of a file
 same_said : (files : FileDigests) (a b : List ℕ) → headed files a ≡ headed files b → a ≡ b
 same_said files a b e =
-    let second = same_behind format (files.federation ++ (files.inputs ++ a)) (files.federation ++ (files.inputs ++ b)) e in
-    let third = same_behind files.federation (files.inputs ++ a) (files.inputs ++ b) second in
-    same_behind files.inputs a b third
+    let second = append_cancel_left format (files.federation ++ (files.inputs ++ a)) (files.federation ++ (files.inputs ++ b)) e in
+    let third = append_cancel_left files.federation (files.inputs ++ a) (files.inputs ++ b) second in
+    append_cancel_left files.inputs a b third
 
 -- what a file says, where it is looked at in two ways
 pub one_inside : (files : FileDigests) (bytes a b : List ℕ) → bytes ≡ sealed (headed files a) → bytes ≡ sealed (headed files b) → a ≡ b

@@ -11,7 +11,7 @@ use Rattle.signal.specs.declared.frame.Frame.TheVariants.{Hello, Data, Ack, Refu
 use Rattle.signal.specs.declared.fault.FrameFault.{FrameFault}
 use Rattle.signal.specs.Frame.{body_of, framed, frame_bytes, IsFrame, IsBody, Carries, one, several}
 use Rattle.signal.specs.Fault.{is_length, is_partial, body_fault, fault_at}
-use Rattle.signal.specs.Stream.{Stream, start, fed, version_after, Comes, goes_on, begins, GivesFrame, GivesNothing, GivesFault}
+use Rattle.signal.specs.Stream.{Stream, start, fed, version_after, Comes, goes_on, begins, GivesFrame, GivesFault}
 use Rattle.signal.proofs.Bodies.{frames_of, Tells, body_tells}
 use Rattle.signal.proofs.Framing as framing
 use Rattle.fedrun_reports.specs.declared.content_fault.ContentFault.TheVariants.{BadFrame}
@@ -114,9 +114,6 @@ fault_inside bytes fault w h = by (is_length (big_number 4 bytes)) refl
 pub part_of_faulty : (bytes : List ℕ) (fault : FrameFault) (new : Stream) → IsWhole bytes → GivesFault (fed start bytes) fault new → body_part (drop 4 bytes) ≡ Err BadFrame
 part_of_faulty bytes fault new w h = part_of_others (drop 4 bytes) (fault_inside bytes fault w h.found)
 
-pub never_partial : (bytes : List ℕ) (new : Stream) → IsWhole bytes → GivesNothing (fed start bytes) new → ⊥
-never_partial bytes new w h = false≢true (sym (not_partial bytes w) ∙ h.partial)
-
 carried : (body : List ℕ) (frames : List Frame) → Carries body frames → eqb (slice_index body 0) 5 ≡ false → (frame : Frame) (others : List Frame) → frames ≡ frame ∷ others → IsBody body frame
 carried body frames (one first h) kind frame others e = let same : first ≡ frame = cc in subst (IsBody body) same h
 carried body frames (several all h) kind frame others e =
@@ -200,6 +197,3 @@ gave_frame body frame old new less e other h =
 
 pub gave_fault : (body : List ℕ) (fault : FrameFault) (old new : Stream) → length body < 2 ^ 32 → old ≡ fed start (framed body) → GivesFault old fault new → body_part body ≡ Err BadFrame
 gave_fault body fault old new less e h = part_of_faulty (framed body) fault new (framed_whole body less) (subst (λ (s : Stream). GivesFault s fault new) e h)
-
-pub gave_nothing : (body : List ℕ) (old new : Stream) → length body < 2 ^ 32 → old ≡ fed start (framed body) → GivesNothing old new → ⊥
-gave_nothing body old new less e h = never_partial (framed body) new (framed_whole body less) (subst (λ (s : Stream). GivesNothing s new) e h)

@@ -33,7 +33,8 @@ starts part spelling Is count bytes =
       taken = record { is_one = (refl, tt); begins = refl };
     }
 
-each_and_one : {X : Type 0} (Is : X → Type 0) (xs : List X) (x : X) → AllByRecursion Is xs → Is x → AllByRecursion Is (xs ++ x ∷ [])
+-- what holds of each of them and of one more
+pub each_and_one : {X : Type 0} (Is : X → Type 0) (xs : List X) (x : X) → AllByRecursion Is xs → Is x → AllByRecursion Is (xs ++ x ∷ [])
 each_and_one Is [] x h k = (k, tt)
 each_and_one Is (y ∷ xs) x h k = (h.0, each_and_one Is xs x h.1 k)
 

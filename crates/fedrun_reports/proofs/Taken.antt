@@ -1,14 +1,13 @@
 -- Parts that were read one after the other are spelled so.
-use Rattle.std.proofs.Common.{◌≡◌, ℕ, ◌^◌, ◌<◌, ◌≤◌, true, false, eqb, ltb, List, ◌∷◌, ◌++◌, length, take, drop, refl, sym, ap, subst, ◌∙◌, append_assoc, arith, inl, inr}
+use Rattle.std.proofs.Common.{◌≡◌, ℕ, ◌^◌, ◌<◌, ◌≤◌, true, false, eqb, ltb, List, ◌++◌, length, take, drop, refl, sym, ap, subst, ◌∙◌, append_assoc, arith, inl, inr}
 use Rattle.std.specs.List.{flat_map}
 use Rattle.std.specs.Int.{w64, cast_signed, cast_unsigned}
-use Rattle.std.specs.Prelude.{ℤ, FitsSigned, Result, Ok, Err, IfOk}
+use Rattle.std.specs.Prelude.{ℤ, FitsSigned}
 use Rattle.std.proofs.lemmas.Bool.{cases_lt, lt-ltb, le-ltb, and_parts, eqb-true}
 use Rattle.std.proofs.lemmas.List.{append-nil, nil_from_length, take-append-drop, length-take-le}
 use Rattle.std.proofs.lemmas.Int.{of_z-to_z}
 use Rattle.byteorder.specs.Endian.{big_bytes}
 use Rattle.tag.specs.LogicalTime.{LogicalTime, IsLogicalTime, logical_time, forever}
-use Rattle.network.specs.Event.{Entry}
 use Rattle.network.specs.Undivided.{Row}
 use Rattle.signal.specs.declared.frame.Frame as signals
 use Rattle.signal.specs.Signal.{tag_bytes}
@@ -16,7 +15,6 @@ use Rattle.signal.specs.Frame.{framed, frame_bytes, IsFrame}
 use Rattle.signal.specs.Fault.{is_tag}
 use Rattle.signal.specs.Begun.{tag_of}
 use Rattle.node.specs.declared.event.Event.{Event}
-use Rattle.node.specs.declared.event.Event.TheVariants.{Frame}
 use Rattle.fedrun_reports.specs.Said.{Said, by_coordinator, by_federate, AreSoMany, AreCounted, IsEntry, IsRowOf, IsEvent, IsSaid}
 use Rattle.fedrun_reports.specs.Spelling.{counted, entry_bytes, row_bytes, event_bytes, said_bytes}
 use Rattle.fedrun_reports.specs.Reading.{IsTaken}
@@ -69,7 +67,7 @@ tag_taken bytes between rest time microstep tag m good same first second =
       begins = both bytes (big_bytes 8 time) between (big_bytes 4 microstep) rest first second ∙ ap (λ (b : List ℕ). b ++ rest) (sym s.bytes ∙ ap tag_bytes (sym same));
     }
 
--- ---- entries and rows
+-- ---- entries, and lists
 
 pub entry_taken : (bytes between rest : List ℕ) (place bits : ℕ) (value : ℤ) → place < 2 ^ 64 → bits < 2 ^ 64 → FitsSigned w64 value → value ≡ cast_signed w64 bits
     → bytes ≡ big_bytes 8 place ++ between → between ≡ big_bytes 8 bits ++ rest → IsTaken entry_bytes IsEntry bytes (record { place = place; value = value }) rest
@@ -88,16 +86,7 @@ counted_taken spelling Is bytes between rest count xs fits first h = record {
       ∙ ap (λ (n : ℕ). (big_bytes 8 n ++ flat_map spelling xs) ++ rest) (sym h.is_one.0);
 }
 
-pub row_taken : (federate : ℕ) (bytes a b rest : List ℕ) (tag : LogicalTime) (inputs outputs : List Entry)
-    → IsTaken tag_bytes IsLogicalTime bytes tag a → IsTaken (counted entry_bytes) (AreCounted IsEntry) a inputs b → IsTaken (counted entry_bytes) (AreCounted IsEntry) b outputs rest
-    → IsTaken row_bytes (IsRowOf federate) bytes (record { reactor = federate; tag = tag; inputs = inputs; outputs = outputs }) rest
-row_taken federate bytes a b rest tag inputs outputs t i o = record {
-  is_one = record { own = refl; tag = t.is_one; inputs = i.is_one; outputs = o.is_one };
-  begins = both bytes (tag_bytes tag) a (counted entry_bytes inputs ++ counted entry_bytes outputs) rest t.begins
-      (both a (counted entry_bytes inputs) b (counted entry_bytes outputs) rest i.begins o.begins);
-}
-
--- ---- events
+-- ---- frames
 
 pub frame_taken : (bytes behind body rest : List ℕ) (size : ℕ) (frame : signals.Frame) → size ≤ length behind → body ≡ take size behind → rest ≡ drop size behind → bytes ≡ big_bytes 4 size ++ behind
     → IsFrame frame × (framed body ≡ frame_bytes frame) → IsTaken frame_bytes IsFrame bytes frame rest
@@ -108,13 +97,6 @@ frame_taken bytes behind body rest size frame there front back first h =
       is_one = h.0;
       begins = both bytes (big_bytes 4 size) behind body rest first parts ∙ ap (λ (n : ℕ). (big_bytes 4 n ++ body) ++ rest) (sym long) ∙ ap (λ (b : List ℕ). b ++ rest) h.1;
     }
-
-pub arrival_taken : (bytes between rest : List ℕ) (peer : ℕ) (frame : signals.Frame) → peer < 2 ^ 64 → bytes ≡ big_bytes 8 peer ++ between → IsTaken frame_bytes IsFrame between frame rest
-    → IsTaken event_bytes IsEvent (1 ∷ bytes) (Frame peer frame) rest
-arrival_taken bytes between rest peer frame fits first h = record {
-  is_one = (fits, h.is_one);
-  begins = ap (λ (b : List ℕ). 1 ∷ b) (both bytes (big_bytes 8 peer) between (frame_bytes frame) rest first h.begins);
-}
 
 -- ---- all that a node says
 
@@ -138,10 +120,3 @@ pub all_taken : (bytes between rest : List ℕ) (who : ℕ) (said : Said) → by
     → IsSaid said × (bytes ≡ said_bytes said)
 all_taken bytes between rest who said first h none =
     (h.is_one, first ∙ h.begins ∙ ap (λ (r : List ℕ). said_bytes said ++ r) (nil_from_length rest none) ∙ append-nil (said_bytes said))
-
--- ---- of answers
-
--- what holds of each value holds of what was answered
-pub of_answer : {X E : Type 0} (answer : Result X E) (P Q : X → Type 0) → ((x : X) → P x → Q x) → IfOk answer P → IfOk answer Q
-of_answer (Ok x) P Q f h = f x h
-of_answer (Err e) P Q f h = tt

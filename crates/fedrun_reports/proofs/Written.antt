@@ -7,6 +7,7 @@ use Rattle.std.proofs.lemmas.List.Concat.{flat_map-append}
 use Rattle.byteorder.specs.Endian.{big_bytes}
 use Rattle.fedrun_reports.specs.Said.{AreCounted}
 use Rattle.fedrun_reports.specs.Spelling.{counted}
+use Rattle.fedrun_reports.proofs.Loops.{each_and_one}
 
 -- two parts, one behind the other
 pub both_written : (old middle new first second : List ℕ) → middle ≡ old ++ first → new ≡ middle ++ second → new ≡ old ++ (first ++ second)
@@ -19,10 +20,6 @@ pub record AreWritten {X : Type 0} (spelling : X → List ℕ) (Is : X → Type 
 
 pub none_written : {X : Type 0} (spelling : X → List ℕ) (Is : X → Type 0) (xs : List X) (before : List ℕ) → AreWritten spelling Is xs before 0 before
 none_written spelling Is xs before = record { written = sym (append-nil before); each = tt }
-
-each_and_one : {X : Type 0} (Is : X → Type 0) (xs : List X) (x : X) → AllByRecursion Is xs → Is x → AllByRecursion Is (xs ++ x ∷ [])
-each_and_one Is [] x h k = (k, tt)
-each_and_one Is (y ∷ xs) x h k = (h.0, each_and_one Is xs x h.1 k)
 
 pub one_written : {X : Type 0} (spelling : X → List ℕ) (Is : X → Type 0) (xs : List X) (before : List ℕ) (so_far : ℕ) (bytes : List ℕ) (x : X) (new : List ℕ)
     → so_far < length xs → x ≡ get_or xs so_far x → Is x → new ≡ bytes ++ spelling x → AreWritten spelling Is xs before so_far bytes → AreWritten spelling Is xs before (so_far + 1) new

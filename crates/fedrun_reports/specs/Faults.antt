@@ -7,6 +7,9 @@ use Rattle.fedrun_reports.specs.declared.read_fault.ReadFault.{ReadFault}
 use Rattle.fedrun_reports.specs.declared.read_fault.ReadFault.TheVariants.{NoReport, TooLong, CutShort, OtherFiles, Content, Memory}
 use Rattle.fedrun_reports.specs.declared.write_fault.WriteFault.{WriteFault}
 use Rattle.fedrun_reports.specs.declared.write_fault.WriteFault.TheVariants as unwritten
+use Rattle.fedrun_reports.specs.declared.report_file_fault.ReportFileFault.{ReportFileFault}
+use Rattle.fedrun_reports.specs.declared.report_file_fault.ReportFileFault.TheVariants.{Unread, OtherNode, NotTaken}
+use Rattle.recorder_reports.specs.Numbers.{number_of_report_fault, text_of_report_fault}
 
 -- what is wrong with what is said
 abbrev pub content_number : ContentFault → ℕ
@@ -70,3 +73,14 @@ write_text fault = printed_fault (write_number fault) (write_name fault)
 
 abbrev pub memory_text : List ℕ
 memory_text = printed_fault memory_number memory_name
+
+-- why a file isn't taken as a report
+abbrev pub file_number : ReportFileFault → ℕ
+file_number (Unread why) = read_number why
+file_number OtherNode = 111
+file_number (NotTaken why) = number_of_report_fault why
+
+abbrev pub file_text : ReportFileFault → List ℕ
+file_text (Unread why) = read_text why
+file_text OtherNode = printed_fault 111 (codes "OtherNode")
+file_text (NotTaken why) = text_of_report_fault why

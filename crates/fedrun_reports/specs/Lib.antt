@@ -7,6 +7,8 @@ pub mod Spelling
 pub mod Reading
 -- A whole file: what stands before that, and the digest behind it.
 pub mod File
+-- What an audit takes of it.
+pub mod Taken
 -- How faults are printed.
 pub mod Faults
 -- A report worked by hand.

@@ -6,6 +6,7 @@
 //!
 //!     NodeReport --> write_report --> bytes          what a node did, sealed with a digest
 //!     bytes --> read_report --> NodeReport           name, digest, files, and then what is said
+//!     bytes --> read_coordinator, take_report        what an audit takes: the coordinator's journal, a federate's report
 //!
 //! Begin with `specs/Said` and `specs/Spelling`, then `node_report`, `read` and `write`.
 #![tactic(auto)]
@@ -21,9 +22,11 @@ pub mod node_report;
 mod numbers;
 pub mod read;
 pub mod read_fault;
+pub mod report_file_fault;
 mod rows;
 mod saying;
 mod sealing;
+pub mod taking;
 pub mod write;
 pub mod write_fault;
 mod writing;
@@ -34,5 +37,7 @@ pub use memory::Memory;
 pub use node_report::NodeReport;
 pub use read::read_report;
 pub use read_fault::ReadFault;
+pub use report_file_fault::ReportFileFault;
+pub use taking::{read_coordinator, take_report};
 pub use write::write_report;
 pub use write_fault::WriteFault;

@@ -27,7 +27,7 @@ use std::time::Clock;
 use wires::{Nodes, RunFault, Terms, WorkerResult, run_over_tcp};
 use wires_workers::NoGate;
 
-/// Runs the federation in threads over TCP on loopback until the coordinator is finished or a runner has made its turns,
+/// Runs the federation in threads over TCP on loopback until the coordinator is finished or a federate's turns are made,
 /// audits what its nodes wrote down, and prints each federate's rows, federate by federate, or the steps that prove them. The caller
 /// flushes. That a run isn't finished comes before any failure of the audit.
 pub fn print_audited_run<

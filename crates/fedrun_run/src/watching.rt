@@ -58,7 +58,9 @@ fn look<R: Wait, H: Node, M: Node, P: Progress>(
     ensures { audit.new ≡ audit.old }
 {
     let mut is_new = take(rt, &nodes.coordinator, NodeId::Coordinator, audit, events);
-    tell(events, progress);
+    if is_new {
+        tell(events, progress);
+    }
     for (number, federate) in nodes.federates.iter().enumerate() {
         if take(rt, federate, NodeId::Federate(number), audit, events) {
             is_new = true;

@@ -29,11 +29,26 @@ pub(crate) fn perform<'a, F: Files, O: Write, P: Progress>(
     ensures stands { IfErr result (StandsAlone (F.contents files.old) (Answers (F.answers files.old) (F.answers files.new)) (O.contents out.old) (O.contents out.new)) }
     ensures untouched { IfErr result (λ fault. alone.status_of fault ≢ 3 → out.new ≡ out.old) }
 {
-    let request = match read_words(alloc, words) {
-        Ok(request) => request,
-        Err(why) => return Err(Fault::of_words(why)),
-    };
-    match request {
+    match read_words(alloc, words) {
+        Ok(request) => fulfil(alloc, &request, files, out, progress),
+        Err(why) => Err(Fault::of_words(why)),
+    }
+}
+
+/// Does what is asked for.
+#[tactic(auto, using(fedrun_files::proofs::InTurn::none_answered))]
+fn fulfil<'a, F: Files, O: Write, P: Progress>(
+    alloc: Global,
+    request: &Request<'a>,
+    files: &mut F,
+    out: &mut O,
+    progress: &P,
+) -> Result<(), Fault<'a, NoSuchCommand>>
+    ensures ok { OnOk result (PrintsAlone (F.contents files.old) (O.contents out.old) (O.contents out.new)) }
+    ensures stands { IfErr result (StandsAlone (F.contents files.old) (Answers (F.answers files.old) (F.answers files.new)) (O.contents out.old) (O.contents out.new)) }
+    ensures untouched { IfErr result (λ fault. alone.status_of fault ≢ 3 → out.new ≡ out.old) }
+{
+    match *request {
         Request::Whole {
             federation,
             inputs,

@@ -21,6 +21,7 @@ enum CommandKind {
     Frames,
     Draw,
     Lint,
+    Audit,
 }
 
 /// A subcommand, and the names of what is given to it.
@@ -32,6 +33,8 @@ struct Subcommand {
     arguments: &'static [&'static str],
     /// The arguments that may stand after these.
     may_follow: &'static [&'static str],
+    /// The last argument, of which there is one or more.
+    several: Option<&'static str>,
     /// The options with a value each.
     options: &'static [&'static str],
     /// The options without a value.
@@ -39,12 +42,13 @@ struct Subcommand {
 }
 
 /// The subcommands.
-const SUBCOMMANDS: [Subcommand; 8] = [
+const SUBCOMMANDS: [Subcommand; 9] = [
     Subcommand {
         kind: CommandKind::Whole,
         name: "whole",
         arguments: &["FED", "IN", "TURNS"],
         may_follow: &[],
+        several: None,
         options: &[],
         flags: &["csv", "progress"],
     },
@@ -53,6 +57,7 @@ const SUBCOMMANDS: [Subcommand; 8] = [
         name: "check",
         arguments: &["FED"],
         may_follow: &[],
+        several: None,
         options: &[],
         flags: &[],
     },
@@ -61,6 +66,7 @@ const SUBCOMMANDS: [Subcommand; 8] = [
         name: "replay",
         arguments: &["FED", "IN", "SCHEDULE"],
         may_follow: &[],
+        several: None,
         options: &["until-stuck"],
         flags: &["csv", "progress"],
     },
@@ -69,6 +75,7 @@ const SUBCOMMANDS: [Subcommand; 8] = [
         name: "run",
         arguments: &["FED", "IN"],
         may_follow: &[],
+        several: None,
         options: &["turns", "frames"],
         flags: &["csv", "progress"],
     },
@@ -77,6 +84,7 @@ const SUBCOMMANDS: [Subcommand; 8] = [
         name: "record",
         arguments: &["FED", "IN"],
         may_follow: &[],
+        several: None,
         options: &["turns", "frames"],
         flags: &["progress"],
     },
@@ -85,6 +93,7 @@ const SUBCOMMANDS: [Subcommand; 8] = [
         name: "frames",
         arguments: &["FED", "IN", "SCHEDULE"],
         may_follow: &[],
+        several: None,
         options: &["until-stuck"],
         flags: &[],
     },
@@ -93,6 +102,7 @@ const SUBCOMMANDS: [Subcommand; 8] = [
         name: "draw",
         arguments: &["FED"],
         may_follow: &["IN", "SCHEDULE"],
+        several: None,
         options: &["until-stuck"],
         flags: &[],
     },
@@ -101,8 +111,18 @@ const SUBCOMMANDS: [Subcommand; 8] = [
         name: "lint",
         arguments: &["FED"],
         may_follow: &["IN"],
+        several: None,
         options: &[],
         flags: &[],
+    },
+    Subcommand {
+        kind: CommandKind::Audit,
+        name: "audit",
+        arguments: &["FED", "IN", "COORDINATOR"],
+        may_follow: &[],
+        several: Some("FEDERATE"),
+        options: &[],
+        flags: &["csv"],
     },
 ];
 
@@ -118,7 +138,7 @@ pub enum WordsFault {
 /// What the words ask for: one subcommand with its arguments and options.
 pub fn read_words<'a>(alloc: Global, words: &'a [String]) -> Result<Request<'a>, WordsFault> {
     let matches = parsed(alloc, words)?;
-    requested(&matches).ok_or(WordsFault::Usage)
+    requested(alloc, &matches)
 }
 
 /// The words, parsed.
@@ -141,18 +161,22 @@ fn fault_of(error: &Error) -> WordsFault {
 }
 
 /// The request of words that were parsed.
-fn requested<'a>(matches: &ArgMatches<'a>) -> Option<Request<'a>> {
+fn requested<'a>(alloc: Global, matches: &ArgMatches<'a>) -> Result<Request<'a>, WordsFault> {
     for subcommand in &SUBCOMMANDS {
         if let Some(given) = matches.subcommand_matches(subcommand.name) {
-            return request(subcommand.kind, given);
+            return request(alloc, subcommand.kind, given);
         }
     }
-    None
+    Err(WordsFault::Usage)
 }
 
 /// The request of a subcommand with these arguments and options.
-fn request<'a>(kind: CommandKind, given: &ArgMatches<'a>) -> Option<Request<'a>> {
-    match kind {
+fn request<'a>(
+    alloc: Global,
+    kind: CommandKind,
+    given: &ArgMatches<'a>,
+) -> Result<Request<'a>, WordsFault> {
+    let request = match kind {
         CommandKind::Whole => whole(given),
         CommandKind::Check => check(given),
         CommandKind::Replay => replay(given),
@@ -161,7 +185,9 @@ fn request<'a>(kind: CommandKind, given: &ArgMatches<'a>) -> Option<Request<'a>>
         CommandKind::Frames => frames_of_schedule(given),
         CommandKind::Draw => draw(given),
         CommandKind::Lint => lint(given),
-    }
+        CommandKind::Audit => return audit(alloc, given),
+    };
+    request.ok_or(WordsFault::Usage)
 }
 
 /// The subcommands, with their arguments and options.
@@ -185,6 +211,14 @@ fn described<'a>(alloc: Global, subcommand: Subcommand) -> Result<Command<'a>, A
     }
     for argument in subcommand.may_follow {
         command = command.arg(Arg::new(alloc, *argument))?;
+    }
+    if let Some(argument) = subcommand.several {
+        command = command.arg(
+            Arg::new(alloc, argument)
+                .required(true)
+                .num_args(1..)
+                .action(ArgAction::Append),
+        )?;
     }
     for option in subcommand.options {
         command = command.arg(
@@ -280,6 +314,29 @@ fn lint<'a>(given: &ArgMatches<'a>) -> Option<Request<'a>> {
         federation: given.get_str("FED")?,
         inputs: given.get_str("IN").unwrap_or("-"),
     })
+}
+
+fn audit<'a>(alloc: Global, given: &ArgMatches<'a>) -> Result<Request<'a>, WordsFault> {
+    match (
+        given.get_str("FED"),
+        given.get_str("IN"),
+        given.get_str("COORDINATOR"),
+        given.get_strs("FEDERATE"),
+    ) {
+        (Some(federation), Some(inputs), Some(coordinator), Some(federates)) => {
+            match Vec::from_slice(alloc, federates) {
+                Ok(federates) => Ok(Request::Audit {
+                    federation,
+                    inputs,
+                    coordinator,
+                    federates,
+                    format: row_format(given),
+                }),
+                Err(_) => Err(WordsFault::Memory),
+            }
+        }
+        _ => Err(WordsFault::Usage),
+    }
 }
 
 /// How many closing rounds there may be, where some are asked for. None where the words say no number.

@@ -1,7 +1,7 @@
 use fedrun_text::RowFormat;
 
 /// What the words ask for. Files are given by their names; an `inputs` of `-` is a file without any.
-#[derive(Clone, Copy, Debug, PartialEq, Eq)]
+#[derive(Debug, PartialEq, Eq, Drop)]
 pub enum Request<'a> {
     /// The rows of the undivided program after at most so many turns, in this format.
     Whole {
@@ -56,6 +56,14 @@ pub enum Request<'a> {
         inputs: &'a str,
         schedule: &'a str,
         until_stuck: Option<u32>,
+    },
+    /// The rows that the reports of a run's nodes prove: the coordinator's, and those of federates in any order.
+    Audit {
+        federation: &'a str,
+        inputs: &'a str,
+        coordinator: &'a str,
+        federates: Vec<&'a str>,
+        format: RowFormat,
     },
     /// All that is wrong or odd in the two files.
     Lint {

@@ -14,25 +14,24 @@ pub struct Texts {
     pub schedule: &'static str,
 }
 
-/// These files, in memory.
+/// Files in memory, by name.
 #[derive(Drop)]
-struct TextFiles {
+struct NamedFiles<'a> {
     alloc: Global,
-    texts: Texts,
+    files: &'a [(&'a str, &'a [u8])],
 }
 
-impl Files for TextFiles {
+impl Files for NamedFiles<'_> {
     fn bytes(&mut self, name: &str, most: usize) -> Result<Vec<u8>, FileFault> {
-        let text = match name {
-            "f" => self.texts.federation,
-            "i" => self.texts.inputs,
-            "s" => self.texts.schedule,
-            _ => return Err(FileFault::Unreadable),
-        };
-        if text.len() > most {
-            return Err(FileFault::OverLimit);
+        for (known, bytes) in self.files {
+            if *known == name {
+                if bytes.len() > most {
+                    return Err(FileFault::OverLimit);
+                }
+                return Vec::from_slice(self.alloc, bytes).map_err(|_| FileFault::Memory);
+            }
         }
-        Vec::from_slice(self.alloc, text.as_bytes()).map_err(|_| FileFault::Memory)
+        Err(FileFault::Unreadable)
     }
 }
 
@@ -65,12 +64,25 @@ pub fn outcome_told<
     R: Machine + Net<Stream = TcpStream, Listener = TcpListener>,
     P: Progress + Sync,
 >(rt: &R, words: &[&str], texts: Texts, progress: &P) -> Option<Outcome> {
+    let files = [
+        ("f", texts.federation.as_bytes()),
+        ("i", texts.inputs.as_bytes()),
+        ("s", texts.schedule.as_bytes()),
+    ];
+    outcome_over(rt, words, &files, progress)
+}
+
+/// What the words give over files of these names and bytes; None where there is no memory.
+pub fn outcome_over<
+    R: Machine + Net<Stream = TcpStream, Listener = TcpListener>,
+    P: Progress + Sync,
+>(rt: &R, words: &[&str], files: &[(&str, &[u8])], progress: &P) -> Option<Outcome> {
     let alloc = rt.alloc();
     let mut given = Vec::new(alloc);
     for word in words {
         given.push(String::from_str(alloc, word).ok()?).ok()?;
     }
-    let mut files = TextFiles { alloc, texts };
+    let mut files = NamedFiles { alloc, files };
     let mut out = Vec::new(alloc);
     let mut err = Vec::new(alloc);
     let status = command(

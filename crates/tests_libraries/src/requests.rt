@@ -2,6 +2,7 @@
 use fedrun_text::RowFormat;
 use fedrun_words::{Request, WordsFault, read_words};
 use std::alloc::Global;
+use std::test::Fail;
 
 /// The words, as the program gets them.
 fn given(alloc: Global, words: &[&str]) -> Option<Vec<String>> {
@@ -13,73 +14,79 @@ fn given(alloc: Global, words: &[&str]) -> Option<Vec<String>> {
 }
 
 /// Whether the words are this request, or have this fault.
-fn ask(alloc: Global, words: &[&str], wanted: Result<Request<'_>, WordsFault>) -> bool {
+fn ask(alloc: Global, words: &[&str], wanted: Result<&Request<'_>, WordsFault>) -> bool {
     match given(alloc, words) {
-        Some(words) => read_words(alloc, words.as_slice()) == wanted,
+        Some(words) => match (read_words(alloc, words.as_slice()), wanted) {
+            (Ok(request), Ok(wanted)) => request == *wanted,
+            (Err(fault), Err(wanted)) => fault == wanted,
+            _ => false,
+        },
         None => false,
     }
 }
 
 /// Words, and the request that they are.
-const REQUESTS: &[(&[&str], Request<'static>)] = &[
-    (
-        &["whole", "f", "i", "0"],
-        Request::Whole {
-            federation: "f",
-            inputs: "i",
-            turns: 0,
-            format: RowFormat::Text,
-        },
-    ),
-    (
-        &["whole", "f", "--", "-", "0004294967295"],
-        Request::Whole {
-            federation: "f",
-            inputs: "-",
-            turns: 4_294_967_295,
-            format: RowFormat::Text,
-        },
-    ),
-    (
-        &["whole", "--csv", "f", "-", "7"],
-        Request::Whole {
-            federation: "f",
-            inputs: "-",
-            turns: 7,
-            format: RowFormat::Csv,
-        },
-    ),
-    (
-        &["whole", "f", "i", "--", "7"],
-        Request::Whole {
-            federation: "f",
-            inputs: "i",
-            turns: 7,
-            format: RowFormat::Text,
-        },
-    ),
-    (
-        &["whole", "f", "--progress", "i", "7"],
-        Request::Whole {
-            federation: "f",
-            inputs: "i",
-            turns: 7,
-            format: RowFormat::Text,
-        },
-    ),
-    (
-        &["check", "--", "--csv"],
-        Request::Check {
-            federation: "--csv",
-        },
-    ),
-    (&["check", "--", "-f"], Request::Check { federation: "-f" }),
-];
+fn whole_and_check() -> [(&'static [&'static str], Request<'static>); 7] {
+    [
+        (
+            &["whole", "f", "i", "0"],
+            Request::Whole {
+                federation: "f",
+                inputs: "i",
+                turns: 0,
+                format: RowFormat::Text,
+            },
+        ),
+        (
+            &["whole", "f", "--", "-", "0004294967295"],
+            Request::Whole {
+                federation: "f",
+                inputs: "-",
+                turns: 4_294_967_295,
+                format: RowFormat::Text,
+            },
+        ),
+        (
+            &["whole", "--csv", "f", "-", "7"],
+            Request::Whole {
+                federation: "f",
+                inputs: "-",
+                turns: 7,
+                format: RowFormat::Csv,
+            },
+        ),
+        (
+            &["whole", "f", "i", "--", "7"],
+            Request::Whole {
+                federation: "f",
+                inputs: "i",
+                turns: 7,
+                format: RowFormat::Text,
+            },
+        ),
+        (
+            &["whole", "f", "--progress", "i", "7"],
+            Request::Whole {
+                federation: "f",
+                inputs: "i",
+                turns: 7,
+                format: RowFormat::Text,
+            },
+        ),
+        (
+            &["check", "--", "--csv"],
+            Request::Check {
+                federation: "--csv",
+            },
+        ),
+        (&["check", "--", "-f"], Request::Check { federation: "-f" }),
+    ]
+}
 
 #[test]
 fn reads_whole_and_check(rt: HostRuntime) {
-    for (words, request) in REQUESTS {
-        assert!(rt; ask(rt.alloc(), words, Ok(*request)), "{words:?}");
+    for (words, request) in &whole_and_check() {
+        assert!(rt; ask(rt.alloc(), words, Ok(request)), "{words:?}");
     }
 }
 
@@ -129,7 +136,7 @@ fn reads_replay(rt: HostRuntime) {
             until_stuck: *until_stuck,
             format: *format,
         };
-        assert!(rt; ask(rt.alloc(), words, Ok(replay)), "{words:?}");
+        assert!(rt; ask(rt.alloc(), words, Ok(&replay)), "{words:?}");
     }
 }
 
@@ -193,7 +200,7 @@ fn reads_run(rt: HostRuntime) {
             frames: *frames,
             format: *format,
         };
-        assert!(rt; ask(rt.alloc(), words, Ok(run)), "{words:?}");
+        assert!(rt; ask(rt.alloc(), words, Ok(&run)), "{words:?}");
     }
 }
 
@@ -214,70 +221,96 @@ fn reads_record(rt: HostRuntime) {
             turns: *turns,
             frames: *frames,
         };
-        assert!(rt; ask(rt.alloc(), words, Ok(record)), "{words:?}");
+        assert!(rt; ask(rt.alloc(), words, Ok(&record)), "{words:?}");
     }
 }
 
 /// Words of `frames`, `draw` and `lint`, and the request that they are.
-const LOOKED_AT: &[(&[&str], Request<'static>)] = &[
-    (
-        &["frames", "f", "-", "s"],
-        Request::Frames {
-            federation: "f",
-            inputs: "-",
-            schedule: "s",
-            until_stuck: None,
-        },
-    ),
-    (
-        &["frames", "--until-stuck", "7", "f", "i", "s"],
-        Request::Frames {
-            federation: "f",
-            inputs: "i",
-            schedule: "s",
-            until_stuck: Some(7),
-        },
-    ),
-    (&["draw", "f"], Request::DrawFederation { federation: "f" }),
-    (
-        &["draw", "f", "-", "s"],
-        Request::DrawSchedule {
-            federation: "f",
-            inputs: "-",
-            schedule: "s",
-            until_stuck: None,
-        },
-    ),
-    (
-        &["draw", "f", "i", "s", "--until-stuck=0"],
-        Request::DrawSchedule {
-            federation: "f",
-            inputs: "i",
-            schedule: "s",
-            until_stuck: Some(0),
-        },
-    ),
-    (
-        &["lint", "f"],
-        Request::Lint {
-            federation: "f",
-            inputs: "-",
-        },
-    ),
-    (
-        &["lint", "f", "i"],
-        Request::Lint {
-            federation: "f",
-            inputs: "i",
-        },
-    ),
-];
+fn looked_at() -> [(&'static [&'static str], Request<'static>); 7] {
+    [
+        (
+            &["frames", "f", "-", "s"],
+            Request::Frames {
+                federation: "f",
+                inputs: "-",
+                schedule: "s",
+                until_stuck: None,
+            },
+        ),
+        (
+            &["frames", "--until-stuck", "7", "f", "i", "s"],
+            Request::Frames {
+                federation: "f",
+                inputs: "i",
+                schedule: "s",
+                until_stuck: Some(7),
+            },
+        ),
+        (&["draw", "f"], Request::DrawFederation { federation: "f" }),
+        (
+            &["draw", "f", "-", "s"],
+            Request::DrawSchedule {
+                federation: "f",
+                inputs: "-",
+                schedule: "s",
+                until_stuck: None,
+            },
+        ),
+        (
+            &["draw", "f", "i", "s", "--until-stuck=0"],
+            Request::DrawSchedule {
+                federation: "f",
+                inputs: "i",
+                schedule: "s",
+                until_stuck: Some(0),
+            },
+        ),
+        (
+            &["lint", "f"],
+            Request::Lint {
+                federation: "f",
+                inputs: "-",
+            },
+        ),
+        (
+            &["lint", "f", "i"],
+            Request::Lint {
+                federation: "f",
+                inputs: "i",
+            },
+        ),
+    ]
+}
 
 #[test]
 fn reads_frames_draw_and_lint(rt: HostRuntime) {
-    for (words, request) in LOOKED_AT {
-        assert!(rt; ask(rt.alloc(), words, Ok(*request)), "{words:?}");
+    for (words, request) in &looked_at() {
+        assert!(rt; ask(rt.alloc(), words, Ok(request)), "{words:?}");
     }
+}
+
+/// Words of an audit of the reports `c`, `0` and `1`, and the format of its rows.
+const AUDITS: &[(&[&str], RowFormat)] = &[
+    (&["audit", "f", "-", "c", "0", "1"], RowFormat::Text),
+    (&["audit", "f", "-", "--", "c", "0", "1"], RowFormat::Text),
+    (&["audit", "f", "-", "c", "--csv", "0", "1"], RowFormat::Csv),
+    (&["audit", "--csv", "f", "-", "c", "0", "1"], RowFormat::Csv),
+    (&["audit", "f", "-", "c", "0", "1", "--csv"], RowFormat::Csv),
+];
+
+#[test]
+fn reads_audits(rt: HostRuntime) -> Result<(), Fail> {
+    for (words, format) in AUDITS {
+        let audit = Request::Audit {
+            federation: "f",
+            inputs: "-",
+            coordinator: "c",
+            federates: Vec::from_slice(rt.alloc(), &["0", "1"])?,
+            format: *format,
+        };
+        assert!(rt; ask(rt.alloc(), words, Ok(&audit)), "{words:?}");
+    }
+    Ok(())
 }
 
 /// Words that are no command.
@@ -365,6 +398,9 @@ const REFUSED: &[&[&str]] = &[
     &["lint"],
     &["lint", "f", "-", "s"],
     &["lint", "f", "--csv"],
+    &["audit", "f", "-", "c"],
+    &["audit", "f", "-", "c", "0", "--turns", "1"],
+    &["audit", "f", "-", "c", "0", "--csv", "--csv"],
     &["replay", "--help"],
     &["replay", "-h"],
     &["-V"],

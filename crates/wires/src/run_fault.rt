@@ -13,7 +13,7 @@ pub enum Cause {
     NoThread,
     /// A node's workers don't agree with its journal.
     SharesDisagree,
-    /// The coordinator isn't finished: a runner had made its turns before. More turns may finish the run.
+    /// The coordinator isn't finished: a federate's turns were made before. More turns may finish the run.
     TurnsUsedUp,
 }
 

@@ -54,7 +54,7 @@ struct RunContext<'a, 'n, H: Node, M: Node, G: Gate, T: Drop, C: Drop> {
     terms: Terms,
 }
 
-/// Runs a federation in threads, until the coordinator is finished or a federate's runner has made its turns; what its workers leave. All
+/// Runs a federation in threads, until the coordinator is finished or a federate's turns are made; what its workers leave. All
 /// of them have ended when it returns, and the run is at its end. Where a thread can't be started, the others end: `NoThread`.
 pub fn run<
     R: Threads + Wait + Clock + Sync,

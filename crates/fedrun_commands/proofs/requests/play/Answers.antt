@@ -1,4 +1,4 @@
-use Rattle.std.proofs.Common.{[], ◌∷◌, ◌++◌, refl, inl, inr, subst}
+use Rattle.std.proofs.Common.{[], ◌∷◌, ◌++◌, inl, inr, subst}
 use Rattle.std.proofs.lemmas.Result.{on_ok_weaker, IfErr-weaker}
 use Rattle.fedrun_files.specs.Answers.{Answers, given}
 use Rattle.fedrun_files.proofs.InTurn.{answered_in_turn}

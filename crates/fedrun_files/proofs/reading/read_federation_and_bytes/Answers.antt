@@ -1,7 +1,7 @@
 use Rattle.loadfed.specs.Loaded.{HasLoadFault}
 use Rattle.fedrun_files.specs.Refused.{federation_unread, federation_unloaded}
 use Rattle.fedrun_files.proofs.KnownFiles.{unloaded_file}
-use Rattle.fedrun_files.proofs.reading.read_federation.Goals as goal
+use Rattle.fedrun_files.proofs.reading.read_federation_and_bytes.Goals as goal
 
 pub returns-clause-err : goal.returns-clause-err
 returns-clause-err g c =

@@ -1,10 +1,12 @@
-use Rattle.std.proofs.Common.{inl}
+use Rattle.std.proofs.Common.{inl, subst}
 use Rattle.std.proofs.lemmas.Result.{on_ok_weaker, IfErr-weaker}
-use Rattle.fedrun_words.specs.declared.request.Request.TheVariants.{Replay, Run, Record, Frames, DrawFederation, DrawSchedule, Lint}
+use Rattle.fedrun_words.specs.declared.request.Request.TheVariants.{Replay, Run, Record, Frames, DrawFederation, DrawSchedule, Lint, Audit}
+use Rattle.fedrun_files.specs.Answers.{Answers}
+use Rattle.fedrun_commands.specs.ReportFiles.{PrintsReportFiles, IsFaultOfReports}
 use Rattle.fedrun_whole.specs.Printed as printed
 use Rattle.fedrun_whole.specs.Refused as refused
 use Rattle.fedrun_commands.proofs.Reported.{early}
-use Rattle.fedrun_commands.proofs.requests.perform.Goals as goal
+use Rattle.fedrun_commands.proofs.requests.fulfil.Goals as goal
 
 pub returns-in-Whole-clause-ok : goal.returns-in-Whole-clause-ok
 returns-in-Whole-clause-ok g c =
@@ -43,6 +45,34 @@ returns-in-DrawSchedule-clause-ok g c = on_ok_weaker c.play-in-DrawSchedule.resu
 
 pub returns-in-DrawSchedule-clause-stands : goal.returns-in-DrawSchedule-clause-stands
 returns-in-DrawSchedule-clause-stands g c = IfErr-weaker c.play-in-DrawSchedule.result _ _ (λ fault stands. refused.more (DrawSchedule c.in-DrawSchedule.federation c.in-DrawSchedule.inputs c.in-DrawSchedule.schedule c.in-DrawSchedule.until_stuck) stands) c.play-in-DrawSchedule.ensures.stands
+
+pub returns-in-Audit-clause-ok : goal.returns-in-Audit-clause-ok
+returns-in-Audit-clause-ok g c =
+    let asked = c.in-Audit in
+    let contents = g.F.Files.contents c.args.files.now in
+    let before = g.O.Write.contents c.args.out.now in
+    let after = g.O.Write.contents c.audit.new.out in
+    on_ok_weaker c.audit.result
+    (λ done. printed.more (Audit asked.federation asked.inputs asked.coordinator asked.federates asked.format)
+    (subst (λ names. PrintsReportFiles asked.format contents asked.federation.now asked.inputs.now asked.coordinator.now names before after)
+    c.as_slice.ensures.value done))
+    c.audit.ensures.ok
+
+pub returns-in-Audit-clause-stands : goal.returns-in-Audit-clause-stands
+returns-in-Audit-clause-stands g c =
+    let asked = c.in-Audit in
+    let contents = g.F.Files.contents c.args.files.now in
+    let answered = Answers (g.F.Files.answers c.args.files.now) (g.F.Files.answers c.audit.new.files) in
+    let before = g.O.Write.contents c.args.out.now in
+    let after = g.O.Write.contents c.audit.new.out in
+    IfErr-weaker c.audit.result _ _
+    (λ fault stands. refused.more (Audit asked.federation asked.inputs asked.coordinator asked.federates asked.format)
+    (subst (λ names. IsFaultOfReports contents answered before after asked.federation asked.inputs asked.coordinator names fault)
+    c.as_slice.ensures.value stands))
+    c.audit.ensures.stands
+
+pub returns-in-Audit-clause-untouched : goal.returns-in-Audit-clause-untouched
+returns-in-Audit-clause-untouched g c = IfErr-weaker c.audit.result _ _ (λ fault kept one. inl (kept (early one))) c.audit.ensures.untouched
 
 pub returns-in-Lint-clause-ok : goal.returns-in-Lint-clause-ok
 returns-in-Lint-clause-ok g c = on_ok_weaker c.lint.result (λ done. printed.more (Lint c.in-Lint.federation c.in-Lint.inputs) done) c.lint.ensures.ok

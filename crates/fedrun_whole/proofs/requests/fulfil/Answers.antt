@@ -3,7 +3,7 @@ use Rattle.std.proofs.lemmas.Result.{on_ok_weaker, IfErr-weaker}
 use Rattle.fedrun_files.proofs.InTurn.{none_answered}
 use Rattle.fedrun_whole.specs.Printed as printed
 use Rattle.fedrun_whole.specs.Refused as refused
-use Rattle.fedrun_whole.proofs.requests.perform.Goals as goal
+use Rattle.fedrun_whole.proofs.requests.fulfil.Goals as goal
 
 pub returns-in-Whole-clause-ok : goal.returns-in-Whole-clause-ok
 returns-in-Whole-clause-ok g c =
@@ -20,4 +20,4 @@ pub returns-in-Check-clause-stands : goal.returns-in-Check-clause-stands
 returns-in-Check-clause-stands g c = IfErr-weaker c.check.result _ _ (λ fault stands. refused.check c.in-Check.federation stands) c.check.ensures.stands
 
 pub returns-in_default-clause-stands : goal.returns-in_default-clause-stands
-returns-in_default-clause-stands g c = refused.more c.in-Ok.request ((_, refl), none_answered (g.F.Files.answers c.args.files.now))
+returns-in_default-clause-stands g c = refused.more c.args.request.now ((_, refl), none_answered (g.F.Files.answers c.args.files.now))

@@ -1,0 +1,174 @@
+//! Auditing report files: those of a run's nodes, whoever brings them.
+ghost use Rattle.std.specs.Prelude.{◌≡◌, ◌≢◌, ◌++◌, ◌∷◌, [], IfErr, IfOk, OnOk};
+ghost use Rattle.node.specs.declared.event.Event.{Event as IsEvent};
+ghost use Rattle.plan.specs.External.{AreInputsOf};
+ghost use Rattle.reactor_programs.specs.Programs.{AreProgramsOf};
+ghost use Rattle.recorder_reports.specs.declared.report.Report.{Report as IsReport};
+ghost use Rattle.fedrun_run.specs.declared.output.RunOutput.TheVariants.{Rows};
+ghost use Rattle.fedrun_run.specs.Printed.{PrintsReports};
+ghost use Rattle.fedrun_files.specs.Answers.{Answers, given};
+ghost use Rattle.fedrun_commands.specs.Faults.{status_of};
+ghost use Rattle.fedrun_commands.specs.ReportFiles.{all_given, AreDigestsOf, AreFederateFiles, IsCoordinatorFile, IsCoordinatorFileFault, IsFederateFile, IsFederateFileFault, IsFirstFileFault, IsFaultOfReports, IsUnprinted, PrintsReportFiles};
+
+use crate::fault::NodeFault;
+use crate::printing::flush;
+use fedrun_fault::Fault;
+use fedrun_files::{Files, Sources, bytes_of, read_sources_and_bytes};
+use fedrun_reports::layout::LONGEST_REPORT;
+use fedrun_reports::{FileDigests, read_coordinator, take_report};
+use fedrun_run::{AuditedFault, RunOutput, print_audited};
+use fedrun_text::RowFormat;
+use node::Event;
+use recorder::IncrementalAudit;
+use recorder_reports::{Collector, Report};
+use std::alloc::Global;
+use std::io::Write;
+
+/// Prints the rows that report files prove: the coordinator's, and each federate's, in any order. Files are read in the order in
+/// which they are named, each before the next.
+#[tactic(auto, using(fedrun_files::proofs::InTurn::answered_in_turn))]
+pub(crate) fn audit<'a, F: Files, O: Write>(
+    alloc: Global,
+    federation: &'a str,
+    inputs: &'a str,
+    coordinator: &'a str,
+    federates: &[&'a str],
+    format: RowFormat,
+    files: &mut F,
+    out: &mut O,
+) -> Result<(), Fault<'a, NodeFault<'a>>>
+    ensures ok { OnOk result (PrintsReportFiles format (F.contents files.old) federation.entry.now inputs.entry.now coordinator.entry.now federates.now (O.contents out.old) (O.contents out.new)) }
+    ensures stands { IfErr result (IsFaultOfReports (F.contents files.old) (Answers (F.answers files.old) (F.answers files.new)) (O.contents out.old) (O.contents out.new) federation.entry inputs.entry coordinator.entry federates.now) }
+    ensures untouched { IfErr result (λ fault. status_of fault ≢ 3 → out.new ≡ out.old) }
+{
+    let (sources, bytes) = match read_sources_and_bytes(alloc, federation, inputs, files) {
+        Ok(read) => read,
+        Err(fault) => return Err(fault),
+    };
+    let digests = FileDigests::new(bytes.federation.as_slice(), bytes.inputs.as_slice());
+    drop(bytes);
+    let journal = match read_coordinator_file(alloc, &digests, coordinator, files) {
+        Ok(journal) => journal,
+        Err(fault) => return Err(fault),
+    };
+    let mut collector = Collector::new(alloc, &sources.plan);
+    match take_files(alloc, &digests, federates, &mut collector, files) {
+        Ok(()) => print_reports(
+            alloc,
+            &sources,
+            collector.reports(),
+            journal.as_slice(),
+            format,
+            out,
+        ),
+        Err(fault) => Err(fault),
+    }
+}
+
+/// The coordinator's journal, from its report of a run of these files.
+fn read_coordinator_file<'a, F: Files>(
+    alloc: Global,
+    digests: &FileDigests,
+    name: &'a str,
+    files: &mut F,
+) -> Result<Vec<Event>, Fault<'a, NodeFault<'a>>>
+    ensures ok { IfOk result (λ journal. IsCoordinatorFile digests.now (F.contents files.old name.entry.now) journal.items) }
+    ensures asked { OnOk result (Answers (F.answers files.old) (F.answers files.new) (given name.entry.now ∷ [])) }
+    ensures err { IfErr result (IsCoordinatorFileFault digests.now name.entry (F.contents files.old) (Answers (F.answers files.old) (F.answers files.new))) }
+    ensures early { IfErr result (λ fault. status_of fault ≡ 1) }
+    ensures same { F.contents files.new ≡ F.contents files.old }
+{
+    let bytes = match bytes_of(name, files, LONGEST_REPORT) {
+        Ok(bytes) => bytes,
+        Err(fault) => return Err(fault),
+    };
+    match read_coordinator(alloc, digests, bytes.as_slice()) {
+        Ok(journal) => Ok(journal),
+        Err(why) => Err(Fault::More(NodeFault::ReportFile(name, why))),
+    }
+}
+
+/// Takes the federates' reports, file by file.
+#[tactic(auto, using(fedrun_files::proofs::InTurn::answered_in_turn))]
+fn take_files<'a, F: Files>(
+    alloc: Global,
+    digests: &FileDigests,
+    names: &[&'a str],
+    collector: &mut Collector<'_>,
+    files: &mut F,
+) -> Result<(), Fault<'a, NodeFault<'a>>>
+    requires none { collector.old.reports ≡ [] }
+    ensures ok { OnOk result (AreFederateFiles (F.contents files.old) digests.now names.now collector.new.reports) }
+    ensures asked { OnOk result (Answers (F.answers files.old) (F.answers files.new) (all_given names.now)) }
+    ensures err { IfErr result (IsFirstFileFault digests.now collector.old.count names.now (F.contents files.old) (Answers (F.answers files.old) (F.answers files.new))) }
+    ensures early { IfErr result (λ fault. status_of fault ≡ 1) }
+{
+    for name in names {
+        match take_file(alloc, digests, *name, collector, files) {
+            Ok(()) => {}
+            Err(fault) => return Err(fault),
+        }
+    }
+    Ok(())
+}
+
+/// Takes a federate's report.
+fn take_file<'a, F: Files>(
+    alloc: Global,
+    digests: &FileDigests,
+    name: &'a str,
+    collector: &mut Collector<'_>,
+    files: &mut F,
+) -> Result<(), Fault<'a, NodeFault<'a>>>
+    ensures count { collector.new.count ≡ collector.old.count }
+    ensures ok { OnOk result ((report : IsReport) × IsFederateFile digests.now (F.contents files.old name.entry.now) report × (collector.new.reports ≡ collector.old.reports ++ report ∷ [])) }
+    ensures asked { OnOk result (Answers (F.answers files.old) (F.answers files.new) (given name.entry.now ∷ [])) }
+    ensures err { IfErr result (IsFederateFileFault digests.now collector.old.count collector.old.reports name.entry (F.contents files.old) (Answers (F.answers files.old) (F.answers files.new))) }
+    ensures early { IfErr result (λ fault. status_of fault ≡ 1) }
+    ensures same { F.contents files.new ≡ F.contents files.old }
+{
+    let bytes = match bytes_of(name, files, LONGEST_REPORT) {
+        Ok(bytes) => bytes,
+        Err(fault) => return Err(fault),
+    };
+    match take_report(alloc, collector, digests, bytes.as_slice()) {
+        Ok(()) => Ok(()),
+        Err(why) => Err(Fault::More(NodeFault::ReportFile(name, why))),
+    }
+}
+
+/// Prints the rows of reports that an audit proves with the coordinator's journal.
+fn print_reports<O: Write>(
+    alloc: Global,
+    sources: &Sources,
+    reports: &[Report],
+    journal: &[Event],
+    format: RowFormat,
+    out: &mut O,
+) -> Result<(), Fault<'static, NodeFault<'static>>>
+    requires programs { AreProgramsOf sources.now.plan sources.now.programs }
+    requires inputs { AreInputsOf sources.now.plan sources.now.inputs }
+    ensures ok { OnOk result (PrintsReports (Rows format) sources.now.plan sources.now.programs sources.now.inputs reports.now journal.now (O.contents out.old) (O.contents out.new)) }
+    ensures stands { IfErr result (IsUnprinted sources.now reports.now journal.now (O.contents out.old) (O.contents out.new)) }
+    ensures late { IfErr result (λ fault. status_of fault ≡ 3) }
+{
+    let Ok(audit) = IncrementalAudit::new(alloc, &sources.plan, &sources.programs, &sources.inputs)
+    else {
+        return Err(Fault::More(NodeFault::Run(desk::Memory)));
+    };
+    match print_audited(
+        alloc,
+        &sources.plan,
+        audit,
+        reports,
+        journal,
+        RunOutput::Rows(format),
+        out,
+    ) {
+        Ok(()) => flush(out),
+        Err(AuditedFault::NotFinished(_)) => Err(Fault::More(NodeFault::NotFinished)),
+        Err(AuditedFault::Unproved(failure)) => Err(Fault::More(NodeFault::Unproved(failure))),
+        Err(AuditedFault::Memory) => Err(Fault::More(NodeFault::Run(desk::Memory))),
+        Err(AuditedFault::CannotWrite) => Err(Fault::CannotWrite),
+    }
+}
