@@ -1,13 +1,15 @@
 //! The program `fedrun`: reads its words and files, and prints the rows of a federation.
 //!
-//! All it does is `fedrun_commands::command`, a function over words, files and writers; `main` hands it the machine's, and shows
-//! beside it how far it is, where that is asked for.
+//! All it does is `fedrun_commands::command`, a function over words, files and writers, or for one node on a machine of its own
+//! `fedrun_hosts::node_command`; `main` hands them the machine's, and shows beside a command how far it is, where that is asked for.
 #![tactic(auto)]
 
 use fedrun_commands::{NodeFault, command};
 use fedrun_fault::{Fault, refuse};
 use fedrun_files::MachineFiles;
+use fedrun_hosts::{asks_for_node, node_command};
 use fedrun_progress::{NoProgress, ProgressLine, asks_for_progress};
+use fedrun_saving::MachineDisk;
 use fedrun_whole::OUT_BYTES;
 use fedrun_words::{WordsFault, given_words};
 use std::io::{BufWriter, Stdout};
@@ -20,7 +22,10 @@ fn main(rt: HostRuntime) -> ExitCode {
         Ok((words, mut out)) => {
             let words = words.as_slice();
             let mut files = MachineFiles::new(&rt);
-            if asks_for_progress(words) {
+            if asks_for_node(words) {
+                let mut disk = MachineDisk::new(&rt);
+                node_command(&rt, words, &mut files, &mut disk, &mut out, &mut err)
+            } else if asks_for_progress(words) {
                 let line = ProgressLine::new(&rt);
                 let mut shown = rt.stderr();
                 let (_, status) = thread::join(

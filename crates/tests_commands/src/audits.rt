@@ -53,13 +53,24 @@ fn audited<R: Machine + Net<Stream = TcpStream, Listener = TcpListener>>(
     words: &[&str],
 ) -> Option<Outcome> {
     let reports = reports_of(rt.alloc(), federation, inputs, ALL_ROUNDS, true)?;
+    outcome_of_reports(rt, federation, inputs, &reports, words)
+}
+
+/// The same, where the reports are there.
+fn outcome_of_reports<'x, R: Machine + Net<Stream = TcpStream, Listener = TcpListener>>(
+    rt: &R,
+    federation: &'x str,
+    inputs: &'x str,
+    reports: &'x ReportFiles,
+    words: &[&str],
+) -> Option<Outcome> {
     let files = [
         ("f", federation.as_bytes()),
         ("i", inputs.as_bytes()),
         ("c", reports.coordinator.as_slice()),
-        ("0", federate_file(&reports, 0)),
-        ("1", federate_file(&reports, 1)),
-        ("2", federate_file(&reports, 2)),
+        ("0", federate_file(reports, 0)),
+        ("1", federate_file(reports, 1)),
+        ("2", federate_file(reports, 2)),
     ];
     outcome_over(rt, words, &files, &NoProgress)
 }
@@ -294,11 +305,11 @@ impl Judged {
 }
 
 /// What an audit says of the counter's three reports, the coordinator's first.
-fn outcome_of_three<R: Machine + Net<Stream = TcpStream, Listener = TcpListener>>(
+fn outcome_of_three<'x, R: Machine + Net<Stream = TcpStream, Listener = TcpListener>>(
     rt: &R,
-    coordinator: &[u8],
-    first: &[u8],
-    second: &[u8],
+    coordinator: &'x [u8],
+    first: &'x [u8],
+    second: &'x [u8],
 ) -> Option<Outcome> {
     let files = [
         ("f", COUNTER.as_bytes()),

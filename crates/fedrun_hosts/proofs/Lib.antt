@@ -1,0 +1,3 @@
+-- Lemmas.
+-- reports that were saved
+pub mod Saved

@@ -1,0 +1,59 @@
+-- Why a node on a machine of its own doesn't end well: the exit status that goes with each fault, and how it is printed.
+use Rattle.std.specs.Prelude.{ℕ, List, ◌++◌, codes}
+use Rattle.desk.specs.Fault.{memory_text}
+use Rattle.wires_greeting.specs.declared.key.SecretFault.{SecretFault}
+use Rattle.wires_greeting.specs.declared.key.SecretFault.TheVariants.{TooShort, TooLong, Missing}
+use Rattle.wires_hosts.specs.declared.dial_fault.DialFault.{DialFault}
+use Rattle.wires_hosts.specs.declared.dial_fault.DialFault.TheVariants as dial
+use Rattle.fedrun_reports.specs.Faults.{write_text}
+use Rattle.fedrun_saving.specs.Fault.{text_of}
+use Rattle.fedrun_hosts.specs.declared.fault.HostFault.{HostFault}
+use Rattle.fedrun_hosts.specs.declared.fault.HostFault.TheVariants.{Secret, NoSuchFederate, ReportExists, CannotListen, Refused, NotProved, NotFinished, Unwritten, Unsaved, Memory}
+
+-- the exit status where there is no key: 2 where words lack a secret
+abbrev pub secret_status : SecretFault → ℕ
+secret_status TooShort = 1
+secret_status TooLong = 1
+secret_status Missing = 2
+
+-- the exit status of a fault: 1 for what was given and isn't taken, by the node or by the coordinator, 3 for what stopped it after that
+abbrev pub host_status : HostFault → ℕ
+host_status (Secret fault) = secret_status fault
+host_status (NoSuchFederate name) = 1
+host_status (ReportExists name) = 1
+host_status CannotListen = 3
+host_status (Refused fault) = 1
+host_status NotProved = 1
+host_status NotFinished = 3
+host_status (Unwritten fault) = 3
+host_status (Unsaved name fault) = 3
+host_status (Memory memory) = 3
+
+abbrev pub secret_text : SecretFault → List ℕ
+secret_text TooShort = codes "112 SecretTooShort"
+secret_text TooLong = codes "113 SecretTooLong"
+secret_text Missing = codes "114 NoSecret"
+
+-- what the coordinator answered, by its name
+abbrev pub refusal_name : DialFault → List ℕ
+refusal_name dial.NotConnected = codes "Refused"
+refusal_name dial.NoRandom = codes "Refused"
+refusal_name dial.NoAnswer = codes "Refused"
+refusal_name dial.NotProved = codes "Refused"
+refusal_name dial.OtherFiles = codes "OtherFiles"
+refusal_name dial.NoSuchFederate = codes "NoSuchFederate"
+refusal_name dial.Finished = codes "Refused"
+refusal_name dial.NotAllowed = codes "NotAllowed"
+
+-- how a fault is printed; what a library answered is printed as the library has it
+abbrev pub printed_host_fault : HostFault → List ℕ
+printed_host_fault (Secret fault) = secret_text fault
+printed_host_fault (NoSuchFederate name) = codes "115 NoSuchFederate " ++ name.now
+printed_host_fault (ReportExists name) = codes "116 ReportExists " ++ name.now
+printed_host_fault CannotListen = codes "117 CannotListen"
+printed_host_fault (Refused fault) = codes "118 " ++ refusal_name fault
+printed_host_fault NotProved = codes "119 NotProved"
+printed_host_fault NotFinished = codes "not finished"
+printed_host_fault (Unwritten fault) = write_text fault
+printed_host_fault (Unsaved name fault) = codes "120 Unsaved " ++ name.now ++ codes ": " ++ text_of fault
+printed_host_fault (Memory memory) = memory_text

@@ -1,0 +1,90 @@
+ghost use Rattle.std.specs.Prelude.{◌≡◌, ◌≤◌, OnOk};
+ghost use Rattle.fedrun_hosts.specs.Ended.{HasEnded};
+
+use crate::coordinate::coordinate;
+use crate::fault::HostFault;
+use crate::join::join;
+use crate::request::HostRequest;
+use crate::words::read_node_words;
+use fedrun_fault::{Fault, refuse};
+use fedrun_files::Files;
+use fedrun_saving::Disk;
+use std::alloc::Global;
+use std::io::Write;
+use std::net::{Net, TcpListener, TcpStream};
+use std::random::RandomSource;
+use std::sync::Wait;
+use std::thread::Threads;
+use std::time::Clock;
+use wires::Terms;
+
+/// Runs the node for which the words ask, and answers the exit status: 0 where the run is finished and the node's report is written; 1
+/// where what it was given is refused, by itself or by the coordinator; 2 where the words are no command, or an address needs a
+/// secret; 3 where it couldn't finish. What it has to say of a failure is one line to `err`.
+pub fn node_command<
+    R: AllocGlobal
+        + Threads
+        + Wait
+        + Clock
+        + Net<Stream = TcpStream, Listener = TcpListener>
+        + RandomSource
+        + Sync,
+    F: Files,
+    D: Disk,
+    O: Write,
+    E: Write,
+>(rt: &R, words: &[String], files: &mut F, disk: &mut D, out: &mut O, err: &mut E) -> u8
+    ensures ended { result ≡ 0 → HasEnded (F.contents files.old) (D.contents disk.old) (D.contents disk.new) }
+    ensures quiet { result ≡ 0 → err.new ≡ err.old }
+    ensures statuses { result ≤ 3 }
+{
+    match perform(rt, rt.alloc(), words, files, disk, out) {
+        Ok(()) => 0,
+        Err(fault) => refuse(&fault, err).status,
+    }
+}
+
+// Does what the words ask for.
+fn perform<
+    'a,
+    R: Threads
+        + Wait
+        + Clock
+        + Net<Stream = TcpStream, Listener = TcpListener>
+        + RandomSource
+        + Sync,
+    F: Files,
+    D: Disk,
+    O: Write,
+>(
+    rt: &R,
+    alloc: Global,
+    words: &'a [String],
+    files: &mut F,
+    disk: &mut D,
+    out: &mut O,
+) -> Result<(), Fault<'a, HostFault<'a>>>
+    ensures { OnOk result (HasEnded (F.contents files.old) (D.contents disk.old) (D.contents disk.new)) }
+{
+    match read_node_words(alloc, words) {
+        Ok(HostRequest::Coordinate(node)) => coordinate(rt, alloc, &node, files, disk, out),
+        Ok(
+            HostRequest::Join {
+                node,
+                name,
+                turns,
+                frames,
+            },
+        ) => join(
+            rt,
+            alloc,
+            &node,
+            name,
+            Terms { turns, frames },
+            files,
+            disk,
+            out,
+        ),
+        Err(why) => Err(Fault::of_words(why)),
+    }
+}

@@ -1,0 +1,99 @@
+ghost use Rattle.std.specs.Prelude.{◌≡◌};
+ghost use Rattle.fedrun_hosts.specs.Faults.{refusal_name};
+
+use fedrun_fault::MoreFault;
+use fedrun_reports::WriteFault;
+use fedrun_saving::SaveFault;
+use std::fmt;
+use wires_greeting::SecretFault;
+use wires_hosts::DialFault;
+
+/// Why a node on a machine of its own doesn't end well: those faults that other commands don't have.
+#[derive(Clone, Copy, Debug)]
+pub enum HostFault<'a> {
+    /// There is no key, and the inner fault says why. Nothing was begun.
+    Secret(SecretFault),
+    /// The federation has no federate of this name. Nothing was begun.
+    NoSuchFederate(&'a str),
+    /// A file of this name, under which the report is to be written, is there already. It is left as it is, and nothing was begun: a
+    /// federate that begins anew isn't the one that it was. It is put away, or another name is given.
+    ReportExists(&'a str),
+    /// Nothing can listen at the address. Nothing was begun. Another address is given, or who listens there is ended.
+    CannotListen,
+    /// The coordinator, which has the secret, doesn't let the federate take part, and this is why. The report was written.
+    Refused(DialFault),
+    /// Whoever answered at the address hasn't the secret, or the greeting was changed on its way. The report was written.
+    NotProved,
+    /// The run isn't finished: nobody was heard for so long, or the federate's turns were made before, or a thread couldn't be
+    /// started. The report was written, where there was a node.
+    NotFinished,
+    /// The report has no spelling, and the inner fault says why. None was written.
+    Unwritten(WriteFault),
+    /// The report couldn't be written under this name, and the inner fault says why. No file of this name is there.
+    Unsaved(&'a str, SaveFault),
+    /// No memory for the node or its workers. No report was written.
+    Memory(desk::Memory),
+}
+
+impl MoreFault for HostFault<'_> {
+    ghost use Rattle.std.specs.Prelude.{refl};
+    ghost use Rattle.fedrun_hosts.specs.Faults.{host_status, printed_host_fault};
+
+    ghost status_of = { host_status };
+
+    ghost printed_fault = { printed_host_fault };
+
+    fn status(&self) -> u8 {
+        match self {
+            HostFault::Secret(SecretFault::Missing) => 2,
+            HostFault::Secret(_)
+            | HostFault::NoSuchFederate(_)
+            | HostFault::ReportExists(_)
+            | HostFault::Refused(_)
+            | HostFault::NotProved => 1,
+            HostFault::CannotListen
+            | HostFault::NotFinished
+            | HostFault::Unwritten(_)
+            | HostFault::Unsaved(_, _)
+            | HostFault::Memory(_) => 3,
+        }
+    }
+
+    ghost displayed = { λ _. refl };
+}
+
+impl fmt::Display for HostFault<'_> {
+    ghost use Rattle.std.specs.Prelude.{Some};
+    ghost use Rattle.fedrun_hosts.specs.Faults.{printed_host_fault};
+
+    ghost output = { λ fault. Some (printed_host_fault fault) };
+
+    fn fmt<W: fmt::Write>(&self, f: &mut fmt::Formatter<W>) -> fmt::Result {
+        match self {
+            HostFault::Secret(SecretFault::TooShort) => write!(f, "112 SecretTooShort"),
+            HostFault::Secret(SecretFault::TooLong) => write!(f, "113 SecretTooLong"),
+            HostFault::Secret(SecretFault::Missing) => write!(f, "114 NoSecret"),
+            HostFault::NoSuchFederate(name) => write!(f, "115 NoSuchFederate {name}"),
+            HostFault::ReportExists(name) => write!(f, "116 ReportExists {name}"),
+            HostFault::CannotListen => write!(f, "117 CannotListen"),
+            HostFault::Refused(fault) => write!(f, "118 {}", refusal_name(*fault)),
+            HostFault::NotProved => write!(f, "119 NotProved"),
+            HostFault::NotFinished => write!(f, "not finished"),
+            HostFault::Unwritten(fault) => write!(f, "{fault}"),
+            HostFault::Unsaved(name, fault) => write!(f, "120 Unsaved {name}: {fault}"),
+            HostFault::Memory(memory) => write!(f, "{memory}"),
+        }
+    }
+}
+
+/// The name of what a coordinator answered.
+fn refusal_name(fault: DialFault) -> &'static str
+    ensures { result.now ≡ refusal_name fault }
+{
+    match fault {
+        DialFault::OtherFiles => "OtherFiles",
+        DialFault::NoSuchFederate => "NoSuchFederate",
+        DialFault::NotAllowed => "NotAllowed",
+        _ => "Refused",
+    }
+}

@@ -1,0 +1,165 @@
+//! One federate, in a process of its own.
+ghost use Rattle.std.specs.Prelude.{◌≡◌, OnOk};
+ghost use Rattle.plan.specs.External.{AreInputsOf};
+ghost use Rattle.reactor_programs.specs.Programs.{AreProgramsOf};
+ghost use Rattle.fedrun_hosts.specs.Ended.{HasJoined};
+
+use crate::coordinate::{fault_of_run, seconds};
+use crate::fault::HostFault;
+use crate::loaded::{Loaded, load};
+use crate::report::save_report;
+use crate::request::NodeRequest;
+use crate::saying::say_finished;
+use desk::Desk;
+use federate::Federate;
+use fedrun_fault::Fault;
+use fedrun_files::Files;
+use fedrun_reports::NodeReport;
+use fedrun_run::federate_desks;
+use fedrun_saving::Disk;
+use plan::Plan;
+use recorder_reports::Report;
+use std::alloc::Global;
+use std::io::Write;
+use std::net::{Net, TcpListener, TcpStream};
+use std::random::RandomSource;
+use std::sync::Wait;
+use std::thread::Threads;
+use std::time::Clock;
+use wires::{RunFault, Terms};
+use wires_hosts::{DialFault, FederateHost, Heard, HostDial, Patience};
+use wires_node::run_federate;
+use wires_transports::Ending;
+use wires_workers::NoGate;
+
+/// Runs the federate of this name until it hears that the run is finished, its end is closed, its turns are made, the coordinator
+/// refuses it, or nobody was heard for its patience; its report is written in each case.
+pub fn join<
+    'a,
+    R: Threads
+        + Wait
+        + Clock
+        + Net<Stream = TcpStream, Listener = TcpListener>
+        + RandomSource
+        + Sync,
+    F: Files,
+    D: Disk,
+    O: Write,
+>(
+    rt: &R,
+    alloc: Global,
+    node: &NodeRequest<'a>,
+    name: &'a str,
+    terms: Terms,
+    files: &mut F,
+    disk: &mut D,
+    out: &mut O,
+) -> Result<(), Fault<'a, HostFault<'a>>>
+    ensures { OnOk result (HasJoined (F.contents files.old) node.now (D.contents disk.old) (D.contents disk.new)) }
+{
+    let loaded = match load(alloc, node, files, disk) {
+        Ok(loaded) => loaded,
+        Err(fault) => return Err(fault),
+    };
+    let Some(number) = number_of(&loaded.sources.plan, name) else {
+        return Err(Fault::More(HostFault::NoSuchFederate(name)));
+    };
+    let Ok(heard) = Heard::new(alloc, 0) else {
+        return Err(Fault::More(HostFault::Memory(desk::Memory)));
+    };
+    let desk = match run_joined(rt, alloc, node, &loaded, number, terms, &heard) {
+        Ok(desk) => desk,
+        Err(why) => return Err(fault_of_run(why)),
+    };
+    let (station, journal) = desk.into_parts();
+    let report = NodeReport::Federate(Report {
+        federate: usize::from(number),
+        rows: station.into_node().into_rows(),
+        journal,
+    });
+    match save_report(alloc, &loaded.digests, &report, node.report, disk) {
+        Ok(()) => match fault_by(heard.last_fault()) {
+            None => say_finished(out),
+            Some(fault) => Err(Fault::More(fault)),
+        },
+        Err(fault) => Err(fault),
+    }
+}
+
+// The number of the federate of this name.
+fn number_of(plan: &Plan, name: &str) -> Option<u16> {
+    let place = plan
+        .federates()
+        .iter()
+        .position(|federate| federate.name.as_str() == name)?;
+    u16::try_from(place).ok()
+}
+
+// Runs a federate, which connects to the node's address; its desk then.
+fn run_joined<
+    'n,
+    R: Threads
+        + Wait
+        + Clock
+        + Net<Stream = TcpStream, Listener = TcpListener>
+        + RandomSource
+        + Sync,
+>(
+    rt: &R,
+    alloc: Global,
+    node: &NodeRequest<'_>,
+    loaded: &'n Loaded,
+    number: u16,
+    terms: Terms,
+    heard: &Heard,
+) -> Result<Desk<Federate<'n>>, RunFault>
+    requires programs { AreProgramsOf loaded.now.sources.plan loaded.now.sources.programs }
+    requires inputs { AreInputsOf loaded.now.sources.plan loaded.now.sources.inputs }
+{
+    let sources = &loaded.sources;
+    let desks = federate_desks(alloc, &sources.plan, &sources.programs, &sources.inputs);
+    let desk = match desks {
+        Ok(desks) => desks.into_iter().nth(usize::from(number)),
+        Err(_) => None,
+    };
+    let Some(desk) = desk else {
+        return Err(RunFault::Memory);
+    };
+    let ending = Ending::new();
+    let host = FederateHost {
+        address: node.address,
+        key: loaded.key,
+        files: loaded.files,
+        federate: number,
+    };
+    let dial = HostDial::new(rt, host, heard, &ending);
+    let patience = Patience {
+        heard,
+        ending: &ending,
+        most: node.patience.map(seconds),
+    };
+    run_federate(
+        rt,
+        alloc,
+        usize::from(number),
+        desk,
+        dial,
+        &NoGate,
+        terms,
+        patience,
+        &ending,
+    )
+}
+
+// Why the run isn't finished, as the last attempt to connect was answered; None where it is.
+fn fault_by(last: Option<DialFault>) -> Option<HostFault<'static>> {
+    match last {
+        Some(DialFault::Finished) => None,
+        Some(fault @ (DialFault::OtherFiles | DialFault::NoSuchFederate | DialFault::NotAllowed)) =>
+            Some(HostFault::Refused(fault)),
+        Some(DialFault::NotProved) => Some(HostFault::NotProved),
+        Some(DialFault::NotConnected | DialFault::NoRandom | DialFault::NoAnswer) | None => {
+            Some(HostFault::NotFinished)
+        }
+    }
+}

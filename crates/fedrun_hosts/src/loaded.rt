@@ -1,0 +1,63 @@
+ghost use Rattle.std.specs.Prelude.{◌≡◌, IfOk};
+ghost use Rattle.fedrun_files.specs.Loaded.{input_file, AreSources};
+ghost use Rattle.fedrun_commands.specs.ReportFiles.{AreDigestsOf};
+
+use crate::fault::HostFault;
+use crate::report::refuse_existing;
+use crate::request::NodeRequest;
+use crate::secret::read_key;
+use fedrun_fault::Fault;
+use fedrun_files::{Files, Sources, read_sources_and_bytes};
+use fedrun_reports::FileDigests;
+use fedrun_saving::Disk;
+use std::alloc::Global;
+use wires_greeting::{DIGEST_SIZE, Key, files_digest};
+
+/// What a node begins with.
+#[derive(Drop)]
+pub(crate) struct Loaded {
+    pub sources: Sources,
+    /// Of the two files, for its report.
+    pub digests: FileDigests,
+    /// Of both, for the greeting.
+    pub files: [u8; DIGEST_SIZE],
+    pub key: Key,
+}
+
+/// Reads the federation, the recorded inputs and the secret, in this order, and looks whether the report may be written.
+pub(crate) fn load<'a, F: Files, D: Disk>(
+    alloc: Global,
+    node: &NodeRequest<'a>,
+    files: &mut F,
+    disk: &mut D,
+) -> Result<Loaded, Fault<'a, HostFault<'a>>>
+    ensures sources { IfOk result (λ loaded. AreSources (F.contents files.old node.now.federation.now) (input_file (F.contents files.old) node.now.inputs.now) loaded.sources) }
+    ensures digests { IfOk result (λ loaded. AreDigestsOf (F.contents files.old node.now.federation.now) (input_file (F.contents files.old) node.now.inputs.now) loaded.digests) }
+    ensures same { D.contents disk.new ≡ D.contents disk.old }
+{
+    let (sources, bytes) = match read_sources_and_bytes(
+        alloc,
+        node.federation,
+        node.inputs,
+        files,
+    ) {
+        Ok(read) => read,
+        Err(fault) => return Err(fault),
+    };
+    let digests = FileDigests::new(bytes.federation.as_slice(), bytes.inputs.as_slice());
+    let both = files_digest(bytes.federation.as_slice(), bytes.inputs.as_slice());
+    drop(bytes);
+    let key = match read_key(node, files) {
+        Ok(key) => key,
+        Err(fault) => return Err(fault),
+    };
+    match refuse_existing(node.report, disk) {
+        Ok(()) => Ok(Loaded {
+            sources,
+            digests,
+            files: both,
+            key,
+        }),
+        Err(fault) => Err(fault),
+    }
+}

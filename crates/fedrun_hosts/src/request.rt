@@ -1,0 +1,34 @@
+use std::net::SocketAddr;
+
+/// What a node on a machine of its own is given, whichever node it is. Files are given by their names.
+#[derive(Clone, Copy, Debug, PartialEq, Eq)]
+pub struct NodeRequest<'a> {
+    pub federation: &'a str,
+    /// `-` is a file without any inputs.
+    pub inputs: &'a str,
+    /// The coordinator's address: it listens there, and federates connect to it.
+    pub address: SocketAddr,
+    /// Where the node's report is written. There is no file of this name.
+    pub report: &'a str,
+    /// The file of the secret that all nodes have.
+    pub secret: Option<&'a str>,
+    /// After so many seconds in which nobody was heard it gives up.
+    pub patience: Option<u32>,
+}
+
+/// What the words ask for.
+#[derive(Clone, Copy, Debug, PartialEq, Eq)]
+pub enum HostRequest<'a> {
+    /// The coordinator, until the run is finished.
+    Coordinate(NodeRequest<'a>),
+    /// One federate.
+    Join {
+        node: NodeRequest<'a>,
+        /// The federate's name.
+        name: &'a str,
+        /// How many turns it may make.
+        turns: u32,
+        /// The version of frames that it writes, 1 or 2.
+        frames: u8,
+    },
+}

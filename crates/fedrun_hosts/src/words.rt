@@ -1,0 +1,149 @@
+use crate::request::{HostRequest, NodeRequest};
+use clap::error::ErrorKind;
+use clap::{Arg, ArgAction, ArgMatches, Command};
+use fedrun_words::WordsFault;
+use std::alloc::{AllocError, Global};
+use std::net::SocketAddr;
+
+/// The turns of a federate for which no number is given: it makes one at least each 100 ms in which it hears nothing.
+const JOIN_TURNS: u32 = 1_000_000;
+
+/// The version of frames of a federate for which none is given.
+const JOIN_FRAMES: u8 = 2;
+
+const COORDINATE: &str = "coordinate";
+
+const JOIN: &str = "join";
+
+/// Whether the words are a command of this crate.
+pub fn asks_for_node(words: &[String]) -> bool {
+    match words.first() {
+        Some(word) => word.as_str() == COORDINATE || word.as_str() == JOIN,
+        None => false,
+    }
+}
+
+/// What the words ask for: one of the two commands with its arguments and options.
+pub fn read_node_words<'a>(
+    alloc: Global,
+    words: &'a [String],
+) -> Result<HostRequest<'a>, WordsFault> {
+    let Ok(command) = commands(alloc) else {
+        return Err(WordsFault::Memory);
+    };
+    let matches = command.try_get_matches_from(words).map_err(|error| {
+        if error.kind() == ErrorKind::OutOfMemory {
+            WordsFault::Memory
+        } else {
+            WordsFault::Usage
+        }
+    })?;
+    requested(&matches).ok_or(WordsFault::Usage)
+}
+
+fn requested<'a>(matches: &ArgMatches<'a>) -> Option<HostRequest<'a>> {
+    if let Some(given) = matches.subcommand_matches(COORDINATE) {
+        return Some(HostRequest::Coordinate(node(given, "listen")?));
+    }
+    let given = matches.subcommand_matches(JOIN)?;
+    Some(HostRequest::Join {
+        node: node(given, "connect")?,
+        name: given.get_str("NAME")?,
+        turns: number(given, "turns", JOIN_TURNS)?,
+        frames: frames(given)?,
+    })
+}
+
+/// Both commands.
+fn commands<'a>(alloc: Global) -> Result<Command<'a>, AllocError> {
+    Command::new(alloc, "fedrun")
+        .no_binary_name(true)
+        .disable_help_flag(true)
+        .disable_help_subcommand(true)
+        .subcommand_required(true)
+        .subcommand(described(
+            alloc,
+            COORDINATE,
+            &["FED", "IN"],
+            &["listen", "report"],
+            &["secret", "patience"],
+        )?)?
+        .subcommand(described(
+            alloc,
+            JOIN,
+            &["FED", "IN", "NAME"],
+            &["connect", "report"],
+            &["secret", "patience", "turns", "frames"],
+        )?)
+}
+
+/// A command as `clap` has it. An option may be given once.
+fn described<'a>(
+    alloc: Global,
+    name: &'static str,
+    arguments: &[&'static str],
+    needed: &[&'static str],
+    options: &[&'static str],
+) -> Result<Command<'a>, AllocError> {
+    let mut command = Command::new(alloc, name).disable_help_flag(true);
+    for argument in arguments {
+        command = command.arg(Arg::new(alloc, *argument).required(true))?;
+    }
+    for option in needed {
+        command = command.arg(
+            Arg::new(alloc, *option)
+                .long(*option)
+                .required(true)
+                .action(ArgAction::Set),
+        )?;
+    }
+    for option in options {
+        command = command.arg(
+            Arg::new(alloc, *option)
+                .long(*option)
+                .action(ArgAction::Set),
+        )?;
+    }
+    Ok(command)
+}
+
+/// What every node is given, with the address under this option.
+fn node<'a>(given: &ArgMatches<'a>, address: &str) -> Option<NodeRequest<'a>> {
+    Some(NodeRequest {
+        federation: given.get_str("FED")?,
+        inputs: given.get_str("IN")?,
+        address: given.get_str(address)?.parse::<SocketAddr>().ok()?,
+        report: given.get_str("report")?,
+        secret: given.get_str("secret"),
+        patience: match given.get_str("patience") {
+            Some(seconds) => Some(count(seconds)?),
+            None => None,
+        },
+    })
+}
+
+/// The version of frames that a federate writes.
+fn frames(given: &ArgMatches<'_>) -> Option<u8> {
+    match number(given, "frames", u32::from(JOIN_FRAMES))? {
+        1 => Some(1),
+        2 => Some(2),
+        _ => None,
+    }
+}
+
+/// The number under an option, or this one where it isn't given.
+fn number(given: &ArgMatches<'_>, option: &str, default: u32) -> Option<u32> {
+    match given.get_str(option) {
+        Some(text) => count(text),
+        None => Some(default),
+    }
+}
+
+/// A number in ASCII digits.
+fn count(text: &str) -> Option<u32> {
+    if text.bytes().all(|byte| byte.is_ascii_digit()) {
+        text.parse::<u32>().ok()
+    } else {
+        None
+    }
+}

@@ -1,0 +1,13 @@
+-- How it is printed that a file isn't saved.
+use Rattle.std.specs.Prelude.{ℕ, List, codes}
+use Rattle.fedrun_saving.specs.declared.save_fault.SaveFault.{SaveFault}
+use Rattle.fedrun_saving.specs.declared.save_fault.SaveFault.TheVariants.{Exists, CannotLook, CannotCreate, CannotWrite, CannotSync, CannotRename}
+
+-- what is printed of it
+abbrev pub text_of : SaveFault → List ℕ
+text_of Exists = codes "exists already"
+text_of CannotLook = codes "cannot look"
+text_of CannotCreate = codes "cannot create"
+text_of CannotWrite = codes "cannot write"
+text_of CannotSync = codes "cannot sync"
+text_of CannotRename = codes "cannot rename"

@@ -1,0 +1,40 @@
+ghost use Rattle.std.specs.Prelude.{◌≡◌, ◌≢◌, ◌↔◌, ℕ, List, Option, None, IsTrue, IsSome, IfOk, IfErr, IfSome, OnOk, OnErr};
+ghost use Rattle.fedrun_saving.specs.Contents.{KnownOf, SameBut};
+ghost use Rattle.fedrun_saving.specs.Saved.{IsCreated, IsRenamed};
+ghost use Rattle.fedrun_saving.specs.declared.save_fault.SaveFault.TheVariants.{Exists as exists_already, CannotLook, CannotRename};
+
+use crate::save_fault::SaveFault;
+
+/// Files by name, as `save` needs them.
+pub trait Disk {
+    ghost use Rattle.fedrun_saving.specs.Contents.{Contents};
+
+    // What each file holds, where that is known.
+    ghost contents: { Self → Option Contents } = { λ _. None };
+
+    /// Whether there is something of this name.
+    fn exists(&mut self, name: &str) -> Result<bool, SaveFault>
+        ensures there { IfOk result (λ there. IfSome (contents self.old) (λ files. IsTrue there ↔ IsSome (files name.now))) }
+        ensures fault { IfErr result (λ fault. fault ≡ CannotLook) }
+        ensures same { contents self.new ≡ contents self.old };
+
+    /// Makes a file of this name with these bytes, which the disk keeps then. Where there is one already, nothing has changed; else
+    /// it may be there, with any bytes.
+    fn create(&mut self, name: &str, bytes: &[u8]) -> Result<(), SaveFault>
+        ensures created { OnOk result (KnownOf (contents self.old) (contents self.new) (IsCreated name.now bytes.now)) }
+        ensures others { OnErr result (KnownOf (contents self.old) (contents self.new) (SameBut name.now)) }
+        ensures fault { IfErr result (λ fault. (fault ≢ CannotLook) × (fault ≢ CannotRename)) }
+        ensures there { result ≡ Err exists_already → IfSome (contents self.old) (λ files. IsSome (files name.now)) }
+        ensures same { result ≡ Err exists_already → contents self.new ≡ contents self.old };
+
+    /// Gives a file another name, under which there is no other any more, at once: whoever looks finds the one or the other there.
+    fn rename(&mut self, from: &str, to: &str) -> Result<(), SaveFault>
+        requires { from.now ≢ to.now }
+        ensures renamed { OnOk result (KnownOf (contents self.old) (contents self.new) (IsRenamed from.now to.now)) }
+        ensures fault { IfErr result (λ fault. fault ≡ CannotRename) }
+        ensures same { OnErr result (contents self.new ≡ contents self.old) };
+
+    /// Removes the file of this name, if that can be done.
+    fn remove(&mut self, name: &str)
+        ensures { KnownOf (contents self.old) (contents self.new) (SameBut name.now) };
+}

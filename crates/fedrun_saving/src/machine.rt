@@ -1,0 +1,77 @@
+ghost use Rattle.std.specs.Prelude.{◌≡◌, ◌≢◌};
+ghost use Rattle.std.specs.IoError.{error_kind};
+ghost use Rattle.fedrun_saving.specs.declared.save_fault.SaveFault.TheVariants.{Exists as exists_already, CannotCreate as cannot_create};
+
+use crate::disk::Disk;
+use crate::save_fault::SaveFault;
+use std::fs::{File, OpenFile};
+use std::io::{ErrorKind, Write};
+use std::{fs, io, rt};
+
+/// The machine's files.
+#[derive(Drop)]
+pub struct MachineDisk<'a, R> {
+    rt: &'a R,
+}
+
+impl<'a, R> MachineDisk<'a, R> {
+    pub fn new(rt: &'a R) -> MachineDisk<'a, R>
+        ensures { result.rt ≡ rt.entry }
+    {
+        MachineDisk { rt }
+    }
+}
+
+impl<R: rt::Files> Disk for MachineDisk<'_, R> {
+    fn exists(&mut self, name: &str) -> Result<bool, SaveFault> {
+        match fs::symlink_metadata(self.rt, name) {
+            Ok(_) => Ok(true),
+            Err(error) if error.kind() == ErrorKind::NotFound => Ok(false),
+            Err(_) => Err(SaveFault::CannotLook),
+        }
+    }
+
+    fn create(&mut self, name: &str, bytes: &[u8]) -> Result<(), SaveFault> {
+        let mut file = File::create_new(self.rt, name).map_err(|error| fault_of(&error))?;
+        file.write_all(bytes).map_err(|_| SaveFault::CannotWrite)?;
+        file.sync_all().map_err(|_| SaveFault::CannotSync)
+    }
+
+    // Where the folder can't be synced, a machine that stops may have the older file again, which is whole too.
+    fn rename(&mut self, from: &str, to: &str) -> Result<(), SaveFault> {
+        fs::rename(self.rt, from, to).map_err(|_| SaveFault::CannotRename)?;
+        let _ = sync_folder(self.rt, folder_of(to));
+        Ok(())
+    }
+
+    fn remove(&mut self, name: &str) {
+        let _ = fs::remove_file(self.rt, name);
+    }
+}
+
+// Why a file isn't made, where the machine has this error.
+fn fault_of(error: &io::Error) -> SaveFault
+    ensures there { error_kind error.now ≡ ErrorKind.AlreadyExists → result ≡ exists_already }
+    ensures other { error_kind error.now ≢ ErrorKind.AlreadyExists → result ≡ cannot_create }
+{
+    if error.kind() == ErrorKind::AlreadyExists {
+        SaveFault::Exists
+    } else {
+        SaveFault::CannotCreate
+    }
+}
+
+// The folder in which a file of this name stands.
+fn folder_of(name: &str) -> &str {
+    match name.rsplit_once('/') {
+        Some(("", _)) => "/",
+        Some((folder, _)) => folder,
+        None => ".",
+    }
+}
+
+// The disk keeps which names the files of a folder have.
+fn sync_folder<R: rt::Files>(rt: &R, folder: &str) -> io::Result<()> {
+    let folder = fs::open(rt, folder)?;
+    folder.sync_all()
+}

@@ -1,0 +1,16 @@
+//! Files that are saved by their temporary names.
+use fedrun_saving::{Disk, SaveFault, save, temporary_name};
+use std::alloc::Global;
+
+/// What is answered when a file is saved; none where there is no memory.
+pub(crate) fn saved<D: Disk>(
+    alloc: Global,
+    disk: &mut D,
+    name: &str,
+    bytes: &[u8],
+) -> Option<Result<(), SaveFault>> {
+    match temporary_name(alloc, name) {
+        Ok(temporary) => Some(save(disk, temporary.as_str(), name, bytes)),
+        Err(_) => None,
+    }
+}

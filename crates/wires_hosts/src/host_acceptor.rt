@@ -1,0 +1,290 @@
+//! The worker that lets federates' processes in, for the coordinator's.
+use crate::heard::Heard;
+use crate::heard_transport::HeardTransport;
+use crate::pending_host::{HostState, PendingHost, Terms};
+use crate::times::LONGEST_PATIENCE_MS;
+use crossbeam_channel::Sender;
+use std::alloc::{AllocError, Global};
+use std::net::TcpListener;
+use std::random::RandomSource;
+use std::sync::{Arc, Wait};
+use std::thread;
+use std::time::{Clock, Duration};
+use wires_greeting::{DIGEST_SIZE, Key};
+use wires_transports::times::{CALM_AFTER_MS, CALM_PAUSE_MS, END_MS, PAUSE_MS};
+use wires_transports::{Accepted, Acceptor, Cut, Deadline, Ending, TcpCut, TcpTransport};
+
+// Connections that are taken from the listener in a row, at most.
+const AT_ONCE: usize = 64;
+
+/// Connections that aren't let in so far, at most. Of more the oldest are given up.
+pub const PENDING_MOST: usize = 128;
+
+/// To a federate's reader.
+pub type HostReader<'a> = Sender<Accepted<HeardTransport<'a, TcpTransport>, TcpCut>>;
+
+/// Where federates' processes connect, and by what they are let in.
+#[derive(Drop)]
+pub struct HostEntrance {
+    /// See `listen_at`.
+    pub listener: TcpListener,
+    pub key: Key,
+    /// The digest of the coordinator's files, by `files_digest`.
+    pub files: [u8; DIGEST_SIZE],
+    /// How long whoever asks is told that the run is finished.
+    pub patience: Duration,
+}
+
+/// Lets federates' processes in that have the secret and the same files. Each one's connection goes to its reader, with its Hello, and
+/// the older one, if there is one, is ended. What fails the greeting is closed without an event, and what is silent keeps nobody
+/// else waiting. Once the run is to end, readers get no more connections, and what they haven't read to the end a second later is
+/// ended. Where the run is finished, whoever asks then is told so, until all federates were or the patience is over.
+///
+/// That a federate was told is said by whoever greets in its name, without a proof: so anybody who can connect can have the
+/// coordinator end before its patience is over.
+#[derive(Drop)]
+pub struct HostAcceptor<'a, S: RandomSource> {
+    random: &'a S,
+    entrance: HostEntrance,
+    heard: &'a Heard,
+    readers: Vec<HostReader<'a>>,
+    // The connection of each federate, while it has one.
+    current: Vec<Option<Arc<TcpCut>>>,
+    // All federates may take part.
+    allowed: Vec<bool>,
+}
+
+impl<'a, S: RandomSource> HostAcceptor<'a, S> {
+    /// Whoever is let in goes to these readers, of each federate by its number. Random bytes come from this machine.
+    pub fn new(
+        alloc: Global,
+        random: &'a S,
+        entrance: HostEntrance,
+        heard: &'a Heard,
+        readers: Vec<HostReader<'a>>,
+    ) -> Result<HostAcceptor<'a, S>, AllocError> {
+        let mut current = Vec::new(alloc);
+        current.resize_with(readers.len(), || None)?;
+        let mut allowed = Vec::new(alloc);
+        allowed.resize_with(readers.len(), || true)?;
+        Ok(HostAcceptor {
+            random,
+            entrance,
+            heard,
+            readers,
+            current,
+            allowed,
+        })
+    }
+}
+
+impl<'a, S: RandomSource> Acceptor for HostAcceptor<'a, S> {
+    fn let_in<R: Wait + Clock>(self, rt: &R, alloc: Global, ending: &Ending) {
+        let HostAcceptor {
+            random,
+            entrance,
+            heard,
+            readers,
+            mut current,
+            allowed,
+        } = self;
+        let terms = Terms {
+            random,
+            allowed: &allowed,
+            is_finished: false,
+        };
+        let pending = let_in_until(
+            rt,
+            alloc,
+            &entrance,
+            &terms,
+            heard,
+            &readers,
+            &mut current,
+            ending,
+        );
+        drop(readers);
+        end_all(rt, &current);
+        if heard.is_finished(ending) {
+            let terms = Terms {
+                random,
+                allowed: &allowed,
+                is_finished: true,
+            };
+            tell_all(rt, alloc, &entrance, &terms, heard, pending);
+        }
+    }
+}
+
+// Lets connections in until the run is to end; those that aren't let in so far.
+fn let_in_until<'a, R: Wait + Clock, S: RandomSource>(
+    rt: &R,
+    alloc: Global,
+    entrance: &HostEntrance,
+    terms: &Terms<'_, S>,
+    heard: &'a Heard,
+    readers: &[HostReader<'a>],
+    current: &mut [Option<Arc<TcpCut>>],
+    ending: &Ending,
+) -> Vec<PendingHost> {
+    let mut pending = Vec::new(alloc);
+    let mut calm = Deadline::after(rt, CALM_AFTER_MS);
+    for _ in rt.forever() {
+        if ending.is_set() {
+            break;
+        }
+        let has_come = accept_some(rt, entrance, &mut pending);
+        if has_come || !pending.is_empty() || !are_all_there(current) {
+            calm = Deadline::after(rt, CALM_AFTER_MS);
+        }
+        if !has_come {
+            thread::sleep(rt, Duration::from_millis(pause(calm.has_passed(rt))));
+        }
+        pending = listen_to(rt, alloc, terms, heard, pending, readers, current);
+    }
+    pending
+}
+
+// Tells whoever asks that the run is finished, until all federates were told or the patience is over.
+fn tell_all<R: Wait + Clock, S: RandomSource>(
+    rt: &R,
+    alloc: Global,
+    entrance: &HostEntrance,
+    terms: &Terms<'_, S>,
+    heard: &Heard,
+    pending: Vec<PendingHost>,
+) {
+    let mut pending = pending;
+    let patience = Deadline::after(rt, millis(entrance.patience));
+    for _ in rt.forever() {
+        if heard.are_all_told() || patience.has_passed(rt) {
+            break;
+        }
+        if !accept_some(rt, entrance, &mut pending) {
+            thread::sleep(rt, Duration::from_millis(PAUSE_MS));
+        }
+        pending = listen_to(rt, alloc, terms, heard, pending, &[], &mut []);
+    }
+}
+
+// A time in ms, a year at most.
+fn millis(duration: Duration) -> u64 {
+    duration
+        .as_secs()
+        .saturating_mul(1000)
+        .saturating_add(u64::from(duration.subsec_millis()))
+        .min(LONGEST_PATIENCE_MS)
+}
+
+// Whether every federate has a connection that a worker has.
+fn are_all_there(current: &[Option<Arc<TcpCut>>]) -> bool {
+    current.iter().all(|place| matches!(place, Some(cut) if Arc::strong_count(cut) > 1))
+}
+
+// How long it waits for connections before it looks again, in ms.
+fn pause(is_calm: bool) -> u64 {
+    if is_calm { CALM_PAUSE_MS } else { PAUSE_MS }
+}
+
+// Takes connections that came to those that are pending, and gives up the oldest where these are too many; whether one came. One
+// for which there is no memory is closed.
+fn accept_some<R: Clock>(rt: &R, entrance: &HostEntrance, pending: &mut Vec<PendingHost>) -> bool {
+    let mut has_come = false;
+    for _ in 0..AT_ONCE {
+        let Ok((stream, _)) = entrance.listener.accept() else {
+            break;
+        };
+        has_come = true;
+        if let Ok(host) = PendingHost::new(rt, stream, entrance.key, entrance.files) {
+            let _ = pending.push(host);
+        }
+    }
+    let too_many = pending.len().saturating_sub(PENDING_MOST);
+    pending.drain(..too_many);
+    has_come
+}
+
+// Listens to all that are pending; those that are pending still. What is not let in is closed, and so is what there is no memory
+// to keep.
+fn listen_to<'a, R: Wait + Clock, S: RandomSource>(
+    rt: &R,
+    alloc: Global,
+    terms: &Terms<'_, S>,
+    heard: &'a Heard,
+    pending: Vec<PendingHost>,
+    readers: &[HostReader<'a>],
+    current: &mut [Option<Arc<TcpCut>>],
+) -> Vec<PendingHost> {
+    let mut left = Vec::new(alloc);
+    for mut host in pending {
+        match host.listen(rt, alloc, terms) {
+            HostState::NotYet => {
+                let _ = left.push(host);
+            }
+            HostState::Hello(federate) => {
+                hand_on(
+                    rt,
+                    alloc,
+                    heard,
+                    readers,
+                    current,
+                    usize::from(federate),
+                    host,
+                );
+            }
+            HostState::Told(federate) => heard.note_told(federate),
+            HostState::Closed => {}
+        }
+    }
+    left
+}
+
+// Hands a connection to its federate's reader, in place of the older one, which is ended. Where that can't be, it is ended too, so
+// that the federate connects again.
+fn hand_on<'a, R: Wait>(
+    rt: &R,
+    alloc: Global,
+    heard: &'a Heard,
+    readers: &[HostReader<'a>],
+    current: &mut [Option<Arc<TcpCut>>],
+    federate: usize,
+    host: PendingHost,
+) {
+    let Some(reader) = readers.get(federate) else {
+        return;
+    };
+    let Some(place) = current.get_mut(federate) else {
+        return;
+    };
+    let Some(accepted) = host.into_accepted(alloc, heard) else {
+        return;
+    };
+    heard.hear();
+    if let Some(older) = place.take() {
+        older.cut(rt);
+    }
+    if let Ok(cut) = Arc::try_clone(&accepted.connection.cut) {
+        match reader.send(rt, accepted) {
+            Ok(()) => *place = Some(cut),
+            Err(_) => cut.cut(rt),
+        }
+    }
+}
+
+// Ends the connections, once no worker has them any more or the time for that is over.
+fn end_all<R: Wait + Clock>(rt: &R, current: &[Option<Arc<TcpCut>>]) {
+    let deadline = Deadline::after(rt, END_MS);
+    for _ in rt.forever() {
+        let is_read = current
+            .iter()
+            .flatten()
+            .all(|cut| Arc::strong_count(cut) == 1);
+        if is_read || deadline.has_passed(rt) {
+            break;
+        }
+        thread::sleep(rt, Duration::from_millis(PAUSE_MS));
+    }
+    for cut in current.iter().flatten() {
+        cut.cut(rt);
+    }
+}

@@ -1,0 +1,214 @@
+//! How a federate's process connects to the coordinator's.
+use crate::back_off::BackOff;
+use crate::dial_fault::DialFault;
+use crate::heard::Heard;
+use crate::heard_transport::HeardTransport;
+use crate::incoming::Incoming;
+use crate::times::ENDING_LOOK_MS;
+use std::alloc::Global;
+use std::io::Write;
+use std::net::{Net, SocketAddr, TcpListener, TcpStream};
+use std::random::RandomSource;
+use std::sync::Wait;
+use std::time::{Clock, Duration};
+use std::{io, thread};
+use wires_greeting::{CHALLENGE_SIZE, DIGEST_SIZE, FederateSide, Greeting, Key, RANDOM_SIZE};
+use wires_transports::tcp::connection;
+use wires_transports::times::{CONNECT_MS, PAUSE_MS, SILENCE_MS};
+use wires_transports::{Connection, Deadline, Dial, Ending, TcpCut, TcpTransport};
+
+/// Whom a federate's process connects, and where to.
+#[derive(Clone, Copy)]
+pub struct FederateHost {
+    /// The coordinator's address.
+    pub address: SocketAddr,
+    pub key: Key,
+    /// The digest of its files, by `files_digest`.
+    pub files: [u8; DIGEST_SIZE],
+    /// Its number, in the federation file's order.
+    pub federate: u16,
+}
+
+/// Makes a federate's connections to the coordinator's process. What an attempt came to is noted; where the coordinator refused, the
+/// run is to end. Before an attempt it waits as `BackOff` says, and not past the end of the run.
+#[derive(Drop)]
+pub struct HostDial<'a, M: Net<Stream = TcpStream, Listener = TcpListener> + Clock + RandomSource> {
+    machine: &'a M,
+    host: FederateHost,
+    heard: &'a Heard,
+    ending: &'a Ending,
+    back_off: BackOff,
+}
+
+impl<'a, M: Net<Stream = TcpStream, Listener = TcpListener> + Clock + RandomSource> HostDial<
+    'a,
+    M,
+> {
+    /// Makes this one's connections, from this machine.
+    pub fn new(
+        machine: &'a M,
+        host: FederateHost,
+        heard: &'a Heard,
+        ending: &'a Ending,
+    ) -> HostDial<'a, M> {
+        HostDial {
+            machine,
+            host,
+            heard,
+            ending,
+            back_off: BackOff::new(),
+        }
+    }
+
+    // A connection on which frames begin, or why there is none.
+    fn attempt<R: Wait>(
+        &self,
+        rt: &R,
+        alloc: Global,
+    ) -> Result<Connection<HeardTransport<'a, TcpTransport>, TcpCut>, DialFault> {
+        let greeting = greeting(self.machine, &self.host)?;
+        let mut stream = connected(self.machine, &self.host.address)?;
+        let key = self.host.key;
+        greet(rt, self.machine, &mut stream, key, greeting, self.ending)?;
+        let connection = begun(alloc, stream)?;
+        Ok(HeardTransport::around(connection, self.heard))
+    }
+}
+
+impl<'a, M: Net<Stream = TcpStream, Listener = TcpListener> + Clock + RandomSource> Dial<
+    HeardTransport<'a, TcpTransport>,
+    TcpCut,
+> for HostDial<'a, M> {
+    fn dial<R: Wait>(
+        &self,
+        rt: &R,
+        alloc: Global,
+    ) -> Option<Connection<HeardTransport<'a, TcpTransport>, TcpCut>> {
+        let pause = self.back_off.begin(self.heard.count());
+        if !has_paused(self.machine, pause, self.ending) {
+            return None;
+        }
+        match self.attempt(rt, alloc) {
+            Ok(connection) => {
+                self.heard.note_attempt(None);
+                Some(connection)
+            }
+            Err(fault) => {
+                self.heard.note_attempt(Some(fault));
+                if fault.is_final() {
+                    self.ending.set();
+                }
+                None
+            }
+        }
+    }
+}
+
+// Waits for so many ms; false where the run is to end before.
+fn has_paused<M: Clock>(clock: &M, pause: u64, ending: &Ending) -> bool {
+    for _ in 0..pause / ENDING_LOOK_MS {
+        if ending.is_set() {
+            return false;
+        }
+        thread::sleep(clock, Duration::from_millis(ENDING_LOOK_MS));
+    }
+    !ending.is_set()
+}
+
+// What a federate's process says first, with random bytes that are new.
+fn greeting<S: RandomSource>(source: &S, host: &FederateHost) -> Result<Greeting, DialFault> {
+    let mut random = [0; RANDOM_SIZE];
+    match source.fill_bytes(&mut random) {
+        Ok(()) => Ok(Greeting {
+            federate: host.federate,
+            files: host.files,
+            random,
+        }),
+        Err(_) => Err(DialFault::NoRandom),
+    }
+}
+
+// A new connection to an address, which doesn't wait.
+fn connected<M: Net<Stream = TcpStream>>(
+    net: &M,
+    address: &SocketAddr,
+) -> Result<TcpStream, DialFault> {
+    match connect(net, address) {
+        Ok(stream) => Ok(stream),
+        Err(_) => Err(DialFault::NotConnected),
+    }
+}
+
+fn connect<M: Net<Stream = TcpStream>>(net: &M, address: &SocketAddr) -> io::Result<TcpStream> {
+    let stream = TcpStream::connect_timeout(net, address, Duration::from_millis(CONNECT_MS))?;
+    stream.set_nonblocking(true)?;
+    Ok(stream)
+}
+
+// Greets as a federate does; why no frames begin.
+fn greet<R: Wait, M: Clock>(
+    rt: &R,
+    clock: &M,
+    stream: &mut TcpStream,
+    key: Key,
+    greeting: Greeting,
+    ending: &Ending,
+) -> Result<(), DialFault> {
+    let mut side = FederateSide::new(key, greeting);
+    if exchange(rt, clock, stream, &mut side, ending).is_none() {
+        return Err(DialFault::NoAnswer);
+    }
+    match DialFault::by_state(&side.state()) {
+        Some(fault) => Err(fault),
+        None => Ok(()),
+    }
+}
+
+// Sends and reads the messages of the greeting. None where the connection ended before, or the time for it is over, or the run is
+// to end.
+fn exchange<R: Wait, M: Clock>(
+    rt: &R,
+    clock: &M,
+    stream: &mut TcpStream,
+    side: &mut FederateSide,
+    ending: &Ending,
+) -> Option<()> {
+    stream.write_all(&side.message()).ok()?;
+    let challenge = answer(rt, clock, stream, ending)?;
+    if let Some(proof) = side.challenged(&challenge) {
+        stream.write_all(&proof).ok()?;
+    }
+    Some(())
+}
+
+// The coordinator's challenge.
+fn answer<R: Wait, M: Clock>(
+    rt: &R,
+    clock: &M,
+    stream: &mut TcpStream,
+    ending: &Ending,
+) -> Option<[u8; CHALLENGE_SIZE]> {
+    let silence = Deadline::after(clock, SILENCE_MS);
+    let mut incoming = Incoming::new();
+    for _ in rt.forever() {
+        if incoming.read(stream, CHALLENGE_SIZE)? {
+            break;
+        }
+        if ending.is_set() || silence.has_passed(clock) {
+            return None;
+        }
+        thread::sleep(clock, Duration::from_millis(PAUSE_MS));
+    }
+    Some(incoming.challenge())
+}
+
+// A stream on which frames begin, as a connection for its two workers, who wait.
+fn begun(alloc: Global, stream: TcpStream) -> Result<Connection<TcpTransport, TcpCut>, DialFault> {
+    if stream.set_nonblocking(false).is_err() {
+        return Err(DialFault::NotConnected);
+    }
+    match connection(alloc, stream) {
+        Ok(connection) => Ok(connection),
+        Err(_) => Err(DialFault::NotConnected),
+    }
+}

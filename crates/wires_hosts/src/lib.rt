@@ -1,0 +1,38 @@
+//! Connections between machines: how a federate's process connects to the coordinator's, who is let in, and how those that come
+//! late hear that the run is finished.
+//!
+//!     HostDial::dial: BackOff ---- connects ----> HostAcceptor: PendingHost ---- its Hello ----> its federate's reader
+//!         FederateSide  <---- greeting, challenge, proof ---->  CoordinatorSide
+//!
+//! Promise to the layer above: a connection is handed on only where `wires_greeting` lets its federate in, and where its first
+//! frame is a Hello of that very federate (`specs/Hello`). What an attempt to connect came to is `specs/DialFault`, how long to
+//! wait before the next one `specs/BackOff`, and how long nothing was heard `specs/Silence`. A call over a connection fails only
+//! where it fails over what it is around. Nothing is said of when a call returns. Keys are made by `wires_greeting::Key` alone.
+//!
+//! Begin with `heard`, which one process's threads share, then `host_dial` and `host_acceptor`.
+#![tactic(auto)]
+
+pub mod back_off;
+pub mod dial_fault;
+pub mod heard;
+pub mod heard_transport;
+mod hello;
+pub mod host_acceptor;
+pub mod host_dial;
+mod incoming;
+pub mod listening;
+mod next;
+pub mod patience;
+mod pending_host;
+pub mod silence;
+pub mod times;
+
+pub use back_off::BackOff;
+pub use dial_fault::DialFault;
+pub use heard::Heard;
+pub use heard_transport::HeardTransport;
+pub use host_acceptor::{HostAcceptor, HostEntrance};
+pub use host_dial::{FederateHost, HostDial};
+pub use listening::listen_at;
+pub use patience::Patience;
+pub use silence::Silence;

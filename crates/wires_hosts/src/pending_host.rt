@@ -1,0 +1,196 @@
+//! A connection that came to the coordinator, and isn't let in so far.
+ghost use Rattle.std.specs.Prelude.{◌≡◌, ℕ, Some};
+ghost use Rattle.wires_greeting.specs.Coordinator.{let_in};
+
+use crate::heard::Heard;
+use crate::heard_transport::HeardTransport;
+use crate::hello::is_hello_of;
+use crate::incoming::{HELLO_SIZE, Incoming, read_now};
+use crate::next::Next;
+use signal::FrameReader;
+use std::alloc::Global;
+use std::io;
+use std::io::Write;
+use std::net::TcpStream;
+use std::random::RandomSource;
+use std::time::Clock;
+use wires_greeting::{
+    CoordinatorSide, DIGEST_SIZE, GREETING_SIZE, Greeting, Key, PROOF_SIZE, RANDOM_SIZE,
+};
+use wires_transports::tcp::connection;
+use wires_transports::times::SILENCE_MS;
+use wires_transports::{Accepted, Deadline, TcpCut, TcpTransport};
+
+/// What came of a connection so far.
+#[derive(Clone, Copy, Debug, PartialEq, Eq)]
+pub(crate) enum HostState {
+    /// It isn't clear yet.
+    NotYet,
+    /// It was let in, and its first frame is the Hello of its federate.
+    Hello(u16),
+    /// Whoever said to be this federate was told that the run is finished, and closed its side.
+    Told(u16),
+    /// It isn't let in: the connection is to be closed.
+    Closed,
+}
+
+/// Who is let in, and what is answered to the others.
+#[derive(Drop)]
+pub(crate) struct Terms<'a, S: RandomSource> {
+    pub random: &'a S,
+    /// Which federates may take part, by number.
+    pub allowed: &'a [bool],
+    /// Whether the run is finished.
+    pub is_finished: bool,
+}
+
+/// A connection that came to the coordinator, and isn't let in so far. None of its calls waits.
+#[derive(Drop)]
+pub(crate) struct PendingHost {
+    stream: TcpStream,
+    side: CoordinatorSide,
+    next: Next,
+    // Of what is to come next.
+    incoming: Incoming,
+    silence: Deadline,
+}
+
+impl PendingHost {
+    /// Nothing came of it so far.
+    pub(crate) fn new<R: Clock>(
+        rt: &R,
+        stream: TcpStream,
+        key: Key,
+        files: [u8; DIGEST_SIZE],
+    ) -> io::Result<PendingHost> {
+        stream.set_nonblocking(true)?;
+        Ok(PendingHost {
+            stream,
+            side: CoordinatorSide::new(key, files),
+            next: Next::Greeting,
+            incoming: Incoming::new(),
+            silence: Deadline::after(rt, SILENCE_MS),
+        })
+    }
+
+    /// Takes what has come, and answers it.
+    pub(crate) fn listen<R: Clock, S: RandomSource>(
+        &mut self,
+        rt: &R,
+        alloc: Global,
+        terms: &Terms<'_, S>,
+    ) -> HostState
+        ensures { (federate : ℕ) → result ≡ HostState.Hello federate → let_in self.new.side.state ≡ Some federate }
+    {
+        match self.take(alloc, terms) {
+            None => HostState::Closed,
+            Some(HostState::NotYet) if self.silence.has_passed(rt) => HostState::Closed,
+            Some(state) => state,
+        }
+    }
+
+    /// The connection, with its Hello. It is asked once that has come.
+    pub(crate) fn into_accepted<'a>(
+        self,
+        alloc: Global,
+        heard: &'a Heard,
+    ) -> Option<Accepted<HeardTransport<'a, TcpTransport>, TcpCut>> {
+        let PendingHost {
+            stream,
+            incoming,
+            ..
+        } = self;
+        let mut first = Vec::new(alloc);
+        first.extend_from_slice(incoming.hello()).ok()?;
+        stream.set_nonblocking(false).ok()?;
+        let connection = connection(alloc, stream).ok()?;
+        Some(Accepted {
+            connection: HeardTransport::around(connection, heard),
+            first,
+        })
+    }
+
+    // Takes what has come of what is next. None where the connection is to be closed.
+    fn take<S: RandomSource>(&mut self, alloc: Global, terms: &Terms<'_, S>) -> Option<HostState>
+        ensures { (federate : ℕ) → result ≡ Some (HostState.Hello federate) → let_in self.new.side.state ≡ Some federate }
+    {
+        match self.next {
+            Next::Greeting => {
+                self.take_greeting(terms)?;
+                Some(HostState::NotYet)
+            }
+            Next::Proof => {
+                self.take_proof()?;
+                Some(HostState::NotYet)
+            }
+            Next::Hello => self.take_hello(alloc),
+            Next::End(federate) => self.take_end(federate),
+        }
+    }
+
+    // Once the greeting is whole, the challenge is sent. Where that is to be the last, its sender's end is next.
+    fn take_greeting<S: RandomSource>(&mut self, terms: &Terms<'_, S>) -> Option<()> {
+        if self.incoming.read(&mut self.stream, GREETING_SIZE)? {
+            let mut random = [0; RANDOM_SIZE];
+            terms.random.fill_bytes(&mut random).ok()?;
+            let message = self.incoming.greeting();
+            let greeter = Greeting::read(message)?.federate;
+            let challenge = self
+                .side
+                .greeted(message, &random, terms.allowed, terms.is_finished)?;
+            self.stream.write_all(&challenge).ok()?;
+            self.next = Next::by_state(&self.side.state(), greeter)?;
+            self.incoming = Incoming::new();
+        }
+        Some(())
+    }
+
+    // Once the proof is whole, the federate is let in or not.
+    fn take_proof(&mut self) -> Option<()> {
+        if self.incoming.read(&mut self.stream, PROOF_SIZE)? {
+            self.side.proved(&self.incoming.proof());
+            self.side.let_in()?;
+            self.next = Next::Hello;
+            self.incoming = Incoming::new();
+        }
+        Some(())
+    }
+
+    // The first frame is a Hello of the federate that was let in, or nothing more is read.
+    fn take_hello(&mut self, alloc: Global) -> Option<HostState>
+        ensures { (federate : ℕ) → result ≡ Some (HostState.Hello federate) → let_in self.new.side.state ≡ Some federate }
+    {
+        let federate = self.side.let_in()?;
+        if !self.incoming.read(&mut self.stream, HELLO_SIZE)? {
+            return Some(HostState::NotYet);
+        }
+        if begins_with_hello(alloc, self.incoming.hello(), federate) {
+            Some(HostState::Hello(federate))
+        } else {
+            None
+        }
+    }
+
+    // Whoever was told that the run is finished has nothing more to say than the end.
+    fn take_end(&mut self, federate: u16) -> Option<HostState>
+        ensures { (other : ℕ) → result ≡ Some (HostState.Hello other) → let_in self.new.side.state ≡ Some other }
+    {
+        match read_now(&mut self.stream, &mut [0]).ok()? {
+            None => Some(HostState::NotYet),
+            Some(0) => Some(HostState::Told(federate)),
+            Some(_) => None,
+        }
+    }
+}
+
+// Whether these bytes are a frame, or begin with one, that is a Hello of this federate.
+fn begins_with_hello(alloc: Global, bytes: &[u8], federate: u16) -> bool {
+    let mut frames = FrameReader::new(alloc);
+    if frames.feed(bytes).is_err() {
+        return false;
+    }
+    match frames.next() {
+        Ok(Some(frame)) => is_hello_of(federate, &frame),
+        _ => false,
+    }
+}
