@@ -14,6 +14,7 @@ use plan::{Inputs, Plan};
 use reactor_programs::Programs;
 use std::alloc::Global;
 use std::io::sink;
+use world::World;
 use world_stations::{Memory, Step};
 
 /// The steps of a schedule and of its closing rounds, as a player makes them. What the player prints is let go.
@@ -61,10 +62,10 @@ fn make_line(
 ) -> Result<(), ReplayFault>
     ensures { OnOk result (ListsTasks line.number (tasks_of (count_in player.old) line.command) player.old player.new made.old.items made.new.items) }
 {
-    let before = player.world().steps().len();
+    let before = player.world().step_count();
     let mut unread = sink();
     player.obey(&mut unread, line)?;
-    match list(made, line.number, player.world().steps(), before) {
+    match list(made, line.number, player.world(), before) {
         Ok(()) => Ok(()),
         Err(memory) => Err(ReplayFault::World(memory)),
     }
@@ -94,22 +95,34 @@ fn make_closing_rounds(
 ) -> Result<(), ReplayFault>
     ensures { OnOk result (ListsRounds line most player.old made.old.items made.new.items) }
 {
-    let before = player.world().steps().len();
+    let before = player.world().step_count();
     let mut unread = sink();
     player.close(&mut unread, line, most, &NoProgress)?;
-    match list(made, line, player.world().steps(), before) {
+    match list(made, line, player.world(), before) {
         Ok(()) => Ok(()),
         Err(memory) => Err(ReplayFault::World(memory)),
     }
 }
 
-/// Adds the steps after so many, which were made for a line.
-fn list(made: &mut Vec<MadeStep>, line: usize, steps: &[Step], before: usize) -> Result<(), Memory>
-    requires { before ≤ length steps.now }
-    ensures { OnOk result (made.new.items ≡ made.old.items ++ made_for line (drop before steps.now)) }
+/// Adds the steps of a world after so many, which were made for a line.
+fn list(
+    made: &mut Vec<MadeStep>,
+    line: usize,
+    world: &World<'_>,
+    before: usize,
+) -> Result<(), Memory>
+    requires { before ≤ length world.now.steps }
+    ensures { OnOk result (made.new.items ≡ made.old.items ++ made_for line (drop before world.now.steps)) }
 {
-    let rest = &steps[before..];
-    for step in rest {
+    let rest = world.steps_after(before)?;
+    add_each(made, line, rest.as_slice())
+}
+
+/// Adds steps, which were made for a line.
+fn add_each(made: &mut Vec<MadeStep>, line: usize, steps: &[Step]) -> Result<(), Memory>
+    ensures { OnOk result (made.new.items ≡ made.old.items ++ made_for line steps.now) }
+{
+    for step in steps {
         made.push(MadeStep::new(line, *step))?;
     }
     Ok(())

@@ -235,6 +235,7 @@ fn write_next_input<W: Write>(
 }
 
 /// Writes a name with a value.
+#[inline(always)]
 fn write_valued<W: Write>(
     out: &mut W,
     digits: &mut Buffer,

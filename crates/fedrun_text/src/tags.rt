@@ -56,6 +56,7 @@ fn write_time<W: Write>(out: &mut W, digits: &mut Buffer, time: u64) -> Result<(
 }
 
 /// Writes a number.
+#[inline(always)]
 pub fn write_count<W: Write>(
     out: &mut W,
     digits: &mut Buffer,
@@ -67,6 +68,7 @@ pub fn write_count<W: Write>(
 }
 
 /// Writes a value.
+#[inline(always)]
 pub fn write_value<W: Write>(
     out: &mut W,
     digits: &mut Buffer,

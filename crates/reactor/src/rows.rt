@@ -55,6 +55,7 @@ impl Rows {
     }
 
     /// One more. After `Memory` the rows are as they were.
+    #[inline(always)]
     pub fn push(
         &mut self,
         federate: usize,

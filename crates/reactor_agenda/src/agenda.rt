@@ -84,6 +84,7 @@ impl Agenda {
 
     /// Puts events one after the other, all or none; one for a slot that has a value at its tag replaces it, and one later than stop
     /// is dropped.
+    #[inline(always)]
     pub fn put_all(&mut self, events: &[PendingEvent]) -> Result<Put, Memory>
         ensures put { OnOk result (self.new ≡ record self.old { undone = put_all (in_time self.old.stop events.now) self.old.undone; before = self.old.undone }) }
         ensures err { OnErr result (self.new ≡ self.old) }

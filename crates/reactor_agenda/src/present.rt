@@ -99,6 +99,7 @@ fn add_put(entries: &mut Vec<Entry>, key: &Key, value: i64, tag: Tag) -> Result<
 }
 
 /// Adds an entry in its place; it replaces one for its slot.
+#[inline(always)]
 fn set_entry(entries: &mut Vec<Entry>, entry: Entry) -> Result<(), Memory>
     requires { AreInPlace entries.old.items }
     ensures { OnOk result (entries.new.items ≡ set_entry entry entries.old.items) }

@@ -14,6 +14,7 @@ use crate::undo::Undo;
 use tag::{FiniteTag, Tag};
 
 /// Puts events up to stop, all or none; `undos` is what takes them back.
+#[inline(always)]
 pub fn put_in_time(
     puts: &mut Puts,
     undos: &mut Vec<Undo>,
@@ -49,6 +50,7 @@ fn is_in_time(event: PendingEvent, stop: FiniteTag) -> bool
 }
 
 /// Puts an event, and notes how to undo it.
+#[inline(always)]
 fn put_one(puts: &mut Puts, undos: &mut Vec<Undo>, event: PendingEvent) -> Result<(), Memory>
     requires { vec_len undos.old < vec_capacity undos.old }
     ensures put { OnOk result (puts.new ≡ put event puts.old) }

@@ -31,7 +31,7 @@ pub(crate) fn judge(
 {
     match fault_of(&world, reports, found) {
         Some(fault) => Err(fault),
-        None => Ok(run_of(world)),
+        None => run_of(&world),
     }
 }
 
@@ -51,13 +51,17 @@ fn fault_of(world: &World<'_>, reports: &[Report], found: Found) -> Option<Unpro
 }
 
 // A world's steps, and whether the coordinator is finished there.
-fn run_of(world: World<'_>) -> AuditedRun
-    ensures steps { result.steps.items ≡ world.entry.steps }
-    ensures finished { result.is_finished ≡ coordinator_core.finished (stations_of world.entry).coordinator.node }
+fn run_of(world: &World<'_>) -> Result<AuditedRun, Unproved>
+    ensures ok { IfOk result (λ audited. (audited.steps.items ≡ world.now.steps) × (audited.is_finished ≡ coordinator_core.finished (stations_of world.now).coordinator.node)) }
+    ensures memory { IfErr result (λ fault. fault ≡ Unproved.Memory) }
 {
-    let is_finished = world.finished();
-    let steps = world.into_steps();
-    AuditedRun { steps, is_finished }
+    match world.steps_after(0) {
+        Ok(steps) => Ok(AuditedRun {
+            steps,
+            is_finished: world.finished(),
+        }),
+        Err(_) => Err(Unproved::Memory),
+    }
 }
 
 // The first federate whose rows aren't those that it reports, and the first place, counted from 1, at which they differ.

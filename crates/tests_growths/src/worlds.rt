@@ -40,7 +40,7 @@ fn direction_marks(world: &World<'_>, dir: Dir) -> DirectionMarks {
 
 fn marks_of(world: &World<'_>) -> Marks {
     Marks {
-        steps: world.steps().len(),
+        steps: world.step_count(),
         rows: [row_count(world, 0), row_count(world, 1)],
         directions: [
             direction_marks(world, DIRECTIONS[0]),
@@ -134,15 +134,50 @@ fn opened(alloc: Global, federation: &Federation) -> Option<World<'_>> {
     }
 }
 
+/// A world's steps, at the second attempt where the first was out of memory.
+fn steps_of(world: &World<'_>) -> Option<Vec<Step>> {
+    match world.steps_after(0) {
+        Ok(steps) => Some(steps),
+        Err(_) => world.steps_after(0).ok(),
+    }
+}
+
 /// Whether two worlds are played alike: one request at most is refused, so one of them at least had all memory.
 fn plays_twice(alloc: Global) -> Option<bool> {
     let federation = loaded(alloc)?;
     let mut first = opened(alloc, &federation)?;
     let mut second = opened(alloc, &federation)?;
-    Some(plays(&mut first) && plays(&mut second) && first.steps() == second.steps())
+    if !plays(&mut first) || !plays(&mut second) {
+        return Some(false);
+    }
+    let (first, second) = (steps_of(&first)?, steps_of(&second)?);
+    Some(first.as_slice() == second.as_slice())
 }
 
 #[test]
 fn makes_the_same_step_after_a_refusal(rt: HostRuntime) {
     assert_eq!(rt; plays_twice(rt.alloc()), Some(true));
+}
+
+/// Whether a step is refused, and isn't listed.
+fn is_refused(world: &mut World<'_>, step: Step) -> bool {
+    let before = world.step_count();
+    world.apply(step).is_err() && world.step_count() == before
+}
+
+/// Whether steps with numbers that no world keeps are refused, and those with the greatest that it keeps are made.
+fn refuses_great_numbers(alloc: Global) -> Option<bool> {
+    let federation = loaded(alloc)?;
+    let mut world = opened(alloc, &federation)?;
+    Some(
+        is_refused(&mut world, Step::Announce(1 << 16))
+            && is_refused(&mut world, Step::Deliver(Dir::Up(0), 1 << 32))
+            && !is_refused(&mut world, Step::Announce((1 << 16) - 1))
+            && !is_refused(&mut world, Step::Deliver(Dir::Up(0), (1 << 32) - 1)),
+    )
+}
+
+#[test]
+fn refuses_a_step_with_a_number_that_no_world_keeps(rt: HostRuntime) {
+    assert_eq!(rt; refuses_great_numbers(rt.alloc()), Some(true));
 }

@@ -1,12 +1,11 @@
-ghost use Rattle.std.specs.Prelude.{◌≡◌, ℕ, ◌<◌, [], take, length, option_map, slice_get, IsTrue, IfOk, OnOk, OnErr, ◌↔◌, ◌||◌};
-ghost use Rattle.std.specs.List.{list_any};
+ghost use Rattle.std.specs.Prelude.{◌≡◌, ℕ, ◌<◌, ◌≤◌, [], take, drop, length, option_map, slice_get, IsTrue, IfOk, OnOk, OnErr, ◌↔◌, ◌||◌};
 ghost use Rattle.link.specs.Image.{room_left};
 ghost use Rattle.plan.specs.External.{AreInputsOf};
 ghost use Rattle.plan.specs.Federation.{federate_count};
 ghost use Rattle.reactor_programs.specs.Programs.{AreProgramsOf};
 ghost use Rattle.node_cores.specs.CoordinatorCore.{coordinator_core};
 ghost use Rattle.world_stations.specs.Federation.{step_in, IsPlain, IsStuck};
-ghost use Rattle.world_stations.specs.Kept.{is_kept, is_forget, is_forget_of};
+ghost use Rattle.world_stations.specs.Kept.{is_kept, is_forget};
 ghost use Rattle.world_stations.specs.Taken.{sender};
 ghost use Rattle.world_stations.specs.World.{frames_in, frame_at};
 ghost use Rattle.world.specs.World.{stations_of, with_step, with_steps};
@@ -118,18 +117,19 @@ impl<'a> World<'a> {
         Ok(())
     }
 
-    /// The steps made, oldest first: also those that were refused or didn't apply.
-    pub fn steps(&self) -> &[Step]
-        ensures { result.now ≡ self.now.steps }
+    /// How many steps were made: also those that were refused or didn't apply.
+    pub fn step_count(&self) -> usize
+        ensures { result ≡ length self.now.steps }
     {
-        self.stations.steps()
+        self.stations.step_count()
     }
 
-    /// The same steps, taken out.
-    pub fn into_steps(self) -> Vec<Step>
-        ensures { result.items ≡ self.entry.steps }
+    /// The steps made after so many of the first, oldest first, in a list of their own.
+    pub fn steps_after(&self, before: usize) -> Result<Vec<Step>, Memory>
+        requires { before ≤ length self.now.steps }
+        ensures { IfOk result (λ steps. steps.items ≡ drop before self.now.steps) }
     {
-        Box::into_inner(self.stations).into_steps()
+        self.stations.steps_after(before)
     }
 
     /// How many federates there are.
@@ -151,7 +151,7 @@ impl<'a> World<'a> {
         ensures { result ≡ is_kept self.now.steps federate }
     {
         if self.has_forgotten {
-            !is_among(federate, self.steps())
+            self.stations.kept(federate)
         } else {
             true
         }
@@ -242,18 +242,4 @@ fn somebody_forgot(before: bool, step: Step) -> bool
     ensures { result ≡ (before || is_forget step) }
 {
     before || matches!(step, Step::Forget(_))
-}
-
-// Whether one of these steps makes this federate forget.
-fn is_among(federate: usize, steps: &[Step]) -> bool
-    ensures { result ≡ list_any (is_forget_of federate) steps.now }
-{
-    steps.iter().any(|step| is_forget_of(federate, *step))
-}
-
-// Whether a step makes this federate forget.
-fn is_forget_of(federate: usize, step: Step) -> bool
-    ensures { result ≡ is_forget_of federate step }
-{
-    matches!(step, Step::Forget(forgetting) if forgetting == federate)
 }

@@ -12,6 +12,8 @@ pub mod Initial
 pub mod Numbers
 -- How many frames a step sends, and the lists of frames with their memory.
 pub mod Room
+-- The steps that were made, as they are kept.
+pub mod MadeSteps
 -- What every world keeps, and one of which nothing was asked.
 pub mod Invariant
 -- Links whose signals are all acknowledged.

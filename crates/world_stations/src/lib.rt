@@ -12,13 +12,14 @@
 //!     Outcome <------+
 //!
 //! Begin with `specs/World` and `specs/Federation`, then `world_laws` and `stations`; `sent` keeps the frames of one direction,
-//! and `blank` makes a station that forgot all.
+//! `made_steps` the steps, and `blank` makes a station that forgot all.
 #![tactic(auto)]
 
 mod blank;
 pub mod dir;
 mod directions;
 pub mod limits;
+mod made_steps;
 pub mod memory;
 mod occurrence;
 pub mod outcome;

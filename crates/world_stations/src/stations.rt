@@ -1,7 +1,8 @@
-ghost use Rattle.std.specs.Prelude.{◌≡◌, ◌↔◌, ℕ, take, ◌<◌, ◌≤◌, ◌++◌, ◌∷◌, [], true, false, length, set, slice_get, option_map, IsTrue, IfOk, IfSome, OnOk, OnErr, Some};
+ghost use Rattle.std.specs.Prelude.{◌≡◌, ◌↔◌, ℕ, take, drop, ◌<◌, ◌≤◌, ◌++◌, ◌∷◌, [], true, false, length, set, slice_get, option_map, IsTrue, IfOk, IfSome, OnOk, OnErr, Some};
 ghost use Rattle.link.specs.Image.{room_left};
 ghost use Rattle.node.specs.Step.{Station as StationOf, said, step_of};
 ghost use Rattle.world_stations.specs.World.{applied, after_steps, occurrence_of, frames_in, frame_at, at_node, happens, forgets, listed, unchanged};
+ghost use Rattle.world_stations.specs.Kept.{is_kept};
 ghost use Rattle.world_stations.specs.Taken.{sender};
 ghost use Rattle.node.specs.declared.node_id.NodeId.TheVariants as NodeIds;
 ghost use Rattle.world_stations.specs.declared.outcome.Outcome.TheVariants as Outcomes;
@@ -12,6 +13,7 @@ use crate::blank::forgotten;
 use crate::directions::{
     append_all, append_each, count, none_used, nth, reserve_ahead, reserve_first,
 };
+use crate::made_steps::MadeSteps;
 use crate::memory::Memory;
 use crate::occurrence::{Occurrence, comes, federate_of, greets, sends_again};
 use crate::replies::{frames_of, outcome_of};
@@ -36,7 +38,7 @@ pub struct Stations<H: Node, M: Blank> {
     most: usize,
     // So many more frames take no memory in each direction from the coordinator.
     spare: usize,
-    steps: Vec<Step>,
+    steps: MadeSteps,
 }
 
 impl<H: Node, M: Blank> Model for Stations<H, M> {
@@ -51,7 +53,7 @@ impl<H: Node, M: Blank> Model for Stations<H, M> {
       federates = w.federates.items;
       up = frames_of_each w.up.items;
       down = frames_of_each w.down.items;
-      steps = w.steps.items;
+      steps = w.steps.steps;
     } };
 
     ghost invariant = { λ w. IsWorld H.HUB M.HUB w.federates.items × IsReserved w.coordinator.ends w.down.items w.most w.spare };
@@ -78,22 +80,30 @@ impl<H: Node, M: Blank> Stations<H, M> {
             down: directions.down,
             most: directions.most,
             spare: 0,
-            steps: Vec::new(alloc),
+            steps: MadeSteps::new(alloc),
         })
     }
 
-    /// The steps made, oldest first: also those that were refused or didn't apply.
-    pub fn steps(&self) -> &[Step]
-        ensures { result.now ≡ self.now.steps }
+    /// How many steps were made: also those that were refused or didn't apply.
+    pub fn step_count(&self) -> usize
+        ensures { result ≡ length self.now.steps }
     {
-        &self.steps
+        self.steps.count()
     }
 
-    /// The same steps, taken out.
-    pub fn into_steps(self) -> Vec<Step>
-        ensures { result.items ≡ self.steps }
+    /// The steps made after so many of the first, oldest first, in a list of their own.
+    pub fn steps_after(&self, before: usize) -> Result<Vec<Step>, Memory>
+        requires { before ≤ length self.now.steps }
+        ensures { IfOk result (λ steps. steps.items ≡ drop before self.now.steps) }
     {
-        self.steps
+        self.steps.after(self.alloc, before)
+    }
+
+    /// Whether a federate kept its state through all steps.
+    pub fn kept(&self, federate: usize) -> bool
+        ensures { result ≡ is_kept self.now.steps federate }
+    {
+        self.steps.keep(federate)
     }
 
     /// The coordinator's station.
@@ -246,13 +256,13 @@ impl<H: Node, M: Blank> Stations<H, M> {
         ensures done { IfOk result (λ outcome. record { world = self.new; outcome = outcome } ≡ listed step (at_node H.core M.core self.old NodeIds.Coordinator event)) }
         ensures unchanged { OnErr result (self.new ≡ self.old) }
     {
-        self.steps.reserve(1)?;
+        let kept = self.steps.reserve(step)?;
         self.spare = reserve_ahead(&mut self.down, self.most, self.spare)?;
         let reply = self.coordinator.step(event)?;
         let frames = frames_of(&reply);
         append_each(&mut self.down, frames);
         self.spare = self.spare.saturating_sub(frames.len());
-        self.steps.push_reserved(step);
+        self.steps.put(kept);
         Ok(outcome_of(&reply))
     }
 
@@ -264,11 +274,11 @@ impl<H: Node, M: Blank> Stations<H, M> {
         let Some(station) = station_at(&self.federates, federate) else {
             return self.pass(step);
         };
-        self.steps.reserve(1)?;
+        let kept = self.steps.reserve(step)?;
         reserve_first(&mut self.up, federate, station)?;
         let reply = step_at(&mut self.federates, federate, event)?;
         append_all(&mut self.up, federate, frames_of(&reply));
-        self.steps.push_reserved(step);
+        self.steps.put(kept);
         Ok(outcome_of(&reply))
     }
 

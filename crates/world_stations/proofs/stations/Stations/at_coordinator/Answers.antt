@@ -1,4 +1,4 @@
-use Rattle.std.proofs.Common.{sym, length}
+use Rattle.std.proofs.Common.{sym, ap, length, ◌∙◌, ◌++◌, ◌∷◌, []}
 use Rattle.node.specs.Step.{said}
 use Rattle.world_stations.specs.Room.{frames_of_each}
 use Rattle.world_stations.proofs.Stepping.{coordinator_fits, has_spare, reserved_after, after_coordinator_step}
@@ -22,6 +22,6 @@ pub returns-clause-done : goal.returns-clause-done
 returns-clause-done g c =
     after_coordinator_step g.H.Node.core g.M.Node.core g.H.Node.HUB c.args.self.now c.self.inside.coordinator c.step.new.self c.self.inside.federates.items (frames_of_each c.self.inside.up.items)
     (frames_of_each c.self.inside.down.items) (frames_of_each c.reserve_ahead.new.sent.items) (frames_of_each c.append_each.new.sent.items)
-    c.self.inside.steps.items c.reserve.new.self.items c.push_reserved.new.self.items c.args.event c.args.step (said c.in_ok-reply.reply)
+    c.self.inside.steps.steps c.reserve.new.self.steps c.put.new.self.steps c.args.event c.args.step (said c.in_ok-reply.reply)
     c.frames_of-frames.result.now c.outcome_of.result (sym c.self.view_is) c.self.invariant.0.is_coordinator c.in_ok-reply.ensures.ended c.frames_of-frames.ensures
-    c.reserve_ahead.ensures.frames c.append_each.ensures.frames c.reserve.ensures.items c.push_reserved.ensures.items c.outcome_of.ensures
+    c.reserve_ahead.ensures.frames c.append_each.ensures.frames c.reserve.ensures.steps (c.put.ensures ∙ ap (λ made. c.reserve.new.self.steps ++ made ∷ []) c.in_ok-kept.ensures.kept) c.outcome_of.ensures

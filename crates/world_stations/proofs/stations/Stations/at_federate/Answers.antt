@@ -1,4 +1,4 @@
-use Rattle.std.proofs.Common.{◌≡◌, sym, Some, slice_get}
+use Rattle.std.proofs.Common.{◌≡◌, sym, ap, ◌∙◌, ◌++◌, ◌∷◌, [], Some, slice_get}
 use Rattle.node.specs.Step.{said}
 use Rattle.world_stations.specs.Room.{frames_of_each}
 use Rattle.world_stations.proofs.Stepping.{federate_fits, has_one, still_world, after_federate_step}
@@ -24,7 +24,7 @@ returns-clause-done g c =
     let found : slice_get c.self.inside.federates.items c.args.federate ≡ Some c.in-Some.station.now = cc c.in-Some.ensures.station in
     after_federate_step g.M.Node.core g.M.Node.HUB c.args.self.now c.self.inside.coordinator c.self.inside.federates.items c.step_at.new.federates.items
     (frames_of_each c.self.inside.up.items) (frames_of_each c.reserve_first.new.sent.items) (frames_of_each c.append_all.new.sent.items) (frames_of_each c.self.inside.down.items)
-    c.self.inside.steps.items c.reserve.new.self.items c.push_reserved.new.self.items c.args.federate c.in-Some.station.now c.args.event c.args.step (said c.in_ok-reply.reply)
+    c.self.inside.steps.steps c.reserve.new.self.steps c.put.new.self.steps c.args.federate c.in-Some.station.now c.args.event c.args.step (said c.in_ok-reply.reply)
     c.frames_of.result.now c.outcome_of.result (sym c.self.view_is) c.self.invariant.0.is_federate found (c.in_ok-reply.ensures.said c.in-Some.station.now found)
-    (c.in_ok-reply.ensures.stepped c.in-Some.station.now found) c.frames_of.ensures c.reserve_first.ensures.frames c.append_all.ensures c.reserve.ensures.items c.push_reserved.ensures.items
+    (c.in_ok-reply.ensures.stepped c.in-Some.station.now found) c.frames_of.ensures c.reserve_first.ensures.frames c.append_all.ensures c.reserve.ensures.steps (c.put.ensures ∙ ap (λ made. c.reserve.new.self.steps ++ made ∷ []) c.in_ok-kept.ensures.kept)
     c.outcome_of.ensures

@@ -1,0 +1,24 @@
+-- The steps that were made, as they are kept.
+use Rattle.std.specs.Prelude.{ℕ, List}
+use Rattle.world_stations.specs.declared.dir.Dir.TheVariants as dir
+use Rattle.world_stations.specs.declared.step.Step.{Step}
+use Rattle.world_stations.specs.declared.step.Step.TheVariants as step
+use Rattle.world_stations.specs.declared.made_steps.KeptStep.{KeptStep}
+use Rattle.world_stations.specs.declared.made_steps.KeptStep.TheVariants.{DeliverUp, DeliverDown, ResendUp, ResendDown, ReconnectUp, ReconnectDown, Announce, Advance, Forget}
+
+-- the step that a kept one is
+abbrev pub shown : KeptStep → Step
+shown (DeliverUp j k) = step.Deliver (dir.Up j) k
+shown (DeliverDown j k) = step.Deliver (dir.Down j) k
+shown (ResendUp j) = step.Resend (dir.Up j)
+shown (ResendDown j) = step.Resend (dir.Down j)
+shown (ReconnectUp j) = step.Reconnect (dir.Up j)
+shown (ReconnectDown j) = step.Reconnect (dir.Down j)
+shown (Announce j) = step.Announce j
+shown (Advance j) = step.Advance j
+shown (Forget j) = step.Forget j
+
+-- steps, oldest first, and how many more take no memory
+pub record MadeView : Type 0 where
+  pub steps : List Step
+  pub spare : ℕ
