@@ -2,3 +2,5 @@
 pub mod Replays
 -- Slips that are taken off the ends of shares, as their journal is walked backwards.
 pub mod Backwards
+-- Lists that end with an item.
+pub mod Ends

@@ -7,16 +7,17 @@ use crate::matching::agree;
 use crate::memory::Memory;
 use crate::share::Share;
 use crate::shares_disagree::SharesDisagree;
+use journal::{Batch, Journal};
 use node::laws::initial_stations_stay;
 use node::{Event, Node, Reply, Station};
 use std::alloc::Global;
 use std::marker::Model;
 
-/// A station with the journal of all events that came to it, oldest first. An event in the journal takes 64 bytes.
+/// A station with the journal of all events that came to it, oldest first.
 #[derive(Drop)]
 pub struct Desk<N: Node> {
     station: Station<N>,
-    journal: Vec<Event>,
+    journal: Journal,
 }
 
 impl<N: Node> Model for Desk<N> {
@@ -25,9 +26,9 @@ impl<N: Node> Model for Desk<N> {
 
     ghost Value = { replay.Desk N };
 
-    ghost view = { λ d. record { station = d.station; journal = d.journal.items } };
+    ghost view = { λ d. record { station = d.station; journal = d.journal } };
 
-    ghost invariant = { λ d. d.station ≡ replay.replay N.core N.HUB d.station d.journal.items };
+    ghost invariant = { λ d. d.station ≡ replay.replay N.core N.HUB d.station d.journal };
 }
 
 impl<N: Node> Desk<N> {
@@ -38,7 +39,7 @@ impl<N: Node> Desk<N> {
     {
         Desk {
             station,
-            journal: Vec::new(alloc),
+            journal: Journal::new(alloc),
         }
     }
 
@@ -50,7 +51,7 @@ impl<N: Node> Desk<N> {
     }
 
     /// All events so far.
-    pub fn journal(&self) -> &[Event]
+    pub fn journal(&self) -> &Journal
         ensures events { result.now ≡ self.now.journal }
         ensures replay { self.now.station ≡ replay N.core N.HUB self.now.station self.now.journal }
     {
@@ -58,9 +59,9 @@ impl<N: Node> Desk<N> {
     }
 
     /// The station and the journal.
-    pub fn into_parts(self) -> (Station<N>, Vec<Event>)
+    pub fn into_parts(self) -> (Station<N>, Journal)
         ensures station { result.0 ≡ self.station }
-        ensures journal { result.1.items ≡ self.journal }
+        ensures journal { result.1 ≡ self.journal }
         ensures replay { self.station ≡ replay N.core N.HUB self.station self.journal }
     {
         (self.station, self.journal)
@@ -75,9 +76,20 @@ impl<N: Node> Desk<N> {
         ensures journal { OnOk result (self.new.journal ≡ self.old.journal ++ event ∷ []) }
         ensures unchanged { OnErr result (self.new ≡ self.old) }
     {
+        self.handle_among(&event, None)
+    }
+
+    /// The same of an event that came together with others: the journal keeps the batch in place of the event.
+    pub fn handle_among(&mut self, event: &Event, batch: Option<&Batch>) -> Result<Reply, Memory>
+        ensures step { IfOk result (λ reply. record { station = self.new.station; answer = said reply } ≡ step_of N.core N.HUB (replay N.core N.HUB self.old.station self.old.journal) event.now) }
+        ensures station { self.old.station ≡ replay N.core N.HUB self.old.station self.old.journal }
+        ensures initial { initial_of N.core self.new.station ≡ initial_of N.core self.old.station }
+        ensures journal { OnOk result (self.new.journal ≡ self.old.journal ++ event.now ∷ []) }
+        ensures unchanged { OnErr result (self.new ≡ self.old) }
+    {
         // For the prover: what the station was made from stays.
         initial_stations_stay::<N>();
-        step(&mut self.station, &mut self.journal, &event)
+        step(&mut self.station, &mut self.journal, event, batch)
     }
 
     /// The desk, if these shares are its journal: in each the places rise, and all slips together are the journal, one slip for
@@ -93,19 +105,25 @@ impl<N: Node> Desk<N> {
     }
 }
 
-// Makes the station's step, and puts the event in the journal, where memory is taken for it before the step.
+// Makes the station's step. The event is put in the journal first, and taken off again where there is no memory for the step.
+#[tactic(auto, using(crate::proofs::Ends::undone))]
 fn step<N: Node>(
     station: &mut Station<N>,
-    journal: &mut Vec<Event>,
+    journal: &mut Journal,
     event: &Event,
+    batch: Option<&Batch>,
 ) -> Result<Reply, Memory>
     ensures step { IfOk result (λ reply. record { station = station.new; answer = said reply } ≡ step_of N.core N.HUB station.old event.now) }
-    ensures journal { OnOk result (journal.new.items ≡ journal.old.items ++ event.now ∷ []) }
+    ensures journal { OnOk result (journal.new ≡ journal.old ++ event.now ∷ []) }
     ensures station_unchanged { OnErr result (station.new ≡ station.old) }
-    ensures journal_unchanged { OnErr result (journal.new.items ≡ journal.old.items) }
+    ensures journal_unchanged { OnErr result (journal.new ≡ journal.old) }
 {
-    journal.reserve(1)?;
-    let reply = station.step(*event)?;
-    journal.push_reserved(*event);
-    Ok(reply)
+    journal.push(event, batch)?;
+    match station.step(*event) {
+        Ok(reply) => Ok(reply),
+        Err(_) => {
+            let _ = journal.pop();
+            Err(Memory)
+        }
+    }
 }

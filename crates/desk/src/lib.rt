@@ -6,6 +6,7 @@
 //!     worker --> Shared::handle ---- lock ----> Desk::handle        one event: its station steps, its journal grows
 //!                     |                              |
 //!                     +--> Share: a slip             +--> Station::step
+//!                       both keep the same batch of events, where a worker hands in several
 //!     gather(Shared, shares) --> the desk, if the slips are its journal
 //!
 //! Begin with `desk`, then `shared`; what no contract can say of a lock is said in `shared`.
@@ -17,11 +18,10 @@ pub mod memory;
 pub mod share;
 pub mod shared;
 pub mod shares_disagree;
-pub mod slip;
 
 pub use desk::Desk;
+pub use journal::Slip;
 pub use memory::Memory;
 pub use share::Share;
 pub use shared::{Locked, Shared, gather};
 pub use shares_disagree::SharesDisagree;
-pub use slip::Slip;

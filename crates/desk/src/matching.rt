@@ -3,20 +3,20 @@
 ghost use Rattle.std.specs.Prelude.{◌≡◌, ◌≢◌, ◌↔◌, ℕ, true, false, IsSome, nat_eq, List, [], ◌∷◌, ◌++◌, length, slice_get};
 ghost use Rattle.std.specs.List.{list_all};
 ghost use Rattle.node.specs.declared.event.Event.{Event as IsEvent};
-ghost use Rattle.desk.specs.declared.slip.Slip.{Slip as IsSlip};
+ghost use Rattle.journal.specs.declared.slip.Slip.{Slip as IsSlip};
 ghost use Rattle.desk.specs.Shares.{Agree};
 
 use crate::share::Share;
-use crate::slip::Slip;
-use node::Event;
+use journal::{Blocks, Journal, Slip};
 
 // Whether the shares are the journal. They are used up.
-pub(crate) fn agree(journal: &[Event], shares: &mut [Share]) -> bool
+pub(crate) fn agree(journal: &Journal, shares: &mut [Share]) -> bool
     ensures { (result ≡ true) ↔ Agree journal.now shares.old }
 {
     let mut near = 0;
+    let mut block = usize::MAX;
     for place in (0..journal.len()).rev() {
-        let event = journal[place];
+        let event = journal.event(place, &mut block);
         match take(shares, &Slip { place, event }, near) {
             Some(share) => near = share,
             None => return false,
@@ -46,7 +46,7 @@ fn take(shares: &mut [Share], slip: &Slip, near: usize) -> Option<usize>
 fn are_used_up(shares: &[Share]) -> bool
     ensures { result ≡ list_all (λ slips. nat_eq (length slips) 0) shares.now }
 {
-    shares.iter().all(|share| share.slips().is_empty())
+    shares.iter().all(|share| share.slips().len() == 0)
 }
 
 // Takes the slip off the share at this position, if there is one and the slip is its last.
@@ -59,17 +59,27 @@ fn take_at(shares: &mut [Share], position: usize, slip: &Slip) -> bool
 }
 
 // Takes the slip off the share, if it is its last one.
+#[tactic(auto, using(crate::proofs::Ends::taken_last))]
 fn take_last(share: &mut Share, slip: &Slip) -> bool
     ensures taken { result ≡ true → share.old ≡ share.new ++ slip.now ∷ [] }
     ensures unchanged { result ≡ false → share.new ≡ share.old }
     ensures not_last { result ≡ false → (front : List IsSlip) → share.old ≢ front ++ slip.now ∷ [] }
 {
-    let is_last = match share.slips.last() {
+    if !ends_with(&share.slips, slip) {
+        return false;
+    }
+    let _ = share.slips.pop();
+    true
+}
+
+// Whether it is the last of some slips.
+#[tactic(auto, using(crate::proofs::Ends::not_last, crate::proofs::Ends::none_last))]
+fn ends_with(slips: &Blocks, slip: &Slip) -> bool
+    ensures last { result ≡ true → (front : List IsSlip) × (slips.now ≡ front ++ slip.now ∷ []) }
+    ensures not_last { result ≡ false → (front : List IsSlip) → slips.now ≢ front ++ slip.now ∷ [] }
+{
+    match slips.last() {
         Some(last) => last.equals(slip),
         None => false,
-    };
-    if is_last {
-        let _ = share.slips.pop();
     }
-    is_last
 }

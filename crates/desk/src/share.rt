@@ -1,22 +1,22 @@
 ghost use Rattle.std.specs.Prelude.{◌≡◌, []};
 
-use crate::slip::Slip;
+use journal::Blocks;
 use std::alloc::Global;
 use std::marker::Model;
 
 /// What one worker was answered that it added to a journal: its slips, in the order in which it got them.
 #[derive(Drop)]
 pub struct Share {
-    pub(crate) slips: Vec<Slip>,
+    pub(crate) slips: Blocks,
 }
 
 impl Model for Share {
     ghost use Rattle.std.specs.Prelude.{List};
-    ghost use Rattle.desk.specs.declared.slip.Slip.{Slip};
+    ghost use Rattle.journal.specs.declared.slip.Slip.{Slip};
 
     ghost Value = { List Slip };
 
-    ghost view = { λ s. s.slips.items };
+    ghost view = { λ s. s.slips };
 }
 
 impl Share {
@@ -25,12 +25,12 @@ impl Share {
         ensures { result ≡ [] }
     {
         Share {
-            slips: Vec::new(alloc),
+            slips: Blocks::new(alloc),
         }
     }
 
     /// Its slips.
-    pub fn slips(&self) -> &[Slip]
+    pub fn slips(&self) -> &Blocks
         ensures { result.now ≡ self.now }
     {
         &self.slips

@@ -1,6 +1,5 @@
-ghost use Rattle.std.specs.Prelude.{◌≡◌, ◌<◌, ℕ, List, [], ◌∷◌, ◌++◌, length, take, drop, slice_get, option_map, vec_len, IfOk, OnOk, OnErr};
+ghost use Rattle.std.specs.Prelude.{◌≡◌, ℕ, List, [], ◌∷◌, ◌++◌, length, take, drop, slice_get, option_map, IfOk, OnOk, OnErr};
 ghost use Rattle.node.specs.declared.event.Event.{Event as IsEvent};
-ghost use Rattle.std.specs.Vec.{vec_capacity};
 ghost use Rattle.node.specs.Step.{said, step_of};
 ghost use Rattle.desk.specs.Shares.{Agree};
 
@@ -8,7 +7,7 @@ use crate::desk::Desk;
 use crate::memory::Memory;
 use crate::share::Share;
 use crate::shares_disagree::SharesDisagree;
-use crate::slip::Slip;
+use journal::{Batch, Blocks, Journal};
 use node::{Event, Node, Reply};
 use std::sync::{Mutex, MutexGuard, Wait};
 
@@ -50,17 +49,17 @@ impl<N: Node> Shared<N> {
         }
     }
 
-    /// Waits for the lock, and copies the journal's events from this place on behind those in the list, at most so many at once.
-    /// Without memory for them the list is as before.
+    /// Waits for the lock, and adds the journal's events from this place on to another journal, at most so many at once. Without memory
+    /// for them that one is as before.
     pub fn copy_events<R: Wait>(
         &self,
         rt: &R,
         place: usize,
         most: usize,
-        events: &mut Vec<Event>,
+        events: &mut Journal,
     ) -> Result<(), Memory>
-        ensures copied { OnOk result ((more : List IsEvent) × (events.new.items ≡ events.old.items ++ more)) }
-        ensures unchanged { OnErr result (events.new.items ≡ events.old.items) }
+        ensures copied { OnOk result ((more : List IsEvent) × (events.new ≡ events.old ++ more)) }
+        ensures unchanged { OnErr result (events.new ≡ events.old) }
     {
         let locked = self.lock(rt);
         let result = copy_some(locked.desk.journal(), place, most, events);
@@ -89,8 +88,20 @@ impl<'a, N: Node> Locked<'a, N> {
         ensures slip { OnOk result ((place : ℕ) × (share.new ≡ share.old ++ record { place = place; event = event } ∷ [])) }
         ensures unchanged { OnErr result (share.new ≡ share.old) }
     {
-        share.slips.reserve(1)?;
-        enter(&mut self.desk, &mut share.slips, &event)
+        self.handle_among(share, &event, None)
+    }
+
+    /// The same of an event that came together with others: journal and share keep the batch in place of the event.
+    pub fn handle_among(
+        &mut self,
+        share: &mut Share,
+        event: &Event,
+        batch: Option<&Batch>,
+    ) -> Result<Reply, Memory>
+        ensures slip { OnOk result ((place : ℕ) × (share.new ≡ share.old ++ record { place = place; event = event.now } ∷ [])) }
+        ensures unchanged { OnErr result (share.new ≡ share.old) }
+    {
+        enter(&mut self.desk, &mut share.slips, event, batch)
     }
 
     /// Asks the node whether nothing is left to do, as far as it knows.
@@ -118,19 +129,17 @@ pub fn gather<N: Node>(shared: Shared<N>, shares: Vec<Share>) -> Result<Desk<N>,
     shared.desk.into_inner().gather(shares)
 }
 
-// Copies a journal's events from this place on behind those in the list, at most so many.
+// Adds a journal's events from this place on to another one, at most so many.
 fn copy_some(
-    journal: &[Event],
+    journal: &Journal,
     place: usize,
     most: usize,
-    events: &mut Vec<Event>,
+    events: &mut Journal,
 ) -> Result<(), Memory>
-    ensures copied { OnOk result (events.new.items ≡ events.old.items ++ take most (drop place journal.now)) }
-    ensures unchanged { OnErr result (events.new.items ≡ events.old.items) }
+    ensures copied { OnOk result (events.new ≡ events.old ++ take most (drop place journal.now)) }
+    ensures unchanged { OnErr result (events.new ≡ events.old) }
 {
-    let from = place.min(journal.len());
-    let count = most.min(journal.len() - from);
-    events.extend_from_slice(&journal[from..from + count])?;
+    events.append(journal, place, most)?;
     Ok(())
 }
 
@@ -141,20 +150,26 @@ fn unacked<N: Node>(desk: &Desk<N>, peer: usize) -> Option<usize>
     Some(desk.station().end(peer)?.unacked())
 }
 
-// Handles the event at the locked desk, and adds its slip, for which there is room.
-fn enter<N: Node>(desk: &mut Desk<N>, slips: &mut Vec<Slip>, event: &Event) -> Result<Reply, Memory>
-    requires room { vec_len slips.old < vec_capacity slips.old }
+// Handles the event at the locked desk. Its slip is added first, and taken off again where there is no memory for the event.
+#[tactic(auto, using(crate::proofs::Ends::undone))]
+fn enter<N: Node>(
+    desk: &mut Desk<N>,
+    slips: &mut Blocks,
+    event: &Event,
+    batch: Option<&Batch>,
+) -> Result<Reply, Memory>
     ensures step { IfOk result (λ reply. record { station = desk.new.station; answer = said reply } ≡ step_of N.core N.HUB desk.old.station event.now) }
     ensures journal { OnOk result (desk.new.journal ≡ desk.old.journal ++ event.now ∷ []) }
-    ensures slip { OnOk result (slips.new.items ≡ slips.old.items ++ record { place = length desk.old.journal; event = event.now } ∷ []) }
+    ensures slip { OnOk result (slips.new ≡ slips.old ++ record { place = length desk.old.journal; event = event.now } ∷ []) }
     ensures desk_unchanged { OnErr result (desk.new ≡ desk.old) }
-    ensures slips_unchanged { OnErr result (slips.new.items ≡ slips.old.items) }
+    ensures slips_unchanged { OnErr result (slips.new ≡ slips.old) }
 {
-    let place = desk.journal().len();
-    let reply = desk.handle(*event)?;
-    slips.push_reserved(Slip {
-        place,
-        event: *event,
-    });
-    Ok(reply)
+    slips.add(desk.journal().len(), event, batch)?;
+    match desk.handle_among(event, batch) {
+        Ok(reply) => Ok(reply),
+        Err(memory) => {
+            let _ = slips.pop();
+            Err(memory)
+        }
+    }
 }

@@ -18,7 +18,7 @@ use fedrun_reports::layout::LONGEST_REPORT;
 use fedrun_reports::{FileDigests, read_coordinator, take_report};
 use fedrun_run::{AuditedFault, RunOutput, print_audited};
 use fedrun_text::RowFormat;
-use node::Event;
+use journal::Journal;
 use recorder::IncrementalAudit;
 use recorder_reports::{Collector, Report};
 use std::alloc::Global;
@@ -53,14 +53,7 @@ pub(crate) fn audit<'a, F: Files, O: Write>(
     };
     let mut collector = Collector::new(alloc, &sources.plan);
     match take_files(alloc, &digests, federates, &mut collector, files) {
-        Ok(()) => print_reports(
-            alloc,
-            &sources,
-            collector.reports(),
-            journal.as_slice(),
-            format,
-            out,
-        ),
+        Ok(()) => print_reports(alloc, &sources, collector.reports(), &journal, format, out),
         Err(fault) => Err(fault),
     }
 }
@@ -71,8 +64,8 @@ fn read_coordinator_file<'a, F: Files>(
     digests: &FileDigests,
     name: &'a str,
     files: &mut F,
-) -> Result<Vec<Event>, Fault<'a, NodeFault<'a>>>
-    ensures ok { IfOk result (λ journal. IsCoordinatorFile digests.now (F.contents files.old name.entry.now) journal.items) }
+) -> Result<Journal, Fault<'a, NodeFault<'a>>>
+    ensures ok { IfOk result (λ journal. IsCoordinatorFile digests.now (F.contents files.old name.entry.now) journal) }
     ensures asked { OnOk result (Answers (F.answers files.old) (F.answers files.new) (given name.entry.now ∷ [])) }
     ensures err { IfErr result (IsCoordinatorFileFault digests.now name.entry (F.contents files.old) (Answers (F.answers files.old) (F.answers files.new))) }
     ensures early { IfErr result (λ fault. status_of fault ≡ 1) }
@@ -142,7 +135,7 @@ fn print_reports<O: Write>(
     alloc: Global,
     sources: &Sources,
     reports: &[Report],
-    journal: &[Event],
+    journal: &Journal,
     format: RowFormat,
     out: &mut O,
 ) -> Result<(), Fault<'static, NodeFault<'static>>>

@@ -20,8 +20,8 @@ pub data Said : Type 0 where
 
 -- what a report of the program says
 abbrev pub said_in : NodeReport → Said
-said_in (Coordinator journal) = by_coordinator journal.items
-said_in (Federate report) = by_federate report.federate report.rows report.journal.items
+said_in (Coordinator journal) = by_coordinator journal
+said_in (Federate report) = by_federate report.federate report.rows report.journal
 
 -- the rows are those of the federate that reports them, and its number isn't the coordinator's
 abbrev pub IsOwn : Said → Type 0

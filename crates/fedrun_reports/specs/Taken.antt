@@ -12,7 +12,7 @@ use Rattle.fedrun_reports.specs.File.{IsReportOf, IsReadFault}
 
 -- what a federate's report says
 abbrev pub by_report : Report → Said
-by_report report = by_federate report.federate report.rows report.journal.items
+by_report report = by_federate report.federate report.rows report.journal
 
 -- the file is some federate's report
 abbrev pub IsOfSomeFederate : FileDigests → List ℕ → Type 0

@@ -14,6 +14,7 @@ use crate::layout::{ADVANCE_KIND, ANNOUNCE_KIND, FRAME_KIND, HELLO_KIND, RESEND_
 use crate::numbers::{number_of_eight, number_of_four};
 use crate::read_fault::ReadFault;
 use byteorder::{BigEndian, ByteOrder};
+use journal::Journal;
 use node::Event;
 use signal::wire::{BATCH_KIND, LENGTH_SIZE, VERSION};
 use signal::{Frame, FrameReader};
@@ -23,27 +24,27 @@ const BAD_FRAME: ReadFault = ReadFault::Content(ContentFault::BadFrame);
 
 /// A journal, behind the count of its events.
 #[tactic(auto, unfolding(crate::specs::Reading::counted_part))]
-pub fn journal_of(alloc: Global, bytes: &[u8]) -> Result<(Vec<Event>, &[u8]), ReadFault>
-    ensures given { Gives (λ x. (x.0.items, x.1.now)) result (counted_part event_part bytes.now) }
-    ensures taken { IfOk result (λ x. IsTaken (counted event_bytes) (AreCounted IsEvent) bytes.now x.0.items x.1.now) }
+pub fn journal_of(alloc: Global, bytes: &[u8]) -> Result<(Journal, &[u8]), ReadFault>
+    ensures given { Gives (λ x. (x.0, x.1.now)) result (counted_part event_part bytes.now) }
+    ensures taken { IfOk result (λ x. IsTaken (counted event_bytes) (AreCounted IsEvent) bytes.now x.0 x.1.now) }
 {
     let (count, rest) = number_of_eight(bytes)?;
     many_events(alloc, count, rest)
 }
 
 // So many events.
-fn many_events(alloc: Global, count: u64, bytes: &[u8]) -> Result<(Vec<Event>, &[u8]), ReadFault>
-    ensures given { Gives (λ x. (x.0.items, x.1.now)) result (many event_part count bytes.now) }
-    ensures taken { IfOk result (λ x. IsTaken (flat_map event_bytes) (AreSoMany IsEvent count) bytes.now x.0.items x.1.now) }
+fn many_events(alloc: Global, count: u64, bytes: &[u8]) -> Result<(Journal, &[u8]), ReadFault>
+    ensures given { Gives (λ x. (x.0, x.1.now)) result (many event_part count bytes.now) }
+    ensures taken { IfOk result (λ x. IsTaken (flat_map event_bytes) (AreSoMany IsEvent count) bytes.now x.0 x.1.now) }
 {
-    let mut events = Vec::new(alloc);
+    let mut events = Journal::new(alloc);
     let mut rest = bytes;
     for _ in 0..count {
         let (event, behind) = match event_of(alloc, rest) {
             Ok(taken) => taken,
             Err(fault) => return Err(fault),
         };
-        events.push(event)?;
+        events.push(&event, None)?;
         rest = behind;
     }
     Ok((events, rest))

@@ -1,4 +1,4 @@
-use node::Event;
+use journal::Journal;
 use recorder_reports::Report;
 
 /// What one node reports after a run. It is believed only after an audit, which takes a federate's report as it is, and the
@@ -6,7 +6,7 @@ use recorder_reports::Report;
 #[derive(Debug, Drop)]
 pub enum NodeReport {
     /// The coordinator's journal: all events that came to it, oldest first. It has no rows.
-    Coordinator(Vec<Event>),
+    Coordinator(Journal),
     /// A federate's report.
     Federate(Report),
 }

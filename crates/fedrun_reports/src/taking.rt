@@ -11,7 +11,7 @@ use crate::file_digests::FileDigests;
 use crate::node_report::NodeReport;
 use crate::read::read_report;
 use crate::report_file_fault::ReportFileFault;
-use node::Event;
+use journal::Journal;
 use recorder_reports::{Collector, Report, ReportFault};
 use std::alloc::Global;
 
@@ -20,8 +20,8 @@ pub fn read_coordinator(
     alloc: Global,
     files: &FileDigests,
     bytes: &[u8],
-) -> Result<Vec<Event>, ReportFileFault>
-    ensures read { IfOk result (λ journal. IsReportOf files.now (by_coordinator journal.items) bytes.now) }
+) -> Result<Journal, ReportFileFault>
+    ensures read { IfOk result (λ journal. IsReportOf files.now (by_coordinator journal) bytes.now) }
     ensures fault { IfErr result (IsCoordinatorFault files.now bytes.now) }
 {
     match read_report(alloc, files, bytes) {

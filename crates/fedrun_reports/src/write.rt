@@ -95,8 +95,8 @@ fn append_said(bytes: &mut Vec<u8>, report: &NodeReport) -> Result<(), Memory>
 fn append_federate(bytes: &mut Vec<u8>, report: &Report) -> Result<(), Memory>
     requires number { report.now.federate < COORDINATOR }
     requires own { All (λ row. row.reactor ≡ report.now.federate) report.now.rows }
-    ensures written { OnOk result (bytes.new.items ≡ bytes.old.items ++ said_bytes (by_federate report.now.federate report.now.rows report.now.journal.items)) }
-    ensures is_said { OnOk result (IsSaid (by_federate report.now.federate report.now.rows report.now.journal.items)) }
+    ensures written { OnOk result (bytes.new.items ≡ bytes.old.items ++ said_bytes (by_federate report.now.federate report.now.rows report.now.journal)) }
+    ensures is_said { OnOk result (IsSaid (by_federate report.now.federate report.now.rows report.now.journal)) }
 {
     append_two(bytes, report.federate as u16)?;
     append_rows(bytes, report.federate, &report.rows)?;

@@ -8,6 +8,7 @@ ghost use Rattle.fedrun_reports.specs.Spelling.{counted, row_bytes, event_bytes}
 use crate::appending::{append_eight, append_entries, append_tag};
 use crate::layout::{ADVANCE_KIND, ANNOUNCE_KIND, FRAME_KIND, HELLO_KIND, RESEND_KIND};
 use crate::memory::Memory;
+use journal::Journal;
 use node::Event;
 use reactor::{RowView, Rows};
 use signal::{Frame, write_frame};
@@ -35,13 +36,14 @@ fn append_row(bytes: &mut Vec<u8>, row: &RowView) -> Result<(), Memory>
 }
 
 /// Appends a journal behind the count of its events.
-pub fn append_journal(bytes: &mut Vec<u8>, journal: &[Event]) -> Result<(), Memory>
+pub fn append_journal(bytes: &mut Vec<u8>, journal: &Journal) -> Result<(), Memory>
     ensures written { OnOk result (bytes.new.items ≡ bytes.old.items ++ counted event_bytes journal.now) }
     ensures are_events { OnOk result (AreCounted IsEvent journal.now) }
 {
     append_eight(bytes, journal.len() as u64)?;
-    for event in journal {
-        append_event(bytes, *event)?;
+    let mut block = 0;
+    for place in 0..journal.len() {
+        append_event(bytes, journal.event(place, &mut block))?;
     }
     Ok(())
 }

@@ -1,5 +1,5 @@
 -- Reports that an audit believes, and those that it doesn't.
-use Rattle.std.proofs.Common.{◌≡◌, ℕ, true, inl, inr, List, Option, Result, OnOk, IfErr, sym, subst}
+use Rattle.std.proofs.Common.{◌≡◌, ℕ, true, inl, inr, List, Option, Result, Ok, Err, OnOk, IfOk, IfErr, sym, subst}
 use Rattle.std.specs.Io.KnownBytes.{Appends}
 use Rattle.std.proofs.lemmas.Result.{on_ok_weaker, IfErr-weaker}
 use Rattle.plan.specs.declared.draft.Draft.{Draft}
@@ -12,10 +12,13 @@ use Rattle.recorder.specs.declared.audited_run.AuditedRun.{AuditedRun}
 use Rattle.recorder_reports.specs.declared.report.Report.{Report}
 use Rattle.recorder.specs.Audited.{HasEnded}
 use Rattle.wires.specs.declared.job.WorkerResult.{WorkerResult}
+use Rattle.wires.specs.declared.run_fault.Cause.TheVariants.{TurnsUsedUp}
+use Rattle.wires.specs.declared.run_fault.RunFault.{RunFault}
+use Rattle.wires.specs.declared.run_fault.RunFault.TheVariants as run
 use Rattle.fedrun_run.specs.declared.output.RunOutput.{RunOutput}
 use Rattle.fedrun_run.specs.declared.fault.AuditedFault.{AuditedFault}
 use Rattle.fedrun_run.specs.declared.fault.AuditedFault.TheVariants.{NotFinished, Unproved, Memory, CannotWrite}
-use Rattle.fedrun_run.specs.Printed.{claim, printed_run, PrintsReports, PrintsAudited, IsAuditedFault, IsAuditedFaultOf, IsOfTheRun}
+use Rattle.fedrun_run.specs.Printed.{claim, printed_run, PrintsReports, PrintsAudited, IsAuditedFault, IsAuditedFaultOf, IsOfTheRun, fault_of_run}
 use Rattle.fedrun_run.specs.Reported.{AreReportedBy}
 
 module _ (d : Draft) (programs : List Behaviour) (inputs : List Input) (reports : List Report) (coordinator : List Event) where
@@ -48,6 +51,13 @@ of_the_run d programs inputs (Unproved failure) (inl other) = let bad : ⊥ = cc
 of_the_run d programs inputs (Unproved failure) (inr other) = let bad : ⊥ = cc in absurd bad
 of_the_run d programs inputs Memory is = tt
 of_the_run d programs inputs CannotWrite is = tt
+
+-- it is why the run gave no desks, or that its coordinator isn't finished
+pub no_desks : {T : Type 0} (gathered : Result T RunFault) (told : AuditedFault) (P : T → Type 0) → IfOk gathered (λ desks. P desks × (told ≡ NotFinished TurnsUsedUp)) →
+    IfErr gathered (λ why. told ≡ fault_of_run why) → IsOfTheRun told
+no_desks (Ok desks) told P unfinished fault = inl (TurnsUsedUp, unfinished.1)
+no_desks (Err (run.NotFinished cause)) told P unfinished fault = inl (cause, fault)
+no_desks (Err run.Memory) told P unfinished fault = inr fault
 
 -- what is passed on of a run's nodes is what they gave
 pub same_said : {reports said : List Report} {coordinator journal : List Event} → reports ≡ said → coordinator ≡ journal →

@@ -17,7 +17,7 @@ StationIsReplay core hub desk = desk.station ≡ replay core hub desk.station de
 pub record IsReportOf {View Row : Type 0} (core : Core View Row) (hub : Bool) (Tells : View → Report → Type 0) (j : ℕ) (desk : Desk View) (report : Report) : Type 0 where
   pub federate : report.federate ≡ j
   pub rows : Tells desk.station.node report
-  pub journal : report.journal.items ≡ desk.journal
+  pub journal : report.journal ≡ desk.journal
   pub replayed : StationIsReplay core hub desk
 
 -- one report from each federate's desk, by number

@@ -10,7 +10,8 @@ ghost use Rattle.fedrun_run.specs.Reported.{IsReportOf, AreReportsOf, AreReporte
 use crate::AuditedFault;
 use crate::reporting::Reporting;
 use desk::Desk;
-use node::{Event, Node};
+use journal::Journal;
+use node::Node;
 use plan::Plan;
 use recorder_reports::{Collector, Report, ReportFault};
 use std::alloc::Global;
@@ -22,7 +23,7 @@ pub(crate) struct NodeReports<'a> {
     /// What each federate reports.
     pub reports: Collector<'a>,
     /// The coordinator's journal.
-    pub coordinator: Vec<Event>,
+    pub coordinator: Journal,
 }
 
 /// What all nodes say, when all their workers have ended, from what these leave. That a run isn't finished comes before anything
@@ -34,7 +35,7 @@ pub(crate) fn reports_by<'a, H: Node, M: Reporting>(
     results: Result<Vec<Option<WorkerResult>>, RunFault>,
 ) -> Result<NodeReports<'a>, AuditedFault>
     requires each { length nodes.federates.items ≡ federate_count plan.now }
-    ensures ok { IfOk result (λ said. IsOkAnd results (λ left. AreReported H.core H.HUB M.core M.HUB M.tells left.items said.reports.reports said.coordinator.items)) }
+    ensures ok { IfOk result (λ said. IsOkAnd results (λ left. AreReported H.core H.HUB M.core M.HUB M.tells left.items said.reports.reports said.coordinator)) }
     ensures fault { IfErr result IsOfTheRun }
 {
     let gathered = finished(gathered(alloc, nodes, results))?;

@@ -9,7 +9,7 @@ use crate::fault::AuditedFault;
 use crate::output::RunOutput;
 use fedrun_record::write_steps;
 use fedrun_text::{CannotWrite, RowFormat, write_heading, write_rows};
-use node::Event;
+use journal::Journal;
 use plan::Plan;
 use recorder::IncrementalAudit;
 use recorder_reports::{Report, report_of};
@@ -25,7 +25,7 @@ pub fn print_audited<O: Write>(
     plan: &Plan,
     audit: IncrementalAudit<'_>,
     reports: &[Report],
-    coordinator: &[Event],
+    coordinator: &Journal,
     output: RunOutput,
     out: &mut O,
 ) -> Result<(), AuditedFault>

@@ -2,7 +2,8 @@ ghost use Rattle.std.specs.Prelude.{◌≡◌};
 ghost use Rattle.recorder_reports.specs.declared.report.Report.{Report as IsReport};
 
 use federate::Federate;
-use node::{Event, Node};
+use journal::Journal;
+use node::Node;
 use recorder_reports::Report;
 
 /// A node that reports what it computed.
@@ -11,10 +12,10 @@ pub(crate) trait Reporting: Node {
     ghost tells: { Self → IsReport → Type 0 };
 
     /// Its report, as the federate of this number and with this journal.
-    fn report(self, federate: usize, journal: Vec<Event>) -> Report
+    fn report(self, federate: usize, journal: Journal) -> Report
         ensures federate { result.federate ≡ federate }
         ensures rows { tells self result }
-        ensures journal { result.journal.items ≡ journal.items };
+        ensures journal { result.journal ≡ journal };
 }
 
 impl<'a> Reporting for Federate<'a> {
@@ -22,7 +23,7 @@ impl<'a> Reporting for Federate<'a> {
 
     ghost tells = { ReportsRows };
 
-    fn report(self, federate: usize, journal: Vec<Event>) -> Report {
+    fn report(self, federate: usize, journal: Journal) -> Report {
         Report {
             federate,
             rows: self.into_rows(),

@@ -90,7 +90,7 @@ fn run_and_ask<
 ) -> (IncrementalAudit<'a>, Result<NodeReports<'a>, AuditedFault>)
     requires each { length nodes.federates.items ≡ federate_count plan.now }
     ensures audit { result.0 ≡ audit.entry }
-    ensures reported { IfOk result.1 (λ said. (left : List (Option IsLeft)) × AreReported H.core H.HUB M.core M.HUB M.tells left said.reports.reports said.coordinator.items) }
+    ensures reported { IfOk result.1 (λ said. (left : List (Option IsLeft)) × AreReported H.core H.HUB M.core M.HUB M.tells left said.reports.reports said.coordinator) }
     ensures fault { IfErr result.1 IsOfTheRun }
 {
     let (audit, results) = run_watched(rt, alloc, &nodes, audit, terms, progress);
@@ -137,7 +137,7 @@ fn take_apart<'a, R: Threads + Sync, H: Node + Send, M: Reporting + Send>(
 ) -> (IncrementalAudit<'a>, Result<NodeReports<'a>, AuditedFault>)
     requires each { length nodes.federates.items ≡ federate_count plan.now }
     ensures audit { result.0 ≡ audit.entry }
-    ensures reported { IfOk result.1 (λ said. IsOkAnd results (λ left. AreReported H.core H.HUB M.core M.HUB M.tells left.items said.reports.reports said.coordinator.items)) }
+    ensures reported { IfOk result.1 (λ said. IsOkAnd results (λ left. AreReported H.core H.HUB M.core M.HUB M.tells left.items said.reports.reports said.coordinator)) }
     ensures fault { IfErr result.1 IsOfTheRun }
 {
     thread::join(
@@ -150,7 +150,7 @@ fn take_apart<'a, R: Threads + Sync, H: Node + Send, M: Reporting + Send>(
         },
         ||
             requires { length nodes.federates.items ≡ federate_count plan.now }
-            ensures reported { IfOk result (λ said. IsOkAnd results (λ left. AreReported H.core H.HUB M.core M.HUB M.tells left.items said.reports.reports said.coordinator.items)) }
+            ensures reported { IfOk result (λ said. IsOkAnd results (λ left. AreReported H.core H.HUB M.core M.HUB M.tells left.items said.reports.reports said.coordinator)) }
             ensures fault { IfErr result IsOfTheRun }
         { reports_by(alloc, plan, nodes, results) },
     )

@@ -3,6 +3,7 @@ ghost use Rattle.std.specs.Prelude.{◌≡◌};
 
 use desk::Shared;
 use fedrun_progress::Progress;
+use journal::Journal;
 use node::{Event, Node, NodeId};
 use recorder::IncrementalAudit;
 use signal::{Frame, Signal};
@@ -27,7 +28,7 @@ pub(crate) fn watch<'a, R: Wait + Clock, H: Node, M: Node, P: Progress>(
 ) -> IncrementalAudit<'a>
     ensures { result ≡ audit.entry }
 {
-    let mut events = Vec::new(alloc);
+    let mut events = Journal::new(alloc);
     for _ in rt.forever() {
         if audit.is_given_up() {
             break;
@@ -52,7 +53,7 @@ fn look<R: Wait, H: Node, M: Node, P: Progress>(
     rt: &R,
     nodes: &Nodes<H, M>,
     audit: &mut IncrementalAudit<'_>,
-    events: &mut Vec<Event>,
+    events: &mut Journal,
     progress: &P,
 ) -> bool
     ensures { audit.new ≡ audit.old }
@@ -75,27 +76,33 @@ fn take<N: Node, R: Wait>(
     shared: &Shared<N>,
     node: NodeId,
     audit: &mut IncrementalAudit<'_>,
-    events: &mut Vec<Event>,
+    events: &mut Journal,
 ) -> bool
     ensures { audit.new ≡ audit.old }
 {
     events.clear();
     let copied = shared.copy_events(rt, audit.known(node), AT_ONCE, events);
-    copied.is_ok() && !events.is_empty() && audit.add(node, events).is_ok()
+    copied.is_ok() && events.len() > 0 && audit.add(node, events).is_ok()
 }
 
 // Tells how many rows federates have completed by what the coordinator hears. One that is heard of twice counts twice.
-fn tell<P: Progress>(events: &[Event], progress: &P) {
-    for event in events {
-        if let Event::Frame(
-            _,
-            Frame::Data {
-                signal: Signal::Ltc(tag),
-                ..
-            },
-        ) = event
-        {
-            progress.rows(1, tag.tag());
-        }
+fn tell<P: Progress>(events: &Journal, progress: &P) {
+    let mut block = 0;
+    for place in 0..events.len() {
+        tell_of(&events.event(place, &mut block), progress);
+    }
+}
+
+// Tells of the row that a federate has completed, where the coordinator hears of one by this event.
+fn tell_of<P: Progress>(event: &Event, progress: &P) {
+    if let Event::Frame(
+        _,
+        Frame::Data {
+            signal: Signal::Ltc(tag),
+            ..
+        },
+    ) = event
+    {
+        progress.rows(1, tag.tag());
     }
 }

@@ -1,7 +1,6 @@
 -- An audit that is begun goes on, and journals go on while it does.
 use Rattle.std.proofs.Common.{◌≡◌, ◌∙◌, ℕ, zero, suc, ◌+◌, Bool, true, false, List, [], ◌∷◌, ◌++◌, length, map, set, get_or, replicate, refl, sym, ap, subst, append-nil, arith}
 use Rattle.std.specs.Prelude.{Result, Ok, Err, IfOk, OnOk, OnErr, is_err}
-use Rattle.std.specs.Global.{Vec}
 use Rattle.std.proofs.lemmas.List.{length-map, length-replicate}
 use Rattle.std.proofs.lemmas.List.FromFn.{length-map-range_with_len}
 use Rattle.plan.specs.External.{AreInputsOf}
@@ -15,12 +14,11 @@ use Rattle.world.specs.World.{WorldView}
 use Rattle.recorder_reports.specs.declared.report.Report.{Report}
 use Rattle.recorder_reports.specs.Reports.{all_journals, journal_of, report_of}
 use Rattle.recorder.specs.Incremental.{IsAhead, IsIncremental}
-use Rattle.recorder.specs.Known.{events_of}
 use Rattle.recorder.specs.Placing.{world_motion}
 
 -- what is known is read on
-pub reads_on : {E : Type 0} (r : Result (Unit {0}) E) (known : List (Vec Event)) (journals : List (List Event)) (before after : WorldView) (read more : List ℕ) →
-    journals ≡ events_of known →
+pub reads_on : {E : Type 0} (r : Result (Unit {0}) E) (known : List (List Event)) (journals : List (List Event)) (before after : WorldView) (read more : List ℕ) →
+    journals ≡ known →
     OnOk r ((initial : WorldView) → IsReading world_motion initial journals (record { state = before; read = read }) →
     IsReading world_motion initial journals (record { state = after; read = more })) →
     OnOk r (length more ≡ length read) →
@@ -45,18 +43,18 @@ abbrev pub StaysRead : Type 0
 StaysRead = (initial : WorldView) (journals longer : List (List Event)) (p : Position WorldView) → GrewTo journals longer →
     IsReading world_motion initial journals p → IsReading world_motion initial longer p
 
-module _ (initial made : WorldView) (read : List ℕ) (known more : List (Vec Event)) (is_given_up : Bool) (begun : IsIncremental initial made read known is_given_up) where
+module _ (initial made : WorldView) (read : List ℕ) (known more : List (List Event)) (is_given_up : Bool) (begun : IsIncremental initial made read known is_given_up) where
   -- it is begun with more events of a journal, or with the same where there is no memory for them
   pub begun_more : {E : Type 0} (r : Result (Unit {0}) E) (place : ℕ) (events : List Event) → StaysRead →
-      OnOk r (events_of more ≡ set (events_of known) place (get_or (events_of known) place [] ++ events)) → OnErr r (events_of more ≡ events_of known) →
+      OnOk r (more ≡ set known place (get_or known place [] ++ events)) → OnErr r (more ≡ known) →
       IsIncremental initial made read more is_given_up
   begun_more (Ok u) place events stays added same = record {
     programs = begun.programs;
     inputs = begun.inputs;
     ahead = λ going. record {
       sized = (begun.ahead going).sized;
-      reading = stays initial (events_of known) (events_of more) (record { state = made; read = read })
-          (subst (λ js. GrewTo (events_of known) js) (sym added) (grown (events_of known) place events)) (begun.ahead going).reading;
+      reading = stays initial known more (record { state = made; read = read })
+          (subst (λ js. GrewTo known js) (sym added) (grown known place events)) (begun.ahead going).reading;
     };
   }
   begun_more (Err e) place events stays added same = record {
@@ -79,7 +77,7 @@ module _ (initial made : WorldView) (read : List ℕ) (known more : List (Vec Ev
   begun_on (Err e) after further going good on = absurd (let no : true ≡ false = good in cc)
 
 -- before the first step nothing is read
-pub begun_new : (initial made : WorldView) (read : List ℕ) (known : List (Vec Event)) (count : ℕ) → AreProgramsOf initial.draft initial.programs →
+pub begun_new : (initial made : WorldView) (read : List ℕ) (known : List (List Event)) (count : ℕ) → AreProgramsOf initial.draft initial.programs →
     AreInputsOf initial.draft initial.inputs → made ≡ initial → read ≡ replicate (count + 1) 0 → count ≡ federate_count initial.draft →
     ((o : WorldView) (journals : List (List Event)) (n : ℕ) → IsReading world_motion o journals (record { state = o; read = replicate n 0 })) →
     IsIncremental initial made read known false
@@ -88,7 +86,7 @@ begun_new initial made read known count are given there none counted law = recor
   inputs = given;
   ahead = λ going. record {
     sized = ap (length {A = ℕ}) none ∙ length-replicate (count + 1) 0 ∙ ap (λ n. n + 1) counted;
-    reading = rw (there, none) (law initial (events_of known) (count + 1));
+    reading = rw (there, none) (law initial known (count + 1));
   };
 }
 
@@ -102,12 +100,12 @@ journals_counted f journals count reports coordinator are =
     omega arith
 
 -- where what is known is a prefix of these journals, and reading ends after what is read, the search has ended
-pub read_on_longer : {E : Type 0} (initial made : WorldView) (read : List ℕ) (known : List (Vec Event)) (journals : List (List Event)) (r : Result (WorldView × Found) E) →
-    StaysRead → IsAhead initial made read known → GrewTo (events_of known) journals →
+pub read_on_longer : {E : Type 0} (initial made : WorldView) (read : List ℕ) (known : List (List Event)) (journals : List (List Event)) (r : Result (WorldView × Found) E) →
+    StaysRead → IsAhead initial made read known → GrewTo known journals →
     IfOk r (λ ended. (o : WorldView) → IsReading world_motion o journals (record { state = made; read = read }) → IsFound world_motion o journals ended.0 ended.1) →
     IfOk r (λ ended. IsFound world_motion initial journals ended.0 ended.1)
 read_on_longer initial made read known journals (Ok ended) stays ahead grew ends =
-    ends initial (stays initial (events_of known) journals (record { state = made; read = read }) grew ahead.reading)
+    ends initial (stays initial known journals (record { state = made; read = read }) grew ahead.reading)
 read_on_longer initial made read known journals (Err e) stays ahead grew ends = tt
 
 -- or where nothing was read before the first step

@@ -1,13 +1,11 @@
 -- Lists of events that are prefixes of journals.
-use Rattle.std.proofs.Common.{◌≡◌, ◌∙◌, ℕ, zero, suc, ◌<◌, ◌≤◌, List, [], ◌∷◌, ◌++◌, length, map, set, get_or, refl, sym, ap, arith, Some, ⊎_elim}
-use Rattle.std.specs.Prelude.{slice_get, Result, Ok, Err, OnOk, OnErr, is_ok, if◌then◌else◌}
-use Rattle.std.specs.Global.{Vec}
-use Rattle.std.proofs.lemmas.List.{map-set}
+use Rattle.std.proofs.Common.{◌≡◌, ◌∙◌, ℕ, zero, suc, ◌<◌, ◌≤◌, List, [], ◌∷◌, ◌++◌, length, map, set, get_or, take, drop, refl, sym, ap, arith, Some, ⊎_elim}
+use Rattle.std.specs.Prelude.{slice_get, Result, Ok, Err, OnOk, OnErr}
+use Rattle.std.proofs.lemmas.List.{get_or_default, set-get_or, set_past, take_all}
 use Rattle.std.proofs.lemmas.Bool.{cases_lt}
 use Rattle.network_laws.specs.Settled.{BeginsWith}
 use Rattle.node.specs.declared.event.Event.{Event}
 use Rattle.recorder_search.specs.Reading.{GrewTo}
-use Rattle.recorder.specs.Known.{events_of}
 
 -- a list whose events are those of another at each place is a prefix of it
 pub begins_so : (events journal : List Event) → length events ≤ length journal →
@@ -25,38 +23,38 @@ mapped_at f [] k x less is = absurd (omega arith)
 mapped_at f (y ∷ xs) zero x less is = ap f (sym is)
 mapped_at f (y ∷ xs) (suc k) x less is = mapped_at f xs k x (omega arith) is
 
-none_past : {X : Type 0} (f : X → List Event) (xs : List X) (k : ℕ) → length xs ≤ k → let none : List Event = [] in get_or (map f xs) k none ≡ none
-none_past f [] k past = refl
-none_past f (x ∷ xs) zero past = absurd (omega arith)
-none_past f (x ∷ xs) (suc k) past = none_past f xs k (omega arith)
+pub known_at : (known : List (List Event)) (k : ℕ) (x : List Event) → k < length known → x ≡ get_or known k x → get_or known k [] ≡ x
+known_at known k x less is = get_or_default known k [] x less ∙ sym is
+
+none_known : (known : List (List Event)) (k : ℕ) → length known ≤ k → let none : List Event = [] in get_or known k none ≡ none
+none_known [] k past = refl
+none_known (x ∷ known) zero past = absurd (omega arith)
+none_known (x ∷ known) (suc k) past = none_known known k (omega arith)
 
 -- where the journals of all that is known begin so, so do all
-pub all_begin : (known : List (Vec Event)) (journals : List (List Event)) (n : ℕ) → length known ≤ n →
-    ((k : ℕ) → k < n → BeginsWith (get_or journals k []) (get_or (events_of known) k [])) → GrewTo (events_of known) journals
+pub all_begin : (known : List (List Event)) (journals : List (List Event)) (n : ℕ) → length known ≤ n →
+    ((k : ℕ) → k < n → BeginsWith (get_or journals k []) (get_or known k [])) → GrewTo known journals
 all_begin known journals n all so place =
     ⊎_elim
     (λ (less : place < n). so place less)
-    (λ (past : n ≤ place). (get_or journals place [], rw (none_past (λ j. j.items) known place (omega arith)) refl))
+    (λ (past : n ≤ place). (get_or journals place [], rw (none_known known place (omega arith)) refl))
     (cases_lt place n)
 
 -- a journal goes on with events
-pub added_at : {E : Type 0} (r : Result (Unit {0}) E) (known : List (Vec Event)) (place : ℕ) (before after : Vec Event) (events : List Event) → place < length known →
-    before ≡ get_or known place before → after.items ≡ (if is_ok r then before.items ++ events else before.items) →
-    OnOk r (events_of (set known place after) ≡ set (events_of known) place (get_or (events_of known) place [] ++ events))
-added_at (Ok u) known place before after events less is more =
-    map-set (λ j. j.items) known place after ∙ rw (mapped_at (λ j. j.items) known place before less is, more) refl
-added_at (Err e) known place before after events less is more = tt
+pub added_at : {E : Type 0} (r : Result (Unit {0}) E) (known now : List (List Event)) (place count : ℕ) (before after events : List Event) → now ≡ set known place after →
+    place < length known → before ≡ get_or known place before → count ≡ length events → OnOk r (after ≡ before ++ take count (drop 0 events)) →
+    OnOk r (now ≡ set known place (get_or known place [] ++ events))
+added_at (Ok u) known now place count before after events is less there all more =
+    let whole : take count events ≡ events = take_all count events (omega arith) in
+    is ∙ ap (set known place) (more ∙ ap (λ l. before ++ l) whole ∙ ap (λ journal. journal ++ events) (there ∙ get_or_default known place before [] less))
+added_at (Err e) known now place count before after events is less there all more = tt
 
 -- or it stays
-same_there : (known : List (Vec Event)) (place : ℕ) (before after : Vec Event) → place < length known → before ≡ get_or known place before →
-    after.items ≡ before.items → events_of (set known place after) ≡ events_of known
-same_there [] place before after less is same = absurd (omega arith)
-same_there (journal ∷ known) zero before after less is same = ap (λ (es : List Event). es ∷ events_of known) (same ∙ ap (λ (j : Vec Event). j.items) is)
-same_there (journal ∷ known) (suc place) before after less is same =
-    ap (λ (js : List (List Event)). journal.items ∷ js) (same_there known place before after (omega arith) is same)
+pub same_at : {E : Type 0} (r : Result (Unit {0}) E) (known now : List (List Event)) (place : ℕ) (before after : List Event) → now ≡ set known place after →
+    before ≡ get_or known place before → OnErr r (after ≡ before) → OnErr r (now ≡ known)
+same_at (Ok u) known now place before after is there same = tt
+same_at (Err e) known now place before after is there same = is ∙ ap (set known place) (same ∙ there) ∙ set-get_or known place before
 
-pub same_at : {E : Type 0} (r : Result (Unit {0}) E) (known : List (Vec Event)) (place : ℕ) (before after : Vec Event) (events : List Event) → place < length known →
-    before ≡ get_or known place before → after.items ≡ (if is_ok r then before.items ++ events else before.items) →
-    OnErr r (events_of (set known place after) ≡ events_of known)
-same_at (Ok u) known place before after events less is same = tt
-same_at (Err e) known place before after events less is same = same_there known place before after less is same
+-- or there is none
+pub none_goes_on : (known now : List (List Event)) (place : ℕ) (events : List Event) → now ≡ known → length known ≤ place → now ≡ set known place (get_or known place [] ++ events)
+none_goes_on known now place events is past = is ∙ sym (set_past known place (get_or known place [] ++ events) past)

@@ -1,7 +1,5 @@
 -- The machine of an audit, and which step an event can be.
 pub mod Placing
--- What is known of journals while their nodes still write them.
-pub mod Known
 -- What an audit answers.
 pub mod Audited
 -- An audit that is begun while the nodes of a federation still write their journals.

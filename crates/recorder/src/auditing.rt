@@ -5,7 +5,7 @@ ghost use Rattle.recorder.specs.Audited.{IsProvedBy, HasEnded, IsUnproved};
 
 use crate::audited_run::AuditedRun;
 use crate::incremental::IncrementalAudit;
-use node::Event;
+use journal::Journal;
 use plan::{Inputs, Plan};
 use reactor_programs::Programs;
 use recorder_reports::{Report, Unproved, refuse_incomplete};
@@ -22,7 +22,7 @@ pub fn audit(
     programs: &Programs,
     inputs: &Inputs,
     reports: &[Report],
-    coordinator: &[Event],
+    coordinator: &Journal,
 ) -> Result<Vec<Step>, Unproved>
     requires programs { AreProgramsOf plan.now programs.now }
     requires inputs { AreInputsOf plan.now inputs.now }
@@ -42,7 +42,7 @@ pub fn audit_run(
     programs: &Programs,
     inputs: &Inputs,
     reports: &[Report],
-    coordinator: &[Event],
+    coordinator: &Journal,
 ) -> Result<AuditedRun, Unproved>
     requires programs { AreProgramsOf plan.now programs.now }
     requires inputs { AreInputsOf plan.now inputs.now }

@@ -14,8 +14,9 @@ ghost use Rattle.recorder_reports.specs.declared.unproved.Unproved.TheVariants a
 use crate::Auditor;
 use crate::audited_run::AuditedRun;
 use crate::judging::judge;
-use crate::known::{add_to, are_prefixes, none_known, slices_of};
-use node::{Event, NodeId};
+use crate::known::{add_to, are_prefixes, none_known, references_to};
+use journal::Journal;
+use node::NodeId;
 use plan::{Inputs, Plan};
 use reactor_programs::Programs;
 use recorder_reports::{Report, Unproved, all_journals, refuse_incomplete};
@@ -34,7 +35,7 @@ pub struct IncrementalAudit<'a> {
     auditor: Auditor<'a>,
     reading: Reading,
     // What is known of the journals: the coordinator's, then the federates' by number.
-    known: Vec<Vec<Event>>,
+    known: Vec<Journal>,
     // Whether steps were lost: then all of them are made again at the end.
     is_given_up: bool,
 }
@@ -96,7 +97,7 @@ impl<'a> IncrementalAudit<'a> {
     }
 
     /// A node's journal goes on with these events. Without memory they aren't known, and nothing is lost: they may come again.
-    pub fn add(&mut self, node: NodeId, events: &[Event]) -> Result<(), AllocError>
+    pub fn add(&mut self, node: NodeId, events: &Journal) -> Result<(), AllocError>
         ensures { self.new ≡ self.old }
     {
         // For the prover: what is read stays read.
@@ -111,7 +112,7 @@ impl<'a> IncrementalAudit<'a> {
         if self.is_given_up {
             return;
         }
-        let Ok(journals) = slices_of(alloc, &self.known) else {
+        let Ok(journals) = references_to(alloc, &self.known) else {
             return;
         };
         if self
@@ -129,7 +130,7 @@ impl<'a> IncrementalAudit<'a> {
         self,
         alloc: Global,
         reports: &[Report],
-        coordinator: &[Event],
+        coordinator: &Journal,
     ) -> Result<AuditedRun, Unproved>
         ensures ended { IfOk result (HasEnded (claim_of self.entry reports.now coordinator.now)) }
         ensures unproved { IfErr result (IsUnproved (claim_of self.entry reports.now coordinator.now)) }
@@ -145,7 +146,7 @@ impl<'a> IncrementalAudit<'a> {
         self,
         alloc: Global,
         reports: &[Report],
-        coordinator: &[Event],
+        coordinator: &Journal,
     ) -> Result<AuditedRun, Unproved>
         requires complete { AreComplete (federate_count self.draft) reports.now }
         ensures ended { IfOk result (HasEnded (claim_of self.entry reports.now coordinator.now)) }
@@ -178,12 +179,19 @@ impl<'a> IncrementalAudit<'a> {
         self,
         alloc: Global,
         reports: &[Report],
-        coordinator: &[Event],
+        coordinator: &Journal,
     ) -> Result<(Auditor<'a>, Found), Unproved>
         ensures searched { IfOk result (λ ended. HasSearched (claim_of self.entry reports.now coordinator.now) ended.0 ended.1) }
         ensures memory { IfErr result (λ fault. fault ≡ Faults.Memory) }
     {
-        let journals = all_journals(alloc, self.plan.federate_count(), reports, coordinator)?;
+        let empty = Journal::new(alloc);
+        let journals = all_journals(
+            alloc,
+            self.plan.federate_count(),
+            reports,
+            coordinator,
+            &empty,
+        )?;
         self.search_all(alloc, &journals)
     }
 
@@ -191,7 +199,7 @@ impl<'a> IncrementalAudit<'a> {
     fn search_all(
         self,
         alloc: Global,
-        journals: &[&[Event]],
+        journals: &[&Journal],
     ) -> Result<(Auditor<'a>, Found), Unproved>
         requires sized { length journals.now ≡ federate_count self.draft + 1 }
         ensures searched { IfOk result (λ ended. IsFound world_motion self.entry (map (λ j. j.now) journals.now) ended.0 ended.1) }
@@ -209,7 +217,7 @@ impl<'a> IncrementalAudit<'a> {
     fn search_anew(
         self,
         alloc: Global,
-        journals: &[&[Event]],
+        journals: &[&Journal],
     ) -> Result<(Auditor<'a>, Found), Unproved>
         ensures searched { IfOk result (λ ended. IsFound world_motion self.entry (map (λ j. j.now) journals.now) ended.0 ended.1) }
         ensures memory { IfErr result (λ fault. fault ≡ Faults.Memory) }
@@ -226,7 +234,7 @@ fn search_from_initial<'a>(
     plan: &'a Plan,
     programs: &'a Programs,
     inputs: &'a Inputs,
-    journals: &[&[Event]],
+    journals: &[&Journal],
 ) -> Result<(Auditor<'a>, Found), Unproved>
     requires programs { AreProgramsOf plan.now programs.now }
     requires inputs { AreInputsOf plan.now inputs.now }
@@ -244,7 +252,7 @@ fn search_from_initial<'a>(
 fn read_to_end<'a>(
     mut auditor: Auditor<'a>,
     reading: Reading,
-    journals: &[&[Event]],
+    journals: &[&Journal],
 ) -> Result<(Auditor<'a>, Found), Unproved>
     requires sized { length reading ≡ length journals.now }
     ensures found { IfOk result (λ ended. (initial : WorldView) → IsReading world_motion initial (map (λ j. j.now) journals.now) (record { state = auditor.entry; read = reading }) → IsFound world_motion initial (map (λ j. j.now) journals.now) ended.0 ended.1) }

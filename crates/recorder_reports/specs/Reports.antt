@@ -57,7 +57,7 @@ rows_of (Some report) = report.rows
 -- its journal
 abbrev pub journal_of : Option Report → List Event
 journal_of None = []
-journal_of (Some report) = report.journal.items
+journal_of (Some report) = report.journal
 
 -- the rows that federate j reports; none where it has no report
 abbrev pub reported_rows : List Report → ℕ → List Row

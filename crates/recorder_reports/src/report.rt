@@ -1,4 +1,4 @@
-use node::Event;
+use journal::Journal;
 use reactor::Rows;
 
 /// What a federate tells after a run. It is believed only after `audit`.
@@ -9,5 +9,5 @@ pub struct Report {
     /// Its rows, oldest first.
     pub rows: Rows,
     /// All events that came to it, oldest first.
-    pub journal: Vec<Event>,
+    pub journal: Journal,
 }

@@ -5,6 +5,7 @@ ghost use Rattle.recorder_search.specs.Reading.{GoesOn, IsBlocked, IsFirstUnread
 
 use crate::machine::Machine;
 use crate::memory::Memory;
+use journal::Journal;
 use node::{Event, NodeId};
 use std::alloc::Global;
 
@@ -19,21 +20,32 @@ pub(crate) fn node_at(place: usize) -> NodeId
 }
 
 // The next event of the journal at a place.
-fn next_event(journals: &[&[Event]], read: &[usize], place: usize) -> Option<Event>
+fn next_event(
+    journals: &[&Journal],
+    read: &[usize],
+    near: &mut [usize],
+    place: usize,
+) -> Option<Event>
     requires { place < length read.now }
     ensures event { result ≡ slice_get (get_or (map (λ j. j.now) journals.now) place []) (get_or read.now place 0) }
     ensures small { result ≢ None → get_or read.now place 0 < usize.MAX }
 {
-    nth_event(journals.get(place)?, read[place])
+    nth_event(journals.get(place)?, read[place], near, place)
 }
 
-// The event of a journal at a place, counted from 0.
-fn nth_event(journal: &[Event], place: usize) -> Option<Event>
-    ensures event { result ≡ slice_get journal.now place }
-    ensures small { result ≢ None → place < usize.MAX }
+// The event of a journal at a place, counted from 0, looked for near a block.
+fn nth_event(journal: &Journal, event: usize, near: &mut [usize], place: usize) -> Option<Event>
+    ensures event { result ≡ slice_get journal.now event }
+    ensures small { result ≢ None → event < usize.MAX }
 {
-    if place < journal.len() {
-        Some(journal[place])
+    if event < journal.len() {
+        match near.get_mut(place) {
+            Some(block) => journal.get(event, block),
+            None => {
+                let mut block = 0;
+                journal.get(event, &mut block)
+            }
+        }
     } else {
         None
     }
@@ -42,8 +54,9 @@ fn nth_event(journal: &[Event], place: usize) -> Option<Event>
 // Reads the next event of the journal at a place, if a step of the machine is that event.
 fn read_one<M: Machine>(
     machine: &mut M,
-    journals: &[&[Event]],
+    journals: &[&Journal],
     read: &mut [usize],
+    near: &mut [usize],
     place: usize,
     exact: bool,
 ) -> Result<bool, Memory>
@@ -51,7 +64,7 @@ fn read_one<M: Machine>(
     ensures goes_on { IfOk result (λ moved. GoesOn M.motion (map (λ j. j.now) journals.now) (record { state = machine.old; read = read.old }) (record { state = machine.new; read = read.new }) moved) }
     ensures blocked { IfOk result (λ moved. moved ≡ false → exact ≡ true → IsBlocked M.motion (map (λ j. j.now) journals.now) (record { state = machine.old; read = read.old }) place) }
 {
-    let Some(event) = next_event(journals, read, place) else {
+    let Some(event) = next_event(journals, read, near, place) else {
         return Ok(false);
     };
     let Some(_) = machine.place(node_at(place), event, exact)? else {
@@ -64,8 +77,9 @@ fn read_one<M: Machine>(
 // Reads the journal at a place, as far as it goes now.
 fn read_on<M: Machine>(
     machine: &mut M,
-    journals: &[&[Event]],
+    journals: &[&Journal],
     read: &mut [usize],
+    near: &mut [usize],
     place: usize,
     exact: bool,
 ) -> Result<bool, Memory>
@@ -74,7 +88,7 @@ fn read_on<M: Machine>(
     ensures blocked { IfOk result (λ moved. moved ≡ false → exact ≡ true → IsBlocked M.motion (map (λ j. j.now) journals.now) (record { state = machine.old; read = read.old }) place) }
 {
     let mut moved = false;
-    while read_one(machine, journals, read, place, exact)? {
+    while read_one(machine, journals, read, near, place, exact)? {
         moved = true;
     }
     Ok(moved)
@@ -83,8 +97,9 @@ fn read_on<M: Machine>(
 // Reads each journal once, as far as it goes then.
 pub(crate) fn round<M: Machine>(
     machine: &mut M,
-    journals: &[&[Event]],
+    journals: &[&Journal],
     read: &mut [usize],
+    near: &mut [usize],
     exact: bool,
 ) -> Result<bool, Memory>
     ensures goes_on { IfOk result (λ moved. GoesOn M.motion (map (λ j. j.now) journals.now) (record { state = machine.old; read = read.old }) (record { state = machine.new; read = read.new }) moved) }
@@ -92,7 +107,7 @@ pub(crate) fn round<M: Machine>(
 {
     let mut moved = false;
     for place in 0..read.len() {
-        if read_on(machine, journals, read, place, exact)? {
+        if read_on(machine, journals, read, near, place, exact)? {
             moved = true;
         }
     }
@@ -100,12 +115,16 @@ pub(crate) fn round<M: Machine>(
 }
 
 // The first node whose journal isn't used up, and its next event, counted from 1.
-pub(crate) fn first_unread(journals: &[&[Event]], read: &[usize]) -> Option<(NodeId, usize)>
+pub(crate) fn first_unread(
+    journals: &[&Journal],
+    read: &[usize],
+    near: &mut [usize],
+) -> Option<(NodeId, usize)>
     requires { length read.now ≡ length journals.now }
     ensures { IsFirstUnread (map (λ j. j.now) journals.now) read.now result }
 {
     for place in 0..read.len() {
-        if let Some(_) = next_event(journals, read, place) {
+        if let Some(_) = next_event(journals, read, near, place) {
             return Some((node_at(place), read[place] + 1));
         }
     }
@@ -115,25 +134,29 @@ pub(crate) fn first_unread(journals: &[&[Event]], read: &[usize]) -> Option<(Nod
 // Reads all journals, as far as they go: by guesses, and exactly where no guess is right.
 pub(crate) fn read_all<M: Machine>(
     machine: &mut M,
-    journals: &[&[Event]],
+    journals: &[&Journal],
     read: &mut [usize],
+    near: &mut [usize],
 ) -> Result<(), Memory>
     ensures reading { OnOk result ((initial : M) → IsReading M.motion initial (map (λ j. j.now) journals.now) (record { state = machine.old; read = read.old }) → IsReading M.motion initial (map (λ j. j.now) journals.now) (record { state = machine.new; read = read.new })) }
     ensures blocked { OnOk result ((place : ℕ) → place < length read.old → IsBlocked M.motion (map (λ j. j.now) journals.now) (record { state = machine.new; read = read.new }) place) }
 {
-    while round(machine, journals, read, false)? || round(machine, journals, read, true)? {}
+    while round(machine, journals, read, near, false)?
+        || round(machine, journals, read, near, true)?
+    {}
     Ok(())
 }
 
 // Reads all journals, as far as guesses go.
 pub(crate) fn read_by_guesses<M: Machine>(
     machine: &mut M,
-    journals: &[&[Event]],
+    journals: &[&Journal],
     read: &mut [usize],
+    near: &mut [usize],
 ) -> Result<(), Memory>
     ensures reading { OnOk result ((initial : M) → IsReading M.motion initial (map (λ j. j.now) journals.now) (record { state = machine.old; read = read.old }) → IsReading M.motion initial (map (λ j. j.now) journals.now) (record { state = machine.new; read = read.new })) }
 {
-    while round(machine, journals, read, false)? {}
+    while round(machine, journals, read, near, false)? {}
     Ok(())
 }
 

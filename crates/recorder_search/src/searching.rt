@@ -7,7 +7,7 @@ use crate::found::Found;
 use crate::machine::Machine;
 use crate::memory::Memory;
 use crate::reading::{first_unread, none_read, read_all, read_by_guesses};
-use node::Event;
+use journal::Journal;
 use std::alloc::Global;
 use std::marker::Model;
 
@@ -16,6 +16,8 @@ use std::marker::Model;
 #[derive(Drop)]
 pub struct Reading {
     read: Vec<usize>,
+    // In which block of each journal the next event is looked for.
+    near: Vec<usize>,
 }
 
 impl Model for Reading {
@@ -31,6 +33,7 @@ impl Reading {
     {
         Ok(Reading {
             read: none_read(alloc, count)?,
+            near: none_read(alloc, count)?,
         })
     }
 
@@ -39,12 +42,12 @@ impl Reading {
     pub fn read_ahead<M: Machine>(
         &mut self,
         machine: &mut M,
-        journals: &[&[Event]],
+        journals: &[&Journal],
     ) -> Result<(), Memory>
         ensures reading { OnOk result ((initial : M) → IsReading M.motion initial (map (λ j. j.now) journals.now) (record { state = machine.old; read = self.old }) → IsReading M.motion initial (map (λ j. j.now) journals.now) (record { state = machine.new; read = self.new })) }
         ensures sized { OnOk result (length self.new ≡ length self.old) }
     {
-        read_by_guesses(machine, journals, &mut self.read)
+        read_by_guesses(machine, journals, &mut self.read, &mut self.near)
     }
 
     /// Reads the journals to their ends, or as far as any machine's step goes: call it when they are whole. What was found is said
@@ -52,12 +55,12 @@ impl Reading {
     pub fn finish<M: Machine>(
         mut self,
         machine: &mut M,
-        journals: &[&[Event]],
+        journals: &[&Journal],
     ) -> Result<Found, Memory>
         requires sized { length self ≡ length journals.now }
         ensures { IfOk result (λ found. (initial : M) → IsReading M.motion initial (map (λ j. j.now) journals.now) (record { state = machine.old; read = self }) → IsFound M.motion initial (map (λ j. j.now) journals.now) machine.new found) }
     {
-        find(machine, journals, &mut self.read)
+        find(machine, journals, &mut self.read, &mut self.near)
     }
 }
 
@@ -67,7 +70,7 @@ impl Reading {
 pub fn search<M: Machine>(
     alloc: Global,
     machine: &mut M,
-    journals: &[&[Event]],
+    journals: &[&Journal],
 ) -> Result<Found, Memory>
     ensures { IfOk result (λ found. IsFound M.motion machine.old (map (λ j. j.now) journals.now) machine.new found) }
 {
@@ -78,14 +81,15 @@ pub fn search<M: Machine>(
 // The search, from where the journals are read to.
 fn find<M: Machine>(
     machine: &mut M,
-    journals: &[&[Event]],
+    journals: &[&Journal],
     read: &mut [usize],
+    near: &mut [usize],
 ) -> Result<Found, Memory>
     requires sized { length read.old ≡ length journals.now }
     ensures { IfOk result (λ found. (initial : M) → IsReading M.motion initial (map (λ j. j.now) journals.now) (record { state = machine.old; read = read.old }) → IsFound M.motion initial (map (λ j. j.now) journals.now) machine.new found) }
 {
-    read_all(machine, journals, read)?;
-    match first_unread(journals, read) {
+    read_all(machine, journals, read, near)?;
+    match first_unread(journals, read, near) {
         Some((node, event)) => Ok(Found::Stuck(node, event)),
         None => Ok(Found::All),
     }

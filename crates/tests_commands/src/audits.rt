@@ -15,6 +15,12 @@ use tests_samples::{
 /// Bytes of the digest at the end of a report file.
 const SEAL: usize = 32;
 
+/// Bytes of the counter's report files before the first row, and of each row, which has one input and one output; the output's value
+/// is at its end.
+const HEAD: usize = 82;
+
+const ROW: usize = 60;
+
 /// The words of an audit of one federate's report, of two in either order, and of three.
 const ONE: &[&str] = &["audit", "f", "i", "c", "0"];
 
@@ -83,10 +89,11 @@ fn prints_the_rows_of_report_files_in_any_order(rt: HostRuntime) {
     }
 }
 
-/// Words over the counter's files, the status, and all of what is on standard output and on standard error. The files: `f` and `i`, an
-/// input file `j` without any input too, the coordinator's report `c` and the federates' `0` and `1`; `cut` is `0` without its last
-/// byte, `third` of a federate that isn't there; `silent` is of a coordinator to which nothing came, `rowless` a report of `src` without
-/// its rows; `c2`, `02` and `12` are the reports after two rounds.
+/// Words over the counter's files, the status, and all of what is on standard output and on standard error. The files: `f` and `i`,
+/// another federation `other`, an input file `j` without any input too, the coordinator's report `c` and the federates' `0` and `1`;
+/// `cut` is `0` without its last byte, `third` of a federate that isn't there; `silent` is of a coordinator to which nothing came,
+/// `rowless` a report of `src` without its rows; `second` reports another value in the second row of `src`, `last` in the last row of
+/// `snk`; `c2`, `02` and `12` are the reports after two rounds. Where several files are wrong, the first one that is named is told.
 const ANSWERS: &[(&[&str], u8, &str, &str)] = &[
     (&["audit", "f", "-", "c", "0", "1"], 0, COUNTER_ROWS, ""),
     (
@@ -158,6 +165,12 @@ snk,20000000,0,out,total,6
         "fedrun: c: 103 OtherFiles\n",
     ),
     (
+        &["audit", "other", "i", "c", "0", "1"],
+        1,
+        "",
+        "fedrun: c: 103 OtherFiles\n",
+    ),
+    (
         &["audit", "f", "i", "1", "0", "c"],
         1,
         "",
@@ -200,10 +213,52 @@ snk,20000000,0,out,total,6
         "fedrun: 83 Mismatch src 1\n",
     ),
     (
+        &["audit", "f", "i", "c", "second", "last"],
+        3,
+        "",
+        "fedrun: 83 Mismatch src 2\n",
+    ),
+    (
+        &["audit", "f", "i", "c", "0", "last"],
+        3,
+        "",
+        "fedrun: 83 Mismatch snk 3\n",
+    ),
+    (
         &["audit", "f", "i", "c2", "02", "12"],
         3,
         "",
         "fedrun: not finished\n",
+    ),
+    (
+        &["audit", "f", "i", "f", "cut", "1"],
+        1,
+        "",
+        "fedrun: f: 100 NoReport\n",
+    ),
+    (
+        &["audit", "f", "i", "c", "cut", "third"],
+        1,
+        "",
+        "fedrun: cut: 102 CutShort\n",
+    ),
+    (
+        &["audit", "f", "i", "c", "third", "cut"],
+        1,
+        "",
+        "fedrun: third: 80 Stranger\n",
+    ),
+    (
+        &["audit", "f", "g", "f", "cut", "1"],
+        1,
+        "",
+        "fedrun: cannot read g\n",
+    ),
+    (
+        &["audit", "f", "i", "c", "cut", "g"],
+        1,
+        "",
+        "fedrun: cut: 102 CutShort\n",
     ),
 ];
 
@@ -215,16 +270,23 @@ struct CounterFiles {
     rowless: ReportFiles,
     third: Vec<u8>,
     silent: Vec<u8>,
+    second: Vec<u8>,
+    last: Vec<u8>,
 }
 
 impl CounterFiles {
     fn new(alloc: Global) -> Option<CounterFiles> {
+        let all = reports_of(alloc, COUNTER, "", ALL_ROUNDS, true)?;
+        let second = changed(alloc, all.federates.first()?, HEAD + 2 * ROW - 1)?;
+        let last = changed(alloc, all.federates.get(1)?, HEAD + 3 * ROW - 1)?;
         Some(CounterFiles {
-            all: reports_of(alloc, COUNTER, "", ALL_ROUNDS, true)?,
+            all,
             early: reports_of(alloc, COUNTER, "", 2, true)?,
             rowless: reports_of(alloc, COUNTER, "", ALL_ROUNDS, false)?,
             third: empty_report(alloc, COUNTER, "", Some(2))?,
             silent: empty_report(alloc, COUNTER, "", None)?,
+            second,
+            last,
         })
     }
 
@@ -238,6 +300,7 @@ impl CounterFiles {
             ("f", COUNTER.as_bytes()),
             ("i", "".as_bytes()),
             ("j", "# no input\n".as_bytes()),
+            ("other", REPLACED.as_bytes()),
             ("c", self.all.coordinator.as_slice()),
             ("0", src),
             ("1", self.all.federates.get(1)?.as_slice()),
@@ -245,6 +308,8 @@ impl CounterFiles {
             ("third", self.third.as_slice()),
             ("silent", self.silent.as_slice()),
             ("rowless", self.rowless.federates.first()?.as_slice()),
+            ("second", self.second.as_slice()),
+            ("last", self.last.as_slice()),
             ("c2", self.early.coordinator.as_slice()),
             ("02", self.early.federates.first()?.as_slice()),
             ("12", self.early.federates.get(1)?.as_slice()),
@@ -370,4 +435,34 @@ fn a_changed_file_gives_the_rows_or_none(rt: HostRuntime) {
         )
     });
     assert_eq!(rt; told, Some((0, true, true)));
+}
+
+/// Where each part of a row ends: its tag, its input's slot and value, its output's port and value.
+const PARTS: [usize; 5] = [12, 28, 36, 52, ROW];
+
+/// What an audit says where the byte at this end is one more in the second row of `src`.
+fn outcome_of_other_row<R: Machine + Net<Stream = TcpStream, Listener = TcpListener>>(
+    rt: &R,
+    end: usize,
+) -> Option<Outcome> {
+    let alloc = rt.alloc();
+    let honest = reports_of(alloc, COUNTER, "", ALL_ROUNDS, true)?;
+    let place = HEAD
+        .saturating_add(ROW)
+        .saturating_add(end)
+        .saturating_sub(1);
+    let first = changed(alloc, federate_file(&honest, 0), place)?;
+    outcome_of_three(rt, &honest.coordinator, &first, federate_file(&honest, 1))
+}
+
+#[test]
+fn does_not_believe_a_row_that_differs_in_anything(rt: HostRuntime) {
+    for end in PARTS {
+        let outcome = outcome_of_other_row(&rt, end);
+        assert_eq!(rt;
+            outcome.as_ref().map(Outcome::texts),
+            Some((3, "", "fedrun: 83 Mismatch src 2\n")),
+            "{end}"
+        );
+    }
 }

@@ -3,6 +3,7 @@ use fedrun_commands::command;
 use fedrun_files::{FileFault, Files};
 use fedrun_progress::{NoProgress, Progress};
 use std::alloc::Global;
+use std::io::Write;
 use std::net::{Net, TcpListener, TcpStream};
 use tests_samples::Machine;
 
@@ -78,24 +79,46 @@ pub fn outcome_over<
     P: Progress + Sync,
 >(rt: &R, words: &[&str], files: &[(&str, &[u8])], progress: &P) -> Option<Outcome> {
     let alloc = rt.alloc();
-    let mut given = Vec::new(alloc);
-    for word in words {
-        given.push(String::from_str(alloc, word).ok()?).ok()?;
-    }
-    let mut files = NamedFiles { alloc, files };
     let mut out = Vec::new(alloc);
     let mut err = Vec::new(alloc);
-    let status = command(
-        rt,
-        given.as_slice(),
-        &mut files,
-        &mut out,
-        &mut err,
-        progress,
-    );
+    let status = answer_into(rt, words, files, &mut out, &mut err, progress)?;
     Some(Outcome {
         status,
         out: String::from_utf8(out).ok()?,
         err: String::from_utf8(err).ok()?,
     })
+}
+
+/// The status and what is on standard error, where standard output is this writer; None where there is no memory.
+pub fn refusal_into<R: Machine + Net<Stream = TcpStream, Listener = TcpListener>, O: Write>(
+    rt: &R,
+    words: &[&str],
+    files: &[(&str, &[u8])],
+    out: &mut O,
+) -> Option<(u8, String)> {
+    let mut err = Vec::new(rt.alloc());
+    let status = answer_into(rt, words, files, out, &mut err, &NoProgress)?;
+    Some((status, String::from_utf8(err).ok()?))
+}
+
+/// The status that the words give over files of these names and bytes.
+fn answer_into<
+    R: Machine + Net<Stream = TcpStream, Listener = TcpListener>,
+    O: Write,
+    P: Progress + Sync,
+>(
+    rt: &R,
+    words: &[&str],
+    files: &[(&str, &[u8])],
+    out: &mut O,
+    err: &mut Vec<u8>,
+    progress: &P,
+) -> Option<u8> {
+    let alloc = rt.alloc();
+    let mut given = Vec::new(alloc);
+    for word in words {
+        given.push(String::from_str(alloc, word).ok()?).ok()?;
+    }
+    let mut files = NamedFiles { alloc, files };
+    Some(command(rt, given.as_slice(), &mut files, out, err, progress))
 }

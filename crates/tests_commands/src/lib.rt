@@ -18,4 +18,6 @@ mod progress_line;
 #[cfg(test)]
 mod progress_told;
 #[cfg(test)]
+mod refusing_writers;
+#[cfg(test)]
 mod report_files;

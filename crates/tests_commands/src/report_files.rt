@@ -5,6 +5,7 @@ use desk::Desk;
 use federate::Federate;
 use fedrun_reports::{FileDigests, NodeReport, write_report};
 use fedrun_run::{coordinator_desk, federate_desks};
+use journal::Journal;
 use node::{Event, Node, Reply};
 use reactor::Rows;
 use recorder_reports::Report;
@@ -175,7 +176,7 @@ pub fn empty_report(
     federate: Option<usize>,
 ) -> Option<Vec<u8>> {
     let digests = FileDigests::new(federation.as_bytes(), inputs.as_bytes());
-    let journal = Vec::new(alloc);
+    let journal = Journal::new(alloc);
     let report = match federate {
         Some(federate) => NodeReport::Federate(Report {
             federate,

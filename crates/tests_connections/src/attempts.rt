@@ -6,6 +6,7 @@ use std::sync::Wait;
 use std::sync::atomic::{AtomicBool, AtomicU64, Ordering};
 use std::thread;
 use std::time::{Clock, Duration};
+use tests_lines::journals::count_of;
 use tests_lines::lines::ran_in_memory;
 use tests_lines::nodes::is_finished;
 use tests_lines::tap::{End, Tap};
@@ -65,12 +66,7 @@ fn turns_made(gathered: &Gathered<Coordinator<'_>, Federate<'_>>) -> Option<usiz
         return None;
     }
     let journal = gathered.federates.first()?.journal();
-    Some(
-        journal
-            .iter()
-            .filter(|event| **event == Event::Announce)
-            .count(),
-    )
+    Some(count_of(journal, &Event::Announce))
 }
 
 /// How many turns a federate makes before these and its attempts to connect are as many as it has.

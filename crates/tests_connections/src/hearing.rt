@@ -4,6 +4,7 @@ use coordinator::Coordinator;
 use federate::Federate;
 use node::Event;
 use tests_lines::federations::BY_TURNS;
+use tests_lines::journals::count_of;
 use tests_lines::lines::{AMPLE, ran_in_memory};
 use tests_lines::reported::is_right;
 use tests_lines::tap::Untouched;
@@ -14,7 +15,7 @@ use wires_workers::NoGate;
 /// Whether a federate sent something again.
 fn has_resent(gathered: &Gathered<Coordinator<'_>, Federate<'_>>) -> bool {
     for desk in &gathered.federates {
-        if desk.journal().contains(&Event::Resend(0)) {
+        if count_of(desk.journal(), &Event::Resend(0)) > 0 {
             return true;
         }
     }

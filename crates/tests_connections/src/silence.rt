@@ -2,6 +2,7 @@
 //! more. The numbers are those of docs/PROTOCOL.md, written out: a test that cited the constants of the code would pass with any.
 use node::Event;
 use std::alloc::Global;
+use tests_lines::journals::events_of;
 use tests_lines::lines::ran_in_memory;
 use tests_lines::tap::{End, Fate, Tap};
 use tests_samples::{Machine, SENDER, loaded};
@@ -60,7 +61,8 @@ fn turns_between_resendings<R: Machine>(rt: &R) -> Option<usize> {
         frames: 2,
     };
     let gathered = ran_in_memory(rt, rt.alloc(), &federation, &NoGate, &Losing, terms)?;
-    turns_between(rt.alloc(), gathered.federates.first()?.journal())
+    let events = events_of(rt.alloc(), gathered.federates.first()?.journal())?;
+    turns_between(rt.alloc(), &events)
 }
 
 #[test]

@@ -4,7 +4,8 @@ use crate::desks::{Run, played};
 use crate::loading::loaded;
 use desk::Desk;
 use federate::Federate;
-use node::{Event, NodeId};
+use journal::Journal;
+use node::NodeId;
 use recorder::{
     AuditedRun, Collector, IncrementalAudit, Refused, Report, ReportFault, Unproved, audit,
 };
@@ -73,7 +74,7 @@ fn takes_all(collector: &mut Collector<'_>, desks: Vec<Desk<Federate<'_>>>) -> b
 #[derive(Clone, Copy)]
 struct Said<'a> {
     reports: &'a [Report],
-    coordinator: &'a [Event],
+    coordinator: &'a Journal,
 }
 
 /// How many events all journals have: each of them is one step.
@@ -124,7 +125,7 @@ fn audits_twice(alloc: Global, federation: &Federation, said: Said<'_>) -> Optio
 // ---- audits of journals that grow
 
 /// Whether an audit knows these events of a node too: at once, or where it was out of memory and knows none of them, the next time.
-fn learns(audit: &mut IncrementalAudit<'_>, node: NodeId, events: &[Event]) -> bool {
+fn learns(audit: &mut IncrementalAudit<'_>, node: NodeId, events: &Journal) -> bool {
     let known = audit.known(node);
     if audit.add(node, events).is_err() {
         if audit.known(node) != known || audit.add(node, events).is_err() {
@@ -134,24 +135,36 @@ fn learns(audit: &mut IncrementalAudit<'_>, node: NodeId, events: &[Event]) -> b
     audit.known(node) == known.saturating_add(events.len())
 }
 
-/// The first half of a journal, or the second.
-fn half(journal: &[Event], is_first: bool) -> &[Event] {
-    let (first, second) = journal.split_at(journal.len() / 2);
-    if is_first { first } else { second }
+/// The first half of a journal, or the second, at the second attempt where the first was out of memory.
+fn half(alloc: Global, journal: &Journal, is_first: bool) -> Option<Journal> {
+    let middle = journal.len() / 2;
+    let place = if is_first { 0 } else { middle };
+    let most = if is_first { middle } else { journal.len() };
+    let mut half = Journal::new(alloc);
+    if half.append(journal, place, most).is_err() {
+        half.append(journal, place, most).ok()?;
+    }
+    Some(half)
 }
 
-/// Whether an audit knows a half of each journal too.
-fn learns_half(audit: &mut IncrementalAudit<'_>, said: Said<'_>, is_first: bool) -> bool {
-    if !learns(audit, NodeId::Coordinator, half(said.coordinator, is_first)) {
-        return false;
+/// Whether an audit knows a half of each journal too; None where there is no memory for a half.
+fn learns_half(
+    alloc: Global,
+    audit: &mut IncrementalAudit<'_>,
+    said: Said<'_>,
+    is_first: bool,
+) -> Option<bool> {
+    let coordinator = half(alloc, said.coordinator, is_first)?;
+    if !learns(audit, NodeId::Coordinator, &coordinator) {
+        return Some(false);
     }
     for report in said.reports {
-        let node = NodeId::Federate(report.federate);
-        if !learns(audit, node, half(&report.journal, is_first)) {
-            return false;
+        let journal = half(alloc, &report.journal, is_first)?;
+        if !learns(audit, NodeId::Federate(report.federate), &journal) {
+            return Some(false);
         }
     }
-    true
+    Some(true)
 }
 
 /// What an audit says at the end that went on after each half of the journals; None where a half isn't known.
@@ -170,7 +183,7 @@ fn concluded_at_once(
         Err(fault) => return Some(Err(fault)),
     };
     for is_first in [true, false] {
-        if !learns_half(&mut audit, said, is_first) {
+        if !learns_half(alloc, &mut audit, said, is_first)? {
             return None;
         }
         audit.go_on(alloc);

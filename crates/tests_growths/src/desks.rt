@@ -6,6 +6,7 @@ use coordinator::Coordinator;
 use desk::{Desk, Memory};
 use federate::Federate;
 use fedrun_run::{coordinator_desk, federate_desks};
+use journal::Journal;
 use node::{Event, Node, Reply};
 use std::alloc::Global;
 use tests_samples::Federation;
@@ -57,7 +58,7 @@ fn marks_of<N: Counted>(desk: &Desk<N>) -> Marks {
     Marks {
         rows: desk.station().node().row_count(),
         journal: desk.journal().len(),
-        last: desk.journal().last().copied(),
+        last: desk.journal().last(),
         ends: [end_marks(desk, 0), end_marks(desk, 1)],
     }
 }
@@ -177,12 +178,23 @@ impl<'a> Run<'a> {
     /// Whether each node of another run has the same journal.
     fn is_like(&self, other: &Run<'_>) -> bool {
         for (desk, other_desk) in self.federates.iter().zip(other.federates.iter()) {
-            if desk.journal() != other_desk.journal() {
+            if !are_same(desk.journal(), other_desk.journal()) {
                 return false;
             }
         }
-        self.coordinator.journal() == other.coordinator.journal()
+        are_same(self.coordinator.journal(), other.coordinator.journal())
     }
+}
+
+/// Whether two journals have the same events.
+fn are_same(journal: &Journal, other: &Journal) -> bool {
+    let (mut block, mut other_block) = (0, 0);
+    for place in 0..journal.len() {
+        if other.get(place, &mut other_block) != Some(journal.event(place, &mut block)) {
+            return false;
+        }
+    }
+    journal.len() == other.len()
 }
 
 /// Nothing on its way, for two federates.

@@ -172,8 +172,8 @@ fn refuses_great_numbers(alloc: Global) -> Option<bool> {
     Some(
         is_refused(&mut world, Step::Announce(1 << 16))
             && is_refused(&mut world, Step::Deliver(Dir::Up(0), 1 << 32))
-            && !is_refused(&mut world, Step::Announce((1 << 16) - 1))
-            && !is_refused(&mut world, Step::Deliver(Dir::Up(0), (1 << 32) - 1)),
+            && makes(&mut world, Step::Announce((1 << 16) - 1))
+            && makes(&mut world, Step::Deliver(Dir::Up(0), (1 << 32) - 1)),
     )
 }
 

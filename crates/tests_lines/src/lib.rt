@@ -6,6 +6,7 @@
 #![tactic(auto)]
 
 pub mod federations;
+pub mod journals;
 pub mod lines;
 pub mod nodes;
 pub mod reported;

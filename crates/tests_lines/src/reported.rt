@@ -3,7 +3,7 @@ use crate::nodes::has_all_rows;
 use coordinator::Coordinator;
 use desk::Desk;
 use federate::Federate;
-use node::Event;
+use journal::Journal;
 use recorder::{Report, Unproved, audit};
 use std::alloc::Global;
 use tests_samples::Federation;
@@ -14,7 +14,7 @@ pub fn told_of(
     alloc: Global,
     federation: &Federation,
     reports: &[Report],
-    coordinator: &[Event],
+    coordinator: &Journal,
 ) -> Option<Unproved> {
     audit(
         alloc,

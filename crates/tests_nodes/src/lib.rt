@@ -1,6 +1,6 @@
 //! A node for tests, and tests of stations and desks: what a link's end refuses, what a node refuses, which refusals close a
-//! link, two stations that talk over lines where frames are lost, repeated and overtaken, two workers at one desk, federates
-//! and the coordinator, and how many federates its table looks at. No program uses this crate: it is there so that a node meets the trait, and stations and desks are run.
+//! link, two stations that talk over lines where frames are lost, repeated and overtaken, two workers at one desk, in how
+//! little room journals keep events, federates and the coordinator, and how many federates its table looks at. No program uses this crate: it is there so that a node meets the trait, and stations and desks are run.
 //!
 //! Begin with `counter`, the node.
 #![tactic(auto)]
@@ -16,6 +16,8 @@ mod desks;
 mod federates;
 #[cfg(test)]
 mod joined;
+#[cfg(test)]
+mod journals;
 #[cfg(test)]
 mod looks;
 #[cfg(test)]

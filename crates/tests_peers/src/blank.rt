@@ -4,11 +4,13 @@ use crate::printed::printed;
 use crate::relay::{NEXT, results, with_blank};
 use coordinator::Coordinator;
 use federate::Federate;
+use journal::Journal;
 use node::{Event, Node, NodeId};
 use recorder::{Report, Unproved};
 use signal::{Frame, Hello};
 use std::alloc::Global;
 use std::net::{Net, TcpListener, TcpStream};
+use tests_lines::journals::count_of;
 use tests_lines::nodes::is_finished;
 use tests_lines::reported::{reports, told_of};
 use tests_samples::{COUNTER, Federation, Machine, loaded};
@@ -52,8 +54,8 @@ fn after_run(gathered: &Gathered<Coordinator<'_>, Federate<'_>>) -> Option<After
     let snk = gathered.federates.get(1)?;
     let blank = gathered.federates.get(2)?;
     Some(After {
-        has_come: coordinator.journal().contains(&HELLO),
-        is_told: blank.journal().contains(&REFUSE),
+        has_come: count_of(coordinator.journal(), &HELLO) > 0,
+        is_told: count_of(blank.journal(), &REFUSE) > 0,
         closed: [
             blank.station().end(0)?.is_closed(),
             coordinator.station().end(1)?.is_closed(),
@@ -71,7 +73,7 @@ fn is_disbelieved(
     alloc: Global,
     federation: &Federation,
     reports: &[Report],
-    coordinator: &[Event],
+    coordinator: &Journal,
 ) -> bool {
     let told = told_of(alloc, federation, reports, coordinator);
     matches!(told, Some(Unproved::Stuck(NodeId::Coordinator, _)))
@@ -83,7 +85,7 @@ fn are_disbelieved(
     alloc: Global,
     federation: &Federation,
     mut reports: Vec<Report>,
-    coordinator: &[Event],
+    coordinator: &Journal,
 ) -> Option<bool> {
     let mut blank = reports.pop()?;
     blank.federate = 1;

@@ -3,6 +3,7 @@
 use crate::printed::printed;
 use coordinator::Coordinator;
 use federate::Federate;
+use journal::Journal;
 use node::{Event, Node, NodeId};
 use signal::{Frame, Signal};
 use std::alloc::Global;
@@ -10,6 +11,7 @@ use std::sync::Wait;
 use std::sync::atomic::{AtomicBool, AtomicU64, Ordering};
 use std::thread;
 use std::time::{Clock, Duration};
+use tests_lines::journals::count_of;
 use tests_lines::lines::ran_in_memory;
 use tests_lines::nodes::is_finished;
 use tests_lines::reported::reports;
@@ -166,14 +168,15 @@ impl Gate for Lie {
 }
 
 /// Whether a TAG came, and no message at or below one.
-fn is_in_order(journal: &[Event]) -> bool {
+fn is_in_order(journal: &Journal) -> bool {
     let mut granted = None;
-    for event in journal {
-        if let Event::Frame(_, Frame::Data { signal, .. }) = event {
+    let mut block = 0;
+    for place in 0..journal.len() {
+        if let Event::Frame(_, Frame::Data { signal, .. }) = journal.event(place, &mut block) {
             match signal {
-                Signal::Tag(tag) => granted = Some(*tag),
+                Signal::Tag(tag) => granted = Some(tag),
                 Signal::Msg { tag, .. } => {
-                    if Some(*tag) <= granted {
+                    if Some(tag) <= granted {
                         return false;
                     }
                 }
@@ -212,7 +215,7 @@ fn after_run(gathered: &Gathered<Coordinator<'_>, Federate<'_>>) -> Option<After
     let snk = gathered.federates.get(SNK)?;
     Some(After {
         is_in_order: is_in_order(snk.journal()),
-        is_told: src.journal().contains(&REFUSE),
+        is_told: count_of(src.journal(), &REFUSE) > 0,
         closed: [
             src.station().end(0)?.is_closed(),
             coordinator.end(SRC)?.is_closed(),

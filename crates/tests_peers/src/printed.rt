@@ -1,7 +1,7 @@
 //! What is printed of reports that an audit doesn't prove.
 use fedrun_run::{AuditedFault, RunOutput, print_audited};
 use fedrun_text::RowFormat;
-use node::Event;
+use journal::Journal;
 use recorder::{IncrementalAudit, Report};
 use std::alloc::Global;
 use tests_samples::Federation;
@@ -11,7 +11,7 @@ pub(crate) fn printed(
     alloc: Global,
     federation: &Federation,
     reports: &[Report],
-    coordinator: &[Event],
+    coordinator: &Journal,
 ) -> Option<usize> {
     let plan = federation.plan();
     let audit = IncrementalAudit::new(

@@ -6,6 +6,7 @@ use node::Event;
 use signal::Frame;
 use std::alloc::Global;
 use std::sync::atomic::{AtomicBool, AtomicU64, Ordering};
+use tests_lines::journals::count_of;
 use tests_lines::lines::ran_in_memory;
 use tests_lines::nodes::is_finished;
 use tests_lines::tap::{End, Fate, Tap, frames_of};
@@ -111,7 +112,7 @@ fn after_run(gathered: &Gathered<Coordinator<'_>, Federate<'_>>) -> Option<After
     let src = gathered.federates.first()?;
     let coordinator = gathered.coordinator.station();
     Some(After {
-        is_told: src.journal().contains(&Event::Frame(0, REFUSE)),
+        is_told: count_of(src.journal(), &Event::Frame(0, REFUSE)) > 0,
         closed: [
             src.station().end(0)?.is_closed(),
             coordinator.end(0)?.is_closed(),

@@ -8,6 +8,7 @@ use crossbeam_channel::Receiver;
 use desk::{Desk, Shared};
 use federate::Federate;
 use fedrun_run::{coordinator_desk, federate_desks};
+use journal::Journal;
 use link::LinkEnd;
 use node::{Event, Node, NodeId, Station};
 use signal::{Frame, Hello, Signal};
@@ -18,6 +19,7 @@ use std::sync::atomic::{AtomicBool, Ordering};
 use std::thread;
 use std::thread::Threads;
 use std::time::{Clock, Duration};
+use tests_lines::journals::events_of;
 use tests_samples::Federation;
 use wires::{Endpoint, Nodes, Terms, WorkerResult, channels, run};
 use wires_transports::{
@@ -55,9 +57,12 @@ struct Relay<'a, 'f> {
 
 /// A copy of a journal; empty without memory for it.
 fn journal<R: Wait, N: Node>(rt: &R, alloc: Global, shared: &Shared<N>) -> Vec<Event> {
-    let mut events = Vec::new(alloc);
+    let mut events = Journal::new(alloc);
     let _ = shared.copy_events(rt, 0, usize::MAX, &mut events);
-    events
+    match events_of(alloc, &events) {
+        Some(events) => events,
+        None => Vec::new(alloc),
+    }
 }
 
 /// Whether an advance came after a TAG.

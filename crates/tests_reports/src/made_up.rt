@@ -3,6 +3,7 @@ ghost use Rattle.std.specs.Prelude.{◌<◌};
 
 use crate::worked::{digests, written};
 use fedrun_reports::{Memory, NodeReport, read_report};
+use journal::Journal;
 use node::Event;
 use reactor::Rows;
 use reactor_program::Entry;
@@ -119,12 +120,12 @@ impl Numbers {
     }
 
     /// At most 49 events.
-    fn journal(&mut self, alloc: Global) -> Result<Vec<Event>, Memory> {
-        let mut journal = Vec::new(alloc);
+    fn journal(&mut self, alloc: Global) -> Result<Journal, Memory> {
+        let mut journal = Journal::new(alloc);
         for _ in 0..self.below(50) {
             let signal = self.signal();
             let frame = self.frame(signal);
-            journal.push(self.event(frame))?;
+            journal.push(&self.event(frame), None)?;
         }
         Ok(journal)
     }
@@ -143,16 +144,27 @@ impl Numbers {
     }
 }
 
+/// Whether two journals have the same events.
+fn are_same_events(journal: &Journal, other: &Journal) -> bool {
+    let (mut block, mut other_block) = (0, 0);
+    for place in 0..journal.len() {
+        if other.get(place, &mut other_block) != Some(journal.event(place, &mut block)) {
+            return false;
+        }
+    }
+    journal.len() == other.len()
+}
+
 /// Whether both say the same.
 fn are_same(report: &NodeReport, other: &NodeReport) -> bool {
     match (report, other) {
         (NodeReport::Coordinator(journal), NodeReport::Coordinator(again)) => {
-            journal.as_slice() == again.as_slice()
+            are_same_events(journal, again)
         }
         (NodeReport::Federate(report), NodeReport::Federate(again)) => {
             report.federate == again.federate
                 && first_difference(&report.rows, &again.rows).is_none()
-                && report.journal.as_slice() == again.journal.as_slice()
+                && are_same_events(&report.journal, &again.journal)
         }
         _ => false,
     }

@@ -1,7 +1,7 @@
 //! Reports that no file can say.
 use crate::worked::digests;
 use fedrun_reports::{NodeReport, WriteFault, write_report};
-use node::Event;
+use journal::Journal;
 use reactor::Rows;
 use recorder_reports::Report;
 use std::alloc::Global;
@@ -16,7 +16,7 @@ fn fault(alloc: Global, federate: usize, of_row: usize) -> Option<WriteFault> {
     let report = NodeReport::Federate(Report {
         federate,
         rows,
-        journal: Vec::<Event>::new(alloc),
+        journal: Journal::new(alloc),
     });
     write_report(alloc, &digests(), &report).err()
 }

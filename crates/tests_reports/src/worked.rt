@@ -1,5 +1,6 @@
 //! Two files worked by hand: of a federate that counted to two, and of a coordinator.
 use fedrun_reports::{FileDigests, NodeReport, read_report, write_report};
+use journal::Journal;
 use node::Event;
 use reactor::Rows;
 use reactor_program::Entry;
@@ -123,7 +124,7 @@ pub(crate) fn counted_twice(alloc: Global) -> Option<NodeReport> {
     Some(NodeReport::Federate(Report {
         federate: 0,
         rows,
-        journal: Vec::from_slice(alloc, &events).ok()?,
+        journal: Journal::of(alloc, &events).ok()?,
     }))
 }
 
@@ -139,7 +140,7 @@ fn coordinated(alloc: Global) -> Option<NodeReport> {
         Event::Frame(1, hello),
         Event::Resend(0x1234),
     ];
-    Some(NodeReport::Coordinator(Vec::from_slice(alloc, &events).ok()?))
+    Some(NodeReport::Coordinator(Journal::of(alloc, &events).ok()?))
 }
 
 /// The file of a report of the run.
@@ -191,6 +192,17 @@ fn are_rows_of_src(rows: &Rows, expected: &[(u64, i64)]) -> bool {
     true
 }
 
+/// The first four events of a journal, as far as it goes.
+fn events_of(journal: &Journal) -> [Option<Event>; 4] {
+    let mut block = 0;
+    [
+        journal.get(0, &mut block),
+        journal.get(1, &mut block),
+        journal.get(2, &mut block),
+        journal.get(3, &mut block),
+    ]
+}
+
 /// Whether the bytes are read as what `src` says.
 fn is_read_as_src(alloc: Global, bytes: &[u8]) -> bool {
     let Ok(NodeReport::Federate(report)) = read_report(alloc, &digests(), bytes) else {
@@ -199,11 +211,12 @@ fn is_read_as_src(alloc: Global, bytes: &[u8]) -> bool {
     report.federate == 0
         && are_rows_of_src(&report.rows, &[(0, 1), (10_000_000, 2)])
         && matches!(
-            report.journal.as_slice(),
+            events_of(&report.journal),
             [
-                Event::Announce,
-                Event::Frame(0, Frame::Data { number: 1, .. }),
-                Event::Advance
+                Some(Event::Announce),
+                Some(Event::Frame(0, Frame::Data { number: 1, .. })),
+                Some(Event::Advance),
+                None
             ]
         )
 }
@@ -221,11 +234,12 @@ fn is_read_as_coordinator(alloc: Global, bytes: &[u8]) -> bool {
         return false;
     };
     matches!(
-        journal.as_slice(),
+        events_of(&journal),
         [
-            Event::Hello(1),
-            Event::Frame(1, Frame::Hello(Hello { federate: 1, .. })),
-            Event::Resend(0x1234)
+            Some(Event::Hello(1)),
+            Some(Event::Frame(1, Frame::Hello(Hello { federate: 1, .. }))),
+            Some(Event::Resend(0x1234)),
+            None
         ]
     )
 }

@@ -1,4 +1,5 @@
 //! Reports of strangers, second ones, and missing ones.
+use journal::Journal;
 use plan::Plan;
 use reactor::Rows;
 use recorder::{Collector, Report, ReportFault, Unproved};
@@ -11,7 +12,7 @@ fn empty(alloc: Global, federate: usize) -> Report {
     Report {
         federate,
         rows: Rows::new(alloc),
-        journal: Vec::new(alloc),
+        journal: Journal::new(alloc),
     }
 }
 
@@ -28,7 +29,7 @@ fn all_empty(alloc: Global, federates: &[usize]) -> Option<Vec<Report>> {
 fn told(alloc: Global, federates: &[usize]) -> Option<Unproved> {
     let federation = loaded(alloc, COUNTER, "")?;
     let reports = all_empty(alloc, federates)?;
-    told_of(alloc, &federation, &reports, &[])
+    told_of(alloc, &federation, &reports, &Journal::new(alloc))
 }
 
 /// Why a collector doesn't take an empty report of this federate.

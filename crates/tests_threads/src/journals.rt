@@ -1,9 +1,11 @@
 //! What is copied of a journal while its node runs.
 use desk::{Share, Shared};
 use federate::Federate;
+use journal::Journal;
 use node::Event;
 use std::alloc::Global;
 use std::sync::Wait;
+use tests_lines::journals::events_of;
 use tests_lines::nodes::nodes_of;
 use tests_samples::{Machine, SENDER, loaded};
 
@@ -17,7 +19,7 @@ fn handed_in() -> [Event; 4] {
     ]
 }
 
-/// What is in a list before the events that are copied behind it.
+/// What is in a journal before the events that are copied behind it.
 const BEFORE: Event = Event::Resend(7);
 
 /// From which place on events are copied, how many at most, and between which places they stand.
@@ -31,7 +33,7 @@ const COPIED: &[(usize, usize, usize, usize)] = &[
     (9, 5, 0, 0),
 ];
 
-/// Whether these events are copied of the journal, behind what is in the list before.
+/// Whether these events are copied of the journal, behind what is in the other one before.
 fn copies<R: Wait>(
     rt: &R,
     alloc: Global,
@@ -40,9 +42,10 @@ fn copies<R: Wait>(
     most: usize,
     wanted: &[Event],
 ) -> Option<bool> {
-    let mut events = Vec::new(alloc);
-    events.push(BEFORE).ok()?;
-    shared.copy_events(rt, place, most, &mut events).ok()?;
+    let mut journal = Journal::new(alloc);
+    journal.push(&BEFORE, None).ok()?;
+    shared.copy_events(rt, place, most, &mut journal).ok()?;
+    let events = events_of(alloc, &journal)?;
     let (first, copied) = events.as_slice().split_first()?;
     Some(*first == BEFORE && copied == wanted)
 }

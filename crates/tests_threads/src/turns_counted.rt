@@ -1,6 +1,7 @@
 //! All turns of a federate are counted, whoever makes them: its runner, or its reader behind what came.
 use coordinator::Coordinator;
 use federate::Federate;
+use journal::Journal;
 use node::Event;
 use std::net::{Net, TcpListener, TcpStream};
 use tests_lines::nodes::{is_finished, nodes_of};
@@ -28,14 +29,16 @@ to = "snk.x"
 "#;
 
 /// How many turns a journal has; none where an announcement isn't followed by an advance at once, or an advance stands alone.
-fn turns(journal: &[Event]) -> Option<u32> {
+fn turns(journal: &Journal) -> Option<u32> {
     let mut turns: u32 = 0;
     let mut has_announced = false;
-    for event in journal {
-        if has_announced != (*event == Event::Advance) {
+    let mut block = 0;
+    for place in 0..journal.len() {
+        let event = journal.event(place, &mut block);
+        if has_announced != (event == Event::Advance) {
             return None;
         }
-        has_announced = *event == Event::Announce;
+        has_announced = event == Event::Announce;
         if has_announced {
             turns = turns.saturating_add(1);
         }

@@ -1,4 +1,5 @@
 //! A frame that was never sent: a coordinator grants before it heard of anything, and a federate announces after the grant.
+use journal::Journal;
 use node::{Event, NodeId};
 use reactor::Rows;
 use recorder::{Report, Unproved};
@@ -34,18 +35,10 @@ fn first(signal: Signal) -> Event {
     )
 }
 
-fn journal(alloc: Global, events: &[Event]) -> Option<Vec<Event>> {
-    let mut journal = Vec::new(alloc);
-    for event in events {
-        journal.push(*event).ok()?;
-    }
-    Some(journal)
-}
-
 /// What the federate reports: it is granted its first tag, and announces.
 fn report(alloc: Global) -> Option<Report> {
     let grant = first(Signal::Tag(FiniteTag::new(Time::zero(), 0)));
-    let journal = journal(alloc, &[grant, Event::Announce])?;
+    let journal = Journal::of(alloc, &[grant, Event::Announce]).ok()?;
     Some(Report {
         federate: 0,
         rows: Rows::new(alloc),
@@ -56,7 +49,7 @@ fn report(alloc: Global) -> Option<Report> {
 /// What is printed of such journals: each frame answers the other.
 fn told_at(alloc: Global, federation: &Federation) -> Option<Unproved> {
     let next = first(Signal::Net(Tag::new(Time::zero(), 0)));
-    let coordinator = journal(alloc, &[next])?;
+    let coordinator = Journal::of(alloc, &[next]).ok()?;
     let reports = [report(alloc)?];
     told_of(alloc, federation, &reports, &coordinator)
 }

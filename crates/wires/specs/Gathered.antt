@@ -2,7 +2,7 @@
 use Rattle.std.specs.Prelude.{◌≡◌, ◌≢◌, ℕ, Bool, true, false, nat_eq, if◌then◌else◌, List, filter_map, slice_get, Option, Some, None}
 use Rattle.node.specs.declared.node_id.NodeId.{NodeId}
 use Rattle.node.specs.declared.node_id.NodeId.TheVariants.{Coordinator, Federate}
-use Rattle.desk.specs.declared.slip.Slip.{Slip}
+use Rattle.journal.specs.declared.slip.Slip.{Slip}
 use Rattle.desk.specs.Replay.{Desk}
 use Rattle.desk.specs.Shares.{Agree}
 use Rattle.wires.specs.declared.job.WorkerResult.{WorkerResult}

@@ -2,7 +2,7 @@
 use Rattle.std.proofs.Common.{◌≡◌, ℕ, ◌+◌, ◌<◌, ◌≤◌, ◌∷◌, ◌++◌, [], List, length, take, get_or, subst, sym, ap, ◌∙◌}
 use Rattle.std.proofs.lemmas.List.{append_assoc, append-nil, take_all, take_more}
 use Rattle.node.specs.declared.event.Event.{Event}
-use Rattle.desk.specs.declared.slip.Slip.{Slip}
+use Rattle.journal.specs.declared.slip.Slip.{Slip}
 use Rattle.wires_workers.specs.HandedIn.{AreHandedIn, HandedIn, none, one_more}
 
 -- more of them, behind those before

@@ -3,7 +3,7 @@ use Rattle.std.proofs.Common.{◌≡◌, ℕ, suc, ◌+◌, ◌∷◌, ◌++◌,
 use Rattle.std.proofs.lemmas.List.{append_assoc, append-nil}
 use Rattle.node.specs.declared.event.Event.{Event}
 use Rattle.node.specs.declared.event.Event.TheVariants.{Announce, Advance}
-use Rattle.desk.specs.declared.slip.Slip.{Slip}
+use Rattle.journal.specs.declared.slip.Slip.{Slip}
 use Rattle.wires_workers.specs.HandedIn.{AreHandedIn, HandedIn, none, one_more, events_of_turns}
 
 -- no turn

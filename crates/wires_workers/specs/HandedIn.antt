@@ -2,7 +2,7 @@
 use Rattle.std.specs.Prelude.{◌≡◌, ℕ, zero, suc, List, [], ◌∷◌, ◌++◌}
 use Rattle.node.specs.declared.event.Event.{Event}
 use Rattle.node.specs.declared.event.Event.TheVariants.{Announce, Advance}
-use Rattle.desk.specs.declared.slip.Slip.{Slip}
+use Rattle.journal.specs.declared.slip.Slip.{Slip}
 
 -- the event has a slip, the last one; or there was no memory, and the share is as before
 pub data HandedIn (old : List Slip) (event : Event) (new : List Slip) : Type 0 where

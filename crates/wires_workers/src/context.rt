@@ -1,6 +1,6 @@
 ghost use Rattle.std.specs.Prelude.{◌≡◌, ℕ, ◌≤◌, ◌+◌, None, ◌∷◌, ◌++◌, List, [], IfSome};
 ghost use Rattle.node.specs.declared.event.Event.TheVariants as Events;
-ghost use Rattle.desk.specs.declared.slip.Slip.{Slip};
+ghost use Rattle.journal.specs.declared.slip.Slip.{Slip};
 ghost use Rattle.wires_workers.specs.HandedIn.{AreHandedIn, HandedIn, events_of_turns};
 ghost use Rattle.wires_workers.specs.RetryState.{turned};
 ghost use Rattle.wires_workers.specs.Sending.{is_behind};
@@ -11,6 +11,7 @@ use crate::retry_state::{Next, RetryState};
 use crate::wake_ups::{WakeUp, WakeUps};
 use crate::writer_queue::WriterQueue;
 use desk::{Locked, Share, Shared};
+use journal::Batch;
 use node::{Event, Node, NodeId, Outgoing, Reply};
 use std::alloc::Global;
 use std::sync::Wait;
@@ -172,9 +173,11 @@ impl<'a, N: Node, G: Gate, T: Transport, C: Cut> Context<'a, N, G, T, C> {
     fn make_all<R: Wait>(&self, rt: &R, alloc: Global, share: &mut Share, events: &[Event]) -> bool
         ensures { AreHandedIn share.old events.now share.new }
     {
+        // Where there is no memory for a batch, each event is kept by itself.
+        let batch = Batch::new(alloc, events).ok();
         let mut desk = self.shared.lock(rt);
         let mut said = BatchReply::new(alloc);
-        enter_all(&mut desk, share, events, &mut said);
+        enter_all(&mut desk, share, events, batch.as_ref(), &mut said);
         let has_done = said.has_done;
         self.leave(rt, desk, said);
         has_done
@@ -204,9 +207,11 @@ impl<'a, N: Node, G: Gate, T: Transport, C: Cut> Context<'a, N, G, T, C> {
         ensures handed_in { AreHandedIn share.old (events.now ++ events_of_turns result) share.new }
         ensures no_runner { self.now.runner ≡ None → result ≡ 0 }
     {
+        // Where there is no memory for a batch, each event is kept by itself.
+        let batch = Batch::new(alloc, events).ok();
         let mut desk = self.shared.lock(rt);
         let mut said = BatchReply::new(alloc);
-        enter_all(&mut desk, share, events, &mut said);
+        enter_all(&mut desk, share, events, batch.as_ref(), &mut said);
         let Turns { made, is_idle } = self.follow(&mut desk, share, &mut said);
         self.leave(rt, desk, said);
         if !is_idle {
@@ -313,16 +318,17 @@ fn is_behind(unacked: Option<usize>) -> bool
     matches!(unacked, Some(count) if SIGNALS_BEHIND <= count)
 }
 
-// Makes the event's step, and adds what is said. Whether it did something.
+// Makes the step of an event, which may have come with a batch, and adds what is said. Whether it did something.
 fn enter<N: Node>(
     desk: &mut Locked<'_, N>,
     share: &mut Share,
     event: Event,
+    batch: Option<&Batch>,
     said: &mut BatchReply,
 ) -> bool
     ensures { HandedIn share.old event share.new }
 {
-    match desk.handle(share, event) {
+    match desk.handle_among(share, &event, batch) {
         Ok(reply) => {
             let has_done = is_done(&reply);
             // Frames for which there is no memory are lost, as on a line that loses frames.
@@ -333,17 +339,18 @@ fn enter<N: Node>(
     }
 }
 
-// Makes the events' steps, and adds what is said.
+// Makes the steps of events, which may be a batch, and adds what is said.
 fn enter_all<N: Node>(
     desk: &mut Locked<'_, N>,
     share: &mut Share,
     events: &[Event],
+    batch: Option<&Batch>,
     said: &mut BatchReply,
 )
     ensures { AreHandedIn share.old events.now share.new }
 {
     for event in events {
-        enter(desk, share, *event, said);
+        enter(desk, share, *event, batch, said);
     }
 }
 
@@ -404,7 +411,7 @@ fn enter_turns<N: Node>(
 fn turn_is_idle<N: Node>(desk: &mut Locked<'_, N>, share: &mut Share, said: &mut BatchReply) -> bool
     ensures { (between : List Slip) × HandedIn share.old Events.Announce between × HandedIn between Events.Advance share.new }
 {
-    let has_announced = enter(desk, share, Event::Announce, said);
-    let has_advanced = enter(desk, share, Event::Advance, said);
+    let has_announced = enter(desk, share, Event::Announce, None, said);
+    let has_advanced = enter(desk, share, Event::Advance, None, said);
     !has_announced && !has_advanced
 }

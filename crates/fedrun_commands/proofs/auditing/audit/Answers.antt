@@ -68,16 +68,14 @@ returns-in-Ok-take_files-clause-ok g c =
     let s = c.in-Ok.read.0 in
     let digests = c.new-digests.result in
     let reports = c.reports.result.now in
-    let journal = c.as_slice-in-Ok-take_files.result.now in
+    let journal = c.in-Ok-read_coordinator_file.journal in
     let contents = g.F.Files.contents c.args.files.now in
     let are : AreDigestsOf (contents c.args.federation.now) (input_file contents c.args.inputs.now) digests =
     are_digests _ _ digests _ _ _ _ c.in-Ok.ensures.federation c.in-Ok.ensures.inputs c.as_slice.ensures.value c.as_slice-2.ensures.value
     c.new-digests.ensures.federation c.new-digests.ensures.inputs in
     let same : g.F.Files.contents c.read_coordinator_file.new.files ≡ contents = c.in-Ok-read_coordinator_file.ensures.same ∙ c.in-Ok.ensures.same in
     let coordinator : IsCoordinatorFile digests (contents c.args.coordinator.now) journal =
-    subst (λ (known : Contents). IsCoordinatorFile digests (known c.args.coordinator.now) journal) c.in-Ok.ensures.same
-    (subst (λ events. IsCoordinatorFile digests (g.F.Files.contents c.read_sources_and_bytes.new.files c.args.coordinator.now) events)
-    (sym c.as_slice-in-Ok-take_files.ensures.value) c.in-Ok-read_coordinator_file.ensures.ok) in
+    subst (λ (known : Contents). IsCoordinatorFile digests (known c.args.coordinator.now) journal) c.in-Ok.ensures.same c.in-Ok-read_coordinator_file.ensures.ok in
     let federates : AreFederateFiles contents digests c.args.federates.now reports =
     subst (λ (known : Contents). AreFederateFiles known digests c.args.federates.now reports) same
     (subst (λ r. AreFederateFiles (g.F.Files.contents c.read_coordinator_file.new.files) digests c.args.federates.now r) (sym c.reports.ensures)
@@ -93,7 +91,7 @@ returns-in-Ok-take_files-clause-stands g c =
     let s = c.in-Ok.read.0 in
     let digests = c.new-digests.result in
     let reports = c.reports.result.now in
-    let journal = c.as_slice-in-Ok-take_files.result.now in
+    let journal = c.in-Ok-read_coordinator_file.journal in
     let asked = asked_sources c.args.federation.now c.args.inputs.now in
     let own = given c.args.coordinator.now in
     let before = g.F.Files.answers c.args.files.now in
@@ -106,9 +104,7 @@ returns-in-Ok-take_files-clause-stands g c =
     c.new-digests.ensures.federation c.new-digests.ensures.inputs in
     let same : g.F.Files.contents c.read_coordinator_file.new.files ≡ contents = c.in-Ok-read_coordinator_file.ensures.same ∙ c.in-Ok.ensures.same in
     let coordinator : IsCoordinatorFile digests (contents c.args.coordinator.now) journal =
-    subst (λ (known : Contents). IsCoordinatorFile digests (known c.args.coordinator.now) journal) c.in-Ok.ensures.same
-    (subst (λ events. IsCoordinatorFile digests (g.F.Files.contents c.read_sources_and_bytes.new.files c.args.coordinator.now) events)
-    (sym c.as_slice-in-Ok-take_files.ensures.value) c.in-Ok-read_coordinator_file.ensures.ok) in
+    subst (λ (known : Contents). IsCoordinatorFile digests (known c.args.coordinator.now) journal) c.in-Ok.ensures.same c.in-Ok-read_coordinator_file.ensures.ok in
     let federates : AreFederateFiles contents digests c.args.federates.now reports =
     subst (λ (known : Contents). AreFederateFiles known digests c.args.federates.now reports) same
     (subst (λ r. AreFederateFiles (g.F.Files.contents c.read_coordinator_file.new.files) digests c.args.federates.now r) (sym c.reports.ensures)

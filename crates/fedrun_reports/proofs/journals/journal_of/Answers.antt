@@ -8,5 +8,5 @@ use Rattle.fedrun_reports.proofs.journals.journal_of.Goals as goal
 
 pub returns-clause-taken : goal.returns-clause-taken
 returns-clause-taken c =
-    IfOk-weaker c.many_events.result (λ x. IsTaken (flat_map event_bytes) (AreSoMany IsEvent c.in_ok-count.count) c.in_ok-count.rest.now x.0.items x.1.now) (λ x. IsTaken (counted event_bytes) (AreCounted IsEvent) c.args.bytes.now x.0.items x.1.now)
-    (λ x h. counted_taken event_bytes IsEvent c.args.bytes.now c.in_ok-count.rest.now x.1.now c.in_ok-count.count x.0.items c.in_ok-count.ensures.fits c.in_ok-count.ensures.taken h) c.many_events.ensures.taken
+    IfOk-weaker c.many_events.result (λ x. IsTaken (flat_map event_bytes) (AreSoMany IsEvent c.in_ok-count.count) c.in_ok-count.rest.now x.0 x.1.now) (λ x. IsTaken (counted event_bytes) (AreCounted IsEvent) c.args.bytes.now x.0 x.1.now)
+    (λ x h. counted_taken event_bytes IsEvent c.args.bytes.now c.in_ok-count.rest.now x.1.now c.in_ok-count.count x.0 c.in_ok-count.ensures.fits c.in_ok-count.ensures.taken h) c.many_events.ensures.taken

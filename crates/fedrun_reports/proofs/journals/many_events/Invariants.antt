@@ -5,4 +5,4 @@ use Rattle.fedrun_reports.proofs.Loops.{IsOnItsWay}
 use Rattle.fedrun_reports.proofs.journals.many_events.Given as goal
 
 abbrev pub invariant-loop : goal.invariant-loop
-invariant-loop l = IsOnItsWay event_part event_bytes IsEvent l.count l.bytes l.counter l.events.items l.rest
+invariant-loop l = IsOnItsWay event_part event_bytes IsEvent l.count l.bytes l.counter l.events l.rest

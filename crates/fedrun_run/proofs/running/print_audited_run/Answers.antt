@@ -1,4 +1,4 @@
-use Rattle.std.proofs.Common.{◌≡◌, ◌∙◌, ap, rules}
+use Rattle.std.proofs.Common.{◌≡◌, ◌∙◌, ap, refl, rules}
 use Rattle.std.proofs.lemmas.Result.{err_from_is_err_and}
 use Rattle.fedrun_run.proofs.Believed.{of_the_run, same_said, printed_of_some, fault_of_some}
 use Rattle.fedrun_run.proofs.running.print_audited_run.Goals as goal
@@ -16,16 +16,14 @@ pub returns-clause-ok : goal.returns-clause-ok
 returns-clause-ok g c =
     let said = c.in_ok-node_reports.node_reports in
     let reports : c.reports.result.now ≡ said.reports.reports = search rules in
-    let journal : c.deref.result.now ≡ said.coordinator.items = search rules in
-    printed_of_some c.args.output c.args.plan.now c.args.programs.now c.args.inputs.now _ c.reports.result.now c.deref.result.now _ _ c.print_audited.result
-    (same_said reports journal (rw c.in_ok-node_reports.was at c.run_and_ask-audit.ensures.reported))
+    printed_of_some c.args.output c.args.plan.now c.args.programs.now c.args.inputs.now _ c.reports.result.now said.coordinator _ _ c.print_audited.result
+    (same_said reports refl (rw c.in_ok-node_reports.was at c.run_and_ask-audit.ensures.reported))
     (c.run_and_ask-audit.ensures.audit ∙ c.in-Ok.ensures.begun) c.print_audited.ensures.ok
 
 pub returns-clause-fault : goal.returns-clause-fault
 returns-clause-fault g c =
     let said = c.in_ok-node_reports.node_reports in
     let reports : c.reports.result.now ≡ said.reports.reports = search rules in
-    let journal : c.deref.result.now ≡ said.coordinator.items = search rules in
-    fault_of_some c.args.plan.now c.args.programs.now c.args.inputs.now _ c.reports.result.now c.deref.result.now c.print_audited.result
-    (same_said reports journal (rw c.in_ok-node_reports.was at c.run_and_ask-audit.ensures.reported))
+    fault_of_some c.args.plan.now c.args.programs.now c.args.inputs.now _ c.reports.result.now said.coordinator c.print_audited.result
+    (same_said reports refl (rw c.in_ok-node_reports.was at c.run_and_ask-audit.ensures.reported))
     (c.run_and_ask-audit.ensures.audit ∙ c.in-Ok.ensures.begun) c.print_audited.ensures.fault

@@ -4,8 +4,8 @@ use Rattle.recorder.specs.Audited.{claim_of, HasSearched, IsProvedBy, IsUnproved
 use Rattle.recorder.proofs.Judged.{listed_there, proved_so, finished_so}
 use Rattle.recorder.proofs.judging.judge.Goals as goal
 
-pub returns-in-None-clause-ended : goal.returns-in-None-clause-ended
-returns-in-None-clause-ended c =
+pub returns-clause-ended : goal.returns-clause-ended
+returns-clause-ended c =
     IfOk-weaker c.run_of.result _ _
     (λ audited is coordinator searched.
     let all = subst (HasSearched (claim_of c.args.world c.args.reports.now coordinator) c.args.world) c.in-None.ensures.0 searched in
@@ -17,7 +17,7 @@ returns-in-None-clause-ended c =
     })
     c.run_of.ensures.ok
 
-pub returns-in-None-clause-unproved : goal.returns-in-None-clause-unproved
-returns-in-None-clause-unproved c =
+pub returns-clause-unproved : goal.returns-clause-unproved
+returns-clause-unproved c =
     IfErr-weaker c.run_of.result _ _
     (λ fault is coordinator searched. subst (IsUnproved (claim_of c.args.world c.args.reports.now coordinator)) (sym is) c.requires.complete) c.run_of.ensures.memory

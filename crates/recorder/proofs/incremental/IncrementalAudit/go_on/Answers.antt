@@ -1,6 +1,5 @@
 use Rattle.std.proofs.Common.{◌∙◌, map, sym, ap}
 use Rattle.recorder.specs.Placing.{initial_of}
-use Rattle.recorder.specs.Known.{events_of}
 use Rattle.recorder.proofs.Ahead.{begun_on, reads_on}
 use Rattle.recorder.proofs.incremental.IncrementalAudit.go_on.Goals as goal
 
@@ -10,4 +9,4 @@ invariant_of-self-2 c =
     c.self.inside.known.items c.self.inside.is_given_up c.self.invariant c.read_ahead.result c.read_ahead.new.machine c.read_ahead.new.self c.if-self.false
     (sym c.is_err.ensures.value ∙ c.if-is_err.false)
     (reads_on c.read_ahead.result c.self.inside.known.items (map (λ j. j.now) c.deref-2.result.now) c.self.inside.auditor c.read_ahead.new.machine c.self.inside.reading c.read_ahead.new.self
-    (ap (map (λ j. j.now)) c.deref-2.ensures.value ∙ c.in-Ok.ensures ∙ ap events_of c.deref.ensures.value) c.read_ahead.ensures.reading c.read_ahead.ensures.sized)
+    (ap (map (λ j. j.now)) c.deref-2.ensures.value ∙ c.in-Ok.ensures ∙ c.deref.ensures.value) c.read_ahead.ensures.reading c.read_ahead.ensures.sized)

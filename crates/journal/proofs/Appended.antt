@@ -1,0 +1,83 @@
+-- A list to which items of another one are added, from a place on.
+use Rattle.std.proofs.Common.{◌≡◌, ◌∙◌, sym, ap, refl, ℕ, zero, suc, ◌+◌, ◌-◌, ◌<◌, ◌≤◌, List, [], ◌∷◌, ◌++◌, length, take, drop, get_or, slice_get, Some, Bool, true, false, nat_lt, append_assoc, append-nil, length-drop, length-take-le, Option, None, MatchOption, arith}
+use Rattle.std.proofs.Math.Seq.{take-append_seam}
+use Rattle.std.proofs.lemmas.List.{length_push, take_all}
+use Rattle.std.proofs.lemmas.Bool.Decides.{nat_tests}
+use Rattle.std.proofs.lemmas.Option.{slice_get-get_or}
+use Rattle.journal.proofs.Places.{take_next}
+
+first_of_first : {X : Type 0} (less count : ℕ) (xs : List X) → less ≤ count → take less (take count xs) ≡ take less xs
+first_of_first zero count xs few = refl
+first_of_first (suc less) zero xs few = absurd (omega arith)
+first_of_first (suc less) (suc count) [] few = refl
+first_of_first (suc less) (suc count) (x ∷ xs) few = ap (λ rest. x ∷ rest) (first_of_first less count xs (omega arith))
+
+-- what stands behind the first items
+get_dropped : {X : Type 0} (xs : List X) (n i k : ℕ) → k ≡ n + i → slice_get (drop n xs) i ≡ slice_get xs k
+get_dropped xs zero i k is = let same : i ≡ k = omega arith in ap (slice_get xs) same
+get_dropped [] (suc n) i k is = refl
+get_dropped (x ∷ xs) (suc n) i zero is = absurd (omega arith)
+get_dropped (x ∷ xs) (suc n) i (suc k) is = get_dropped xs n i k (omega arith)
+
+-- nothing so far
+pub none_added : {X : Type 0} (old other : List X) (place from : ℕ) → from ≡ place → old ≡ old ++ take (from - place) (drop place other)
+none_added old other place from is =
+    let n : from - place ≡ 0 = omega arith in
+    sym (ap (λ k. old ++ take k (drop place other)) n ∙ append-nil old)
+
+-- one more
+pub one_added : {X : Type 0} (old now next other : List X) (place from more : ℕ) (item : X) → now ≡ old ++ take (from - place) (drop place other) →
+    next ≡ now ++ item ∷ [] → place ≤ from → more ≡ from + 1 → from < length other → item ≡ get_or other from item → next ≡ old ++ take (more - place) (drop place other)
+one_added old now next other place from more item before is begun later within at =
+    let after : more - place ≡ suc (from - place) = omega arith in
+    let there : slice_get (drop place other) (from - place) ≡ Some item = get_dropped other place (from - place) from (omega arith) ∙ slice_get-get_or other from item within ∙ ap Some (sym at) in
+    is ∙ ap (λ l. l ++ item ∷ []) before ∙ append_assoc old (take (from - place) (drop place other)) (item ∷ [])
+    ∙ ap (λ l. old ++ l) (sym (take_next (drop place other) (from - place) item there)) ∙ ap (λ k. old ++ take k (drop place other)) (sym after)
+
+-- all that there are
+whole_added : {X : Type 0} (old now other : List X) (place from most : ℕ) → now ≡ old ++ take (from - place) (drop place other) → place ≤ from → from - place ≤ most →
+    length other ≤ from → now ≡ old ++ take most (drop place other)
+whole_added old now other place from most is begun few all =
+    let long = length-drop place other in
+    let one : take (from - place) (drop place other) ≡ drop place other = take_all (from - place) (drop place other) (omega arith) in
+    let two : take most (drop place other) ≡ drop place other = take_all most (drop place other) (omega arith) in
+    is ∙ ap (λ l. old ++ l) (one ∙ sym two)
+
+ended_by : {X : Type 0} (old now other : List X) (place from most end : ℕ) (b : Bool) → nat_lt end (length other) ≡ b → now ≡ old ++ take (from - place) (drop place other) →
+    place ≤ from → from - place ≤ most → end ≤ from → (end < length other → place + most ≤ end) → now ≡ old ++ take most (drop place other)
+ended_by old now other place from most end true test is begun few there all =
+    let less : end < length other = grind (arith, nat_tests) in
+    let enough = all less in
+    let same : from - place ≡ most = omega arith in
+    is ∙ ap (λ n. old ++ take n (drop place other)) same
+ended_by old now other place from most end false test is begun few there all =
+    let beyond : length other ≤ end = grind (arith, nat_tests) in
+    whole_added old now other place from most is begun few (omega arith)
+
+-- at the end as many as were asked for, or all
+pub added_at_end : {X : Type 0} (old now other : List X) (place from most end : ℕ) → now ≡ old ++ take (from - place) (drop place other) → place ≤ from → from - place ≤ most →
+    end ≤ from → (end < length other → place + most ≤ end) → now ≡ old ++ take most (drop place other)
+added_at_end old now other place from most end is begun few there all =
+    ended_by old now other place from most end (nat_lt end (length other)) refl is begun few there all
+
+-- the first ones are those that were there before
+pub kept_front : {X : Type 0} (old now more : List X) → now ≡ old ++ more → take (length old) now ≡ old
+kept_front old now more is = ap (take (length old)) is ∙ take-append_seam old more
+
+-- all of them are the first ones, if they are so many
+pub all_taken : {X : Type 0} (xs : List X) (count : ℕ) → length xs ≤ count → xs ≡ take count xs
+all_taken xs count few = sym (take_all count xs few)
+
+-- one of the first ones was taken off
+pub one_taken_off : {X : Type 0} (xs old new : List X) (count less : ℕ) (taken : Option X) → old ≡ take count xs → less + 1 ≡ count → count ≤ length xs →
+    MatchOption taken (old ≡ []) (λ item. old ≡ new ++ item ∷ []) → new ≡ take less xs
+one_taken_off xs old new count less None is next within none =
+    let long : length old ≡ count = ap length is ∙ length-take-le count xs within in
+    let short : length old ≡ 0 = ap length none in
+    absurd (omega arith)
+one_taken_off xs old new count less (Some item) is next within left =
+    let long : length old ≡ count = ap length is ∙ length-take-le count xs within in
+    let more : length old ≡ length new + 1 = ap length left ∙ length_push new item in
+    let same : length new ≡ less = omega arith in
+    let first : take less old ≡ new = ap (λ n. take n old) (sym same) ∙ ap (take (length new)) left ∙ take-append_seam new (item ∷ []) in
+    sym first ∙ ap (take less) is ∙ first_of_first less count xs (omega arith)

@@ -1,0 +1,55 @@
+//! In how little room journals keep their events, which no contract says.
+use journal::{Batch, Journal};
+use node::Event;
+use std::alloc::{AllocError, Global};
+
+/// Events that come together.
+const TOGETHER: [Event; 3] = [Event::Resend(1), Event::Resend(2), Event::Resend(3)];
+
+/// Adds these turns.
+fn add_turns(journal: &mut Journal, turns: u32) -> Result<(), AllocError> {
+    for _ in 0..turns {
+        journal.push(&Event::Announce, None)?;
+        journal.push(&Event::Advance, None)?;
+    }
+    Ok(())
+}
+
+/// Adds what comes together, as one batch.
+fn add_together(alloc: Global, journal: &mut Journal) -> Result<(), AllocError> {
+    let batch = Batch::new(alloc, &TOGETHER)?;
+    for event in &TOGETHER {
+        journal.push(event, Some(&batch))?;
+    }
+    Ok(())
+}
+
+/// A journal of twice what comes together, each with so many turns behind it.
+fn twice(alloc: Global, turns: u32) -> Result<Journal, AllocError> {
+    let mut journal = Journal::new(alloc);
+    for _ in 0..2 {
+        add_together(alloc, &mut journal)?;
+        add_turns(&mut journal, turns)?;
+    }
+    Ok(journal)
+}
+
+/// How many events such a journal has, and in how many blocks it keeps them; then the same of its copy from the third event on.
+fn kept(alloc: Global, turns: u32) -> Result<[usize; 4], AllocError> {
+    let journal = twice(alloc, turns)?;
+    let mut copy = Journal::new(alloc);
+    copy.append(&journal, 2, usize::MAX)?;
+    Ok([
+        journal.len(),
+        journal.block_count(),
+        copy.len(),
+        copy.block_count(),
+    ])
+}
+
+#[test]
+fn keeps_what_came_together_and_the_turns_behind_it_in_one_block(rt: HostRuntime) {
+    assert_eq!(rt; kept(rt.alloc(), 0), Ok([6, 2, 4, 2]));
+    assert_eq!(rt; kept(rt.alloc(), 1), Ok([10, 2, 8, 2]));
+    assert_eq!(rt; kept(rt.alloc(), 500), Ok([2006, 2, 2004, 2]));
+}
