@@ -1,3 +1,5 @@
 -- Lemmas.
 -- reports that were saved
 pub mod Saved
+-- federates' nodes
+pub mod Joined

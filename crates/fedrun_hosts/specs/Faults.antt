@@ -7,8 +7,9 @@ use Rattle.wires_hosts.specs.declared.dial_fault.DialFault.{DialFault}
 use Rattle.wires_hosts.specs.declared.dial_fault.DialFault.TheVariants as dial
 use Rattle.fedrun_reports.specs.Faults.{write_text}
 use Rattle.fedrun_saving.specs.Fault.{text_of}
+use Rattle.fedrun_saving.specs.Saved.{temporary_name}
 use Rattle.fedrun_hosts.specs.declared.fault.HostFault.{HostFault}
-use Rattle.fedrun_hosts.specs.declared.fault.HostFault.TheVariants.{Secret, NoSuchFederate, ReportExists, CannotListen, Refused, NotProved, NotFinished, Unwritten, Unsaved, Memory}
+use Rattle.fedrun_hosts.specs.declared.fault.HostFault.TheVariants.{Secret, NoSuchFederate, ReportExists, PartExists, CannotListen, Refused, NotProved, NotFinished, Unwritten, Unsaved, Memory}
 
 -- the exit status where there is no key: 2 where words lack a secret
 abbrev pub secret_status : SecretFault → ℕ
@@ -21,6 +22,7 @@ abbrev pub host_status : HostFault → ℕ
 host_status (Secret fault) = secret_status fault
 host_status (NoSuchFederate name) = 1
 host_status (ReportExists name) = 1
+host_status (PartExists name) = 1
 host_status CannotListen = 3
 host_status (Refused fault) = 1
 host_status NotProved = 1
@@ -50,6 +52,7 @@ abbrev pub printed_host_fault : HostFault → List ℕ
 printed_host_fault (Secret fault) = secret_text fault
 printed_host_fault (NoSuchFederate name) = codes "115 NoSuchFederate " ++ name.now
 printed_host_fault (ReportExists name) = codes "116 ReportExists " ++ name.now
+printed_host_fault (PartExists name) = codes "116 ReportExists " ++ temporary_name name.now
 printed_host_fault CannotListen = codes "117 CannotListen"
 printed_host_fault (Refused fault) = codes "118 " ++ refusal_name fault
 printed_host_fault NotProved = codes "119 NotProved"

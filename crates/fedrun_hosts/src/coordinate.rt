@@ -4,7 +4,7 @@ ghost use Rattle.fedrun_hosts.specs.Ended.{HasCoordinated};
 
 use crate::fault::HostFault;
 use crate::loaded::{Loaded, load};
-use crate::report::save_report;
+use crate::report::{reserve_report, save_report};
 use crate::request::NodeRequest;
 use crate::saying::{say_finished, say_listening};
 use coordinator::Coordinator;
@@ -17,7 +17,7 @@ use fedrun_saving::Disk;
 use node::Node;
 use std::alloc::Global;
 use std::io::Write;
-use std::net::{Net, TcpListener, TcpStream};
+use std::net::{Net, SocketAddr, TcpListener, TcpStream};
 use std::random::RandomSource;
 use std::sync::Wait;
 use std::thread::Threads;
@@ -31,7 +31,8 @@ use wires_workers::NoGate;
 /// So long whoever asks is told that the run is finished, where no patience is given.
 const PATIENCE_SECONDS: u32 = 10;
 
-/// Runs the coordinator until it is finished, or until nobody was heard for its patience, and writes its report in either case.
+/// Runs the coordinator until it is finished, or until nobody was heard for its patience, and writes its report in either case. Its
+/// report's name is reserved before anybody can connect, and stays so where it ends in the midst.
 pub fn coordinate<
     'a,
     R: Threads
@@ -53,17 +54,22 @@ pub fn coordinate<
 ) -> Result<(), Fault<'a, HostFault<'a>>>
     ensures { OnOk result (HasCoordinated (F.contents files.old) node.now (D.contents disk.old) (D.contents disk.new)) }
 {
-    let loaded = match load(alloc, node, files, disk) {
+    let loaded = match load(alloc, node, files) {
         Ok(loaded) => loaded,
         Err(fault) => return Err(fault),
     };
-    let Ok(listener) = listen_at(rt, node.address) else {
-        return Err(Fault::More(HostFault::CannotListen));
-    };
-    match say_listening(&listener, out) {
-        Ok(()) => {}
+    let temporary = match reserve_report(alloc, node.report, disk) {
+        Ok(temporary) => temporary,
         Err(fault) => return Err(fault),
-    }
+    };
+    let listener = match listen(rt, node.address, out) {
+        Ok(listener) => listener,
+        Err(fault) => {
+            // Nothing was begun: the name is free again.
+            disk.remove(temporary.as_str());
+            return Err(fault);
+        }
+    };
     let desk = match run_listening(rt, alloc, node, &loaded, listener) {
         Ok(desk) => desk,
         Err(why) => return Err(fault_of_run(why)),
@@ -71,9 +77,31 @@ pub fn coordinate<
     let is_finished = desk.station().node().finished();
     let (_, journal) = desk.into_parts();
     let report = NodeReport::Coordinator(journal);
-    match save_report(alloc, &loaded.digests, &report, node.report, disk) {
+    match save_report(
+        alloc,
+        &loaded.digests,
+        &report,
+        temporary,
+        node.report,
+        disk,
+    ) {
         Ok(()) if is_finished => say_finished(out),
         Ok(()) => Err(Fault::More(HostFault::NotFinished)),
+        Err(fault) => Err(fault),
+    }
+}
+
+// A listener at the node's address, once it is said where that is.
+fn listen<'a, R: Net<Stream = TcpStream, Listener = TcpListener>, O: Write>(
+    rt: &R,
+    address: SocketAddr,
+    out: &mut O,
+) -> Result<TcpListener, Fault<'a, HostFault<'a>>> {
+    let Ok(listener) = listen_at(rt, address) else {
+        return Err(Fault::More(HostFault::CannotListen));
+    };
+    match say_listening(&listener, out) {
+        Ok(()) => Ok(listener),
         Err(fault) => Err(fault),
     }
 }

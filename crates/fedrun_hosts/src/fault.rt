@@ -18,6 +18,9 @@ pub enum HostFault<'a> {
     /// A file of this name, under which the report is to be written, is there already. It is left as it is, and nothing was begun: a
     /// federate that begins anew isn't the one that it was. It is put away, or another name is given.
     ReportExists(&'a str),
+    /// The temporary file of this name is there: a node of the same report runs now, or was ended before it wrote it. It is left as it
+    /// is, and nothing was begun. Once no such node runs and the run is begun anew, it is removed by hand, or another name is given.
+    PartExists(&'a str),
     /// Nothing can listen at the address. Nothing was begun. Another address is given, or who listens there is ended.
     CannotListen,
     /// The coordinator, which has the secret, doesn't let the federate take part, and this is why. The report was written.
@@ -29,7 +32,9 @@ pub enum HostFault<'a> {
     NotFinished,
     /// The report has no spelling, and the inner fault says why. None was written.
     Unwritten(WriteFault),
-    /// The report couldn't be written under this name, and the inner fault says why. No file of this name is there.
+    /// The report's name couldn't be reserved before anything was begun, or the report couldn't be written under it at the end, and the
+    /// inner fault says why. No file of this name was made or changed; at the end the temporary one is left, whole unless its bytes
+    /// couldn't be written or synced.
     Unsaved(&'a str, SaveFault),
     /// No memory for the node or its workers. No report was written.
     Memory(desk::Memory),
@@ -49,6 +54,7 @@ impl MoreFault for HostFault<'_> {
             HostFault::Secret(_)
             | HostFault::NoSuchFederate(_)
             | HostFault::ReportExists(_)
+            | HostFault::PartExists(_)
             | HostFault::Refused(_)
             | HostFault::NotProved => 1,
             HostFault::CannotListen
@@ -75,6 +81,7 @@ impl fmt::Display for HostFault<'_> {
             HostFault::Secret(SecretFault::Missing) => write!(f, "114 NoSecret"),
             HostFault::NoSuchFederate(name) => write!(f, "115 NoSuchFederate {name}"),
             HostFault::ReportExists(name) => write!(f, "116 ReportExists {name}"),
+            HostFault::PartExists(name) => write!(f, "116 ReportExists {name}.part"),
             HostFault::CannotListen => write!(f, "117 CannotListen"),
             HostFault::Refused(fault) => write!(f, "118 {}", refusal_name(*fault)),
             HostFault::NotProved => write!(f, "119 NotProved"),

@@ -1,13 +1,14 @@
 //! One federate, in a process of its own.
-ghost use Rattle.std.specs.Prelude.{◌≡◌, OnOk};
+ghost use Rattle.std.specs.Prelude.{◌≡◌, Some, IfSome, OnOk};
 ghost use Rattle.plan.specs.External.{AreInputsOf};
+ghost use Rattle.plan.specs.Federation.{federate_number};
 ghost use Rattle.reactor_programs.specs.Programs.{AreProgramsOf};
 ghost use Rattle.fedrun_hosts.specs.Ended.{HasJoined};
 
 use crate::coordinate::{fault_of_run, seconds};
 use crate::fault::HostFault;
 use crate::loaded::{Loaded, load};
-use crate::report::save_report;
+use crate::report::{reserve_report, save_report};
 use crate::request::NodeRequest;
 use crate::saying::say_finished;
 use desk::Desk;
@@ -18,6 +19,7 @@ use fedrun_reports::NodeReport;
 use fedrun_run::federate_desks;
 use fedrun_saving::Disk;
 use plan::Plan;
+use plan_names::place_of;
 use recorder_reports::Report;
 use std::alloc::Global;
 use std::io::Write;
@@ -33,7 +35,8 @@ use wires_transports::Ending;
 use wires_workers::NoGate;
 
 /// Runs the federate of this name until it hears that the run is finished, its end is closed, its turns are made, the coordinator
-/// refuses it, or nobody was heard for its patience; its report is written in each case.
+/// refuses it, or nobody was heard for its patience; its report is written in each case. Its report's name is reserved before it
+/// connects, and stays so where it ends in the midst: so it isn't begun anew by the same words, without what it knew.
 pub fn join<
     'a,
     R: Threads
@@ -55,9 +58,9 @@ pub fn join<
     disk: &mut D,
     out: &mut O,
 ) -> Result<(), Fault<'a, HostFault<'a>>>
-    ensures { OnOk result (HasJoined (F.contents files.old) node.now (D.contents disk.old) (D.contents disk.new)) }
+    ensures { OnOk result (HasJoined (F.contents files.old) node.now name.entry.now (D.contents disk.old) (D.contents disk.new)) }
 {
-    let loaded = match load(alloc, node, files, disk) {
+    let loaded = match load(alloc, node, files) {
         Ok(loaded) => loaded,
         Err(fault) => return Err(fault),
     };
@@ -66,6 +69,10 @@ pub fn join<
     };
     let Ok(heard) = Heard::new(alloc, 0) else {
         return Err(Fault::More(HostFault::Memory(desk::Memory)));
+    };
+    let temporary = match reserve_report(alloc, node.report, disk) {
+        Ok(temporary) => temporary,
+        Err(fault) => return Err(fault),
     };
     let desk = match run_joined(rt, alloc, node, &loaded, number, terms, &heard) {
         Ok(desk) => desk,
@@ -77,7 +84,14 @@ pub fn join<
         rows: station.into_node().into_rows(),
         journal,
     });
-    match save_report(alloc, &loaded.digests, &report, node.report, disk) {
+    match save_report(
+        alloc,
+        &loaded.digests,
+        &report,
+        temporary,
+        node.report,
+        disk,
+    ) {
         Ok(()) => match fault_by(heard.last_fault()) {
             None => say_finished(out),
             Some(fault) => Err(Fault::More(fault)),
@@ -87,11 +101,10 @@ pub fn join<
 }
 
 // The number of the federate of this name.
-fn number_of(plan: &Plan, name: &str) -> Option<u16> {
-    let place = plan
-        .federates()
-        .iter()
-        .position(|federate| federate.name.as_str() == name)?;
+fn number_of(plan: &Plan, name: &str) -> Option<u16>
+    ensures { IfSome result (λ number. federate_number plan.now.federates name.now ≡ Some number) }
+{
+    let place = place_of(plan.federates(), name.as_bytes())?;
     u16::try_from(place).ok()
 }
 

@@ -1,15 +1,13 @@
-ghost use Rattle.std.specs.Prelude.{◌≡◌, IfOk};
+ghost use Rattle.std.specs.Prelude.{IfOk};
 ghost use Rattle.fedrun_files.specs.Loaded.{input_file, AreSources};
 ghost use Rattle.fedrun_commands.specs.ReportFiles.{AreDigestsOf};
 
 use crate::fault::HostFault;
-use crate::report::refuse_existing;
 use crate::request::NodeRequest;
 use crate::secret::read_key;
 use fedrun_fault::Fault;
 use fedrun_files::{Files, Sources, read_sources_and_bytes};
 use fedrun_reports::FileDigests;
-use fedrun_saving::Disk;
 use std::alloc::Global;
 use wires_greeting::{DIGEST_SIZE, Key, files_digest};
 
@@ -24,16 +22,14 @@ pub(crate) struct Loaded {
     pub key: Key,
 }
 
-/// Reads the federation, the recorded inputs and the secret, in this order, and looks whether the report may be written.
-pub(crate) fn load<'a, F: Files, D: Disk>(
+/// Reads the federation, the recorded inputs and the secret, in this order.
+pub(crate) fn load<'a, F: Files>(
     alloc: Global,
     node: &NodeRequest<'a>,
     files: &mut F,
-    disk: &mut D,
 ) -> Result<Loaded, Fault<'a, HostFault<'a>>>
     ensures sources { IfOk result (λ loaded. AreSources (F.contents files.old node.now.federation.now) (input_file (F.contents files.old) node.now.inputs.now) loaded.sources) }
     ensures digests { IfOk result (λ loaded. AreDigestsOf (F.contents files.old node.now.federation.now) (input_file (F.contents files.old) node.now.inputs.now) loaded.digests) }
-    ensures same { D.contents disk.new ≡ D.contents disk.old }
 {
     let (sources, bytes) = match read_sources_and_bytes(
         alloc,
@@ -51,13 +47,10 @@ pub(crate) fn load<'a, F: Files, D: Disk>(
         Ok(key) => key,
         Err(fault) => return Err(fault),
     };
-    match refuse_existing(node.report, disk) {
-        Ok(()) => Ok(Loaded {
-            sources,
-            digests,
-            files: both,
-            key,
-        }),
-        Err(fault) => Err(fault),
-    }
+    Ok(Loaded {
+        sources,
+        digests,
+        files: both,
+        key,
+    })
 }

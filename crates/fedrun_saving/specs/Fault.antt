@@ -1,5 +1,5 @@
--- How it is printed that a file isn't saved.
-use Rattle.std.specs.Prelude.{ℕ, List, codes}
+-- Why a file isn't saved, and how it is printed.
+use Rattle.std.specs.Prelude.{ℕ, List, Bool, true, false, codes}
 use Rattle.fedrun_saving.specs.declared.save_fault.SaveFault.{SaveFault}
 use Rattle.fedrun_saving.specs.declared.save_fault.SaveFault.TheVariants.{Exists, CannotLook, CannotCreate, CannotWrite, CannotSync, CannotRename}
 
@@ -11,3 +11,12 @@ text_of CannotCreate = codes "cannot create"
 text_of CannotWrite = codes "cannot write"
 text_of CannotSync = codes "cannot sync"
 text_of CannotRename = codes "cannot rename"
+
+-- whether writing bytes fails so
+abbrev pub is_of_writing : SaveFault → Bool
+is_of_writing Exists = false
+is_of_writing CannotLook = false
+is_of_writing CannotCreate = false
+is_of_writing CannotWrite = true
+is_of_writing CannotSync = true
+is_of_writing CannotRename = false

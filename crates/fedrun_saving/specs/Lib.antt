@@ -1,6 +1,6 @@
 -- What files hold, by name.
 pub mod Contents
--- What becomes of files that are made, renamed and saved.
+-- What becomes of files that are made, written, renamed, reserved and saved.
 pub mod Saved
--- How it is printed that a file isn't saved.
+-- Why a file isn't saved, and how it is printed.
 pub mod Fault

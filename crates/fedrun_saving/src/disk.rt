@@ -1,11 +1,12 @@
-ghost use Rattle.std.specs.Prelude.{◌≡◌, ◌≢◌, ◌↔◌, ℕ, List, Option, None, IsTrue, IsSome, IfOk, IfErr, IfSome, OnOk, OnErr};
+ghost use Rattle.std.specs.Prelude.{◌≡◌, ◌≢◌, ◌↔◌, ℕ, List, [], Option, None, IsTrue, IsSome, IfOk, IfErr, IfSome, OnOk, OnErr};
 ghost use Rattle.fedrun_saving.specs.Contents.{KnownOf, SameBut};
-ghost use Rattle.fedrun_saving.specs.Saved.{IsCreated, IsRenamed};
+ghost use Rattle.fedrun_saving.specs.Saved.{IsCreated, IsWritten, IsRenamed};
+ghost use Rattle.fedrun_saving.specs.Fault.{is_of_writing};
 ghost use Rattle.fedrun_saving.specs.declared.save_fault.SaveFault.TheVariants.{Exists as exists_already, CannotLook, CannotRename};
 
 use crate::save_fault::SaveFault;
 
-/// Files by name, as `save` needs them.
+/// Files by name, as `reserve` and `save` need them.
 pub trait Disk {
     ghost use Rattle.fedrun_saving.specs.Contents.{Contents};
 
@@ -18,14 +19,21 @@ pub trait Disk {
         ensures fault { IfErr result (λ fault. fault ≡ CannotLook) }
         ensures same { contents self.new ≡ contents self.old };
 
-    /// Makes a file of this name with these bytes, which the disk keeps then. Where there is one already, nothing has changed; else
-    /// it may be there, with any bytes.
-    fn create(&mut self, name: &str, bytes: &[u8]) -> Result<(), SaveFault>
-        ensures created { OnOk result (KnownOf (contents self.old) (contents self.new) (IsCreated name.now bytes.now)) }
+    /// Makes a file of this name, without any bytes, which the disk keeps then. Where there is one already, nothing has changed; else
+    /// it may be there.
+    fn create(&mut self, name: &str) -> Result<(), SaveFault>
+        ensures created { OnOk result (KnownOf (contents self.old) (contents self.new) (IsCreated name.now [])) }
         ensures others { OnErr result (KnownOf (contents self.old) (contents self.new) (SameBut name.now)) }
         ensures fault { IfErr result (λ fault. (fault ≢ CannotLook) × (fault ≢ CannotRename)) }
         ensures there { result ≡ Err exists_already → IfSome (contents self.old) (λ files. IsSome (files name.now)) }
         ensures same { result ≡ Err exists_already → contents self.new ≡ contents self.old };
+
+    /// Gives the file of this name these bytes, in place of those that it has, which the disk keeps then. Where it fails, it may have
+    /// any bytes.
+    fn write(&mut self, name: &str, bytes: &[u8]) -> Result<(), SaveFault>
+        ensures written { OnOk result (KnownOf (contents self.old) (contents self.new) (IsWritten name.now bytes.now)) }
+        ensures others { OnErr result (KnownOf (contents self.old) (contents self.new) (SameBut name.now)) }
+        ensures fault { IfErr result (λ fault. IsTrue (is_of_writing fault)) };
 
     /// Gives a file another name, under which there is no other any more, at once: whoever looks finds the one or the other there.
     fn rename(&mut self, from: &str, to: &str) -> Result<(), SaveFault>

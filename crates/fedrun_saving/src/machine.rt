@@ -31,8 +31,16 @@ impl<R: rt::Files> Disk for MachineDisk<'_, R> {
         }
     }
 
-    fn create(&mut self, name: &str, bytes: &[u8]) -> Result<(), SaveFault> {
-        let mut file = File::create_new(self.rt, name).map_err(|error| fault_of(&error))?;
+    // The folder keeps its name too, where it can, so that a machine that stops finds it there.
+    fn create(&mut self, name: &str) -> Result<(), SaveFault> {
+        let file = File::create_new(self.rt, name).map_err(|error| fault_of(&error))?;
+        file.sync_all().map_err(|_| SaveFault::CannotSync)?;
+        let _ = sync_folder(self.rt, folder_of(name));
+        Ok(())
+    }
+
+    fn write(&mut self, name: &str, bytes: &[u8]) -> Result<(), SaveFault> {
+        let mut file = File::create(self.rt, name).map_err(|_| SaveFault::CannotWrite)?;
         file.write_all(bytes).map_err(|_| SaveFault::CannotWrite)?;
         file.sync_all().map_err(|_| SaveFault::CannotSync)
     }

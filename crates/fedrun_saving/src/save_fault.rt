@@ -3,8 +3,7 @@ use std::fmt;
 /// Why a file isn't saved, or isn't looked for. It is printed as what can't be done; whoever prints it says of which file.
 #[derive(Clone, Copy, Debug, PartialEq, Eq)]
 pub enum SaveFault {
-    /// There is a file of the temporary name: somebody else saves under the same name now, or was cut off. Once nobody does, it is
-    /// removed by hand, and the same may be saved again.
+    /// There is a file of this name already, which is left as it is.
     Exists,
     /// Whether there is a file can't be found out, as in a folder that may not be looked into.
     CannotLook,
@@ -14,7 +13,7 @@ pub enum SaveFault {
     CannotWrite,
     /// The disk doesn't say that it keeps the bytes.
     CannotSync,
-    /// The temporary file doesn't get its name.
+    /// The temporary file doesn't get the name for which it was made.
     CannotRename,
 }
 

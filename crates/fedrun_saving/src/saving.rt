@@ -1,14 +1,44 @@
-ghost use Rattle.std.specs.Prelude.{◌≡◌, ◌≢◌, IsSome, IfOk, IfSome, IfErr, OnOk, OnErr, string_bytes};
-ghost use Rattle.fedrun_saving.specs.Contents.{KnownOf};
-ghost use Rattle.fedrun_saving.specs.Saved.{IsSaved, IsKept, temporary_name};
-ghost use Rattle.fedrun_saving.specs.declared.save_fault.SaveFault.TheVariants.{Exists as exists_already};
+ghost use Rattle.std.specs.Prelude.{◌≡◌, ◌≢◌, IsSome, false, IfOk, IfSome, IfErr, OnOk, OnErr, string_bytes};
+ghost use Rattle.fedrun_saving.specs.Contents.{KnownOf, SameBut};
+ghost use Rattle.fedrun_saving.specs.Fault.{is_of_writing};
+ghost use Rattle.fedrun_saving.specs.Saved.{IsReserved, IsSaved, IsWritten, temporary_name};
 
 use crate::disk::Disk;
+use crate::reserve_fault::ReserveFault;
 use crate::save_fault::SaveFault;
 use std::alloc::{AllocError, Global};
 
-/// Saves a file of this name with these bytes, in place of the one that is there, by a temporary file in the same folder. Where it
-/// fails, the file of this name is as it was; the temporary one is removed, if that can be done, but for one that was there before.
+/// Reserves a name for a file that is to be saved: by a temporary file in the same folder, without any bytes. Of several who reserve
+/// the same name one gets it. Where it fails, the temporary file is removed, if that can be done, but for one that was there before.
+pub fn reserve<D: Disk>(disk: &mut D, temporary: &str, name: &str) -> Result<(), ReserveFault>
+    requires { temporary.now ≢ name.now }
+    ensures reserved { OnOk result (KnownOf (D.contents disk.old) (D.contents disk.new) (IsReserved temporary.now name.now)) }
+    ensures kept { OnErr result (KnownOf (D.contents disk.old) (D.contents disk.new) (SameBut temporary.now)) }
+    ensures name_there { result ≡ Err ReserveFault.NameTaken → IfSome (D.contents disk.old) (λ files. IsSome (files name.now)) }
+    ensures temporary_there { result ≡ Err ReserveFault.TemporaryTaken → IfSome (D.contents disk.old) (λ files. IsSome (files temporary.now)) }
+    ensures untouched { result ≡ Err ReserveFault.TemporaryTaken → D.contents disk.new ≡ D.contents disk.old }
+{
+    match disk.create(temporary) {
+        Ok(()) => {}
+        Err(SaveFault::Exists) => return Err(ReserveFault::TemporaryTaken),
+        Err(why) => {
+            disk.remove(temporary);
+            return Err(ReserveFault::Failed(why));
+        }
+    }
+    // The temporary file is made before it is looked for the name: whoever had it before has the name by now.
+    let fault = match disk.exists(name) {
+        Ok(false) => return Ok(()),
+        Ok(true) => ReserveFault::NameTaken,
+        Err(why) => ReserveFault::Failed(why),
+    };
+    disk.remove(temporary);
+    Err(fault)
+}
+
+/// Saves a file of this name, which was reserved, with these bytes: the temporary file gets them, and then the name. Where it fails,
+/// there is no file of this name, or there is another's: `Exists`. The temporary file is left then, with all bytes where it couldn't
+/// get the name.
 pub fn save<D: Disk>(
     disk: &mut D,
     temporary: &str,
@@ -17,24 +47,17 @@ pub fn save<D: Disk>(
 ) -> Result<(), SaveFault>
     requires { temporary.now ≢ name.now }
     ensures saved { OnOk result (KnownOf (D.contents disk.old) (D.contents disk.new) (IsSaved temporary.now name.now bytes.now)) }
-    ensures kept { OnErr result (KnownOf (D.contents disk.old) (D.contents disk.new) (IsKept temporary.now name.now)) }
-    ensures there { result ≡ Err exists_already → IfSome (D.contents disk.old) (λ files. IsSome (files temporary.now)) }
-    ensures fault { IfErr result (λ fault. fault ≢ SaveFault.CannotLook) }
-    ensures untouched { result ≡ Err exists_already → D.contents disk.new ≡ D.contents disk.old }
+    ensures kept { OnErr result (KnownOf (D.contents disk.old) (D.contents disk.new) (SameBut temporary.now)) }
+    ensures left { IfErr result (λ fault. is_of_writing fault ≡ false → KnownOf (D.contents disk.old) (D.contents disk.new) (IsWritten temporary.now bytes.now)) }
 {
-    match disk.create(temporary, bytes) {
-        Ok(()) => match disk.rename(temporary, name) {
-            Ok(()) => Ok(()),
-            Err(fault) => {
-                disk.remove(temporary);
-                Err(fault)
-            }
-        },
-        Err(SaveFault::Exists) => Err(SaveFault::Exists),
-        Err(fault) => {
-            disk.remove(temporary);
-            Err(fault)
-        }
+    match disk.write(temporary, bytes) {
+        Ok(()) => {}
+        Err(why) => return Err(why),
+    }
+    match disk.exists(name) {
+        Ok(false) => disk.rename(temporary, name),
+        Ok(true) => Err(SaveFault::Exists),
+        Err(why) => Err(why),
     }
 }
 

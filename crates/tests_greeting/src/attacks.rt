@@ -109,6 +109,21 @@ fn each_changed_byte_of_a_challenge_is_seen(rt: HostRuntime) -> Result<(), Fail>
     Ok(())
 }
 
+/// Somebody between the two makes another answer of the one to go on.
+#[test]
+fn an_answer_that_was_exchanged_is_not_believed(rt: HostRuntime) -> Result<(), Fail> {
+    let said = said()?;
+    for answer in [2, 3, 4, 5] {
+        let mut message = said.challenge;
+        message[0] = answer;
+        assert!(rt;
+            distrusts(&mut federate(FEDERATE_RANDOM)?, &message),
+            "answer {answer}"
+        );
+    }
+    Ok(())
+}
+
 #[test]
 fn each_changed_byte_of_a_proof_is_seen(rt: HostRuntime) -> Result<(), Fail> {
     let said = said()?;
@@ -149,7 +164,7 @@ fn another_secret_is_not_let_in(rt: HostRuntime) -> Result<(), Fail> {
     Ok(())
 }
 
-/// A greeting that isn't answered by going on.
+/// A greeting that is neither answered by going on nor by that the run is finished.
 struct Refusal {
     federate: u16,
     same_files: bool,
@@ -161,8 +176,8 @@ struct Refusal {
 /// Federate 3 may take part no more.
 const SOME: [bool; 4] = [true, true, true, false];
 
-/// All that could be answered at once is tested in this order: files, federate, finished, allowed.
-const REFUSALS: [Refusal; 8] = [
+/// All that could be answered at once is tested in this order: files, federate, allowed.
+const REFUSALS: [Refusal; 6] = [
     Refusal {
         federate: 3,
         same_files: false,
@@ -197,20 +212,6 @@ const REFUSALS: [Refusal; 8] = [
         allowed: &[],
         finished: false,
         answer: Answer::NoSuchFederate,
-    },
-    Refusal {
-        federate: 3,
-        same_files: true,
-        allowed: &ALL,
-        finished: true,
-        answer: Answer::Finished,
-    },
-    Refusal {
-        federate: 3,
-        same_files: true,
-        allowed: &SOME,
-        finished: true,
-        answer: Answer::Finished,
     },
     Refusal {
         federate: 3,

@@ -1,5 +1,5 @@
-//! Tests of the greeting between machines: HMAC-SHA-256 by published examples, a greeting worked by hand, and attacks. No program
-//! uses this crate.
+//! Tests of the greeting between machines: HMAC-SHA-256 by published examples, a greeting worked by hand, attacks, and who counts as told
+//! that the run is finished. No program uses this crate.
 #![tactic(auto)]
 
 #[cfg(test)]
@@ -8,6 +8,8 @@ mod attacks;
 mod secrets;
 #[cfg(test)]
 mod sides;
+#[cfg(test)]
+mod telling;
 #[cfg(test)]
 mod vectors;
 #[cfg(test)]

@@ -6,9 +6,9 @@ use std::net::{Net, SocketAddr, TcpListener, TcpStream};
 use std::process::Abort;
 use std::random::RandomSource;
 use std::sync::Wait;
-use std::thread;
 use std::thread::Threads;
 use std::time::{Clock, Duration};
+use std::{io, thread};
 use wires_greeting::{FederateSide, Greeting, Key};
 use wires_hosts::{
     DialFault, FederateHost, Heard, HeardTransport, HostAcceptor, HostDial, HostEntrance, listen_at,
@@ -76,10 +76,32 @@ pub trait Visit {
     }
 }
 
+/// Random bytes that a test knows: all are this one.
+#[derive(Drop)]
+pub struct Known {
+    pub byte: u8,
+}
+
+impl RandomSource for Known {
+    fn fill_bytes(&self, buf: &mut [u8]) -> io::Result<()> {
+        buf.fill(self.byte);
+        Ok(())
+    }
+}
+
 /// Whether a visit sees what it should. None where there is no listener or no memory.
 pub fn visited<V: Visit, R: Machine + Net<Stream = TcpStream, Listener = TcpListener>>(
     rt: &R,
 ) -> Option<bool> {
+    visited_by::<V, R, R>(rt, rt)
+}
+
+/// The same where the coordinator's random bytes come from this source.
+pub fn visited_by<
+    V: Visit,
+    R: Machine + Net<Stream = TcpStream, Listener = TcpListener>,
+    S: RandomSource + Sync,
+>(rt: &R, random: &S) -> Option<bool> {
     let alloc = rt.alloc();
     let listener = listen_at(rt, SocketAddr::from(([127, 0, 0, 1], 0))).ok()?;
     let address = listener.local_addr().ok()?;
@@ -96,7 +118,7 @@ pub fn visited<V: Visit, R: Machine + Net<Stream = TcpStream, Listener = TcpList
         files: FILES,
         patience: Duration::from_millis(V::PATIENCE_MS),
     };
-    let acceptor = HostAcceptor::new(alloc, rt, host, &heard, readers).ok()?;
+    let acceptor = HostAcceptor::new(alloc, random, host, &heard, readers).ok()?;
     let entrance = Entrance {
         alloc,
         address,
@@ -225,6 +247,14 @@ pub fn is_closed(stream: &mut TcpStream, most: usize) -> bool {
         }
     }
     false
+}
+
+/// Whether a connection that doesn't wait isn't closed by the other end, on which nothing is said.
+pub fn is_open(stream: &mut TcpStream) -> bool {
+    match stream.read(&mut [0]) {
+        Ok(_) => false,
+        Err(error) => error.kind() == ErrorKind::WouldBlock,
+    }
 }
 
 /// A connection on which a federate greeted by hand, and all that it said.

@@ -1,9 +1,11 @@
 //! Who hears that the run is finished.
 use crate::entrance::{
-    Entrance, FILES, Host, Process, Visit, greeted_by_hand, host_of, is_closed, visited,
+    Entrance, FILES, Host, LONG_MS, Machine, Process, Visit, greeted_by_hand, host_of, is_closed,
+    visited,
 };
 use std::io::{Read, Write};
 use std::net::{Net, TcpListener, TcpStream};
+use std::time::{Duration, Instant};
 use wires_greeting::Greeting;
 use wires_hosts::{DialFault, Heard};
 
@@ -32,15 +34,87 @@ impl Visit for Told {
     }
 }
 
-#[test]
-fn tells_each_federate_that_the_run_is_finished(rt: HostRuntime) {
-    assert_eq!(rt; visited::<Told, _>(&rt), Some(true));
+/// Whether that was before the coordinator's patience was over.
+fn is_told_at_once<R: Machine + Net<Stream = TcpStream, Listener = TcpListener>>(
+    rt: &R,
+) -> Option<bool> {
+    let begin = Instant::now(rt).ok()?;
+    let is_told = visited::<Told, _>(rt)?;
+    Some(is_told && begin.elapsed(rt).ok()? < Duration::from_millis(LONG_MS))
 }
 
-/// Federate 0 is answered and doesn't close its side: it wasn't told. The coordinator closes once its patience is over.
-struct NotClosed;
+#[test]
+fn tells_each_federate_that_the_run_is_finished_and_ends(rt: HostRuntime) {
+    assert_eq!(rt; is_told_at_once(&rt), Some(true));
+}
 
-impl Visit for NotClosed {
+/// Whoever greets as this federate is answered that the run is finished; the connection.
+fn answered<R: Host + Net<Stream = TcpStream, Listener = TcpListener>>(
+    rt: &R,
+    entrance: &Entrance<'_>,
+    federate: u16,
+) -> Option<TcpStream> {
+    let greeting = Greeting {
+        federate,
+        files: FILES,
+        random: [6; 32],
+    };
+    let mut stream = TcpStream::connect(rt, entrance.address).ok()?;
+    stream.write_all(&greeting.bytes()).ok()?;
+    let mut challenge = [0; 65];
+    stream.read_exact(&mut challenge).ok()?;
+    if challenge[0] == 4 {
+        Some(stream)
+    } else {
+        None
+    }
+}
+
+/// Somebody without the secret greets as each federate and closes its side, or proves something else. Nobody is told by that: both
+/// federates' processes hear it still.
+struct ByStrangers;
+
+impl Visit for ByStrangers {
+    fn visit<R: Host + Net<Stream = TcpStream, Listener = TcpListener>>(
+        rt: &R,
+        entrance: &Entrance<'_>,
+    ) -> Option<bool> {
+        entrance.ending.set();
+        let no_more = entrance.first.recv(rt).is_err();
+        for federate in [0, 1] {
+            drop(answered(rt, entrance, federate)?);
+            for proof in [[0; 32], [6; 32]] {
+                let mut stream = answered(rt, entrance, federate)?;
+                stream.write_all(&proof).ok()?;
+                if !is_closed(&mut stream, 0) || entrance.heard.is_told(usize::from(federate)) {
+                    return Some(false);
+                }
+            }
+        }
+        for federate in [0, 1] {
+            let process = Process::new(entrance.alloc)?;
+            let host = host_of(entrance.address, federate)?;
+            if !process.is_refused(rt, entrance.alloc, host, DialFault::Finished, true) {
+                return Some(false);
+            }
+        }
+        Some(no_more)
+    }
+
+    fn is_right(heard: &Heard) -> bool {
+        heard.are_all_told()
+    }
+}
+
+#[test]
+fn tells_each_federate_though_a_stranger_greets_as_it(rt: HostRuntime) {
+    assert_eq!(rt; visited::<ByStrangers, _>(&rt), Some(true));
+}
+
+/// Federate 0 is answered and doesn't prove that it heard so: it wasn't told. The coordinator closes once its patience is over.
+struct NotProved;
+
+impl Visit for NotProved {
     const PATIENCE_MS: u64 = 2000;
 
     fn visit<R: Host + Net<Stream = TcpStream, Listener = TcpListener>>(
@@ -49,16 +123,8 @@ impl Visit for NotClosed {
     ) -> Option<bool> {
         entrance.ending.set();
         let no_more = entrance.first.recv(rt).is_err();
-        let greeting = Greeting {
-            federate: 0,
-            files: FILES,
-            random: [6; 32],
-        };
-        let mut stream = TcpStream::connect(rt, entrance.address).ok()?;
-        stream.write_all(&greeting.bytes()).ok()?;
-        let mut challenge = [0; 65];
-        stream.read_exact(&mut challenge).ok()?;
-        Some(no_more && challenge[0] == 4 && is_closed(&mut stream, 0))
+        let mut stream = answered(rt, entrance, 0)?;
+        Some(no_more && is_closed(&mut stream, 0))
     }
 
     fn is_right(heard: &Heard) -> bool {
@@ -68,7 +134,7 @@ impl Visit for NotClosed {
 
 #[test]
 fn ends_once_its_patience_is_over_where_a_federate_was_not_told(rt: HostRuntime) {
-    assert_eq!(rt; visited::<NotClosed, _>(&rt), Some(true));
+    assert_eq!(rt; visited::<NotProved, _>(&rt), Some(true));
 }
 
 /// The run was given up: nobody hears that it is finished.

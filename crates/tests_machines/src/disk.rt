@@ -40,6 +40,11 @@ impl MemoryDisk {
         None
     }
 
+    /// How many files there are.
+    pub fn len(&self) -> usize {
+        self.files.len()
+    }
+
     /// Puts a file there, in place of one of that name; nothing where there is no memory.
     pub fn put(&mut self, name: &str, bytes: &[u8]) -> Option<()> {
         self.remove(name);
@@ -61,14 +66,18 @@ impl Disk for MemoryDisk {
         Ok(self.file(name).is_some())
     }
 
-    fn create(&mut self, name: &str, bytes: &[u8]) -> Result<(), SaveFault> {
+    fn create(&mut self, name: &str) -> Result<(), SaveFault> {
         if self.file(name).is_some() {
             return Err(SaveFault::Exists);
         }
-        if self.fails(Operation::Create) || self.put(name, bytes).is_none() {
+        if self.fails(Operation::Create) || self.put(name, b"").is_none() {
             return Err(SaveFault::CannotCreate);
         }
-        if self.fails(Operation::Write) {
+        Ok(())
+    }
+
+    fn write(&mut self, name: &str, bytes: &[u8]) -> Result<(), SaveFault> {
+        if self.fails(Operation::Write) || self.put(name, bytes).is_none() {
             return Err(SaveFault::CannotWrite);
         }
         if self.fails(Operation::Sync) {

@@ -14,6 +14,9 @@ use tests_samples::Machine;
 /// The name of each node's report on its own disk.
 pub const REPORT: &str = "r";
 
+/// The temporary name of each.
+pub const PART: &str = "r.part";
+
 /// The first words of each coordinator.
 const COORDINATE: &[&str] = &[
     "coordinate",
@@ -38,6 +41,19 @@ pub struct Given<'a> {
     pub failing: Option<Operation>,
 }
 
+/// What a node left on its disk.
+#[derive(Clone, Copy, Debug, PartialEq, Eq)]
+pub enum Left {
+    /// No file.
+    Nothing,
+    /// Its report alone.
+    Report,
+    /// The temporary file alone.
+    Part,
+    /// Other files.
+    Other,
+}
+
 /// How a node ended.
 #[derive(Drop)]
 pub struct Ended {
@@ -49,14 +65,29 @@ pub struct Ended {
 }
 
 impl Ended {
-    /// The status, and what is on standard output and on standard error.
-    pub fn texts(&self) -> (u8, &str, &str) {
+    // The status, and what is on standard output and on standard error.
+    fn texts(&self) -> (u8, &str, &str) {
         (self.status, self.out.as_str(), self.err.as_str())
     }
 
     /// Its report, if it wrote one.
     pub fn report(&self) -> Option<&[u8]> {
         self.disk.file(REPORT)
+    }
+
+    /// Its texts, and what it left on its disk.
+    pub fn shown(&self) -> ((u8, &str, &str), Left) {
+        (self.texts(), self.left())
+    }
+
+    // What it left on its disk.
+    fn left(&self) -> Left {
+        match (self.disk.file(REPORT), self.disk.file(PART)) {
+            (None, None) if self.disk.len() == 0 => Left::Nothing,
+            (Some(_), None) if self.disk.len() == 1 => Left::Report,
+            (None, Some(_)) if self.disk.len() == 1 => Left::Part,
+            _ => Left::Other,
+        }
     }
 }
 

@@ -1,9 +1,10 @@
 //! Nodes that don't end well: what each says, and what is left of it.
 use crate::disk::{MemoryDisk, Operation};
 use crate::files::NamedFiles;
-use crate::nodes::{Ended, Given, REPORT, coordinated};
+use crate::nodes::{Ended, Given, Left, REPORT, coordinated};
 use fedrun_hosts::node_command;
 use std::fmt::Write;
+use std::io;
 use std::net::{Net, TcpListener, TcpStream};
 use std::random::RandomSource;
 use std::test::Fail;
@@ -17,6 +18,7 @@ const FILES: &[(&str, &str)] = &[
     ("secret", "0123456789abcdef"),
     ("other", "0123456789abcdeg"),
     ("short", "0123456789abcde"),
+    ("line", "0123456789abcdef\n"),
 ];
 
 /// The same with another input file.
@@ -40,8 +42,8 @@ const SRC: Given<'static> = Given {
     ..COORDINATOR
 };
 
-/// What a federate is given, how it ends, and whether it leaves a report.
-const REFUSED: &[(Given<'static>, u8, &str, bool)] = &[
+/// What a federate is given, how it ends, and what it leaves.
+const REFUSED: &[(Given<'static>, u8, &str, Left)] = &[
     (
         Given {
             more: &["--secret", "other", "--patience", "1"],
@@ -49,7 +51,16 @@ const REFUSED: &[(Given<'static>, u8, &str, bool)] = &[
         },
         1,
         "fedrun: 119 NotProved\n",
-        true,
+        Left::Report,
+    ),
+    (
+        Given {
+            more: &["--secret", "line", "--patience", "1"],
+            ..SRC
+        },
+        1,
+        "fedrun: 119 NotProved\n",
+        Left::Report,
     ),
     (
         Given {
@@ -58,7 +69,7 @@ const REFUSED: &[(Given<'static>, u8, &str, bool)] = &[
         },
         1,
         "fedrun: 118 OtherFiles\n",
-        true,
+        Left::Report,
     ),
     (
         Given {
@@ -67,7 +78,7 @@ const REFUSED: &[(Given<'static>, u8, &str, bool)] = &[
         },
         1,
         "fedrun: 115 NoSuchFederate nobody\n",
-        false,
+        Left::Nothing,
     ),
     (
         Given {
@@ -76,7 +87,7 @@ const REFUSED: &[(Given<'static>, u8, &str, bool)] = &[
         },
         1,
         "fedrun: 112 SecretTooShort\n",
-        false,
+        Left::Nothing,
     ),
     (
         Given {
@@ -85,7 +96,7 @@ const REFUSED: &[(Given<'static>, u8, &str, bool)] = &[
         },
         1,
         "fedrun: cannot read nothing\n",
-        false,
+        Left::Nothing,
     ),
     (
         Given {
@@ -94,7 +105,7 @@ const REFUSED: &[(Given<'static>, u8, &str, bool)] = &[
         },
         3,
         "fedrun: not finished\n",
-        true,
+        Left::Report,
     ),
     (
         Given {
@@ -103,7 +114,7 @@ const REFUSED: &[(Given<'static>, u8, &str, bool)] = &[
         },
         2,
         "fedrun: usage\n",
-        false,
+        Left::Nothing,
     ),
     (
         Given {
@@ -112,7 +123,7 @@ const REFUSED: &[(Given<'static>, u8, &str, bool)] = &[
         },
         3,
         "fedrun: 120 Unsaved r: cannot look\n",
-        false,
+        Left::Nothing,
     ),
     (
         Given {
@@ -121,7 +132,7 @@ const REFUSED: &[(Given<'static>, u8, &str, bool)] = &[
         },
         3,
         "fedrun: 120 Unsaved r: cannot create\n",
-        false,
+        Left::Nothing,
     ),
     (
         Given {
@@ -130,7 +141,7 @@ const REFUSED: &[(Given<'static>, u8, &str, bool)] = &[
         },
         3,
         "fedrun: 120 Unsaved r: cannot write\n",
-        false,
+        Left::Part,
     ),
     (
         Given {
@@ -139,7 +150,7 @@ const REFUSED: &[(Given<'static>, u8, &str, bool)] = &[
         },
         3,
         "fedrun: 120 Unsaved r: cannot sync\n",
-        false,
+        Left::Part,
     ),
     (
         Given {
@@ -148,35 +159,138 @@ const REFUSED: &[(Given<'static>, u8, &str, bool)] = &[
         },
         3,
         "fedrun: 120 Unsaved r: cannot rename\n",
-        false,
+        Left::Part,
     ),
 ];
 
-/// The texts of a node, and whether it left a report and nothing else.
-fn shown(ended: &Ended) -> ((u8, &str, &str), bool) {
-    (ended.texts(), ended.report().is_some())
-}
-
 #[test]
 fn says_why_it_does_not_end_well(rt: HostRuntime) {
-    for (given, status, err, has_report) in REFUSED {
+    for (given, status, err, left) in REFUSED {
         let ended = coordinated(&rt, &COORDINATOR, given, None);
         let told = ended.as_ref().map(|(coordinator, federate, _)| (
-            shown(coordinator),
-            shown(federate),
+            coordinator.shown(),
+            federate.shown(),
         ));
         assert_eq!(rt;
             told,
             Some((
-                ((3, "", "fedrun: not finished\n"), true),
-                ((*status, "", *err), *has_report)
+                ((3, "", "fedrun: not finished\n"), Left::Report),
+                ((*status, "", *err), *left)
             )),
             "{err}"
         );
     }
 }
 
-/// What words of a coordinator that doesn't begin to listen give, over these files and a disk with a report.
+/// What the coordinator's disk can't do at the end of a run that is finished, and what it says.
+const UNSAVED: &[(Operation, &str)] = &[
+    (Operation::Write, "fedrun: 120 Unsaved r: cannot write\n"),
+    (Operation::Sync, "fedrun: 120 Unsaved r: cannot sync\n"),
+    (Operation::Rename, "fedrun: 120 Unsaved r: cannot rename\n"),
+];
+
+#[test]
+fn does_not_say_finished_where_its_report_is_not_saved(rt: HostRuntime) {
+    for (failing, err) in UNSAVED {
+        let coordinator = Given {
+            failing: Some(*failing),
+            ..COORDINATOR
+        };
+        let snk = Given {
+            name: "snk",
+            ..COORDINATOR
+        };
+        let ended = coordinated(&rt, &coordinator, &SRC, Some(&snk));
+        let told = ended.as_ref().map(|(coordinator, first, second)| (
+            coordinator.shown(),
+            first.shown(),
+            second.as_ref().map(Ended::shown),
+        ));
+        let finished = ((0, "finished\n", ""), Left::Report);
+        assert_eq!(rt;
+            told,
+            Some((((3, "", *err), Left::Part), finished, Some(finished))),
+            "{err}"
+        );
+    }
+}
+
+/// A writer that refuses.
+#[derive(Drop)]
+struct Refusing;
+
+impl io::Write for Refusing {
+    fn write(&mut self, _buf: &[u8]) -> io::Result<usize> {
+        Err(io::Error::other("no room"))
+    }
+
+    fn flush(&mut self) -> io::Result<()> {
+        Err(io::Error::other("no room"))
+    }
+}
+
+/// How a coordinator ends that has this secret, whose standard output refuses: the status, and what is on standard error. None where a
+/// file is left.
+fn unheard<R: Machine + Net<Stream = TcpStream, Listener = TcpListener> + RandomSource>(
+    rt: &R,
+    secret: &str,
+) -> Option<(u8, String)> {
+    let alloc = rt.alloc();
+    let mut words = Vec::new(alloc);
+    for word in [
+        "coordinate",
+        "f",
+        "i",
+        "--listen",
+        "127.0.0.1:0",
+        "--report",
+        REPORT,
+        "--patience",
+        "1",
+        "--secret",
+        "secret",
+    ] {
+        words.push(String::from_str(alloc, word).ok()?).ok()?;
+    }
+    let texts = [("f", COUNTER), ("i", ""), ("secret", secret)];
+    let mut files = NamedFiles {
+        alloc,
+        texts: &texts,
+        reports: &[],
+    };
+    let mut disk = MemoryDisk::new(alloc, None);
+    let mut err = Vec::new(alloc);
+    let status = node_command(rt, &words, &mut files, &mut disk, &mut Refusing, &mut err);
+    if disk.len() > 0 {
+        return None;
+    }
+    Some((status, String::from_utf8(err).ok()?))
+}
+
+#[test]
+fn begins_nothing_where_nobody_hears_where_it_listens(rt: HostRuntime) {
+    let told = unheard(&rt, "0123456789abcdef");
+    let told = told.as_ref().map(|(status, err)| (*status, err.as_str()));
+    assert_eq!(rt; told, Some((3, "fedrun: cannot write\n")));
+}
+
+#[test]
+fn refuses_a_secret_of_more_than_4096_bytes(rt: HostRuntime) -> Result<(), Fail> {
+    let mut secret = String::new(rt.alloc());
+    for _ in 0..4097 {
+        secret.push('s')?;
+    }
+    let told = unheard(&rt, secret.as_str());
+    let told = told.as_ref().map(|(status, err)| (*status, err.as_str()));
+    assert_eq!(rt; told, Some((1, "fedrun: 113 SecretTooLong\n")));
+    Ok(())
+}
+
+/// The temporary file that a node left that was ended in the midst.
+const LEFT: &str = "left.part";
+
+/// What words of a node that doesn't begin give, over these files and a disk with a report and that temporary file, which holds just
+/// these two then.
 fn not_begun<R: Machine + Net<Stream = TcpStream, Listener = TcpListener> + RandomSource>(
     rt: &R,
     words: &[&str],
@@ -193,10 +307,14 @@ fn not_begun<R: Machine + Net<Stream = TcpStream, Listener = TcpListener> + Rand
     };
     let mut disk = MemoryDisk::new(alloc, None);
     disk.put(REPORT, b"a report")?;
+    disk.put(LEFT, b"a part")?;
     let mut out = Vec::new(alloc);
     let mut err = Vec::new(alloc);
     let status = node_command(rt, &given, &mut files, &mut disk, &mut out, &mut err);
-    if disk.file(REPORT) != Some(b"a report".as_slice()) {
+    let are_kept = disk.file(REPORT) == Some(b"a report".as_slice())
+        && disk.file(LEFT) == Some(b"a part".as_slice())
+        && disk.len() == 2;
+    if !are_kept {
         return None;
     }
     Some((
@@ -206,7 +324,7 @@ fn not_begun<R: Machine + Net<Stream = TcpStream, Listener = TcpListener> + Rand
     ))
 }
 
-/// Words, the status, and what is on standard error. A report stands in `r` already.
+/// Words, the status, and what is on standard error. A report stands in `r` already, and a part of another in `left.part`.
 const NOT_BEGUN: &[(&[&str], u8, &str)] = &[
     (
         &[
@@ -261,6 +379,47 @@ const NOT_BEGUN: &[(&[&str], u8, &str)] = &[
         ],
         1,
         "fedrun: 116 ReportExists r\n",
+    ),
+    (
+        &[
+            "coordinate",
+            "f",
+            "i",
+            "--listen",
+            "127.0.0.1:0",
+            "--report",
+            "left",
+        ],
+        1,
+        "fedrun: 116 ReportExists left.part\n",
+    ),
+    (
+        &[
+            "join",
+            "f",
+            "i",
+            "src",
+            "--connect",
+            "127.0.0.1:7000",
+            "--report",
+            "left",
+        ],
+        1,
+        "fedrun: 116 ReportExists left.part\n",
+    ),
+    (
+        &[
+            "join",
+            "f",
+            "i",
+            "nobody",
+            "--connect",
+            "127.0.0.1:7000",
+            "--report",
+            "new",
+        ],
+        1,
+        "fedrun: 115 NoSuchFederate nobody\n",
     ),
     (
         &["coordinate", "f", "i", "--listen", "127.0.0.1:0"],

@@ -1,6 +1,6 @@
 //! Nodes that are run each by itself, and the rows that an audit proves of their reports.
 use crate::files::NamedFiles;
-use crate::nodes::{Ended, Given, coordinated};
+use crate::nodes::{Ended, Given, Left, coordinated};
 use fedrun_commands::command;
 use fedrun_progress::NoProgress;
 use std::net::{Net, TcpListener, TcpStream};
@@ -85,10 +85,10 @@ fn nodes_by_themselves_give_the_rows(rt: HostRuntime) {
         ];
         let audited = audited(&rt, &files, ["src", "snk"], more);
         let told = audited.as_ref().map(|(nodes, (status, out, err))| {
-            let nodes = [nodes[0].texts(), nodes[1].texts(), nodes[2].texts()];
+            let nodes = [nodes[0].shown(), nodes[1].shown(), nodes[2].shown()];
             (nodes, (*status, out.as_str(), err.as_str()))
         });
-        let finished = (0, "finished\n", "");
+        let finished = ((0, "finished\n", ""), Left::Report);
         assert_eq!(rt; told, Some(([finished; 3], (0, *rows, ""))));
     }
 }

@@ -1,7 +1,7 @@
-//! What stands after a saving, whether it succeeds or a call of the disk fails.
+//! What stands after a name is reserved and a file is saved, whether that succeeds or a call of the disk fails.
 use crate::memory_disk::MemoryDisk;
-use crate::saved::saved;
-use fedrun_saving::SaveFault;
+use crate::saved::{reserved, saved};
+use fedrun_saving::{ReserveFault, SaveFault};
 use std::alloc::Global;
 
 const NAME: &str = "run/snk.report";
@@ -19,25 +19,20 @@ const PART: &[u8] = b"new ";
 
 const OTHERS: &[u8] = b"other";
 
-/// All that can fail but that the temporary file is there already.
-const FAULTS: &[SaveFault] = &[
-    SaveFault::CannotCreate,
-    SaveFault::CannotWrite,
-    SaveFault::CannotSync,
-    SaveFault::CannotRename,
-];
-
-/// A disk with another file, and with an older one under the name where that is said.
+/// A disk with another file, and with these under the name and the temporary one.
 fn disk_with(
     alloc: Global,
-    has_old: bool,
+    bytes: Option<&[u8]>,
+    temporary: Option<&[u8]>,
     fails: Option<SaveFault>,
-    removes: bool,
 ) -> Option<MemoryDisk> {
-    let mut disk = MemoryDisk::new(alloc, fails, removes);
+    let mut disk = MemoryDisk::new(alloc, fails);
     disk.put(OTHER, OTHERS)?;
-    if has_old {
-        disk.put(NAME, OLD)?;
+    if let Some(bytes) = bytes {
+        disk.put(NAME, bytes)?;
+    }
+    if let Some(bytes) = temporary {
+        disk.put(TEMPORARY, bytes)?;
     }
     Some(disk)
 }
@@ -51,54 +46,111 @@ fn stand(disk: &MemoryDisk, bytes: Option<&[u8]>, temporary: Option<&[u8]>) -> b
         && disk.len() == count
 }
 
-/// Whether new bytes are saved in place of the older file, or of none, and the temporary one isn't there any more.
-fn saves(alloc: Global, has_old: bool) -> Option<bool> {
-    let mut disk = disk_with(alloc, has_old, None, true)?;
+/// Whether a name that is free is reserved, and once more is refused; whether new bytes are saved then, the temporary file isn't there
+/// any more, and the name is refused from then on.
+fn saves(alloc: Global) -> Option<bool> {
+    let mut disk = disk_with(alloc, None, None, None)?;
+    let first = reserved(alloc, &mut disk, NAME)?;
+    let is_reserved = first == Ok(()) && stand(&disk, None, Some(b""));
+    let second = reserved(alloc, &mut disk, NAME)?;
+    let is_kept = second == Err(ReserveFault::TemporaryTaken) && stand(&disk, None, Some(b""));
     let answer = saved(alloc, &mut disk, NAME, NEW)?;
-    Some(answer == Ok(()) && stand(&disk, Some(NEW), None))
+    let is_saved = answer == Ok(()) && stand(&disk, Some(NEW), None);
+    let third = reserved(alloc, &mut disk, NAME)?;
+    let is_refused = third == Err(ReserveFault::NameTaken) && stand(&disk, Some(NEW), None);
+    Some(is_reserved && is_kept && is_saved && is_refused)
 }
 
 #[test]
-fn saves_a_file_in_place_of_the_older_one(rt: HostRuntime) {
-    for has_old in [false, true] {
-        assert_eq!(rt; saves(rt.alloc(), has_old), Some(true));
+fn saves_a_file_under_a_name_that_was_reserved(rt: HostRuntime) {
+    assert_eq!(rt; saves(rt.alloc()), Some(true));
+}
+
+/// What stands under the name and the temporary one, what fails, and why the name isn't reserved. What stands then is what stood before.
+const UNRESERVED: &[(
+    Option<&[u8]>,
+    Option<&[u8]>,
+    Option<SaveFault>,
+    ReserveFault,
+)] = &[
+    (Some(OLD), None, None, ReserveFault::NameTaken),
+    (None, Some(PART), None, ReserveFault::TemporaryTaken),
+    (Some(OLD), Some(PART), None, ReserveFault::TemporaryTaken),
+    (
+        None,
+        None,
+        Some(SaveFault::CannotCreate),
+        ReserveFault::Failed(SaveFault::CannotCreate),
+    ),
+    (
+        None,
+        None,
+        Some(SaveFault::CannotSync),
+        ReserveFault::Failed(SaveFault::CannotSync),
+    ),
+    (
+        None,
+        None,
+        Some(SaveFault::CannotLook),
+        ReserveFault::Failed(SaveFault::CannotLook),
+    ),
+];
+
+#[test]
+fn leaves_all_as_it_was_where_a_name_is_not_reserved(rt: HostRuntime) {
+    for (bytes, temporary, fails, fault) in UNRESERVED {
+        let alloc = rt.alloc();
+        let told = disk_with(alloc, *bytes, *temporary, *fails).and_then(|mut disk| {
+            let answer = reserved(alloc, &mut disk, NAME)?;
+            Some((answer, stand(&disk, *bytes, *temporary)))
+        });
+        assert_eq!(rt; told, Some((Err(*fault), true)), "{fault:?}");
     }
 }
 
-/// The older file, where there is one.
-fn old(has_old: bool) -> Option<&'static [u8]> {
-    if has_old { Some(OLD) } else { None }
-}
+/// What fails as a file is saved under a name that was reserved, and what the temporary file holds then.
+const UNSAVED: &[(SaveFault, &[u8])] = &[
+    (SaveFault::CannotWrite, PART),
+    (SaveFault::CannotSync, NEW),
+    (SaveFault::CannotLook, NEW),
+    (SaveFault::CannotRename, NEW),
+];
 
-/// Whether it is answered that this call failed, and the older file stands then, or none, and the temporary one is gone.
-fn keeps(alloc: Global, has_old: bool, fails: SaveFault) -> Option<bool> {
-    let mut disk = disk_with(alloc, has_old, Some(fails), true)?;
+/// Whether it is answered that this call failed, there is no file of the name then, and the temporary one holds this, so that the name
+/// stays reserved.
+fn is_unsaved(alloc: Global, fails: SaveFault, left: &[u8]) -> Option<bool> {
+    let mut disk = disk_with(alloc, None, None, None)?;
+    let is_reserved = reserved(alloc, &mut disk, NAME)? == Ok(());
+    disk.fails = Some(fails);
     let answer = saved(alloc, &mut disk, NAME, NEW)?;
-    Some(answer == Err(fails) && stand(&disk, old(has_old), None))
+    let is_left = stand(&disk, None, Some(left));
+    disk.fails = None;
+    let again = reserved(alloc, &mut disk, NAME)?;
+    let is_refused = again == Err(ReserveFault::TemporaryTaken) && stand(&disk, None, Some(left));
+    Some(is_reserved && answer == Err(fails) && is_left && is_refused)
 }
 
 #[test]
-fn keeps_the_older_file_whichever_call_fails(rt: HostRuntime) {
-    for fails in FAULTS {
-        for has_old in [false, true] {
-            assert_eq!(rt; keeps(rt.alloc(), has_old, *fails), Some(true), "{fails:?}");
-        }
+fn leaves_the_temporary_file_whichever_call_fails(rt: HostRuntime) {
+    for (fails, left) in UNSAVED {
+        assert_eq!(rt;
+            is_unsaved(rt.alloc(), *fails, left),
+            Some(true),
+            "{fails:?}"
+        );
     }
 }
 
-/// Where a part was written and can't be removed: whether it stands under the temporary name alone, and stays so where the same is
-/// saved again, which is refused.
-fn leaves_part(alloc: Global) -> Option<bool> {
-    let mut disk = disk_with(alloc, true, Some(SaveFault::CannotWrite), false)?;
-    let first = saved(alloc, &mut disk, NAME, NEW)?;
-    let is_named = stand(&disk, Some(OLD), Some(PART));
-    let again = saved(alloc, &mut disk, NAME, NEW)?;
-    let is_left = stand(&disk, Some(OLD), Some(PART));
-    let are_refused = first == Err(SaveFault::CannotWrite) && again == Err(SaveFault::Exists);
-    Some(are_refused && is_named && is_left)
+/// Whether a file that got the name meanwhile stays as it is, and the temporary one has all bytes.
+fn leaves_another(alloc: Global) -> Option<bool> {
+    let mut disk = disk_with(alloc, None, None, None)?;
+    let is_reserved = reserved(alloc, &mut disk, NAME)? == Ok(());
+    disk.put(NAME, OLD)?;
+    let answer = saved(alloc, &mut disk, NAME, NEW)?;
+    Some(is_reserved && answer == Err(SaveFault::Exists) && stand(&disk, Some(OLD), Some(NEW)))
 }
 
 #[test]
-fn a_part_stands_under_the_temporary_name_alone_and_is_never_overwritten(rt: HostRuntime) {
-    assert_eq!(rt; leaves_part(rt.alloc()), Some(true));
+fn replaces_no_file_that_got_the_name_meanwhile(rt: HostRuntime) {
+    assert_eq!(rt; leaves_another(rt.alloc()), Some(true));
 }

@@ -1,5 +1,5 @@
-//! Tests of files that are saved whole or not at all: over a disk in memory of which each call fails in turn, and over the machine's.
-//! No part of the product.
+//! Tests of names that are reserved, and of files that are saved under them whole or not at all: over a disk in memory of which each
+//! call fails in turn, and over the machine's. No part of the product.
 //!
 //! Begin with `failing`.
 #![tactic(auto)]

@@ -1,6 +1,6 @@
 //! Files that are saved on the machine's disk.
-use crate::saved::saved;
-use fedrun_saving::{Disk, MachineDisk, SaveFault};
+use crate::saved::{reserved, saved};
+use fedrun_saving::{Disk, MachineDisk, ReserveFault, SaveFault};
 use std::{fs, rt};
 
 const NAME: &str = "saved_report";
@@ -28,53 +28,74 @@ fn are_there<R: rt::Files>(rt: &R) -> (Result<bool, SaveFault>, Result<bool, Sav
     (disk.exists(NAME), disk.exists(TEMPORARY))
 }
 
-/// Whether a file is saved, and then another in its place.
-fn saves_twice<R: rt::Files + AllocGlobal>(rt: &R) -> bool {
+/// Whether a file is saved under a name that was reserved, and the name is refused meanwhile and then.
+fn saves<R: rt::Files + AllocGlobal>(rt: &R) -> bool {
     let mut disk = MachineDisk::new(rt);
     let was_free = are_there(rt) == (Ok(false), Ok(false));
-    let first = saved(rt.alloc(), &mut disk, NAME, b"first");
-    let is_first = holds(rt, NAME, "first");
-    let second = saved(rt.alloc(), &mut disk, NAME, b"second, longer");
-    let is_second = holds(rt, NAME, "second, longer");
+    let first = reserved(rt.alloc(), &mut disk, NAME);
+    let is_reserved = first == Some(Ok(())) && holds(rt, TEMPORARY, "");
+    let second = reserved(rt.alloc(), &mut disk, NAME);
+    let answer = saved(rt.alloc(), &mut disk, NAME, b"bytes");
+    let is_saved = answer == Some(Ok(())) && holds(rt, NAME, "bytes");
+    let third = reserved(rt.alloc(), &mut disk, NAME);
     let is_alone = are_there(rt) == (Ok(true), Ok(false));
     let is_removed = fs::remove_file(rt, NAME).is_ok();
     was_free
-        && first == Some(Ok(()))
-        && is_first
-        && second == Some(Ok(()))
-        && is_second
+        && is_reserved
+        && second == Some(Err(ReserveFault::TemporaryTaken))
+        && is_saved
+        && third == Some(Err(ReserveFault::NameTaken))
         && is_alone
         && is_removed
 }
 
-/// Whether a temporary file that is there stays as it is, and nothing is saved.
+/// Whether a temporary file that is there stays as it is, and a file of the name too that came behind it.
 fn leaves_another<R: rt::Files + AllocGlobal>(rt: &R) -> bool {
     let is_written = fs::write(rt, TEMPORARY, "another's").is_ok();
     let mut disk = MachineDisk::new(rt);
-    let answer = saved(rt.alloc(), &mut disk, NAME, b"bytes");
+    let refused = reserved(rt.alloc(), &mut disk, NAME);
     let is_left = holds(rt, TEMPORARY, "another's") && text(rt, NAME).is_none();
-    let is_removed = fs::remove_file(rt, TEMPORARY).is_ok();
-    is_written && answer == Some(Err(SaveFault::Exists)) && is_left && is_removed
+    let has_come = fs::write(rt, NAME, "behind").is_ok();
+    let answer = saved(rt.alloc(), &mut disk, NAME, b"bytes");
+    let are_left = holds(rt, NAME, "behind") && holds(rt, TEMPORARY, "bytes");
+    let are_removed = fs::remove_file(rt, TEMPORARY).is_ok() && fs::remove_file(rt, NAME).is_ok();
+    is_written
+        && refused == Some(Err(ReserveFault::TemporaryTaken))
+        && is_left
+        && has_come
+        && answer == Some(Err(SaveFault::Exists))
+        && are_left
+        && are_removed
 }
 
-/// Whether a file that would stand in no folder isn't made, and one doesn't get a folder's name.
+/// Whether it can't be looked for a file below another file.
+fn cannot_look<R: rt::Files + AllocGlobal>(rt: &R) -> bool {
+    let is_written = fs::write(rt, NAME, "no folder").is_ok();
+    let mut disk = MachineDisk::new(rt);
+    let below = disk.exists("saved_report/below");
+    let is_removed = fs::remove_file(rt, NAME).is_ok();
+    is_written && below == Err(SaveFault::CannotLook) && is_removed
+}
+
+/// Whether no name is reserved in a folder that isn't there, nor one that a folder has.
 fn refuses<R: rt::Files + AllocGlobal>(rt: &R) -> bool {
     let mut disk = MachineDisk::new(rt);
-    let nowhere = saved(rt.alloc(), &mut disk, "no_folder/report", b"bytes");
+    let nowhere = reserved(rt.alloc(), &mut disk, "no_folder/report");
     let is_made = fs::create_dir(rt, FOLDER).is_ok();
-    let over_folder = saved(rt.alloc(), &mut disk, FOLDER, b"bytes");
+    let of_folder = reserved(rt.alloc(), &mut disk, FOLDER);
     let is_gone = text(rt, "saved_folder.part").is_none();
     let is_removed = fs::remove_dir(rt, FOLDER).is_ok();
-    nowhere == Some(Err(SaveFault::CannotCreate))
+    nowhere == Some(Err(ReserveFault::Failed(SaveFault::CannotCreate)))
         && is_made
-        && over_folder == Some(Err(SaveFault::CannotRename))
+        && of_folder == Some(Err(ReserveFault::NameTaken))
         && is_gone
         && is_removed
 }
 
 #[test]
 fn saves_on_the_machines_disk(rt: HostRuntime) {
-    assert!(rt; saves_twice(&rt));
+    assert!(rt; saves(&rt));
     assert!(rt; leaves_another(&rt));
     assert!(rt; refuses(&rt));
+    assert!(rt; cannot_look(&rt));
 }

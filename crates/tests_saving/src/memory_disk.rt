@@ -16,20 +16,17 @@ struct NamedFile {
 pub(crate) struct MemoryDisk {
     alloc: Global,
     files: Vec<NamedFile>,
-    /// How saving fails, if it does.
-    fails: Option<SaveFault>,
-    /// Whether files can be removed.
-    removes: bool,
+    /// How the call fails that fails, if one does.
+    pub fails: Option<SaveFault>,
 }
 
 impl MemoryDisk {
     /// A disk without files.
-    pub fn new(alloc: Global, fails: Option<SaveFault>, removes: bool) -> MemoryDisk {
+    pub fn new(alloc: Global, fails: Option<SaveFault>) -> MemoryDisk {
         MemoryDisk {
             alloc,
             files: Vec::new(alloc),
             fails,
-            removes,
         }
     }
 
@@ -71,8 +68,9 @@ impl MemoryDisk {
         }
     }
 
-    // Makes a file, or a part of it; None where there is no memory.
-    fn make(&mut self, name: &str, bytes: &[u8]) -> Option<()> {
+    // Gives a file these bytes, or a half of them where that is said; None where there is no memory.
+    fn fill(&mut self, name: &str, bytes: &[u8]) -> Option<()> {
+        self.take(name);
         if self.fails == Some(SaveFault::CannotWrite) {
             self.put(name, &bytes[..bytes.len() / 2])?;
             None
@@ -84,17 +82,27 @@ impl MemoryDisk {
 
 impl Disk for MemoryDisk {
     fn exists(&mut self, name: &str) -> Result<bool, SaveFault> {
+        if self.fails == Some(SaveFault::CannotLook) {
+            return Err(SaveFault::CannotLook);
+        }
         Ok(self.place_of(name).is_some())
     }
 
-    fn create(&mut self, name: &str, bytes: &[u8]) -> Result<(), SaveFault> {
+    fn create(&mut self, name: &str) -> Result<(), SaveFault> {
         if self.place_of(name).is_some() {
             return Err(SaveFault::Exists);
         }
-        if self.fails == Some(SaveFault::CannotCreate) {
+        if self.fails == Some(SaveFault::CannotCreate) || self.put(name, b"").is_none() {
             return Err(SaveFault::CannotCreate);
         }
-        if self.make(name, bytes).is_none() {
+        if self.fails == Some(SaveFault::CannotSync) {
+            return Err(SaveFault::CannotSync);
+        }
+        Ok(())
+    }
+
+    fn write(&mut self, name: &str, bytes: &[u8]) -> Result<(), SaveFault> {
+        if self.fill(name, bytes).is_none() {
             return Err(SaveFault::CannotWrite);
         }
         if self.fails == Some(SaveFault::CannotSync) {
@@ -118,8 +126,6 @@ impl Disk for MemoryDisk {
     }
 
     fn remove(&mut self, name: &str) {
-        if self.removes {
-            self.take(name);
-        }
+        self.take(name);
     }
 }

@@ -28,3 +28,19 @@ is_go_on OtherFiles = false
 is_go_on NoSuchFederate = false
 is_go_on Finished = false
 is_go_on NotAllowed = false
+
+-- whether an answer says that the run is finished
+abbrev pub is_finished : Answer → Bool
+is_finished GoOn = false
+is_finished OtherFiles = false
+is_finished NoSuchFederate = false
+is_finished Finished = true
+is_finished NotAllowed = false
+
+-- whether the federate's proof is to come behind an answer: where frames begin, and where the run is finished, so that it is told
+abbrev pub wants_proof : Answer → Bool
+wants_proof GoOn = true
+wants_proof OtherFiles = false
+wants_proof NoSuchFederate = false
+wants_proof Finished = true
+wants_proof NotAllowed = false

@@ -1,7 +1,7 @@
 -- All that is handed to one side of a connection, one after the other, and where that leads.
 use Rattle.std.specs.Prelude.{◌≡◌, ℕ, List, [], ◌∷◌, ◌++◌, Bool, true, false, Some, slice_get}
 use Rattle.wires_greeting.specs.declared.answer.Answer.{Answer}
-use Rattle.wires_greeting.specs.declared.answer.Answer.TheVariants.{GoOn}
+use Rattle.wires_greeting.specs.declared.answer.Answer.TheVariants.{GoOn, Finished}
 use Rattle.wires_greeting.specs.declared.greeting.Greeting.{Greeting}
 use Rattle.wires_greeting.specs.declared.challenge.Challenge.{Challenge}
 use Rattle.wires_greeting.specs.Message.{greeting_of, challenge_bytes, challenge_of}
@@ -47,6 +47,26 @@ pub record IsLetIn (key files : List ℕ) (calls : List CoordinatorCall) (greeti
   pub is_allowed : slice_get allowed greeting.federate ≡ Some true
   pub is_proved : challenge ≡ challenge_by key greeting GoOn random
   pub is_sent : sent_after (after_calls (waiting key files) before) bytes random allowed false ≡ Some (challenge_bytes challenge)
+
+-- How a federate came to be told by a coordinator with this key and these files that the run is finished. On this connection, in this
+-- order, a greeting came, by a federate that is there, with the same files, once the run was finished; the challenge that was sent
+-- then says so and proves the coordinator's secret over that greeting and this connection's random bytes; and the federate's proof of
+-- the secret came, over the greeting and that challenge.
+pub record IsTold (key files : List ℕ) (calls : List CoordinatorCall) (greeting : Greeting) (challenge : Challenge) : Type 0 where
+  pub before : List CoordinatorCall
+  pub bytes : List ℕ
+  pub random : List ℕ
+  pub allowed : List Bool
+  pub between : List CoordinatorCall
+  pub behind : List CoordinatorCall
+  pub in_order : calls ≡ before ++ greets bytes random allowed true ∷ (between ++ proves (federate_proof key greeting challenge) ∷ behind)
+  pub is_greeting : greeting_of bytes ≡ Some greeting
+  pub same_files : greeting.files ≡ files
+  -- whether it might take part
+  pub is_allowed : Bool
+  pub is_there : slice_get allowed greeting.federate ≡ Some is_allowed
+  pub is_proved : challenge ≡ challenge_by key greeting Finished random
+  pub is_sent : sent_after (after_calls (waiting key files) before) bytes random allowed true ≡ Some (challenge_bytes challenge)
 
 -- How a federate with this key came to go on after its greeting: what came first is a challenge that says to go on, and proves the
 -- coordinator's secret over that greeting.

@@ -5,8 +5,8 @@ use Rattle.wires_greeting.specs.declared.answer.Answer.TheVariants.{GoOn, OtherF
 use Rattle.wires_greeting.specs.declared.greeting.Greeting.{Greeting}
 use Rattle.wires_greeting.specs.declared.challenge.Challenge.{Challenge}
 use Rattle.wires_greeting.specs.declared.coordinator_side.CoordinatorState.{CoordinatorState}
-use Rattle.wires_greeting.specs.declared.coordinator_side.CoordinatorState.TheVariants.{Waiting, Challenged, LetIn, Refused, OtherProtocol, NotProved}
-use Rattle.wires_greeting.specs.Answer.{is_go_on}
+use Rattle.wires_greeting.specs.declared.coordinator_side.CoordinatorState.TheVariants.{Waiting, Challenged, LetIn, Finishing, Told, Refused, OtherProtocol, NotProved}
+use Rattle.wires_greeting.specs.Answer.{is_go_on, is_finished}
 use Rattle.wires_greeting.specs.Message.{challenge_bytes, greeting_of}
 use Rattle.wires_greeting.specs.Proof.{federate_proof, challenge_by}
 
@@ -38,7 +38,10 @@ challenge_to side random allowed finished greeting =
 
 -- the state once this challenge was given to this greeting
 abbrev pub answered : Greeting → Challenge → CoordinatorState
-answered greeting challenge = if is_go_on challenge.answer then Challenged greeting challenge else Refused challenge.answer
+answered greeting challenge =
+    if is_go_on challenge.answer then Challenged greeting challenge
+    else if is_finished challenge.answer then Finishing greeting challenge
+    else Refused challenge.answer
 
 -- the state by the greeting that came, if what came is one
 abbrev pub greeted : Coordinator → (random : List ℕ) (allowed : List Bool) (finished : Bool) → Option Greeting → CoordinatorState
@@ -50,6 +53,8 @@ abbrev pub is_waiting : CoordinatorState → Bool
 is_waiting Waiting = true
 is_waiting (Challenged greeting challenge) = false
 is_waiting (LetIn greeting challenge) = false
+is_waiting (Finishing greeting challenge) = false
+is_waiting (Told greeting challenge) = false
 is_waiting (Refused answer) = false
 is_waiting OtherProtocol = false
 is_waiting NotProved = false
@@ -66,11 +71,14 @@ sent_after side bytes random allowed finished =
     then option_map (λ greeting. challenge_bytes (challenge_to side random allowed finished greeting)) (greeting_of bytes)
     else None
 
--- what these bytes make of a state: after a challenge the federate is let in, if they are its proof by this key
+-- what these bytes make of a state: after a challenge the federate is let in, or was told that the run is finished, if they are its
+-- proof by this key
 abbrev pub proved : (key proof : List ℕ) → CoordinatorState → CoordinatorState
 proved key proof Waiting = Waiting
 proved key proof (Challenged greeting challenge) = if bytes_eq proof (federate_proof key greeting challenge) then LetIn greeting challenge else NotProved
 proved key proof (LetIn greeting challenge) = LetIn greeting challenge
+proved key proof (Finishing greeting challenge) = if bytes_eq proof (federate_proof key greeting challenge) then Told greeting challenge else NotProved
+proved key proof (Told greeting challenge) = Told greeting challenge
 proved key proof (Refused answer) = Refused answer
 proved key proof OtherProtocol = OtherProtocol
 proved key proof NotProved = NotProved
@@ -84,6 +92,19 @@ abbrev pub let_in : CoordinatorState → Option ℕ
 let_in Waiting = None
 let_in (Challenged greeting challenge) = None
 let_in (LetIn greeting challenge) = Some greeting.federate
+let_in (Finishing greeting challenge) = None
+let_in (Told greeting challenge) = None
 let_in (Refused answer) = None
 let_in OtherProtocol = None
 let_in NotProved = None
+
+-- the federate that was told that the run is finished, if one was
+abbrev pub told : CoordinatorState → Option ℕ
+told Waiting = None
+told (Challenged greeting challenge) = None
+told (LetIn greeting challenge) = None
+told (Finishing greeting challenge) = None
+told (Told greeting challenge) = Some greeting.federate
+told (Refused answer) = None
+told OtherProtocol = None
+told NotProved = None

@@ -4,7 +4,7 @@ use Rattle.wires_greeting.specs.declared.greeting.Greeting.{Greeting}
 use Rattle.wires_greeting.specs.declared.challenge.Challenge.{Challenge}
 use Rattle.wires_greeting.specs.declared.federate_side.FederateState.{FederateState}
 use Rattle.wires_greeting.specs.declared.federate_side.FederateState.TheVariants.{Greeted, Proved, Refused, NotProved}
-use Rattle.wires_greeting.specs.Answer.{is_go_on}
+use Rattle.wires_greeting.specs.Answer.{is_go_on, wants_proof}
 use Rattle.wires_greeting.specs.Message.{challenge_of}
 use Rattle.wires_greeting.specs.Proof.{coordinator_proof, federate_proof}
 
@@ -27,10 +27,19 @@ is_proved side challenge = bytes_eq challenge.proof (coordinator_proof side.key 
 abbrev pub believed : Challenge → FederateState
 believed challenge = if is_go_on challenge.answer then Proved challenge else Refused challenge.answer
 
+-- the challenge that came, if what came is one that is proved
+abbrev pub proved_challenge : Federate → Option Challenge → Option Challenge
+proved_challenge side None = None
+proved_challenge side (Some challenge) = if is_proved side challenge then Some challenge else None
+
+-- the state by the proved challenge that came, if one came
+abbrev pub state_by : Option Challenge → FederateState
+state_by None = NotProved
+state_by (Some challenge) = believed challenge
+
 -- the state by the challenge that came, if what came is one
 abbrev pub challenged : Federate → Option Challenge → FederateState
-challenged side None = NotProved
-challenged side (Some challenge) = if is_proved side challenge then believed challenge else NotProved
+challenged side came = state_by (proved_challenge side came)
 
 -- whether the challenge is still to come
 abbrev pub is_greeted : FederateState → Bool
@@ -43,16 +52,11 @@ is_greeted NotProved = false
 abbrev pub after_challenge : Federate → List ℕ → Federate
 after_challenge side bytes = if is_greeted side.state then record side { state = challenged side (challenge_of bytes) } else side
 
--- what a side sends that has just come to this state: its proof, if it goes on
-abbrev pub sent_by : Federate → Option (List ℕ)
-sent_by side = proof_of side.state
-  where
-    proof_of : FederateState → Option (List ℕ)
-    proof_of Greeted = None
-    proof_of (Proved challenge) = Some (federate_proof side.key side.greeting challenge)
-    proof_of (Refused answer) = None
-    proof_of NotProved = None
+-- what a side sends to the proved challenge that came, if one came: its proof, where frames begin or the run is finished
+abbrev pub sent_to : Federate → Option Challenge → Option (List ℕ)
+sent_to side None = None
+sent_to side (Some challenge) = if wants_proof challenge.answer then Some (federate_proof side.key side.greeting challenge) else None
 
 -- what is sent once these bytes came
 abbrev pub sent_after : Federate → List ℕ → Option (List ℕ)
-sent_after side bytes = if is_greeted side.state then sent_by (after_challenge side bytes) else None
+sent_after side bytes = if is_greeted side.state then sent_to side (proved_challenge side (challenge_of bytes)) else None

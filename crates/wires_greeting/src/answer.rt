@@ -15,7 +15,7 @@ pub enum Answer {
 
 impl Answer {
     ghost use Rattle.std.specs.Prelude.{◌≡◌};
-    ghost use Rattle.wires_greeting.specs.Answer.{byte_of, answer_of, is_go_on};
+    ghost use Rattle.wires_greeting.specs.Answer.{byte_of, answer_of, is_go_on, is_finished, wants_proof};
 
     /// The byte that says it.
     pub fn byte(self) -> u8
@@ -49,5 +49,19 @@ impl Answer {
         ensures { result ≡ is_go_on self }
     {
         matches!(self, Answer::GoOn)
+    }
+
+    /// Whether it says that the run is finished.
+    pub fn is_finished(self) -> bool
+        ensures { result ≡ is_finished self }
+    {
+        matches!(self, Answer::Finished)
+    }
+
+    /// Whether the federate proves the secret behind it: where frames begin, and where it is told that the run is finished.
+    pub fn wants_proof(self) -> bool
+        ensures { result ≡ wants_proof self }
+    {
+        self.is_go_on() || self.is_finished()
     }
 }

@@ -22,7 +22,19 @@ pub enum CoordinatorState {
         greeting: Greeting,
         challenge: Challenge,
     },
-    /// It gave this answer, which isn't to go on. Once the challenge is sent, the connection is to be closed.
+    /// It heard this greeting and gave this challenge, which says that the run is finished. The federate's proof is still to come.
+    Finishing {
+        greeting: Greeting,
+        challenge: Challenge,
+    },
+    /// The federate of that greeting proved that it has the secret and heard this challenge: it was told that the run is finished. The
+    /// connection is to be closed.
+    Told {
+        greeting: Greeting,
+        challenge: Challenge,
+    },
+    /// It gave this answer, which is neither to go on nor that the run is finished. Once the challenge is sent, the connection is to be
+    /// closed.
     Refused(Answer),
     /// What came was no greeting of this protocol and version. The connection is to be closed, and nothing is to be said on it.
     OtherProtocol,
@@ -43,6 +55,11 @@ impl CoordinatorState {
                 greeting,
                 challenge,
             }
+        } else if challenge.answer.is_finished() {
+            CoordinatorState::Finishing {
+                greeting,
+                challenge,
+            }
         } else {
             CoordinatorState::Refused(challenge.answer)
         }
@@ -50,7 +67,7 @@ impl CoordinatorState {
 }
 
 /// The coordinator's side of one connection's greeting. Read as many bytes as a greeting has, hand them to `greeted` and send
-/// what it gives; then read as many bytes as a proof has, and hand them to `proved`.
+/// what it gives; then, where it is `Challenged` or `Finishing`, read as many bytes as a proof has, and hand them to `proved`.
 #[derive(Drop)]
 pub struct CoordinatorSide {
     key: Key,
@@ -67,8 +84,9 @@ impl Model for CoordinatorSide {
 }
 
 impl CoordinatorSide {
-    ghost use Rattle.std.specs.Prelude.{◌≡◌};
-    ghost use Rattle.wires_greeting.specs.Coordinator.{waiting, is_waiting, answer_to, challenge_to, after_greeting, sent_after, after_proof, let_in};
+    ghost use Rattle.std.specs.Prelude.{◌≡◌, bytes_eq};
+    ghost use Rattle.wires_greeting.specs.Proof.{federate_proof};
+    ghost use Rattle.wires_greeting.specs.Coordinator.{waiting, is_waiting, answer_to, challenge_to, after_greeting, sent_after, after_proof, let_in, told};
 
     /// The side of a coordinator that has these files, by their digest.
     pub fn new(key: Key, files: [u8; DIGEST_SIZE]) -> CoordinatorSide
@@ -94,6 +112,16 @@ impl CoordinatorSide {
     {
         match self.state {
             CoordinatorState::LetIn { greeting, .. } => Some(greeting.federate),
+            _ => None,
+        }
+    }
+
+    /// The federate that was told that the run is finished, once it has proved that it heard so.
+    pub fn told(&self) -> Option<u16>
+        ensures { result ≡ told self.now.state }
+    {
+        match self.state {
+            CoordinatorState::Told { greeting, .. } => Some(greeting.federate),
             _ => None,
         }
     }
@@ -127,20 +155,49 @@ impl CoordinatorSide {
     pub fn proved(&mut self, proof: &[u8; PROOF_SIZE])
         ensures { self.new ≡ after_proof self.old proof.now }
     {
-        if let CoordinatorState::Challenged {
-            greeting,
-            challenge,
-        } = self.state
-        {
-            self.state = if is_same(proof, &federate_proof(&self.key, &greeting, &challenge)) {
-                CoordinatorState::LetIn {
-                    greeting,
-                    challenge,
+        self.state = match self.state {
+            CoordinatorState::Challenged {
+                greeting,
+                challenge,
+            } => {
+                if self.is_proved(&greeting, &challenge, proof) {
+                    CoordinatorState::LetIn {
+                        greeting,
+                        challenge,
+                    }
+                } else {
+                    CoordinatorState::NotProved
                 }
-            } else {
-                CoordinatorState::NotProved
-            };
-        }
+            }
+            CoordinatorState::Finishing {
+                greeting,
+                challenge,
+            } => {
+                let is_told = self.is_proved(&greeting, &challenge, proof);
+                if is_told {
+                    CoordinatorState::Told {
+                        greeting,
+                        challenge,
+                    }
+                } else {
+                    CoordinatorState::NotProved
+                }
+            }
+            state => state,
+        };
+    }
+
+    // Whether this is the proof of a federate that said this greeting, and heard this challenge.
+    fn is_proved(
+        &self,
+        greeting: &Greeting,
+        challenge: &Challenge,
+        proof: &[u8; PROOF_SIZE],
+    ) -> bool
+        ensures { result ≡ bytes_eq proof.now (federate_proof self.now.key greeting.now challenge.now) }
+    {
+        let expected = federate_proof(&self.key, greeting, challenge);
+        is_same(proof, &expected)
     }
 
     fn is_waiting(&self) -> bool

@@ -14,7 +14,8 @@ pub enum FederateState {
     Greeted,
     /// The coordinator has the secret and said to go on. Once this side's proof is sent, frames begin.
     Proved(Challenge),
-    /// The coordinator has the secret and gave another answer. The connection is to be closed.
+    /// The coordinator has the secret and gave another answer. Once this side's proof is sent, if there is one, the connection is to be
+    /// closed.
     Refused(Answer),
     /// What came was no challenge, or wasn't proved: whoever answered has another secret, or answers another greeting. The
     /// connection is to be closed, and nothing that was said on it is to be believed.
@@ -23,16 +24,16 @@ pub enum FederateState {
 
 impl FederateState {
     ghost use Rattle.std.specs.Prelude.{◌≡◌};
-    ghost use Rattle.wires_greeting.specs.Federate.{believed};
+    ghost use Rattle.wires_greeting.specs.Federate.{state_by};
 
-    // The state by a challenge that is proved.
-    fn by_proved(challenge: &Challenge) -> FederateState
-        ensures { result ≡ believed challenge.now }
+    // The state by the proved challenge that came, if one came.
+    fn by_proved(challenge: Option<Challenge>) -> FederateState
+        ensures { result ≡ state_by challenge }
     {
-        if challenge.answer.is_go_on() {
-            FederateState::Proved(*challenge)
-        } else {
-            FederateState::Refused(challenge.answer)
+        match challenge {
+            Some(challenge) if challenge.answer.is_go_on() => FederateState::Proved(challenge),
+            Some(challenge) => FederateState::Refused(challenge.answer),
+            None => FederateState::NotProved,
         }
     }
 }
@@ -57,7 +58,7 @@ impl Model for FederateSide {
 impl FederateSide {
     ghost use Rattle.std.specs.Prelude.{◌≡◌};
     ghost use Rattle.wires_greeting.specs.Message.{greeting_bytes, challenge_of};
-    ghost use Rattle.wires_greeting.specs.Federate.{begun, is_greeted, is_proved, challenged, after_challenge, sent_by, sent_after};
+    ghost use Rattle.wires_greeting.specs.Federate.{begun, is_greeted, is_proved, proved_challenge, after_challenge, sent_to, sent_after};
 
     /// The side of a federate that says this greeting, whose random bytes are new for this connection.
     pub fn new(key: Key, greeting: Greeting) -> FederateSide
@@ -84,7 +85,8 @@ impl FederateSide {
         self.state
     }
 
-    /// Takes the coordinator's challenge, and gives what to send then: the proof, if frames begin. A second one changes nothing.
+    /// Takes the coordinator's challenge, and gives what to send then: the proof, if frames begin, or the run is finished.
+    /// A second one changes nothing.
     pub fn challenged(&mut self, message: &[u8; CHALLENGE_SIZE]) -> Option<[u8; PROOF_SIZE]>
         ensures side { self.new ≡ after_challenge self.old message.now }
         ensures sent { result ≡ sent_after self.old message.now }
@@ -92,8 +94,10 @@ impl FederateSide {
         if !self.is_greeted() {
             return None;
         }
-        self.state = self.state_by(message);
-        self.proof()
+        let challenge = self.proved_challenge(message);
+        let proof = self.proof_to(challenge);
+        self.state = FederateState::by_proved(challenge);
+        proof
     }
 
     fn is_greeted(&self) -> bool
@@ -102,13 +106,13 @@ impl FederateSide {
         matches!(self.state, FederateState::Greeted)
     }
 
-    // The state once this message came.
-    fn state_by(&self, message: &[u8; CHALLENGE_SIZE]) -> FederateState
-        ensures { result ≡ challenged self.now (challenge_of message.now) }
+    // The challenge that this message is, if it is one that is proved.
+    fn proved_challenge(&self, message: &[u8; CHALLENGE_SIZE]) -> Option<Challenge>
+        ensures { result ≡ proved_challenge self.now (challenge_of message.now) }
     {
         match Challenge::read(message) {
-            Some(challenge) if self.is_proved(&challenge) => FederateState::by_proved(&challenge),
-            _ => FederateState::NotProved,
+            Some(challenge) if self.is_proved(&challenge) => Some(challenge),
+            _ => None,
         }
     }
 
@@ -125,13 +129,13 @@ impl FederateSide {
         is_same(&challenge.proof, &proof)
     }
 
-    // This side's proof, if it goes on.
-    fn proof(&self) -> Option<[u8; PROOF_SIZE]>
-        ensures { result ≡ sent_by self.now }
+    // This side's proof, if the proved challenge that came wants one.
+    fn proof_to(&self, challenge: Option<Challenge>) -> Option<[u8; PROOF_SIZE]>
+        ensures { result ≡ sent_to self.now challenge }
     {
-        match &self.state {
-            FederateState::Proved(challenge) => {
-                Some(federate_proof(&self.key, &self.greeting, challenge))
+        match challenge {
+            Some(challenge) if challenge.answer.wants_proof() => {
+                Some(federate_proof(&self.key, &self.greeting, &challenge))
             }
             _ => None,
         }

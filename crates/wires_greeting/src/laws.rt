@@ -9,7 +9,7 @@ ghost use Rattle.wires_greeting.specs.Message.{greeting_bytes, greeting_of, chal
 ghost use Rattle.wires_greeting.specs.Proof.{coordinator_said, federate_said, federate_proof, challenge_by};
 ghost use Rattle.wires_greeting.specs.Federate as federate;
 ghost use Rattle.wires_greeting.specs.Coordinator as coordinator;
-ghost use Rattle.wires_greeting.specs.Calls.{CoordinatorCall, after_calls, after_challenges, IsLetIn, GoesOn, BelievesRefusal};
+ghost use Rattle.wires_greeting.specs.Calls.{CoordinatorCall, after_calls, after_challenges, IsLetIn, IsTold, GoesOn, BelievesRefusal};
 
 use crate::coordinator_side::CoordinatorState;
 use crate::federate_side::FederateState;
@@ -19,6 +19,12 @@ use crate::sizes::{CHALLENGE_SIZE, GREETING_SIZE, RANDOM_SIZE};
 /// the same, and the federate is there.
 pub fn lets_in_by_both_proofs()
     ensures { (key files : List ℕ) (calls : List CoordinatorCall) (g : Greeting) (c : Challenge) → (after_calls (coordinator.waiting key files) calls).state ≡ CoordinatorState.LetIn g c → IsLetIn key files calls g c }
+{}
+
+/// A federate counts as told that the run is finished only where both sides proved the secret over all that this connection said, the
+/// files are the same, the federate is there, and the run is finished.
+pub fn tells_by_both_proofs()
+    ensures { (key files : List ℕ) (calls : List CoordinatorCall) (g : Greeting) (c : Challenge) → (after_calls (coordinator.waiting key files) calls).state ≡ CoordinatorState.Told g c → IsTold key files calls g c }
 {}
 
 /// A federate goes on only where the coordinator proved the secret over this connection's greeting, and says so.
@@ -40,6 +46,17 @@ pub fn honest_sides_go_on()
         federate.sent_after (federate.begun key g) (challenge_bytes (challenge_by key g Answer.GoOn random)) ≡ Some (federate_proof key g (challenge_by key g Answer.GoOn random)) }
     ensures let_in { (key files random : List ℕ) (allowed : List Bool) (g : Greeting) → IsGreeting g → g.files ≡ files → slice_get allowed g.federate ≡ Some true →
         (coordinator.after_proof (coordinator.after_greeting (coordinator.waiting key files) (greeting_bytes g) random allowed false) (federate_proof key g (challenge_by key g Answer.GoOn random))).state ≡ CoordinatorState.LetIn g (challenge_by key g Answer.GoOn random) }
+{}
+
+/// A federate is told that the run is finished, and counts as told, where both have the same key and the same files, the federate is
+/// there, and all that is said comes as it was said.
+pub fn honest_federates_are_told()
+    ensures challenge { (key files random : List ℕ) (allowed : List Bool) (g : Greeting) (is_allowed : Bool) → IsGreeting g → g.files ≡ files → slice_get allowed g.federate ≡ Some is_allowed →
+        coordinator.sent_after (coordinator.waiting key files) (greeting_bytes g) random allowed true ≡ Some (challenge_bytes (challenge_by key g Answer.Finished random)) }
+    ensures proof { (key random : List ℕ) (g : Greeting) → length random ≡ RANDOM_SIZE →
+        federate.sent_after (federate.begun key g) (challenge_bytes (challenge_by key g Answer.Finished random)) ≡ Some (federate_proof key g (challenge_by key g Answer.Finished random)) }
+    ensures told { (key files random : List ℕ) (allowed : List Bool) (g : Greeting) (is_allowed : Bool) → IsGreeting g → g.files ≡ files → slice_get allowed g.federate ≡ Some is_allowed →
+        (coordinator.after_proof (coordinator.after_greeting (coordinator.waiting key files) (greeting_bytes g) random allowed true) (federate_proof key g (challenge_by key g Answer.Finished random))).state ≡ CoordinatorState.Told g (challenge_by key g Answer.Finished random) }
 {}
 
 /// What one side proves on one connection is never what the other proves, or what is proved on a connection on which anything

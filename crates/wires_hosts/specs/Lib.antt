@@ -4,6 +4,8 @@ pub mod DialFault
 pub mod BackOff
 -- What is to come next on a connection that came to the coordinator.
 pub mod Next
+-- What is drawn at random.
+pub mod Draw
 -- Whose Hello a frame is.
 pub mod Hello
 -- How long nothing was heard.

@@ -1,4 +1,5 @@
 //! The worker that lets federates' processes in, for the coordinator's.
+use crate::draw::drawn;
 use crate::heard::Heard;
 use crate::heard_transport::HeardTransport;
 use crate::pending_host::{HostState, PendingHost, Terms};
@@ -17,7 +18,8 @@ use wires_transports::{Accepted, Acceptor, Cut, Deadline, Ending, TcpCut, TcpTra
 // Connections that are taken from the listener in a row, at most.
 const AT_ONCE: usize = 64;
 
-/// Connections that aren't let in so far, at most. Of more the oldest are given up.
+/// Connections that aren't let in so far, at most. Of more some are given up, drawn at random: however many strangers connect, each
+/// connection of a federate has its chance to be let in.
 pub const PENDING_MOST: usize = 128;
 
 /// To a federate's reader.
@@ -38,10 +40,8 @@ pub struct HostEntrance {
 /// Lets federates' processes in that have the secret and the same files. Each one's connection goes to its reader, with its Hello, and
 /// the older one, if there is one, is ended. What fails the greeting is closed without an event, and what is silent keeps nobody
 /// else waiting. Once the run is to end, readers get no more connections, and what they haven't read to the end a second later is
-/// ended. Where the run is finished, whoever asks then is told so, until all federates were or the patience is over.
-///
-/// That a federate was told is said by whoever greets in its name, without a proof: so anybody who can connect can have the
-/// coordinator end before its patience is over.
+/// ended. Where the run is finished, whoever asks then is told so, until all federates were, each of which proved it by the secret, or
+/// the patience is over.
 #[derive(Drop)]
 pub struct HostAcceptor<'a, S: RandomSource> {
     random: &'a S,
@@ -133,7 +133,7 @@ fn let_in_until<'a, R: Wait + Clock, S: RandomSource>(
         if ending.is_set() {
             break;
         }
-        let has_come = accept_some(rt, entrance, &mut pending);
+        let has_come = accept_some(rt, entrance, terms.random, &mut pending);
         if has_come || !pending.is_empty() || !are_all_there(current) {
             calm = Deadline::after(rt, CALM_AFTER_MS);
         }
@@ -160,7 +160,7 @@ fn tell_all<R: Wait + Clock, S: RandomSource>(
         if heard.are_all_told() || patience.has_passed(rt) {
             break;
         }
-        if !accept_some(rt, entrance, &mut pending) {
+        if !accept_some(rt, entrance, terms.random, &mut pending) {
             thread::sleep(rt, Duration::from_millis(PAUSE_MS));
         }
         pending = listen_to(rt, alloc, terms, heard, pending, &[], &mut []);
@@ -186,9 +186,14 @@ fn pause(is_calm: bool) -> u64 {
     if is_calm { CALM_PAUSE_MS } else { PAUSE_MS }
 }
 
-// Takes connections that came to those that are pending, and gives up the oldest where these are too many; whether one came. One
+// Takes connections that came to those that are pending, and gives some of them up where these are too many; whether one came. One
 // for which there is no memory is closed.
-fn accept_some<R: Clock>(rt: &R, entrance: &HostEntrance, pending: &mut Vec<PendingHost>) -> bool {
+fn accept_some<R: Clock, S: RandomSource>(
+    rt: &R,
+    entrance: &HostEntrance,
+    random: &S,
+    pending: &mut Vec<PendingHost>,
+) -> bool {
     let mut has_come = false;
     for _ in 0..AT_ONCE {
         let Ok((stream, _)) = entrance.listener.accept() else {
@@ -198,10 +203,22 @@ fn accept_some<R: Clock>(rt: &R, entrance: &HostEntrance, pending: &mut Vec<Pend
         if let Ok(host) = PendingHost::new(rt, stream, entrance.key, entrance.files) {
             let _ = pending.push(host);
         }
+        if pending.len() > PENDING_MOST {
+            give_up_one(random, pending);
+        }
     }
-    let too_many = pending.len().saturating_sub(PENDING_MOST);
-    pending.drain(..too_many);
     has_come
+}
+
+// Gives up one of those that are pending, drawn at random; the oldest where there are no random bytes.
+fn give_up_one<S: RandomSource>(random: &S, pending: &mut Vec<PendingHost>) {
+    let mut bytes = [0; 8];
+    if random.fill_bytes(&mut bytes).is_err() {
+        bytes = [0; 8];
+    }
+    if let Some(place) = drawn(bytes, pending.len()) {
+        pending.remove(place);
+    }
 }
 
 // Listens to all that are pending; those that are pending still. What is not let in is closed, and so is what there is no memory

@@ -12,7 +12,9 @@ use std::random::RandomSource;
 use std::sync::Wait;
 use std::time::{Clock, Duration};
 use std::{io, thread};
-use wires_greeting::{CHALLENGE_SIZE, DIGEST_SIZE, FederateSide, Greeting, Key, RANDOM_SIZE};
+use wires_greeting::{
+    CHALLENGE_SIZE, DIGEST_SIZE, FederateSide, FederateState, Greeting, Key, RANDOM_SIZE,
+};
 use wires_transports::tcp::connection;
 use wires_transports::times::{CONNECT_MS, PAUSE_MS, SILENCE_MS};
 use wires_transports::{Connection, Deadline, Dial, Ending, TcpCut, TcpTransport};
@@ -176,7 +178,11 @@ fn exchange<R: Wait, M: Clock>(
     stream.write_all(&side.message()).ok()?;
     let challenge = answer(rt, clock, stream, ending)?;
     if let Some(proof) = side.challenged(&challenge) {
-        stream.write_all(&proof).ok()?;
+        let is_sent = stream.write_all(&proof).is_ok();
+        // That the run is finished stands, whether or not the coordinator hears that it came.
+        if !is_sent && matches!(side.state(), FederateState::Proved(_)) {
+            return None;
+        }
     }
     Some(())
 }

@@ -1,6 +1,6 @@
 ghost use Rattle.std.specs.Prelude.{◌≡◌};
 
-use wires_greeting::{Answer, CoordinatorState};
+use wires_greeting::CoordinatorState;
 
 /// What is to come next on a connection that came to the coordinator.
 #[derive(Clone, Copy, Debug, PartialEq, Eq)]
@@ -11,24 +11,22 @@ pub enum Next {
     Proof,
     /// The first frame.
     Hello,
-    /// The end, of whoever said to be this federate and was told that the run is finished.
-    End(u16),
 }
 
 impl Next {
     ghost use Rattle.wires_hosts.specs.Next.{next_by};
 
-    /// What is next by where the coordinator's side of a greeting came to, which named this federate. None where nothing is: the
-    /// connection is to be closed.
-    pub fn by_state(state: &CoordinatorState, greeter: u16) -> Option<Next>
-        ensures { result ≡ next_by state.now greeter }
+    /// What is next by where the coordinator's side of a greeting came to. None where nothing is: the connection is to be closed.
+    pub fn by_state(state: &CoordinatorState) -> Option<Next>
+        ensures { result ≡ next_by state.now }
     {
         match state {
             CoordinatorState::Waiting => Some(Next::Greeting),
             CoordinatorState::Challenged { .. } => Some(Next::Proof),
+            CoordinatorState::Finishing { .. } => Some(Next::Proof),
             CoordinatorState::LetIn { .. } => Some(Next::Hello),
-            CoordinatorState::Refused(Answer::Finished) => Some(Next::End(greeter)),
-            CoordinatorState::Refused(_)
+            CoordinatorState::Told { .. }
+            | CoordinatorState::Refused(_)
             | CoordinatorState::OtherProtocol
             | CoordinatorState::NotProved => None,
         }

@@ -1,11 +1,11 @@
 //! A connection that came to the coordinator, and isn't let in so far.
 ghost use Rattle.std.specs.Prelude.{◌≡◌, ℕ, Some};
-ghost use Rattle.wires_greeting.specs.Coordinator.{let_in};
+ghost use Rattle.wires_greeting.specs.Coordinator.{let_in, told};
 
 use crate::heard::Heard;
 use crate::heard_transport::HeardTransport;
 use crate::hello::is_hello_of;
-use crate::incoming::{HELLO_SIZE, Incoming, read_now};
+use crate::incoming::{HELLO_SIZE, Incoming};
 use crate::next::Next;
 use signal::FrameReader;
 use std::alloc::Global;
@@ -14,9 +14,7 @@ use std::io::Write;
 use std::net::TcpStream;
 use std::random::RandomSource;
 use std::time::Clock;
-use wires_greeting::{
-    CoordinatorSide, DIGEST_SIZE, GREETING_SIZE, Greeting, Key, PROOF_SIZE, RANDOM_SIZE,
-};
+use wires_greeting::{CoordinatorSide, DIGEST_SIZE, GREETING_SIZE, Key, PROOF_SIZE, RANDOM_SIZE};
 use wires_transports::tcp::connection;
 use wires_transports::times::SILENCE_MS;
 use wires_transports::{Accepted, Deadline, TcpCut, TcpTransport};
@@ -28,7 +26,7 @@ pub(crate) enum HostState {
     NotYet,
     /// It was let in, and its first frame is the Hello of its federate.
     Hello(u16),
-    /// Whoever said to be this federate was told that the run is finished, and closed its side.
+    /// This federate was told that the run is finished, and proved that it heard so.
     Told(u16),
     /// It isn't let in: the connection is to be closed.
     Closed,
@@ -80,7 +78,8 @@ impl PendingHost {
         alloc: Global,
         terms: &Terms<'_, S>,
     ) -> HostState
-        ensures { (federate : ℕ) → result ≡ HostState.Hello federate → let_in self.new.side.state ≡ Some federate }
+        ensures let_in { (federate : ℕ) → result ≡ HostState.Hello federate → let_in self.new.side.state ≡ Some federate }
+        ensures told { (federate : ℕ) → result ≡ HostState.Told federate → told self.new.side.state ≡ Some federate }
     {
         match self.take(alloc, terms) {
             None => HostState::Closed,
@@ -112,53 +111,56 @@ impl PendingHost {
 
     // Takes what has come of what is next. None where the connection is to be closed.
     fn take<S: RandomSource>(&mut self, alloc: Global, terms: &Terms<'_, S>) -> Option<HostState>
-        ensures { (federate : ℕ) → result ≡ Some (HostState.Hello federate) → let_in self.new.side.state ≡ Some federate }
+        ensures let_in { (federate : ℕ) → result ≡ Some (HostState.Hello federate) → let_in self.new.side.state ≡ Some federate }
+        ensures told { (federate : ℕ) → result ≡ Some (HostState.Told federate) → told self.new.side.state ≡ Some federate }
     {
         match self.next {
             Next::Greeting => {
                 self.take_greeting(terms)?;
                 Some(HostState::NotYet)
             }
-            Next::Proof => {
-                self.take_proof()?;
-                Some(HostState::NotYet)
-            }
+            Next::Proof => self.take_proof(),
             Next::Hello => self.take_hello(alloc),
-            Next::End(federate) => self.take_end(federate),
         }
     }
 
-    // Once the greeting is whole, the challenge is sent. Where that is to be the last, its sender's end is next.
+    // Once the greeting is whole, the challenge is sent.
     fn take_greeting<S: RandomSource>(&mut self, terms: &Terms<'_, S>) -> Option<()> {
         if self.incoming.read(&mut self.stream, GREETING_SIZE)? {
             let mut random = [0; RANDOM_SIZE];
             terms.random.fill_bytes(&mut random).ok()?;
             let message = self.incoming.greeting();
-            let greeter = Greeting::read(message)?.federate;
             let challenge = self
                 .side
                 .greeted(message, &random, terms.allowed, terms.is_finished)?;
             self.stream.write_all(&challenge).ok()?;
-            self.next = Next::by_state(&self.side.state(), greeter)?;
+            self.next = Next::by_state(&self.side.state())?;
             self.incoming = Incoming::new();
         }
         Some(())
     }
 
-    // Once the proof is whole, the federate is let in or not.
-    fn take_proof(&mut self) -> Option<()> {
-        if self.incoming.read(&mut self.stream, PROOF_SIZE)? {
-            self.side.proved(&self.incoming.proof());
-            self.side.let_in()?;
-            self.next = Next::Hello;
-            self.incoming = Incoming::new();
+    // Once the proof is whole, the federate is let in or was told that the run is finished, or neither.
+    fn take_proof(&mut self) -> Option<HostState>
+        ensures let_in { (federate : ℕ) → result ≡ Some (HostState.Hello federate) → let_in self.new.side.state ≡ Some federate }
+        ensures told { (federate : ℕ) → result ≡ Some (HostState.Told federate) → told self.new.side.state ≡ Some federate }
+    {
+        if !self.incoming.read(&mut self.stream, PROOF_SIZE)? {
+            return Some(HostState::NotYet);
         }
-        Some(())
+        self.side.proved(&self.incoming.proof());
+        if let Some(federate) = self.side.told() {
+            return Some(HostState::Told(federate));
+        }
+        self.next = Next::by_state(&self.side.state())?;
+        self.incoming = Incoming::new();
+        Some(HostState::NotYet)
     }
 
     // The first frame is a Hello of the federate that was let in, or nothing more is read.
     fn take_hello(&mut self, alloc: Global) -> Option<HostState>
-        ensures { (federate : ℕ) → result ≡ Some (HostState.Hello federate) → let_in self.new.side.state ≡ Some federate }
+        ensures let_in { (federate : ℕ) → result ≡ Some (HostState.Hello federate) → let_in self.new.side.state ≡ Some federate }
+        ensures told { (federate : ℕ) → result ≡ Some (HostState.Told federate) → told self.new.side.state ≡ Some federate }
     {
         let federate = self.side.let_in()?;
         if !self.incoming.read(&mut self.stream, HELLO_SIZE)? {
@@ -168,17 +170,6 @@ impl PendingHost {
             Some(HostState::Hello(federate))
         } else {
             None
-        }
-    }
-
-    // Whoever was told that the run is finished has nothing more to say than the end.
-    fn take_end(&mut self, federate: u16) -> Option<HostState>
-        ensures { (other : ℕ) → result ≡ Some (HostState.Hello other) → let_in self.new.side.state ≡ Some other }
-    {
-        match read_now(&mut self.stream, &mut [0]).ok()? {
-            None => Some(HostState::NotYet),
-            Some(0) => Some(HostState::Told(federate)),
-            Some(_) => None,
         }
     }
 }

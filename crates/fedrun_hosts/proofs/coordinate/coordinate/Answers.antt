@@ -1,4 +1,4 @@
-use Rattle.std.proofs.Common.{◌≡◌, true, arith}
+use Rattle.std.proofs.Common.{◌≡◌, true, arith, string_bytes}
 use Rattle.node_cores.specs.CoordinatorCore.{coordinator_core}
 use Rattle.fedrun_reports.specs.Said.{by_coordinator}
 use Rattle.fedrun_commands.proofs.Results.{on_ok_always}
@@ -8,7 +8,7 @@ use Rattle.fedrun_hosts.proofs.coordinate.coordinate.Goals as goal
 
 pub returns-in-Ok-save_report : goal.returns-in-Ok-save_report
 returns-in-Ok-save_report g c =
-    let journal = c.into_parts-journal.result.1.items in
+    let journal = c.into_parts-journal.result.1 in
     let desk = c.in-Ok-run_listening.desk in
     let says : coordinator_core.finished desk.station.node ≡ true =
     grind (arith, c.station.ensures, c.node.ensures, c.finished-is_finished.ensures, c.if-is_finished.true) in
@@ -17,7 +17,8 @@ returns-in-Ok-save_report g c =
     on_ok_always c.say_finished.result (
       journal,
       finished,
-      saves_report (g.F.Files.contents c.args.files.now) c.args.node.now c.in-Ok.loaded.digests (by_coordinator journal) (g.D.Disk.contents c.args.disk.now)
-          (g.D.Disk.contents c.load.new.disk) (g.D.Disk.contents c.save_report.new.disk) c.in-Ok.ensures.digests c.in-Ok.ensures.same
-          c.in-Ok-save_report.ensures.saved,
+      saves_report (g.F.Files.contents c.args.files.now) c.args.node.now c.in-Ok.loaded.sources c.in-Ok.loaded.digests (by_coordinator journal)
+          (string_bytes c.in-Ok-reserve_report.temporary) (g.D.Disk.contents c.args.disk.now) (g.D.Disk.contents c.reserve_report.new.disk)
+          (g.D.Disk.contents c.save_report.new.disk) c.in-Ok.ensures.sources c.in-Ok.ensures.digests c.in-Ok-reserve_report.ensures.other
+          c.in-Ok-reserve_report.ensures.reserved c.in-Ok-save_report.ensures.saved,
     )

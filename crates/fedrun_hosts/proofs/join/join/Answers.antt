@@ -1,18 +1,15 @@
-use Rattle.fedrun_reports.specs.Said.{by_federate}
+use Rattle.std.proofs.Common.{◌≡◌, ◌∙◌, Some, ap, sym, rules, string_bytes}
 use Rattle.fedrun_commands.proofs.Results.{on_ok_always}
-use Rattle.fedrun_hosts.proofs.Saved.{saves_report}
+use Rattle.fedrun_hosts.proofs.Saved.{has_joined}
 use Rattle.fedrun_hosts.proofs.join.join.Goals as goal
 
 pub returns-in-None : goal.returns-in-None
 returns-in-None g c =
     let federate = c.from.result in
     let rows = c.into_rows.result in
-    let journal = c.into_parts-station.result.1.items in
-    on_ok_always c.say_finished.result (
-      federate,
-      rows,
-      journal,
-      saves_report (g.F.Files.contents c.args.files.now) c.args.node.now c.in-Ok.loaded.digests (by_federate federate rows journal)
-          (g.D.Disk.contents c.args.disk.now) (g.D.Disk.contents c.load.new.disk) (g.D.Disk.contents c.save_report.new.disk) c.in-Ok.ensures.digests
-          c.in-Ok.ensures.same c.in-Ok-save_report.ensures.saved,
-    )
+    let journal = c.into_parts-station.result.1 in
+    let same : federate ≡ c.in-Some.number = search rules in
+    on_ok_always c.say_finished.result (has_joined (g.F.Files.contents c.args.files.now) c.args.node.now c.args.name.now c.in-Ok.loaded.sources c.in-Ok.loaded.digests federate rows journal
+    (string_bytes c.in-Ok-reserve_report.temporary) (g.D.Disk.contents c.args.disk.now) (g.D.Disk.contents c.reserve_report.new.disk) (g.D.Disk.contents c.save_report.new.disk)
+    (c.in-Some.ensures ∙ ap (λ x. Some x) (sym same)) c.in-Ok.ensures.sources c.in-Ok.ensures.digests c.in-Ok-reserve_report.ensures.other c.in-Ok-reserve_report.ensures.reserved
+    c.in-Ok-save_report.ensures.saved)
