@@ -92,7 +92,7 @@ fn recorded(
     ensures err { IfErr result (IsUndrawn world.now) }
 {
     refuse_too_long(world)?;
-    let Ok(steps) = world.steps_after(0) else {
+    let Ok(steps) = world.steps().after(0) else {
         return Err(DrawFault::Memory);
     };
     let history = history_of(alloc, plan, programs, inputs, steps.as_slice())?;
@@ -139,7 +139,7 @@ fn refuse_too_long(world: &World<'_>) -> Result<(), DrawFault>
     ensures ok { OnOk result (IsWithin world.now) }
     ensures err { IfErr result (IsUndrawn world.now) }
 {
-    let steps = world.step_count();
+    let steps = world.steps().len();
     if steps > MOST_STEPS {
         return Err(DrawFault::TooManySteps(steps));
     }

@@ -1,5 +1,5 @@
 //! The steps that a schedule makes, each with its line.
-ghost use Rattle.std.specs.Prelude.{◌≡◌, ◌≤◌, ◌++◌, length, drop, IfOk, OnOk};
+ghost use Rattle.std.specs.Prelude.{◌≡◌, ◌++◌, drop, IfOk, OnOk};
 ghost use Rattle.plan.specs.External.{AreInputsOf};
 ghost use Rattle.reactor_programs.specs.Programs.{AreProgramsOf};
 ghost use Rattle.fedrun_replay.specs.Play.{made_for, count_in, tasks_of};
@@ -62,7 +62,7 @@ fn make_line(
 ) -> Result<(), ReplayFault>
     ensures { OnOk result (ListsTasks line.number (tasks_of (count_in player.old) line.command) player.old player.new made.old.items made.new.items) }
 {
-    let before = player.world().step_count();
+    let before = player.world().steps().len();
     let mut unread = sink();
     player.obey(&mut unread, line)?;
     match list(made, line.number, player.world(), before) {
@@ -95,7 +95,7 @@ fn make_closing_rounds(
 ) -> Result<(), ReplayFault>
     ensures { OnOk result (ListsRounds line most player.old made.old.items made.new.items) }
 {
-    let before = player.world().step_count();
+    let before = player.world().steps().len();
     let mut unread = sink();
     player.close(&mut unread, line, most, &NoProgress)?;
     match list(made, line, player.world(), before) {
@@ -111,10 +111,9 @@ fn list(
     world: &World<'_>,
     before: usize,
 ) -> Result<(), Memory>
-    requires { before ≤ length world.now.steps }
     ensures { OnOk result (made.new.items ≡ made.old.items ++ made_for line (drop before world.now.steps)) }
 {
-    let rest = world.steps_after(before)?;
+    let rest = world.steps().after(before)?;
     add_each(made, line, rest.as_slice())
 }
 

@@ -86,7 +86,7 @@ impl<'a> Player<'a> {
     {
         for line in lines {
             self.obey(out, *line)?;
-            progress.steps(self.world.step_count());
+            progress.steps(self.world.steps().len());
         }
         Ok(())
     }
@@ -106,7 +106,7 @@ impl<'a> Player<'a> {
                 return Ok(());
             }
             self.closing_round(out, line)?;
-            progress.steps(self.world.step_count());
+            progress.steps(self.world.steps().len());
         }
         Ok(())
     }

@@ -55,7 +55,7 @@ fn run_of(world: &World<'_>) -> Result<AuditedRun, Unproved>
     ensures ok { IfOk result (λ audited. (audited.steps.items ≡ world.now.steps) × (audited.is_finished ≡ coordinator_core.finished (stations_of world.now).coordinator.node)) }
     ensures memory { IfErr result (λ fault. fault ≡ Unproved.Memory) }
 {
-    match world.steps_after(0) {
+    match world.steps().after(0) {
         Ok(steps) => Ok(AuditedRun {
             steps,
             is_finished: world.finished(),

@@ -40,7 +40,7 @@ fn direction_marks(world: &World<'_>, dir: Dir) -> DirectionMarks {
 
 fn marks_of(world: &World<'_>) -> Marks {
     Marks {
-        steps: world.step_count(),
+        steps: world.steps().len(),
         rows: [row_count(world, 0), row_count(world, 1)],
         directions: [
             direction_marks(world, DIRECTIONS[0]),
@@ -136,9 +136,9 @@ fn opened(alloc: Global, federation: &Federation) -> Option<World<'_>> {
 
 /// A world's steps, at the second attempt where the first was out of memory.
 fn steps_of(world: &World<'_>) -> Option<Vec<Step>> {
-    match world.steps_after(0) {
+    match world.steps().after(0) {
         Ok(steps) => Some(steps),
-        Err(_) => world.steps_after(0).ok(),
+        Err(_) => world.steps().after(0).ok(),
     }
 }
 
@@ -159,25 +159,65 @@ fn makes_the_same_step_after_a_refusal(rt: HostRuntime) {
     assert_eq!(rt; plays_twice(rt.alloc()), Some(true));
 }
 
-/// Whether a step is refused, and isn't listed.
-fn is_refused(world: &mut World<'_>, step: Step) -> bool {
-    let before = world.step_count();
-    world.apply(step).is_err() && world.step_count() == before
+/// Steps of federates and frames that aren't there: with the greatest numbers that are kept in little memory, with greater ones, and
+/// with small ones behind these.
+const IDLE: [Step; 9] = [
+    Step::Announce(65_535),
+    Step::Deliver(Dir::Up(0), 4_294_967_295),
+    Step::Deliver(Dir::Down(1), 4_294_967_296),
+    Step::Advance(65_536),
+    Step::Resend(Dir::Up(65_536)),
+    Step::Reconnect(Dir::Down(4_294_967_296)),
+    Step::Forget(18_446_744_073_709_551_615),
+    Step::Announce(2),
+    Step::Deliver(Dir::Up(1), 3),
+];
+
+/// What comes of a step: at once, or where it was out of memory, the next time.
+fn outcome_of(world: &mut World<'_>, step: Step) -> Option<Outcome> {
+    match world.apply(step) {
+        Ok(outcome) => Some(outcome),
+        Err(_) => world.apply(step).ok(),
+    }
 }
 
-/// Whether steps with numbers that no world keeps are refused, and those with the greatest that it keeps are made.
-fn refuses_great_numbers(alloc: Global) -> Option<bool> {
+/// Whether these steps stand in a world, and no others, however they are read.
+fn has_listed(world: &World<'_>, steps: &[Step]) -> Option<bool> {
+    let listed = steps_of(world)?;
+    let mut is_so = listed.as_slice() == steps && world.steps().len() == steps.len();
+    for (place, step) in steps.iter().enumerate() {
+        is_so = is_so && world.steps().get(place) == Some(*step);
+    }
+    Some(is_so && world.steps().get(steps.len()).is_none())
+}
+
+/// Whether steps that don't apply do nothing and are listed, whatever their numbers.
+fn lists_idle_steps(alloc: Global) -> Option<bool> {
     let federation = loaded(alloc)?;
     let mut world = opened(alloc, &federation)?;
-    Some(
-        is_refused(&mut world, Step::Announce(1 << 16))
-            && is_refused(&mut world, Step::Deliver(Dir::Up(0), 1 << 32))
-            && makes(&mut world, Step::Announce((1 << 16) - 1))
-            && makes(&mut world, Step::Deliver(Dir::Up(0), (1 << 32) - 1)),
-    )
+    for step in IDLE {
+        if outcome_of(&mut world, step)? != Outcome::Nothing {
+            return Some(false);
+        }
+    }
+    has_listed(&world, &IDLE)
 }
 
 #[test]
-fn refuses_a_step_with_a_number_that_no_world_keeps(rt: HostRuntime) {
-    assert_eq!(rt; refuses_great_numbers(rt.alloc()), Some(true));
+fn lists_steps_that_do_not_apply_whatever_their_numbers(rt: HostRuntime) {
+    assert_eq!(rt; lists_idle_steps(rt.alloc()), Some(true));
+}
+
+/// Whether a federate that forgets behind such steps is known, and the other one has kept its state.
+fn sees_who_forgot(alloc: Global) -> Option<bool> {
+    let federation = loaded(alloc)?;
+    let mut world = opened(alloc, &federation)?;
+    outcome_of(&mut world, Step::Forget(4_294_967_296))?;
+    let forgotten = outcome_of(&mut world, Step::Forget(1))?;
+    Some(forgotten == Outcome::Done && world.kept(0) && !world.kept(1) && world.kept(2))
+}
+
+#[test]
+fn sees_who_forgot_behind_steps_with_great_numbers(rt: HostRuntime) {
+    assert_eq!(rt; sees_who_forgot(rt.alloc()), Some(true));
 }

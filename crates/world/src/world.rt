@@ -1,4 +1,4 @@
-ghost use Rattle.std.specs.Prelude.{◌≡◌, ℕ, ◌<◌, ◌≤◌, [], take, drop, length, option_map, slice_get, IsTrue, IfOk, OnOk, OnErr, ◌↔◌, ◌||◌};
+ghost use Rattle.std.specs.Prelude.{◌≡◌, ℕ, ◌<◌, [], take, length, option_map, slice_get, IsTrue, IfOk, OnOk, OnErr, ◌↔◌, ◌||◌};
 ghost use Rattle.link.specs.Image.{room_left};
 ghost use Rattle.plan.specs.External.{AreInputsOf};
 ghost use Rattle.plan.specs.Federation.{federate_count};
@@ -23,7 +23,7 @@ use reactor_programs::Programs;
 use signal::Frame;
 use std::alloc::Global;
 use std::marker::Model;
-use world_stations::{Dir, Memory, Outcome, Stations, Step};
+use world_stations::{Dir, MadeSteps, Memory, Outcome, Stations, Step};
 
 /// A world of a federation: its coordinator, its federates, and all frames that they ever sent. Contracts see what it was made
 /// from and the steps made: all else follows from them.
@@ -117,19 +117,11 @@ impl<'a> World<'a> {
         Ok(())
     }
 
-    /// How many steps were made: also those that were refused or didn't apply.
-    pub fn step_count(&self) -> usize
-        ensures { result ≡ length self.now.steps }
+    /// The steps made, oldest first: also those that were refused or didn't apply.
+    pub fn steps(&self) -> &MadeSteps
+        ensures { result.now.steps ≡ self.now.steps }
     {
-        self.stations.step_count()
-    }
-
-    /// The steps made after so many of the first, oldest first, in a list of their own.
-    pub fn steps_after(&self, before: usize) -> Result<Vec<Step>, Memory>
-        requires { before ≤ length self.now.steps }
-        ensures { IfOk result (λ steps. steps.items ≡ drop before self.now.steps) }
-    {
-        self.stations.steps_after(before)
+        self.stations.steps()
     }
 
     /// How many federates there are.

@@ -42,5 +42,5 @@ pub mod Ways
 pub mod Stepping
 -- What a federate that forgets makes of the world.
 pub mod Forgetting
--- Kept steps as the steps that they are.
+-- Small steps as the steps that they are.
 pub mod Made

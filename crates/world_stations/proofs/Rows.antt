@@ -1,7 +1,7 @@
 -- The rows of a federation's world are those of a run of the machine: a prefix of the undivided program's, and all of them where the world
 -- is finished or stuck.
 use Rattle.std.proofs.Common.{◌≡◌, ℕ, zero, suc, ◌+◌, ◌<◌, ◌≤◌, Bool, true, false, List, [], ◌∷◌, ◌++◌, length, drop, slice_get, refl, sym, ap, subst, ◌∙◌, arith, Option, None, Some, if◌then◌else◌}
-use Rattle.std.specs.Prelude.{nat_eq, not, ◌&&◌, ◌||◌, All}
+use Rattle.std.specs.Prelude.{nat_eq, not, ◌&&◌, All}
 use Rattle.std.specs.List.{list_any, AllByRecursion}
 use Rattle.std.proofs.lemmas.Bool.{eqb-true, lt-ltb, or_parts, eq-eqb, or_from}
 use Rattle.std.proofs.lemmas.List.{length-append}

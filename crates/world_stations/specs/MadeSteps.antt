@@ -1,13 +1,13 @@
 -- The steps that were made, as they are kept.
-use Rattle.std.specs.Prelude.{ℕ, List}
+use Rattle.std.specs.Prelude.{ℕ, ◌-◌, ◌^◌, min, List}
 use Rattle.world_stations.specs.declared.dir.Dir.TheVariants as dir
 use Rattle.world_stations.specs.declared.step.Step.{Step}
 use Rattle.world_stations.specs.declared.step.Step.TheVariants as step
-use Rattle.world_stations.specs.declared.made_steps.KeptStep.{KeptStep}
-use Rattle.world_stations.specs.declared.made_steps.KeptStep.TheVariants.{DeliverUp, DeliverDown, ResendUp, ResendDown, ReconnectUp, ReconnectDown, Announce, Advance, Forget}
+use Rattle.world_stations.specs.declared.made_steps.SmallStep.{SmallStep}
+use Rattle.world_stations.specs.declared.made_steps.SmallStep.TheVariants.{DeliverUp, DeliverDown, ResendUp, ResendDown, ReconnectUp, ReconnectDown, Announce, Advance, Forget}
 
--- the step that a kept one is
-abbrev pub shown : KeptStep → Step
+-- the step that a small one is
+abbrev pub shown : SmallStep → Step
 shown (DeliverUp j k) = step.Deliver (dir.Up j) k
 shown (DeliverDown j k) = step.Deliver (dir.Down j) k
 shown (ResendUp j) = step.Resend (dir.Up j)
@@ -17,6 +17,10 @@ shown (ReconnectDown j) = step.Reconnect (dir.Down j)
 shown (Announce j) = step.Announce j
 shown (Advance j) = step.Advance j
 shown (Forget j) = step.Forget j
+
+-- how many more are sure to take no memory, where so many are kept in two lists, and so many more have room in each
+abbrev pub spare_of : ℕ → ℕ → ℕ → ℕ
+spare_of kept room more = min (min room more) (2 ^ 64 - 1 - kept)
 
 -- steps, oldest first, and how many more take no memory
 pub record MadeView : Type 0 where

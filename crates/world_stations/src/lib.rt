@@ -19,7 +19,7 @@ mod blank;
 pub mod dir;
 mod directions;
 pub mod limits;
-mod made_steps;
+pub mod made_steps;
 pub mod memory;
 mod occurrence;
 pub mod outcome;
@@ -31,6 +31,7 @@ pub mod world_laws;
 
 pub use dir::Dir;
 pub use limits::LINK_ROOM;
+pub use made_steps::MadeSteps;
 pub use memory::Memory;
 pub use outcome::Outcome;
 pub use stations::Stations;

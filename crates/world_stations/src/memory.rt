@@ -3,7 +3,7 @@ ghost use Rattle.std.specs.Prelude.{◌≡◌};
 use std::alloc::{AllocError, AllocFailed};
 use std::fmt;
 
-/// No memory was to be had for a step, or it has a number that no world keeps: the world is as before that step.
+/// No memory was to be had for a step: the world is as before that step.
 #[derive(Clone, Copy, Debug, PartialEq, Eq)]
 pub struct Memory;
 

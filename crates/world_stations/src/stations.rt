@@ -1,4 +1,4 @@
-ghost use Rattle.std.specs.Prelude.{◌≡◌, ◌↔◌, ℕ, take, drop, ◌<◌, ◌≤◌, ◌++◌, ◌∷◌, [], true, false, length, set, slice_get, option_map, IsTrue, IfOk, IfSome, OnOk, OnErr, Some};
+ghost use Rattle.std.specs.Prelude.{◌≡◌, ◌↔◌, ℕ, take, ◌<◌, ◌≤◌, ◌++◌, ◌∷◌, [], true, false, length, set, slice_get, option_map, IsTrue, IfOk, IfSome, OnOk, OnErr, Some};
 ghost use Rattle.link.specs.Image.{room_left};
 ghost use Rattle.node.specs.Step.{Station as StationOf, said, step_of};
 ghost use Rattle.world_stations.specs.World.{applied, after_steps, occurrence_of, frames_in, frame_at, at_node, happens, forgets, listed, unchanged};
@@ -84,19 +84,11 @@ impl<H: Node, M: Blank> Stations<H, M> {
         })
     }
 
-    /// How many steps were made: also those that were refused or didn't apply.
-    pub fn step_count(&self) -> usize
-        ensures { result ≡ length self.now.steps }
+    /// The steps made, oldest first: also those that were refused or didn't apply.
+    pub fn steps(&self) -> &MadeSteps
+        ensures { result.now.steps ≡ self.now.steps }
     {
-        self.steps.count()
-    }
-
-    /// The steps made after so many of the first, oldest first, in a list of their own.
-    pub fn steps_after(&self, before: usize) -> Result<Vec<Step>, Memory>
-        requires { before ≤ length self.now.steps }
-        ensures { IfOk result (λ steps. steps.items ≡ drop before self.now.steps) }
-    {
-        self.steps.after(self.alloc, before)
+        &self.steps
     }
 
     /// Whether a federate kept its state through all steps.
@@ -256,13 +248,13 @@ impl<H: Node, M: Blank> Stations<H, M> {
         ensures done { IfOk result (λ outcome. record { world = self.new; outcome = outcome } ≡ listed step (at_node H.core M.core self.old NodeIds.Coordinator event)) }
         ensures unchanged { OnErr result (self.new ≡ self.old) }
     {
-        let kept = self.steps.reserve(step)?;
+        self.steps.reserve()?;
         self.spare = reserve_ahead(&mut self.down, self.most, self.spare)?;
         let reply = self.coordinator.step(event)?;
         let frames = frames_of(&reply);
         append_each(&mut self.down, frames);
         self.spare = self.spare.saturating_sub(frames.len());
-        self.steps.put(kept);
+        self.steps.put(step);
         Ok(outcome_of(&reply))
     }
 
@@ -274,11 +266,11 @@ impl<H: Node, M: Blank> Stations<H, M> {
         let Some(station) = station_at(&self.federates, federate) else {
             return self.pass(step);
         };
-        let kept = self.steps.reserve(step)?;
+        self.steps.reserve()?;
         reserve_first(&mut self.up, federate, station)?;
         let reply = step_at(&mut self.federates, federate, event)?;
         append_all(&mut self.up, federate, frames_of(&reply));
-        self.steps.put(kept);
+        self.steps.put(step);
         Ok(outcome_of(&reply))
     }
 

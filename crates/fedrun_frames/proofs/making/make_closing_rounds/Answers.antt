@@ -10,7 +10,7 @@ returns-in-Ok c =
     let later = c.close.new.self in
     let line = c.args.line in
     let made = c.args.made.now.items in
-    let old : c.step_count-before.result ≡ length v.world.steps = c.step_count-before.ensures ∙ ap (λ (w : WorldView). length w.steps) c.world.ensures in
+    let old : c.len-before.result ≡ length v.world.steps = c.len-before.ensures ∙ ap length c.steps.ensures ∙ ap (λ (w : WorldView). length w.steps) c.world.ensures in
     lists_rounds line c.args.most v later _ _ made c.list.new.made.items c.in_ok-close.ensures
     (c.in-Ok.ensures ∙ ap (λ n. made ++ made_for line (drop n c.world-2.result.now.steps)) old
     ∙ ap (λ (w : WorldView). made ++ made_for line (drop (length v.world.steps) w.steps)) c.world-2.ensures)

@@ -1,4 +1,4 @@
-use Rattle.std.proofs.Common.{sym, ap, length, ◌∙◌, ◌++◌, ◌∷◌, []}
+use Rattle.std.proofs.Common.{sym, length}
 use Rattle.node.specs.Step.{said}
 use Rattle.world_stations.specs.Room.{frames_of_each}
 use Rattle.world_stations.proofs.Stepping.{coordinator_fits, has_spare, reserved_after, after_coordinator_step}
@@ -24,4 +24,4 @@ returns-clause-done g c =
     (frames_of_each c.self.inside.down.items) (frames_of_each c.reserve_ahead.new.sent.items) (frames_of_each c.append_each.new.sent.items)
     c.self.inside.steps.steps c.reserve.new.self.steps c.put.new.self.steps c.args.event c.args.step (said c.in_ok-reply.reply)
     c.frames_of-frames.result.now c.outcome_of.result (sym c.self.view_is) c.self.invariant.0.is_coordinator c.in_ok-reply.ensures.ended c.frames_of-frames.ensures
-    c.reserve_ahead.ensures.frames c.append_each.ensures.frames c.reserve.ensures.steps (c.put.ensures ∙ ap (λ made. c.reserve.new.self.steps ++ made ∷ []) c.in_ok-kept.ensures.kept) c.outcome_of.ensures
+    c.reserve_ahead.ensures.frames c.append_each.ensures.frames c.reserve.ensures.steps c.put.ensures c.outcome_of.ensures

@@ -1,4 +1,4 @@
-use Rattle.std.proofs.Common.{◌≡◌, sym, ap, ◌∙◌, ◌++◌, ◌∷◌, [], Some, slice_get}
+use Rattle.std.proofs.Common.{◌≡◌, sym, Some, slice_get}
 use Rattle.node.specs.Step.{said}
 use Rattle.world_stations.specs.Room.{frames_of_each}
 use Rattle.world_stations.proofs.Stepping.{federate_fits, has_one, still_world, after_federate_step}
@@ -26,5 +26,5 @@ returns-clause-done g c =
     (frames_of_each c.self.inside.up.items) (frames_of_each c.reserve_first.new.sent.items) (frames_of_each c.append_all.new.sent.items) (frames_of_each c.self.inside.down.items)
     c.self.inside.steps.steps c.reserve.new.self.steps c.put.new.self.steps c.args.federate c.in-Some.station.now c.args.event c.args.step (said c.in_ok-reply.reply)
     c.frames_of.result.now c.outcome_of.result (sym c.self.view_is) c.self.invariant.0.is_federate found (c.in_ok-reply.ensures.said c.in-Some.station.now found)
-    (c.in_ok-reply.ensures.stepped c.in-Some.station.now found) c.frames_of.ensures c.reserve_first.ensures.frames c.append_all.ensures c.reserve.ensures.steps (c.put.ensures ∙ ap (λ made. c.reserve.new.self.steps ++ made ∷ []) c.in_ok-kept.ensures.kept)
+    (c.in_ok-reply.ensures.stepped c.in-Some.station.now found) c.frames_of.ensures c.reserve_first.ensures.frames c.append_all.ensures c.reserve.ensures.steps c.put.ensures
     c.outcome_of.ensures
