@@ -114,13 +114,18 @@ fn node<'a>(given: &ArgMatches<'a>, address: &str) -> Option<NodeRequest<'a>> {
         federation: given.get_str("FED")?,
         inputs: given.get_str("IN")?,
         address: given.get_str(address)?.parse::<SocketAddr>().ok()?,
-        report: given.get_str("report")?,
+        report: name(given.get_str("report")?)?,
         secret: given.get_str("secret"),
         patience: match given.get_str("patience") {
             Some(seconds) => Some(count(seconds)?),
             None => None,
         },
     })
+}
+
+/// A file's name, which has a letter at least.
+fn name(text: &str) -> Option<&str> {
+    if text.is_empty() { None } else { Some(text) }
 }
 
 /// The version of frames that a federate writes.

@@ -13,8 +13,9 @@ pub record IsWritten (name bytes : List ℕ) (before now : Contents) : Type 0 wh
   pub bytes_are : now name ≡ Some bytes
   pub others : SameBut name before now
 
--- the file that had the one name has the other
+-- the file that had the one name has the other, which none had before
 pub record IsRenamed (from to : List ℕ) (before now : Contents) : Type 0 where
+  pub was_free : before to ≡ None
   pub moved : now to ≡ before from
   pub gone : now from ≡ None
   pub others : SameButTwo from to before now

@@ -1,4 +1,4 @@
-ghost use Rattle.std.specs.Prelude.{◌≡◌, ◌≢◌, ◌↔◌, ℕ, List, [], Option, None, IsTrue, IsSome, IfOk, IfErr, IfSome, OnOk, OnErr};
+ghost use Rattle.std.specs.Prelude.{◌≡◌, ◌≢◌, ◌↔◌, ℕ, List, [], Option, None, false, IsTrue, IsSome, IfOk, IfErr, IfSome, OnOk, OnErr};
 ghost use Rattle.fedrun_saving.specs.Contents.{KnownOf, SameBut};
 ghost use Rattle.fedrun_saving.specs.Saved.{IsCreated, IsWritten, IsRenamed};
 ghost use Rattle.fedrun_saving.specs.Fault.{is_of_writing};
@@ -35,11 +35,12 @@ pub trait Disk {
         ensures others { OnErr result (KnownOf (contents self.old) (contents self.new) (SameBut name.now)) }
         ensures fault { IfErr result (λ fault. IsTrue (is_of_writing fault)) };
 
-    /// Gives a file another name, under which there is no other any more, at once: whoever looks finds the one or the other there.
+    /// Gives a file another name, under which there is none before, at once: of several that are to get the same name one gets it.
     fn rename(&mut self, from: &str, to: &str) -> Result<(), SaveFault>
         requires { from.now ≢ to.now }
         ensures renamed { OnOk result (KnownOf (contents self.old) (contents self.new) (IsRenamed from.now to.now)) }
-        ensures fault { IfErr result (λ fault. fault ≡ CannotRename) }
+        ensures fault { IfErr result (λ fault. is_of_writing fault ≡ false) }
+        ensures there { result ≡ Err exists_already → IfSome (contents self.old) (λ files. IsSome (files to.now)) }
         ensures same { OnErr result (contents self.new ≡ contents self.old) };
 
     /// Removes the file of this name, if that can be done.

@@ -1,6 +1,6 @@
 ghost use Rattle.std.specs.Prelude.{◌≡◌, ◌≢◌};
 ghost use Rattle.std.specs.IoError.{error_kind};
-ghost use Rattle.fedrun_saving.specs.declared.save_fault.SaveFault.TheVariants.{Exists as exists_already, CannotCreate as cannot_create};
+ghost use Rattle.fedrun_saving.specs.declared.save_fault.SaveFault.TheVariants.{Exists as exists_already, CannotCreate as cannot_create, CannotRename as cannot_rename};
 
 use crate::disk::Disk;
 use crate::save_fault::SaveFault;
@@ -8,17 +8,18 @@ use std::fs::{File, OpenFile};
 use std::io::{ErrorKind, Write};
 use std::{fs, io, rt};
 
-/// The machine's files.
+/// The machine's files. It writes into the file alone that it made last, whatever has that file's name by then.
 #[derive(Drop)]
-pub struct MachineDisk<'a, R> {
+pub struct MachineDisk<'a, R: rt::Files> {
     rt: &'a R,
+    made: Option<R::File>,
 }
 
-impl<'a, R> MachineDisk<'a, R> {
+impl<'a, R: rt::Files> MachineDisk<'a, R> {
     pub fn new(rt: &'a R) -> MachineDisk<'a, R>
         ensures { result.rt ≡ rt.entry }
     {
-        MachineDisk { rt }
+        MachineDisk { rt, made: None }
     }
 }
 
@@ -36,18 +37,23 @@ impl<R: rt::Files> Disk for MachineDisk<'_, R> {
         let file = File::create_new(self.rt, name).map_err(|error| fault_of(&error))?;
         file.sync_all().map_err(|_| SaveFault::CannotSync)?;
         let _ = sync_folder(self.rt, folder_of(name));
+        self.made = Some(file);
         Ok(())
     }
 
-    fn write(&mut self, name: &str, bytes: &[u8]) -> Result<(), SaveFault> {
-        let mut file = File::create(self.rt, name).map_err(|_| SaveFault::CannotWrite)?;
+    fn write(&mut self, _name: &str, bytes: &[u8]) -> Result<(), SaveFault> {
+        let Some(file) = &mut self.made else {
+            return Err(SaveFault::CannotWrite);
+        };
         file.write_all(bytes).map_err(|_| SaveFault::CannotWrite)?;
         file.sync_all().map_err(|_| SaveFault::CannotSync)
     }
 
-    // Where the folder can't be synced, a machine that stops may have the older file again, which is whole too.
+    // A link is refused where there is something of the name; a renaming would replace it. Where the older name can't be removed or the
+    // folder can't be synced, the file has both names, or the older one again: it is whole under either.
     fn rename(&mut self, from: &str, to: &str) -> Result<(), SaveFault> {
-        fs::rename(self.rt, from, to).map_err(|_| SaveFault::CannotRename)?;
+        fs::hard_link(self.rt, from, to).map_err(|error| unlinked(&error))?;
+        self.remove(from);
         let _ = sync_folder(self.rt, folder_of(to));
         Ok(())
     }
@@ -66,6 +72,18 @@ fn fault_of(error: &io::Error) -> SaveFault
         SaveFault::Exists
     } else {
         SaveFault::CannotCreate
+    }
+}
+
+// Why a file doesn't get a name, where the machine has this error.
+fn unlinked(error: &io::Error) -> SaveFault
+    ensures there { error_kind error.now ≡ ErrorKind.AlreadyExists → result ≡ exists_already }
+    ensures other { error_kind error.now ≢ ErrorKind.AlreadyExists → result ≡ cannot_rename }
+{
+    if error.kind() == ErrorKind::AlreadyExists {
+        SaveFault::Exists
+    } else {
+        SaveFault::CannotRename
     }
 }
 

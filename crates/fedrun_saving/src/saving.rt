@@ -54,11 +54,7 @@ pub fn save<D: Disk>(
         Ok(()) => {}
         Err(why) => return Err(why),
     }
-    match disk.exists(name) {
-        Ok(false) => disk.rename(temporary, name),
-        Ok(true) => Err(SaveFault::Exists),
-        Err(why) => Err(why),
-    }
+    disk.rename(temporary, name)
 }
 
 /// The name of the temporary file that is written first for a file of this name. It stands in the same folder.

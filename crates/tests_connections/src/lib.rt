@@ -7,6 +7,8 @@
 #[cfg(test)]
 mod attempts;
 #[cfg(test)]
+mod bounded;
+#[cfg(test)]
 mod fused;
 #[cfg(test)]
 mod greetings;

@@ -18,6 +18,28 @@ fn secrets_have_16_to_4096_bytes(rt: HostRuntime) -> Result<(), Fail> {
     Ok(())
 }
 
+/// With zeros behind it a key has the same proofs: sixteen zeros would be as no secret.
+#[test]
+fn zeros_at_the_end_of_a_secret_are_not_counted(rt: HostRuntime) -> Result<(), Fail> {
+    let mut bytes = [0; 4096];
+    for length in [16, 64, 65, 4096] {
+        assert_eq!(rt;
+            fault_at(&bytes[..length]),
+            Some(SecretFault::TooShort),
+            "{length}"
+        );
+    }
+    bytes[14] = 7;
+    assert_eq!(rt; fault_at(&bytes), Some(SecretFault::TooShort));
+    bytes[15] = 7;
+    assert_eq!(rt; fault_at(&bytes), None);
+    assert_eq!(rt; fault_at(&bytes[..16]), None);
+    bytes[15] = 0;
+    bytes[4095] = 7;
+    assert_eq!(rt; fault_at(&bytes), None);
+    Ok(())
+}
+
 fn needs_a_secret(address: IpAddr) -> bool {
     matches!(Key::without_secret(&address), Err(SecretFault::Missing))
 }

@@ -90,7 +90,9 @@ impl Disk for MemoryDisk {
         if self.fails(Operation::Rename) {
             return Err(SaveFault::CannotRename);
         }
-        self.remove(to);
+        if self.file(to).is_some() {
+            return Err(SaveFault::Exists);
+        }
         for (known, _) in &mut self.files {
             if known.as_str() == from {
                 let Ok(name) = String::from_str(self.alloc, to) else {

@@ -112,7 +112,6 @@ fn leaves_all_as_it_was_where_a_name_is_not_reserved(rt: HostRuntime) {
 const UNSAVED: &[(SaveFault, &[u8])] = &[
     (SaveFault::CannotWrite, PART),
     (SaveFault::CannotSync, NEW),
-    (SaveFault::CannotLook, NEW),
     (SaveFault::CannotRename, NEW),
 ];
 

@@ -49,23 +49,46 @@ fn saves<R: rt::Files + AllocGlobal>(rt: &R) -> bool {
         && is_removed
 }
 
-/// Whether a temporary file that is there stays as it is, and a file of the name too that came behind it.
+/// Whether a temporary file that another made stays as it is, also where it is to be written.
 fn leaves_another<R: rt::Files + AllocGlobal>(rt: &R) -> bool {
     let is_written = fs::write(rt, TEMPORARY, "another's").is_ok();
     let mut disk = MachineDisk::new(rt);
     let refused = reserved(rt.alloc(), &mut disk, NAME);
+    let answer = saved(rt.alloc(), &mut disk, NAME, b"bytes");
     let is_left = holds(rt, TEMPORARY, "another's") && text(rt, NAME).is_none();
+    let is_removed = fs::remove_file(rt, TEMPORARY).is_ok();
+    is_written
+        && refused == Some(Err(ReserveFault::TemporaryTaken))
+        && answer == Some(Err(SaveFault::CannotWrite))
+        && is_left
+        && is_removed
+}
+
+/// Whether a file that got the name behind its reservation stays as it is, and the temporary one has all bytes.
+fn leaves_a_later_one<R: rt::Files + AllocGlobal>(rt: &R) -> bool {
+    let mut disk = MachineDisk::new(rt);
+    let first = reserved(rt.alloc(), &mut disk, NAME);
     let has_come = fs::write(rt, NAME, "behind").is_ok();
     let answer = saved(rt.alloc(), &mut disk, NAME, b"bytes");
     let are_left = holds(rt, NAME, "behind") && holds(rt, TEMPORARY, "bytes");
     let are_removed = fs::remove_file(rt, TEMPORARY).is_ok() && fs::remove_file(rt, NAME).is_ok();
-    is_written
-        && refused == Some(Err(ReserveFault::TemporaryTaken))
-        && is_left
+    first == Some(Ok(()))
         && has_come
         && answer == Some(Err(SaveFault::Exists))
         && are_left
         && are_removed
+}
+
+/// Whether nothing is written into what got the temporary file's name, and so neither into what a link there names.
+fn writes_into_its_own<R: rt::Files + AllocGlobal>(rt: &R) -> bool {
+    let mut disk = MachineDisk::new(rt);
+    let first = reserved(rt.alloc(), &mut disk, NAME);
+    let is_replaced = fs::remove_file(rt, TEMPORARY).is_ok()
+        && fs::write(rt, TEMPORARY, "theirs").is_ok();
+    let written = disk.write(TEMPORARY, b"bytes");
+    let is_left = holds(rt, TEMPORARY, "theirs");
+    let is_removed = fs::remove_file(rt, TEMPORARY).is_ok();
+    first == Some(Ok(())) && is_replaced && written == Ok(()) && is_left && is_removed
 }
 
 /// Whether it can't be looked for a file below another file.
@@ -96,6 +119,8 @@ fn refuses<R: rt::Files + AllocGlobal>(rt: &R) -> bool {
 fn saves_on_the_machines_disk(rt: HostRuntime) {
     assert!(rt; saves(&rt));
     assert!(rt; leaves_another(&rt));
+    assert!(rt; leaves_a_later_one(&rt));
+    assert!(rt; writes_into_its_own(&rt));
     assert!(rt; refuses(&rt));
     assert!(rt; cannot_look(&rt));
 }

@@ -115,10 +115,12 @@ impl Disk for MemoryDisk {
         if self.fails == Some(SaveFault::CannotRename) {
             return Err(SaveFault::CannotRename);
         }
+        if self.place_of(to).is_some() {
+            return Err(SaveFault::Exists);
+        }
         let Some(file) = self.take(from) else {
             return Err(SaveFault::CannotRename);
         };
-        self.take(to);
         match self.put(to, &file.bytes) {
             Some(()) => Ok(()),
             None => Err(SaveFault::CannotRename),

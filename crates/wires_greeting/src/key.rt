@@ -1,3 +1,6 @@
+ghost use Rattle.std.specs.Prelude.{◌≡◌, nat_eq, not};
+ghost use Rattle.std.specs.List.{list_any};
+
 use crate::hmac::{BLOCK_SIZE, block_of_key, hmac_of_parts};
 use crate::sizes::PROOF_SIZE;
 use std::marker::Model;
@@ -12,7 +15,8 @@ pub const MOST_SECRET: usize = 4096;
 /// Why there is no key.
 #[derive(Clone, Copy, Debug, PartialEq, Eq)]
 pub enum SecretFault {
-    /// The secret has fewer than 16 bytes: whoever gave it makes a longer one.
+    /// The secret has fewer than 16 bytes, not counting zeros at its end, with which a key has the same proofs: whoever gave it makes
+    /// a longer one.
     TooShort,
     /// The secret has more than 4,096 bytes: it is likely another file than was meant.
     TooLong,
@@ -52,6 +56,9 @@ impl Key {
         if secret.len() > MOST_SECRET {
             return Err(SecretFault::TooLong);
         }
+        if !has_more_than_zeros(&secret[LEAST_SECRET - 1..]) {
+            return Err(SecretFault::TooShort);
+        }
         Ok(Key {
             block: block_of_key(secret),
         })
@@ -75,4 +82,17 @@ impl Key {
     {
         hmac_of_parts(&self.block, first, second, third)
     }
+}
+
+// Whether one of these bytes isn't zero.
+fn has_more_than_zeros(bytes: &[u8]) -> bool
+    ensures { result ≡ list_any (λ byte. not (nat_eq byte 0)) bytes.now }
+{
+    bytes.iter().any(|byte| is_more_than_zero(*byte))
+}
+
+fn is_more_than_zero(byte: u8) -> bool
+    ensures { result ≡ not (nat_eq byte 0) }
+{
+    byte != 0
 }

@@ -6,6 +6,7 @@ use crate::pending_host::{HostState, PendingHost, Terms};
 use crate::times::LONGEST_PATIENCE_MS;
 use crossbeam_channel::Sender;
 use std::alloc::{AllocError, Global};
+use std::io::ErrorKind;
 use std::net::TcpListener;
 use std::random::RandomSource;
 use std::sync::{Arc, Wait};
@@ -187,7 +188,8 @@ fn pause(is_calm: bool) -> u64 {
 }
 
 // Takes connections that came to those that are pending, and gives some of them up where these are too many; whether one came. One
-// for which there is no memory is closed.
+// for which there is no memory is closed. Where one can't be taken, as where no more files may be open, one that is pending is given
+// up for the next.
 fn accept_some<R: Clock, S: RandomSource>(
     rt: &R,
     entrance: &HostEntrance,
@@ -196,8 +198,14 @@ fn accept_some<R: Clock, S: RandomSource>(
 ) -> bool {
     let mut has_come = false;
     for _ in 0..AT_ONCE {
-        let Ok((stream, _)) = entrance.listener.accept() else {
-            break;
+        let stream = match entrance.listener.accept() {
+            Ok((stream, _)) => stream,
+            Err(error) => {
+                if error.kind() != ErrorKind::WouldBlock && !pending.is_empty() {
+                    give_up_one(random, pending);
+                }
+                break;
+            }
         };
         has_come = true;
         if let Ok(host) = PendingHost::new(rt, stream, entrance.key, entrance.files) {

@@ -6,9 +6,10 @@
 //!
 //! Promise to the layer above: a connection is handed on only where `wires_greeting` lets its federate in, and where its first
 //! frame is a Hello of that very federate (`specs/Hello`); a federate counts as told only where it proved so to `wires_greeting`. Of
-//! connections that are too many one is given up that is drawn at random (`specs/Draw`). What an attempt to connect came to is `specs/DialFault`, how long to
-//! wait before the next one `specs/BackOff`, and how long nothing was heard `specs/Silence`. A call over a connection fails only
-//! where it fails over what it is around. Nothing is said of when a call returns. Keys are made by `wires_greeting::Key` alone.
+//! connections that are too many one is given up that is drawn at random (`specs/Draw`). What an attempt to connect came to is
+//! `specs/DialFault`, how long to wait before the next one `specs/BackOff`, and how long nothing was heard `specs/Silence`. A call
+//! over a connection fails only where it fails over what it is around. Nothing is said of when a call returns. Keys are made by
+//! `wires_greeting::Key` alone.
 //!
 //! Begin with `heard`, which one process's threads share, then `host_dial` and `host_acceptor`.
 #![tactic(auto)]

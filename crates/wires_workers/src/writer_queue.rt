@@ -12,9 +12,10 @@
 //!
 //! Of the two locks the pen's is taken first, and the list's is never held over a send. Whoever put frames looks at the list once
 //! more, and where somebody else has the pen notifies the writer, which waits for it: so nothing stays that nobody looks at.
-ghost use Rattle.std.specs.Prelude.{◌≡◌, ◌<◌, None, Some, [], ◌++◌, ◌&&◌, not, is_some, if◌then◌else◌, OnOk, OnErr, IfOk, IfErr};
+ghost use Rattle.std.specs.Prelude.{◌≡◌, ◌↔◌, ◌+◌, ◌≤◌, length, IsTrue, ◌<◌, None, Some, [], ◌++◌, ◌&&◌, not, is_some, if◌then◌else◌, OnOk, OnErr, IfOk, IfErr};
 ghost use Rattle.wires_workers.specs.LoneAcks.{is_ack, are_acks, are_few_acks, is_left};
 ghost use Rattle.wires_workers.specs.Sending.{task_of, waits};
+ghost use Rattle.wires_workers.specs.declared.writer_queue.TheConstants.{WAITING_MOST};
 
 use crate::side::Side;
 use crate::writer::Writer;
@@ -31,6 +32,10 @@ use wires_transports::{Cut, Transport};
 
 /// So many Acks are sent without other frames at once.
 pub const ACKS_AT_ONCE: usize = 64;
+
+/// So many frames wait for a writer, at most: four times what an end keeps. A peer that greets over and over and doesn't read has the
+/// same signals put again with each Hello.
+pub const WAITING_MOST: usize = 16_384;
 
 // What a writer does next.
 #[derive(Drop)]
@@ -109,6 +114,14 @@ impl<T: Drop, C: Drop> Waiting<T, C> {
         ensures frames { self.new.frames.items ≡ self.old.frames.items }
     {
         self.peer = version;
+    }
+
+    // Whether so many more frames may wait.
+    fn has_room(&self, more: usize) -> bool
+        ensures { IsTrue result ↔ length self.now.frames.items + more ≤ WAITING_MOST }
+    {
+        let waiting = self.frames.len();
+        waiting <= WAITING_MOST && more <= WAITING_MOST - waiting
     }
 
     // More frames, behind all others, for a peer that is behind or not.
@@ -259,11 +272,14 @@ impl<T: Drop, C: Drop> WriterQueue<T, C> {
         waiting.hear(version);
     }
 
-    /// Puts frames behind those that wait. Where there is no memory for them, they are lost, as on a line that loses frames. Whether the
-    /// peer is behind is said of the frames that it hasn't acknowledged. They wait until `send` or the writer sends them.
+    /// Puts frames behind those that wait. Where there is no memory for them, or too many wait, they are lost, as on a line that loses
+    /// frames. Whether the peer is behind is said of the frames that it hasn't acknowledged. They wait until `send` or the writer sends
+    /// them.
     pub fn put<R: Wait>(&self, rt: &R, frames: &[Outgoing], is_behind: bool) {
         let mut waiting = self.waiting.lock(rt);
-        let _ = waiting.add(frames, is_behind);
+        if waiting.has_room(frames.len()) {
+            let _ = waiting.add(frames, is_behind);
+        }
     }
 
     /// Wakes the writer. Where there is no memory for it, the writer sees a little later by itself what it is asked.
