@@ -135,6 +135,25 @@ fn reads_a_false_file_as_nothing_but_itself(rt: HostRuntime) -> Result<(), Fail>
     Ok(())
 }
 
+/// Why a file of another version isn't read, whose digest fits.
+fn fault_of_version(alloc: Global, file: &[u8], change: u8) -> Option<ReadFault> {
+    let changed = false_file(alloc, file, 7, change)?;
+    fault(alloc, &changed)
+}
+
+#[test]
+fn refuses_a_file_of_another_version(rt: HostRuntime) -> Result<(), Fail> {
+    let file = worked(rt.alloc())?;
+    for change in 1..=255 {
+        assert_eq!(rt;
+            fault_of_version(rt.alloc(), &file, change),
+            Some(ReadFault::NoReport),
+            "{change}"
+        );
+    }
+    Ok(())
+}
+
 /// Why the file of the run isn't read as one of a run of these two.
 fn fault_of_others(alloc: Global, federation: &[u8], inputs: &[u8]) -> Option<ReadFault> {
     let file = worked(alloc).ok()?;
