@@ -1,10 +1,9 @@
 -- A list to which items of another one are added, from a place on.
-use Rattle.std.proofs.Common.{◌≡◌, ◌∙◌, sym, ap, refl, ℕ, zero, suc, ◌+◌, ◌-◌, ◌<◌, ◌≤◌, List, [], ◌∷◌, ◌++◌, length, take, drop, get_or, slice_get, Some, Bool, true, false, nat_lt, append_assoc, append-nil, length-drop, length-take-le, Option, None, MatchOption, arith}
+use Rattle.std.proofs.Common.{◌≡◌, ◌∙◌, sym, ap, refl, ℕ, zero, suc, ◌+◌, ◌-◌, ◌<◌, ◌≤◌, List, [], ◌∷◌, ◌++◌, length, take, drop, get_or, slice_get, Some, Bool, true, false, nat_lt, append_assoc, append-nil, take-add, drop-drop, length-drop, length-take-le, Option, None, MatchOption, arith}
 use Rattle.std.proofs.Math.Seq.{take-append_seam}
 use Rattle.std.proofs.lemmas.List.{length_push, take_all}
 use Rattle.std.proofs.lemmas.Bool.Decides.{nat_tests}
 use Rattle.std.proofs.lemmas.Option.{slice_get-get_or}
-use Rattle.journal.proofs.Places.{take_next}
 
 first_of_first : {X : Type 0} (less count : ℕ) (xs : List X) → less ≤ count → take less (take count xs) ≡ take less xs
 first_of_first zero count xs few = refl
@@ -25,14 +24,34 @@ none_added old other place from is =
     let n : from - place ≡ 0 = omega arith in
     sym (ap (λ k. old ++ take k (drop place other)) n ∙ append-nil old)
 
--- one more
-pub one_added : {X : Type 0} (old now next other : List X) (place from more : ℕ) (item : X) → now ≡ old ++ take (from - place) (drop place other) →
-    next ≡ now ++ item ∷ [] → place ≤ from → more ≡ from + 1 → from < length other → item ≡ get_or other from item → next ≡ old ++ take (more - place) (drop place other)
-one_added old now next other place from more item before is begun later within at =
-    let after : more - place ≡ suc (from - place) = omega arith in
-    let there : slice_get (drop place other) (from - place) ≡ Some item = get_dropped other place (from - place) from (omega arith) ∙ slice_get-get_or other from item within ∙ ap Some (sym at) in
-    is ∙ ap (λ l. l ++ item ∷ []) before ∙ append_assoc old (take (from - place) (drop place other)) (item ∷ [])
-    ∙ ap (λ l. old ++ l) (sym (take_next (drop place other) (from - place) item there)) ∙ ap (λ k. old ++ take k (drop place other)) (sym after)
+-- some more
+pub some_added : {X : Type 0} (old now next other : List X) (place from count : ℕ) → now ≡ old ++ take (from - place) (drop place other) →
+    next ≡ now ++ take count (drop from other) → place ≤ from → next ≡ old ++ take (from + count - place) (drop place other)
+some_added old now next other place from count before is begun =
+    let after : from + count - place ≡ (from - place) + count = omega arith in
+    let there : place + (from - place) ≡ from = omega arith in
+    let both : take ((from - place) + count) (drop place other) ≡ take (from - place) (drop place other) ++ take count (drop from other) =
+    take-add (from - place) count (drop place other)
+    ∙ ap (λ l. take (from - place) (drop place other) ++ take count l) (drop-drop (from - place) place other ∙ ap (λ n. drop n other) there) in
+    is ∙ ap (λ l. l ++ take count (drop from other)) before ∙ append_assoc old (take (from - place) (drop place other)) (take count (drop from other))
+    ∙ ap (λ l. old ++ l) (sym both) ∙ ap (λ k. old ++ take k (drop place other)) (sym after)
+
+-- the one at a place
+one_there : {X : Type 0} (xs : List X) (from : ℕ) (item : X) → from < length xs → item ≡ get_or xs from item → take 1 (drop from xs) ≡ item ∷ []
+one_there [] from item within at = absurd (omega arith)
+one_there (x ∷ xs) zero item within at = ap (λ y. y ∷ []) (sym at)
+one_there (x ∷ xs) (suc from) item within at = one_there xs from item (omega arith) at
+
+pub one_pushed : {X : Type 0} (old new other : List X) (from : ℕ) (item : X) → new ≡ old ++ item ∷ [] → from < length other → item ≡ get_or other from item →
+    new ≡ old ++ take 1 (drop from other)
+one_pushed old new other from item is within at = is ∙ ap (λ l. old ++ l) (sym (one_there other from item within at))
+
+-- lists that are the same at a place
+pub same_there : {X : Type 0} (xs ys : List X) (from k : ℕ) (x y : X) → from < length xs → from < length ys → x ≡ get_or xs from x → y ≡ get_or ys from y → x ≡ y →
+    from ≤ k → k < from + 1 → slice_get xs k ≡ slice_get ys k
+same_there xs ys from k x y within within' is is' same begun less =
+    let here : from ≡ k = omega arith in
+    ap (slice_get xs) (sym here) ∙ slice_get-get_or xs from x within ∙ ap Some (sym is ∙ same ∙ is') ∙ sym (slice_get-get_or ys from y within') ∙ ap (slice_get ys) here
 
 -- all that there are
 whole_added : {X : Type 0} (old now other : List X) (place from most : ℕ) → now ≡ old ++ take (from - place) (drop place other) → place ≤ from → from - place ≤ most →

@@ -1,5 +1,5 @@
 -- What a list has at a place, and one item more.
-use Rattle.std.proofs.Common.{◌≡◌, ◌∙◌, sym, ap, refl, ℕ, zero, suc, ◌+◌, ◌<◌, ◌≤◌, List, [], ◌∷◌, ◌++◌, length, take, get_or, slice_get, Option, None, Some, option_map, Bor, take-suc, arith}
+use Rattle.std.proofs.Common.{◌≡◌, ◌∙◌, sym, ap, ap₂, refl, ℕ, zero, suc, ◌+◌, ◌<◌, ◌≤◌, List, [], ◌∷◌, ◌++◌, length, take, get_or, slice_get, Option, None, Some, option_map, Bor, take-suc, arith}
 use Rattle.std.specs.Slice.{IsItemAt}
 use Rattle.std.proofs.lemmas.Option.{slice_get_within, slice_get_past, slice_get-get_or, get_or_from_slice_get}
 
@@ -40,3 +40,13 @@ some_at xs i x is = sym (get_or_from_slice_get xs i x x (sym is))
 pub lent_in : {X : Type 0} (xs : List X) (i : ℕ) (r : Option (Bor X)) → IsItemAt xs i r → option_map (λ (x : Bor X). x.now) r ≡ slice_get xs i
 lent_in xs i None is = sym (slice_get_past xs i is.3)
 lent_in xs i (Some x) is = sym (slice_get-get_or xs i x.now is.3.0 ∙ ap Some (sym is.1))
+
+-- lists that are as long, and the same at each place
+pub same_items : {X : Type 0} (xs ys : List X) → length xs ≡ length ys → ((k : ℕ) → k < length xs → slice_get xs k ≡ slice_get ys k) → xs ≡ ys
+same_items [] [] long same = refl
+same_items [] (y ∷ ys) long same = absurd (omega arith)
+same_items (x ∷ xs) [] long same = absurd (omega arith)
+same_items {X = X} (x ∷ xs) (y ∷ ys) long same =
+    let first : Some x ≡ Some y = same 0 (omega arith) in
+    let one : x ≡ y = grind (arith, first) in
+    ap₂ (λ (a : X) (l : List X). a ∷ l) one (same_items xs ys (omega arith) (λ k less. same (suc k) (omega (arith, less))))

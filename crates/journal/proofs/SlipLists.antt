@@ -1,5 +1,5 @@
 -- The slips of blocks, and one slip more or less.
-use Rattle.std.proofs.Common.{◌≡◌, ◌≢◌, ◌∙◌, sym, ap, ap₂, subst, refl, ℕ, zero, suc, ◌+◌, ◌-◌, ◌<◌, ◌≤◌, ◌^◌, Bool, true, false, nat_eq, nat_lt, nat_le, List, [], ◌∷◌, ◌++◌, length, take, set, get_or, slice_get, Option, Some, None, All, flat_map, length-append, append_assoc, append-nil, arith}
+use Rattle.std.proofs.Common.{◌≡◌, ◌≢◌, ◌∙◌, sym, ap, ap₂, subst, refl, ℕ, zero, suc, ◌+◌, ◌-◌, ◌<◌, ◌≤◌, ◌^◌, Bool, true, false, nat_lt, nat_le, List, [], ◌∷◌, ◌++◌, length, take, set, get_or, slice_get, Option, Some, None, length-append, append_assoc, append-nil, arith}
 use Rattle.std.proofs.lemmas.List.{length_push}
 use Rattle.std.proofs.Math.Seq.{take-length}
 use Rattle.std.proofs.lemmas.List.Elements.{All-nil, All-cons, All-head, All-tail, All-push}
@@ -239,3 +239,37 @@ none_by blocks place position k false test all none =
 pub none_anywhere : (blocks : List Placed) (place position : ℕ) → length blocks ≤ position → ((k : ℕ) → k < position → event_in blocks k place ≡ None) →
     (k : ℕ) → event_in blocks k place ≡ None
 none_anywhere blocks place position all none k = none_by blocks place position k (nat_lt k position) refl all none
+
+-- the slips of the block at a position, with those before it and behind it
+pub split_at : (blocks : List Placed) (position : ℕ) (placed : Placed) → slice_get blocks position ≡ Some placed →
+    (front : List Slip) × (back : List Slip) × (slips_of blocks ≡ front ++ (slips_at placed ++ back))
+split_at [] position placed is = let bad : ⊥ = grind arith in absurd bad
+split_at (first ∷ blocks) zero placed is =
+    let same : first ≡ placed = grind arith in
+    ([], slips_of blocks, ap (λ (p : Placed). slips_at p ++ slips_of blocks) same)
+split_at (first ∷ blocks) (suc position) placed is =
+    let rest = split_at blocks position placed is in
+    (slips_at first ++ rest.0, rest.1, ap (λ slips. slips_at first ++ slips) rest.2 ∙ sym (append_assoc (slips_at first) rest.0 (slips_at placed ++ rest.1)))
+
+-- those of a block that begins at a place
+pub split_from : (blocks : List Placed) (position place : ℕ) (placed : Placed) → slice_get blocks position ≡ Some placed → placed.place ≡ place →
+    (front : List Slip) × (back : List Slip) × (slips_of blocks ≡ front ++ (slips_from place placed.block ++ back))
+split_from blocks position place placed is same =
+    let split = split_at blocks position placed is in
+    (split.0, split.1, split.2 ∙ ap (λ (p : ℕ). split.0 ++ (slips_from p placed.block ++ split.1)) same)
+
+-- it has an event, as all have
+pub filled_at : (blocks : List Placed) (position : ℕ) (placed : Placed) → slice_get blocks position ≡ Some placed → AreFilled blocks → IsFilled placed
+filled_at [] position placed is filled = let bad : ⊥ = grind arith in absurd bad
+filled_at (first ∷ blocks) zero placed is filled =
+    let same : first ≡ placed = grind arith in
+    subst IsFilled same (All-head IsFilled first blocks filled)
+filled_at (first ∷ blocks) (suc position) placed is filled = filled_at blocks position placed is (All-tail IsFilled first blocks filled)
+
+-- how many slips there are, with a block more
+pub count_more : (slips more : List Slip) (place : ℕ) (events : List Event) → more ≡ slips ++ slips_from place events → length more ≡ length slips + length events
+count_more slips more place events is =
+    let both = length-append slips (slips_from place events) in
+    let long = slips_length place events in
+    let whole : length more ≡ length (slips ++ slips_from place events) = ap length is in
+    omega arith

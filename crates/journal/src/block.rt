@@ -1,9 +1,10 @@
-ghost use Rattle.std.specs.Prelude.{◌≡◌, ◌↔◌, ◌<◌, ◌++◌, ◌∷◌, [], true, false, List, length, take, slice_get, Some};
+ghost use Rattle.std.specs.Prelude.{◌≡◌, ◌↔◌, ◌<◌, ◌++◌, ◌∷◌, [], true, false, List, length, take, slice_get, Some, IfOk};
 ghost use Rattle.node.specs.declared.event.Event.{Event as IsEvent};
 
 use crate::batch::Batch;
 use crate::turns::{is_same, turn_event};
 use node::Event;
+use std::alloc::AllocError;
 use std::marker::Model;
 
 /// Events that came one after the other: the first ones of a batch, and turns behind them, an announcement and then an advance
@@ -41,6 +42,30 @@ impl Block {
             used: 1,
             turns: 0,
         }
+    }
+
+    // The same events, for one more who keeps them.
+    pub(crate) fn share(&self) -> Result<Block, AllocError>
+        ensures { IfOk result (λ block. block ≡ self.now) }
+    {
+        let batch = self.batch.share()?;
+        Ok(Block {
+            batch,
+            used: self.used,
+            turns: self.turns,
+        })
+    }
+
+    // Whether both keep as many of a batch, and turns: then they are the same where the batches are.
+    pub(crate) fn is_same(&self, other: &Block) -> bool
+        ensures { result ≡ true → self.now ≡ other.now }
+    {
+        self.used == other.used
+            && self.turns == other.turns
+            && are_same(
+                &self.batch.events()[..self.used],
+                &other.batch.events()[..other.used],
+            )
     }
 
     /// Its batch.
@@ -124,4 +149,19 @@ fn is_next(events: &[Event], place: usize, event: &Event) -> bool
         Some(next) => is_same(event, next),
         None => false,
     }
+}
+
+// Whether they are the same events.
+fn are_same(events: &[Event], others: &[Event]) -> bool
+    ensures { (result ≡ true) ↔ (events.now ≡ others.now) }
+{
+    if events.len() != others.len() {
+        return false;
+    }
+    for place in 0..events.len() {
+        if !is_same(&events[place], &others[place]) {
+            return false;
+        }
+    }
+    true
 }

@@ -1,10 +1,10 @@
-ghost use Rattle.std.specs.Prelude.{◌≡◌, ◌≢◌, ℕ, ◌++◌, ◌∷◌, [], true, false, None, Some, length, slice_get, IfOk, IfSome, MatchOption, OnOk, OnErr, List, take};
+ghost use Rattle.std.specs.Prelude.{◌≡◌, ◌≢◌, ℕ, ◌++◌, ◌∷◌, [], ◌<◌, true, false, None, Some, length, slice_get, IfOk, IfSome, MatchOption, OnOk, OnErr, List, take};
 ghost use Rattle.journal.specs.declared.slip.Slip.{Slip as IsSlip};
-ghost use Rattle.journal.specs.Slips.{AreFilled, slips_of};
+ghost use Rattle.journal.specs.Slips.{AreFilled, slips_from, slips_of};
 
 use crate::batch::Batch;
 use crate::block::Block;
-use crate::finding::find;
+use crate::finding::{event_in, find};
 use crate::placed::Placed;
 use crate::slip::Slip;
 use crate::turns::is_same;
@@ -109,6 +109,30 @@ impl Blocks {
         get(&self.blocks, place, near)
     }
 
+    // The block of this number, if its events are those from a place on.
+    pub(crate) fn block(&self, number: usize, place: usize) -> Option<&Block>
+        ensures some { IfSome result (λ block. 0 < length block.now) }
+        ensures there { IfSome result (λ block. (front : List IsSlip) × (back : List IsSlip) × (self.now ≡ front ++ (slips_from place block.now ++ back))) }
+    {
+        block_at(&self.blocks, number, place)
+    }
+
+    // Adds a block, whose events follow one another from a place on.
+    #[tactic(auto, using(crate::proofs::SlipLists::one_block, crate::proofs::SlipLists::count_more))]
+    pub(crate) fn add_block(&mut self, place: usize, block: Block) -> Result<(), AllocError>
+        requires { 0 < length block }
+        ensures added { OnOk result (self.new ≡ self.old ++ slips_from place block) }
+        ensures unchanged { OnErr result (self.new ≡ self.old) }
+    {
+        let count = block.len();
+        if count > usize::MAX - place || count > usize::MAX - self.count {
+            return Err(AllocError);
+        }
+        self.blocks.push(Placed { place, block })?;
+        self.count += count;
+        Ok(())
+    }
+
     /// How many blocks they are kept in.
     pub fn block_count(&self) -> usize {
         self.blocks.len()
@@ -117,6 +141,18 @@ impl Blocks {
     /// The batch of the block of this number.
     pub fn batch(&self, number: usize) -> Option<&Batch> {
         Some(self.blocks.get(number)?.block.batch())
+    }
+}
+
+// The block at a position, if its events are those from a place on.
+fn block_at(blocks: &[Placed], position: usize, place: usize) -> Option<&Block>
+    requires { AreFilled blocks.now }
+    ensures some { IfSome result (λ block. 0 < length block.now) }
+    ensures there { IfSome result (λ block. (front : List IsSlip) × (back : List IsSlip) × (slips_of blocks.now ≡ front ++ (slips_from place block.now ++ back))) }
+{
+    match blocks.get(position) {
+        Some(placed) if placed.place == place => Some(&placed.block),
+        _ => None,
     }
 }
 
@@ -213,9 +249,9 @@ fn get(blocks: &[Placed], place: usize, near: &mut usize) -> Option<Event>
     ensures none { result ≡ None → (k : ℕ) (slip : IsSlip) → slice_get (slips_of blocks.now) k ≡ Some slip → slip.place ≢ place }
 {
     match find(blocks, place, *near) {
-        Some((position, event)) => {
+        Some(position) => {
             *near = position;
-            Some(event)
+            event_in(blocks, position, place)
         }
         None => None,
     }

@@ -1,8 +1,9 @@
-ghost use Rattle.std.specs.Prelude.{◌≡◌, ℕ, ◌+◌, ◌<◌, ◌≤◌, ◌++◌, ◌∷◌, [], List, length, take, drop, get_or, slice_get, IfOk, MatchOption, OnOk, OnErr};
+ghost use Rattle.std.specs.Prelude.{◌≡◌, ◌≢◌, ℕ, ◌+◌, ◌<◌, ◌≤◌, ◌++◌, ◌∷◌, [], List, length, take, drop, get_or, slice_get, None, IfOk, IfSome, MatchOption, OnOk, OnErr};
 ghost use Rattle.node.specs.declared.event.Event.{Event as IsEvent};
 
 use crate::batch::Batch;
 use crate::blocks::Blocks;
+use crate::turns::is_same;
 use node::Event;
 use std::alloc::{AllocError, Global};
 use std::marker::Model;
@@ -140,11 +141,71 @@ impl Journal {
         ensures kept { take (length self.old) self.new ≡ self.old }
     {
         let end = end_of(place, most, other.len());
-        let mut block = 0;
-        for from in place..end {
-            self.push(&other.event(from, &mut block), other.batch(block))?;
+        let mut from = place;
+        let mut near = 0;
+        while from < end {
+            from += self.append_next(other, from, end - from, &mut near)?;
         }
         Ok(())
+    }
+
+    // Adds the block of another journal that begins at a place, if it has no more than so many events, and else the one event that is
+    // there; how many.
+    fn append_next(
+        &mut self,
+        other: &Journal,
+        from: usize,
+        most: usize,
+        near: &mut usize,
+    ) -> Result<usize, AllocError>
+        requires some { 0 < most }
+        requires there { from + most ≤ length other.now }
+        ensures added { IfOk result (λ count. self.new ≡ self.old ++ take count (drop from other.now)) }
+        ensures some { IfOk result (λ count. 0 < count) }
+        ensures few { IfOk result (λ count. count ≤ most) }
+        ensures unchanged { OnErr result (self.new ≡ self.old) }
+    {
+        let event = other.event(from, near);
+        match other.slips.block(*near, from) {
+            Some(block) if block.len() <= most => {
+                let count = block.len();
+                let place = self.len();
+                self.slips.add_block(place, block.share()?)?;
+                Ok(count)
+            }
+            _ => {
+                self.push(&event, other.batch(*near))?;
+                Ok(1)
+            }
+        }
+    }
+
+    /// How many events from a place on are surely those of another journal; none where the first isn't. They are looked for near
+    /// blocks, as in `get`: whole blocks are compared where both begin at the place.
+    pub fn same_from(
+        &self,
+        other: &Journal,
+        from: usize,
+        near: &mut usize,
+        near_other: &mut usize,
+    ) -> Option<usize>
+        requires there { from < length self.now }
+        requires other { from < length other.now }
+        ensures some { IfSome result (λ count. 0 < count) }
+        ensures few { IfSome result (λ count. from + count ≤ length self.now) }
+        ensures same { IfSome result (λ count. (k : ℕ) → from ≤ k → k < from + count → slice_get self.now k ≡ slice_get other.now k) }
+        ensures none { result ≡ None → slice_get self.now from ≢ slice_get other.now from }
+    {
+        if !is_same(&self.event(from, near), &other.event(from, near_other)) {
+            return None;
+        }
+        match (
+            self.slips.block(*near, from),
+            other.slips.block(*near_other, from),
+        ) {
+            (Some(block), Some(found)) if block.is_same(found) => Some(block.len()),
+            _ => Some(1),
+        }
     }
 
     // Takes off all events but the first ones, so many.

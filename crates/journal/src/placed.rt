@@ -1,4 +1,4 @@
-ghost use Rattle.std.specs.Prelude.{◌≡◌, ◌++◌, ◌∷◌, [], ◌<◌, List, length, true, false};
+ghost use Rattle.std.specs.Prelude.{◌≡◌, ◌++◌, ◌∷◌, [], ◌<◌, List, length, true, false, is_some};
 ghost use Rattle.journal.specs.declared.slip.Slip.{Slip as IsSlip};
 ghost use Rattle.journal.specs.Slips.{event_of, slips_at, IsFilled};
 
@@ -23,6 +23,13 @@ impl Placed {
         } else {
             None
         }
+    }
+
+    // Whether it has one there.
+    pub(crate) fn has(&self, place: usize) -> bool
+        ensures { result ≡ is_some (event_of self.now place) }
+    {
+        self.place <= place && place - self.place < self.block.len()
     }
 
     // Takes in the event of a place, if that is the next one and the block goes on with it; whether it is.

@@ -17,6 +17,15 @@ begins_so (e ∷ events) (f ∷ journal) len same =
     let rest = begins_so events journal (omega arith) (λ k less. same (suc k) (omega arith)) in
     (rest.0, grind (arith, first, rest.1))
 
+left_of : {X : Type 0} (xs ys : List X) (i : ℕ) → i < length xs → slice_get (xs ++ ys) i ≡ slice_get xs i
+left_of [] ys i less = absurd (omega arith)
+left_of (x ∷ xs) ys zero less = refl
+left_of (x ∷ xs) ys (suc i) less = left_of xs ys i (omega arith)
+
+-- a journal that begins with events has each of them at its place
+pub begins_at : (events journal : List Event) (k : ℕ) → k < length events → BeginsWith journal events → slice_get events k ≡ slice_get journal k
+begins_at events journal k less begins = sym (ap (λ (l : List Event). slice_get l k) begins.1 ∙ left_of events begins.0 k less)
+
 -- what is said of each of a list is said of the one at a place
 pub mapped_at : {X : Type 0} (f : X → List Event) (xs : List X) (k : ℕ) (x : X) → k < length xs → x ≡ get_or xs k x → get_or (map f xs) k [] ≡ f x
 mapped_at f [] k x less is = absurd (omega arith)

@@ -4,7 +4,6 @@ ghost use Rattle.recorder_search.specs.Reading.{GrewTo};
 ghost use Rattle.network_laws.specs.Settled.{BeginsWith};
 
 use journal::Journal;
-use node::Event;
 use std::alloc::{AllocError, Global};
 
 // Of so many journals nothing.
@@ -65,19 +64,12 @@ fn is_prefix(events: &Journal, journal: &Journal) -> bool
         return false;
     }
     let (mut near, mut near_other) = (0, 0);
-    for place in 0..events.len() {
-        let event = events.event(place, &mut near);
-        let other = journal.event(place, &mut near_other);
-        if !is_same_event(event, other) {
-            return false;
+    let mut place = 0;
+    while place < events.len() {
+        match events.same_from(journal, place, &mut near, &mut near_other) {
+            Some(count) => place += count,
+            None => return false,
         }
     }
     true
-}
-
-// Whether two events are the same.
-fn is_same_event(event: Event, other: Event) -> bool
-    ensures { IsTrue result ↔ (event ≡ other) }
-{
-    event == other
 }

@@ -19,7 +19,7 @@ use std::time::Clock;
 use wires_transports::{Cut, Ending, Transport};
 
 /// So many turns are made while a desk's lock is held, at most.
-pub(crate) const TURNS_AT_ONCE: u32 = 64;
+pub(crate) const TURNS_AT_ONCE: u32 = 256;
 
 /// A peer that hasn't acknowledged so many signals is behind. Fewer of them, 20 KiB at most, have room on a connection that nobody
 /// reads; so who writes them doesn't wait for a reader.

@@ -18,10 +18,11 @@ use std::sync::{Arc, Wait};
 use std::time::Clock;
 use wires_transports::{Accepted, Connection, Cut, Transport};
 
-// Bytes of one read.
-const ROOM: usize = 4096;
+// Bytes of one read, at most: some 500 frames. What comes of them is one send to each peer, which wakes one thread there. With more
+// at once the nodes behind would wait for them too long.
+const ROOM: usize = 16_384;
 // Events that are handed in at once, at most.
-const AT_ONCE: usize = 128;
+const AT_ONCE: usize = 512;
 
 /// Reads a peer's connections one after the other, as they come, until no more come; its share. Each is greeted first.
 pub fn read<R: Wait + Clock, N: Node, G: Gate, T: Transport, C: Cut>(
@@ -111,19 +112,26 @@ fn read_on<R: Wait + Clock, N: Node, G: Gate, T: Transport, C: Cut>(
     frames: &mut FrameReader,
 ) {
     let mut heard = frames.version();
+    let Ok(mut room) = Vec::from_elem(alloc, 0, ROOM) else {
+        return;
+    };
     for _ in rt.forever() {
         match take_some(rt, alloc, context, share, peer, frames, &mut heard) {
             Some(true) => {}
-            Some(false) if has_read(rt, incoming, frames) => {}
+            Some(false) if has_read(rt, incoming, &mut room, frames) => {}
             _ => break,
         }
     }
 }
 
 // Reads what comes next. False where the connection has ended, or there was no memory.
-fn has_read<R: Wait, T: Transport>(rt: &R, incoming: &mut T, frames: &mut FrameReader) -> bool {
-    let mut room = [0; ROOM];
-    match incoming.recv(rt, &mut room) {
+fn has_read<R: Wait, T: Transport>(
+    rt: &R,
+    incoming: &mut T,
+    room: &mut [u8],
+    frames: &mut FrameReader,
+) -> bool {
+    match incoming.recv(rt, room) {
         Ok(0) | Err(_) => false,
         Ok(count) => frames.feed(&room[..count]).is_ok(),
     }

@@ -8,3 +8,6 @@ invariant-loop-from l = record {
   begun : l.place ≤ l.from;
   few : l.from - l.place ≤ l.most;
 }
+
+abbrev pub decreases-loop-from : goal.decreases-loop-from
+decreases-loop-from l = l.end - l.from
