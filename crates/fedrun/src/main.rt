@@ -12,11 +12,15 @@ use fedrun_progress::{NoProgress, ProgressLine, asks_for_progress};
 use fedrun_saving::MachineDisk;
 use fedrun_whole::OUT_BYTES;
 use fedrun_words::{WordsFault, given_words};
-use std::io::{BufWriter, Stdout};
+use std::fs::File;
+use std::io::{BufWriter, ErrorKind, Stdout};
 use std::process::ExitCode;
-use std::thread;
+use std::{fs, rt, thread};
 
 fn main(rt: HostRuntime) -> ExitCode {
+    let _input = stand_in(&rt, "/proc/self/fd/0");
+    let _output = stand_in(&rt, "/proc/self/fd/1");
+    let _error = stand_in(&rt, "/proc/self/fd/2");
     let mut err = rt.stderr();
     let status = match given(&rt) {
         Ok((words, mut out)) => {
@@ -52,5 +56,14 @@ fn given(rt: &HostRuntime) -> Result<(Vec<String>, BufWriter<Stdout>), WordsFaul
     match BufWriter::with_capacity(rt.alloc(), OUT_BYTES, rt.stdout()) {
         Ok(out) => Ok((words, out)),
         Err(_) => Err(WordsFault::Memory),
+    }
+}
+
+/// A file in place of a standard stream that is closed, which can't be written. Else the next file that is opened would have the
+/// stream's number, and what is printed be written into it: into a report, say.
+fn stand_in<R: rt::Files>(rt: &R, stream: &str) -> Option<R::File> {
+    match fs::symlink_metadata(rt, stream) {
+        Err(error) if error.kind() == ErrorKind::NotFound => File::open(rt, "/dev/null").ok(),
+        _ => None,
     }
 }
