@@ -4,3 +4,5 @@ pub mod Replays
 pub mod Backwards
 -- Lists that end with an item.
 pub mod Ends
+-- Events that are handled one after the other.
+pub mod Batches

@@ -4,3 +4,5 @@ pub mod Fault
 pub mod Replay
 -- When the slips of several workers are a journal.
 pub mod Shares
+-- What a desk answers to several events, and what of it is to be sent.
+pub mod Replies

@@ -1,8 +1,10 @@
-ghost use Rattle.std.specs.Prelude.{◌≡◌, [], ◌∷◌, ◌++◌, IfOk, OnOk, OnErr, MatchResult};
+ghost use Rattle.std.specs.Prelude.{◌≡◌, ◌≤◌, [], ◌∷◌, ◌++◌, length, take, IfOk, OnOk, OnErr, MatchResult};
 ghost use Rattle.node.specs.Step.{said, step_of, initial_of};
-ghost use Rattle.desk.specs.Replay.{replay};
+ghost use Rattle.desk.specs.Replay.{after_all, replay};
+ghost use Rattle.desk.specs.Replies.{AreAdded, answers_of};
 ghost use Rattle.desk.specs.Shares.{Agree};
 
+use crate::batch_reply::BatchReply;
 use crate::matching::agree;
 use crate::memory::Memory;
 use crate::share::Share;
@@ -76,20 +78,36 @@ impl<N: Node> Desk<N> {
         ensures journal { OnOk result (self.new.journal ≡ self.old.journal ++ event ∷ []) }
         ensures unchanged { OnErr result (self.new ≡ self.old) }
     {
-        self.handle_among(&event, None)
+        // For the prover: what the station was made from stays.
+        initial_stations_stay::<N>();
+        step(&mut self.station, &mut self.journal, event)
     }
 
-    /// The same of an event that came together with others: the journal keeps the batch in place of the event.
-    pub fn handle_among(&mut self, event: &Event, batch: Option<&Batch>) -> Result<Reply, Memory>
-        ensures step { IfOk result (λ reply. record { station = self.new.station; answer = said reply } ≡ step_of N.core N.HUB (replay N.core N.HUB self.old.station self.old.journal) event.now) }
-        ensures station { self.old.station ≡ replay N.core N.HUB self.old.station self.old.journal }
+    /// Makes the steps of a batch's events, one after the other; how many: all, or those before the first one for which there is no
+    /// memory. The journal keeps the batch. What the desk says to them is added; frames for which there is no memory are lost, as on a
+    /// line that loses frames.
+    pub fn handle_batch(&mut self, batch: &Batch, said: &mut BatchReply) -> usize
+        ensures few { result ≤ length batch.now }
+        ensures journal { self.new.journal ≡ self.old.journal ++ take result batch.now }
         ensures initial { initial_of N.core self.new.station ≡ initial_of N.core self.old.station }
-        ensures journal { OnOk result (self.new.journal ≡ self.old.journal ++ event.now ∷ []) }
-        ensures unchanged { OnErr result (self.new ≡ self.old) }
+        ensures said { AreAdded said.old (answers_of N.core N.HUB self.old.station (take result batch.now)) said.new }
     {
         // For the prover: what the station was made from stays.
         initial_stations_stay::<N>();
-        step(&mut self.station, &mut self.journal, event, batch)
+        let Ok(()) = self.journal.push_batch(batch) else {
+            return 0;
+        };
+        let made = step_all(&mut self.station, batch.events(), said);
+        let left = batch.events().len() - made;
+        self.journal.truncate(self.journal.len() - left);
+        made
+    }
+
+    /// Takes back the room of a reply's frames, for the frames of later steps.
+    pub fn reuse(&mut self, reply: Reply)
+        ensures { self.new ≡ self.old }
+    {
+        self.station.reuse(reply);
     }
 
     /// The desk, if these shares are its journal: in each the places rise, and all slips together are the journal, one slip for
@@ -105,21 +123,38 @@ impl<N: Node> Desk<N> {
     }
 }
 
+// Makes the station's steps, until there is no memory for one; how many.
+fn step_all<N: Node>(station: &mut Station<N>, events: &[Event], said: &mut BatchReply) -> usize
+    ensures few { result ≤ length events.now }
+    ensures station { station.new ≡ after_all N.core N.HUB station.old (take result events.now) }
+    ensures said { AreAdded said.old (answers_of N.core N.HUB station.old (take result events.now)) said.new }
+{
+    for place in 0..events.len() {
+        match station.step(events[place]) {
+            Ok(reply) => {
+                let _ = said.add(&reply);
+                station.reuse(reply);
+            }
+            Err(_) => return place,
+        }
+    }
+    events.len()
+}
+
 // Makes the station's step. The event is put in the journal first, and taken off again where there is no memory for the step.
 #[tactic(auto, using(crate::proofs::Ends::undone))]
 fn step<N: Node>(
     station: &mut Station<N>,
     journal: &mut Journal,
-    event: &Event,
-    batch: Option<&Batch>,
+    event: Event,
 ) -> Result<Reply, Memory>
-    ensures step { IfOk result (λ reply. record { station = station.new; answer = said reply } ≡ step_of N.core N.HUB station.old event.now) }
-    ensures journal { OnOk result (journal.new ≡ journal.old ++ event.now ∷ []) }
+    ensures step { IfOk result (λ reply. record { station = station.new; answer = said reply } ≡ step_of N.core N.HUB station.old event) }
+    ensures journal { OnOk result (journal.new ≡ journal.old ++ event ∷ []) }
     ensures station_unchanged { OnErr result (station.new ≡ station.old) }
     ensures journal_unchanged { OnErr result (journal.new ≡ journal.old) }
 {
-    journal.push(event, batch)?;
-    match station.step(*event) {
+    journal.push(&event, None)?;
+    match station.step(event) {
         Ok(reply) => Ok(reply),
         Err(_) => {
             let _ = journal.pop();

@@ -12,6 +12,7 @@
 //! Begin with `desk`, then `shared`; what no contract can say of a lock is said in `shared`.
 #![tactic(auto)]
 
+pub mod batch_reply;
 pub mod desk;
 mod matching;
 pub mod memory;
@@ -19,6 +20,7 @@ pub mod share;
 pub mod shared;
 pub mod shares_disagree;
 
+pub use batch_reply::{BatchReply, is_done};
 pub use desk::Desk;
 pub use journal::Slip;
 pub use memory::Memory;

@@ -1,8 +1,11 @@
-ghost use Rattle.std.specs.Prelude.{◌≡◌, ℕ, List, [], ◌∷◌, ◌++◌, length, take, drop, slice_get, option_map, IfOk, OnOk, OnErr};
+ghost use Rattle.std.specs.Prelude.{◌≡◌, ◌≤◌, ℕ, List, [], ◌∷◌, ◌++◌, length, take, drop, slice_get, option_map, IfOk, OnOk, OnErr};
 ghost use Rattle.node.specs.declared.event.Event.{Event as IsEvent};
-ghost use Rattle.node.specs.Step.{said, step_of};
+ghost use Rattle.node.specs.Step.{said, step_of, initial_of};
+ghost use Rattle.journal.specs.Slips.{slips_from};
+ghost use Rattle.desk.specs.Replies.{AreAdded, answers_of};
 ghost use Rattle.desk.specs.Shares.{Agree};
 
+use crate::batch_reply::BatchReply;
 use crate::desk::Desk;
 use crate::memory::Memory;
 use crate::share::Share;
@@ -67,6 +70,14 @@ impl<N: Node> Shared<N> {
         result
     }
 
+    /// Waits for the lock, and asks how many signals a peer hasn't acknowledged; none where there is no such peer.
+    pub fn unacked<R: Wait>(&self, rt: &R, peer: usize) -> Option<usize> {
+        let locked = self.lock(rt);
+        let unacked = locked.unacked(peer);
+        locked.release();
+        unacked
+    }
+
     /// Waits for the lock, and asks the node whether nothing is left to do, as far as it knows.
     pub fn finished<R: Wait>(&self, rt: &R) -> bool {
         let locked = self.lock(rt);
@@ -88,20 +99,20 @@ impl<'a, N: Node> Locked<'a, N> {
         ensures slip { OnOk result ((place : ℕ) × (share.new ≡ share.old ++ record { place = place; event = event } ∷ [])) }
         ensures unchanged { OnErr result (share.new ≡ share.old) }
     {
-        self.handle_among(share, &event, None)
+        enter(&mut self.desk, &mut share.slips, event)
     }
 
-    /// The same of an event that came together with others: journal and share keep the batch in place of the event.
-    pub fn handle_among(
-        &mut self,
-        share: &mut Share,
-        event: &Event,
-        batch: Option<&Batch>,
-    ) -> Result<Reply, Memory>
-        ensures slip { OnOk result ((place : ℕ) × (share.new ≡ share.old ++ record { place = place; event = event.now } ∷ [])) }
-        ensures unchanged { OnErr result (share.new ≡ share.old) }
+    /// Makes the steps of a batch's events; how many: see `Desk::handle_batch`. The share gains their slips, and keeps the batch.
+    pub fn handle_batch(&mut self, share: &mut Share, batch: &Batch, said: &mut BatchReply) -> usize
+        ensures few { result ≤ length batch.now }
+        ensures slips { (first : ℕ) × (share.new ≡ share.old ++ slips_from first (take result batch.now)) }
     {
-        enter(&mut self.desk, &mut share.slips, event, batch)
+        enter_batch(&mut self.desk, &mut share.slips, batch, said)
+    }
+
+    /// Takes back the room of a reply's frames, for the frames of later steps.
+    pub fn reuse(&mut self, reply: Reply) {
+        self.desk.reuse(reply);
     }
 
     /// Asks the node whether nothing is left to do, as far as it knows.
@@ -150,22 +161,40 @@ fn unacked<N: Node>(desk: &Desk<N>, peer: usize) -> Option<usize>
     Some(desk.station().end(peer)?.unacked())
 }
 
-// Handles the event at the locked desk. Its slip is added first, and taken off again where there is no memory for the event.
-#[tactic(auto, using(crate::proofs::Ends::undone))]
-fn enter<N: Node>(
+// Handles a batch's events at the locked desk; how many. Their slips are added first, and those of events for which there is no memory
+// taken off again.
+fn enter_batch<N: Node>(
     desk: &mut Desk<N>,
     slips: &mut Blocks,
-    event: &Event,
-    batch: Option<&Batch>,
-) -> Result<Reply, Memory>
-    ensures step { IfOk result (λ reply. record { station = desk.new.station; answer = said reply } ≡ step_of N.core N.HUB desk.old.station event.now) }
-    ensures journal { OnOk result (desk.new.journal ≡ desk.old.journal ++ event.now ∷ []) }
-    ensures slip { OnOk result (slips.new ≡ slips.old ++ record { place = length desk.old.journal; event = event.now } ∷ []) }
+    batch: &Batch,
+    said: &mut BatchReply,
+) -> usize
+    ensures few { result ≤ length batch.now }
+    ensures journal { desk.new.journal ≡ desk.old.journal ++ take result batch.now }
+    ensures slips { slips.new ≡ slips.old ++ slips_from (length desk.old.journal) (take result batch.now) }
+    ensures initial { initial_of N.core desk.new.station ≡ initial_of N.core desk.old.station }
+    ensures said { AreAdded said.old (answers_of N.core N.HUB desk.old.station (take result batch.now)) said.new }
+{
+    let Ok(()) = slips.add_batch(desk.journal().len(), batch) else {
+        return 0;
+    };
+    let made = desk.handle_batch(batch, said);
+    let left = batch.events().len() - made;
+    slips.truncate(slips.len() - left);
+    made
+}
+
+// Handles the event at the locked desk. Its slip is added first, and taken off again where there is no memory for the event.
+#[tactic(auto, using(crate::proofs::Ends::undone))]
+fn enter<N: Node>(desk: &mut Desk<N>, slips: &mut Blocks, event: Event) -> Result<Reply, Memory>
+    ensures step { IfOk result (λ reply. record { station = desk.new.station; answer = said reply } ≡ step_of N.core N.HUB desk.old.station event) }
+    ensures journal { OnOk result (desk.new.journal ≡ desk.old.journal ++ event ∷ []) }
+    ensures slip { OnOk result (slips.new ≡ slips.old ++ record { place = length desk.old.journal; event = event } ∷ []) }
     ensures desk_unchanged { OnErr result (desk.new ≡ desk.old) }
     ensures slips_unchanged { OnErr result (slips.new ≡ slips.old) }
 {
-    slips.add(desk.journal().len(), event, batch)?;
-    match desk.handle_among(event, batch) {
+    slips.add(desk.journal().len(), &event, None)?;
+    match desk.handle(event) {
         Ok(reply) => Ok(reply),
         Err(memory) => {
             let _ = slips.pop();

@@ -1,5 +1,5 @@
 -- Reports that an audit believes, and those that it doesn't.
-use Rattle.std.proofs.Common.{◌≡◌, ℕ, true, inl, inr, List, Option, Result, Ok, Err, OnOk, IfOk, IfErr, sym, subst}
+use Rattle.std.proofs.Common.{◌≡◌, ℕ, true, inl, inr, List, Option, Some, None, MatchOption, IfSome, IsSomeAnd, Bor, Vec, Global, Result, Ok, Err, OnOk, IfOk, IfErr, sym, subst}
 use Rattle.std.specs.Io.KnownBytes.{Appends}
 use Rattle.std.proofs.lemmas.Result.{on_ok_weaker, IfErr-weaker}
 use Rattle.plan.specs.declared.draft.Draft.{Draft}
@@ -24,11 +24,11 @@ use Rattle.fedrun_run.specs.Reported.{AreReportedBy}
 module _ (d : Draft) (programs : List Behaviour) (inputs : List Input) (reports : List Report) (coordinator : List Event) where
   -- what is printed is of reports that an audit proved, and whose coordinator is finished
   pub prints_so : (output : RunOutput) (audited : AuditedRun) (before after : Option (List ℕ)) → HasEnded (claim d programs inputs reports coordinator) audited → audited.is_finished ≡ true →
-      Appends before after (printed_run output d reports audited.steps.items) → PrintsReports output d programs inputs reports coordinator before after
+      Appends before after (printed_run output d reports audited.steps.steps) → PrintsReports output d programs inputs reports coordinator before after
   prints_so output audited before after ended is printed =
       let finished = ended.finished.0 is in
       record {
-        steps = audited.steps.items;
+        steps = audited.steps.steps;
         proved = ended.proved;
         finished = finished;
         prefix = ended.proved.prefix;
@@ -88,3 +88,10 @@ fault_of_some d programs inputs w reports coordinator result run is =
     IfErr-weaker result (IsAuditedFaultOf d w.programs w.inputs reports coordinator) (IsAuditedFault d programs inputs)
     (λ told fails. of_some d programs inputs reports coordinator run.0 run.1 told
     (subst (λ (x : WorldView). IsAuditedFaultOf d x.programs x.inputs reports coordinator told) is fails))
+
+-- what holds of a text's bytes holds of them where they are lent
+pub text_lent : (P : List ℕ → Type 0) (IsLent : Vec ℕ Global → Bor (List ℕ) → Type 0) → ((x : Vec ℕ Global) (y : Bor (List ℕ)) → IsLent x y → y.now ≡ x.items) →
+    (text : Option (Vec ℕ Global)) (lent : Option (Bor (List ℕ))) → MatchOption text (lent ≡ None) (λ x. IsSomeAnd lent (IsLent x)) → IfSome text (λ x. P x.items) → IfSome lent (λ y. P y.now)
+text_lent P IsLent same None lent none holds = subst (λ o. IfSome o (λ y. P y.now)) (sym none) tt
+text_lent P IsLent same (Some x) (Some y) is holds = subst P (sym (same x y is)) holds
+text_lent P IsLent same (Some x) None is holds = absurd is

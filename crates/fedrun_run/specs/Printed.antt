@@ -47,6 +47,11 @@ abbrev pub printed_run : RunOutput → Draft → List Report → List Step → L
 printed_run (Rows format) d reports steps = printed_reports format d reports
 printed_run Steps d reports steps = printed_steps d steps
 
+-- where rows are printed, this text is those that are
+abbrev pub IsTextOf : RunOutput → Draft → List Report → List ℕ → Type 0
+IsTextOf (Rows format) d reports text = text ≡ printed_reports format d reports
+IsTextOf Steps d reports text = ⊥
+
 -- a writer's bytes grew by what is printed of these reports, which an audit proved with this journal of the coordinator:
 pub record PrintsReports (output : RunOutput) (d : Draft) (programs : List Behaviour) (inputs : List Input) (reports : List Report) (coordinator : List Event) (before after : Option (List ℕ)) : Type 0 where
   pub steps : List Step

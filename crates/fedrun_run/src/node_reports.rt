@@ -1,14 +1,15 @@
 //! What the desks of a finished run's nodes say.
-ghost use Rattle.std.specs.Prelude.{◌≡◌, true, false, length, [], ◌∷◌, ◌++◌, IfErr, IfOk, IsOkAnd, OnOk, Err};
+ghost use Rattle.std.specs.Prelude.{◌≡◌, true, false, length, [], ◌∷◌, ◌++◌, IfErr, IfOk, IfSome, IsOkAnd, OnOk, Err};
 ghost use Rattle.plan.specs.Federation.{federate_count};
 ghost use Rattle.recorder_reports.specs.Reports.{IsFirst};
 ghost use Rattle.wires.specs.Gathered.{AreGathered};
 ghost use Rattle.wires.specs.declared.run_fault.Cause.TheVariants.{TurnsUsedUp};
-ghost use Rattle.fedrun_run.specs.Printed.{IsOfTheRun, fault_of_run};
+ghost use Rattle.fedrun_run.specs.Printed.{IsOfTheRun, IsTextOf, fault_of_run};
 ghost use Rattle.fedrun_run.specs.Reported.{IsReportOf, AreReportsOf, AreReported};
 
-use crate::AuditedFault;
+use crate::printing::text_of;
 use crate::reporting::Reporting;
+use crate::{AuditedFault, RunOutput};
 use desk::Desk;
 use journal::Journal;
 use node::Node;
@@ -24,18 +25,22 @@ pub(crate) struct NodeReports<'a> {
     pub reports: Collector<'a>,
     /// The coordinator's journal.
     pub coordinator: Journal,
+    /// Their rows as they are printed, where they stand as text already.
+    pub text: Option<Vec<u8>>,
 }
 
 /// What all nodes say, when all their workers have ended, from what these leave. That a run isn't finished comes before anything
-/// of a report.
+/// of a report. Their rows are written as text.
 pub(crate) fn reports_by<'a, H: Node, M: Reporting>(
     alloc: Global,
     plan: &'a Plan,
     nodes: Nodes<H, M>,
     results: Result<Vec<Option<WorkerResult>>, RunFault>,
+    output: RunOutput,
 ) -> Result<NodeReports<'a>, AuditedFault>
     requires each { length nodes.federates.items ≡ federate_count plan.now }
     ensures ok { IfOk result (λ said. IsOkAnd results (λ left. AreReported H.core H.HUB M.core M.HUB M.tells left.items said.reports.reports said.coordinator)) }
+    ensures text { IfOk result (λ said. IfSome said.text (λ text. IsTextOf output plan.now said.reports.reports text.items)) }
     ensures fault { IfErr result IsOfTheRun }
 {
     let gathered = finished(gathered(alloc, nodes, results))?;
@@ -43,9 +48,11 @@ pub(crate) fn reports_by<'a, H: Node, M: Reporting>(
         return Err(AuditedFault::Memory);
     };
     let (_, coordinator) = gathered.coordinator.into_parts();
+    let text = text_of(alloc, plan, reports.reports(), output);
     Ok(NodeReports {
         reports,
         coordinator,
+        text,
     })
 }
 

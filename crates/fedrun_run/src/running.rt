@@ -1,15 +1,16 @@
-ghost use Rattle.std.specs.Prelude.{◌≡◌, ◌≢◌, length, List, Option, OnOk, IfOk, IfErr, IsOkAnd};
+ghost use Rattle.std.specs.Prelude.{◌≡◌, ◌≢◌, length, List, Option, OnOk, IfOk, IfErr, IfSome, IsOkAnd};
 ghost use Rattle.plan.specs.Federation.{federate_count};
 ghost use Rattle.plan.specs.External.{AreInputsOf};
 ghost use Rattle.reactor_programs.specs.Programs.{AreProgramsOf};
 ghost use Rattle.wires.specs.declared.job.WorkerResult.{WorkerResult as IsLeft};
 ghost use Rattle.fedrun_run.specs.Reported.{AreReported};
-ghost use Rattle.fedrun_run.specs.Printed.{PrintsAudited, IsAuditedFault, IsOfTheRun};
+ghost use Rattle.fedrun_run.specs.Printed.{PrintsAudited, IsAuditedFault, IsOfTheRun, IsTextOf};
 
 use crate::node_reports::{NodeReports, reports_by};
+use crate::printing::print_audited_text;
 use crate::reporting::Reporting;
 use crate::watching::watch;
-use crate::{AuditedFault, RunOutput, coordinator_desk, federate_desks, print_audited};
+use crate::{AuditedFault, RunOutput, coordinator_desk, federate_desks};
 use coordinator::Coordinator;
 use federate::Federate;
 use fedrun_progress::Progress;
@@ -58,16 +59,17 @@ pub fn print_audited_run<
     let Ok(nodes) = nodes_of(alloc, plan, programs, inputs) else {
         return Err(AuditedFault::Memory);
     };
-    let (audit, node_reports) = run_and_ask(rt, alloc, plan, nodes, audit, terms, progress);
+    let (audit, node_reports) = run_and_ask(rt, alloc, plan, nodes, audit, terms, output, progress);
     progress.end();
     let node_reports = node_reports?;
-    print_audited(
+    print_audited_text(
         alloc,
         plan,
         audit,
         node_reports.reports.reports(),
         &node_reports.coordinator,
         output,
+        node_reports.text.as_deref(),
         out,
     )
 }
@@ -86,15 +88,17 @@ fn run_and_ask<
     nodes: Nodes<H, M>,
     audit: IncrementalAudit<'a>,
     terms: Terms,
+    output: RunOutput,
     progress: &P,
 ) -> (IncrementalAudit<'a>, Result<NodeReports<'a>, AuditedFault>)
     requires each { length nodes.federates.items ≡ federate_count plan.now }
     ensures audit { result.0 ≡ audit.entry }
     ensures reported { IfOk result.1 (λ said. (left : List (Option IsLeft)) × AreReported H.core H.HUB M.core M.HUB M.tells left said.reports.reports said.coordinator) }
+    ensures text { IfOk result.1 (λ said. IfSome said.text (λ text. IsTextOf output plan.now said.reports.reports text.items)) }
     ensures fault { IfErr result.1 IsOfTheRun }
 {
     let (audit, results) = run_watched(rt, alloc, &nodes, audit, terms, progress);
-    take_apart(rt, alloc, plan, nodes, results, audit)
+    take_apart(rt, alloc, plan, nodes, results, audit, output)
 }
 
 // Runs the nodes, and makes steps of the audit beside the run; where there is no thread for that, after it.
@@ -126,7 +130,7 @@ fn run_watched<
     )
 }
 
-// Takes the desks apart, and makes what is left of the audit's steps beside that.
+// Takes the desks apart, and writes their rows as text, and makes what is left of the audit's steps beside that.
 fn take_apart<'a, R: Threads + Sync, H: Node + Send, M: Reporting + Send>(
     rt: &R,
     alloc: Global,
@@ -134,10 +138,12 @@ fn take_apart<'a, R: Threads + Sync, H: Node + Send, M: Reporting + Send>(
     nodes: Nodes<H, M>,
     results: Result<Vec<Option<WorkerResult>>, RunFault>,
     mut audit: IncrementalAudit<'a>,
+    output: RunOutput,
 ) -> (IncrementalAudit<'a>, Result<NodeReports<'a>, AuditedFault>)
     requires each { length nodes.federates.items ≡ federate_count plan.now }
     ensures audit { result.0 ≡ audit.entry }
     ensures reported { IfOk result.1 (λ said. IsOkAnd results (λ left. AreReported H.core H.HUB M.core M.HUB M.tells left.items said.reports.reports said.coordinator)) }
+    ensures text { IfOk result.1 (λ said. IfSome said.text (λ text. IsTextOf output plan.now said.reports.reports text.items)) }
     ensures fault { IfErr result.1 IsOfTheRun }
 {
     thread::join(
@@ -151,8 +157,9 @@ fn take_apart<'a, R: Threads + Sync, H: Node + Send, M: Reporting + Send>(
         ||
             requires { length nodes.federates.items ≡ federate_count plan.now }
             ensures reported { IfOk result (λ said. IsOkAnd results (λ left. AreReported H.core H.HUB M.core M.HUB M.tells left.items said.reports.reports said.coordinator)) }
+            ensures text { IfOk result (λ said. IfSome said.text (λ text. IsTextOf output plan.entry.now said.reports.reports text.items)) }
             ensures fault { IfErr result IsOfTheRun }
-        { reports_by(alloc, plan, nodes, results) },
+        { reports_by(alloc, plan, nodes, results, output) },
     )
 }
 

@@ -11,13 +11,6 @@ first_of_first (suc less) zero xs few = absurd (omega arith)
 first_of_first (suc less) (suc count) [] few = refl
 first_of_first (suc less) (suc count) (x ∷ xs) few = ap (λ rest. x ∷ rest) (first_of_first less count xs (omega arith))
 
--- what stands behind the first items
-get_dropped : {X : Type 0} (xs : List X) (n i k : ℕ) → k ≡ n + i → slice_get (drop n xs) i ≡ slice_get xs k
-get_dropped xs zero i k is = let same : i ≡ k = omega arith in ap (slice_get xs) same
-get_dropped [] (suc n) i k is = refl
-get_dropped (x ∷ xs) (suc n) i zero is = absurd (omega arith)
-get_dropped (x ∷ xs) (suc n) i (suc k) is = get_dropped xs n i k (omega arith)
-
 -- nothing so far
 pub none_added : {X : Type 0} (old other : List X) (place from : ℕ) → from ≡ place → old ≡ old ++ take (from - place) (drop place other)
 none_added old other place from is =

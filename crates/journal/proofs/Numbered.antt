@@ -1,7 +1,7 @@
 -- Slips whose places are 0, 1, 2 .., and one more or less.
 use Rattle.std.proofs.Common.{◌≡◌, ◌≢◌, ◌∙◌, sym, ap, subst, refl, ℕ, suc, ◌+◌, ◌-◌, ◌<◌, ◌≤◌, Bool, true, false, nat_lt, List, [], ◌∷◌, ◌++◌, length, take, drop, slice_get, length-append, append-nil, append_assoc, Option, Some, None, IfSome, MatchOption, option_map, arith}
 use Rattle.std.proofs.Math.Seq.{take-append_seam, drop-append_seam}
-use Rattle.std.proofs.lemmas.List.{length-map, length_push, map-append}
+use Rattle.std.proofs.lemmas.List.{length-map, length_push, map-append, take-append-drop, take-map}
 use Rattle.std.proofs.lemmas.Bool.Decides.{nat_tests}
 use Rattle.std.proofs.lemmas.Option.{slice_get_past, slice_get_within, slice_get-map}
 use Rattle.node.specs.declared.event.Event.{Event}
@@ -141,3 +141,13 @@ more_numbers slips more place (event ∷ events) at numbered is =
 pub more_events : (slips more : List Slip) (place : ℕ) (events : List Event) → more ≡ slips ++ slips_from place events → events_of more ≡ events_of slips ++ events
 more_events slips more place events is =
     ap events_of is ∙ map-append (λ (s : Slip). s.event) slips (slips_from place events) ∙ ap (λ l. events_of slips ++ l) (events_from place events)
+
+-- the first ones are numbered
+pub first_numbers : (slips first : List Slip) (count : ℕ) → first ≡ take count slips → AreNumbered slips → AreNumbered first
+first_numbers slips first count is numbered k other there =
+    let within = slice_get_within first k other there in
+    let whole : first ++ drop count slips ≡ slips = ap (λ (l : List Slip). l ++ drop count slips) is ∙ take-append-drop count slips in
+    numbered k other (ap (λ (l : List Slip). slice_get l k) (sym whole) ∙ get_left first (drop count slips) k within ∙ there)
+
+pub first_events : (slips first : List Slip) (count : ℕ) → first ≡ take count slips → events_of first ≡ take count (events_of slips)
+first_events slips first count is = ap events_of is ∙ sym (take-map (λ (s : Slip). s.event) count slips)

@@ -44,6 +44,17 @@ impl Block {
         }
     }
 
+    // All events of a batch.
+    pub(crate) fn of(batch: Batch) -> Block
+        ensures { result ≡ batch }
+    {
+        Block {
+            used: batch.events().len(),
+            batch,
+            turns: 0,
+        }
+    }
+
     // The same events, for one more who keeps them.
     pub(crate) fn share(&self) -> Result<Block, AllocError>
         ensures { IfOk result (λ block. block ≡ self.now) }

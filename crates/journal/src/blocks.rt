@@ -72,6 +72,30 @@ impl Blocks {
         result
     }
 
+    /// Slips of a batch's events, whose places follow one another from this one on. The batch is shared.
+    pub fn add_batch(&mut self, place: usize, batch: &Batch) -> Result<(), AllocError>
+        ensures added { OnOk result (self.new ≡ self.old ++ slips_from place batch.now) }
+        ensures unchanged { OnErr result (self.new ≡ self.old) }
+    {
+        if batch.events().is_empty() {
+            return Ok(());
+        }
+        self.add_block(place, Block::of(batch.share()?))
+    }
+
+    /// Takes off all slips but the first ones, so many.
+    #[tactic(auto, using(crate::proofs::Appended::all_taken, crate::proofs::Appended::one_taken_off))]
+    pub fn truncate(&mut self, count: usize)
+        ensures { self.new ≡ take count self.old }
+    {
+        if self.count <= count {
+            return;
+        }
+        for place in (count..self.count).rev() {
+            let _ = self.pop();
+        }
+    }
+
     /// Takes off the last slip.
     #[tactic(auto, using(crate::proofs::SlipLists::count_less))]
     pub fn pop(&mut self) -> Option<Slip>

@@ -65,6 +65,16 @@ impl Journal {
         self.slips.add(place, event, batch)
     }
 
+    /// A batch's events more. The batch is shared.
+    #[tactic(auto, using(crate::proofs::Numbered::more_numbers, crate::proofs::Numbered::more_events))]
+    pub fn push_batch(&mut self, batch: &Batch) -> Result<(), AllocError>
+        ensures pushed { OnOk result (self.new ≡ self.old ++ batch.now) }
+        ensures unchanged { OnErr result (self.new ≡ self.old) }
+    {
+        let place = self.slips.len();
+        self.slips.add_batch(place, batch)
+    }
+
     /// Takes off the last event.
     #[tactic(auto, using(crate::proofs::Numbered::no_events, crate::proofs::Numbered::one_event))]
     pub fn pop(&mut self) -> Option<Event>
@@ -208,17 +218,12 @@ impl Journal {
         }
     }
 
-    // Takes off all events but the first ones, so many.
-    #[tactic(auto, using(crate::proofs::Appended::all_taken, crate::proofs::Appended::one_taken_off))]
-    fn truncate(&mut self, count: usize)
+    /// Takes off all events but the first ones, so many.
+    #[tactic(auto, using(crate::proofs::Numbered::first_numbers, crate::proofs::Numbered::first_events))]
+    pub fn truncate(&mut self, count: usize)
         ensures { self.new ≡ take count self.old }
     {
-        if self.len() <= count {
-            return;
-        }
-        for place in (count..self.len()).rev() {
-            let _ = self.pop();
-        }
+        self.slips.truncate(count);
     }
 
     /// How many blocks they are kept in.

@@ -1,5 +1,5 @@
 -- Link ends at their peers' places, and one of them changed.
-use Rattle.std.proofs.Common.{◌≡◌, ◌≢◌, ℕ, suc, zero, ◌+◌, ◌<◌, ◌≤◌, true, false, List, [], ◌∷◌, ◌++◌, length, set, get_or, slice_get, option_map, Some, Result, Ok, Err, is_ok, if◌then◌else◌, nat_eq, refl, ap, arith}
+use Rattle.std.proofs.Common.{◌≡◌, ◌≢◌, ℕ, suc, zero, ◌+◌, ◌<◌, ◌≤◌, true, false, List, [], ◌∷◌, ◌++◌, length, set, get_or, slice_get, option_map, Some, Result, Ok, Err, is_ok, if◌then◌else◌, nat_eq, refl, arith}
 use Rattle.std.proofs.lemmas.List.{map-set, length_push}
 use Rattle.std.proofs.lemmas.Option.{slice_get-map, slice_get-get_or}
 use Rattle.signal.specs.declared.signal.Signal.{Signal}

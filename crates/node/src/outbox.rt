@@ -172,6 +172,16 @@ impl Outbox {
         mem::replace(&mut self.frames, Vec::new(self.alloc))
     }
 
+    /// Takes back the room of frames that were taken, where there is no frame.
+    pub(crate) fn reuse(&mut self, mut frames: Vec<Outgoing>)
+        requires { self.old.mail.frames ≡ [] }
+        ensures { self.new.mail ≡ self.old.mail }
+    {
+        frames.clear();
+        self.places = 0;
+        self.frames = frames;
+    }
+
     // Memory for so many more frames.
     fn reserve_places(&mut self, count: usize) -> Result<(), NodeFault>
         ensures answer { result ≢ Err Faults.Memory → result ≡ Ok tt }

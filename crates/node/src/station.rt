@@ -84,6 +84,17 @@ impl<N: Node> Station<N> {
         }
     }
 
+    /// Takes back the room of a reply's frames, for the frames of later steps.
+    pub fn reuse(&mut self, reply: Reply)
+        ensures { self.new ≡ self.old }
+    {
+        match reply {
+            Reply::Done(frames) => self.outbox.reuse(frames),
+            Reply::Refused(_, frames) => self.outbox.reuse(frames),
+            Reply::Nothing => {}
+        }
+    }
+
     // A frame of a peer.
     fn receive(&mut self, peer: usize, frame: &Frame) -> Result<Reply, Memory>
         ensures ended { IfOk result (λ reply. record { station = self.new; answer = said reply } ≡ frame_comes N.core N.HUB self.old peer frame.now (slice_get self.old.ends peer)) }

@@ -81,7 +81,7 @@ pub record IsProvedBy (c : Claim) (steps : List Step) : Type 0 where
 
 -- an audit ended well: its steps prove the reports, and it tells whether the coordinator's journal gives a finished one
 pub record HasEnded (c : Claim) (audited : AuditedRun) : Type 0 where
-  pub proved : IsProvedBy c audited.steps.items
+  pub proved : IsProvedBy c audited.steps.steps
   pub finished : (audited.is_finished ≡ true) ↔ IsFinishedBy c
 
 -- these steps agree with all journals, and federate j is the first one whose rows there aren't those that it reports

@@ -1,10 +1,10 @@
-use world_stations::Step;
+use world_stations::MadeSteps;
 
 /// What an audit made of reports that it proved.
-#[derive(Debug, Drop)]
+#[derive(Drop)]
 pub struct AuditedRun {
     /// The steps of the world in which it did.
-    pub steps: Vec<Step>,
+    pub steps: MadeSteps,
     /// Whether the coordinator's journal gives a finished one: then no row is missing.
     pub is_finished: bool,
 }

@@ -30,7 +30,10 @@ pub fn audit(
     ensures unproved { IfErr result (IsUnproved (record { draft = plan.now; programs = programs.now; inputs = inputs.now; reports = reports.now; coordinator = coordinator.now })) }
 {
     match audit_run(alloc, plan, programs, inputs, reports, coordinator) {
-        Ok(audited) => Ok(audited.steps),
+        Ok(audited) => match audited.steps.after(0) {
+            Ok(steps) => Ok(steps),
+            Err(_) => Err(Unproved::Memory),
+        },
         Err(fault) => Err(fault),
     }
 }

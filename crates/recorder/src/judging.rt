@@ -31,7 +31,7 @@ pub(crate) fn judge(
 {
     match fault_of(&world, reports, found) {
         Some(fault) => Err(fault),
-        None => run_of(&world),
+        None => Ok(run_of(world)),
     }
 }
 
@@ -51,16 +51,14 @@ fn fault_of(world: &World<'_>, reports: &[Report], found: Found) -> Option<Unpro
 }
 
 // A world's steps, and whether the coordinator is finished there.
-fn run_of(world: &World<'_>) -> Result<AuditedRun, Unproved>
-    ensures ok { IfOk result (λ audited. (audited.steps.items ≡ world.now.steps) × (audited.is_finished ≡ coordinator_core.finished (stations_of world.now).coordinator.node)) }
-    ensures memory { IfErr result (λ fault. fault ≡ Unproved.Memory) }
+fn run_of(world: World<'_>) -> AuditedRun
+    ensures steps { result.steps.steps ≡ world.entry.steps }
+    ensures finished { result.is_finished ≡ coordinator_core.finished (stations_of world.entry).coordinator.node }
 {
-    match world.steps().after(0) {
-        Ok(steps) => Ok(AuditedRun {
-            steps,
-            is_finished: world.finished(),
-        }),
-        Err(_) => Err(Unproved::Memory),
+    let is_finished = world.finished();
+    AuditedRun {
+        steps: world.into_steps(),
+        is_finished,
     }
 }
 

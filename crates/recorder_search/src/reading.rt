@@ -9,6 +9,9 @@ use journal::Journal;
 use node::{Event, NodeId};
 use std::alloc::Global;
 
+// Events of one journal that are read before the next journal is, at most.
+const AT_ONCE: usize = 64;
+
 // The node of a place among the journals.
 pub(crate) fn node_at(place: usize) -> NodeId
     ensures { result ≡ node_at place }
@@ -74,7 +77,8 @@ fn read_one<M: Machine>(
     Ok(true)
 }
 
-// Reads the journal at a place, as far as it goes now.
+// Reads the journal at a place, as far as it goes now, but at most so many events at once: what a node sent is still near when another
+// one takes it in.
 fn read_on<M: Machine>(
     machine: &mut M,
     journals: &[&Journal],
@@ -87,11 +91,15 @@ fn read_on<M: Machine>(
     ensures goes_on { IfOk result (λ moved. GoesOn M.motion (map (λ j. j.now) journals.now) (record { state = machine.old; read = read.old }) (record { state = machine.new; read = read.new }) moved) }
     ensures blocked { IfOk result (λ moved. moved ≡ false → exact ≡ true → IsBlocked M.motion (map (λ j. j.now) journals.now) (record { state = machine.old; read = read.old }) place) }
 {
-    let mut moved = false;
-    while read_one(machine, journals, read, near, place, exact)? {
-        moved = true;
+    if !read_one(machine, journals, read, near, place, exact)? {
+        return Ok(false);
     }
-    Ok(moved)
+    for _ in 1..AT_ONCE {
+        if !read_one(machine, journals, read, near, place, exact)? {
+            break;
+        }
+    }
+    Ok(true)
 }
 
 // Reads each journal once, as far as it goes then.

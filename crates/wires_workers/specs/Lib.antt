@@ -12,5 +12,3 @@ pub mod Waiting
 pub mod LoneAcks
 -- Who sends what waits for a peer.
 pub mod Sending
--- What a reply says: whether something was done, and the frames.
-pub mod Replies

@@ -5,17 +5,18 @@ ghost use Rattle.wires_workers.specs.HandedIn.{AreHandedIn, HandedIn, events_of_
 ghost use Rattle.wires_workers.specs.RetryState.{turned};
 ghost use Rattle.wires_workers.specs.Sending.{is_behind};
 
-use crate::batch_reply::{BatchReply, is_done};
 use crate::gate::{Gate, Point};
 use crate::retry_state::{Next, RetryState};
 use crate::wake_ups::{WakeUp, WakeUps};
 use crate::writer_queue::WriterQueue;
-use desk::{Locked, Share, Shared};
+use desk::{BatchReply, Locked, Share, Shared, is_done};
 use journal::Batch;
 use node::{Event, Node, NodeId, Outgoing, Reply};
 use std::alloc::Global;
 use std::sync::Wait;
-use std::time::Clock;
+use std::thread;
+use std::time::{Clock, Duration};
+use wires_transports::times::PAUSE_MS;
 use wires_transports::{Cut, Ending, Transport};
 
 /// So many turns are made while a desk's lock is held, at most.
@@ -24,6 +25,12 @@ pub(crate) const TURNS_AT_ONCE: u32 = 256;
 /// A peer that hasn't acknowledged so many signals is behind. Fewer of them, 20 KiB at most, have room on a connection that nobody
 /// reads; so who writes them doesn't wait for a reader.
 pub(crate) const SIGNALS_BEHIND: usize = 512;
+
+/// A peer that hasn't acknowledged so many signals is far behind: a quarter of what its end keeps.
+pub(crate) const SIGNALS_FAR_BEHIND: usize = 1_024;
+
+// So often it is looked whether a peer is still far behind, at most.
+const LOOKS_AT_PEER: u32 = 20;
 
 /// Turns that were made.
 #[derive(Clone, Copy, Debug, PartialEq, Eq)]
@@ -41,6 +48,15 @@ impl Turns {
     {
         Turns { made: 0, is_idle }
     }
+}
+
+/// What came of events that were taken in.
+#[derive(Clone, Copy, Debug, PartialEq, Eq)]
+pub struct TakenIn {
+    /// How many turns were made behind them.
+    pub turns: u32,
+    /// A peer that was sent something by them and is far behind, if there is one.
+    pub behind: Option<usize>,
 }
 
 /// What the workers of one node are passed.
@@ -99,7 +115,7 @@ impl<'a, N: Node, G: Gate, T: Transport, C: Cut> Context<'a, N, G, T, C> {
     }
 
     /// Makes the steps of what a peer sent, as `hand_in` does. Where the gate is open, the turns that they allow are made under the same
-    /// lock, unless the runner makes some at the moment: it gets a wake-up where there may be more to do. How many were made.
+    /// lock, unless the runner makes some at the moment: it gets a wake-up where there may be more to do.
     #[tactic(auto, using(crate::proofs::SeveralTurns::and_no_turn))]
     pub fn take_in<R: Wait + Clock>(
         &self,
@@ -107,15 +123,28 @@ impl<'a, N: Node, G: Gate, T: Transport, C: Cut> Context<'a, N, G, T, C> {
         alloc: Global,
         share: &mut Share,
         events: &[Event],
-    ) -> u32
-        ensures handed_in { AreHandedIn share.old (events.now ++ events_of_turns result) share.new }
-        ensures no_runner { self.now.runner ≡ None → result ≡ 0 }
+    ) -> TakenIn
+        ensures handed_in { AreHandedIn share.old (events.now ++ events_of_turns result.turns) share.new }
+        ensures no_runner { self.now.runner ≡ None → result.turns ≡ 0 }
     {
         if self.gate.is_open() {
             self.make_all_and_turns(rt, alloc, share, events)
         } else {
             self.hand_in(rt, alloc, share, events);
-            0
+            TakenIn {
+                turns: 0,
+                behind: None,
+            }
+        }
+    }
+
+    /// Waits until a peer isn't far behind any more, but not long: the peer may wait for the worker that asks.
+    pub fn wait_for<R: Wait + Clock>(&self, rt: &R, peer: usize) {
+        for _ in 0..LOOKS_AT_PEER {
+            if self.ending.is_set() || !is_far_behind(self.shared.unacked(rt, peer)) {
+                break;
+            }
+            thread::sleep(rt, Duration::from_millis(PAUSE_MS));
         }
     }
 
@@ -196,16 +225,16 @@ impl<'a, N: Node, G: Gate, T: Transport, C: Cut> Context<'a, N, G, T, C> {
         turns
     }
 
-    // Makes the events' steps, and the turns that they allow, under one lock. How many turns.
+    // Makes the events' steps, and the turns that they allow, under one lock.
     fn make_all_and_turns<R: Wait>(
         &self,
         rt: &R,
         alloc: Global,
         share: &mut Share,
         events: &[Event],
-    ) -> u32
-        ensures handed_in { AreHandedIn share.old (events.now ++ events_of_turns result) share.new }
-        ensures no_runner { self.now.runner ≡ None → result ≡ 0 }
+    ) -> TakenIn
+        ensures handed_in { AreHandedIn share.old (events.now ++ events_of_turns result.turns) share.new }
+        ensures no_runner { self.now.runner ≡ None → result.turns ≡ 0 }
     {
         // Where there is no memory for a batch, each event is kept by itself.
         let batch = Batch::new(alloc, events).ok();
@@ -213,11 +242,14 @@ impl<'a, N: Node, G: Gate, T: Transport, C: Cut> Context<'a, N, G, T, C> {
         let mut said = BatchReply::new(alloc);
         enter_all(&mut desk, share, events, batch.as_ref(), &mut said);
         let Turns { made, is_idle } = self.follow(&mut desk, share, &mut said);
-        self.leave(rt, desk, said);
+        let behind = self.leave(rt, desk, said);
         if !is_idle {
             self.wake_up(rt, WakeUp::Done);
         }
-        made
+        TakenIn {
+            turns: made,
+            behind,
+        }
     }
 
     // Makes the turns that are allowed by what was done, if anything was: none where the runner makes some at the moment, and at a
@@ -240,20 +272,21 @@ impl<'a, N: Node, G: Gate, T: Transport, C: Cut> Context<'a, N, G, T, C> {
     }
 
     // Puts what was said to what waits for its peers, gives the lock up, and sends it. Where the node is finished the run is to end,
-    // also if a send waits for a peer that reads nothing.
-    fn leave<R: Wait>(&self, rt: &R, desk: Locked<'_, N>, said: BatchReply) {
+    // also if a send waits for a peer that reads nothing. A peer that was sent something and is far behind, if there is one.
+    fn leave<R: Wait>(&self, rt: &R, desk: Locked<'_, N>, said: BatchReply) -> Option<usize> {
         let is_finished = !self.ending.is_set() && desk.finished();
         let BatchReply { mut frames, .. } = said;
         if self.writers.len() > 1 {
             // Where there is no memory to sort them, a peer's are put in several parts.
             let _ = frames.sort_by_key(|outgoing| outgoing.peer);
         }
-        self.put(rt, &desk, &frames);
+        let behind = self.put(rt, &desk, &frames);
         desk.release();
         if is_finished {
             self.end(rt);
         }
         self.send(rt, &frames);
+        behind
     }
 
     /// Asks the node whether nothing is left to do: then the run is to end.
@@ -279,13 +312,19 @@ impl<'a, N: Node, G: Gate, T: Transport, C: Cut> Context<'a, N, G, T, C> {
     }
 
     // Puts the frames to what waits for their peers. Only who holds the desk's lock may: so frames for one peer are written in the
-    // order of the steps, whoever hands in.
-    fn put<R: Wait>(&self, rt: &R, held: &Locked<'_, N>, frames: &[Outgoing]) {
+    // order of the steps, whoever hands in. A peer of them that is far behind, if there is one.
+    fn put<R: Wait>(&self, rt: &R, held: &Locked<'_, N>, frames: &[Outgoing]) -> Option<usize> {
+        let mut behind = None;
         for part in frames.chunk_by(|one, other| one.peer == other.peer) {
             if let Some((peer, writer)) = self.writer_of(part) {
-                writer.put(rt, part, is_behind(held.unacked(peer)));
+                let unacked = held.unacked(peer);
+                writer.put(rt, part, is_behind(unacked));
+                if is_far_behind(unacked) {
+                    behind = Some(peer);
+                }
             }
         }
+        behind
     }
 
     // Sends what waits for the peers of these frames, with no lock held.
@@ -318,28 +357,48 @@ fn is_behind(unacked: Option<usize>) -> bool
     matches!(unacked, Some(count) if SIGNALS_BEHIND <= count)
 }
 
-// Makes the step of an event, which may have come with a batch, and adds what is said. Whether it did something.
+// Whether a peer is far behind that hasn't acknowledged so many signals.
+fn is_far_behind(unacked: Option<usize>) -> bool {
+    matches!(unacked, Some(count) if SIGNALS_FAR_BEHIND <= count)
+}
+
+// Makes the step of an event, and adds what is said. Whether it did something.
 fn enter<N: Node>(
     desk: &mut Locked<'_, N>,
     share: &mut Share,
     event: Event,
-    batch: Option<&Batch>,
     said: &mut BatchReply,
 ) -> bool
     ensures { HandedIn share.old event share.new }
 {
-    match desk.handle_among(share, &event, batch) {
+    match desk.handle(share, event) {
         Ok(reply) => {
             let has_done = is_done(&reply);
             // Frames for which there is no memory are lost, as on a line that loses frames.
-            let _ = said.add(reply);
+            let _ = said.add(&reply);
+            desk.reuse(reply);
             has_done
         }
         Err(_) => false,
     }
 }
 
-// Makes the steps of events, which may be a batch, and adds what is said.
+// Makes the steps of events one by one, and adds what is said.
+fn enter_each<N: Node>(
+    desk: &mut Locked<'_, N>,
+    share: &mut Share,
+    events: &[Event],
+    said: &mut BatchReply,
+)
+    ensures { AreHandedIn share.old events.now share.new }
+{
+    for event in events {
+        enter(desk, share, *event, said);
+    }
+}
+
+// Makes the steps of events, which may be a batch, and adds what is said. Those for which there was no memory among the others are made
+// one by one.
 fn enter_all<N: Node>(
     desk: &mut Locked<'_, N>,
     share: &mut Share,
@@ -347,10 +406,15 @@ fn enter_all<N: Node>(
     batch: Option<&Batch>,
     said: &mut BatchReply,
 )
+    requires { IfSome batch (λ b. b.now ≡ events.now) }
     ensures { AreHandedIn share.old events.now share.new }
 {
-    for event in events {
-        enter(desk, share, *event, batch, said);
+    match batch {
+        Some(batch) => {
+            let made = desk.handle_batch(share, batch, said);
+            enter_each(desk, share, &events[made..], said);
+        }
+        None => enter_each(desk, share, events, said),
     }
 }
 
@@ -411,7 +475,7 @@ fn enter_turns<N: Node>(
 fn turn_is_idle<N: Node>(desk: &mut Locked<'_, N>, share: &mut Share, said: &mut BatchReply) -> bool
     ensures { (between : List Slip) × HandedIn share.old Events.Announce between × HandedIn between Events.Advance share.new }
 {
-    let has_announced = enter(desk, share, Event::Announce, None, said);
-    let has_advanced = enter(desk, share, Event::Advance, None, said);
+    let has_announced = enter(desk, share, Event::Announce, said);
+    let has_advanced = enter(desk, share, Event::Advance, said);
     !has_announced && !has_advanced
 }

@@ -16,7 +16,6 @@
 //! end what they send, readers come to the end of what was sent. Begin with `gate`, then `context`, then `reader`.
 #![tactic(auto)]
 
-mod batch_reply;
 pub mod context;
 pub mod dialed;
 pub mod gate;
@@ -29,7 +28,7 @@ pub mod wake_ups;
 pub mod writer;
 pub mod writer_queue;
 
-pub use context::{Context, Turns};
+pub use context::{Context, TakenIn, Turns};
 pub use dialed::read_dialed;
 pub use gate::{Gate, NoGate, Point};
 pub use reader::read;

@@ -5,7 +5,7 @@ ghost use Rattle.node.specs.declared.event.Event.{Event as IsEvent};
 ghost use Rattle.wires_workers.specs.AreRead.{AreRead};
 ghost use Rattle.wires_workers.specs.HandedIn.{AreHandedIn, events_of_turns};
 
-use crate::context::Context;
+use crate::context::{Context, TakenIn};
 use crate::gate::Gate;
 use crate::greeted::Greeted;
 use crate::side::Side;
@@ -23,6 +23,8 @@ use wires_transports::{Accepted, Connection, Cut, Transport};
 const ROOM: usize = 16_384;
 // Events that are handed in at once, at most.
 const AT_ONCE: usize = 512;
+// The same, where a peer is far behind that was sent something by the last ones.
+const FEW_AT_ONCE: usize = 64;
 
 /// Reads a peer's connections one after the other, as they come, until no more come; its share. Each is greeted first.
 pub fn read<R: Wait + Clock, N: Node, G: Gate, T: Transport, C: Cut>(
@@ -112,11 +114,14 @@ fn read_on<R: Wait + Clock, N: Node, G: Gate, T: Transport, C: Cut>(
     frames: &mut FrameReader,
 ) {
     let mut heard = frames.version();
+    let mut most = AT_ONCE;
     let Ok(mut room) = Vec::from_elem(alloc, 0, ROOM) else {
         return;
     };
     for _ in rt.forever() {
-        match take_some(rt, alloc, context, share, peer, frames, &mut heard) {
+        match take_some(
+            rt, alloc, context, share, peer, frames, &mut heard, &mut most,
+        ) {
             Some(true) => {}
             Some(false) if has_read(rt, incoming, &mut room, frames) => {}
             _ => break,
@@ -148,28 +153,52 @@ fn take_some<R: Wait + Clock, N: Node, G: Gate, T: Transport, C: Cut>(
     peer: usize,
     frames: &mut FrameReader,
     heard: &mut u8,
+    most: &mut usize,
 ) -> Option<bool>
     ensures events { (events : List IsEvent) × (stream : Stream) × (turns : ℕ) × AreRead peer frames.old events stream × AreHandedIn share.old (events ++ events_of_turns turns) share.new × (context.now.runner ≡ None → turns ≡ 0) × IfSome result (λ _. frames.new ≡ stream) }
     ensures heard { heard.new ≡ frames.new.version }
 {
     let mut events = Vec::new(alloc);
-    let next = collect(peer, frames, &mut events);
+    let next = collect(peer, frames, *most, &mut events);
     let version = frames.version();
     if version != *heard {
         context.hear(rt, peer, version);
         *heard = version;
     }
-    context.take_in(rt, alloc, share, &events);
+    let TakenIn { behind, .. } = context.take_in(rt, alloc, share, &events);
+    *most = pace(rt, context, peer, behind);
     next
 }
 
-// Makes an event of each of the next whole frames; whether there may be more. None where what comes next is no frame, or there is
+// Waits a little for a peer that is far behind, if that isn't the reader's own: it would have no room for more, and what it has no room
+// for has to be sent again. How many events are handed in next, at most.
+fn pace<R: Wait + Clock, N: Node, G: Gate, T: Transport, C: Cut>(
+    rt: &R,
+    context: &Context<'_, N, G, T, C>,
+    own: usize,
+    behind: Option<usize>,
+) -> usize {
+    match behind {
+        Some(peer) if peer != own => {
+            context.wait_for(rt, peer);
+            FEW_AT_ONCE
+        }
+        _ => AT_ONCE,
+    }
+}
+
+// Makes an event of each of the next whole frames, at most so many; whether there may be more. None where what comes next is no frame, or there is
 // no memory for the event.
-fn collect(peer: usize, frames: &mut FrameReader, events: &mut Vec<Event>) -> Option<bool>
+fn collect(
+    peer: usize,
+    frames: &mut FrameReader,
+    most: usize,
+    events: &mut Vec<Event>,
+) -> Option<bool>
     requires { events.old.items ≡ [] }
     ensures { (stream : Stream) × AreRead peer frames.old events.new.items stream × IfSome result (λ _. frames.new ≡ stream) }
 {
-    for _ in 0..AT_ONCE {
+    for _ in 0..most {
         events.reserve(1).ok()?;
         match frames.next() {
             Ok(Some(frame)) => events.push_reserved(Event::Frame(peer, frame)),

@@ -124,6 +124,13 @@ impl<'a> World<'a> {
         self.stations.steps()
     }
 
+    /// The same, without the world.
+    pub fn into_steps(self) -> MadeSteps
+        ensures { result.steps ≡ self.entry.steps }
+    {
+        Box::into_inner(self.stations).into_steps()
+    }
+
     /// How many federates there are.
     pub fn federate_count(&self) -> usize
         ensures { result ≡ federate_count self.now.draft }

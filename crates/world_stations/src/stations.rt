@@ -91,6 +91,13 @@ impl<H: Node, M: Blank> Stations<H, M> {
         &self.steps
     }
 
+    /// The same, without the stations.
+    pub fn into_steps(self) -> MadeSteps
+        ensures { result.steps ≡ self.steps }
+    {
+        self.steps
+    }
+
     /// Whether a federate kept its state through all steps.
     pub fn kept(&self, federate: usize) -> bool
         ensures { result ≡ is_kept self.now.steps federate }
@@ -255,7 +262,9 @@ impl<H: Node, M: Blank> Stations<H, M> {
         append_each(&mut self.down, frames);
         self.spare = self.spare.saturating_sub(frames.len());
         self.steps.put(step);
-        Ok(outcome_of(&reply))
+        let outcome = outcome_of(&reply);
+        self.coordinator.reuse(reply);
+        Ok(outcome)
     }
 
     // An event at a federate.
@@ -271,7 +280,9 @@ impl<H: Node, M: Blank> Stations<H, M> {
         let reply = step_at(&mut self.federates, federate, event)?;
         append_all(&mut self.up, federate, frames_of(&reply));
         self.steps.put(step);
-        Ok(outcome_of(&reply))
+        let outcome = outcome_of(&reply);
+        reuse_at(&mut self.federates, federate, reply);
+        Ok(outcome)
     }
 
     // A federate loses its state.
@@ -329,6 +340,14 @@ fn step_at<M: Node>(
     ensures unchanged { OnErr result (federates.new.items ≡ federates.old.items) }
 {
     federates[federate].step(event)
+}
+
+// Has one of the federates' stations take back the room of a reply's frames.
+fn reuse_at<M: Node>(federates: &mut Vec<Station<M>>, federate: usize, reply: Reply)
+    requires { federate < length federates.old.items }
+    ensures { federates.new.items ≡ federates.old.items }
+{
+    federates[federate].reuse(reply);
 }
 
 // A federate says or runs something.

@@ -1,5 +1,6 @@
-use Rattle.std.proofs.Common.{◌≡◌, ◌∙◌, false}
+use Rattle.std.proofs.Common.{◌≡◌, ◌∙◌, IfSome, false, subst}
 use Rattle.std.proofs.lemmas.Result.{err_from_is_err_and}
+use Rattle.fedrun_run.specs.Printed.{IsTextOf}
 use Rattle.fedrun_run.proofs.Believed.{no_desks}
 use Rattle.fedrun_run.proofs.Reports.{reported_so}
 use Rattle.fedrun_run.proofs.node_reports.reports_by.Goals as goal
@@ -21,3 +22,7 @@ returns-in_err-gathered-clause-fault g c =
     rw (told.1, told.2)
     (no_desks c.gathered.result c.in_err-gathered.field-0.0 (λ desks. g.H.Node.core.finished desks.coordinator.station.node ≡ false)
     c.in_err-gathered.ensures.unfinished c.in_err-gathered.ensures.fault)
+
+pub returns-clause-text : goal.returns-clause-text
+returns-clause-text g c =
+    subst (λ l. IfSome c.text_of-text.result (λ text. IsTextOf c.args.output c.args.plan.now l text.items)) c.reports.ensures c.text_of-text.ensures

@@ -1,6 +1,7 @@
-use Rattle.std.proofs.Common.{◌≡◌, ◌∙◌, ap, refl, rules}
+use Rattle.std.proofs.Common.{◌≡◌, ◌∙◌, IfSome, ap, refl, rules, subst, sym}
 use Rattle.std.proofs.lemmas.Result.{err_from_is_err_and}
-use Rattle.fedrun_run.proofs.Believed.{of_the_run, same_said, printed_of_some, fault_of_some}
+use Rattle.fedrun_run.specs.Printed.{IsTextOf}
+use Rattle.fedrun_run.proofs.Believed.{of_the_run, same_said, printed_of_some, fault_of_some, text_lent}
 use Rattle.fedrun_run.proofs.running.print_audited_run.Goals as goal
 
 pub returns-in_err-node_reports-clause-fault : goal.returns-in_err-node_reports-clause-fault
@@ -9,21 +10,28 @@ returns-in_err-node_reports-clause-fault g c =
     rw (told.1, told.2)
     (of_the_run c.args.plan.now c.args.programs.now c.args.inputs.now _ (rw c.in_err-node_reports.was at c.run_and_ask-audit.ensures.fault))
 
-pub print_audited-requires : goal.print_audited-requires
-print_audited-requires g c = record { plan = ap (λ w. w.draft) (c.run_and_ask-audit.ensures.audit ∙ c.in-Ok.ensures.begun) }
+pub print_audited_text-requires : goal.print_audited_text-requires
+print_audited_text-requires g c =
+    let said = c.in_ok-node_reports.node_reports in
+    let text : IfSome said.text (λ text. IsTextOf c.args.output c.args.plan.now said.reports.reports text.items) = rw c.in_ok-node_reports.was at c.run_and_ask-audit.ensures.text in
+    record {
+      plan = ap (λ w. w.draft) (c.run_and_ask-audit.ensures.audit ∙ c.in-Ok.ensures.begun);
+      text = text_lent (IsTextOf c.args.output c.args.plan.now c.reports.result.now) _ (λ x y is. is.0) said.text c.as_deref.result c.as_deref.ensures.cases
+          (subst (λ l. IfSome said.text (λ text. IsTextOf c.args.output c.args.plan.now l text.items)) (sym c.reports.ensures) text);
+    }
 
 pub returns-clause-ok : goal.returns-clause-ok
 returns-clause-ok g c =
     let said = c.in_ok-node_reports.node_reports in
     let reports : c.reports.result.now ≡ said.reports.reports = search rules in
-    printed_of_some c.args.output c.args.plan.now c.args.programs.now c.args.inputs.now _ c.reports.result.now said.coordinator _ _ c.print_audited.result
+    printed_of_some c.args.output c.args.plan.now c.args.programs.now c.args.inputs.now _ c.reports.result.now said.coordinator _ _ c.print_audited_text.result
     (same_said reports refl (rw c.in_ok-node_reports.was at c.run_and_ask-audit.ensures.reported))
-    (c.run_and_ask-audit.ensures.audit ∙ c.in-Ok.ensures.begun) c.print_audited.ensures.ok
+    (c.run_and_ask-audit.ensures.audit ∙ c.in-Ok.ensures.begun) c.print_audited_text.ensures.ok
 
 pub returns-clause-fault : goal.returns-clause-fault
 returns-clause-fault g c =
     let said = c.in_ok-node_reports.node_reports in
     let reports : c.reports.result.now ≡ said.reports.reports = search rules in
-    fault_of_some c.args.plan.now c.args.programs.now c.args.inputs.now _ c.reports.result.now said.coordinator c.print_audited.result
+    fault_of_some c.args.plan.now c.args.programs.now c.args.inputs.now _ c.reports.result.now said.coordinator c.print_audited_text.result
     (same_said reports refl (rw c.in_ok-node_reports.was at c.run_and_ask-audit.ensures.reported))
-    (c.run_and_ask-audit.ensures.audit ∙ c.in-Ok.ensures.begun) c.print_audited.ensures.fault
+    (c.run_and_ask-audit.ensures.audit ∙ c.in-Ok.ensures.begun) c.print_audited_text.ensures.fault

@@ -1,4 +1,4 @@
-use Rattle.std.proofs.Common.{List, Option, IsOkAnd}
+use Rattle.std.proofs.Common.{List, Option}
 use Rattle.std.proofs.lemmas.Result.{IfOk-weaker}
 use Rattle.wires.specs.declared.job.WorkerResult.{WorkerResult}
 use Rattle.fedrun_run.specs.Reported.{AreReported}

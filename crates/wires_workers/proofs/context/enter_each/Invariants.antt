@@ -1,6 +1,6 @@
 use Rattle.std.proofs.Common.{take}
 use Rattle.wires_workers.specs.HandedIn.{AreHandedIn}
-use Rattle.wires_workers.proofs.context.enter_all.Given as goal
+use Rattle.wires_workers.proofs.context.enter_each.Given as goal
 
 -- the events so far are handed in
 abbrev pub invariant-loop-event : goal.invariant-loop-event

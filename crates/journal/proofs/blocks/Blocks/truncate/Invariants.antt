@@ -1,5 +1,5 @@
 use Rattle.std.proofs.Common.{◌≡◌, ◌≤◌, length, take}
-use Rattle.journal.proofs.journal.Journal.truncate.Given as goal
+use Rattle.journal.proofs.blocks.Blocks.truncate.Given as goal
 
 -- so many are left so far
 abbrev pub invariant-loop-place : goal.invariant-loop-place

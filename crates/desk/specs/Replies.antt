@@ -1,0 +1,35 @@
+-- What a desk answers to several events, and what of it is to be sent.
+use Rattle.std.specs.Prelude.{◌≡◌, ◌⊎◌, Bool, true, false, ◌||◌, List, [], ◌∷◌, ◌++◌}
+use Rattle.node.specs.declared.event.Event.{Event}
+use Rattle.node.specs.declared.outgoing.Outgoing.{Outgoing}
+use Rattle.node.specs.Core.{Core}
+use Rattle.node.specs.Step.{Station, Answer, Silent, Says, Declines, step_of}
+use Rattle.desk.specs.declared.batch_reply.BatchReply.{BatchReply}
+
+-- whether something changed, or is to be sent
+abbrev pub is_done : Answer → Bool
+is_done Silent = false
+is_done (Says frames) = true
+is_done (Declines number frames) = false
+
+-- the frames that are to be sent, in their order
+abbrev pub frames_of : Answer → List Outgoing
+frames_of Silent = []
+frames_of (Says frames) = frames
+frames_of (Declines number frames) = frames
+
+-- the answers to events that come to a station one after the other
+abbrev pub answers_of : {View Row : Type 0} → Core View Row → (hub : Bool) → Station View → List Event → List Answer
+answers_of core hub s [] = []
+answers_of core hub s (event ∷ events) = (step_of core hub s event).answer ∷ answers_of core hub (step_of core hub s event).station events
+
+-- an answer is added to what was said: its frames behind all others, or none of them where there is no memory
+pub record IsAdded (answer : Answer) (before after : BatchReply) : Type 0 where
+  pub done : after.has_done ≡ (before.has_done || is_done answer)
+  pub frames : (after.frames.items ≡ before.frames.items ++ frames_of answer) ⊎ (after.frames.items ≡ before.frames.items)
+
+-- answers are added one after the other
+pub data AreAdded (before : BatchReply) : List Answer → BatchReply → Type 0 where
+  none : AreAdded before [] before
+  one_more : {answers : List Answer} {between : BatchReply} {answer : Answer} {after : BatchReply} →
+      AreAdded before answers between → IsAdded answer between after → AreAdded before (answers ++ answer ∷ []) after

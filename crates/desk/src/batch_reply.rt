@@ -1,0 +1,51 @@
+ghost use Rattle.std.specs.Prelude.{◌≡◌, false, ◌||◌, ◌++◌, [], OnOk, OnErr};
+ghost use Rattle.node.specs.Step.{said};
+ghost use Rattle.desk.specs.Replies.{is_done, frames_of};
+
+use node::{Outgoing, Reply};
+use std::alloc::{AllocError, Global};
+
+/// What a desk says to several events: the frames of all its replies, and whether one of them did something.
+#[derive(Drop)]
+pub struct BatchReply {
+    /// The frames, in their order.
+    pub frames: Vec<Outgoing>,
+    /// Whether something changed, or is to be sent.
+    pub has_done: bool,
+}
+
+impl BatchReply {
+    /// Nothing.
+    pub fn new(alloc: Global) -> BatchReply
+        ensures frames { result.frames.items ≡ [] }
+        ensures has_done { result.has_done ≡ false }
+    {
+        BatchReply {
+            frames: Vec::new(alloc),
+            has_done: false,
+        }
+    }
+
+    /// Adds what a reply says. Without memory its frames aren't added.
+    pub fn add(&mut self, reply: &Reply) -> Result<(), AllocError>
+        ensures has_done { self.new.has_done ≡ self.old.has_done || is_done (said reply.now) }
+        ensures frames { OnOk result (self.new.frames.items ≡ self.old.frames.items ++ frames_of (said reply.now)) }
+        ensures unchanged { OnErr result (self.new.frames.items ≡ self.old.frames.items) }
+    {
+        match reply {
+            Reply::Done(frames) => {
+                self.has_done = true;
+                self.frames.extend_from_slice(frames)
+            }
+            Reply::Refused(_, frames) => self.frames.extend_from_slice(frames),
+            Reply::Nothing => Ok(()),
+        }
+    }
+}
+
+/// Whether a reply says that something was done.
+pub fn is_done(reply: &Reply) -> bool
+    ensures { result ≡ is_done (said reply.now) }
+{
+    matches!(reply, Reply::Done(_))
+}
