@@ -117,7 +117,7 @@ fn behind_after<R: Machine>(
         incarnation: 1,
         last_taken,
     };
-    let more = [Event::Frame(1, ack), message(count + 1)];
+    let more = [Event::Frame(1, ack), message(count.saturating_add(1))];
     let after = context.take_in(rt, alloc, &mut share, &more).behind;
     Some((before, after))
 }
