@@ -1,6 +1,4 @@
-//! Turns that are made behind what a peer sent: as many as something is done in, and one more, where they are left. And who is far behind
-//! then.
-use coordinator::Coordinator;
+//! Turns that are made behind what a peer sent: as many as something is done in, and one more, where they are left.
 use desk::Share;
 use federate::Federate;
 use node::{Event, NodeId};
@@ -72,72 +70,5 @@ fn makes_turns_until_one_does_nothing(rt: HostRuntime) {
     ];
     for (turns, expected) in cases {
         assert_eq!(rt; followed_at_src(&rt, turns), Some(expected), "{turns}");
-    }
-}
-
-/// A message of the counter's src for its other federate.
-fn message(number: u64) -> Event {
-    let signal = Signal::Msg {
-        connection: 0,
-        tag: at(1),
-        value: 1,
-    };
-    Event::Frame(
-        0,
-        Frame::Data {
-            incarnation: 1,
-            number,
-            signal,
-        },
-    )
-}
-
-/// Who is far behind once so many messages came, and once so many of them are acknowledged and one more came.
-fn behind_after<R: Machine>(
-    rt: &R,
-    count: u64,
-    last_taken: u64,
-) -> Option<(Option<usize>, Option<usize>)> {
-    let alloc = rt.alloc();
-    let federation = loaded(alloc, COUNTER, "")?;
-    let nodes = nodes_of(alloc, &federation)?;
-    let workers = NodeWorkers::new(alloc, NodeId::Coordinator, &nodes.coordinator, 2, false).ok()?;
-    let ending = Ending::new();
-    ending.set();
-    let context: Context<'_, Coordinator<'_>, NoGate, MemoryTransport, MemoryCut> = workers.context(
-        &NoGate, &ending,
-    );
-    let mut share = Share::new(alloc);
-    let mut events = Vec::new(alloc);
-    for number in 1..=count {
-        events.push(message(number)).ok()?;
-    }
-    let before = context.take_in(rt, alloc, &mut share, &events).behind;
-    let ack = Frame::Ack {
-        incarnation: 1,
-        last_taken,
-    };
-    let more = [Event::Frame(1, ack), message(count.saturating_add(1))];
-    let after = context.take_in(rt, alloc, &mut share, &more).behind;
-    Some((before, after))
-}
-
-/// A peer is far behind from 1,024 signals on that it hasn't acknowledged.
-#[test]
-fn tells_who_is_far_behind(rt: HostRuntime) {
-    let cases = [
-        (1, 0, (None, None)),
-        (1_022, 0, (None, None)),
-        (1_023, 0, (None, Some(1))),
-        (1_024, 0, (Some(1), Some(1))),
-        (1_024, 1, (Some(1), Some(1))),
-        (1_024, 2, (Some(1), None)),
-    ];
-    for (count, last_taken, expected) in cases {
-        assert_eq!(rt;
-            behind_after(&rt, count, last_taken),
-            Some(expected),
-            "{count} {last_taken}"
-        );
     }
 }
