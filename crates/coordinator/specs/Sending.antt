@@ -16,13 +16,15 @@ rule_by w = grant_widest (network_by w) (least_by w)
 
 -- the TAGs that a table has for these federates
 abbrev pub grants_in : Records → List ℕ → List Post
-grants_in r federates = grants_over (network_by r.wires) (rule_by r.wires) (federate_record_at r.federate_records) federates
+grants_in r federates =
+    grants_over (network_by r.wires) (rule_by r.wires) (federate_record_at r.federate_records) federates
 
 -- a TAG is what the federate is granted then; other signals grant nothing
 abbrev pub granted_with : List FederateRecord → ℕ → Signal → List FederateRecord
 granted_with federate_records j (Net tag) = federate_records
 granted_with federate_records j (Ltc tag) = federate_records
-granted_with federate_records j (Tag tag) = slice_set federate_records j (record (federate_record_at federate_records j) { granted = Some tag })
+granted_with federate_records j (Tag tag) =
+    slice_set federate_records j (record (federate_record_at federate_records j) { granted = Some tag })
 granted_with federate_records j (Msg connection tag value) = federate_records
 
 -- the records after these posts

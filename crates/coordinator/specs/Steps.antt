@@ -30,10 +30,14 @@ made_listed made = record { after = made.after; sent = made.sent }
 
 -- what the coordinator with this table does with a signal of federate i
 abbrev pub taken_by : Records → ℕ → Signal → Outcome (Made (List FederateRecord))
-taken_by r i signal = with_made made_listed (coordinator_accepts_in (network_by r.wires) (rule_by r.wires) r.federate_records i signal)
+taken_by r i signal =
+    with_made made_listed (coordinator_accepts_in (network_by r.wires) (rule_by r.wires) r.federate_records i signal)
 
 -- a step is what the coordinator does; or it has no memory, where it doesn't refuse, and then nothing has changed
-pub record IsStep (before after : Records) (mail mail_then : Mail) (answer : Result Bool NodeFault) (i : ℕ) (signal : Signal) : Type 0 where
+pub record IsStep (before after : Records) (mail mail_then : Mail) (answer : Result Bool NodeFault) (i : ℕ)
+    (signal : Signal) : Type 0 where
   pub wires : after.wires ≡ before.wires
-  pub call : answer ≢ Err fault.Memory → IsCall before.federate_records after.federate_records mail mail_then answer (taken_by before i signal)
-  pub memory : answer ≡ Err fault.Memory → (after.federate_records ≡ before.federate_records) × (mail_then ≡ mail) × Allows (taken_by before i signal)
+  pub call : answer ≢ Err fault.Memory
+      → IsCall before.federate_records after.federate_records mail mail_then answer (taken_by before i signal)
+  pub memory : answer ≡ Err fault.Memory
+      → (after.federate_records ≡ before.federate_records) × (mail_then ≡ mail) × Allows (taken_by before i signal)

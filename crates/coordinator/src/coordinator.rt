@@ -13,10 +13,11 @@ use signal::Signal;
 use std::alloc::Global;
 use std::marker::Model;
 
-/// The coordinator of a federation. Its peers are the federates, by number; contracts see the plan's draft and, by number, what it
-/// knows of each federate.
+/// The coordinator of a federation. Its peers are the federates, by number; contracts see the plan's draft and, by
+/// number, what it knows of each federate.
 ///
-/// It answers signals alone: `announce` and `advance` do nothing. Where no memory is to be had for a step, nothing has changed.
+/// It answers signals alone: `announce` and `advance` do nothing. Where no memory is to be had for a step, nothing has
+/// changed.
 #[derive(Drop)]
 pub struct Coordinator<'a> {
     plan: &'a Plan,
@@ -38,7 +39,12 @@ impl<'a> Model for Coordinator<'a> {
 impl<'a> Coordinator<'a> {
     /// Of a plan's federates, before any signal came.
     pub fn new(alloc: Global, plan: &'a Plan) -> Result<Coordinator<'a>, Memory>
-        ensures { IfOk result (λ coordinator. coordinator ≡ record { draft = plan.now; federate_records = federate_records_listed (federate_count plan.now) (λ j. initial_federate_record) }) }
+        ensures { IfOk result (λ coordinator. coordinator
+            ≡ record {
+              draft = plan.now;
+              federate_records = federate_records_listed (federate_count plan.now)
+                  (λ j. initial_federate_record);
+            }) }
     {
         let table = Table::new(alloc, plan)?;
         let posts = Vec::new(alloc);
@@ -60,7 +66,7 @@ impl<'a> Node for Coordinator<'a> {
 
     ghost listed = { λ none. [] };
 
-    ghost HUB = { true };
+    ghost IS_COORDINATOR = { true };
 
     ghost core = { coordinator_core };
 
@@ -84,7 +90,7 @@ impl<'a> Node for Coordinator<'a> {
         Ok(false)
     }
 
-    fn is_hub(&self) -> bool {
+    fn is_coordinator(&self) -> bool {
         true
     }
 

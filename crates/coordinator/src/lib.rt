@@ -1,7 +1,8 @@
-//! The coordinator of a federation: it takes the federates' signals, sends messages on, and grants each federate as much as is safe.
+//! The coordinator of a federation: it takes the federates' signals, sends messages on, and grants each federate as
+//! much as is safe.
 //!
-//! Promise to the layer above: `Coordinator` is the node of `node_cores`, `specs/CoordinatorCore`: each accepted signal is the step of
-//! `protocol`, on its list of records, or changes nothing.
+//! Promise to the layer above: `Coordinator` is the node of `node_cores`, `specs/CoordinatorCore`: each accepted signal
+//! is the step of `protocol`, on its list of records, or changes nothing.
 //!
 //!     Coordinator::accept --> State::take       is the signal refused?
 //!                                |

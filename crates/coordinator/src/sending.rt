@@ -11,8 +11,8 @@ use node::{NodeFault, Outbox};
 use protocol::Post;
 use signal::Signal;
 
-/// Sees that all that a step sends can go out: the posts that are there, and then the TAGs to those whom the change of this
-/// federate's record made eligible.
+/// Sees that all that a step sends can go out: the posts that are there, and then the TAGs to those whom the change of
+/// this federate's record made eligible.
 pub(crate) fn prepare(
     posts: &mut Vec<Post>,
     table: &Table,
@@ -20,8 +20,12 @@ pub(crate) fn prepare(
     outbox: &mut Outbox,
 ) -> Result<(), NodeFault>
     requires { changed < table.now.wires.federates }
-    ensures answer { result ≢ Err Faults.Memory → result ≡ (if lacks_room outbox.old.mail.ends (posts.old.items ++ grants_in table.now (looked_at table.now.wires changed)) then Err Faults.NoRoom else Ok tt) }
-    ensures posts { OnOk result (posts.new.items ≡ posts.old.items ++ grants_in table.now (looked_at table.now.wires changed)) }
+    ensures answer { result ≢ Err Faults.Memory
+        → result ≡ (if lacks_room outbox.old.mail.ends
+        (posts.old.items ++ grants_in table.now (looked_at table.now.wires changed))
+        then Err Faults.NoRoom else Ok tt) }
+    ensures posts { OnOk result (posts.new.items ≡ posts.old.items
+        ++ grants_in table.now (looked_at table.now.wires changed)) }
     ensures ready { OnOk result (IsReady outbox.new posts.new.items) }
     ensures mail { outbox.new.mail ≡ outbox.old.mail }
 {

@@ -54,7 +54,8 @@ impl State {
 
     /// Whether every federate has announced, and has FOREVER as its next tag.
     pub(crate) fn is_finished(&self) -> bool
-        ensures { result ≡ is_finished (network_by self.now.table.wires) (federate_record_at self.now.table.federate_records) }
+        ensures { result ≡ is_finished (network_by self.now.table.wires)
+            (federate_record_at self.now.table.federate_records) }
     {
         for federate in 0..self.table.federates() {
             if !has_finished(&self.table, federate) {
@@ -142,7 +143,8 @@ impl State {
     ) -> Result<bool, NodeFault>
         requires settled { IsSettled self.old.table }
         requires over { over ≡ slice_get self.old.table.wires.connections number }
-        ensures { IsStep self.old.table self.new.table outbox.old.mail outbox.new.mail result peer (signals.Msg number tag value) }
+        ensures { IsStep self.old.table self.new.table outbox.old.mail outbox.new.mail result peer
+            (signals.Msg number tag value) }
     {
         // For the prover: a record for each federate, and connections between federates that are there.
         self.table.invariant();
@@ -187,7 +189,8 @@ impl State {
 /// Whether a federate has announced, and has FOREVER as its next tag.
 fn has_finished(table: &Table, federate: usize) -> bool
     requires { federate < table.now.wires.federates }
-    ensures { result ≡ ((federate_record_at table.now.federate_records federate).announced && is_same (federate_record_at table.now.federate_records federate).next forever) }
+    ensures { result ≡ ((federate_record_at table.now.federate_records federate).announced
+        && is_same (federate_record_at table.now.federate_records federate).next forever) }
 {
     table.announced(federate) && table.next(federate).is_forever()
 }
@@ -205,7 +208,8 @@ fn note_next(table: &mut Table, federate: usize, next: Tag)
 /// Notes that a NET of a federate came. After its first there is nothing to note, and nobody is looked at.
 fn note_announced(table: &mut Table, federate: usize)
     requires { federate < table.old.wires.federates }
-    ensures { table.new ≡ with_looks (changed_at table.old federate (λ s. record s { announced = true })) table.new.looks }
+    ensures { table.new ≡ with_looks (changed_at table.old federate (λ s. record s { announced = true }))
+        table.new.looks }
 {
     if !table.announced(federate) {
         table.set_announced(federate, true);

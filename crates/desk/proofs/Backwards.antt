@@ -8,7 +8,7 @@ use Rattle.std.proofs.lemmas.List.Sums.{sum_by-append, sum_by-cons}
 use Rattle.std.proofs.lemmas.Bool.Decides.{nat_tests}
 use Rattle.std.proofs.lemmas.Option.{slice_get_within}
 use Rattle.node.specs.declared.event.Event.{Event}
-use Rattle.journal.specs.declared.slip.Slip.{Slip}
+use Rattle.node_journal.specs.declared.slip.Slip.{Slip}
 use Rattle.desk.specs.Shares.{all_slips, PlacesRise, IsTrueOf, is_for, Agree}
 
 -- what a journal has at a place, with one event more

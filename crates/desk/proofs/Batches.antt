@@ -3,11 +3,11 @@ use Rattle.std.proofs.Common.{arith, ◌≡◌, ◌∙◌, sym, ap, refl, subst,
 use Rattle.std.proofs.Math.Seq.{take-add, take-append_seam, drop-append_seam}
 use Rattle.std.proofs.lemmas.List.{take_more, take_all}
 use Rattle.node.specs.declared.event.Event.{Event}
-use Rattle.journal.specs.declared.slip.Slip.{Slip}
-use Rattle.journal.specs.Slips.{slips_from}
+use Rattle.node_journal.specs.declared.slip.Slip.{Slip}
+use Rattle.node_journal.specs.Slips.{slips_from}
 use Rattle.node.specs.declared.reply.Reply.{Reply}
 use Rattle.node.specs.Core.{Core}
-use Rattle.node.specs.Step.{Station, Stepped, said, step_of, initial_of}
+use Rattle.node.specs.Step.{Station, Stepped, answer_in, step_of, initial_of}
 use Rattle.std.specs.declared.alloc.AllocError.{AllocError}
 use Rattle.desk.specs.declared.batch_reply.BatchReply.{BatchReply}
 use Rattle.desk.specs.Replay.{after_all, replay}
@@ -18,38 +18,38 @@ use Rattle.desk.proofs.Replays.{after_push}
 next_of : (events : List Event) (k : ℕ) (event : Event) → k < length events → event ≡ get_or events k event → take (k + 1) events ≡ take k events ++ event ∷ []
 next_of events k event within is = take_more events k event within ∙ ap (λ (x : Event). take k events ++ x ∷ []) (sym is)
 
-answers_push : {View Row : Type 0} (core : Core View Row) (hub : Bool) (s : Station View) (events : List Event) (event : Event) →
-    answers_of core hub s (events ++ event ∷ []) ≡ answers_of core hub s events ++ (step_of core hub (after_all core hub s events) event).answer ∷ []
-answers_push core hub s [] event = refl
-answers_push core hub s (first ∷ events) event =
-    ap (λ rest. (step_of core hub s first).answer ∷ rest) (answers_push core hub (step_of core hub s first).station events event)
+answers_push : {View Row : Type 0} (core : Core View Row) (is_coordinator : Bool) (s : Station View) (events : List Event) (event : Event) →
+    answers_of core is_coordinator s (events ++ event ∷ []) ≡ answers_of core is_coordinator s events ++ (step_of core is_coordinator (after_all core is_coordinator s events) event).answer ∷ []
+answers_push core is_coordinator s [] event = refl
+answers_push core is_coordinator s (first ∷ events) event =
+    ap (λ rest. (step_of core is_coordinator s first).answer ∷ rest) (answers_push core is_coordinator (step_of core is_coordinator s first).station events event)
 
-after_append : {View Row : Type 0} (core : Core View Row) (hub : Bool) (s : Station View) (xs ys : List Event) →
-    after_all core hub s (xs ++ ys) ≡ after_all core hub (after_all core hub s xs) ys
-after_append core hub s [] ys = refl
-after_append core hub s (x ∷ xs) ys = after_append core hub (step_of core hub s x).station xs ys
+after_append : {View Row : Type 0} (core : Core View Row) (is_coordinator : Bool) (s : Station View) (xs ys : List Event) →
+    after_all core is_coordinator s (xs ++ ys) ≡ after_all core is_coordinator (after_all core is_coordinator s xs) ys
+after_append core is_coordinator s [] ys = refl
+after_append core is_coordinator s (x ∷ xs) ys = after_append core is_coordinator (step_of core is_coordinator s x).station xs ys
 
-module _ {View Row : Type 0} (core : Core View Row) (hub : Bool) (s now after : Station View) (events : List Event) (place : ℕ) (event : Event) (reply : Reply) (within : place < length events) (there : event ≡ get_or events place event) (before : now ≡ after_all core hub s (take place events)) (step : record { station = after; answer = said reply } ≡ step_of core hub now event) where
+module _ {View Row : Type 0} (core : Core View Row) (is_coordinator : Bool) (s now after : Station View) (events : List Event) (place : ℕ) (event : Event) (reply : Reply) (within : place < length events) (there : event ≡ get_or events place event) (before : now ≡ after_all core is_coordinator s (take place events)) (step : record { station = after; answer = answer_in reply } ≡ step_of core is_coordinator now event) where
   -- the station after one step more
-  pub one_step : after ≡ after_all core hub s (take (place + 1) events)
+  pub one_step : after ≡ after_all core is_coordinator s (take (place + 1) events)
   one_step =
-      ap (λ (d : Stepped View). d.station) step ∙ ap (λ t. (step_of core hub t event).station) before
-      ∙ sym (after_push core hub s (take place events) event) ∙ ap (after_all core hub s) (sym (next_of events place event within there))
+      ap (λ (d : Stepped View). d.station) step ∙ ap (λ t. (step_of core is_coordinator t event).station) before
+      ∙ sym (after_push core is_coordinator s (take place events) event) ∙ ap (after_all core is_coordinator s) (sym (next_of events place event within there))
 
   -- and what is said with its answer
-  pub one_answer : (first between last : BatchReply) → AreAdded first (answers_of core hub s (take place events)) between → IsAdded (said reply) between last →
-      AreAdded first (answers_of core hub s (take (place + 1) events)) last
+  pub one_answer : (first between last : BatchReply) → AreAdded first (answers_of core is_coordinator s (take place events)) between → IsAdded (answer_in reply) between last →
+      AreAdded first (answers_of core is_coordinator s (take (place + 1) events)) last
   one_answer first between last added one =
-      let answer : said reply ≡ (step_of core hub (after_all core hub s (take place events)) event).answer =
-      ap (λ (d : Stepped View). d.answer) step ∙ ap (λ t. (step_of core hub t event).answer) before in
-      let more : answers_of core hub s (take (place + 1) events) ≡ answers_of core hub s (take place events) ++ said reply ∷ [] =
-      ap (answers_of core hub s) (next_of events place event within there) ∙ answers_push core hub s (take place events) event
-      ∙ ap (λ a. answers_of core hub s (take place events) ++ a ∷ []) (sym answer) in
+      let answer : answer_in reply ≡ (step_of core is_coordinator (after_all core is_coordinator s (take place events)) event).answer =
+      ap (λ (d : Stepped View). d.answer) step ∙ ap (λ t. (step_of core is_coordinator t event).answer) before in
+      let more : answers_of core is_coordinator s (take (place + 1) events) ≡ answers_of core is_coordinator s (take place events) ++ answer_in reply ∷ [] =
+      ap (answers_of core is_coordinator s) (next_of events place event within there) ∙ answers_push core is_coordinator s (take place events) event
+      ∙ ap (λ a. answers_of core is_coordinator s (take place events) ++ a ∷ []) (sym answer) in
       subst (λ answers. AreAdded first answers last) (sym more) (one_more added one)
 
 -- what was said grew by an answer, or its frames found no memory
-pub is_added : (reply : Reply) (before after : BatchReply) (result : Result (Unit {0}) AllocError) → after.has_done ≡ (before.has_done || is_done (said reply)) →
-    OnOk result (after.frames.items ≡ before.frames.items ++ frames_of (said reply)) → OnErr result (after.frames.items ≡ before.frames.items) → IsAdded (said reply) before after
+pub is_added : (reply : Reply) (before after : BatchReply) (result : Result (Unit {0}) AllocError) → after.has_done ≡ (before.has_done || is_done (answer_in reply)) →
+    OnOk result (after.frames.items ≡ before.frames.items ++ frames_of (answer_in reply)) → OnErr result (after.frames.items ≡ before.frames.items) → IsAdded (answer_in reply) before after
 is_added reply before after (Ok _) done frames unchanged = record { done = done; frames = inl frames }
 is_added reply before after (Err _) done frames unchanged = record { done = done; frames = inr unchanged }
 
@@ -58,22 +58,22 @@ pub all_first : (events : List Event) (place : ℕ) → length events ≤ place 
 all_first events place done = take_all place events done ∙ sym (take_all (length events) events (omega arith))
 
 -- a station through all steps is made from the same
-initial_stays : {View Row : Type 0} (core : Core View Row) (hub : Bool) → ((s : Station View) (event : Event) → initial_of core (step_of core hub s event).station ≡ initial_of core s) →
-    (s : Station View) (events : List Event) → initial_of core (after_all core hub s events) ≡ initial_of core s
-initial_stays core hub stays s [] = refl
-initial_stays core hub stays s (event ∷ events) = initial_stays core hub stays (step_of core hub s event).station events ∙ stays s event
+initial_stays : {View Row : Type 0} (core : Core View Row) (is_coordinator : Bool) → ((s : Station View) (event : Event) → initial_of core (step_of core is_coordinator s event).station ≡ initial_of core s) →
+    (s : Station View) (events : List Event) → initial_of core (after_all core is_coordinator s events) ≡ initial_of core s
+initial_stays core is_coordinator stays s [] = refl
+initial_stays core is_coordinator stays s (event ∷ events) = initial_stays core is_coordinator stays (step_of core is_coordinator s event).station events ∙ stays s event
 
-pub initial_after : {View Row : Type 0} (core : Core View Row) (hub : Bool) → ((s : Station View) (event : Event) → initial_of core (step_of core hub s event).station ≡ initial_of core s) →
-    (s after : Station View) (events : List Event) → after ≡ after_all core hub s events → initial_of core after ≡ initial_of core s
-initial_after core hub stays s after events is = ap (initial_of core) is ∙ initial_stays core hub stays s events
+pub initial_after : {View Row : Type 0} (core : Core View Row) (is_coordinator : Bool) → ((s : Station View) (event : Event) → initial_of core (step_of core is_coordinator s event).station ≡ initial_of core s) →
+    (s after : Station View) (events : List Event) → after ≡ after_all core is_coordinator s events → initial_of core after ≡ initial_of core s
+initial_after core is_coordinator stays s after events is = ap (initial_of core) is ∙ initial_stays core is_coordinator stays s events
 
 -- a station that made the steps of events is what the journal with them gives
-pub replays_all : {View Row : Type 0} (core : Core View Row) (hub : Bool) → ((s : Station View) (event : Event) → initial_of core (step_of core hub s event).station ≡ initial_of core s) →
-    (s after : Station View) (journal later events : List Event) → s ≡ replay core hub s journal → after ≡ after_all core hub s events → later ≡ journal ++ events →
-    after ≡ replay core hub after later
-replays_all core hub stays s after journal later events is made more =
-    made ∙ ap (λ t. after_all core hub t events) is ∙ sym (after_append core hub (initial_of core s) journal events)
-    ∙ ap (λ o. after_all core hub o (journal ++ events)) (sym (initial_after core hub stays s after events made)) ∙ ap (after_all core hub (initial_of core after)) (sym more)
+pub replays_all : {View Row : Type 0} (core : Core View Row) (is_coordinator : Bool) → ((s : Station View) (event : Event) → initial_of core (step_of core is_coordinator s event).station ≡ initial_of core s) →
+    (s after : Station View) (journal later events : List Event) → s ≡ replay core is_coordinator s journal → after ≡ after_all core is_coordinator s events → later ≡ journal ++ events →
+    after ≡ replay core is_coordinator after later
+replays_all core is_coordinator stays s after journal later events is made more =
+    made ∙ ap (λ t. after_all core is_coordinator t events) is ∙ sym (after_append core is_coordinator (initial_of core s) journal events)
+    ∙ ap (λ o. after_all core is_coordinator o (journal ++ events)) (sym (initial_after core is_coordinator stays s after events made)) ∙ ap (after_all core is_coordinator (initial_of core after)) (sym more)
 
 -- of what was added the last ones are taken off
 pub kept_some : {X : Type 0} (xs ys whole : List X) (made left : ℕ) → whole ≡ xs ++ ys → made ≤ length ys → left ≡ length ys - made →

@@ -2,7 +2,7 @@
 use Rattle.std.proofs.Common.{◌≡◌, ◌≢◌, ◌∙◌, ◌↔◌, sym, ap, ◌+◌, Bool, true, false, Option, None, Some, MatchOption, List, [], ◌∷◌, ◌++◌, length, take, slice_get, arith}
 use Rattle.std.proofs.lemmas.List.{length_push}
 use Rattle.std.proofs.Math.Seq.{take-append_seam}
-use Rattle.journal.proofs.Places.{get_right}
+use Rattle.node_journal.proofs.Places.{get_right}
 
 -- an item was added, and taken off again
 pub undone : {X : Type 0} (old more new : List X) (item : X) (taken : Option X) → more ≡ old ++ item ∷ [] →

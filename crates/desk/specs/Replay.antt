@@ -10,10 +10,13 @@ pub record Desk (View : Type 0) : Type 0 where
   pub journal : List Event
 
 -- the station after these events, one after the other
-abbrev pub after_all : {View Row : Type 0} → Core View Row → (hub : Bool) → Station View → List Event → Station View
-after_all core hub s [] = s
-after_all core hub s (event ∷ events) = after_all core hub (step_of core hub s event).station events
+abbrev pub after_all : {View Row : Type 0} → Core View Row → (is_coordinator : Bool) → Station View
+    → List Event → Station View
+after_all core is_coordinator s [] = s
+after_all core is_coordinator s (event ∷ events) =
+    after_all core is_coordinator (step_of core is_coordinator s event).station events
 
 -- the station that a journal gives: all its events, from the initial station of what it was made from
-abbrev pub replay : {View Row : Type 0} → Core View Row → (hub : Bool) → Station View → List Event → Station View
-replay core hub s journal = after_all core hub (initial_of core s) journal
+abbrev pub replay : {View Row : Type 0} → Core View Row → (is_coordinator : Bool) → Station View
+    → List Event → Station View
+replay core is_coordinator s journal = after_all core is_coordinator (initial_of core s) journal

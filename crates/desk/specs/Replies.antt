@@ -19,14 +19,18 @@ frames_of (Says frames) = frames
 frames_of (Declines number frames) = frames
 
 -- the answers to events that come to a station one after the other
-abbrev pub answers_of : {View Row : Type 0} → Core View Row → (hub : Bool) → Station View → List Event → List Answer
-answers_of core hub s [] = []
-answers_of core hub s (event ∷ events) = (step_of core hub s event).answer ∷ answers_of core hub (step_of core hub s event).station events
+abbrev pub answers_of : {View Row : Type 0} → Core View Row → (is_coordinator : Bool) → Station View
+    → List Event → List Answer
+answers_of core is_coordinator s [] = []
+answers_of core is_coordinator s (event ∷ events) =
+    (step_of core is_coordinator s event).answer
+    ∷ answers_of core is_coordinator (step_of core is_coordinator s event).station events
 
 -- an answer is added to what was said: its frames behind all others, or none of them where there is no memory
 pub record IsAdded (answer : Answer) (before after : BatchReply) : Type 0 where
   pub done : after.has_done ≡ (before.has_done || is_done answer)
-  pub frames : (after.frames.items ≡ before.frames.items ++ frames_of answer) ⊎ (after.frames.items ≡ before.frames.items)
+  pub frames : (after.frames.items ≡ before.frames.items ++ frames_of answer)
+      ⊎ (after.frames.items ≡ before.frames.items)
 
 -- answers are added one after the other
 pub data AreAdded (before : BatchReply) : List Answer → BatchReply → Type 0 where

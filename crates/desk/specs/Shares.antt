@@ -2,7 +2,7 @@
 use Rattle.std.specs.Prelude.{◌≡◌, ℕ, ◌<◌, Bool, nat_eq, List, [], ◌∷◌, ◌++◌, length, slice_get, Some, All}
 use Rattle.std.specs.List.{AllPairs, count_by}
 use Rattle.node.specs.declared.event.Event.{Event}
-use Rattle.journal.specs.declared.slip.Slip.{Slip}
+use Rattle.node_journal.specs.declared.slip.Slip.{Slip}
 
 -- all slips of all shares
 abbrev pub all_slips : List (List Slip) → List Slip

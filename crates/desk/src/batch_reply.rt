@@ -1,5 +1,5 @@
 ghost use Rattle.std.specs.Prelude.{◌≡◌, false, ◌||◌, ◌++◌, [], OnOk, OnErr};
-ghost use Rattle.node.specs.Step.{said};
+ghost use Rattle.node.specs.Step.{answer_in};
 ghost use Rattle.desk.specs.Replies.{is_done, frames_of};
 
 use node::{Outgoing, Reply};
@@ -28,8 +28,9 @@ impl BatchReply {
 
     /// Adds what a reply says. Without memory its frames aren't added.
     pub fn add(&mut self, reply: &Reply) -> Result<(), AllocError>
-        ensures has_done { self.new.has_done ≡ self.old.has_done || is_done (said reply.now) }
-        ensures frames { OnOk result (self.new.frames.items ≡ self.old.frames.items ++ frames_of (said reply.now)) }
+        ensures has_done { self.new.has_done ≡ self.old.has_done || is_done (answer_in reply.now) }
+        ensures frames { OnOk result (self.new.frames.items ≡ self.old.frames.items
+            ++ frames_of (answer_in reply.now)) }
         ensures unchanged { OnErr result (self.new.frames.items ≡ self.old.frames.items) }
     {
         match reply {
@@ -45,7 +46,7 @@ impl BatchReply {
 
 /// Whether a reply says that something was done.
 pub fn is_done(reply: &Reply) -> bool
-    ensures { result ≡ is_done (said reply.now) }
+    ensures { result ≡ is_done (answer_in reply.now) }
 {
     matches!(reply, Reply::Done(_))
 }

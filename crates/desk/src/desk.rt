@@ -1,5 +1,5 @@
 ghost use Rattle.std.specs.Prelude.{◌≡◌, ◌≤◌, [], ◌∷◌, ◌++◌, length, take, IfOk, OnOk, OnErr, MatchResult};
-ghost use Rattle.node.specs.Step.{said, step_of, initial_of};
+ghost use Rattle.node.specs.Step.{answer_in, step_of, initial_of};
 ghost use Rattle.desk.specs.Replay.{after_all, replay};
 ghost use Rattle.desk.specs.Replies.{AreAdded, answers_of};
 ghost use Rattle.desk.specs.Shares.{Agree};
@@ -9,9 +9,9 @@ use crate::matching::agree;
 use crate::memory::Memory;
 use crate::share::Share;
 use crate::shares_disagree::SharesDisagree;
-use journal::{Batch, Journal};
 use node::laws::initial_stations_stay;
 use node::{Event, Node, Reply, Station};
+use node_journal::{Batch, Journal};
 use std::alloc::Global;
 use std::marker::Model;
 
@@ -30,7 +30,7 @@ impl<N: Node> Model for Desk<N> {
 
     ghost view = { λ d. record { station = d.station; journal = d.journal } };
 
-    ghost invariant = { λ d. d.station ≡ replay.replay N.core N.HUB d.station d.journal };
+    ghost invariant = { λ d. d.station ≡ replay.replay N.core N.IS_COORDINATOR d.station d.journal };
 }
 
 impl<N: Node> Desk<N> {
@@ -55,7 +55,7 @@ impl<N: Node> Desk<N> {
     /// All events so far.
     pub fn journal(&self) -> &Journal
         ensures events { result.now ≡ self.now.journal }
-        ensures replay { self.now.station ≡ replay N.core N.HUB self.now.station self.now.journal }
+        ensures replay { self.now.station ≡ replay N.core N.IS_COORDINATOR self.now.station self.now.journal }
     {
         &self.journal
     }
@@ -64,16 +64,18 @@ impl<N: Node> Desk<N> {
     pub fn into_parts(self) -> (Station<N>, Journal)
         ensures station { result.0 ≡ self.station }
         ensures journal { result.1 ≡ self.journal }
-        ensures replay { self.station ≡ replay N.core N.HUB self.station self.journal }
+        ensures replay { self.station ≡ replay N.core N.IS_COORDINATOR self.station self.journal }
     {
         (self.station, self.journal)
     }
 
-    /// Makes the station's step, and puts the event in the journal: also one that is refused, and one that changes nothing.
-    /// Without memory nothing has changed, and the same event may come again.
+    /// Makes the station's step, and puts the event in the journal: also one that is refused, and one that changes
+    /// nothing. Without memory nothing has changed, and the same event may come again.
     pub fn handle(&mut self, event: Event) -> Result<Reply, Memory>
-        ensures step { IfOk result (λ reply. record { station = self.new.station; answer = said reply } ≡ step_of N.core N.HUB (replay N.core N.HUB self.old.station self.old.journal) event) }
-        ensures station { self.old.station ≡ replay N.core N.HUB self.old.station self.old.journal }
+        ensures step { IfOk result (λ reply. record { station = self.new.station; answer = answer_in reply }
+            ≡ step_of N.core N.IS_COORDINATOR
+            (replay N.core N.IS_COORDINATOR self.old.station self.old.journal) event) }
+        ensures station { self.old.station ≡ replay N.core N.IS_COORDINATOR self.old.station self.old.journal }
         ensures initial { initial_of N.core self.new.station ≡ initial_of N.core self.old.station }
         ensures journal { OnOk result (self.new.journal ≡ self.old.journal ++ event ∷ []) }
         ensures unchanged { OnErr result (self.new ≡ self.old) }
@@ -83,21 +85,22 @@ impl<N: Node> Desk<N> {
         step(&mut self.station, &mut self.journal, event)
     }
 
-    /// Makes the steps of a batch's events, one after the other; how many: all, or those before the first one for which there is no
-    /// memory. The journal keeps the batch. What the desk says to them is added; frames for which there is no memory are lost, as on a
-    /// line that loses frames.
-    pub fn handle_batch(&mut self, batch: &Batch, said: &mut BatchReply) -> usize
+    /// Makes the steps of a batch's events, one after the other; how many: all, or those before the first one for which
+    /// there is no memory. The journal keeps the batch. What the desk says to them is added; frames for which there is
+    /// no memory are lost, as on a line that loses frames.
+    pub fn handle_batch(&mut self, batch: &Batch, replies: &mut BatchReply) -> usize
         ensures few { result ≤ length batch.now }
         ensures journal { self.new.journal ≡ self.old.journal ++ take result batch.now }
         ensures initial { initial_of N.core self.new.station ≡ initial_of N.core self.old.station }
-        ensures said { AreAdded said.old (answers_of N.core N.HUB self.old.station (take result batch.now)) said.new }
+        ensures replies { AreAdded replies.old
+            (answers_of N.core N.IS_COORDINATOR self.old.station (take result batch.now)) replies.new }
     {
         // For the prover: what the station was made from stays.
         initial_stations_stay::<N>();
         let Ok(()) = self.journal.push_batch(batch) else {
             return 0;
         };
-        let made = step_all(&mut self.station, batch.events(), said);
+        let made = step_all(&mut self.station, batch.events(), replies);
         let left = batch.events().len() - made;
         self.journal.truncate(self.journal.len() - left);
         made
@@ -110,10 +113,11 @@ impl<N: Node> Desk<N> {
         self.station.reuse(reply);
     }
 
-    /// The desk, if these shares are its journal: in each the places rise, and all slips together are the journal, one slip for
-    /// each place, with the event there. Else it is given up.
+    /// The desk, if these shares are its journal: in each the places rise, and all slips together are the journal, one
+    /// slip for each place, with the event there. Else it is given up.
     pub fn gather(self, mut shares: Vec<Share>) -> Result<Desk<N>, SharesDisagree>
-        ensures { MatchResult result (λ desk. (desk ≡ self) × Agree self.journal shares.items) (λ _. ¬ Agree self.journal shares.items) }
+        ensures { MatchResult result (λ desk. (desk ≡ self) × Agree self.journal shares.items)
+            (λ _. ¬ Agree self.journal shares.items) }
     {
         if agree(&self.journal, &mut shares) {
             Ok(self)
@@ -124,15 +128,16 @@ impl<N: Node> Desk<N> {
 }
 
 // Makes the station's steps, until there is no memory for one; how many.
-fn step_all<N: Node>(station: &mut Station<N>, events: &[Event], said: &mut BatchReply) -> usize
+fn step_all<N: Node>(station: &mut Station<N>, events: &[Event], replies: &mut BatchReply) -> usize
     ensures few { result ≤ length events.now }
-    ensures station { station.new ≡ after_all N.core N.HUB station.old (take result events.now) }
-    ensures said { AreAdded said.old (answers_of N.core N.HUB station.old (take result events.now)) said.new }
+    ensures station { station.new ≡ after_all N.core N.IS_COORDINATOR station.old (take result events.now) }
+    ensures replies { AreAdded replies.old
+        (answers_of N.core N.IS_COORDINATOR station.old (take result events.now)) replies.new }
 {
     for place in 0..events.len() {
         match station.step(events[place]) {
             Ok(reply) => {
-                let _ = said.add(&reply);
+                let _ = replies.add(&reply);
                 station.reuse(reply);
             }
             Err(_) => return place,
@@ -141,14 +146,16 @@ fn step_all<N: Node>(station: &mut Station<N>, events: &[Event], said: &mut Batc
     events.len()
 }
 
-// Makes the station's step. The event is put in the journal first, and taken off again where there is no memory for the step.
+// Makes the station's step. The event is put in the journal first, and taken off again where there is no memory for the
+// step.
 #[tactic(auto, using(crate::proofs::Ends::undone))]
 fn step<N: Node>(
     station: &mut Station<N>,
     journal: &mut Journal,
     event: Event,
 ) -> Result<Reply, Memory>
-    ensures step { IfOk result (λ reply. record { station = station.new; answer = said reply } ≡ step_of N.core N.HUB station.old event) }
+    ensures step { IfOk result (λ reply. record { station = station.new; answer = answer_in reply }
+        ≡ step_of N.core N.IS_COORDINATOR station.old event) }
     ensures journal { OnOk result (journal.new ≡ journal.old ++ event ∷ []) }
     ensures station_unchanged { OnErr result (station.new ≡ station.old) }
     ensures journal_unchanged { OnErr result (journal.new ≡ journal.old) }

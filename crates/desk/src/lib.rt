@@ -1,7 +1,7 @@
 //! A station with its journal, which several workers share under one lock.
 //!
-//! Promise to the layer above: a desk's station is the replay of its journal (`specs/Replay`), and a gathered desk's journal is
-//! what its workers were answered that they added (`specs/Shares`).
+//! Promise to the layer above: a desk's station is the replay of its journal (`specs/Replay`), and a gathered desk's
+//! journal is what its workers were answered that they added (`specs/Shares`).
 //!
 //!     worker --> Shared::handle ---- lock ----> Desk::handle        one event: its station steps, its journal grows
 //!                     |                              |
@@ -22,8 +22,8 @@ pub mod shares_disagree;
 
 pub use batch_reply::{BatchReply, is_done};
 pub use desk::Desk;
-pub use journal::Slip;
 pub use memory::Memory;
+pub use node_journal::Slip;
 pub use share::Share;
 pub use shared::{Locked, Shared, gather};
 pub use shares_disagree::SharesDisagree;

@@ -1,13 +1,14 @@
-//! Whether shares are a journal: the journal is walked backwards, and each event's slip has to be the last of some share, where
-//! it is taken off.
-ghost use Rattle.std.specs.Prelude.{◌≡◌, ◌≢◌, ◌↔◌, ℕ, true, false, IsSome, nat_eq, List, [], ◌∷◌, ◌++◌, length, slice_get};
+//! Whether shares are a journal: the journal is walked backwards, and each event's slip has to be the last of some
+//! share, where it is taken off.
+ghost use Rattle.std.specs.Prelude.{◌≡◌, ◌≢◌, ◌↔◌, ℕ, true, false, IsSome, nat_eq, List, [], ◌∷◌, ◌++◌, length};
+ghost use Rattle.std.specs.Prelude.{slice_get};
 ghost use Rattle.std.specs.List.{list_all};
 ghost use Rattle.node.specs.declared.event.Event.{Event as IsEvent};
-ghost use Rattle.journal.specs.declared.slip.Slip.{Slip as IsSlip};
+ghost use Rattle.node_journal.specs.declared.slip.Slip.{Slip as IsSlip};
 ghost use Rattle.desk.specs.Shares.{Agree};
 
 use crate::share::Share;
-use journal::{Blocks, Journal, Slip};
+use node_journal::{Blocks, Journal, Slip};
 
 // Whether the shares are the journal. They are used up.
 pub(crate) fn agree(journal: &Journal, shares: &mut [Share]) -> bool
@@ -28,8 +29,10 @@ pub(crate) fn agree(journal: &Journal, shares: &mut [Share]) -> bool
 // Takes the slip off a share whose last one it is, and answers which. The share at `near` is asked first, if there is
 // one: neighbouring events are mostly of one share.
 fn take(shares: &mut [Share], slip: &Slip, near: usize) -> Option<usize>
-    ensures taken { IsSome result → (journal : List IsEvent) → length journal ≡ slip.now.place → Agree (journal ++ slip.now.event ∷ []) shares.old ↔ Agree journal shares.new }
-    ensures none { result ≡ None → (journal : List IsEvent) → length journal ≡ slip.now.place → ¬ Agree (journal ++ slip.now.event ∷ []) shares.old }
+    ensures taken { IsSome result → (journal : List IsEvent) → length journal ≡ slip.now.place
+        → Agree (journal ++ slip.now.event ∷ []) shares.old ↔ Agree journal shares.new }
+    ensures none { result ≡ None → (journal : List IsEvent) → length journal ≡ slip.now.place
+        → ¬ Agree (journal ++ slip.now.event ∷ []) shares.old }
 {
     if take_at(shares, near, slip) {
         return Some(near);
@@ -51,9 +54,11 @@ fn are_used_up(shares: &[Share]) -> bool
 
 // Takes the slip off the share at this position, if there is one and the slip is its last.
 fn take_at(shares: &mut [Share], position: usize, slip: &Slip) -> bool
-    ensures taken { result ≡ true → (journal : List IsEvent) → length journal ≡ slip.now.place → Agree (journal ++ slip.now.event ∷ []) shares.old ↔ Agree journal shares.new }
+    ensures taken { result ≡ true → (journal : List IsEvent) → length journal ≡ slip.now.place
+        → Agree (journal ++ slip.now.event ∷ []) shares.old ↔ Agree journal shares.new }
     ensures unchanged { result ≡ false → shares.new ≡ shares.old }
-    ensures not_last { result ≡ false → (front : List IsSlip) → slice_get shares.old position ≢ Some (front ++ slip.now ∷ []) }
+    ensures not_last { result ≡ false → (front : List IsSlip)
+        → slice_get shares.old position ≢ Some (front ++ slip.now ∷ []) }
 {
     position < shares.len() && take_last(&mut shares[position], slip)
 }

@@ -1,6 +1,6 @@
 ghost use Rattle.std.specs.Prelude.{◌≡◌, []};
 
-use journal::Blocks;
+use node_journal::Blocks;
 use std::alloc::Global;
 use std::marker::Model;
 
@@ -12,7 +12,7 @@ pub struct Share {
 
 impl Model for Share {
     ghost use Rattle.std.specs.Prelude.{List};
-    ghost use Rattle.journal.specs.declared.slip.Slip.{Slip};
+    ghost use Rattle.node_journal.specs.declared.slip.Slip.{Slip};
 
     ghost Value = { List Slip };
 

@@ -1,7 +1,8 @@
-ghost use Rattle.std.specs.Prelude.{◌≡◌, ◌≤◌, ℕ, List, [], ◌∷◌, ◌++◌, length, take, drop, slice_get, option_map, IfOk, OnOk, OnErr};
+ghost use Rattle.std.specs.Prelude.{◌≡◌, ◌≤◌, ℕ, List, [], ◌∷◌, ◌++◌, length, take, drop, slice_get, option_map, IfOk};
+ghost use Rattle.std.specs.Prelude.{OnOk, OnErr};
 ghost use Rattle.node.specs.declared.event.Event.{Event as IsEvent};
-ghost use Rattle.node.specs.Step.{said, step_of, initial_of};
-ghost use Rattle.journal.specs.Slips.{slips_from};
+ghost use Rattle.node.specs.Step.{answer_in, step_of, initial_of};
+ghost use Rattle.node_journal.specs.Slips.{slips_from};
 ghost use Rattle.desk.specs.Replies.{AreAdded, answers_of};
 ghost use Rattle.desk.specs.Shares.{Agree};
 
@@ -10,16 +11,16 @@ use crate::desk::Desk;
 use crate::memory::Memory;
 use crate::share::Share;
 use crate::shares_disagree::SharesDisagree;
-use journal::{Batch, Blocks, Journal};
 use node::{Event, Node, Reply};
+use node_journal::{Batch, Blocks, Journal};
 use std::sync::{Mutex, MutexGuard, Wait};
 
-/// A desk under a lock, for the workers of one node. Whenever the lock is free, the station behind it is the replay of the
-/// journal beside it.
+/// A desk under a lock, for the workers of one node. Whenever the lock is free, the station behind it is the replay of
+/// the journal beside it.
 ///
-/// A contract can't name what lies under a lock. That `handle` answers as the desk does, and that its slip has the event's place
-/// in the journal, is said by `enter`, which is passed the locked desk; what `unacked` answers, by the function of that name. That
-/// `finished` answers as the node does isn't said.
+/// A contract can't name what lies under a lock. That `handle` answers as the desk does, and that its slip has the
+/// event's place in the journal, is said by `enter`, which is passed the locked desk; what `unacked` answers, by the
+/// function of that name. That `finished` answers as the node does isn't said.
 #[derive(Drop)]
 pub struct Shared<N: Node> {
     desk: Mutex<Desk<N>>,
@@ -33,10 +34,11 @@ impl<N: Node> Shared<N> {
         }
     }
 
-    /// Waits for the lock, and handles the event. The share gains the event's slip. Without memory neither share nor desk has
-    /// changed, and the same event may come again.
+    /// Waits for the lock, and handles the event. The share gains the event's slip. Without memory neither share nor
+    /// desk has changed, and the same event may come again.
     pub fn handle<R: Wait>(&self, rt: &R, share: &mut Share, event: Event) -> Result<Reply, Memory>
-        ensures slip { OnOk result ((place : ℕ) × (share.new ≡ share.old ++ record { place = place; event = event } ∷ [])) }
+        ensures slip { OnOk result ((place : ℕ)
+            × (share.new ≡ share.old ++ record { place = place; event = event } ∷ [])) }
         ensures unchanged { OnErr result (share.new ≡ share.old) }
     {
         let mut locked = self.lock(rt);
@@ -45,15 +47,16 @@ impl<N: Node> Shared<N> {
         reply
     }
 
-    /// Waits for the lock, and holds it, so that what the replies say can be handed on in the order of the station's steps.
+    /// Waits for the lock, and holds it, so that what the replies say can be handed on in the order of the station's
+    /// steps.
     pub fn lock<R: Wait>(&self, rt: &R) -> Locked<'_, N> {
         Locked {
             desk: self.desk.lock(rt),
         }
     }
 
-    /// Waits for the lock, and adds the journal's events from this place on to another journal, at most so many at once. Without memory
-    /// for them that one is as before.
+    /// Waits for the lock, and adds the journal's events from this place on to another journal, at most this many at
+    /// once. Without memory for them that one is as before.
     pub fn copy_events<R: Wait>(
         &self,
         rt: &R,
@@ -93,21 +96,28 @@ pub struct Locked<'a, N: Node> {
 }
 
 impl<'a, N: Node> Locked<'a, N> {
-    /// Handles the event. The share gains the event's slip. Without memory neither share nor desk has changed, and the same
-    /// event may come again.
+    /// Handles the event. The share gains the event's slip. Without memory neither share nor desk has changed, and the
+    /// same event may come again.
     pub fn handle(&mut self, share: &mut Share, event: Event) -> Result<Reply, Memory>
-        ensures slip { OnOk result ((place : ℕ) × (share.new ≡ share.old ++ record { place = place; event = event } ∷ [])) }
+        ensures slip { OnOk result ((place : ℕ)
+            × (share.new ≡ share.old ++ record { place = place; event = event } ∷ [])) }
         ensures unchanged { OnErr result (share.new ≡ share.old) }
     {
         enter(&mut self.desk, &mut share.slips, event)
     }
 
-    /// Makes the steps of a batch's events; how many: see `Desk::handle_batch`. The share gains their slips, and keeps the batch.
-    pub fn handle_batch(&mut self, share: &mut Share, batch: &Batch, said: &mut BatchReply) -> usize
+    /// Makes the steps of a batch's events; how many: see `Desk::handle_batch`. The share gains their slips, and keeps
+    /// the batch.
+    pub fn handle_batch(
+        &mut self,
+        share: &mut Share,
+        batch: &Batch,
+        replies: &mut BatchReply,
+    ) -> usize
         ensures few { result ≤ length batch.now }
         ensures slips { (first : ℕ) × (share.new ≡ share.old ++ slips_from first (take result batch.now)) }
     {
-        enter_batch(&mut self.desk, &mut share.slips, batch, said)
+        enter_batch(&mut self.desk, &mut share.slips, batch, replies)
     }
 
     /// Takes back the room of a reply's frames, for the frames of later steps.
@@ -132,15 +142,15 @@ impl<'a, N: Node> Locked<'a, N> {
     }
 }
 
-/// The desk, when all its workers have ended, if their shares are its journal: see `Desk::gather`. So in a gathered desk every
-/// event for which one of these shares had an Ok stands once, at its place.
+/// The desk, when all its workers have ended, if their shares are its journal: see `Desk::gather`. So in a gathered
+/// desk every event for which one of these shares had an Ok stands once, at its place.
 pub fn gather<N: Node>(shared: Shared<N>, shares: Vec<Share>) -> Result<Desk<N>, SharesDisagree>
     ensures { IfOk result (λ desk. Agree desk.journal shares.items) }
 {
     shared.desk.into_inner().gather(shares)
 }
 
-// Adds a journal's events from this place on to another one, at most so many.
+// Adds a journal's events from this place on to another one, at most this many.
 fn copy_some(
     journal: &Journal,
     place: usize,
@@ -161,35 +171,39 @@ fn unacked<N: Node>(desk: &Desk<N>, peer: usize) -> Option<usize>
     Some(desk.station().end(peer)?.unacked())
 }
 
-// Handles a batch's events at the locked desk; how many. Their slips are added first, and those of events for which there is no memory
-// taken off again.
+// Handles a batch's events at the locked desk; how many. Their slips are added first, and those of events for which
+// there is no memory taken off again.
 fn enter_batch<N: Node>(
     desk: &mut Desk<N>,
     slips: &mut Blocks,
     batch: &Batch,
-    said: &mut BatchReply,
+    replies: &mut BatchReply,
 ) -> usize
     ensures few { result ≤ length batch.now }
     ensures journal { desk.new.journal ≡ desk.old.journal ++ take result batch.now }
     ensures slips { slips.new ≡ slips.old ++ slips_from (length desk.old.journal) (take result batch.now) }
     ensures initial { initial_of N.core desk.new.station ≡ initial_of N.core desk.old.station }
-    ensures said { AreAdded said.old (answers_of N.core N.HUB desk.old.station (take result batch.now)) said.new }
+    ensures replies { AreAdded replies.old
+        (answers_of N.core N.IS_COORDINATOR desk.old.station (take result batch.now)) replies.new }
 {
     let Ok(()) = slips.add_batch(desk.journal().len(), batch) else {
         return 0;
     };
-    let made = desk.handle_batch(batch, said);
+    let made = desk.handle_batch(batch, replies);
     let left = batch.events().len() - made;
     slips.truncate(slips.len() - left);
     made
 }
 
-// Handles the event at the locked desk. Its slip is added first, and taken off again where there is no memory for the event.
+// Handles the event at the locked desk. Its slip is added first, and taken off again where there is no memory for the
+// event.
 #[tactic(auto, using(crate::proofs::Ends::undone))]
 fn enter<N: Node>(desk: &mut Desk<N>, slips: &mut Blocks, event: Event) -> Result<Reply, Memory>
-    ensures step { IfOk result (λ reply. record { station = desk.new.station; answer = said reply } ≡ step_of N.core N.HUB desk.old.station event) }
+    ensures step { IfOk result (λ reply. record { station = desk.new.station; answer = answer_in reply }
+        ≡ step_of N.core N.IS_COORDINATOR desk.old.station event) }
     ensures journal { OnOk result (desk.new.journal ≡ desk.old.journal ++ event ∷ []) }
-    ensures slip { OnOk result (slips.new ≡ slips.old ++ record { place = length desk.old.journal; event = event } ∷ []) }
+    ensures slip { OnOk result (slips.new ≡ slips.old
+        ++ record { place = length desk.old.journal; event = event } ∷ []) }
     ensures desk_unchanged { OnErr result (desk.new ≡ desk.old) }
     ensures slips_unchanged { OnErr result (slips.new ≡ slips.old) }
 {

@@ -18,9 +18,10 @@ use Rattle.node_cores.specs.FederateCore.{FederateNode, network_at}
 use Rattle.federate.specs.declared.outlet.Outlet.{Outlet}
 use Rattle.federate.specs.Outlets.{outlets_from}
 
--- a federate of a legal plan with its programs and inputs: its reactor has its program, its agenda ends at stop, it knows its
--- connections, and by itself it is a federate
-pub record IsKept (d : Draft) (programs : List Behaviour) (inputs : List Input) (number : ℕ) (program : Behaviour) (stop : LogicalTime)
+-- a federate of a legal plan with its programs and inputs: its reactor has its program, its agenda ends at stop, it
+-- knows its connections, and by itself it is a federate
+pub record IsKept (d : Draft) (programs : List Behaviour) (inputs : List Input) (number : ℕ) (program : Behaviour)
+    (stop : LogicalTime)
     (outlets : List Outlet) (f : Federate) : Type 0 where
   pub legal : IsLegal d
   pub programs_fit : AreProgramsOf d programs
@@ -32,7 +33,8 @@ pub record IsKept (d : Draft) (programs : List Behaviour) (inputs : List Input) 
   pub alone : IsFederate (network_of d programs inputs) number f
 
 -- a federate by its parts
-abbrev pub federate_by_parts : Reactor → Agenda → (granted completed announced : Option LogicalTime) → List Row → Federate
+abbrev pub federate_by_parts : Reactor → Agenda → (granted completed announced : Option LogicalTime)
+    → List Row → Federate
 federate_by_parts r a granted completed announced rows =
     record {
       states = r.states;

@@ -19,4 +19,5 @@ outlets_from federate number (c ∷ rest) = outlet_if federate number c ++ outle
 
 -- the messages of a turn with these outputs
 abbrev pub messages_by : Network → LogicalTime → (ℕ → Option ℤ) → List Outlet → List Signal
-messages_by n tag outputs outlets = flat_map (λ o. message_over n tag o.number o.connection (outputs o.connection.port)) outlets
+messages_by n tag outputs outlets =
+    flat_map (λ o. message_over n tag o.number o.connection (outputs o.connection.port)) outlets

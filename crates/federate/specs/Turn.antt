@@ -31,11 +31,13 @@ abbrev pub effect_at : Reactor → List PendingEvent → LogicalTime → Effect
 effect_at r undone tag = reactor.effect_of r.behaviour r.states (look undone tag)
 
 -- the turn at a tag; neither programs nor recorded inputs matter for its messages
-pub record IsPrepared (d : Draft) (r : Reactor) (undone : List PendingEvent) (outlets : List Outlet) (tag : LogicalTime) (p : Prepared) : Type 0 where
+pub record IsPrepared (d : Draft) (r : Reactor) (undone : List PendingEvent) (outlets : List Outlet) (tag : LogicalTime)
+    (p : Prepared) : Type 0 where
   pub present : p.present.items ≡ listed (slot_count r.behaviour.slots) (look undone tag)
   pub turn : p.turn ≡ turn_of r (look undone tag)
   pub fits : length p.turn.states ≡ length r.states
   pub scheduled : p.scheduled.items ≡
       filter (λ e. is_at_most e.tag (stop_of d)) (map (scheduled_at tag) (effect_at r undone tag).schedulings)
   pub posts : p.posts.items ≡
-      map to_coordinator (messages_by (network_of d [] []) tag (value_at (turn_of r (look undone tag)).outputs) outlets ++ Ltc tag ∷ [])
+      map to_coordinator (messages_by (network_of d [] []) tag (value_at (turn_of r (look undone tag)).outputs) outlets
+      ++ Ltc tag ∷ [])

@@ -1,4 +1,5 @@
-ghost use Rattle.std.specs.Prelude.{◌≡◌, ◌<◌, ◌↔◌, ◌&&◌, ℕ, nat_eq, slice_get, IsTrue, IfOk, OnOk, OnErr, MatchResult, [], ◌∷◌};
+ghost use Rattle.std.specs.Prelude.{◌≡◌, ◌<◌, ◌↔◌, ◌&&◌, ℕ, nat_eq, slice_get, IsTrue, IfOk, OnOk, OnErr, MatchResult};
+ghost use Rattle.std.specs.Prelude.{[], ◌∷◌};
 ghost use Rattle.tag.specs.LogicalTime.{is_at_most, is_past};
 ghost use Rattle.signal.specs.Signal.{IsSignal};
 ghost use Rattle.signal.specs.declared.signal.Signal.TheVariants as Signals;
@@ -31,8 +32,8 @@ use std::alloc::Global;
 use std::marker::Model;
 use tag::{FiniteTag, Tag, is_past};
 
-/// A federate of a plan, behind a link to the coordinator, its one peer, 0. Contracts see what it was made from, its number, and
-/// where it stands.
+/// A federate of a plan, behind a link to the coordinator, its one peer, 0. Contracts see what it was made from, its
+/// number, and where it stands.
 #[derive(Drop)]
 pub struct Federate<'a> {
     plan: &'a Plan,
@@ -68,7 +69,8 @@ impl<'a> Model for Federate<'a> {
       federate = federate_by_parts f.reactor f.agenda f.granted f.completed f.announced f.rows;
     } };
 
-    ghost invariant = { λ f. IsKept f.plan.now f.programs.now f.inputs.now f.number f.reactor.behaviour f.agenda.stop f.outlets.items
+    ghost invariant = { λ f. IsKept f.plan.now f.programs.now f.inputs.now f.number f.reactor.behaviour f.agenda.stop
+        f.outlets.items
         (federate_by_parts f.reactor f.agenda f.granted f.completed f.announced f.rows) };
 }
 
@@ -163,9 +165,11 @@ impl<'a> Federate<'a> {
     fn admit(&self, signal: Signal) -> Result<Change, Refusal>
         ensures outcome { MatchResult result
             (λ change. federate_accepts (network_at self.now) self.now.number self.now.federate signal ≡ Done (record { after = changed change self.now.federate; sent = [] }))
-            (λ refusal. federate_accepts (network_at self.now) self.now.number self.now.federate signal ≡ Refused refusal) }
+            (λ refusal. federate_accepts (network_at self.now) self.now.number self.now.federate signal
+            ≡ Refused refusal) }
         ensures in_time { IfOk result (IsInTime (stop_of self.now.draft)) }
-        ensures alone { IfOk result (λ change. IsFederate (network_at self.now) self.now.number (changed change self.now.federate)) }
+        ensures alone { IfOk result (λ change.
+            IsFederate (network_at self.now) self.now.number (changed change self.now.federate)) }
     {
         self.invariant();
         match signal {
@@ -182,7 +186,11 @@ impl<'a> Federate<'a> {
     /// The same of a TAG.
     fn admit_grant(&self, tag: FiniteTag) -> Result<Change, Refusal>
         ensures outcome { MatchResult result
-            (λ change. accept_grant (network_at self.now) self.now.federate tag ≡ Done (record { after = changed change self.now.federate; sent = [] }))
+            (λ change. accept_grant (network_at self.now) self.now.federate tag ≡ Done (record {
+              after = changed change
+                  self.now.federate;
+              sent = [];
+            }))
             (λ refusal. accept_grant (network_at self.now) self.now.federate tag ≡ Refused refusal) }
         ensures in_time { IfOk result (IsInTime (stop_of self.now.draft)) }
         ensures known { IsSignal (Signals.Tag tag) }
@@ -201,7 +209,8 @@ impl<'a> Federate<'a> {
     fn admit_message(&self, connection: u16, tag: FiniteTag, value: i64) -> Result<Change, Refusal>
         ensures outcome { MatchResult result
             (λ change. accept_message (network_at self.now) self.now.number self.now.federate (slice_get (connections_of self.now.draft) connection) tag value ≡ Done (record { after = changed change self.now.federate; sent = [] }))
-            (λ refusal. accept_message (network_at self.now) self.now.number self.now.federate (slice_get (connections_of self.now.draft) connection) tag value ≡ Refused refusal) }
+            (λ refusal. accept_message (network_at self.now) self.now.number self.now.federate
+            (slice_get (connections_of self.now.draft) connection) tag value ≡ Refused refusal) }
         ensures in_time { IfOk result (IsInTime (stop_of self.now.draft)) }
         ensures known { IsSignal (Signals.Msg connection tag value) }
     {
@@ -267,7 +276,7 @@ impl<'a> Node for Federate<'a> {
 
     ghost listed = { λ rows. rows };
 
-    ghost HUB = { false };
+    ghost IS_COORDINATOR = { false };
 
     ghost core = { federate_core };
 
@@ -328,7 +337,7 @@ impl<'a> Node for Federate<'a> {
         Ok(true)
     }
 
-    fn is_hub(&self) -> bool {
+    fn is_coordinator(&self) -> bool {
         false
     }
 

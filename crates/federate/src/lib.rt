@@ -1,6 +1,7 @@
 //! A federate: one reactor of a federation, as a node behind its station.
 //!
-//! Promise to the layer above: each call is the step of `node_cores/specs/FederateCore`, and a call without memory changes nothing.
+//! Promise to the layer above: each call is the step of `node_cores/specs/FederateCore`, and a call without memory
+//! changes nothing.
 //!
 //!     accept ------> admit                   what the signal changes, or why it is refused
 //!            ------> apply                   the change

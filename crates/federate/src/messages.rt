@@ -40,7 +40,8 @@ pub fn add_messages(
     tag: FiniteTag,
     outputs: &[Entry],
 ) -> Result<(), Memory>
-    ensures { OnOk result (posts.new.items ≡ posts.old.items ++ map to_coordinator (messages_by (network_of plan.now [] []) tag (value_at outputs.now) outlets.now)) }
+    ensures { OnOk result (posts.new.items ≡ posts.old.items
+        ++ map to_coordinator (messages_by (network_of plan.now [] []) tag (value_at outputs.now) outlets.now)) }
 {
     for outlet in outlets {
         let value = value_at(outputs, outlet.connection.port());
@@ -57,7 +58,8 @@ fn add_message(
     tag: FiniteTag,
     value: Option<i64>,
 ) -> Result<(), Memory>
-    ensures { OnOk result (posts.new.items ≡ posts.old.items ++ map to_coordinator (message_over (network_of plan.now [] []) tag outlet.number outlet.connection value)) }
+    ensures { OnOk result (posts.new.items ≡ posts.old.items
+        ++ map to_coordinator (message_over (network_of plan.now [] []) tag outlet.number outlet.connection value)) }
 {
     let Some(value) = value else {
         return Ok(());

@@ -86,8 +86,15 @@ pub fn take_in(
 ) -> Result<(), Memory>
     requires { AllByRecursion (λ e. IsTrue (is_before tag e.tag)) prepared.now.scheduled.items }
     ensures stop { agenda.new.stop ≡ agenda.old.stop }
-    ensures pending { OnOk result (agenda.new.undone ≡ put_all (in_time agenda.old.stop prepared.now.scheduled.items) (drop_up_to tag agenda.old.undone)) }
-    ensures rows { OnOk result (rows.new ≡ rows.old ++ record { reactor = federate; tag = tag; inputs = prepared.now.present.items; outputs = prepared.now.turn.outputs } ∷ []) }
+    ensures pending { OnOk result (agenda.new.undone
+        ≡ put_all (in_time agenda.old.stop prepared.now.scheduled.items) (drop_up_to tag agenda.old.undone)) }
+    ensures rows { OnOk result (rows.new ≡ rows.old
+        ++ record {
+          reactor = federate;
+          tag = tag;
+          inputs = prepared.now.present.items;
+          outputs = prepared.now.turn.outputs;
+        } ∷ []) }
     ensures pending_unchanged { OnErr result (agenda.new.undone ≡ agenda.old.undone) }
     ensures rows_unchanged { OnErr result (rows.new ≡ rows.old) }
 {

@@ -16,7 +16,8 @@ pub fn put_recorded(
 ) -> Result<(), Memory>
     requires { agenda.old.stop ≡ stop_of plan.now }
     ensures stop { OnOk result (agenda.new.stop ≡ agenda.old.stop) }
-    ensures pending { OnOk result (agenda.new.undone ≡ put_all (map pending_event_of (input_events_to plan.now inputs.now federate)) agenda.old.undone) }
+    ensures pending { OnOk result (agenda.new.undone
+        ≡ put_all (map pending_event_of (input_events_to plan.now inputs.now federate)) agenda.old.undone) }
 {
     for input in inputs.as_slice() {
         put_own(agenda, plan, input, federate)?;
@@ -28,7 +29,8 @@ pub fn put_recorded(
 fn put_own(agenda: &mut Agenda, plan: &Plan, input: &Input, federate: usize) -> Result<(), Memory>
     requires { agenda.old.stop ≡ stop_of plan.now }
     ensures stop { OnOk result (agenda.new.stop ≡ agenda.old.stop) }
-    ensures pending { OnOk result (agenda.new.undone ≡ put_all (map pending_event_of (input_events_to plan.now (input.now ∷ []) federate)) agenda.old.undone) }
+    ensures pending { OnOk result (agenda.new.undone
+        ≡ put_all (map pending_event_of (input_events_to plan.now (input.now ∷ []) federate)) agenda.old.undone) }
 {
     let Some((target, slot)) = plan.recorded_at(input) else {
         return Ok(());

@@ -17,7 +17,8 @@ pub fn add_scheduled(
     tag: FiniteTag,
     schedulings: &[Scheduling],
 ) -> Result<(), Memory>
-    ensures { OnOk result (scheduled.new.items ≡ scheduled.old.items ++ filter (λ e. is_at_most e.tag (stop_of plan.now)) (map (scheduled_at tag) schedulings.now)) }
+    ensures { OnOk result (scheduled.new.items ≡ scheduled.old.items
+        ++ filter (λ e. is_at_most e.tag (stop_of plan.now)) (map (scheduled_at tag) schedulings.now)) }
 {
     for scheduling in schedulings {
         add_one(scheduled, plan, tag, *scheduling)?;
@@ -32,7 +33,8 @@ fn add_one(
     tag: FiniteTag,
     scheduling: Scheduling,
 ) -> Result<(), Memory>
-    ensures { OnOk result (scheduled.new.items ≡ scheduled.old.items ++ filter (λ e. is_at_most e.tag (stop_of plan.now)) (scheduled_at tag scheduling ∷ [])) }
+    ensures { OnOk result (scheduled.new.items ≡ scheduled.old.items
+        ++ filter (λ e. is_at_most e.tag (stop_of plan.now)) (scheduled_at tag scheduling ∷ [])) }
 {
     if let Some(at) = in_time(tag, scheduling.delay(), plan.stop_tag()) {
         scheduled.push(PendingEvent::new(at, scheduling.slot(), scheduling.value()))?;

@@ -1,7 +1,8 @@
 //! The program `fedrun`: reads its words and files, and prints the rows of a federation.
 //!
-//! All it does is `fedrun_commands::command`, a function over words, files and writers, or for one node on a machine of its own
-//! `fedrun_hosts::node_command`; `main` hands them the machine's, and shows beside a command how far it is, where that is asked for.
+//! All it does is `fedrun_commands::command`, a function over words, files and writers, or for one node on a machine of
+//! its own `fedrun_hosts::node_command`; `main` hands them the machine's, and shows beside a command how far it is,
+//! where that is asked for.
 #![tactic(auto)]
 
 use fedrun_commands::{NodeFault, command};
@@ -9,9 +10,9 @@ use fedrun_fault::{Fault, refuse};
 use fedrun_files::MachineFiles;
 use fedrun_hosts::{asks_for_node, node_command};
 use fedrun_progress::{NoProgress, ProgressLine, asks_for_progress};
-use fedrun_saving::MachineDisk;
 use fedrun_whole::OUT_BYTES;
 use fedrun_words::{WordsFault, given_words};
+use files_saving::MachineDisk;
 use std::fs::File;
 use std::io::{BufWriter, ErrorKind, Stdout};
 use std::process::ExitCode;
@@ -59,8 +60,8 @@ fn given(rt: &HostRuntime) -> Result<(Vec<String>, BufWriter<Stdout>), WordsFaul
     }
 }
 
-/// A file in place of a standard stream that is closed, which can't be written. Else the next file that is opened would have the
-/// stream's number, and what is printed be written into it: into a report, say.
+/// A file in place of a standard stream that is closed, which can't be written. Else the next file that is opened would
+/// have the stream's number, and what is printed be written into it: into a report, say.
 fn stand_in<R: rt::Files>(rt: &R, stream: &str) -> Option<R::File> {
     match fs::symlink_metadata(rt, stream) {
         Err(error) if error.kind() == ErrorKind::NotFound => File::open(rt, "/dev/null").ok(),

@@ -5,7 +5,7 @@ use Rattle.std.proofs.KnownBytes.{Appends-kept}
 use Rattle.plan.specs.declared.draft.Draft.{Draft}
 use Rattle.plan.specs.declared.input.Input.{Input}
 use Rattle.reactor_program.specs.Behaviour.{Behaviour}
-use Rattle.fedrun_script.specs.Scripts.{Script}
+use Rattle.files_script.specs.Scripts.{Script}
 use Rattle.fedrun_frames.specs.Shown.{ShowsSchedule, ShowsSomeOf}
 use Rattle.fedrun_draw.specs.Drawn.{HasPicture}
 

@@ -4,9 +4,9 @@ use Rattle.std.proofs.lemmas.List.{map-append, take_more, take-append-drop}
 use Rattle.std.specs.Borrow.{Bor}
 use Rattle.sha2.specs.Sha256.{sha256}
 use Rattle.recorder_reports.specs.declared.report.Report.{Report}
-use Rattle.fedrun_reports.specs.declared.file_digests.FileDigests.{FileDigests}
-use Rattle.fedrun_reports.specs.File.{IsReportOf}
-use Rattle.fedrun_reports.specs.Taken.{by_report}
+use Rattle.files_reports.specs.declared.file_digests.FileDigests.{FileDigests}
+use Rattle.files_reports.specs.File.{IsReportOf}
+use Rattle.files_reports.specs.Taken.{by_report}
 use Rattle.fedrun_fault.specs.declared.fault.Fault.{Fault}
 use Rattle.fedrun_files.specs.Answers.{Answer, Answers, given}
 use Rattle.fedrun_files.specs.Contents.{Contents, AreBytesOf}

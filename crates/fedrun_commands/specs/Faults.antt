@@ -2,7 +2,7 @@
 use Rattle.std.specs.Prelude.{ℕ, List, ◌++◌, codes}
 use Rattle.fedrun_fault.specs.Faults as every
 use Rattle.fedrun_fault.specs.declared.fault.Fault.{Fault}
-use Rattle.fedrun_script.specs.Faults as script
+use Rattle.files_script.specs.Faults as script
 use Rattle.world_stations.specs.Numbers.{out_of_memory_text}
 use Rattle.desk.specs.Fault.{memory_text}
 use Rattle.fedrun_draw.specs.Faults as picture
@@ -10,8 +10,9 @@ use Rattle.fedrun_draw.specs.declared.fault.DrawFault.{DrawFault}
 use Rattle.fedrun_draw.specs.declared.fault.DrawFault.TheVariants as undrawn
 use Rattle.fedrun_run.specs.AuditFailures.{printed_failure}
 use Rattle.fedrun_commands.specs.declared.fault.NodeFault.{NodeFault}
-use Rattle.fedrun_reports.specs.Faults.{file_text}
-use Rattle.fedrun_commands.specs.declared.fault.NodeFault.TheVariants.{Schedule, World, Undrawn, NotTaken, ReportFile, NotFinished, Unproved, Run}
+use Rattle.files_reports.specs.Faults.{file_text}
+use Rattle.fedrun_commands.specs.declared.fault.NodeFault.TheVariants.{Schedule, World, Undrawn, NotTaken, ReportFile}
+use Rattle.fedrun_commands.specs.declared.fault.NodeFault.TheVariants.{NotFinished, Unproved, Run}
 
 -- the exit status where a picture isn't drawn: 1 where it would be too great
 abbrev pub drawing_status : DrawFault → ℕ
@@ -20,8 +21,8 @@ drawing_status (undrawn.TooManyFrames count) = 1
 drawing_status undrawn.Memory = 3
 drawing_status undrawn.CannotWrite = 3
 
--- the exit status of a fault of nodes: 1 for a schedule that isn't taken or has too many steps to be drawn, and where files that were looked
--- at aren't taken; 3 for what stopped the program after that
+-- the exit status of a fault of nodes: 1 for a schedule that isn't taken or has too many steps to be drawn, and where
+-- files that were looked at aren't taken; 3 for what stopped the program after that
 abbrev pub node_status : NodeFault → ℕ
 node_status (Schedule fault) = 1
 node_status (World memory) = 3

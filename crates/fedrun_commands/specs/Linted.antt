@@ -1,4 +1,5 @@
--- What is printed of files that are looked at, whether they are taken or not. What a file holds is said where its bytes are known.
+-- What is printed of files that are looked at, whether they are taken or not. What a file holds is said where its bytes
+-- are known.
 use Rattle.std.specs.Prelude.{◌≡◌, ◌≢◌, ℕ, ◌<◌, Bool, true, List, [], ◌∷◌, length, Option, None, Some, IfSome}
 use Rattle.std.specs.Borrow.{Bor}
 use Rattle.std.specs.Global.{Vec}
@@ -43,7 +44,8 @@ pub record AreFiles (contents : Contents) (federation inputs : List ℕ) (first 
   pub second_bytes : AreLookedAt MOST_INPUT_BYTES (input_file contents inputs) second.bytes
 
 -- all that is wrong or odd in two files was printed, and something is wrong or not
-pub record PrintsLint (contents : Contents) (federation inputs : List ℕ) (is_wrong : Bool) (before after : Option (List ℕ)) : Type 0 where
+pub record PrintsLint (contents : Contents) (federation inputs : List ℕ) (is_wrong : Bool)
+    (before after : Option (List ℕ)) : Type 0 where
   pub first : GivenFile
   pub second : GivenFile
   pub files : AreFiles contents federation inputs first second
@@ -62,18 +64,25 @@ pub record BeginsLint (contents : Contents) (federation inputs : List ℕ) (befo
   pub files : AreFiles contents federation inputs first second
   pub begins : BeginsReport first second before after
 
--- why a report isn't printed, or what it comes to: there was no memory; something is wrong, and all of it was printed; or it can't be written
-pub data IsReportFault (first second : GivenFile) (before after : Option (List ℕ)) (fault : Fault NodeFault) : Type 0 where
+-- why a report isn't printed, or what it comes to: there was no memory; something is wrong, and all of it was printed;
+-- or it can't be written
+pub data IsReportFault (first second : GivenFile) (before after : Option (List ℕ))
+    (fault : Fault NodeFault) : Type 0 where
   out_of_memory : fault ≡ Load Memory → IsReportFault first second before after fault
-  wrong : fault ≡ More NotTaken → PrintsReport first second true before after → IsReportFault first second before after fault
-  refused_write : fault ≡ CannotWrite → BeginsReport first second before after → IsReportFault first second before after fault
+  wrong : fault ≡ More NotTaken → PrintsReport first second true before after
+      → IsReportFault first second before after fault
+  refused_write : fault ≡ CannotWrite → BeginsReport first second before after
+      → IsReportFault first second before after fault
 
--- why looking at two files isn't done, or what it comes to: one can't be read, and that was answered last; there was no memory; something is
--- wrong, and all of it was printed; or it can't be written
-pub data IsLintFault (contents : Contents) (answered : List Answer → Type 0) (before after : Option (List ℕ)) (federation inputs : Bor (List ℕ)) (fault : Fault NodeFault) : Type 0 where
-  federation_unread : (why : FileFault) → why ≢ OverLimit → fault ≡ fault_of_file federation why → answered (refused federation.now why ∷ [])
+-- why looking at two files isn't done, or what it comes to: one can't be read, and that was answered last; there was no
+-- memory; something is wrong, and all of it was printed; or it can't be written
+pub data IsLintFault (contents : Contents) (answered : List Answer → Type 0) (before after : Option (List ℕ))
+    (federation inputs : Bor (List ℕ)) (fault : Fault NodeFault) : Type 0 where
+  federation_unread : (why : FileFault) → why ≢ OverLimit → fault ≡ fault_of_file federation why
+      → answered (refused federation.now why ∷ [])
       → IsLintFault contents answered before after federation inputs fault
-  inputs_unread : (earlier : Answer) (why : FileFault) → why ≢ OverLimit → fault ≡ fault_of_file inputs why → answered (earlier ∷ refused inputs.now why ∷ [])
+  inputs_unread : (earlier : Answer) (why : FileFault) → why ≢ OverLimit → fault ≡ fault_of_file inputs why
+      → answered (earlier ∷ refused inputs.now why ∷ [])
       → IsLintFault contents answered before after federation inputs fault
   no_memory : fault ≡ Load Memory → after ≡ before → IsLintFault contents answered before after federation inputs fault
   not_taken : fault ≡ More NotTaken → PrintsLint contents federation.now inputs.now true before after

@@ -4,7 +4,7 @@ use Rattle.plan.specs.declared.draft.Draft.{Draft}
 use Rattle.plan.specs.declared.input.Input.{Input}
 use Rattle.reactor_program.specs.Behaviour.{Behaviour}
 use Rattle.world_stations.specs.declared.memory.Memory as steps
-use Rattle.fedrun_script.specs.Scripts.{Script}
+use Rattle.files_script.specs.Scripts.{Script}
 use Rattle.fedrun_fault.specs.declared.fault.Fault.{Fault}
 use Rattle.fedrun_fault.specs.declared.fault.Fault.TheVariants.{CannotWrite, More}
 use Rattle.fedrun_files.specs.declared.reading.Sources.{Sources}
@@ -20,21 +20,27 @@ use Rattle.fedrun_commands.specs.declared.fault.NodeFault.{NodeFault}
 use Rattle.fedrun_commands.specs.declared.fault.NodeFault.TheVariants.{World, Undrawn}
 
 -- a picture was printed of a schedule that isn't too long for one
-pub record IsDrawn (d : Draft) (programs : List Behaviour) (inputs : List Input) (s : Script) (closing : Option ℕ) (before after : Option (List ℕ)) : Type 0 where
+pub record IsDrawn (d : Draft) (programs : List Behaviour) (inputs : List Input) (s : Script) (closing : Option ℕ)
+    (before after : Option (List ℕ)) : Type 0 where
   pub picture : HasPicture before after
   pub short : IsShort d programs inputs s closing
 
--- what was asked for was printed of a schedule and its closing rounds: which steps were refused, and the rows; each step, with the frames that
--- it sent; or a picture
-abbrev pub IsPlayedAs : PlayOutput → Draft → List Behaviour → List Input → Script → Option ℕ → Option (List ℕ) → Option (List ℕ) → Type 0
-IsPlayedAs (Rows format) d programs inputs s closing before after = IsReplayedIn format d programs inputs s closing before after
+-- what was asked for was printed of a schedule and its closing rounds: which steps were refused, and the rows; each
+-- step, with the frames that it sent; or a picture
+abbrev pub IsPlayedAs : PlayOutput → Draft → List Behaviour → List Input → Script → Option ℕ → Option (List ℕ)
+    → Option (List ℕ) → Type 0
+IsPlayedAs (Rows format) d programs inputs s closing before after =
+    IsReplayedIn format d programs inputs s closing before after
 IsPlayedAs Frames d programs inputs s closing before after = ShowsSchedule d programs inputs s closing before after
 IsPlayedAs Picture d programs inputs s closing before after = IsDrawn d programs inputs s closing before after
 
 -- what stands where there was no memory for a step: what was printed of the steps before it
-abbrev pub IsBrokenOffAs : PlayOutput → Draft → List Behaviour → List Input → Script → Option ℕ → Option (List ℕ) → Option (List ℕ) → ReplayFault → Type 0
-IsBrokenOffAs (Rows format) d programs inputs s closing before after fault = IsBrokenOffIn format d programs inputs s closing before after fault
-IsBrokenOffAs Frames d programs inputs s closing before after fault = IsBrokenOff d programs inputs s closing before after fault
+abbrev pub IsBrokenOffAs : PlayOutput → Draft → List Behaviour → List Input → Script → Option ℕ → Option (List ℕ)
+    → Option (List ℕ) → ReplayFault → Type 0
+IsBrokenOffAs (Rows format) d programs inputs s closing before after fault =
+    IsBrokenOffIn format d programs inputs s closing before after fault
+IsBrokenOffAs Frames d programs inputs s closing before after fault =
+    IsBrokenOff d programs inputs s closing before after fault
 IsBrokenOffAs Picture d programs inputs s closing before after fault = ⊥
 
 -- a picture isn't drawn for this reason, and nothing was printed
@@ -43,12 +49,14 @@ IsUndrawnAs (Rows format) d programs inputs s closing fault = ⊥
 IsUndrawnAs Frames d programs inputs s closing fault = ⊥
 IsUndrawnAs Picture d programs inputs s closing fault = IsFaultOf d programs inputs s closing fault
 
--- why a schedule isn't played to its end or isn't printed, once all was loaded: there was no memory for a step; a picture isn't drawn; or it
--- can't be written
-pub data IsPlayFault (output : PlayOutput) (s : Sources) (script : Script) (closing : Option ℕ) (before after : Option (List ℕ)) (fault : Fault NodeFault) : Type 0 where
+-- why a schedule isn't played to its end or isn't printed, once all was loaded: there was no memory for a step; a
+-- picture isn't drawn; or it can't be written
+pub data IsPlayFault (output : PlayOutput) (s : Sources) (script : Script) (closing : Option ℕ)
+    (before after : Option (List ℕ)) (fault : Fault NodeFault) : Type 0 where
   no_memory : (memory : steps.Memory) → fault ≡ More (World memory)
       → IsBrokenOffAs output s.plan s.programs s.inputs script closing before after (broken.World memory)
       → IsPlayFault output s script closing before after fault
-  undrawn : (why : DrawFault) → fault ≡ More (Undrawn why) → IsUndrawnAs output s.plan s.programs s.inputs script closing why → after ≡ before
+  undrawn : (why : DrawFault) → fault ≡ More (Undrawn why)
+      → IsUndrawnAs output s.plan s.programs s.inputs script closing why → after ≡ before
       → IsPlayFault output s script closing before after fault
   unwritten : fault ≡ CannotWrite → IsPlayFault output s script closing before after fault

@@ -1,11 +1,11 @@
--- Which fault stands where nothing more is printed: in the words, in the files of the request, or after all was loaded. What a
--- writer holds before and after is said of faults that come after that.
+-- Which fault stands where nothing more is printed: in the words, in the files of the request, or after all was loaded.
+-- What a writer holds before and after is said of faults that come after that.
 use Rattle.std.specs.Prelude.{◌≡◌, ℕ, ◌⊎◌, List, [], ◌∷◌, ◌++◌, Option, IfSome}
 use Rattle.std.specs.Borrow.{Bor}
 use Rattle.plan.specs.declared.draft.Draft.{Draft}
-use Rattle.fedrun_script.specs.declared.fault.ScriptFault.{ScriptFault}
-use Rattle.fedrun_script.specs.declared.script.TheConstants.{MOST_BYTES}
-use Rattle.fedrun_script.specs.Scripts.{IsFaultOf as IsScriptFault}
+use Rattle.files_script.specs.declared.fault.ScriptFault.{ScriptFault}
+use Rattle.files_script.specs.declared.script.TheConstants.{MOST_BYTES}
+use Rattle.files_script.specs.Scripts.{IsFaultOf as IsScriptFault}
 use Rattle.fedrun_fault.specs.declared.fault.Fault.{Fault}
 use Rattle.fedrun_fault.specs.declared.fault.Fault.TheVariants.{CannotWrite, More}
 use Rattle.fedrun_files.specs.Answers.{Answer, given}
@@ -21,7 +21,8 @@ use Rattle.fedrun_run.specs.declared.audit_failure.AuditFailure.{AuditFailure}
 use Rattle.desk.specs.declared.memory.Memory as run
 use Rattle.fedrun_whole.specs.Refused as every
 use Rattle.fedrun_words.specs.declared.request.Request.{Request}
-use Rattle.fedrun_words.specs.declared.request.Request.TheVariants.{Replay, Run as RunOf, Record, Frames, DrawFederation, DrawSchedule, Lint, Audit}
+use Rattle.fedrun_words.specs.declared.request.Request.TheVariants.{Replay, Run as RunOf, Record, Frames}
+use Rattle.fedrun_words.specs.declared.request.Request.TheVariants.{DrawFederation, DrawSchedule, Lint, Audit}
 use Rattle.fedrun_commands.specs.ReportFiles.{IsFaultOfReports}
 use Rattle.fedrun_commands.specs.declared.play_output.PlayOutput.{PlayOutput}
 use Rattle.fedrun_commands.specs.declared.play_output.PlayOutput.TheVariants as played
@@ -32,8 +33,10 @@ use Rattle.fedrun_commands.specs.declared.fault.NodeFault.{NodeFault}
 use Rattle.fedrun_commands.specs.declared.fault.NodeFault.TheVariants.{Schedule, Undrawn, NotFinished, Unproved, Run}
 
 -- why the schedule file isn't taken, for this federation
-pub data IsScheduleFault (d : Draft) (name : Bor (List ℕ)) (contents : Contents) (answered : List Answer → Type 0) (fault : Fault NodeFault) : Type 0 where
-  schedule_unread : IsUnread MOST_BYTES name (contents name.now) answered fault → IsScheduleFault d name contents answered fault
+pub data IsScheduleFault (d : Draft) (name : Bor (List ℕ)) (contents : Contents) (answered : List Answer → Type 0)
+    (fault : Fault NodeFault) : Type 0 where
+  schedule_unread : IsUnread MOST_BYTES name (contents name.now) answered fault
+      → IsScheduleFault d name contents answered fault
   schedule_refused : answered (given name.now ∷ []) → (why : ScriptFault) → fault ≡ More (Schedule why)
       → IfSome (contents name.now) (λ bytes. IsScriptFault d bytes why) → IsScheduleFault d name contents answered fault
 
@@ -41,36 +44,42 @@ pub data IsScheduleFault (d : Draft) (name : Bor (List ℕ)) (contents : Content
 abbrev pub IsUnprintedRun : Sources → Fault NodeFault → Type 0
 IsUnprintedRun s fault =
     (fault ≡ More NotFinished)
-    ⊎ (((failure : AuditFailure) × (fault ≡ More (Unproved failure)) × IsAuditFailure s.plan s.programs s.inputs failure)
+    ⊎ (((failure : AuditFailure) × (fault ≡ More (Unproved failure))
+    × IsAuditFailure s.plan s.programs s.inputs failure)
     ⊎ ((memory : run.Memory) × (fault ≡ More (Run memory))))
 
--- why a picture of a federation isn't printed, once it was loaded: it isn't drawn for want of memory, and nothing was printed; or it can't be written
+-- why a picture of a federation isn't printed, once it was loaded: it isn't drawn for want of memory, and nothing was
+-- printed; or it can't be written
 abbrev pub IsPictureFault : Option (List ℕ) → Option (List ℕ) → Fault NodeFault → Type 0
 IsPictureFault before after fault =
     ((why : DrawFault) × (fault ≡ More (Undrawn why)) × IsInterrupted why × (after ≡ before)) ⊎ (fault ≡ CannotWrite)
 
--- why a run isn't printed, once all was loaded: it can't be written; or it isn't finished, an audit doesn't believe it, or there was no
--- memory for it, and then nothing is written
+-- why a run isn't printed, once all was loaded: it can't be written; or it isn't finished, an audit doesn't believe it,
+-- or there was no memory for it, and then nothing is written
 abbrev pub IsRunFault : Sources → Option (List ℕ) → Option (List ℕ) → Fault NodeFault → Type 0
 IsRunFault s before after fault = (fault ≡ CannotWrite) ⊎ (IsUnprintedRun s fault × (after ≡ before))
 
--- why a run of the federation in a file isn't printed, and what was answered about files till then: the federation file's fault comes first,
--- then the input file's
-abbrev pub IsFaultOfRun : Contents → (List Answer → Type 0) → Option (List ℕ) → Option (List ℕ) → Bor (List ℕ) → Bor (List ℕ) → Fault NodeFault → Type 0
+-- why a run of the federation in a file isn't printed, and what was answered about files till then: the federation
+-- file's fault comes first, then the input file's
+abbrev pub IsFaultOfRun : Contents → (List Answer → Type 0) → Option (List ℕ) → Option (List ℕ) → Bor (List ℕ)
+    → Bor (List ℕ) → Fault NodeFault → Type 0
 IsFaultOfRun contents answered before after federation inputs fault =
     IsSourcesFault federation inputs contents answered fault
     ⊎ (answered (asked_sources federation.now inputs.now)
     × HoldsOfSources (contents federation.now) (input_file contents inputs.now) (λ s. IsRunFault s before after fault))
 
--- why a schedule isn't played or printed, and what was answered about files till then: the federation file's fault comes first, then the
--- input file's, then the schedule's
-abbrev pub IsFaultOfPlay : PlayOutput → Contents → (List Answer → Type 0) → Option (List ℕ) → Option (List ℕ) → Bor (List ℕ) → Bor (List ℕ) → Bor (List ℕ) → Option ℕ → Fault NodeFault → Type 0
+-- why a schedule isn't played or printed, and what was answered about files till then: the federation file's fault
+-- comes first, then the input file's, then the schedule's
+abbrev pub IsFaultOfPlay : PlayOutput → Contents → (List Answer → Type 0) → Option (List ℕ) → Option (List ℕ)
+    → Bor (List ℕ) → Bor (List ℕ) → Bor (List ℕ) → Option ℕ → Fault NodeFault → Type 0
 IsFaultOfPlay output contents answered before after federation inputs schedule closing fault =
     IsSourcesFault federation inputs contents answered fault
     ⊎ HoldsOfSources (contents federation.now) (input_file contents inputs.now)
-    (λ s. IsScheduleFault s.plan schedule contents (λ later. answered (asked_sources federation.now inputs.now ++ later)) fault
+    (λ s. IsScheduleFault s.plan schedule contents
+    (λ later. answered (asked_sources federation.now inputs.now ++ later)) fault
     ⊎ (answered (asked_sources federation.now inputs.now ++ given schedule.now ∷ [])
-    × HoldsOfSchedule (contents schedule.now) s.plan (λ script. IsPlayFault output s script closing before after fault)))
+    × HoldsOfSchedule (contents schedule.now) s.plan
+    (λ script. IsPlayFault output s script closing before after fault)))
 
 -- the federation file is taken, and this fault comes after it
 pub record IsLateDrawFault (federation before after : Option (List ℕ)) (fault : Fault NodeFault) : Type 0 where
@@ -80,21 +89,31 @@ pub record IsLateDrawFault (federation before after : Option (List ℕ)) (fault 
   pub later : IsPictureFault before after fault
 
 -- why a picture of the federation in a file isn't printed, and what was answered about files till then
-abbrev pub IsDrawFault : Contents → (List Answer → Type 0) → Option (List ℕ) → Option (List ℕ) → Bor (List ℕ) → Fault NodeFault → Type 0
+abbrev pub IsDrawFault : Contents → (List Answer → Type 0) → Option (List ℕ) → Option (List ℕ) → Bor (List ℕ)
+    → Fault NodeFault → Type 0
 IsDrawFault contents answered before after federation fault =
     IsFederationFault federation contents answered fault
     ⊎ (answered (given federation.now ∷ []) × IsLateDrawFault (contents federation.now) before after fault)
 
 -- why a request isn't done, and what was answered about files till then
-abbrev pub IsFaultOf : Contents → (List Answer → Type 0) → Option (List ℕ) → Option (List ℕ) → Request → Fault NodeFault → Type 0
-IsFaultOf contents answered before after (Replay federation inputs schedule until_stuck format) fault = IsFaultOfPlay (played.Rows format) contents answered before after federation inputs schedule until_stuck fault
-IsFaultOf contents answered before after (Frames federation inputs schedule until_stuck) fault = IsFaultOfPlay played.Frames contents answered before after federation inputs schedule until_stuck fault
-IsFaultOf contents answered before after (DrawSchedule federation inputs schedule until_stuck) fault = IsFaultOfPlay played.Picture contents answered before after federation inputs schedule until_stuck fault
-IsFaultOf contents answered before after (DrawFederation federation) fault = IsDrawFault contents answered before after federation fault
-IsFaultOf contents answered before after (RunOf federation inputs turns frames format) fault = IsFaultOfRun contents answered before after federation inputs fault
-IsFaultOf contents answered before after (Record federation inputs turns frames) fault = IsFaultOfRun contents answered before after federation inputs fault
-IsFaultOf contents answered before after (Audit federation inputs coordinator federates format) fault = IsFaultOfReports contents answered before after federation inputs coordinator federates.items fault
-IsFaultOf contents answered before after (Lint federation inputs) fault = IsLintFault contents answered before after federation inputs fault
+abbrev pub IsFaultOf : Contents → (List Answer → Type 0) → Option (List ℕ) → Option (List ℕ) → Request
+    → Fault NodeFault → Type 0
+IsFaultOf contents answered before after (Replay federation inputs schedule until_stuck format) fault =
+    IsFaultOfPlay (played.Rows format) contents answered before after federation inputs schedule until_stuck fault
+IsFaultOf contents answered before after (Frames federation inputs schedule until_stuck) fault =
+    IsFaultOfPlay played.Frames contents answered before after federation inputs schedule until_stuck fault
+IsFaultOf contents answered before after (DrawSchedule federation inputs schedule until_stuck) fault =
+    IsFaultOfPlay played.Picture contents answered before after federation inputs schedule until_stuck fault
+IsFaultOf contents answered before after (DrawFederation federation) fault =
+    IsDrawFault contents answered before after federation fault
+IsFaultOf contents answered before after (RunOf federation inputs turns frames format) fault =
+    IsFaultOfRun contents answered before after federation inputs fault
+IsFaultOf contents answered before after (Record federation inputs turns frames) fault =
+    IsFaultOfRun contents answered before after federation inputs fault
+IsFaultOf contents answered before after (Audit federation inputs coordinator federates format) fault =
+    IsFaultOfReports contents answered before after federation inputs coordinator federates.items fault
+IsFaultOf contents answered before after (Lint federation inputs) fault =
+    IsLintFault contents answered before after federation inputs fault
 IsFaultOf contents answered before after request fault = ⊥
 
 -- the fault is one of words, and no file was asked for, or it stands against some request

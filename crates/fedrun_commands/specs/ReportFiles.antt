@@ -1,4 +1,5 @@
--- What is printed of report files that an audit proves, and why nothing is. What a file holds is said where its bytes are known.
+-- What is printed of report files that an audit proves, and why nothing is. What a file holds is said where its bytes
+-- are known.
 use Rattle.std.specs.Prelude.{◌≡◌, ℕ, ◌⊎◌, List, [], ◌∷◌, ◌++◌, map, Option, IfSome}
 use Rattle.std.specs.Borrow.{Bor}
 use Rattle.sha2.specs.Sha256.{sha256}
@@ -6,13 +7,13 @@ use Rattle.node.specs.declared.event.Event.{Event}
 use Rattle.plan.specs.Federation.{federate_count}
 use Rattle.recorder_reports.specs.declared.report.Report.{Report}
 use Rattle.desk.specs.declared.memory.Memory as run
-use Rattle.fedrun_text.specs.declared.row_format.RowFormat.{RowFormat}
-use Rattle.fedrun_reports.specs.declared.file_digests.FileDigests.{FileDigests}
-use Rattle.fedrun_reports.specs.declared.layout.TheConstants.{LONGEST_REPORT}
-use Rattle.fedrun_reports.specs.declared.report_file_fault.ReportFileFault.{ReportFileFault}
-use Rattle.fedrun_reports.specs.Said.{by_coordinator}
-use Rattle.fedrun_reports.specs.File.{IsReportOf}
-use Rattle.fedrun_reports.specs.Taken.{by_report, IsCoordinatorFault, IsFederateFault}
+use Rattle.files_text.specs.declared.row_format.RowFormat.{RowFormat}
+use Rattle.files_reports.specs.declared.file_digests.FileDigests.{FileDigests}
+use Rattle.files_reports.specs.declared.layout.TheConstants.{LONGEST_REPORT}
+use Rattle.files_reports.specs.declared.report_file_fault.ReportFileFault.{ReportFileFault}
+use Rattle.files_reports.specs.Said.{by_coordinator}
+use Rattle.files_reports.specs.File.{IsReportOf}
+use Rattle.files_reports.specs.Taken.{by_report, IsCoordinatorFault, IsFederateFault}
 use Rattle.fedrun_run.specs.declared.audit_failure.AuditFailure.{AuditFailure}
 use Rattle.fedrun_run.specs.declared.output.RunOutput.TheVariants.{Rows}
 use Rattle.fedrun_run.specs.Printed.{IsAuditFailureOf, IsUnfinished, PrintsReports}
@@ -41,32 +42,39 @@ pub record AreDigestsOf (federation inputs : Option (List ℕ)) (digests : FileD
 
 -- the file is the coordinator's report of a run of these files, with this journal
 abbrev pub IsCoordinatorFile : FileDigests → Option (List ℕ) → List Event → Type 0
-IsCoordinatorFile digests known journal = (bytes : List ℕ) × AreBytesOf known bytes × IsReportOf digests (by_coordinator journal) bytes
+IsCoordinatorFile digests known journal =
+    (bytes : List ℕ) × AreBytesOf known bytes × IsReportOf digests (by_coordinator journal) bytes
 
 -- the file is this report of a federate
 abbrev pub IsFederateFile : FileDigests → Option (List ℕ) → Report → Type 0
-IsFederateFile digests known report = (bytes : List ℕ) × AreBytesOf known bytes × IsReportOf digests (by_report report) bytes
+IsFederateFile digests known report =
+    (bytes : List ℕ) × AreBytesOf known bytes × IsReportOf digests (by_report report) bytes
 
 -- the files of these names are these reports, in this order
 pub data AreFederateFiles (contents : Contents) (digests : FileDigests) : Names → List Report → Type 0 where
   no_file : AreFederateFiles contents digests [] []
-  one_more : {names : Names} {reports : List Report} (name : Bor (List ℕ)) (report : Report) → AreFederateFiles contents digests names reports
-      → IsFederateFile digests (contents name.now) report → AreFederateFiles contents digests (names ++ name ∷ []) (reports ++ report ∷ [])
+  one_more : {names : Names} {reports : List Report} (name : Bor (List ℕ)) (report : Report)
+      → AreFederateFiles contents digests names reports
+      → IsFederateFile digests (contents name.now) report
+      → AreFederateFiles contents digests (names ++ name ∷ []) (reports ++ report ∷ [])
 
 -- the answers about files of these names, each given
 abbrev pub all_given : Names → List Answer
 all_given names = map (λ name. given name.now) names
 
 -- all that an audit is made of: the federation and recorded inputs, and the reports of a run of them
-pub record AreReported (contents : Contents) (federation inputs coordinator : List ℕ) (federates : Names) (s : Sources) (reports : List Report) (journal : List Event) : Type 0 where
+pub record AreReported (contents : Contents) (federation inputs coordinator : List ℕ) (federates : Names) (s : Sources)
+    (reports : List Report) (journal : List Event) : Type 0 where
   pub sources_are : AreSources (contents federation) (input_file contents inputs) s
   pub digests : FileDigests
   pub digests_are : AreDigestsOf (contents federation) (input_file contents inputs) digests
   pub coordinator_is : IsCoordinatorFile digests (contents coordinator) journal
   pub federates_are : AreFederateFiles contents digests federates reports
 
--- the rows of reports that are proved were printed: of each federate its whole part of the undivided program's rows, and no other
-pub record PrintsReportFiles (format : RowFormat) (contents : Contents) (federation inputs coordinator : List ℕ) (federates : Names) (before after : Option (List ℕ)) : Type 0 where
+-- the rows of reports that are proved were printed: of each federate its whole part of the undivided program's rows,
+-- and no other
+pub record PrintsReportFiles (format : RowFormat) (contents : Contents) (federation inputs coordinator : List ℕ)
+    (federates : Names) (before after : Option (List ℕ)) : Type 0 where
   pub sources : Sources
   pub reports : List Report
   pub journal : List Event
@@ -74,51 +82,66 @@ pub record PrintsReportFiles (format : RowFormat) (contents : Contents) (federat
   pub prints : PrintsReports (Rows format) sources.plan sources.programs sources.inputs reports journal before after
 
 -- why the coordinator's file isn't taken
-pub data IsCoordinatorFileFault (digests : FileDigests) (name : Bor (List ℕ)) (contents : Contents) (answered : List Answer → Type 0) (fault : Fault NodeFault) : Type 0 where
-  coordinator_unread : IsUnread LONGEST_REPORT name (contents name.now) answered fault → IsCoordinatorFileFault digests name contents answered fault
+pub data IsCoordinatorFileFault (digests : FileDigests) (name : Bor (List ℕ)) (contents : Contents)
+    (answered : List Answer → Type 0) (fault : Fault NodeFault) : Type 0 where
+  coordinator_unread : IsUnread LONGEST_REPORT name (contents name.now) answered fault
+      → IsCoordinatorFileFault digests name contents answered fault
   coordinator_refused : answered (given name.now ∷ []) → (why : ReportFileFault) → fault ≡ More (ReportFile name why)
-      → IfSome (contents name.now) (λ bytes. IsCoordinatorFault digests bytes why) → IsCoordinatorFileFault digests name contents answered fault
+      → IfSome (contents name.now) (λ bytes. IsCoordinatorFault digests bytes why)
+      → IsCoordinatorFileFault digests name contents answered fault
 
 -- why a federate's file isn't taken, beside the reports before it
-pub data IsFederateFileFault (digests : FileDigests) (count : ℕ) (reports : List Report) (name : Bor (List ℕ)) (contents : Contents) (answered : List Answer → Type 0) (fault : Fault NodeFault) : Type 0 where
-  federate_unread : IsUnread LONGEST_REPORT name (contents name.now) answered fault → IsFederateFileFault digests count reports name contents answered fault
+pub data IsFederateFileFault (digests : FileDigests) (count : ℕ) (reports : List Report) (name : Bor (List ℕ))
+    (contents : Contents) (answered : List Answer → Type 0) (fault : Fault NodeFault) : Type 0 where
+  federate_unread : IsUnread LONGEST_REPORT name (contents name.now) answered fault
+      → IsFederateFileFault digests count reports name contents answered fault
   federate_refused : answered (given name.now ∷ []) → (why : ReportFileFault) → fault ≡ More (ReportFile name why)
-      → IfSome (contents name.now) (λ bytes. IsFederateFault (record { count = count; reports = reports }) digests bytes why)
+      → IfSome (contents name.now) (λ bytes.
+      IsFederateFault (record { count = count; reports = reports }) digests bytes why)
       → IsFederateFileFault digests count reports name contents answered fault
 
 -- why the first of these files that isn't taken isn't: all before it are
-pub record IsFirstFileFault (digests : FileDigests) (count : ℕ) (names : Names) (contents : Contents) (answered : List Answer → Type 0) (fault : Fault NodeFault) : Type 0 where
+pub record IsFirstFileFault (digests : FileDigests) (count : ℕ) (names : Names) (contents : Contents)
+    (answered : List Answer → Type 0) (fault : Fault NodeFault) : Type 0 where
   pub taken : Names
   pub name : Bor (List ℕ)
   pub later : Names
   pub in_order : names ≡ taken ++ name ∷ later
   pub reports : List Report
   pub are_taken : AreFederateFiles contents digests taken reports
-  pub refused : IsFederateFileFault digests count reports name contents (λ last. answered (all_given taken ++ last)) fault
+  pub refused : IsFederateFileFault digests count reports name contents
+      (λ last. answered (all_given taken ++ last)) fault
 
--- why reports that are all taken aren't printed: they can't be written; or an audit doesn't believe them, the coordinator isn't finished by its
--- journal, or there was no memory to begin the audit, and then nothing is written
-abbrev pub IsUnprinted : Sources → List Report → List Event → Option (List ℕ) → Option (List ℕ) → Fault NodeFault → Type 0
+-- why reports that are all taken aren't printed: they can't be written; or an audit doesn't believe them, the
+-- coordinator isn't finished by its journal, or there was no memory to begin the audit, and then nothing is written
+abbrev pub IsUnprinted : Sources → List Report → List Event → Option (List ℕ) → Option (List ℕ)
+    → Fault NodeFault → Type 0
 IsUnprinted s reports journal before after fault =
     (fault ≡ CannotWrite)
-    ⊎ ((((failure : AuditFailure) × (fault ≡ More (Unproved failure)) × IsAuditFailureOf s.plan s.programs s.inputs reports journal failure)
+    ⊎ ((((failure : AuditFailure) × (fault ≡ More (Unproved failure))
+    × IsAuditFailureOf s.plan s.programs s.inputs reports journal failure)
     ⊎ (((fault ≡ More NotFinished) × IsUnfinished s.plan s.programs s.inputs reports journal)
     ⊎ ((memory : run.Memory) × (fault ≡ More (Run memory)))))
     × (after ≡ before))
 
--- why an audit of report files prints nothing, or not all, and what was answered about files till then: files are read in the order in which they
--- are named, and the first that isn't taken is told
-pub data IsFaultOfReports (contents : Contents) (answered : List Answer → Type 0) (before after : Option (List ℕ)) (federation inputs coordinator : Bor (List ℕ)) (federates : Names) (fault : Fault NodeFault) : Type 0 where
-  of_sources : IsSourcesFault federation inputs contents answered fault → IsFaultOfReports contents answered before after federation inputs coordinator federates fault
+-- why an audit of report files prints nothing, or not all, and what was answered about files till then: files are read
+-- in the order in which they are named, and the first that isn't taken is told
+pub data IsFaultOfReports (contents : Contents) (answered : List Answer → Type 0) (before after : Option (List ℕ))
+    (federation inputs coordinator : Bor (List ℕ)) (federates : Names) (fault : Fault NodeFault) : Type 0 where
+  of_sources : IsSourcesFault federation inputs contents answered fault
+      → IsFaultOfReports contents answered before after federation inputs coordinator federates fault
   of_coordinator : (s : Sources) → AreSources (contents federation.now) (input_file contents inputs.now) s
       → (digests : FileDigests) → AreDigestsOf (contents federation.now) (input_file contents inputs.now) digests
-      → IsCoordinatorFileFault digests coordinator contents (λ later. answered (asked_sources federation.now inputs.now ++ later)) fault
+      → IsCoordinatorFileFault digests coordinator contents
+      (λ later. answered (asked_sources federation.now inputs.now ++ later)) fault
       → IsFaultOfReports contents answered before after federation inputs coordinator federates fault
   of_federates : (s : Sources) → AreSources (contents federation.now) (input_file contents inputs.now) s
       → (digests : FileDigests) → AreDigestsOf (contents federation.now) (input_file contents inputs.now) digests
       → IsFirstFileFault digests (federate_count s.plan) federates contents
       (λ later. answered (asked_sources federation.now inputs.now ++ (given coordinator.now ∷ [] ++ later))) fault
       → IsFaultOfReports contents answered before after federation inputs coordinator federates fault
-  of_audit : (s : Sources) (reports : List Report) (journal : List Event) → AreReported contents federation.now inputs.now coordinator.now federates s reports journal
+  of_audit : (s : Sources) (reports : List Report) (journal : List Event)
+      → AreReported contents federation.now inputs.now coordinator.now federates s reports journal
       → answered (asked_sources federation.now inputs.now ++ (given coordinator.now ∷ all_given federates))
-      → IsUnprinted s reports journal before after fault → IsFaultOfReports contents answered before after federation inputs coordinator federates fault
+      → IsUnprinted s reports journal before after fault
+      → IsFaultOfReports contents answered before after federation inputs coordinator federates fault

@@ -2,7 +2,7 @@
 use Rattle.std.specs.Prelude.{ℕ, List, Option}
 use Rattle.plan.specs.declared.draft.Draft.{Draft}
 use Rattle.fedrun_files.specs.Contents.{AreBytesOf}
-use Rattle.fedrun_script.specs.Scripts.{Script, IsScriptOf}
+use Rattle.files_script.specs.Scripts.{Script, IsScriptOf}
 
 -- the lines of the file spell this schedule of the federation
 pub record IsSchedule (known : Option (List ℕ)) (d : Draft) (script : Script) : Type 0 where

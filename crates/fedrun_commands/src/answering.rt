@@ -17,11 +17,11 @@ use std::sync::Wait;
 use std::thread::Threads;
 use std::time::Clock;
 
-/// Does what the words ask for, over these files, and answers the exit status: 0 where it is done, 1 where what it was given
-/// is refused or can't be read, or where `lint` told of something wrong, 2 where the words are no command, 3 where it couldn't finish. What it has to say of a
-/// failure is one line to `err`: what `err` gains is a prefix of that line, and `answer` says whether it is all of it; what
-/// `err` refuses changes nothing else. With 0, `run` printed the rows of reports that the audit proved, and whose coordinator is
-/// finished.
+/// Does what the words ask for, over these files, and answers the exit status: 0 where it is done, 1 where what it was
+/// given is refused or can't be read, or where `lint` told of something wrong, 2 where the words are no command, 3
+/// where it couldn't finish. What it has to say of a failure is one line to `err`: what `err` gains is a prefix of that
+/// line, and `answer` says whether it is all of it; what `err` refuses changes nothing else. With 0, `run` printed the
+/// rows of reports that the audit proved, and whose coordinator is finished.
 pub fn command<
     R: AllocGlobal
         + Threads
@@ -36,8 +36,11 @@ pub fn command<
 >(rt: &R, words: &[String], files: &mut F, out: &mut O, err: &mut E, progress: &P) -> u8
     ensures done { result ≡ 0 → PrintsAnswer (F.contents files.old) (O.contents out.old) (O.contents out.new) }
     ensures quiet { result ≡ 0 → err.new ≡ err.old }
-    ensures printed { result ≢ 0 → PrintsFault (Stands (F.contents files.old) (Answers (F.answers files.old) (F.answers files.new)) (O.contents out.old) (O.contents out.new)) status_of printed_fault result (AppendsPrefix (E.contents err.old) (E.contents err.new)) }
-    ensures untouched { result ≡ 1 → (out.new ≡ out.old) ⊎ HasToldWrong (F.contents files.old) (O.contents out.old) (O.contents out.new) }
+    ensures printed { result ≢ 0 → PrintsFault
+        (Stands (F.contents files.old) (Answers (F.answers files.old) (F.answers files.new)) (O.contents out.old)
+        (O.contents out.new)) status_of printed_fault result (AppendsPrefix (E.contents err.old) (E.contents err.new)) }
+    ensures untouched { result ≡ 1
+        → (out.new ≡ out.old) ⊎ HasToldWrong (F.contents files.old) (O.contents out.old) (O.contents out.new) }
     ensures unused { result ≡ 2 → out.new ≡ out.old }
     ensures statuses { result ≤ 3 }
 {
@@ -59,8 +62,12 @@ pub fn answer<
 >(rt: &R, words: &[String], files: &mut F, out: &mut O, err: &mut E, progress: &P) -> Answered
     ensures done { result.status ≡ 0 → PrintsAnswer (F.contents files.old) (O.contents out.old) (O.contents out.new) }
     ensures quiet { result.status ≡ 0 → err.new ≡ err.old }
-    ensures printed { result.status ≢ 0 → PrintsFault (Stands (F.contents files.old) (Answers (F.answers files.old) (F.answers files.new)) (O.contents out.old) (O.contents out.new)) status_of printed_fault result.status (AppendsPrinted result.is_printed (E.contents err.old) (E.contents err.new)) }
-    ensures untouched { result.status ≡ 1 → (out.new ≡ out.old) ⊎ HasToldWrong (F.contents files.old) (O.contents out.old) (O.contents out.new) }
+    ensures printed { result.status ≢ 0
+        → PrintsFault (Stands (F.contents files.old) (Answers (F.answers files.old) (F.answers files.new))
+        (O.contents out.old) (O.contents out.new)) status_of printed_fault result.status
+        (AppendsPrinted result.is_printed (E.contents err.old) (E.contents err.new)) }
+    ensures untouched { result.status ≡ 1
+        → (out.new ≡ out.old) ⊎ HasToldWrong (F.contents files.old) (O.contents out.old) (O.contents out.new) }
     ensures unused { result.status ≡ 2 → out.new ≡ out.old }
     ensures statuses { result.status ≤ 3 }
 {

@@ -8,24 +8,26 @@ ghost use Rattle.fedrun_run.specs.declared.output.RunOutput.TheVariants.{Rows};
 ghost use Rattle.fedrun_run.specs.Printed.{PrintsReports};
 ghost use Rattle.fedrun_files.specs.Answers.{Answers, given};
 ghost use Rattle.fedrun_commands.specs.Faults.{status_of};
-ghost use Rattle.fedrun_commands.specs.ReportFiles.{all_given, AreDigestsOf, AreFederateFiles, IsCoordinatorFile, IsCoordinatorFileFault, IsFederateFile, IsFederateFileFault, IsFirstFileFault, IsFaultOfReports, IsUnprinted, PrintsReportFiles};
+ghost use Rattle.fedrun_commands.specs.ReportFiles.{all_given, AreDigestsOf, AreFederateFiles, IsCoordinatorFile};
+ghost use Rattle.fedrun_commands.specs.ReportFiles.{IsCoordinatorFileFault, IsFederateFile, IsFederateFileFault};
+ghost use Rattle.fedrun_commands.specs.ReportFiles.{IsFirstFileFault, IsFaultOfReports, IsUnprinted, PrintsReportFiles};
 
 use crate::fault::NodeFault;
 use crate::printing::flush;
 use fedrun_fault::Fault;
 use fedrun_files::{Files, Sources, bytes_of, read_sources_and_bytes};
-use fedrun_reports::layout::LONGEST_REPORT;
-use fedrun_reports::{FileDigests, read_coordinator, take_report};
 use fedrun_run::{AuditedFault, RunOutput, print_audited};
-use fedrun_text::RowFormat;
-use journal::Journal;
+use files_reports::layout::LONGEST_REPORT;
+use files_reports::{FileDigests, read_coordinator, take_report};
+use files_text::RowFormat;
+use node_journal::Journal;
 use recorder::IncrementalAudit;
 use recorder_reports::{Collector, Report};
 use std::alloc::Global;
 use std::io::Write;
 
-/// Prints the rows that report files prove: the coordinator's, and each federate's, in any order. Files are read in the order in
-/// which they are named, each before the next.
+/// Prints the rows that report files prove: the coordinator's, and each federate's, in any order. Files are read in the
+/// order in which they are named, each before the next.
 #[tactic(auto, using(fedrun_files::proofs::InTurn::answered_in_turn))]
 pub(crate) fn audit<'a, F: Files, O: Write>(
     alloc: Global,
@@ -37,8 +39,11 @@ pub(crate) fn audit<'a, F: Files, O: Write>(
     files: &mut F,
     out: &mut O,
 ) -> Result<(), Fault<'a, NodeFault<'a>>>
-    ensures ok { OnOk result (PrintsReportFiles format (F.contents files.old) federation.entry.now inputs.entry.now coordinator.entry.now federates.now (O.contents out.old) (O.contents out.new)) }
-    ensures stands { IfErr result (IsFaultOfReports (F.contents files.old) (Answers (F.answers files.old) (F.answers files.new)) (O.contents out.old) (O.contents out.new) federation.entry inputs.entry coordinator.entry federates.now) }
+    ensures ok { OnOk result (PrintsReportFiles format (F.contents files.old) federation.entry.now inputs.entry.now
+        coordinator.entry.now federates.now (O.contents out.old) (O.contents out.new)) }
+    ensures stands { IfErr result (IsFaultOfReports (F.contents files.old)
+        (Answers (F.answers files.old) (F.answers files.new)) (O.contents out.old) (O.contents out.new) federation.entry
+        inputs.entry coordinator.entry federates.now) }
     ensures untouched { IfErr result (λ fault. status_of fault ≢ 3 → out.new ≡ out.old) }
 {
     let (sources, bytes) = match read_sources_and_bytes(alloc, federation, inputs, files) {
@@ -67,7 +72,8 @@ fn read_coordinator_file<'a, F: Files>(
 ) -> Result<Journal, Fault<'a, NodeFault<'a>>>
     ensures ok { IfOk result (λ journal. IsCoordinatorFile digests.now (F.contents files.old name.entry.now) journal) }
     ensures asked { OnOk result (Answers (F.answers files.old) (F.answers files.new) (given name.entry.now ∷ [])) }
-    ensures err { IfErr result (IsCoordinatorFileFault digests.now name.entry (F.contents files.old) (Answers (F.answers files.old) (F.answers files.new))) }
+    ensures err { IfErr result (IsCoordinatorFileFault digests.now name.entry (F.contents files.old)
+        (Answers (F.answers files.old) (F.answers files.new))) }
     ensures early { IfErr result (λ fault. status_of fault ≡ 1) }
     ensures same { F.contents files.new ≡ F.contents files.old }
 {
@@ -93,7 +99,8 @@ fn take_files<'a, F: Files>(
     requires none { collector.old.reports ≡ [] }
     ensures ok { OnOk result (AreFederateFiles (F.contents files.old) digests.now names.now collector.new.reports) }
     ensures asked { OnOk result (Answers (F.answers files.old) (F.answers files.new) (all_given names.now)) }
-    ensures err { IfErr result (IsFirstFileFault digests.now collector.old.count names.now (F.contents files.old) (Answers (F.answers files.old) (F.answers files.new))) }
+    ensures err { IfErr result (IsFirstFileFault digests.now collector.old.count names.now (F.contents files.old)
+        (Answers (F.answers files.old) (F.answers files.new))) }
     ensures early { IfErr result (λ fault. status_of fault ≡ 1) }
 {
     for name in names {
@@ -114,9 +121,12 @@ fn take_file<'a, F: Files>(
     files: &mut F,
 ) -> Result<(), Fault<'a, NodeFault<'a>>>
     ensures count { collector.new.count ≡ collector.old.count }
-    ensures ok { OnOk result ((report : IsReport) × IsFederateFile digests.now (F.contents files.old name.entry.now) report × (collector.new.reports ≡ collector.old.reports ++ report ∷ [])) }
+    ensures ok { OnOk result ((report : IsReport)
+        × IsFederateFile digests.now (F.contents files.old name.entry.now) report
+        × (collector.new.reports ≡ collector.old.reports ++ report ∷ [])) }
     ensures asked { OnOk result (Answers (F.answers files.old) (F.answers files.new) (given name.entry.now ∷ [])) }
-    ensures err { IfErr result (IsFederateFileFault digests.now collector.old.count collector.old.reports name.entry (F.contents files.old) (Answers (F.answers files.old) (F.answers files.new))) }
+    ensures err { IfErr result (IsFederateFileFault digests.now collector.old.count collector.old.reports name.entry
+        (F.contents files.old) (Answers (F.answers files.old) (F.answers files.new))) }
     ensures early { IfErr result (λ fault. status_of fault ≡ 1) }
     ensures same { F.contents files.new ≡ F.contents files.old }
 {
@@ -141,8 +151,10 @@ fn print_reports<O: Write>(
 ) -> Result<(), Fault<'static, NodeFault<'static>>>
     requires programs { AreProgramsOf sources.now.plan sources.now.programs }
     requires inputs { AreInputsOf sources.now.plan sources.now.inputs }
-    ensures ok { OnOk result (PrintsReports (Rows format) sources.now.plan sources.now.programs sources.now.inputs reports.now journal.now (O.contents out.old) (O.contents out.new)) }
-    ensures stands { IfErr result (IsUnprinted sources.now reports.now journal.now (O.contents out.old) (O.contents out.new)) }
+    ensures ok { OnOk result (PrintsReports (Rows format) sources.now.plan sources.now.programs sources.now.inputs
+        reports.now journal.now (O.contents out.old) (O.contents out.new)) }
+    ensures stands { IfErr result (IsUnprinted sources.now reports.now journal.now (O.contents out.old)
+        (O.contents out.new)) }
     ensures late { IfErr result (λ fault. status_of fault ≡ 3) }
 {
     let Ok(audit) = IncrementalAudit::new(alloc, &sources.plan, &sources.programs, &sources.inputs)

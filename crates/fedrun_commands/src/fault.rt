@@ -3,19 +3,19 @@ ghost use Rattle.fedrun_commands.specs.Faults.{drawing_status};
 
 use fedrun_draw::DrawFault;
 use fedrun_fault::MoreFault;
-use fedrun_reports::ReportFileFault;
 use fedrun_run::AuditFailure;
-use fedrun_script::ScriptFault;
+use files_reports::ReportFileFault;
+use files_script::ScriptFault;
 use std::fmt;
 
-/// Why a command of nodes isn't done: those faults that `whole` and `check` don't have. What a library answered is kept as it is,
-/// and printed as the library has it.
+/// Why a command of nodes isn't done: those faults that `whole` and `check` don't have. What a library answered is kept
+/// as it is, and printed as the library has it.
 #[derive(Drop)]
 pub enum NodeFault<'a> {
     /// The schedule isn't taken, and the inner fault says why. Nothing was printed.
     Schedule(ScriptFault),
-    /// No memory for a step of a schedule. What was printed of the steps before it stands. The same command may be given again, with
-    /// fewer steps.
+    /// No memory for a step of a schedule. What was printed of the steps before it stands. The same command may be
+    /// given again, with fewer steps.
     World(world_stations::Memory),
     /// The picture isn't drawn, and the inner fault says why. Nothing was printed.
     Undrawn(DrawFault),
@@ -23,8 +23,8 @@ pub enum NodeFault<'a> {
     NotTaken,
     /// The report file of this name isn't taken, and the inner fault says why. Nothing was printed.
     ReportFile(&'a str, ReportFileFault),
-    /// The coordinator of a run isn't finished: a federate's turns were made before, or there was no listener, or a thread couldn't
-    /// be started. Nothing was printed. The same command may be given again, with more turns.
+    /// The coordinator of a run isn't finished: a federate's turns were made before, or there was no listener, or a
+    /// thread couldn't be started. Nothing was printed. The same command may be given again, with more turns.
     NotFinished,
     /// An audit doesn't believe what a run's nodes reported, and the inner failure says why. Nothing was printed.
     Unproved(AuditFailure),

@@ -1,8 +1,8 @@
 //! The commands of the program `fedrun`: from words, files and writers to what is printed, and the exit status.
 //!
-//! Promise to the layer above: with status 0, what the words ask for was printed (`specs/Printed`); with another status, a fault
-//! stands (`specs/Refused`), and it is printed on one line (`specs/Faults`). Begin with `command` in `answering.rt`, then
-//! `perform` and `fulfil` in `requests.rt`: `whole` and `check` are those of `fedrun_whole`.
+//! Promise to the layer above: with status 0, what the words ask for was printed (`specs/Printed`); with another
+//! status, a fault stands (`specs/Refused`), and it is printed on one line (`specs/Faults`). Begin with `command` in
+//! `answering.rt`, then `perform` and `fulfil` in `requests.rt`: `whole` and `check` are those of `fedrun_whole`.
 #![tactic(auto)]
 
 pub mod answering;

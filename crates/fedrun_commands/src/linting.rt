@@ -8,7 +8,8 @@ ghost use Rattle.fedrun_files.specs.Loaded.{input_file};
 ghost use Rattle.fedrun_files.specs.declared.named.FileFault.TheVariants.{OverLimit as over_limit};
 ghost use Rattle.fedrun_lint.specs.Answered.{PrintsReport};
 ghost use Rattle.fedrun_commands.specs.Faults.{status_of};
-ghost use Rattle.fedrun_commands.specs.Linted.{AreLookedAt, OneAnswer, known_bytes, file_of, PrintsLint, HasToldWrong, IsReportFault, IsLintFault};
+ghost use Rattle.fedrun_commands.specs.Linted.{AreLookedAt, OneAnswer, known_bytes, file_of, PrintsLint, HasToldWrong};
+ghost use Rattle.fedrun_commands.specs.Linted.{IsReportFault, IsLintFault};
 
 use crate::fault::NodeFault;
 use fedrun_fault::Fault;
@@ -18,8 +19,8 @@ use loadfed::{LoadFault, MOST_BYTES, MOST_INPUT_BYTES};
 use std::alloc::Global;
 use std::io::Write;
 
-/// Prints all that is wrong or odd in a federation file and a file of recorded inputs. Something that is wrong is a fault, once it
-/// was printed.
+/// Prints all that is wrong or odd in a federation file and a file of recorded inputs. Something that is wrong is a
+/// fault, once it was printed.
 pub(crate) fn lint<'a, F: Files, O: Write>(
     alloc: Global,
     federation: &'a str,
@@ -27,9 +28,14 @@ pub(crate) fn lint<'a, F: Files, O: Write>(
     files: &mut F,
     out: &mut O,
 ) -> Result<(), Fault<'a, NodeFault<'a>>>
-    ensures ok { OnOk result (PrintsLint (F.contents files.old) federation.entry.now inputs.entry.now false (O.contents out.old) (O.contents out.new)) }
-    ensures stands { IfErr result (IsLintFault (F.contents files.old) (Answers (F.answers files.old) (F.answers files.new)) (O.contents out.old) (O.contents out.new) federation.entry inputs.entry) }
-    ensures untouched { IfErr result (λ fault. status_of fault ≡ 1 → (out.new ≡ out.old) ⊎ HasToldWrong (F.contents files.old) (O.contents out.old) (O.contents out.new)) }
+    ensures ok { OnOk result (PrintsLint (F.contents files.old) federation.entry.now inputs.entry.now false
+        (O.contents out.old) (O.contents out.new)) }
+    ensures stands { IfErr result (IsLintFault (F.contents files.old)
+        (Answers (F.answers files.old) (F.answers files.new)) (O.contents out.old) (O.contents out.new) federation.entry
+        inputs.entry) }
+    ensures untouched { IfErr result
+        (λ fault. status_of fault ≡ 1 → (out.new ≡ out.old)
+        ⊎ HasToldWrong (F.contents files.old) (O.contents out.old) (O.contents out.new)) }
     ensures used { IfErr result (λ fault. status_of fault ≢ 2) }
 {
     let first = match bytes_if_few(federation, files, MOST_BYTES) {
@@ -52,8 +58,10 @@ fn print_lint<'a, O: Write>(
     second: &Option<Vec<u8>>,
     out: &mut O,
 ) -> Result<(), Fault<'a, NodeFault<'a>>>
-    ensures ok { OnOk result (PrintsReport (file_of federation.now first.now) (file_of inputs.now second.now) false (O.contents out.old) (O.contents out.new)) }
-    ensures stands { IfErr result (IsReportFault (file_of federation.now first.now) (file_of inputs.now second.now) (O.contents out.old) (O.contents out.new)) }
+    ensures ok { OnOk result (PrintsReport (file_of federation.now first.now) (file_of inputs.now second.now) false
+        (O.contents out.old) (O.contents out.new)) }
+    ensures stands { IfErr result (IsReportFault (file_of federation.now first.now) (file_of inputs.now second.now)
+        (O.contents out.old) (O.contents out.new)) }
     ensures untouched { result ≡ Err (Load Memory) → out.new ≡ out.old }
 {
     let first = NamedFile {
@@ -82,7 +90,7 @@ fn bytes_in(file: &Option<Vec<u8>>) -> Option<&[u8]>
     }
 }
 
-/// The bytes of a file; none where it has more than so many.
+/// The bytes of a file; none where it has more than this many.
 fn bytes_if_few<F: Files>(
     name: &str,
     files: &mut F,
@@ -90,7 +98,8 @@ fn bytes_if_few<F: Files>(
 ) -> Result<Option<Vec<u8>>, FileFault>
     ensures ok { IfOk result (λ read. AreLookedAt most (F.contents files.old name.now) (known_bytes read)) }
     ensures one { OnOk result (OneAnswer (F.answers files.old) (F.answers files.new)) }
-    ensures err { IfErr result (λ why. (why ≢ over_limit) × Answers (F.answers files.old) (F.answers files.new) (refused name.now why ∷ [])) }
+    ensures err { IfErr result (λ why. (why ≢ over_limit)
+        × Answers (F.answers files.old) (F.answers files.new) (refused name.now why ∷ [])) }
     ensures same { F.contents files.new ≡ F.contents files.old }
 {
     match files.bytes(name, most) {
@@ -106,8 +115,10 @@ fn inputs_if_few<F: Files>(
     name: &str,
     files: &mut F,
 ) -> Result<Option<Vec<u8>>, FileFault>
-    ensures ok { IfOk result (λ read. AreLookedAt most_input_bytes (input_file (F.contents files.old) name.now) (known_bytes read)) }
-    ensures err { IfErr result (λ why. (why ≢ over_limit) × Answers (F.answers files.old) (F.answers files.new) (refused name.now why ∷ [])) }
+    ensures ok { IfOk result (λ read.
+        AreLookedAt most_input_bytes (input_file (F.contents files.old) name.now) (known_bytes read)) }
+    ensures err { IfErr result (λ why. (why ≢ over_limit)
+        × Answers (F.answers files.old) (F.answers files.new) (refused name.now why ∷ [])) }
 {
     if name == "-" {
         Ok(Some(Vec::new(alloc)))

@@ -1,4 +1,4 @@
-use fedrun_text::RowFormat;
+use files_text::RowFormat;
 
 /// What is printed of a schedule that was played.
 #[derive(Clone, Copy, Debug, PartialEq, Eq)]

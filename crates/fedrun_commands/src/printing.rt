@@ -21,8 +21,8 @@ use fedrun_frames::frames;
 use fedrun_progress::Progress;
 use fedrun_replay::{ReplayFault, replay_in};
 use fedrun_run::{AuditedFault, RunOutput, print_audited_run};
-use fedrun_script::Script;
-use fedrun_text::RowFormat;
+use files_script::Script;
+use files_text::RowFormat;
 use plan::Plan;
 use std::alloc::Global;
 use std::io::Write;
@@ -32,7 +32,8 @@ use std::thread::Threads;
 use std::time::Clock;
 use wires::Terms;
 
-/// Plays a schedule and prints what is asked for. Where there is no memory for a step, what is printed of the steps before it stands.
+/// Plays a schedule and prints what is asked for. Where there is no memory for a step, what is printed of the steps
+/// before it stands.
 pub(crate) fn print_played<O: Write, P: Progress>(
     alloc: Global,
     sources: &Sources,
@@ -44,8 +45,10 @@ pub(crate) fn print_played<O: Write, P: Progress>(
 ) -> Result<(), Fault<'static, NodeFault<'static>>>
     requires programs { AreProgramsOf sources.now.plan sources.now.programs }
     requires inputs { AreInputsOf sources.now.plan sources.now.inputs }
-    ensures ok { OnOk result (IsPlayedAs output sources.now.plan sources.now.programs sources.now.inputs script.now until_stuck (O.contents out.old) (O.contents out.new)) }
-    ensures stands { IfErr result (IsPlayFault output sources.now script.now until_stuck (O.contents out.old) (O.contents out.new)) }
+    ensures ok { OnOk result (IsPlayedAs output sources.now.plan sources.now.programs sources.now.inputs script.now
+        until_stuck (O.contents out.old) (O.contents out.new)) }
+    ensures stands { IfErr result (IsPlayFault output sources.now script.now until_stuck (O.contents out.old)
+        (O.contents out.new)) }
     ensures untouched { IfErr result (λ fault. status_of fault ≢ 3 → out.new ≡ out.old) }
 {
     match output {
@@ -63,8 +66,8 @@ pub(crate) fn print_played<O: Write, P: Progress>(
     }
 }
 
-/// Plays a schedule and prints what `replay_in` does. Where there is no memory for a step, the refused steps before it are written,
-/// or as comma-separated values nothing.
+/// Plays a schedule and prints what `replay_in` does. Where there is no memory for a step, the refused steps before it
+/// are written, or as comma-separated values nothing.
 fn print_replay<O: Write, P: Progress>(
     alloc: Global,
     sources: &Sources,
@@ -76,8 +79,10 @@ fn print_replay<O: Write, P: Progress>(
 ) -> Result<(), Fault<'static, NodeFault<'static>>>
     requires programs { AreProgramsOf sources.now.plan sources.now.programs }
     requires inputs { AreInputsOf sources.now.plan sources.now.inputs }
-    ensures ok { OnOk result (IsReplayedIn format sources.now.plan sources.now.programs sources.now.inputs script.now until_stuck (O.contents out.old) (O.contents out.new)) }
-    ensures stands { IfErr result (IsPlayFault (PlayOutput.Rows format) sources.now script.now until_stuck (O.contents out.old) (O.contents out.new)) }
+    ensures ok { OnOk result (IsReplayedIn format sources.now.plan sources.now.programs sources.now.inputs script.now
+        until_stuck (O.contents out.old) (O.contents out.new)) }
+    ensures stands { IfErr result (IsPlayFault (PlayOutput.Rows format) sources.now script.now until_stuck
+        (O.contents out.old) (O.contents out.new)) }
     ensures late { IfErr result (λ fault. status_of fault ≡ 3) }
 {
     match replay_in(
@@ -110,8 +115,10 @@ fn print_frames<O: Write>(
 ) -> Result<(), Fault<'static, NodeFault<'static>>>
     requires programs { AreProgramsOf sources.now.plan sources.now.programs }
     requires inputs { AreInputsOf sources.now.plan sources.now.inputs }
-    ensures ok { OnOk result (ShowsSchedule sources.now.plan sources.now.programs sources.now.inputs script.now until_stuck (O.contents out.old) (O.contents out.new)) }
-    ensures stands { IfErr result (IsPlayFault PlayOutput.Frames sources.now script.now until_stuck (O.contents out.old) (O.contents out.new)) }
+    ensures ok { OnOk result (ShowsSchedule sources.now.plan sources.now.programs sources.now.inputs script.now
+        until_stuck (O.contents out.old) (O.contents out.new)) }
+    ensures stands { IfErr result (IsPlayFault PlayOutput.Frames sources.now script.now until_stuck (O.contents out.old)
+        (O.contents out.new)) }
     ensures late { IfErr result (λ fault. status_of fault ≡ 3) }
 {
     match frames(
@@ -142,8 +149,10 @@ fn print_schedule_picture<O: Write>(
 ) -> Result<(), Fault<'static, NodeFault<'static>>>
     requires programs { AreProgramsOf sources.now.plan sources.now.programs }
     requires inputs { AreInputsOf sources.now.plan sources.now.inputs }
-    ensures ok { OnOk result (IsDrawn sources.now.plan sources.now.programs sources.now.inputs script.now until_stuck (O.contents out.old) (O.contents out.new)) }
-    ensures stands { IfErr result (IsPlayFault PlayOutput.Picture sources.now script.now until_stuck (O.contents out.old) (O.contents out.new)) }
+    ensures ok { OnOk result (IsDrawn sources.now.plan sources.now.programs sources.now.inputs script.now until_stuck
+        (O.contents out.old) (O.contents out.new)) }
+    ensures stands { IfErr result (IsPlayFault PlayOutput.Picture sources.now script.now until_stuck
+        (O.contents out.old) (O.contents out.new)) }
     ensures untouched { IfErr result (λ fault. status_of fault ≢ 3 → out.new ≡ out.old) }
 {
     match draw_schedule(
@@ -194,7 +203,8 @@ pub(crate) fn print_run<
 ) -> Result<(), Fault<'static, NodeFault<'static>>>
     requires programs { AreProgramsOf sources.now.plan sources.now.programs }
     requires inputs { AreInputsOf sources.now.plan sources.now.inputs }
-    ensures ok { OnOk result (PrintsAudited output sources.now.plan sources.now.programs sources.now.inputs (O.contents out.old) (O.contents out.new)) }
+    ensures ok { OnOk result (PrintsAudited output sources.now.plan sources.now.programs sources.now.inputs
+        (O.contents out.old) (O.contents out.new)) }
     ensures stands { IfErr result (IsRunFault sources.now (O.contents out.old) (O.contents out.new)) }
     ensures late { IfErr result (λ fault. status_of fault ≡ 3) }
 {

@@ -43,8 +43,11 @@ pub(crate) fn perform<
     progress: &P,
 ) -> Result<(), Fault<'a, NodeFault<'a>>>
     ensures ok { OnOk result (PrintsAnswer (F.contents files.old) (O.contents out.old) (O.contents out.new)) }
-    ensures stands { IfErr result (Stands (F.contents files.old) (Answers (F.answers files.old) (F.answers files.new)) (O.contents out.old) (O.contents out.new)) }
-    ensures untouched { IfErr result (λ fault. status_of fault ≡ 1 → (out.new ≡ out.old) ⊎ HasToldWrong (F.contents files.old) (O.contents out.old) (O.contents out.new)) }
+    ensures stands { IfErr result (Stands (F.contents files.old) (Answers (F.answers files.old) (F.answers files.new))
+        (O.contents out.old) (O.contents out.new)) }
+    ensures untouched { IfErr result
+        (λ fault. status_of fault ≡ 1 → (out.new ≡ out.old)
+        ⊎ HasToldWrong (F.contents files.old) (O.contents out.old) (O.contents out.new)) }
     ensures unused { IfErr result (λ fault. status_of fault ≡ 2 → out.new ≡ out.old) }
 {
     match read_words(alloc, words) {
@@ -70,8 +73,11 @@ fn fulfil<
     progress: &P,
 ) -> Result<(), Fault<'a, NodeFault<'a>>>
     ensures ok { OnOk result (PrintsAnswer (F.contents files.old) (O.contents out.old) (O.contents out.new)) }
-    ensures stands { IfErr result (Stands (F.contents files.old) (Answers (F.answers files.old) (F.answers files.new)) (O.contents out.old) (O.contents out.new)) }
-    ensures untouched { IfErr result (λ fault. status_of fault ≡ 1 → (out.new ≡ out.old) ⊎ HasToldWrong (F.contents files.old) (O.contents out.old) (O.contents out.new)) }
+    ensures stands { IfErr result (Stands (F.contents files.old) (Answers (F.answers files.old) (F.answers files.new))
+        (O.contents out.old) (O.contents out.new)) }
+    ensures untouched { IfErr result
+        (λ fault. status_of fault ≡ 1 → (out.new ≡ out.old)
+        ⊎ HasToldWrong (F.contents files.old) (O.contents out.old) (O.contents out.new)) }
     ensures unused { IfErr result (λ fault. status_of fault ≡ 2 → out.new ≡ out.old) }
 {
     match *request {
@@ -187,8 +193,8 @@ fn fulfil<
     }
 }
 
-/// Runs the federation in threads, of which each makes its turns at most, and prints the rows that the audit proved, or the steps by
-/// which it did.
+/// Runs the federation in threads, of which each makes its turns at most, and prints the rows that the audit proved, or
+/// the steps by which it did.
 pub(crate) fn run<
     'a,
     R: Threads + Wait + Clock + Net<Stream = TcpStream, Listener = TcpListener> + Sync,
@@ -206,8 +212,11 @@ pub(crate) fn run<
     out: &mut O,
     progress: &P,
 ) -> Result<(), Fault<'a, NodeFault<'a>>>
-    ensures ok { OnOk result (PrintsRun output (F.contents files.old) federation.entry inputs.entry (O.contents out.old) (O.contents out.new)) }
-    ensures stands { IfErr result (IsFaultOfRun (F.contents files.old) (Answers (F.answers files.old) (F.answers files.new)) (O.contents out.old) (O.contents out.new) federation.entry inputs.entry) }
+    ensures ok { OnOk result (PrintsRun output (F.contents files.old) federation.entry inputs.entry (O.contents out.old)
+        (O.contents out.new)) }
+    ensures stands { IfErr result (IsFaultOfRun (F.contents files.old)
+        (Answers (F.answers files.old) (F.answers files.new)) (O.contents out.old) (O.contents out.new) federation.entry
+        inputs.entry) }
     ensures untouched { IfErr result (λ fault. status_of fault ≢ 3 → out.new ≡ out.old) }
 {
     match read_sources(alloc, federation, inputs, files) {
@@ -229,8 +238,11 @@ pub(crate) fn play<'a, F: Files, O: Write, P: Progress>(
     out: &mut O,
     progress: &P,
 ) -> Result<(), Fault<'a, NodeFault<'a>>>
-    ensures ok { OnOk result (PrintsPlayed output (F.contents files.old) federation.entry inputs.entry schedule.entry until_stuck (O.contents out.old) (O.contents out.new)) }
-    ensures stands { IfErr result (IsFaultOfPlay output (F.contents files.old) (Answers (F.answers files.old) (F.answers files.new)) (O.contents out.old) (O.contents out.new) federation.entry inputs.entry schedule.entry until_stuck) }
+    ensures ok { OnOk result (PrintsPlayed output (F.contents files.old) federation.entry inputs.entry schedule.entry
+        until_stuck (O.contents out.old) (O.contents out.new)) }
+    ensures stands { IfErr result (IsFaultOfPlay output (F.contents files.old)
+        (Answers (F.answers files.old) (F.answers files.new)) (O.contents out.old) (O.contents out.new) federation.entry
+        inputs.entry schedule.entry until_stuck) }
     ensures untouched { IfErr result (λ fault. status_of fault ≢ 3 → out.new ≡ out.old) }
 {
     let sources = match read_sources(alloc, federation, inputs, files) {
@@ -250,8 +262,11 @@ pub(crate) fn draw<'a, F: Files, O: Write>(
     files: &mut F,
     out: &mut O,
 ) -> Result<(), Fault<'a, NodeFault<'a>>>
-    ensures ok { OnOk result (PrintsPicture (F.contents files.old federation.entry.now) (O.contents out.old) (O.contents out.new)) }
-    ensures stands { IfErr result (IsDrawFault (F.contents files.old) (Answers (F.answers files.old) (F.answers files.new)) (O.contents out.old) (O.contents out.new) federation.entry) }
+    ensures ok { OnOk result (PrintsPicture (F.contents files.old federation.entry.now) (O.contents out.old)
+        (O.contents out.new)) }
+    ensures stands { IfErr result (IsDrawFault (F.contents files.old)
+        (Answers (F.answers files.old) (F.answers files.new)) (O.contents out.old) (O.contents out.new)
+        federation.entry) }
     ensures untouched { IfErr result (λ fault. status_of fault ≢ 3 → out.new ≡ out.old) }
 {
     match read_federation(alloc, federation, files) {

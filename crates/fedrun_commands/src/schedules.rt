@@ -7,7 +7,7 @@ ghost use Rattle.fedrun_commands.specs.Schedules.{IsSchedule};
 use crate::fault::NodeFault;
 use fedrun_fault::Fault;
 use fedrun_files::{Files, bytes_of};
-use fedrun_script::{MOST_BYTES, Script, read_script};
+use files_script::{MOST_BYTES, Script, read_script};
 use plan::Plan;
 use std::alloc::Global;
 
@@ -20,7 +20,8 @@ pub(crate) fn read_schedule<'a, F: Files>(
 ) -> Result<Script, Fault<'a, NodeFault<'a>>>
     ensures asked { OnOk result (Answers (F.answers files.old) (F.answers files.new) (given name.entry.now ∷ [])) }
     ensures ok { IfOk result (IsSchedule (F.contents files.old name.entry.now) plan.now) }
-    ensures err { IfErr result (IsScheduleFault plan.now name.entry (F.contents files.old) (Answers (F.answers files.old) (F.answers files.new))) }
+    ensures err { IfErr result (IsScheduleFault plan.now name.entry (F.contents files.old)
+        (Answers (F.answers files.old) (F.answers files.new))) }
     ensures early { IfErr result (λ fault. status_of fault ≡ 1) }
 {
     let bytes = match bytes_of(name, files, MOST_BYTES) {

@@ -4,7 +4,7 @@ use Rattle.plan.specs.declared.draft.Draft.{Draft}
 use Rattle.plan.specs.declared.input.Input.{Input}
 use Rattle.reactor_program.specs.Behaviour.{Behaviour}
 use Rattle.world.specs.World.{WorldView}
-use Rattle.fedrun_script.specs.Scripts.{Script}
+use Rattle.files_script.specs.Scripts.{Script}
 use Rattle.fedrun_replay.specs.Play.{PlayerView, unasked_player}
 use Rattle.fedrun_replay.specs.Closing.{PlaysSchedule}
 use Rattle.fedrun_draw.specs.declared.fault.TheConstants.{MOST_STEPS}

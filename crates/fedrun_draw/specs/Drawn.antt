@@ -5,11 +5,11 @@ use Rattle.plan.specs.declared.draft.Draft.{Draft}
 use Rattle.plan.specs.declared.input.Input.{Input}
 use Rattle.reactor_program.specs.Behaviour.{Behaviour}
 use Rattle.world.specs.World.{WorldView}
-use Rattle.fedrun_script.specs.Scripts.{Script}
+use Rattle.files_script.specs.Scripts.{Script}
 use Rattle.fedrun_replay.specs.Play.{PlayerView, unasked_player}
 use Rattle.fedrun_replay.specs.Closing.{PlaysSchedule}
-use Rattle.fedrun_pictures.specs.declared.shapes.Picture.{Picture}
-use Rattle.fedrun_pictures.specs.Svg.{picture_text}
+use Rattle.files_pictures.specs.declared.shapes.Picture.{Picture}
+use Rattle.files_pictures.specs.Svg.{picture_text}
 use Rattle.fedrun_draw.specs.declared.fault.TheConstants.{MOST_STEPS, MOST_FRAMES}
 use Rattle.fedrun_draw.specs.declared.fault.DrawFault.{DrawFault}
 use Rattle.fedrun_draw.specs.declared.fault.DrawFault.TheVariants.{TooManySteps, TooManyFrames, Memory, CannotWrite}
@@ -25,19 +25,23 @@ pub record IsPlayed (s : Script) (closing : Option ℕ) (v : PlayerView) (last :
   pub after : Option (List ℕ)
   pub plays : PlaysSchedule s closing v last before after
 
--- the world of a federation of which nothing was asked, after the steps of a schedule and of its closing rounds, so many in all
-pub record HasSteps (d : Draft) (programs : List Behaviour) (inputs : List Input) (s : Script) (closing : Option ℕ) (count : ℕ) : Type 0 where
+-- the world of a federation of which nothing was asked, after the steps of a schedule and of its closing rounds, so
+-- many in all
+pub record HasSteps (d : Draft) (programs : List Behaviour) (inputs : List Input) (s : Script) (closing : Option ℕ)
+    (count : ℕ) : Type 0 where
   pub last : WorldView
   pub played : IsPlayed s closing (unasked_player d programs inputs) last
   pub many : length last.steps ≡ count
 
--- a schedule has so many steps, and no more than are drawn
-pub record HasFewSteps (d : Draft) (programs : List Behaviour) (inputs : List Input) (s : Script) (closing : Option ℕ) (count : ℕ) : Type 0 where
+-- a schedule has this many steps, and no more than are drawn
+pub record HasFewSteps (d : Draft) (programs : List Behaviour) (inputs : List Input) (s : Script) (closing : Option ℕ)
+    (count : ℕ) : Type 0 where
   pub steps : HasSteps d programs inputs s closing count
   pub few : count ≤ MOST_STEPS
 
 -- it has no more than that
-pub record IsShort (d : Draft) (programs : List Behaviour) (inputs : List Input) (s : Script) (closing : Option ℕ) : Type 0 where
+pub record IsShort (d : Draft) (programs : List Behaviour) (inputs : List Input) (s : Script)
+    (closing : Option ℕ) : Type 0 where
   pub count : ℕ
   pub has : HasFewSteps d programs inputs s closing count
 
@@ -52,18 +56,20 @@ IsInterrupted CannotWrite = Unit {0}
 abbrev pub IsWithin : WorldView → Type 0
 IsWithin w = length w.steps ≤ MOST_STEPS
 
--- why a world isn't drawn: it has just so many steps, and they are too many; or so many frames are sent in it, and these are; or there was
--- no memory
+-- why a world isn't drawn: it has just this many steps, and they are too many; or this many frames are sent in it, and
+-- these are; or there was no memory
 abbrev pub IsUndrawn : WorldView → DrawFault → Type 0
 IsUndrawn w (TooManySteps count) = (length w.steps ≡ count) × (MOST_STEPS < count)
 IsUndrawn w (TooManyFrames count) = IsWithin w × (MOST_FRAMES < count)
 IsUndrawn w Memory = Unit {0}
 IsUndrawn w CannotWrite = ⊥
 
--- why a schedule isn't drawn: it has just so many steps, and they are too many; or so many frames are sent; or there was no memory, or the
--- output refused a write
+-- why a schedule isn't drawn: it has just this many steps, and they are too many; or this many frames are sent; or
+-- there was no memory, or the output refused a write
 abbrev pub IsFaultOf : Draft → List Behaviour → List Input → Script → Option ℕ → DrawFault → Type 0
-IsFaultOf d programs inputs s closing (TooManySteps count) = HasSteps d programs inputs s closing count × (MOST_STEPS < count)
-IsFaultOf d programs inputs s closing (TooManyFrames count) = IsShort d programs inputs s closing × (MOST_FRAMES < count)
+IsFaultOf d programs inputs s closing (TooManySteps count) =
+    HasSteps d programs inputs s closing count × (MOST_STEPS < count)
+IsFaultOf d programs inputs s closing (TooManyFrames count) =
+    IsShort d programs inputs s closing × (MOST_FRAMES < count)
 IsFaultOf d programs inputs s closing Memory = Unit {0}
 IsFaultOf d programs inputs s closing CannotWrite = Unit {0}

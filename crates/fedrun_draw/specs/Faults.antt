@@ -1,7 +1,7 @@
 -- How a fault of drawing is printed.
 use Rattle.std.specs.Prelude.{ℕ, List, ◌++◌, codes}
 use Rattle.std.specs.Fmt.{decimal}
-use Rattle.fedrun_text.specs.Memory.{memory_text}
+use Rattle.files_text.specs.Memory.{memory_text}
 use Rattle.fedrun_draw.specs.declared.fault.TheConstants.{MOST_STEPS, MOST_FRAMES}
 use Rattle.fedrun_draw.specs.declared.fault.DrawFault.{DrawFault}
 use Rattle.fedrun_draw.specs.declared.fault.DrawFault.TheVariants.{TooManySteps, TooManyFrames, Memory, CannotWrite}

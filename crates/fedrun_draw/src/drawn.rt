@@ -3,23 +3,24 @@ ghost use Rattle.std.specs.Prelude.{◌≡◌, ◌≢◌, IfErr, IfOk, OnOk, len
 ghost use Rattle.plan.specs.External.{AreInputsOf};
 ghost use Rattle.reactor_programs.specs.Programs.{AreProgramsOf};
 ghost use Rattle.fedrun_replay.specs.Play.{unasked_player};
-ghost use Rattle.fedrun_draw.specs.Drawn.{HasPicture, IsPlayed, IsWithin, IsUndrawn, HasFewSteps, IsShort, IsInterrupted, IsFaultOf};
+ghost use Rattle.fedrun_draw.specs.Drawn.{HasPicture, IsPlayed, IsWithin, IsUndrawn, HasFewSteps, IsShort};
+ghost use Rattle.fedrun_draw.specs.Drawn.{IsInterrupted, IsFaultOf};
 
 use crate::fault::{DrawFault, MOST_FRAMES, MOST_STEPS};
 use crate::playing::history_of;
 use crate::reading::figures_of;
-use fedrun_pictures::{History, Picture, federation_picture, schedule_picture, write_picture};
 use fedrun_progress::NoProgress;
 use fedrun_replay::{Player, ReplayFault};
-use fedrun_script::Script;
+use files_pictures::{History, Picture, federation_picture, schedule_picture, write_picture};
+use files_script::Script;
 use plan::{Inputs, Plan};
 use reactor_programs::Programs;
 use std::alloc::{AllocError, Global};
 use std::io::{Write, sink};
 use world::{Dir, World};
 
-/// Writes the picture of a federation: federates as boxes in columns, connections as lines between their ports. The caller
-/// flushes; it is written in many small parts.
+/// Writes the picture of a federation: federates as boxes in columns, connections as lines between their ports. The
+/// caller flushes; it is written in many small parts.
 pub fn draw_federation<W: Write>(alloc: Global, out: &mut W, plan: &Plan) -> Result<(), DrawFault>
     ensures ok { OnOk result (HasPicture (W.contents out.old) (W.contents out.new)) }
     ensures stands { IfErr result IsInterrupted }
@@ -30,7 +31,7 @@ pub fn draw_federation<W: Write>(alloc: Global, out: &mut W, plan: &Plan) -> Res
 }
 
 /// Writes the picture of a schedule, played in a world of which nothing was asked, and then, with `closing`, of closing
-/// rounds until the world is stuck or so many were made: lifelines, and arrows for frames. The caller flushes; it is
+/// rounds until the world is stuck or this many were made: lifelines, and arrows for frames. The caller flushes; it is
 /// written in many small parts.
 pub fn draw_schedule<W: Write>(
     alloc: Global,
@@ -70,7 +71,8 @@ pub fn history_of_schedule(
 ) -> Result<History, DrawFault>
     requires programs { AreProgramsOf plan.now programs.now }
     requires inputs { AreInputsOf plan.now inputs.now }
-    ensures short { IfOk result (λ history. HasFewSteps plan.now programs.now inputs.now script.now closing (vec_len history.steps)) }
+    ensures short { IfOk result (λ history.
+        HasFewSteps plan.now programs.now inputs.now script.now closing (vec_len history.steps)) }
     ensures stands { IfErr result (IsFaultOf plan.now programs.now inputs.now script.now closing) }
 {
     let player = played(alloc, plan, programs, inputs, script, closing)?;
@@ -110,7 +112,8 @@ fn played<'a>(
 ) -> Result<Player<'a>, DrawFault>
     requires programs { AreProgramsOf plan.now programs.now }
     requires inputs { AreInputsOf plan.now inputs.now }
-    ensures ok { IfOk result (λ player. IsPlayed script.now closing (unasked_player plan.now programs.now inputs.now) player.world) }
+    ensures ok { IfOk result (λ player.
+        IsPlayed script.now closing (unasked_player plan.now programs.now inputs.now) player.world) }
     ensures err { IfErr result IsInterrupted }
 {
     let mut player = match Player::new(alloc, plan, programs, inputs) {

@@ -35,9 +35,9 @@ impl From<world::Memory> for OutOfMemory {
 /// Why a picture isn't drawn. But for `CannotWrite`, nothing was written.
 #[derive(Clone, Copy, Debug, PartialEq, Eq)]
 pub enum DrawFault {
-    /// The schedule, with its closing rounds, has so many steps, and that are more than are drawn. Draw a shorter one.
+    /// The schedule, with its closing rounds, has this many steps, more than are drawn. Draw a shorter one.
     TooManySteps(usize),
-    /// So many frames were sent, and that are more than are drawn. Draw a shorter schedule.
+    /// This many frames were sent, more than are drawn. Draw a shorter schedule.
     TooManyFrames(usize),
     /// No memory for a step of the schedule, or for the picture. The same call may be made again.
     Memory,
@@ -59,7 +59,7 @@ impl fmt::Display for DrawFault {
             DrawFault::TooManyFrames(count) => {
                 write!(f, "{count} frames: a picture has at most {MOST_FRAMES}")
             }
-            DrawFault::Memory => write!(f, "{}", fedrun_text::Memory),
+            DrawFault::Memory => write!(f, "{}", files_text::Memory),
             DrawFault::CannotWrite => write!(f, "cannot write"),
         }
     }

@@ -1,9 +1,10 @@
-//! Pictures, as SVG: of a federation, and of a schedule played over it. One file without scripts or fonts of its own, that
-//! a browser opens.
+//! Pictures, as SVG: of a federation, and of a schedule played over it. One file without scripts or fonts of its own,
+//! that a browser opens.
 //!
-//! Promise to the layer above: what is written is some picture, of a federation or of a schedule that is short enough; with any
-//! fault but a refused write nothing is, and a schedule that is too long is refused by the number of its steps (`specs/Drawn`).
-//! How a picture looks no contract says. Here is read what is drawn; `fedrun_pictures` lays it out and writes it:
+//! Promise to the layer above: what is written is some picture, of a federation or of a schedule that is short enough;
+//! with any fault but a refused write nothing is, and a schedule that is too long is refused by the number of its steps
+//! (`specs/Drawn`). How a picture looks no contract says. Here is read what is drawn; `files_pictures` lays it out and
+//! writes it:
 //!
 //!     Plan ---> reading --> Figures
 //!     Script -> playing --> History

@@ -5,9 +5,9 @@ ghost use Rattle.reactor_programs.specs.Programs.{AreProgramsOf};
 
 use crate::fault::OutOfMemory;
 use crate::wording::{frame_ink, frame_text, row_text, step_text};
-use fedrun_pictures::history::{Arrival, History, Moment, RowMark, Sending};
-use fedrun_pictures::shapes::{Ink, number_at, put_number, zeros};
-use fedrun_text::federate_name;
+use files_pictures::history::{Arrival, History, Moment, RowMark, Sending};
+use files_pictures::shapes::{Ink, number_at, put_number, zeros};
+use files_text::federate_name;
 use plan::{Inputs, Plan};
 use reactor::Rows;
 use reactor_programs::Programs;
@@ -186,7 +186,7 @@ impl<'a> Recording<'a> {
         }
     }
 
-    /// So many frames of a direction are seen.
+    /// This many frames of a direction are seen.
     fn set_seen(&mut self, federate: usize, is_up: bool, count: usize)
         ensures { self.new.history ≡ self.old.history }
     {

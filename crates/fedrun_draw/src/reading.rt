@@ -2,8 +2,8 @@
 ghost use Rattle.std.specs.Prelude.{◌≡◌, IfOk, length, vec_len};
 ghost use Rattle.plan.specs.Federation.{connections_of, federate_count};
 
-use fedrun_pictures::figures::{Figure, Figures, Part, Wire};
-use fedrun_pictures::shapes::Sign;
+use files_pictures::figures::{Figure, Figures, Part, Wire};
+use files_pictures::shapes::Sign;
 use plan::{Federate, Plan, Slots, Timer};
 use plan_names::Text;
 use plan_paths::Connection;

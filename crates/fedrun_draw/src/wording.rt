@@ -1,8 +1,8 @@
 //! How steps, frames and rows are written in a picture.
 use crate::fault::OutOfMemory;
-use fedrun_pictures::shapes::Ink;
-use fedrun_record::write_steps;
-use fedrun_text::{RowFormat, federate_name, write_rows};
+use files_pictures::shapes::Ink;
+use files_record::write_steps;
+use files_text::{RowFormat, federate_name, write_rows};
 use plan::{Plan, Slots};
 use reactor::Rows;
 use signal::{Frame, Signal};

@@ -1,17 +1,19 @@
--- The program's faults: the exit status that goes with each, and how it is printed. Of the faults that a program has beside these
--- it is said by the program.
+-- The program's faults: the exit status that goes with each, and how it is printed. Of the faults that a program has
+-- beside these it is said by the program.
 use Rattle.std.specs.Prelude.{ℕ, List, ◌++◌, codes}
 use Rattle.loadfed.specs.Numbers as tables
 use Rattle.loadfed.specs.declared.fault.LoadFault.TheVariants as load
 use Rattle.reactor_program.specs.ProgramFaults as program
-use Rattle.fedrun_text.specs.Memory.{memory_text}
+use Rattle.files_text.specs.Memory.{memory_text}
 use Rattle.fedrun_words.specs.declared.reading.WordsFault.{WordsFault}
 use Rattle.fedrun_words.specs.declared.reading.WordsFault.TheVariants as words
 use Rattle.fedrun_fault.specs.Usage.{usage_status, usage_text}
 use Rattle.fedrun_fault.specs.declared.fault.Fault.{Fault}
-use Rattle.fedrun_fault.specs.declared.fault.Fault.TheVariants.{Usage, CannotRead, Load, CannotWrite, Turns, Print, More}
+use Rattle.fedrun_fault.specs.declared.fault.Fault.TheVariants.{Usage, CannotRead, Load, CannotWrite, Turns, Print}
+use Rattle.fedrun_fault.specs.declared.fault.Fault.TheVariants.{More}
 
--- the exit status of a fault: 2 for words that are no command, 1 for what isn't loaded, 3 for what stopped the program after that
+-- the exit status of a fault: 2 for words that are no command, 1 for what isn't loaded, 3 for what stopped the program
+-- after that
 abbrev pub status_of : {M : Type 0} → (M → ℕ) → Fault M → ℕ
 status_of more Usage = usage_status
 status_of more (CannotRead name) = 1

@@ -6,24 +6,24 @@ use loadfed::LoadFault;
 use std::error::Error;
 use std::fmt;
 
-/// What a program prints on standard error when it gives up. What a library answered is kept as it is, and printed as the library
-/// has it.
+/// What a program prints on standard error when it gives up. What a library answered is kept as it is, and printed as
+/// the library has it.
 #[derive(Drop)]
 pub enum Fault<'a, M> {
     /// The words are no command: whoever gave them corrects them.
     Usage,
-    /// The file of this name isn't there, or can't be read: its owner makes it readable, or another name is given. Nothing was
-    /// printed.
+    /// The file of this name isn't there, or can't be read: its owner makes it readable, or another name is given.
+    /// Nothing was printed.
     CannotRead(&'a str),
-    /// The federation or the recorded inputs aren't taken, and the inner fault says why; or an allocation failed before all was
-    /// loaded. Nothing was printed.
+    /// The federation or the recorded inputs aren't taken, and the inner fault says why; or an allocation failed before
+    /// all was loaded. Nothing was printed.
     Load(LoadFault),
     /// Standard output takes no more. What was printed before stands.
     CannotWrite,
     /// No memory for a turn. The same command may be given again, with fewer turns.
     Turns(reactor::Memory),
     /// No memory for the text of a plan. The same command may be given again.
-    Print(fedrun_text::Memory),
+    Print(files_text::Memory),
     /// One of the program's further commands isn't done.
     More(M),
 }

@@ -20,8 +20,8 @@ pub trait MoreFault: fmt::Display + Drop {
     ghost displayed: { (fault : Self) → Self.output fault ≡ Some (printed_fault fault) };
 }
 
-/// The fault of a program that has no more commands: the words are a command of another program. It is printed as words are that
-/// are no command.
+/// The fault of a program that has no more commands: the words are a command of another program. It is printed as words
+/// are that are no command.
 #[derive(Drop)]
 pub struct NoSuchCommand;
 

@@ -22,7 +22,8 @@ pub fn refuse<M: MoreFault, E: Write>(fault: &Fault<'_, M>, err: &mut E) -> Answ
     ensures status { result.status ≡ status_of M.status_of fault.now }
     ensures failure { result.status ≢ 0 }
     ensures statuses { result.status ≤ 3 }
-    ensures line { AppendsPrinted result.is_printed (E.contents err.old) (E.contents err.new) (line_of (printed_fault M.printed_fault fault.now)) }
+    ensures line { AppendsPrinted result.is_printed (E.contents err.old) (E.contents err.new)
+        (line_of (printed_fault M.printed_fault fault.now)) }
 {
     let is_printed = print_line(err, fault);
     Answered {

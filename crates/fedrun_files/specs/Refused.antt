@@ -33,34 +33,43 @@ abbrev pub asked_sources : List ℕ → List ℕ → List Answer
 asked_sources federation inputs = given federation ∷ asked_inputs inputs
 
 -- a file's bytes can't be had: the fault is of the one thing that was answered; over the limit only of a file that is
-pub record IsUnread {M : Type 0} (most : ℕ) (name : Bor (List ℕ)) (known : Option (List ℕ)) (answered : List Answer → Type 0) (fault : Fault M) : Type 0 where
+pub record IsUnread {M : Type 0} (most : ℕ) (name : Bor (List ℕ)) (known : Option (List ℕ))
+    (answered : List Answer → Type 0) (fault : Fault M) : Type 0 where
   pub why : FileFault
   pub fault_is : fault ≡ fault_of_file name why
   pub answer : answered (refused name.now why ∷ [])
   pub over : why ≡ file_fault.OverLimit → IfSome known (λ bytes. most < length bytes)
 
 -- the bytes that were given aren't loaded, and this stands against them
-pub record IsUnloaded {M : Type 0} (Has : List ℕ → LoadFault → Type 0) (known : Option (List ℕ)) (fault : Fault M) : Type 0 where
+pub record IsUnloaded {M : Type 0} (Has : List ℕ → LoadFault → Type 0) (known : Option (List ℕ))
+    (fault : Fault M) : Type 0 where
   pub why : LoadFault
   pub fault_is : fault ≡ Load why
   pub stands : IfSome known (λ bytes. Has bytes why)
 
 -- why the federation file isn't taken; no other was asked for
-pub data IsFederationFault {M : Type 0} (name : Bor (List ℕ)) (contents : Contents) (answered : List Answer → Type 0) (fault : Fault M) : Type 0 where
-  federation_unread : IsUnread MOST_FEDERATION_BYTES name (contents name.now) answered fault → IsFederationFault name contents answered fault
+pub data IsFederationFault {M : Type 0} (name : Bor (List ℕ)) (contents : Contents) (answered : List Answer → Type 0)
+    (fault : Fault M) : Type 0 where
+  federation_unread : IsUnread MOST_FEDERATION_BYTES name (contents name.now) answered fault
+      → IsFederationFault name contents answered fault
   federation_unloaded : answered (given name.now ∷ []) → IsUnloaded HasLoadFault (contents name.now) fault
       → IsFederationFault name contents answered fault
 
 -- why the input file isn't taken, for this federation
-pub data IsInputFault {M : Type 0} (d : Draft) (name : Bor (List ℕ)) (contents : Contents) (answered : List Answer → Type 0) (fault : Fault M) : Type 0 where
-  input_unread : bytes_eq name.now (codes "-") ≡ false → IsUnread MOST_INPUT_BYTES name (contents name.now) answered fault
+pub data IsInputFault {M : Type 0} (d : Draft) (name : Bor (List ℕ)) (contents : Contents)
+    (answered : List Answer → Type 0) (fault : Fault M) : Type 0 where
+  input_unread : bytes_eq name.now (codes "-") ≡ false
+      → IsUnread MOST_INPUT_BYTES name (contents name.now) answered fault
       → IsInputFault d name contents answered fault
-  input_unloaded : answered (asked_inputs name.now) → IsUnloaded (HasInputFileFault d) (input_file contents name.now) fault
+  input_unloaded : answered (asked_inputs name.now)
+      → IsUnloaded (HasInputFileFault d) (input_file contents name.now) fault
       → IsInputFault d name contents answered fault
 
 -- why the two files aren't taken: the federation file's fault is answered before the input file is asked for
-pub data IsSourcesFault {M : Type 0} (federation inputs : Bor (List ℕ)) (contents : Contents) (answered : List Answer → Type 0) (fault : Fault M) : Type 0 where
-  federation_fault : IsFederationFault federation contents answered fault → IsSourcesFault federation inputs contents answered fault
+pub data IsSourcesFault {M : Type 0} (federation inputs : Bor (List ℕ)) (contents : Contents)
+    (answered : List Answer → Type 0) (fault : Fault M) : Type 0 where
+  federation_fault : IsFederationFault federation contents answered fault
+      → IsSourcesFault federation inputs contents answered fault
   input_fault : (d : Draft) (programs : List Behaviour) → IsFederation (contents federation.now) d programs
       → IsInputFault d inputs contents (λ later. answered (given federation.now ∷ later)) fault
       → IsSourcesFault federation inputs contents answered fault

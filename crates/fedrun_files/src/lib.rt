@@ -1,8 +1,10 @@
-//! What a command reads before it begins: files by name, and a federation with its recorded inputs, each in a file of its name.
+//! What a command reads before it begins: files by name, and a federation with its recorded inputs, each in a file of
+//! its name.
 //!
-//! Promise to the layer above: the bytes of a file are all of its bytes, where these are known (`specs/Contents`), and over the
-//! limit is answered only of a file that is; what is read is what the files say, and each fault stands in the file that it is answered
-//! of (`specs/Loaded`, `specs/Refused`). Begin with the trait `Files` and `read_sources`; the machine's files are `MachineFiles`.
+//! Promise to the layer above: the bytes of a file are all of its bytes, where these are known (`specs/Contents`), and
+//! over the limit is answered only of a file that is; what is read is what the files say, and each fault stands in the
+//! file that it is answered of (`specs/Loaded`, `specs/Refused`). Begin with the trait `Files` and `read_sources`; the
+//! machine's files are `MachineFiles`.
 #![tactic(auto)]
 
 pub mod machine;

@@ -42,7 +42,7 @@ fn fault_of(error: &io::Error) -> FileFault
     }
 }
 
-/// What is left of a file, if it is at most so many bytes.
+/// What is left of a file, if it is at most this many bytes.
 pub fn read_to_end<F: Read>(alloc: Global, file: &mut F, most: usize) -> Result<Vec<u8>, FileFault>
     ensures few { IfOk result (λ bytes. vec_len bytes ≤ most) }
     ensures all { IfOk result (λ bytes. Consumes (F.remaining file.old) (F.remaining file.new) bytes.items) }

@@ -23,7 +23,7 @@ pub trait Files {
     // What was answered so far, oldest first, where that is known.
     ghost answers: { Self → Option (List Answer) } = { λ _. None };
 
-    /// All bytes of a file that has at most so many.
+    /// All bytes of a file that has at most this many.
     fn bytes(&mut self, name: &str, most: usize) -> Result<Vec<u8>, FileFault>
         ensures same { contents self.new ≡ contents self.old }
         ensures whole { IfOk result (λ bytes. AreBytesOf (contents self.old name.now) bytes.items) }

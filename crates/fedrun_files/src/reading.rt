@@ -2,7 +2,8 @@ ghost use Rattle.std.specs.Prelude.{◌≡◌, ◌≤◌, [], ◌∷◌, OnOk, I
 ghost use Rattle.fedrun_files.specs.Answers.{Answers, given};
 ghost use Rattle.fedrun_files.specs.Contents.{AreBytesOf};
 ghost use Rattle.fedrun_files.specs.Loaded.{input_file, IsFederation, RecordsInputs, AreSources};
-ghost use Rattle.fedrun_files.specs.Refused.{asked_inputs, asked_sources, IsUnread, IsFederationFault, IsInputFault, IsSourcesFault, fault_of_file};
+ghost use Rattle.fedrun_files.specs.Refused.{asked_inputs, asked_sources, IsUnread, IsFederationFault, IsInputFault};
+ghost use Rattle.fedrun_files.specs.Refused.{IsSourcesFault, fault_of_file};
 
 use crate::{FileFault, Files};
 use fedrun_fault::Fault;
@@ -33,9 +34,12 @@ pub fn read_sources<'a, M, F: Files>(
     inputs: &'a str,
     files: &mut F,
 ) -> Result<Sources, Fault<'a, M>>
-    ensures ok { IfOk result (AreSources (F.contents files.old federation.entry.now) (input_file (F.contents files.old) inputs.entry.now)) }
-    ensures asked { OnOk result (Answers (F.answers files.old) (F.answers files.new) (asked_sources federation.entry.now inputs.entry.now)) }
-    ensures err { IfErr result (IsSourcesFault federation.entry inputs.entry (F.contents files.old) (Answers (F.answers files.old) (F.answers files.new))) }
+    ensures ok { IfOk result (AreSources (F.contents files.old federation.entry.now)
+        (input_file (F.contents files.old) inputs.entry.now)) }
+    ensures asked { OnOk result (Answers (F.answers files.old) (F.answers files.new)
+        (asked_sources federation.entry.now inputs.entry.now)) }
+    ensures err { IfErr result (IsSourcesFault federation.entry inputs.entry (F.contents files.old)
+        (Answers (F.answers files.old) (F.answers files.new))) }
     ensures same { F.contents files.new ≡ F.contents files.old }
 {
     match read_sources_and_bytes(alloc, federation, inputs, files) {
@@ -51,11 +55,17 @@ pub fn read_sources_and_bytes<'a, M, F: Files>(
     inputs: &'a str,
     files: &mut F,
 ) -> Result<(Sources, SourceBytes), Fault<'a, M>>
-    ensures ok { IfOk result (λ read. AreSources (F.contents files.old federation.entry.now) (input_file (F.contents files.old) inputs.entry.now) read.0) }
-    ensures federation { IfOk result (λ read. AreBytesOf (F.contents files.old federation.entry.now) read.1.federation.items) }
-    ensures inputs { IfOk result (λ read. AreBytesOf (input_file (F.contents files.old) inputs.entry.now) read.1.inputs.items) }
-    ensures asked { OnOk result (Answers (F.answers files.old) (F.answers files.new) (asked_sources federation.entry.now inputs.entry.now)) }
-    ensures err { IfErr result (IsSourcesFault federation.entry inputs.entry (F.contents files.old) (Answers (F.answers files.old) (F.answers files.new))) }
+    ensures ok { IfOk result (λ read.
+        AreSources (F.contents files.old federation.entry.now)
+        (input_file (F.contents files.old) inputs.entry.now) read.0) }
+    ensures federation { IfOk result
+        (λ read. AreBytesOf (F.contents files.old federation.entry.now) read.1.federation.items) }
+    ensures inputs { IfOk result (λ read.
+        AreBytesOf (input_file (F.contents files.old) inputs.entry.now) read.1.inputs.items) }
+    ensures asked { OnOk result (Answers (F.answers files.old) (F.answers files.new)
+        (asked_sources federation.entry.now inputs.entry.now)) }
+    ensures err { IfErr result (IsSourcesFault federation.entry inputs.entry (F.contents files.old)
+        (Answers (F.answers files.old) (F.answers files.new))) }
     ensures same { F.contents files.new ≡ F.contents files.old }
 {
     let (plan, programs, federation) = read_federation_and_bytes(alloc, federation, files)?;
@@ -76,7 +86,8 @@ pub fn read_federation<'a, M, F: Files>(
 ) -> Result<(Plan, Programs), Fault<'a, M>>
     ensures ok { IfOk result (λ read. IsFederation (F.contents files.old name.entry.now) read.0 read.1) }
     ensures asked { OnOk result (Answers (F.answers files.old) (F.answers files.new) (given name.entry.now ∷ [])) }
-    ensures err { IfErr result (IsFederationFault name.entry (F.contents files.old) (Answers (F.answers files.old) (F.answers files.new))) }
+    ensures err { IfErr result (IsFederationFault name.entry (F.contents files.old)
+        (Answers (F.answers files.old) (F.answers files.new))) }
     ensures same { F.contents files.new ≡ F.contents files.old }
 {
     match read_federation_and_bytes(alloc, name, files) {
@@ -94,7 +105,8 @@ fn read_federation_and_bytes<'a, M, F: Files>(
     ensures ok { IfOk result (λ read. IsFederation (F.contents files.old name.entry.now) read.0 read.1) }
     ensures bytes { IfOk result (λ read. AreBytesOf (F.contents files.old name.entry.now) read.2.items) }
     ensures asked { OnOk result (Answers (F.answers files.old) (F.answers files.new) (given name.entry.now ∷ [])) }
-    ensures err { IfErr result (IsFederationFault name.entry (F.contents files.old) (Answers (F.answers files.old) (F.answers files.new))) }
+    ensures err { IfErr result (IsFederationFault name.entry (F.contents files.old)
+        (Answers (F.answers files.old) (F.answers files.new))) }
     ensures same { F.contents files.new ≡ F.contents files.old }
 {
     let bytes = bytes_of(name, files, MOST_BYTES)?;
@@ -111,10 +123,12 @@ fn read_inputs<'a, M, F: Files>(
     plan: &Plan,
     files: &mut F,
 ) -> Result<(Inputs, Vec<u8>), Fault<'a, M>>
-    ensures ok { IfOk result (λ read. RecordsInputs (input_file (F.contents files.old) name.entry.now) plan.now read.0) }
+    ensures ok { IfOk result (λ read.
+        RecordsInputs (input_file (F.contents files.old) name.entry.now) plan.now read.0) }
     ensures bytes { IfOk result (λ read. AreBytesOf (input_file (F.contents files.old) name.entry.now) read.1.items) }
     ensures asked { OnOk result (Answers (F.answers files.old) (F.answers files.new) (asked_inputs name.entry.now)) }
-    ensures err { IfErr result (IsInputFault plan.now name.entry (F.contents files.old) (Answers (F.answers files.old) (F.answers files.new))) }
+    ensures err { IfErr result (IsInputFault plan.now name.entry (F.contents files.old)
+        (Answers (F.answers files.old) (F.answers files.new))) }
     ensures same { F.contents files.new ≡ F.contents files.old }
 {
     let bytes = if name == "-" {
@@ -128,7 +142,7 @@ fn read_inputs<'a, M, F: Files>(
     }
 }
 
-/// The bytes of a file that has at most so many.
+/// The bytes of a file that has at most this many.
 pub fn bytes_of<'a, M, F: Files>(
     name: &'a str,
     files: &mut F,
@@ -137,7 +151,8 @@ pub fn bytes_of<'a, M, F: Files>(
     ensures ok { IfOk result (λ bytes. AreBytesOf (F.contents files.old name.entry.now) bytes.items) }
     ensures few { IfOk result (λ bytes. vec_len bytes ≤ most) }
     ensures asked { OnOk result (Answers (F.answers files.old) (F.answers files.new) (given name.entry.now ∷ [])) }
-    ensures err { IfErr result (IsUnread most name.entry (F.contents files.old name.entry.now) (Answers (F.answers files.old) (F.answers files.new))) }
+    ensures err { IfErr result (IsUnread most name.entry (F.contents files.old name.entry.now)
+        (Answers (F.answers files.old) (F.answers files.new))) }
     ensures same { F.contents files.new ≡ F.contents files.old }
 {
     match files.bytes(name, most) {

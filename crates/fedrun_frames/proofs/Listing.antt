@@ -9,8 +9,8 @@ use Rattle.reactor_program.specs.Behaviour.{Behaviour}
 use Rattle.world_stations.specs.declared.step.Step.{Step}
 use Rattle.world_progress.specs.Rounds.{Playing, Task, steps_of_tasks, after_tasks, closing_rounds_tasks}
 use Rattle.world.specs.World.{WorldView, with_steps}
-use Rattle.fedrun_script.specs.declared.script.ScheduleLine.{ScheduleLine}
-use Rattle.fedrun_script.specs.Scripts.{Script}
+use Rattle.files_script.specs.declared.script.ScheduleLine.{ScheduleLine}
+use Rattle.files_script.specs.Scripts.{Script}
 use Rattle.fedrun_replay.specs.Play.{PlayerView, Made, playing_of, count_in, tasks_of, after_lines, made_for, made_by, steps_of, unasked_player, HasDone}
 use Rattle.fedrun_replay.specs.Closing.{MakesAll, HasClosed}
 use Rattle.fedrun_replay.proofs.Playing.{steps_made_for}

@@ -12,8 +12,8 @@ use Rattle.plan.specs.declared.draft.Draft.{Draft}
 use Rattle.world_stations.specs.declared.dir.Dir.{Dir}
 use Rattle.world_stations.specs.World.{frame_at}
 use Rattle.world_stations.specs.Federation.{Federation}
-use Rattle.fedrun_text.specs.RowText.{printed_rows}
-use Rattle.fedrun_text.specs.PlanText.{printed_each}
+use Rattle.files_text.specs.RowText.{printed_rows}
+use Rattle.files_text.specs.PlanText.{printed_each}
 use Rattle.fedrun_frames.specs.Brought.{acknowledged_by, acknowledged_last}
 use Rattle.fedrun_frames.specs.declared.counts.LinkCounts.{LinkCounts}
 use Rattle.fedrun_frames.specs.Accounts.{count_at, counts_in, sent_line, sent_after, row_text}

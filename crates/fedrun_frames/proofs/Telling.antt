@@ -15,7 +15,7 @@ use Rattle.world_stations.specs.declared.outcome.Outcome.{Outcome}
 use Rattle.world_stations.specs.World.{after_steps}
 use Rattle.world_stations.specs.Federation.{Federation, initial_world, step_in}
 use Rattle.world.specs.World.{WorldView, stations_of, with_step, with_steps}
-use Rattle.fedrun_script.specs.Scripts.{Script}
+use Rattle.files_script.specs.Scripts.{Script}
 use Rattle.fedrun_replay.specs.declared.fault.ReplayFault.{ReplayFault}
 use Rattle.fedrun_replay.specs.declared.fault.ReplayFault.TheVariants.{World, CannotWrite}
 use Rattle.fedrun_replay.specs.Play.{Made, steps_of}

@@ -14,9 +14,9 @@ use Rattle.world_stations.specs.declared.outcome.Outcome.{Outcome}
 use Rattle.world_stations.specs.declared.outcome.Outcome.TheVariants.{Nothing, Done, Refused}
 use Rattle.world_stations.specs.World.{frames_in, frame_at, federate_of}
 use Rattle.world_stations.specs.Federation.{Federation, step_in, rows_in}
-use Rattle.fedrun_text.specs.RowText.{printed_rows}
-use Rattle.fedrun_text.specs.PlanText.{federate_name, printed_each}
-use Rattle.fedrun_record.specs.StepText.{way_of, printed_step}
+use Rattle.files_text.specs.RowText.{printed_rows}
+use Rattle.files_text.specs.PlanText.{federate_name, printed_each}
+use Rattle.files_record.specs.StepText.{way_of, printed_step}
 use Rattle.fedrun_replay.specs.Play.{Made}
 use Rattle.fedrun_frames.specs.declared.brought.Brought.{Brought}
 use Rattle.fedrun_frames.specs.declared.counts.LinkCounts.{LinkCounts}
@@ -27,7 +27,7 @@ use Rattle.fedrun_frames.specs.Brought.{brought_by, ending_text}
 abbrev pub count_at : Federation → (j : ℕ) → LinkCounts
 count_at w j = record { up = length (frames_in w (Up j)); down = length (frames_in w (Down j)) }
 
--- over the links of so many federates
+-- over the links of this many federates
 abbrev pub counts_in : Federation → (federates : ℕ) → List LinkCounts
 counts_in w federates = map (count_at w) (range_with_len 0 federates)
 
@@ -54,8 +54,8 @@ row_made (Announce j) outcome later = []
 row_made (Advance j) outcome later = turn_row outcome (rows_in later j)
 row_made (Forget j) outcome later = []
 
--- what is written of a step: the line that it was made for, what it brought, how it ended, the row that it made, if it made one, and how
--- many frames had been sent over each link before it
+-- what is written of a step: the line that it was made for, what it brought, how it ended, the row that it made, if it
+-- made one, and how many frames had been sent over each link before it
 pub record Account : Type 0 where
   pub line : ℕ
   pub step : Step
@@ -79,15 +79,20 @@ account_of w federates made = record {
 abbrev pub sent_line : Draft → Dir → (k : ℕ) → Option Frame → List ℕ
 sent_line d dir k None = []
 sent_line d dir k (Some frame) =
-    codes "  sent " ++ (way_of dir ++ (codes " " ++ (federate_name d (federate_of dir) ++ (codes " " ++ (decimal k ++ (codes ": " ++ (frame_text d frame ++ codes "\n")))))))
+    codes "  sent " ++ (way_of dir
+    ++ (codes " " ++ (federate_name d (federate_of dir)
+    ++ (codes " " ++ (decimal k ++ (codes ": " ++ (frame_text d frame ++ codes "\n")))))))
 
 -- the frames of a direction after the first `gone`, each on a line of its own
 abbrev pub sent_after : Draft → Dir → (gone : ℕ) → List Frame → List ℕ
-sent_after d dir gone frames = printed_each (λ i. sent_line d dir (gone + i + 1) (frame_at frames (gone + i + 1))) (length frames - gone)
+sent_after d dir gone frames =
+    printed_each (λ i. sent_line d dir (gone + i + 1) (frame_at frames (gone + i + 1))) (length frames - gone)
 
--- the frames sent over federate j's link after so many: of the federate, and then to it
+-- the frames sent over federate j's link after this many: of the federate, and then to it
 abbrev pub link_text : Draft → Federation → LinkCounts → (j : ℕ) → List ℕ
-link_text d later before j = sent_after d (Up j) before.up (frames_in later (Up j)) ++ sent_after d (Down j) before.down (frames_in later (Down j))
+link_text d later before j =
+    sent_after d (Up j) before.up (frames_in later (Up j))
+    ++ sent_after d (Down j) before.down (frames_in later (Down j))
 
 -- over all links, federate by federate
 abbrev pub sent_text : Draft → Federation → (before : List LinkCounts) → List ℕ
@@ -101,7 +106,8 @@ row_text d (row ∷ rest) = codes "  " ++ printed_rows d.federates (row ∷ rest
 -- what is written of a step, in the world after it
 abbrev pub account_text : Draft → Federation → Account → List ℕ
 account_text d later a =
-    decimal a.line ++ (codes " " ++ (printed_step d a.step ++ (ending_text a.brought a.outcome ++ (row_text d a.row ++ sent_text d later a.before))))
+    decimal a.line ++ (codes " " ++ (printed_step d a.step
+    ++ (ending_text a.brought a.outcome ++ (row_text d a.row ++ sent_text d later a.before))))
 
 -- what is written of a step made in a world
 abbrev pub made_text : Draft → Federation → Made → List ℕ

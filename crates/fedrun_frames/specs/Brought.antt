@@ -1,5 +1,6 @@
 -- What a step brings to the node at which it happens, and how that ended, as text.
-use Rattle.std.specs.Prelude.{ℕ, Bool, nat_eq, nat_le, if◌then◌else◌, List, [], ◌∷◌, ◌++◌, Option, None, Some, unwrap_or, codes}
+use Rattle.std.specs.Prelude.{ℕ, Bool, nat_eq, nat_le, if◌then◌else◌, List, [], ◌∷◌, ◌++◌, Option, None, Some}
+use Rattle.std.specs.Prelude.{unwrap_or, codes}
 use Rattle.std.specs.Fmt.{decimal}
 use Rattle.signal.specs.declared.frame.Frame.{Frame}
 use Rattle.signal.specs.declared.frame.Frame.TheVariants.{Hello, Data, Ack, Refuse}
@@ -12,7 +13,8 @@ use Rattle.world_stations.specs.declared.outcome.Outcome.TheVariants.{Nothing, D
 use Rattle.world_stations.specs.World.{frames_in, frame_at}
 use Rattle.world_stations.specs.Federation.{Federation}
 use Rattle.fedrun_frames.specs.declared.brought.Brought.{Brought}
-use Rattle.fedrun_frames.specs.declared.brought.Brought.TheVariants.{NoFrame, NewSignal, KnownSignal, Note, Forgetting, Own}
+use Rattle.fedrun_frames.specs.declared.brought.Brought.TheVariants.{NoFrame, NewSignal, KnownSignal, Note, Forgetting}
+use Rattle.fedrun_frames.specs.declared.brought.Brought.TheVariants.{Own}
 
 -- the direction in which what came in another one is acknowledged
 abbrev pub back : Dir → Dir
@@ -30,7 +32,8 @@ acknowledged_by incarnation (Some (Refuse i refusal)) = None
 -- the number that these frames, oldest first, acknowledge last in an incarnation; `last` where none does
 abbrev pub acknowledged_last : (incarnation last : ℕ) → List Frame → ℕ
 acknowledged_last incarnation last [] = last
-acknowledged_last incarnation last (frame ∷ rest) = acknowledged_last incarnation (unwrap_or (acknowledged_by incarnation (Some frame)) last) rest
+acknowledged_last incarnation last (frame ∷ rest) =
+    acknowledged_last incarnation (unwrap_or (acknowledged_by incarnation (Some frame)) last) rest
 
 -- whether the receiver of a direction acknowledged a signal before, or one after it
 abbrev pub is_acknowledged : Federation → Dir → (incarnation number : ℕ) → Bool

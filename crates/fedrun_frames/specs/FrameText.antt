@@ -11,8 +11,8 @@ use Rattle.plan_slots.specs.Numbering.{first_input}
 use Rattle.plan.specs.declared.draft.Federate.{Federate}
 use Rattle.plan.specs.declared.draft.Draft.{Draft}
 use Rattle.plan.specs.Federation.{connections_of}
-use Rattle.fedrun_text.specs.RowText.{name_at}
-use Rattle.fedrun_text.specs.PlanText.{federate_name}
+use Rattle.files_text.specs.RowText.{name_at}
+use Rattle.files_text.specs.PlanText.{federate_name}
 
 -- the name of the input at this slot
 abbrev pub input_name : Option Federate → (slot : ℕ) → List ℕ
@@ -30,7 +30,9 @@ signal_text d (Net tag) = codes "NET " ++ printed_tag tag
 signal_text d (Ltc tag) = codes "LTC " ++ printed_tag tag
 signal_text d (Tag tag) = codes "TAG " ++ printed_tag tag
 signal_text d (Msg connection tag value) =
-    codes "MSG " ++ (printed_tag tag ++ (codes " " ++ (input_text d (slice_get (connections_of d) connection) ++ (codes "=" ++ signed_decimal value))))
+    codes "MSG " ++ (printed_tag tag
+    ++ (codes " " ++ (input_text d (slice_get (connections_of d) connection)
+    ++ (codes "=" ++ signed_decimal value))))
 
 -- an incarnation, where it isn't the first
 abbrev pub incarnation_text : ℕ → List ℕ

@@ -1,8 +1,8 @@
 -- How the steps of a schedule are listed, line by line.
 use Rattle.std.specs.Prelude.{◌≡◌, ℕ, ◌+◌, List, ◌++◌, Option, None, Some}
 use Rattle.world_progress.specs.Rounds.{Task, steps_of_tasks, after_tasks, closing_rounds_tasks}
-use Rattle.fedrun_script.specs.declared.script.ScheduleLine.{ScheduleLine}
-use Rattle.fedrun_script.specs.Scripts.{Script}
+use Rattle.files_script.specs.declared.script.ScheduleLine.{ScheduleLine}
+use Rattle.files_script.specs.Scripts.{Script}
 use Rattle.fedrun_replay.specs.Play.{PlayerView, Made, playing_of, count_in, made_for, made_by, after_lines}
 use Rattle.fedrun_replay.specs.Closing.{MakesAll}
 
@@ -22,7 +22,8 @@ pub record ListsLines (lines : List ScheduleLine) (v later : PlayerView) (before
 pub record ListsRounds (line most : ℕ) (v : PlayerView) (before after : List Made) : Type 0 where
   pub rounds : ℕ
   pub all : MakesAll (count_in v) most (playing_of v) rounds
-  pub listed : after ≡ before ++ made_for line (steps_of_tasks (closing_rounds_tasks (count_in v) rounds) (playing_of v))
+  pub listed : after ≡ before ++ made_for line
+      (steps_of_tasks (closing_rounds_tasks (count_in v) rounds) (playing_of v))
 
 -- those for the line after a schedule's last, where they are asked for
 abbrev pub ListsClosing : Script → Option ℕ → PlayerView → (before after : List Made) → Type 0

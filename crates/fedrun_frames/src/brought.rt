@@ -2,7 +2,8 @@
 ghost use Rattle.std.specs.Prelude.{◌≡◌};
 ghost use Rattle.world_stations.specs.World.{frames_in};
 ghost use Rattle.world.specs.World.{stations_of};
-ghost use Rattle.fedrun_frames.specs.Brought.{back, acknowledged_last, is_acknowledged, signal_brought, frame_brought, brought_by, acknowledged_by};
+ghost use Rattle.fedrun_frames.specs.Brought.{back, acknowledged_last, is_acknowledged, signal_brought, frame_brought};
+ghost use Rattle.fedrun_frames.specs.Brought.{brought_by, acknowledged_by};
 
 use signal::Frame;
 use world::World;
@@ -80,8 +81,8 @@ fn back(dir: Dir) -> Dir
     }
 }
 
-/// The number that a direction's frames acknowledge last in an incarnation; 0 where none does. Mostly it stands near the end: an
-/// acknowledgement is sent for each signal that comes.
+/// The number that a direction's frames acknowledge last in an incarnation; 0 where none does. Mostly it stands near
+/// the end: an acknowledgement is sent for each signal that comes.
 fn acknowledged_last(world: &World<'_>, dir: Dir, incarnation: u32) -> u64
     ensures { result ≡ acknowledged_last incarnation 0 (frames_in (stations_of world.now) dir) }
 {

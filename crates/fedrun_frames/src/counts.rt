@@ -19,7 +19,8 @@ pub struct LinkCounts {
 
 /// Over each link, by federate.
 pub(crate) fn counts(alloc: Global, world: &World<'_>) -> Result<Vec<LinkCounts>, Memory>
-    ensures { IfOk result (λ counts. counts.items ≡ counts_in (stations_of world.now) (federate_count world.now.draft)) }
+    ensures { IfOk result (λ counts. counts.items
+        ≡ counts_in (stations_of world.now) (federate_count world.now.draft)) }
 {
     let mut counts = Vec::new(alloc);
     for federate in 0..world.federate_count() {

@@ -5,7 +5,7 @@ ghost use Rattle.std.specs.Io.KnownBytes.{Appends};
 ghost use Rattle.plan.specs.Federation.{connections_of};
 ghost use Rattle.fedrun_frames.specs.FrameText.{input_name, input_text, signal_text, incarnation_text, frame_text};
 
-use fedrun_text::federate_name;
+use files_text::federate_name;
 use plan::{Plan, Slots};
 use signal::{Frame, Signal};
 use std::io;
@@ -45,14 +45,16 @@ pub(crate) fn write_frame<W: Write>(out: &mut W, plan: &Plan, frame: Frame) -> i
 
 /// Writes a greeting: which signal its sender took last.
 fn write_hello<W: Write>(out: &mut W, last_taken: u64, incarnation: u32) -> io::Result<()>
-    ensures { OnOk result (Appends (W.contents out.old) (W.contents out.new) (codes "Hello taken " ++ (decimal last_taken ++ incarnation_text incarnation))) }
+    ensures { OnOk result (Appends (W.contents out.old) (W.contents out.new)
+        (codes "Hello taken " ++ (decimal last_taken ++ incarnation_text incarnation))) }
 {
     write_last_taken(out, last_taken)?;
     write_incarnation(out, incarnation)
 }
 
 fn write_last_taken<W: Write>(out: &mut W, last_taken: u64) -> io::Result<()>
-    ensures { OnOk result (Appends (W.contents out.old) (W.contents out.new) (codes "Hello taken " ++ decimal last_taken)) }
+    ensures { OnOk result (Appends (W.contents out.old) (W.contents out.new)
+        (codes "Hello taken " ++ decimal last_taken)) }
 {
     write!(out, "Hello taken {last_taken}")
 }
@@ -89,7 +91,8 @@ fn write_signal<W: Write>(out: &mut W, plan: &Plan, signal: Signal) -> io::Resul
 
 /// Writes the input at which a connection ends.
 fn write_input<W: Write>(out: &mut W, plan: &Plan, connection: usize) -> io::Result<()>
-    ensures { OnOk result (Appends (W.contents out.old) (W.contents out.new) (input_text plan.now (slice_get (connections_of plan.now) connection))) }
+    ensures { OnOk result (Appends (W.contents out.old) (W.contents out.new)
+        (input_text plan.now (slice_get (connections_of plan.now) connection))) }
 {
     match plan.connections().get(connection) {
         Some(connection) => {

@@ -1,9 +1,9 @@
-//! What happens to frames under a schedule: each step with its line, how it ended, the row that it made, and each frame that it
-//! sent, with the number by which `deliver` names it.
+//! What happens to frames under a schedule: each step with its line, how it ended, the row that it made, and each frame
+//! that it sent, with the number by which `deliver` names it.
 //!
-//! Promise to the layer above: what is written is the text of `specs/Accounts`, over the steps that `replay` makes of the same
-//! schedule and closing rounds (`specs/Shown`). The player of `fedrun_replay` makes the steps, and a second world makes them once
-//! more, one at a time:
+//! Promise to the layer above: what is written is the text of `specs/Accounts`, over the steps that `replay` makes of
+//! the same schedule and closing rounds (`specs/Shown`). The player of `fedrun_replay` makes the steps, and a second
+//! world makes them once more, one at a time:
 //!
 //!     Script --> making ---> (line, step) ..     all steps of the schedule, as the player makes them
 //!                   |
@@ -13,8 +13,8 @@
 //!                   v
 //!                writing --> text                the step, and the frames that are new in each direction
 //!
-//! A signal counts as taken before where its receiver acknowledged it: what is acknowledged was taken (`laws`). Begin with
-//! `specs/Accounts`, then `frames`.
+//! A signal counts as taken before where its receiver acknowledged it: what is acknowledged was taken (`laws`). Begin
+//! with `specs/Accounts`, then `frames`.
 #![tactic(auto)]
 
 mod account;

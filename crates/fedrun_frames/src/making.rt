@@ -9,7 +9,7 @@ ghost use Rattle.fedrun_frames.specs.Shown.{AreStepsOf};
 use crate::made_step::MadeStep;
 use fedrun_progress::NoProgress;
 use fedrun_replay::{Player, ReplayFault};
-use fedrun_script::{ScheduleLine, Script};
+use files_script::{ScheduleLine, Script};
 use plan::{Inputs, Plan};
 use reactor_programs::Programs;
 use std::alloc::Global;
@@ -60,7 +60,8 @@ fn make_line(
     made: &mut Vec<MadeStep>,
     line: ScheduleLine,
 ) -> Result<(), ReplayFault>
-    ensures { OnOk result (ListsTasks line.number (tasks_of (count_in player.old) line.command) player.old player.new made.old.items made.new.items) }
+    ensures { OnOk result (ListsTasks line.number (tasks_of (count_in player.old) line.command) player.old player.new
+        made.old.items made.new.items) }
 {
     let before = player.world().steps().len();
     let mut unread = sink();
@@ -104,7 +105,7 @@ fn make_closing_rounds(
     }
 }
 
-/// Adds the steps of a world after so many, which were made for a line.
+/// Adds the steps of a world after this many, which were made for a line.
 fn list(
     made: &mut Vec<MadeStep>,
     line: usize,

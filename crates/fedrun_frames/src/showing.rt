@@ -20,7 +20,8 @@ use std::io::Write;
 use world::World;
 use world_stations::{Memory, Outcome, Step};
 
-/// Makes steps one after the other, and writes what came of each. Where there is no memory for a step, those before it are written.
+/// Makes steps one after the other, and writes what came of each. Where there is no memory for a step, those before it
+/// are written.
 pub(crate) fn show_steps<W: Write>(
     alloc: Global,
     out: &mut W,
@@ -46,7 +47,8 @@ fn show<W: Write>(
     made: MadeStep,
 ) -> Result<(), ReplayFault>
     requires { plan.now ≡ world.old.draft }
-    ensures written { OnOk result (Appends (W.contents out.old) (W.contents out.new) (made_text plan.now (stations_of world.old) made)) }
+    ensures written { OnOk result (Appends (W.contents out.old) (W.contents out.new)
+        (made_text plan.now (stations_of world.old) made)) }
     ensures stepped { OnOk result (world.new ≡ with_step world.old made.step) }
     ensures stopped { IfErr result (λ fault. IsUntouched fault (W.contents out.old) (W.contents out.new)) }
 {
@@ -59,7 +61,8 @@ fn show<W: Write>(
 
 /// Makes a step, and answers what is to be written of it.
 fn make(alloc: Global, world: &mut World<'_>, made: MadeStep) -> Result<Account, Memory>
-    ensures account { IfOk result (λ account. account ≡ account_of (stations_of world.old) (federate_count world.old.draft) made) }
+    ensures account { IfOk result (λ account. account
+        ≡ account_of (stations_of world.old) (federate_count world.old.draft) made) }
     ensures stepped { OnOk result (world.new ≡ with_step world.old made.step) }
 {
     let step = made.step();

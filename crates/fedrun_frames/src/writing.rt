@@ -4,8 +4,8 @@ ghost use Rattle.std.specs.Fmt.{decimal};
 ghost use Rattle.std.specs.Io.KnownBytes.{Appends};
 ghost use Rattle.world_stations.specs.World.{frames_in, federate_of};
 ghost use Rattle.world.specs.World.{stations_of};
-ghost use Rattle.fedrun_text.specs.PlanText.{federate_name};
-ghost use Rattle.fedrun_record.specs.StepText.{way_of, printed_step};
+ghost use Rattle.files_text.specs.PlanText.{federate_name};
+ghost use Rattle.files_record.specs.StepText.{way_of, printed_step};
 ghost use Rattle.fedrun_frames.specs.Brought.{nothing_text, done_text, ending_text};
 ghost use Rattle.fedrun_frames.specs.Accounts.{sent_line, sent_after, link_text, sent_text, row_text, account_text};
 
@@ -13,8 +13,8 @@ use crate::account::Account;
 use crate::brought::Brought;
 use crate::counts::{LinkCounts, counts_of};
 use crate::frame_text::write_frame;
-use fedrun_record::write_steps;
-use fedrun_text::{RowFormat, federate_name, write_rows};
+use files_record::write_steps;
+use files_text::{RowFormat, federate_name, write_rows};
 use plan::Plan;
 use reactor::Rows;
 use signal::Frame;
@@ -30,7 +30,8 @@ pub(crate) fn write_account<W: Write>(
     world: &World<'_>,
     account: &Account,
 ) -> io::Result<()>
-    ensures { OnOk result (Appends (W.contents out.old) (W.contents out.new) (account_text plan.now (stations_of world.now) account.now)) }
+    ensures { OnOk result (Appends (W.contents out.old) (W.contents out.new)
+        (account_text plan.now (stations_of world.now) account.now)) }
 {
     write_step(out, plan, account.line, account.step)?;
     write_ending(out, account.brought, account.outcome)?;
@@ -40,7 +41,8 @@ pub(crate) fn write_account<W: Write>(
 
 /// Writes a step behind its line, as a schedule has it.
 fn write_step<W: Write>(out: &mut W, plan: &Plan, line: usize, step: Step) -> io::Result<()>
-    ensures { OnOk result (Appends (W.contents out.old) (W.contents out.new) (decimal line ++ (codes " " ++ printed_step plan.now step))) }
+    ensures { OnOk result (Appends (W.contents out.old) (W.contents out.new)
+        (decimal line ++ (codes " " ++ printed_step plan.now step))) }
 {
     write!(out, "{line} ")?;
     write_steps(out, plan, &[step])
@@ -94,14 +96,15 @@ fn write_row<W: Write>(out: &mut W, plan: &Plan, row: &Rows) -> io::Result<()>
     Ok(())
 }
 
-/// Writes the frames sent over each link after so many, federate by federate.
+/// Writes the frames sent over each link after this many, federate by federate.
 fn write_sent<W: Write>(
     out: &mut W,
     plan: &Plan,
     world: &World<'_>,
     before: &[LinkCounts],
 ) -> io::Result<()>
-    ensures { OnOk result (Appends (W.contents out.old) (W.contents out.new) (sent_text plan.now (stations_of world.now) before.now)) }
+    ensures { OnOk result (Appends (W.contents out.old) (W.contents out.new)
+        (sent_text plan.now (stations_of world.now) before.now)) }
 {
     for federate in 0..before.len() {
         write_link(out, plan, world, federate, counts_of(before, federate))?;
@@ -117,13 +120,14 @@ fn write_link<W: Write>(
     federate: usize,
     before: LinkCounts,
 ) -> io::Result<()>
-    ensures { OnOk result (Appends (W.contents out.old) (W.contents out.new) (link_text plan.now (stations_of world.now) before federate)) }
+    ensures { OnOk result (Appends (W.contents out.old) (W.contents out.new)
+        (link_text plan.now (stations_of world.now) before federate)) }
 {
     write_sent_after(out, plan, world, Dir::Up(federate), before.up)?;
     write_sent_after(out, plan, world, Dir::Down(federate), before.down)
 }
 
-/// Writes the frames of a direction after so many.
+/// Writes the frames of a direction after this many.
 fn write_sent_after<W: Write>(
     out: &mut W,
     plan: &Plan,
@@ -131,7 +135,8 @@ fn write_sent_after<W: Write>(
     dir: Dir,
     gone: usize,
 ) -> io::Result<()>
-    ensures { OnOk result (Appends (W.contents out.old) (W.contents out.new) (sent_after plan.now dir gone (frames_in (stations_of world.now) dir))) }
+    ensures { OnOk result (Appends (W.contents out.old) (W.contents out.new)
+        (sent_after plan.now dir gone (frames_in (stations_of world.now) dir))) }
 {
     let sent = world.sent(dir);
     for before in gone..sent {
@@ -160,7 +165,9 @@ fn write_sent_line<W: Write>(
 
 /// Writes that a frame was sent, by the words that `deliver` names it with.
 fn write_name<W: Write>(out: &mut W, plan: &Plan, dir: Dir, k: usize) -> io::Result<()>
-    ensures { OnOk result (Appends (W.contents out.old) (W.contents out.new) (codes "  sent " ++ (way_of dir ++ (codes " " ++ (federate_name plan.now (federate_of dir) ++ (codes " " ++ (decimal k ++ codes ": "))))))) }
+    ensures { OnOk result (Appends (W.contents out.old) (W.contents out.new)
+        (codes "  sent " ++ (way_of dir
+        ++ (codes " " ++ (federate_name plan.now (federate_of dir) ++ (codes " " ++ (decimal k ++ codes ": "))))))) }
 {
     let (way, federate) = match dir {
         Dir::Up(federate) => ("up", federate),

@@ -1,7 +1,7 @@
 -- What a federate's node leaves is what some node leaves.
 use Rattle.std.proofs.Common.{ℕ, List, Option, Result, Ok, Err, OnOk, inr}
 use Rattle.fedrun_files.specs.Contents.{Contents}
-use Rattle.fedrun_saving.specs.Contents.{Contents as Saved}
+use Rattle.files_saving.specs.Contents.{Contents as Saved}
 use Rattle.fedrun_hosts.specs.declared.request.NodeRequest.{NodeRequest}
 use Rattle.fedrun_hosts.specs.Ended.{HasJoined, HasEnded}
 

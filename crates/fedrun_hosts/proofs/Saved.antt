@@ -6,12 +6,12 @@ use Rattle.plan.specs.Federation.{federate_number}
 use Rattle.fedrun_files.specs.Contents.{Contents}
 use Rattle.fedrun_files.specs.declared.reading.Sources.{Sources}
 use Rattle.fedrun_files.specs.Loaded.{input_file, AreSources}
-use Rattle.fedrun_saving.specs.Contents.{Contents as Saved, KnownOf}
-use Rattle.fedrun_saving.specs.Saved.{IsReserved, IsSaved}
-use Rattle.fedrun_saving.proofs.Reserved.{saved_where_reserved}
-use Rattle.fedrun_reports.specs.declared.file_digests.FileDigests.{FileDigests}
-use Rattle.fedrun_reports.specs.Said.{Said, by_federate}
-use Rattle.fedrun_reports.specs.File.{IsReportOf}
+use Rattle.files_saving.specs.Contents.{Contents as Saved, KnownOf}
+use Rattle.files_saving.specs.Saved.{IsReserved, IsSaved}
+use Rattle.files_saving.proofs.Reserved.{saved_where_reserved}
+use Rattle.files_reports.specs.declared.file_digests.FileDigests.{FileDigests}
+use Rattle.files_reports.specs.Said.{Said, by_federate}
+use Rattle.files_reports.specs.File.{IsReportOf}
 use Rattle.fedrun_commands.specs.ReportFiles.{AreDigestsOf}
 use Rattle.fedrun_hosts.specs.declared.request.NodeRequest.{NodeRequest}
 use Rattle.fedrun_hosts.specs.Ended.{SavesReport, HasJoined}

@@ -8,17 +8,19 @@ use Rattle.desk.specs.Replay.{Desk, replay}
 use Rattle.fedrun_files.specs.Contents.{Contents}
 use Rattle.fedrun_files.specs.declared.reading.Sources.{Sources}
 use Rattle.fedrun_files.specs.Loaded.{input_file, AreSources}
-use Rattle.fedrun_saving.specs.Contents.{Contents as Saved, KnownOf}
-use Rattle.fedrun_saving.specs.Saved.{IsCreated}
-use Rattle.fedrun_reports.specs.declared.file_digests.FileDigests.{FileDigests}
-use Rattle.fedrun_reports.specs.Said.{Said, by_coordinator, by_federate}
-use Rattle.fedrun_reports.specs.File.{IsReportOf}
+use Rattle.files_saving.specs.Contents.{Contents as Saved, KnownOf}
+use Rattle.files_saving.specs.Saved.{IsCreated}
+use Rattle.files_reports.specs.declared.file_digests.FileDigests.{FileDigests}
+use Rattle.files_reports.specs.Said.{Said, by_coordinator, by_federate}
+use Rattle.files_reports.specs.File.{IsReportOf}
 use Rattle.fedrun_commands.specs.ReportFiles.{AreDigestsOf}
 use Rattle.fedrun_hosts.specs.declared.request.NodeRequest.{NodeRequest}
 
--- the node's two files are a federation and recorded inputs of it; and there is one file more, of the report's name: it is the report
--- of a run of just these files in which this is said; no other file changed, and so no temporary one is left
-pub record SavesReport (contents : Contents) (n : NodeRequest) (said : Said) (before after : Option Saved) : Type 0 where
+-- the node's two files are a federation and recorded inputs of it; and there is one file more, of the report's name: it
+-- is the report of a run of just these files in which this is said; no other file changed, and so no temporary one is
+-- left
+pub record SavesReport (contents : Contents) (n : NodeRequest) (said : Said)
+    (before after : Option Saved) : Type 0 where
   pub sources : Sources
   pub sources_are : AreSources (contents n.federation.now) (input_file contents n.inputs.now) sources
   pub digests : FileDigests
@@ -36,10 +38,12 @@ pub record IsFinishedJournal (journal : List Event) : Type 0 where
 
 -- the coordinator is finished, and its report is saved
 abbrev pub HasCoordinated : Contents → NodeRequest → Option Saved → Option Saved → Type 0
-HasCoordinated contents n before after = (journal : List Event) × IsFinishedJournal journal × SavesReport contents n (by_coordinator journal) before after
+HasCoordinated contents n before after =
+    (journal : List Event) × IsFinishedJournal journal × SavesReport contents n (by_coordinator journal) before after
 
 -- the report of the federate of this name is saved
-pub record HasJoined (contents : Contents) (n : NodeRequest) (name : List ℕ) (before after : Option Saved) : Type 0 where
+pub record HasJoined (contents : Contents) (n : NodeRequest) (name : List ℕ)
+    (before after : Option Saved) : Type 0 where
   pub federate : ℕ
   pub rows : List Row
   pub journal : List Event
@@ -48,4 +52,6 @@ pub record HasJoined (contents : Contents) (n : NodeRequest) (name : List ℕ) (
 
 -- for some node it is so, the coordinator or a federate of some name
 abbrev pub HasEnded : Contents → Option Saved → Option Saved → Type 0
-HasEnded contents before after = (n : NodeRequest) × (HasCoordinated contents n before after ⊎ (name : List ℕ) × HasJoined contents n name before after)
+HasEnded contents before after =
+    (n : NodeRequest) × (HasCoordinated contents n before after ⊎ (name : List ℕ)
+    × HasJoined contents n name before after)

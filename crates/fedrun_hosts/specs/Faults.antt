@@ -1,15 +1,18 @@
--- Why a node on a machine of its own doesn't end well: the exit status that goes with each fault, and how it is printed.
+-- Why a node on a machine of its own doesn't end well: the exit status that goes with each fault, and how it is
+-- printed.
 use Rattle.std.specs.Prelude.{ℕ, List, ◌++◌, codes}
 use Rattle.desk.specs.Fault.{memory_text}
 use Rattle.wires_greeting.specs.declared.key.SecretFault.{SecretFault}
 use Rattle.wires_greeting.specs.declared.key.SecretFault.TheVariants.{TooShort, TooLong, Missing}
 use Rattle.wires_hosts.specs.declared.dial_fault.DialFault.{DialFault}
 use Rattle.wires_hosts.specs.declared.dial_fault.DialFault.TheVariants as dial
-use Rattle.fedrun_reports.specs.Faults.{write_text}
-use Rattle.fedrun_saving.specs.Fault.{text_of}
-use Rattle.fedrun_saving.specs.Saved.{temporary_name}
+use Rattle.files_reports.specs.Faults.{write_text}
+use Rattle.files_saving.specs.Fault.{text_of}
+use Rattle.files_saving.specs.Saved.{temporary_name}
 use Rattle.fedrun_hosts.specs.declared.fault.HostFault.{HostFault}
-use Rattle.fedrun_hosts.specs.declared.fault.HostFault.TheVariants.{Secret, NoSuchFederate, ReportExists, PartExists, CannotListen, Refused, NotProved, NotFinished, Unwritten, Unsaved, Memory}
+use Rattle.fedrun_hosts.specs.declared.fault.HostFault.TheVariants.{Secret, NoSuchFederate, ReportExists, PartExists}
+use Rattle.fedrun_hosts.specs.declared.fault.HostFault.TheVariants.{CannotListen, Refused, NotProved, NotFinished}
+use Rattle.fedrun_hosts.specs.declared.fault.HostFault.TheVariants.{Unwritten, Unsaved, Memory}
 
 -- the exit status where there is no key: 2 where words lack a secret
 abbrev pub secret_status : SecretFault → ℕ
@@ -17,7 +20,8 @@ secret_status TooShort = 1
 secret_status TooLong = 1
 secret_status Missing = 2
 
--- the exit status of a fault: 1 for what was given and isn't taken, by the node or by the coordinator, 3 for what stopped it after that
+-- the exit status of a fault: 1 for what was given and isn't taken, by the node or by the coordinator, 3 for what
+-- stopped it after that
 abbrev pub host_status : HostFault → ℕ
 host_status (Secret fault) = secret_status fault
 host_status (NoSuchFederate name) = 1

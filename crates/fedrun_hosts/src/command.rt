@@ -8,7 +8,7 @@ use crate::request::HostRequest;
 use crate::words::read_node_words;
 use fedrun_fault::{Fault, refuse};
 use fedrun_files::Files;
-use fedrun_saving::Disk;
+use files_saving::Disk;
 use std::alloc::Global;
 use std::io::Write;
 use std::net::{Net, TcpListener, TcpStream};
@@ -18,9 +18,10 @@ use std::thread::Threads;
 use std::time::Clock;
 use wires::Terms;
 
-/// Runs the node for which the words ask, and answers the exit status: 0 where the run is finished and the node's report is written; 1
-/// where what it was given is refused, by itself or by the coordinator; 2 where the words are no command, or an address needs a
-/// secret; 3 where it couldn't finish. What it has to say of a failure is one line to `err`.
+/// Runs the node for which the words ask, and answers the exit status: 0 where the run is finished and the node's
+/// report is written; 1 where what it was given is refused, by itself or by the coordinator; 2 where the words are no
+/// command, or an address needs a secret; 3 where it couldn't finish. What it has to say of a failure is one line to
+/// `err`.
 pub fn node_command<
     R: AllocGlobal
         + Threads

@@ -11,9 +11,9 @@ use coordinator::Coordinator;
 use desk::Desk;
 use fedrun_fault::Fault;
 use fedrun_files::Files;
-use fedrun_reports::NodeReport;
 use fedrun_run::coordinator_desk;
-use fedrun_saving::Disk;
+use files_reports::NodeReport;
+use files_saving::Disk;
 use node::Node;
 use std::alloc::Global;
 use std::io::Write;
@@ -31,8 +31,8 @@ use wires_workers::NoGate;
 /// So long whoever asks is told that the run is finished, where no patience is given.
 const PATIENCE_SECONDS: u32 = 10;
 
-/// Runs the coordinator until it is finished, or until nobody was heard for its patience, and writes its report in either case. Its
-/// report's name is reserved before anybody can connect, and stays so where it ends in the midst.
+/// Runs the coordinator until it is finished, or until nobody was heard for its patience, and writes its report in
+/// either case. Its report's name is reserved before anybody can connect, and stays so where it ends in the midst.
 pub fn coordinate<
     'a,
     R: Threads
@@ -146,7 +146,7 @@ fn run_listening<
     )
 }
 
-/// So many seconds.
+/// This many seconds.
 pub(crate) fn seconds(count: u32) -> Duration {
     Duration::from_secs(u64::from(count))
 }

@@ -2,8 +2,8 @@ ghost use Rattle.std.specs.Prelude.{◌≡◌};
 ghost use Rattle.fedrun_hosts.specs.Faults.{refusal_name};
 
 use fedrun_fault::MoreFault;
-use fedrun_reports::WriteFault;
-use fedrun_saving::SaveFault;
+use files_reports::WriteFault;
+use files_saving::SaveFault;
 use std::fmt;
 use wires_greeting::SecretFault;
 use wires_hosts::DialFault;
@@ -15,26 +15,29 @@ pub enum HostFault<'a> {
     Secret(SecretFault),
     /// The federation has no federate of this name. Nothing was begun.
     NoSuchFederate(&'a str),
-    /// A file of this name, under which the report is to be written, is there already. It is left as it is, and nothing was begun: a
-    /// federate that begins anew isn't the one that it was. It is put away, or another name is given.
+    /// A file of this name, under which the report is to be written, is there already. It is left as it is, and nothing
+    /// was begun: a federate that begins anew isn't the one that it was. It is put away, or another name is given.
     ReportExists(&'a str),
-    /// The temporary file of this name is there: a node of the same report runs now, or was ended before it wrote it. It is left as it
-    /// is, and nothing was begun. Once no such node runs and the run is begun anew, it is removed by hand, or another name is given.
+    /// The temporary file of this name is there: a node of the same report runs now, or was ended before it wrote it.
+    /// It is left as it is, and nothing was begun. Once no such node runs and the run is begun anew, it is removed by
+    /// hand, or another name is given.
     PartExists(&'a str),
     /// Nothing can listen at the address. Nothing was begun. Another address is given, or who listens there is ended.
     CannotListen,
-    /// The coordinator, which has the secret, doesn't let the federate take part, and this is why. The report was written.
+    /// The coordinator, which has the secret, doesn't let the federate take part, and this is why. The report was
+    /// written.
     Refused(DialFault),
-    /// Whoever answered at the address hasn't the secret, or the greeting was changed on its way. The report was written.
+    /// Whoever answered at the address hasn't the secret, or the greeting was changed on its way. The report was
+    /// written.
     NotProved,
-    /// The run isn't finished: nobody was heard for so long, or the federate's turns were made before, or a thread couldn't be
-    /// started. The report was written, where there was a node.
+    /// The run isn't finished: nobody was heard for so long, or the federate's turns were made before, or a thread
+    /// couldn't be started. The report was written, where there was a node.
     NotFinished,
     /// The report has no spelling, and the inner fault says why. None was written.
     Unwritten(WriteFault),
-    /// The report's name couldn't be reserved before anything was begun, or the report couldn't be written under it at the end, and the
-    /// inner fault says why. No file of this name was made or changed; at the end the temporary one is left, whole unless its bytes
-    /// couldn't be written or synced.
+    /// The report's name couldn't be reserved before anything was begun, or the report couldn't be written under it at
+    /// the end, and the inner fault says why. No file of this name was made or changed; at the end the temporary one is
+    /// left, whole unless its bytes couldn't be written or synced.
     Unsaved(&'a str, SaveFault),
     /// No memory for the node or its workers. No report was written.
     Memory(desk::Memory),

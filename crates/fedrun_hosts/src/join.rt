@@ -15,9 +15,9 @@ use desk::Desk;
 use federate::Federate;
 use fedrun_fault::Fault;
 use fedrun_files::Files;
-use fedrun_reports::NodeReport;
 use fedrun_run::federate_desks;
-use fedrun_saving::Disk;
+use files_reports::NodeReport;
+use files_saving::Disk;
 use plan::Plan;
 use plan_names::place_of;
 use recorder_reports::Report;
@@ -34,9 +34,10 @@ use wires_node::run_federate;
 use wires_transports::Ending;
 use wires_workers::NoGate;
 
-/// Runs the federate of this name until it hears that the run is finished, its end is closed, its turns are made, the coordinator
-/// refuses it, or nobody was heard for its patience; its report is written in each case. Its report's name is reserved before it
-/// connects, and stays so where it ends in the midst: so it isn't begun anew by the same words, without what it knew.
+/// Runs the federate of this name until it hears that the run is finished, its end is closed, its turns are made, the
+/// coordinator refuses it, or nobody was heard for its patience; its report is written in each case. Its report's name
+/// is reserved before it connects, and stays so where it ends in the midst: so it isn't begun anew by the same words,
+/// without what it knew.
 pub fn join<
     'a,
     R: Threads
@@ -58,7 +59,8 @@ pub fn join<
     disk: &mut D,
     out: &mut O,
 ) -> Result<(), Fault<'a, HostFault<'a>>>
-    ensures { OnOk result (HasJoined (F.contents files.old) node.now name.entry.now (D.contents disk.old) (D.contents disk.new)) }
+    ensures { OnOk result (HasJoined (F.contents files.old) node.now name.entry.now (D.contents disk.old)
+        (D.contents disk.new)) }
 {
     let loaded = match load(alloc, node, files) {
         Ok(loaded) => loaded,

@@ -7,7 +7,7 @@ use crate::request::NodeRequest;
 use crate::secret::read_key;
 use fedrun_fault::Fault;
 use fedrun_files::{Files, Sources, read_sources_and_bytes};
-use fedrun_reports::FileDigests;
+use files_reports::FileDigests;
 use std::alloc::Global;
 use wires_greeting::{DIGEST_SIZE, Key, files_digest};
 
@@ -28,8 +28,12 @@ pub(crate) fn load<'a, F: Files>(
     node: &NodeRequest<'a>,
     files: &mut F,
 ) -> Result<Loaded, Fault<'a, HostFault<'a>>>
-    ensures sources { IfOk result (λ loaded. AreSources (F.contents files.old node.now.federation.now) (input_file (F.contents files.old) node.now.inputs.now) loaded.sources) }
-    ensures digests { IfOk result (λ loaded. AreDigestsOf (F.contents files.old node.now.federation.now) (input_file (F.contents files.old) node.now.inputs.now) loaded.digests) }
+    ensures sources { IfOk result (λ loaded.
+        AreSources (F.contents files.old node.now.federation.now)
+        (input_file (F.contents files.old) node.now.inputs.now) loaded.sources) }
+    ensures digests { IfOk result (λ loaded.
+        AreDigestsOf (F.contents files.old node.now.federation.now)
+        (input_file (F.contents files.old) node.now.inputs.now) loaded.digests) }
 {
     let (sources, bytes) = match read_sources_and_bytes(
         alloc,

@@ -1,23 +1,25 @@
 ghost use Rattle.std.specs.Prelude.{◌≡◌, ◌≢◌, ℕ, List, IfOk, OnOk, string_bytes};
-ghost use Rattle.fedrun_saving.specs.Contents.{KnownOf};
-ghost use Rattle.fedrun_saving.specs.Saved.{IsReserved, IsSaved};
-ghost use Rattle.fedrun_reports.specs.Said.{said_in};
-ghost use Rattle.fedrun_reports.specs.File.{IsReportOf};
+ghost use Rattle.files_saving.specs.Contents.{KnownOf};
+ghost use Rattle.files_saving.specs.Saved.{IsReserved, IsSaved};
+ghost use Rattle.files_reports.specs.Said.{said_in};
+ghost use Rattle.files_reports.specs.File.{IsReportOf};
 
 use crate::fault::HostFault;
 use fedrun_fault::Fault;
-use fedrun_reports::{FileDigests, NodeReport, write_report};
-use fedrun_saving::{Disk, ReserveFault, reserve, save, temporary_name};
+use files_reports::{FileDigests, NodeReport, write_report};
+use files_saving::{Disk, ReserveFault, reserve, save, temporary_name};
 use std::alloc::Global;
 
-/// Reserves the name of a report before anything is begun; the temporary name by which it is reserved. Whoever begins with the same
-/// name is refused from then on, until the temporary file is removed.
+/// Reserves the name of a report before anything is begun; the temporary name by which it is reserved. Whoever begins
+/// with the same name is refused from then on, until the temporary file is removed.
 pub(crate) fn reserve_report<'a, D: Disk>(
     alloc: Global,
     name: &'a str,
     disk: &mut D,
 ) -> Result<String, Fault<'a, HostFault<'a>>>
-    ensures reserved { IfOk result (λ temporary. KnownOf (D.contents disk.old) (D.contents disk.new) (IsReserved (string_bytes temporary) name.entry.now)) }
+    ensures reserved { IfOk result
+        (λ temporary. KnownOf (D.contents disk.old) (D.contents disk.new)
+        (IsReserved (string_bytes temporary) name.entry.now)) }
     ensures other { IfOk result (λ temporary. string_bytes temporary ≢ name.entry.now) }
 {
     let Ok(temporary) = temporary_name(alloc, name) else {
@@ -41,7 +43,8 @@ pub(crate) fn save_report<'a, D: Disk>(
     disk: &mut D,
 ) -> Result<(), Fault<'a, HostFault<'a>>>
     requires { string_bytes temporary ≢ name.now }
-    ensures saved { OnOk result ((bytes : List ℕ) × IsReportOf digests.now (said_in report.now) bytes × KnownOf (D.contents disk.old) (D.contents disk.new) (IsSaved (string_bytes temporary) name.entry.now bytes)) }
+    ensures saved { OnOk result ((bytes : List ℕ) × IsReportOf digests.now (said_in report.now) bytes
+        × KnownOf (D.contents disk.old) (D.contents disk.new) (IsSaved (string_bytes temporary) name.entry.now bytes)) }
 {
     let bytes = match write_report(alloc, digests, report) {
         Ok(bytes) => bytes,

@@ -12,7 +12,7 @@ pub struct NodeRequest<'a> {
     pub report: &'a str,
     /// The file of the secret that all nodes have.
     pub secret: Option<&'a str>,
-    /// After so many seconds in which nobody was heard it gives up.
+    /// It gives up after this many seconds in which nobody was heard.
     pub patience: Option<u32>,
 }
 

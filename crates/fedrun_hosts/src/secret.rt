@@ -5,7 +5,8 @@ use fedrun_files::{FileFault, Files, fault_of};
 use wires_greeting::key::MOST_SECRET;
 use wires_greeting::{Key, SecretFault};
 
-/// The key by which a node proves who it is: of the secret in a file, or where none is given, the empty one, on loopback alone.
+/// The key by which a node proves who it is: of the secret in a file, or where none is given, the empty one, on
+/// loopback alone.
 pub(crate) fn read_key<'a, F: Files>(
     node: &NodeRequest<'a>,
     files: &mut F,

@@ -5,8 +5,8 @@ use fedrun_words::WordsFault;
 use std::alloc::{AllocError, Global};
 use std::net::SocketAddr;
 
-/// The turns of a federate for which no number is given. One that hears nothing makes a turn some 100 times a second, and so gives up
-/// after some three hours.
+/// The turns of a federate for which no number is given. One that hears nothing makes a turn some 100 times a second,
+/// and so gives up after some three hours.
 const JOIN_TURNS: u32 = 1_000_000;
 
 /// The version of frames of a federate for which none is given.

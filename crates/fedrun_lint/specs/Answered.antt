@@ -11,9 +11,11 @@ use Rattle.fedrun_lint.specs.Printed.{printed_report}
 use Rattle.fedrun_lint.specs.declared.printing.NamedFile.{NamedFile}
 use Rattle.fedrun_lint.specs.declared.report.Report.{Report}
 
--- a federation file is refused exactly where it is no federation; the file of recorded inputs is too long, which is its fault
+-- a federation file is refused exactly where it is no federation; the file of recorded inputs is too long, which is its
+-- fault
 abbrev pub IsReportOnOne : List ℕ → Report → Type 0
-IsReportOnOne federation report = MatchOption report.federation (IsTaken federation × IsFirst OverLimit report.inputs) (IsRefused federation)
+IsReportOnOne federation report =
+    MatchOption report.federation (IsTaken federation × IsFirst OverLimit report.inputs) (IsRefused federation)
 
 -- a report on two files, of which one that is too long has no bytes here
 abbrev pub IsReportOn : Option (List ℕ) → Option (List ℕ) → Report → Type 0
@@ -43,7 +45,8 @@ abbrev pub given_file : NamedFile → GivenFile
 given_file file = record { name = file.name.now; bytes = option_copied file.bytes }
 
 -- a report on two files was printed, and something is said to be wrong exactly where it is
-pub record PrintsReport (federation inputs : GivenFile) (is_wrong : Bool) (before after : Option (List ℕ)) : Type 0 where
+pub record PrintsReport (federation inputs : GivenFile) (is_wrong : Bool)
+    (before after : Option (List ℕ)) : Type 0 where
   pub report : Report
   pub report_is : IsReportOn federation.bytes inputs.bytes report
   pub printed : Appends before after (printed_report federation.name inputs.name report)

@@ -57,8 +57,9 @@ pub record IsReportOfRefused (federation inputs : List ℕ) (others : Option Ref
   pub refused : IsRefused federation refusal
   pub agrees : IfSome others (λ other. RecordsNone inputs)
 
--- a report: a federation file is refused exactly where it is no federation, and recorded inputs of one that is taken exactly where
--- they aren't its
+-- a report: a federation file is refused exactly where it is no federation, and recorded inputs of one that is taken
+-- exactly where they aren't its
 abbrev pub IsReport : List ℕ → List ℕ → Report → Type 0
 IsReport federation inputs report =
-    MatchOption report.federation (IsReportOfTaken federation inputs report.inputs) (IsReportOfRefused federation inputs report.inputs)
+    MatchOption report.federation (IsReportOfTaken federation inputs report.inputs)
+    (IsReportOfRefused federation inputs report.inputs)

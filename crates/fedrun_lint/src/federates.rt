@@ -36,7 +36,8 @@ pub(crate) fn look_at_federation(look: &mut Look<'_>) {
     }
 }
 
-/// Finds what is wrong with each federate, and adds its name and its ports, as far as they are taken; answers whether all are.
+/// Finds what is wrong with each federate, and adds its name and its ports, as far as they are taken; answers whether
+/// all are.
 fn look_at_federates(look: &mut Look<'_>, federates: &mut Entries) -> bool {
     let tree = look.tree;
     let mut is_whole = true;

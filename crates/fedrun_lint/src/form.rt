@@ -127,7 +127,8 @@ const INPUT: Form = Form {
     keys: "an input has federate, action, time, micro and value",
 };
 
-/// The form of the tables in the array at a key. A federate's is none of these, since its lists are looked at elsewhere.
+/// The form of the tables in the array at a key. A federate's is none of these, since its lists are looked at
+/// elsewhere.
 pub(crate) fn form_in(key: &str) -> Option<Form> {
     match key {
         "timers" => Some(TIMER),
@@ -160,6 +161,6 @@ pub(crate) fn form_of(key: &str) -> &'static str {
             "write an array of tables, as [{ .. }, { .. }] or under headers in double brackets; in an input federate is a text"
         }
         "action" => "write the name of a physical action in quotes",
-        _ => "see FORMATS for what stands here",
+        _ => "see FILES for what stands here",
     }
 }

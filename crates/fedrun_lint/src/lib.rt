@@ -1,10 +1,10 @@
 //! All that is wrong in the two files of a federation, and what is odd in files that are taken, each with its line.
 //!
-//! Promise to the layer above: where the loader refuses a file, the report has its very fault, and where it takes the file,
-//! the report has none of it (`specs/Reports`); what a writer gains is the report's text, and something is said to be wrong
-//! exactly where the two files aren't taken (`specs/Answered`). Further faults are what the loader answers of small files, in
-//! each of which one part of the refused file stands (`look`, `keys`, `lists`). Begin with `print_report`, then `report` and `linting`;
-//! `tree` says where the parts stand.
+//! Promise to the layer above: where the loader refuses a file, the report has its very fault, and where it takes the
+//! file, the report has none of it (`specs/Reports`); what a writer gains is the report's text, and something is said
+//! to be wrong exactly where the two files aren't taken (`specs/Answered`). Further faults are what the loader answers
+//! of small files, in each of which one part of the refused file stands (`look`, `keys`, `lists`). Begin with
+//! `print_report`, then `report` and `linting`; `tree` says where the parts stand.
 #![tactic(auto)]
 
 mod draft;

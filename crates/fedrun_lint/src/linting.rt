@@ -82,7 +82,8 @@ fn refusal_if_any(alloc: Global, federation: &[u8]) -> Result<Option<Refusal>, A
     }
 }
 
-/// What there is to say of a federation file and of a file of recorded inputs, which has no bytes where nothing is recorded.
+/// What there is to say of a federation file and of a file of recorded inputs, which has no bytes where nothing is
+/// recorded.
 #[tactic(auto, using(crate::proofs::Agreement::of_taken))]
 pub fn lint(alloc: Global, federation: &[u8], inputs: &[u8]) -> Result<Report, AllocError>
     ensures { IfOk result (IsReport federation.now inputs.now) }
@@ -185,7 +186,8 @@ fn refusal_of_federation(
     refusal(alloc, fault, found)
 }
 
-/// The faults of a TOML document: as recorded inputs where there is a plan, theirs or for the shape alone, and else as a federation.
+/// The faults of a TOML document: as recorded inputs where there is a plan, theirs or for the shape alone, and else as
+/// a federation.
 fn faults(
     alloc: Global,
     bytes: &[u8],
@@ -293,7 +295,8 @@ fn tree_of(alloc: Global, bytes: &[u8]) -> Result<Tree<'_>, AllocError> {
     read_tree(alloc, std::str::from_utf8(bytes).unwrap_or(""))
 }
 
-/// Why a file is refused that has this fault, which comes first: where it was found again, at its line, and else at the first.
+/// Why a file is refused that has this fault, which comes first: where it was found again, at its line, and else at the
+/// first.
 fn refusal(alloc: Global, fault: LoadFault, found: Found) -> Result<Refusal, AllocError>
     ensures { IfOk result (λ refusal. refusal.first.fault ≡ fault) }
 {

@@ -70,7 +70,7 @@ impl Entries {
         }
     }
 
-    /// Where the text of so many entries ends.
+    /// Where the text of this many entries ends.
     fn end_of(&self, count: usize) -> usize {
         match count.checked_sub(1) {
             Some(last) => match self.entries.get(last) {
@@ -100,8 +100,8 @@ pub(crate) enum Kind {
     Other,
 }
 
-/// Finds the entries of a list that are refused behind `kept` and those before them that aren't, which are added to `kept`; answers
-/// how many these are.
+/// Finds the entries of a list that are refused behind `kept` and those before them that aren't, which are added to
+/// `kept`; answers how many these are.
 pub(crate) fn sift(
     look: &mut Look<'_>,
     kind: Kind,
@@ -165,8 +165,8 @@ fn put(look: &mut Look<'_>, kind: Kind, number: usize, entry: usize) {
     look.add(line);
 }
 
-/// Whether the last fault isn't told: that there are too many of something a second time, and that a name isn't there where not all
-/// names were kept.
+/// Whether the last fault isn't told: that there are too many of something a second time, and that a name isn't there
+/// where not all names were kept.
 fn is_passed(look: &mut Look<'_>) -> bool {
     match look.about() {
         About::Name => !look.is_whole,

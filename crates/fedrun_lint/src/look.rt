@@ -12,7 +12,7 @@ const MOST_FINDINGS: usize = 100;
 /// How many bytes of small files are loaded for one file at most.
 const MOST_ASKED: usize = 33_554_432;
 
-/// What the loading of a file costs beside its bytes, as so many of them.
+/// What the loading of a file costs beside its bytes, as this many of them.
 const COST: usize = 256;
 
 /// What a fault is about.
@@ -117,7 +117,8 @@ impl<'a> Look<'a> {
         self.refuses(file) && self.is_about_shape()
     }
 
-    /// Whether the loader is asked about so many bytes more; then they are counted, and else there may be more faults.
+    /// Whether the loader is asked about this many bytes more; then they are counted, and else there may be more
+    /// faults.
     fn may_ask(&mut self, count: usize) -> bool {
         let cost = count.saturating_add(COST);
         let may = cost <= self.left;

@@ -27,17 +27,21 @@ pub enum LintFault {
     CannotWrite,
 }
 
-/// Prints all that is wrong in a federation file and in a file of recorded inputs, and what is odd, a line each, and hands it on;
-/// answers whether something is wrong. Where nothing is recorded, the second file has no bytes, as that of `-`.
+/// Prints all that is wrong in a federation file and in a file of recorded inputs, and what is odd, a line each, and
+/// hands it on; answers whether something is wrong. Where nothing is recorded, the second file has no bytes, as that of
+/// `-`.
 pub fn print_report<O: Write>(
     alloc: Global,
     federation: &NamedFile<'_>,
     inputs: &NamedFile<'_>,
     out: &mut O,
 ) -> Result<bool, LintFault>
-    ensures ok { IfOk result (λ is_wrong. PrintsReport (given_file federation.now) (given_file inputs.now) is_wrong (O.contents out.old) (O.contents out.new)) }
+    ensures ok { IfOk result (λ is_wrong.
+        PrintsReport (given_file federation.now) (given_file inputs.now) is_wrong (O.contents out.old)
+        (O.contents out.new)) }
     ensures memory { result ≡ Err LintFault.Memory → out.new ≡ out.old }
-    ensures stopped { result ≡ Err LintFault.CannotWrite → BeginsReport (given_file federation.now) (given_file inputs.now) (O.contents out.old) (O.contents out.new) }
+    ensures stopped { result ≡ Err LintFault.CannotWrite
+        → BeginsReport (given_file federation.now) (given_file inputs.now) (O.contents out.old) (O.contents out.new) }
 {
     let Ok(report) = report_on(alloc, federation.bytes, inputs.bytes) else {
         return Err(LintFault::Memory);
@@ -52,7 +56,8 @@ pub fn print_report<O: Write>(
 
 /// Prints the lines of a report and hands them on, and says whether all of them were written.
 fn print_lines<O: Write>(lines: &ReportLines<'_>, out: &mut O) -> bool
-    ensures { AppendsPrinted result (O.contents out.old) (O.contents out.new) (printed_report lines.now.federation.now lines.now.inputs.now lines.now.report.now) }
+    ensures { AppendsPrinted result (O.contents out.old) (O.contents out.new)
+        (printed_report lines.now.federation.now lines.now.inputs.now lines.now.report.now) }
 {
     let is_written = print_text(out, lines);
     out.flush().is_ok() && is_written

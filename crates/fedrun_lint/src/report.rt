@@ -59,7 +59,8 @@ impl Report {
 
     /// The report as it is printed, of files of these names.
     pub fn lines<'a>(&'a self, federation: &'a str, inputs: &'a str) -> ReportLines<'a>
-        ensures { (result.report ≡ self.entry) × (result.federation ≡ federation.entry) × (result.inputs ≡ inputs.entry) }
+        ensures { (result.report ≡ self.entry) × (result.federation ≡ federation.entry)
+            × (result.inputs ≡ inputs.entry) }
     {
         ReportLines {
             report: self,

@@ -11,7 +11,8 @@ pub(crate) enum Shape {
     Table,
 }
 
-/// A value of a document, and where it stands. Other nodes are named by their numbers; 0 is the document's, and so none.
+/// A value of a document, and where it stands. Other nodes are named by their numbers; 0 is the document's, and so
+/// none.
 #[derive(Clone, Copy)]
 pub(crate) struct Node {
     pub(crate) shape: Shape,

@@ -62,8 +62,8 @@ pub(crate) fn line_feeds(bytes: &[u8]) -> usize {
 }
 
 impl Tree<'_> {
-    /// Reads what comes first in a node that isn't whole: a comma, a bracket or brace, a header, a pair or an entry. Answers the
-    /// node in which reading goes on, and what is left; nothing where the document is at its end.
+    /// Reads what comes first in a node that isn't whole: a comma, a bracket or brace, a header, a pair or an entry.
+    /// Answers the node in which reading goes on, and what is left; nothing where the document is at its end.
     fn step<'s>(&mut self, at: usize, s: &'s str) -> Option<(usize, &'s str)> {
         self.count_lines(s);
         let byte = first(s);
@@ -174,7 +174,8 @@ impl Tree<'_> {
         self.add(holder, key, node)
     }
 
-    /// Reads a scalar, or the opening bracket or brace of a value; answers where reading goes on, which is `at` behind a scalar.
+    /// Reads a scalar, or the opening bracket or brace of a value; answers where reading goes on, which is `at` behind
+    /// a scalar.
     fn value<'s>(
         &mut self,
         at: usize,

@@ -21,7 +21,7 @@ impl Count {
         }
     }
 
-    /// So many more rows.
+    /// This many more rows.
     pub(crate) fn add_rows(&mut self, more: usize, latest: Tag) {
         self.rows = self.rows.saturating_add(more);
         self.latest = Time::new(latest.time());
@@ -37,7 +37,7 @@ impl fmt::Display for Count {
     }
 }
 
-// So many rows, the last at this time, of a program that goes on until a time.
+// This many rows, the last at this time, of a program that goes on until a time.
 fn write_rows<W: fmt::Write>(
     f: &mut fmt::Formatter<W>,
     rows: usize,

@@ -1,7 +1,8 @@
-//! How far a command is, for whoever waits for it: one line, renewed four times a second, which goes before anything else is written.
+//! How far a command is, for whoever waits for it: one line, renewed four times a second, which goes before anything
+//! else is written.
 //!
-//! It promises nothing to the layer above, and nothing that a command prints rests on it. Begin with `Progress`, which commands
-//! tell; `ProgressLine` is the line.
+//! It promises nothing to the layer above, and nothing that a command prints rests on it. Begin with `Progress`, which
+//! commands tell; `ProgressLine` is the line.
 #![tactic(auto)]
 
 mod count;
@@ -15,10 +16,10 @@ pub trait Progress {
     /// The command goes on until this time.
     fn until(&self, stop: Time);
 
-    /// So many more rows are made, of which the last has this tag.
+    /// This many more rows are made, of which the last has this tag.
     fn rows(&self, more: usize, latest: Tag);
 
-    /// So many steps are made by now.
+    /// This many steps are made by now.
     fn steps(&self, made: usize);
 
     /// Nothing more is shown: something else is to be written.

@@ -9,7 +9,7 @@ use std::time::{Clock, Duration, Instant};
 use tag::{Tag, Time};
 
 // How long a line stands before it is renewed.
-const PAUSE_MS: u64 = 250;
+const RENEWAL_MS: u64 = 250;
 
 // To the beginning of the line, of which nothing is left.
 const WIPED: &str = "\r\x1b[K";
@@ -66,7 +66,7 @@ impl<'a, R: Wait + Clock> ProgressLine<'a, R> {
     // What is shown next, after a while; none once the command is at its end.
     fn next(&self) -> Option<Count> {
         let state = self.state.lock(self.rt);
-        let pause = Duration::from_millis(PAUSE_MS);
+        let pause = Duration::from_millis(RENEWAL_MS);
         let (mut state, _) = self
             .changed
             .wait_timeout_while(self.rt, state, pause, |state| !state.is_over);

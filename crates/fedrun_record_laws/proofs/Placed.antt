@@ -22,11 +22,11 @@ use Rattle.world.specs.World.{stations_of}
 use Rattle.recorder_search.specs.Journals.{AreEvents}
 use Rattle.recorder.specs.Placing.{world_motion}
 use Rattle.recorder.specs.Audited.{Claim, world_of, IsProvedBy}
-use Rattle.fedrun_script.specs.Scripts.{IsDirOf, IsStepOf}
-use Rattle.fedrun_record.specs.ReadAgain.{IsNamed, AreRecorded}
+use Rattle.files_script.specs.Scripts.{IsDirOf, IsStepOf}
+use Rattle.files_record.specs.ReadAgain.{IsNamed, AreRecorded}
 use Rattle.fedrun_record_laws.specs.PlayedAgain.{frame_in}
 
--- so many federates are there, with frames to and from each
+-- this many federates are there, with frames to and from each
 record HasAsMany (w : Federation) (count : ℕ) : Type 0 where
   federates : length w.federates ≡ count
   ups : length w.up ≡ count

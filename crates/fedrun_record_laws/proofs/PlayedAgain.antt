@@ -14,14 +14,14 @@ use Rattle.world_progress.specs.Rounds.{Playing, makes, after_tasks}
 use Rattle.world.specs.World.{WorldView, stations_of, with_steps}
 use Rattle.recorder.specs.Audited.{Claim, world_of, IsProvedBy}
 use Rattle.recorder_reports.specs.Reports.{reported_rows}
-use Rattle.fedrun_text.specs.declared.row_format.RowFormat.TheVariants.{Text}
-use Rattle.fedrun_text.specs.RowText.{printed_rows}
-use Rattle.fedrun_text.specs.PlanText.{federate_name, printed_each}
-use Rattle.fedrun_script.specs.Scripts.{Script, IsScriptOf}
-use Rattle.fedrun_script.specs.declared.script.ScheduleLine.{ScheduleLine}
-use Rattle.fedrun_record.specs.StepText.{printed_steps}
-use Rattle.fedrun_record.specs.ReadAgain.{AreRecorded, SaysSteps, lines_from}
-use Rattle.fedrun_record.proofs.Lines.{read_again}
+use Rattle.files_text.specs.declared.row_format.RowFormat.TheVariants.{Text}
+use Rattle.files_text.specs.RowText.{printed_rows}
+use Rattle.files_text.specs.PlanText.{federate_name, printed_each}
+use Rattle.files_script.specs.Scripts.{Script, IsScriptOf}
+use Rattle.files_script.specs.declared.script.ScheduleLine.{ScheduleLine}
+use Rattle.files_record.specs.StepText.{printed_steps}
+use Rattle.files_record.specs.ReadAgain.{AreRecorded, SaysSteps, lines_from}
+use Rattle.files_record.proofs.Lines.{read_again}
 use Rattle.fedrun_replay.specs.Play.{Made, unasked, unasked_player, playing_of, made_by, steps_of, refusals}
 use Rattle.fedrun_replay.specs.Closing.{made_in_all}
 use Rattle.fedrun_replay.specs.Replayed.{history, histories, IsReplayed}

@@ -8,7 +8,7 @@ use Rattle.reactor_program.specs.Behaviour.{Behaviour}
 use Rattle.world_stations.specs.Federation.{IsStuck}
 use Rattle.world_progress.specs.Rounds.{Playing, closing_round_tasks, closing_rounds_tasks, after_closing_rounds, steps_of_tasks}
 use Rattle.world.specs.World.{stations_of}
-use Rattle.fedrun_script.specs.Scripts.{Script}
+use Rattle.files_script.specs.Scripts.{Script}
 use Rattle.fedrun_replay.specs.declared.fault.ReplayFault.{ReplayFault}
 use Rattle.fedrun_replay.specs.declared.fault.ReplayFault.TheVariants.{World, CannotWrite}
 use Rattle.fedrun_replay.specs.Play.{PlayerView, playing_of, count_in, unasked, unasked_player, Made, made_for, made_by, Plays, PlaysSome}
@@ -17,7 +17,7 @@ use Rattle.fedrun_replay.proofs.Playing.{plays_on, some_on, some_of_none}
 use Rattle.fedrun_replay.proofs.Doing.{Does, Stops, does_nothing, each_on, stopped_on}
 use Rattle.fedrun_replay.proofs.Obeying.{Obeys, StopsIn, same_count}
 
--- so many closing rounds were made, each where the world wasn't stuck
+-- this many closing rounds were made, each where the world wasn't stuck
 pub record Closes (line most : ℕ) (v later : PlayerView) (a b : Option (List ℕ)) (rounds : ℕ) : Type 0 where
   pub may : MayMake (count_in v) most (playing_of v) rounds
   pub made : Does line (closing_rounds_tasks (count_in v) rounds) v later a b

@@ -16,7 +16,7 @@ use Rattle.fedrun_replay.proofs.Doing.{Does, Stops}
 abbrev pub Tries : ℕ → List Step → PlayerView → PlayerView → Option (List ℕ) → Option (List ℕ) → Type 0
 Tries line steps v later a b = HasMade (made_for line steps) (with_made (playing_of v) steps) v later a b
 
--- so many frames, and then the next
+-- this many frames, and then the next
 delivers_next : (dir : Dir) (from gone : ℕ) → from ≤ gone → delivers dir from (gone + 1 - from) ≡ delivers dir from (gone - from) ++ Deliver dir (gone + 1) ∷ []
 delivers_next dir from gone within =
     let count : gone + 1 - from ≡ (gone - from) + 1 = omega arith in

@@ -30,13 +30,13 @@ use Rattle.world_progress.proofs.TaskLists.{world_after_append, world_after_task
 use Rattle.world_progress.proofs.ClosingRounds.{closing_rounds_end}
 use Rattle.world.specs.World.{WorldView, stations_of, with_steps}
 use Rattle.world.specs.Faithful.{IsFaithful}
-use Rattle.fedrun_text.specs.declared.row_format.RowFormat.{RowFormat}
-use Rattle.fedrun_text.specs.declared.row_format.RowFormat.TheVariants.{Text, Csv}
-use Rattle.fedrun_text.specs.CsvText.{csv_header}
-use Rattle.fedrun_text.specs.Formats.{formatted_rows}
-use Rattle.fedrun_text.specs.PlanText.{printed_each}
-use Rattle.fedrun_script.specs.declared.script.ScheduleLine.{ScheduleLine}
-use Rattle.fedrun_script.specs.Scripts.{Script}
+use Rattle.files_text.specs.declared.row_format.RowFormat.{RowFormat}
+use Rattle.files_text.specs.declared.row_format.RowFormat.TheVariants.{Text, Csv}
+use Rattle.files_text.specs.CsvText.{csv_header}
+use Rattle.files_text.specs.Formats.{formatted_rows}
+use Rattle.files_text.specs.PlanText.{printed_each}
+use Rattle.files_script.specs.declared.script.ScheduleLine.{ScheduleLine}
+use Rattle.files_script.specs.Scripts.{Script}
 use Rattle.fedrun_replay.specs.Play.{playing_of, unasked, unasked_player, tasks_of, after_lines, Made, made_for, made_by, steps_of}
 use Rattle.fedrun_replay.specs.Closing.{most_rounds, made_in_all, PlaysSchedule}
 use Rattle.fedrun_replay.specs.Enough.{AsksForEnough, whole_part, every_row, EndsWithEveryRow, every_row_as_csv, EndsWithEveryRowAsCsv}
@@ -140,7 +140,7 @@ rows_are_whole d programs inputs w j lawful prefix every =
     let few : length (rows_in w j) ≤ length all = omega arith in
     same_rows (rows_in w j) all begins.0 begins.1 few ∙ ap (part j) (no_more_rows n later lawful (more_turns turns (enough_turns n)))
 
--- the texts of so many numbers, where each is the same
+-- the texts of this many numbers, where each is the same
 each_same : (f g : ℕ → List ℕ) (count : ℕ) → ((j : ℕ) → j < count → f j ≡ g j) → printed_each f count ≡ printed_each g count
 each_same f g zero same = refl
 each_same f g (suc count) same =

@@ -6,9 +6,9 @@ use Rattle.plan.specs.declared.draft.Draft.{Draft}
 use Rattle.plan.specs.declared.input.Input.{Input}
 use Rattle.reactor_program.specs.Behaviour.{Behaviour}
 use Rattle.world.specs.World.{WorldView}
-use Rattle.fedrun_text.specs.declared.row_format.RowFormat.{RowFormat}
-use Rattle.fedrun_text.specs.declared.row_format.RowFormat.TheVariants.{Text, Csv}
-use Rattle.fedrun_script.specs.Scripts.{Script}
+use Rattle.files_text.specs.declared.row_format.RowFormat.{RowFormat}
+use Rattle.files_text.specs.declared.row_format.RowFormat.TheVariants.{Text, Csv}
+use Rattle.files_script.specs.Scripts.{Script}
 use Rattle.fedrun_replay.specs.Replayed.{IsEnded, IsReplayed, IsBrokenOff}
 use Rattle.fedrun_replay.specs.AsCsv.{IsReplayedIn, IsBrokenOffIn}
 use Rattle.fedrun_replay.specs.declared.fault.ReplayFault.{ReplayFault}

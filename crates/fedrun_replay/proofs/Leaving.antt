@@ -23,9 +23,9 @@ use Rattle.world_progress.proofs.TaskLists.{world_after_append}
 use Rattle.world_progress.proofs.Reached.{Reached}
 use Rattle.world_progress.proofs.Serving.{AreWithin, deliveries_keep, within_cursor, within_task}
 use Rattle.world_progress.proofs.Halting.{reached_steps}
-use Rattle.fedrun_script.specs.declared.command.Command.{Command}
-use Rattle.fedrun_script.specs.declared.command.Command.TheVariants.{Make, Skip, Round}
-use Rattle.fedrun_script.specs.declared.script.ScheduleLine.{ScheduleLine}
+use Rattle.files_script.specs.declared.command.Command.{Command}
+use Rattle.files_script.specs.declared.command.Command.TheVariants.{Make, Skip, Round}
+use Rattle.files_script.specs.declared.script.ScheduleLine.{ScheduleLine}
 use Rattle.fedrun_replay.specs.Play.{playing_of, unmoved, unasked_player, tasks_of, after_lines}
 use Rattle.fedrun_replay.specs.Enough.{is_forgetting}
 

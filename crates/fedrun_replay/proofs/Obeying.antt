@@ -4,7 +4,7 @@ use Rattle.std.proofs.lemmas.List.{take_more, take-append-drop}
 use Rattle.plan.specs.Federation.{federate_count}
 use Rattle.world_progress.specs.Rounds.{Playing, steps_of_tasks, after_tasks}
 use Rattle.world.specs.World.{WorldView}
-use Rattle.fedrun_script.specs.declared.script.ScheduleLine.{ScheduleLine}
+use Rattle.files_script.specs.declared.script.ScheduleLine.{ScheduleLine}
 use Rattle.fedrun_replay.specs.declared.fault.ReplayFault.{ReplayFault}
 use Rattle.fedrun_replay.specs.Play.{PlayerView, playing_of, count_in, tasks_of, after_lines, Made, made_for, made_by, Plays, HasMade, HasStopped, HasPlayed, HasDone}
 use Rattle.fedrun_replay.proofs.Playing.{plays_nothing, played_on, stopped_of_more}

@@ -10,11 +10,12 @@ use Rattle.world_stations.specs.declared.step.Step.{Step}
 use Rattle.world_stations.specs.declared.outcome.Outcome.{Outcome}
 use Rattle.world_stations.specs.declared.outcome.Outcome.TheVariants.{Nothing, Done, Refused}
 use Rattle.world_stations.specs.Federation.{Federation, step_in}
-use Rattle.world_progress.specs.Rounds.{Cursors, Playing, Task, makes, skips, with_made, steps_of_tasks, after_tasks, round_tasks}
+use Rattle.world_progress.specs.Rounds.{Cursors, Playing, Task, makes, skips, with_made, steps_of_tasks, after_tasks}
+use Rattle.world_progress.specs.Rounds.{round_tasks}
 use Rattle.world.specs.World.{WorldView, stations_of, with_steps}
-use Rattle.fedrun_script.specs.declared.command.Command.{Command}
-use Rattle.fedrun_script.specs.declared.command.Command.TheVariants.{Make, Skip, Round}
-use Rattle.fedrun_script.specs.declared.script.ScheduleLine.{ScheduleLine}
+use Rattle.files_script.specs.declared.command.Command.{Command}
+use Rattle.files_script.specs.declared.command.Command.TheVariants.{Make, Skip, Round}
+use Rattle.files_script.specs.declared.script.ScheduleLine.{ScheduleLine}
 use Rattle.fedrun_replay.specs.declared.fault.ReplayFault.{ReplayFault}
 use Rattle.fedrun_replay.specs.declared.fault.ReplayFault.TheVariants.{World, CannotWrite}
 
@@ -35,7 +36,7 @@ count_in v = federate_count v.world.draft
 abbrev pub unasked : Draft → List Behaviour → List Input → WorldView
 unasked d programs inputs = record { draft = d; programs = programs; inputs = inputs; steps = [] }
 
--- so many cursors of each way, which rounds didn't move
+-- this many cursors of each way, which rounds didn't move
 abbrev pub unmoved : ℕ → Cursors
 unmoved count = record { up = replicate count 0; down = replicate count 0 }
 
@@ -43,7 +44,7 @@ unmoved count = record { up = replicate count 0; down = replicate count 0 }
 abbrev pub unasked_player : Draft → List Behaviour → List Input → PlayerView
 unasked_player d programs inputs = record { world = unasked d programs inputs; cursors = unmoved (federate_count d) }
 
--- what a line of a schedule asks for, with so many federates
+-- what a line of a schedule asks for, with this many federates
 abbrev pub tasks_of : ℕ → Command → List Task
 tasks_of federates (Make step) = makes step ∷ []
 tasks_of federates (Skip dir) = skips dir ∷ []
@@ -98,7 +99,8 @@ pub record PlaysSome (asked : List Made) (w later : WorldView) (before after : O
   pub plays : Plays made w later before after
 
 -- a player made just these steps, and then its world and cursors are these
-pub record HasMade (asked : List Made) (then : Playing) (v later : PlayerView) (before after : Option (List ℕ)) : Type 0 where
+pub record HasMade (asked : List Made) (then : Playing) (v later : PlayerView)
+    (before after : Option (List ℕ)) : Type 0 where
   pub plays : Plays asked v.world later.world before after
   pub is : playing_of later ≡ then
 
@@ -108,15 +110,20 @@ HasStopped (World memory) asked w later before after = PlaysSome asked w later b
 HasStopped CannotWrite asked w later before after = Unit {0}
 
 -- a player was to make these steps
-abbrev pub HasPlayed : {T : Type 0} → Result T ReplayFault → List Made → Playing → PlayerView → PlayerView → Option (List ℕ) → Option (List ℕ) → Type 0
+abbrev pub HasPlayed : {T : Type 0} → Result T ReplayFault → List Made → Playing → PlayerView → PlayerView
+    → Option (List ℕ) → Option (List ℕ) → Type 0
 HasPlayed (Ok done) asked then v later before after = HasMade asked then v later before after
 HasPlayed (Err fault) asked then v later before after = HasStopped fault asked v.world later.world before after
 
 -- a player was to make these steps for a line, and to move no cursor
-abbrev pub HasTried : {T : Type 0} → Result T ReplayFault → ℕ → List Step → PlayerView → PlayerView → Option (List ℕ) → Option (List ℕ) → Type 0
-HasTried result line steps v later before after = HasPlayed result (made_for line steps) (with_made (playing_of v) steps) v later before after
+abbrev pub HasTried : {T : Type 0} → Result T ReplayFault → ℕ → List Step → PlayerView → PlayerView → Option (List ℕ)
+    → Option (List ℕ) → Type 0
+HasTried result line steps v later before after =
+    HasPlayed result (made_for line steps) (with_made (playing_of v) steps) v later before after
 
 -- a player was to do this for a line
-abbrev pub HasDone : {T : Type 0} → Result T ReplayFault → ℕ → List Task → PlayerView → PlayerView → Option (List ℕ) → Option (List ℕ) → Type 0
+abbrev pub HasDone : {T : Type 0} → Result T ReplayFault → ℕ → List Task → PlayerView → PlayerView → Option (List ℕ)
+    → Option (List ℕ) → Type 0
 HasDone result line tasks v later before after =
-    HasPlayed result (made_for line (steps_of_tasks tasks (playing_of v))) (after_tasks tasks (playing_of v)) v later before after
+    HasPlayed result (made_for line (steps_of_tasks tasks (playing_of v))) (after_tasks tasks (playing_of v)) v
+    later before after

@@ -22,7 +22,7 @@ impl Model for Cursors {
 }
 
 impl Cursors {
-    /// Of so many federates; none was gone past.
+    /// Of this many federates; none was gone past.
     pub fn new(alloc: Global, federates: usize) -> Result<Cursors, AllocError>
         ensures { IfOk result (λ cursors. cursors ≡ unmoved federates) }
     {
@@ -41,7 +41,7 @@ impl Cursors {
         }
     }
 
-    /// Rounds have gone past so many of a direction.
+    /// Rounds have gone past this many of a direction.
     pub fn go_to(&mut self, dir: Dir, count: usize)
         ensures { self.new ≡ moved_to self.old dir count }
     {

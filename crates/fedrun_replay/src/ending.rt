@@ -2,11 +2,11 @@
 ghost use Rattle.std.specs.Prelude.{◌≡◌, ◌<◌, ◌++◌, OnOk};
 ghost use Rattle.std.specs.Io.KnownBytes.{Appends};
 ghost use Rattle.plan.specs.Federation.{federate_count};
-ghost use Rattle.fedrun_text.specs.CsvText.{csv_header};
-ghost use Rattle.fedrun_text.specs.declared.row_format.RowFormat.TheVariants.{Csv};
+ghost use Rattle.files_text.specs.CsvText.{csv_header};
+ghost use Rattle.files_text.specs.declared.row_format.RowFormat.TheVariants.{Csv};
 ghost use Rattle.fedrun_replay.specs.Replayed.{forgotten, history, each_history, histories, verdict, IsClosed, IsEnded};
 
-use fedrun_text::{RowFormat, federate_name, write_heading, write_rows};
+use files_text::{RowFormat, federate_name, write_heading, write_rows};
 use plan::Plan;
 use std::io;
 use std::io::Write;
@@ -60,7 +60,8 @@ fn write_histories<W: Write>(out: &mut W, plan: &Plan, world: &World<'_>) -> io:
 /// Writes the rows of each federate that kept its state as comma-separated values, under the header.
 pub fn write_csv_histories<W: Write>(out: &mut W, plan: &Plan, world: &World<'_>) -> io::Result<()>
     requires { plan.now ≡ world.now.draft }
-    ensures { OnOk result (Appends (W.contents out.old) (W.contents out.new) (csv_header ++ each_history Csv world.now)) }
+    ensures { OnOk result (Appends (W.contents out.old) (W.contents out.new)
+        (csv_header ++ each_history Csv world.now)) }
 {
     write_heading(out, RowFormat::Csv)?;
     write_each_history(out, plan, world, RowFormat::Csv)

@@ -3,14 +3,16 @@ ghost use Rattle.std.specs.Io.KnownBytes.{Appends};
 ghost use Rattle.plan.specs.External.{AreInputsOf};
 ghost use Rattle.reactor_programs.specs.Programs.{AreProgramsOf};
 ghost use Rattle.world_stations.specs.declared.dir.Dir.TheVariants as Dirs;
-ghost use Rattle.world_progress.specs.Rounds.{makes, brings, cursor_in, moved_to, sent_in, delivers, for_each, turn_tasks, resend_tasks, round_tasks, closing_round_tasks};
-ghost use Rattle.fedrun_replay.specs.Play.{unasked_player, count_in, playing_of, tasks_of, made_by, after_lines, told, HasPlayed, HasTried, HasDone};
+ghost use Rattle.world_progress.specs.Rounds.{makes, brings, cursor_in, moved_to, sent_in, delivers, for_each};
+ghost use Rattle.world_progress.specs.Rounds.{turn_tasks, resend_tasks, round_tasks, closing_round_tasks};
+ghost use Rattle.fedrun_replay.specs.Play.{unasked_player, count_in, playing_of, tasks_of, made_by, after_lines, told};
+ghost use Rattle.fedrun_replay.specs.Play.{HasPlayed, HasTried, HasDone};
 ghost use Rattle.fedrun_replay.specs.Closing.{IsClosing, IsPlaying};
 
 use crate::cursors::Cursors;
 use crate::fault::ReplayFault;
 use fedrun_progress::Progress;
-use fedrun_script::{Command, ScheduleLine, Script};
+use files_script::{Command, ScheduleLine, Script};
 use plan::{Inputs, Plan};
 use reactor_programs::Programs;
 use std::alloc::Global;
@@ -82,7 +84,9 @@ impl<'a> Player<'a> {
         lines: &[ScheduleLine],
         progress: &P,
     ) -> Result<(), ReplayFault>
-        ensures { HasPlayed result (made_by (count_in self.old) lines.now (playing_of self.old)) (after_lines (count_in self.old) lines.now (playing_of self.old)) self.old self.new (W.contents out.old) (W.contents out.new) }
+        ensures { HasPlayed result (made_by (count_in self.old) lines.now (playing_of self.old))
+            (after_lines (count_in self.old) lines.now (playing_of self.old)) self.old self.new (W.contents out.old)
+            (W.contents out.new) }
     {
         for line in lines {
             self.obey(out, *line)?;
@@ -91,7 +95,7 @@ impl<'a> Player<'a> {
         Ok(())
     }
 
-    /// Makes closing rounds for a line until the world is stuck, or so many were made.
+    /// Makes closing rounds for a line until the world is stuck, or this many were made.
     pub fn close<W: Write, P: Progress>(
         &mut self,
         out: &mut W,
@@ -113,7 +117,8 @@ impl<'a> Player<'a> {
 
     /// Does what a line asks for.
     pub fn obey<W: Write>(&mut self, out: &mut W, line: ScheduleLine) -> Result<(), ReplayFault>
-        ensures { HasDone result line.number (tasks_of (count_in self.old) line.command) self.old self.new (W.contents out.old) (W.contents out.new) }
+        ensures { HasDone result line.number (tasks_of (count_in self.old) line.command) self.old self.new
+            (W.contents out.old) (W.contents out.new) }
     {
         match line.command {
             Command::Make(step) => self.make(out, line.number, step),
@@ -136,7 +141,8 @@ impl<'a> Player<'a> {
 
     // At each link is sent again what isn't acknowledged, and a round is made.
     fn closing_round<W: Write>(&mut self, out: &mut W, line: usize) -> Result<(), ReplayFault>
-        ensures { HasDone result line (closing_round_tasks (count_in self.old)) self.old self.new (W.contents out.old) (W.contents out.new) }
+        ensures { HasDone result line (closing_round_tasks (count_in self.old)) self.old self.new (W.contents out.old)
+            (W.contents out.new) }
     {
         self.resend_each(out, line)?;
         self.round(out, line)
@@ -144,7 +150,8 @@ impl<'a> Player<'a> {
 
     // At each federate's link in order, both senders send again what isn't acknowledged.
     fn resend_each<W: Write>(&mut self, out: &mut W, line: usize) -> Result<(), ReplayFault>
-        ensures { HasDone result line (for_each resend_tasks (count_in self.old)) self.old self.new (W.contents out.old) (W.contents out.new) }
+        ensures { HasDone result line (for_each resend_tasks (count_in self.old)) self.old self.new (W.contents out.old)
+            (W.contents out.new) }
     {
         let count = self.world.federate_count();
         for federate in 0..count {
@@ -160,7 +167,8 @@ impl<'a> Player<'a> {
         line: usize,
         federate: usize,
     ) -> Result<(), ReplayFault>
-        ensures { HasDone result line (resend_tasks federate) self.old self.new (W.contents out.old) (W.contents out.new) }
+        ensures { HasDone result line (resend_tasks federate) self.old self.new (W.contents out.old)
+            (W.contents out.new) }
     {
         self.make(out, line, Step::Resend(Dir::Up(federate)))?;
         self.make(out, line, Step::Resend(Dir::Down(federate)))
@@ -168,7 +176,8 @@ impl<'a> Player<'a> {
 
     // Each federate announces and advances; then what was sent comes, of all federates and then to all of them.
     fn round<W: Write>(&mut self, out: &mut W, line: usize) -> Result<(), ReplayFault>
-        ensures { HasDone result line (round_tasks (count_in self.old)) self.old self.new (W.contents out.old) (W.contents out.new) }
+        ensures { HasDone result line (round_tasks (count_in self.old)) self.old self.new (W.contents out.old)
+            (W.contents out.new) }
     {
         self.turn_each(out, line)?;
         self.deliver_from_each(out, line)?;
@@ -177,7 +186,8 @@ impl<'a> Player<'a> {
 
     // Each federate in order announces and advances.
     fn turn_each<W: Write>(&mut self, out: &mut W, line: usize) -> Result<(), ReplayFault>
-        ensures { HasDone result line (for_each turn_tasks (count_in self.old)) self.old self.new (W.contents out.old) (W.contents out.new) }
+        ensures { HasDone result line (for_each turn_tasks (count_in self.old)) self.old self.new (W.contents out.old)
+            (W.contents out.new) }
     {
         let count = self.world.federate_count();
         for federate in 0..count {
@@ -193,7 +203,8 @@ impl<'a> Player<'a> {
         line: usize,
         federate: usize,
     ) -> Result<(), ReplayFault>
-        ensures { HasDone result line (turn_tasks federate) self.old self.new (W.contents out.old) (W.contents out.new) }
+        ensures { HasDone result line (turn_tasks federate) self.old self.new (W.contents out.old)
+            (W.contents out.new) }
     {
         self.make(out, line, Step::Announce(federate))?;
         self.make(out, line, Step::Advance(federate))
@@ -201,7 +212,8 @@ impl<'a> Player<'a> {
 
     // What was sent by each federate in order comes to the coordinator.
     fn deliver_from_each<W: Write>(&mut self, out: &mut W, line: usize) -> Result<(), ReplayFault>
-        ensures { HasDone result line (for_each (λ federate. brings (Dirs.Up federate) ∷ []) (count_in self.old)) self.old self.new (W.contents out.old) (W.contents out.new) }
+        ensures { HasDone result line (for_each (λ federate. brings (Dirs.Up federate) ∷ []) (count_in self.old))
+            self.old self.new (W.contents out.old) (W.contents out.new) }
     {
         let count = self.world.federate_count();
         for sender in 0..count {
@@ -212,7 +224,8 @@ impl<'a> Player<'a> {
 
     // What was sent to each federate in order comes to it.
     fn deliver_to_each<W: Write>(&mut self, out: &mut W, line: usize) -> Result<(), ReplayFault>
-        ensures { HasDone result line (for_each (λ federate. brings (Dirs.Down federate) ∷ []) (count_in self.old)) self.old self.new (W.contents out.old) (W.contents out.new) }
+        ensures { HasDone result line (for_each (λ federate. brings (Dirs.Down federate) ∷ []) (count_in self.old))
+            self.old self.new (W.contents out.old) (W.contents out.new) }
     {
         let count = self.world.federate_count();
         for receiver in 0..count {
@@ -239,7 +252,9 @@ impl<'a> Player<'a> {
         dir: Dir,
         sent: usize,
     ) -> Result<(), ReplayFault>
-        ensures { HasTried result line (delivers dir (cursor_in self.old.cursors dir) (sent - cursor_in self.old.cursors dir)) self.old self.new (W.contents out.old) (W.contents out.new) }
+        ensures { HasTried result line
+            (delivers dir (cursor_in self.old.cursors dir) (sent - cursor_in self.old.cursors dir)) self.old self.new
+            (W.contents out.old) (W.contents out.new) }
     {
         for gone in self.cursors.at(dir)..sent {
             self.make(out, line, Step::Deliver(dir, gone + 1))?;

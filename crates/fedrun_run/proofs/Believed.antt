@@ -60,12 +60,12 @@ no_desks (Err (run.NotFinished cause)) told P unfinished fault = inl (cause, fau
 no_desks (Err run.Memory) told P unfinished fault = inr fault
 
 -- what is passed on of a run's nodes is what they gave
-pub same_said : {reports said : List Report} {coordinator journal : List Event} → reports ≡ said → coordinator ≡ journal →
-    (left : List (Option WorkerResult)) × AreReportedBy left said journal → (left : List (Option WorkerResult)) × AreReportedBy left reports coordinator
-same_said {reports} {said} {coordinator} {journal} same_reports same_journal run = (
+pub same_reports_of : {reports others : List Report} {coordinator journal : List Event} → reports ≡ others → coordinator ≡ journal →
+    (left : List (Option WorkerResult)) × AreReportedBy left others journal → (left : List (Option WorkerResult)) × AreReportedBy left reports coordinator
+same_reports_of {reports} {others} {coordinator} {journal} same_reports same_journal run = (
   run.0,
   subst (λ (rs : List Report). AreReportedBy run.0 rs coordinator) (sym same_reports)
-      (subst (λ (events : List Event). AreReportedBy run.0 said events) (sym same_journal) run.1),
+      (subst (λ (events : List Event). AreReportedBy run.0 others events) (sym same_journal) run.1),
 )
 
 -- the federation of an audit is the one that it was begun for

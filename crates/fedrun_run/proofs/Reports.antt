@@ -12,10 +12,10 @@ use Rattle.wires.proofs.Pushed.{get_pushed}
 use Rattle.fedrun_run.specs.Reported.{StationIsReplay, IsReportOf, AreReportsOf, AreReported}
 
 -- one desk more, with its report
-pub one_desk_more : {View Row : Type 0} (core : Core View Row) (hub : Bool) (Tells : View → Report → Type 0) (desks : List (Desk View)) (desk : Desk View) (reports after : List Report) (report : Report) (number : ℕ) →
-    after ≡ reports ++ report ∷ [] → number ≡ length reports → AreReportsOf core hub Tells desks reports → IsReportOf core hub Tells number desk report →
-    AreReportsOf core hub Tells (desks ++ desk ∷ []) after
-one_desk_more {View = View} core hub Tells desks desk reports after report number taken counted are is = subst (λ (rs : List Report). AreReportsOf core hub Tells (desks ++ desk ∷ []) rs) (sym taken) (record {
+pub one_desk_more : {View Row : Type 0} (core : Core View Row) (is_coordinator : Bool) (Tells : View → Report → Type 0) (desks : List (Desk View)) (desk : Desk View) (reports after : List Report) (report : Report) (number : ℕ) →
+    after ≡ reports ++ report ∷ [] → number ≡ length reports → AreReportsOf core is_coordinator Tells desks reports → IsReportOf core is_coordinator Tells number desk report →
+    AreReportsOf core is_coordinator Tells (desks ++ desk ∷ []) after
+one_desk_more {View = View} core is_coordinator Tells desks desk reports after report number taken counted are is = subst (λ (rs : List Report). AreReportsOf core is_coordinator Tells (desks ++ desk ∷ []) rs) (sym taken) (record {
   count = let a = length_push desks desk in let b = length_push reports report in let c = are.count in omega arith;
   each = λ j one its there here.
       elim (get_pushed desks desk one j there) [
@@ -27,9 +27,9 @@ one_desk_more {View = View} core hub Tells desks desk reports after report numbe
           | inl before ↦ let bad : ⊥ = omega (arith, slice_get_within reports j its before, end.0, are.count) in absurd bad
           | inr last ↦
               let same : number ≡ j = omega (arith, counted, last.0) in
-              subst (λ (r : Report). IsReportOf core hub Tells j one r) last.1
-              (subst (λ (d : Desk View). IsReportOf core hub Tells j d report) end.1
-              (subst (λ (k : ℕ). IsReportOf core hub Tells k desk report) same is))
+              subst (λ (r : Report). IsReportOf core is_coordinator Tells j one r) last.1
+              (subst (λ (d : Desk View). IsReportOf core is_coordinator Tells j d report) end.1
+              (subst (λ (k : ℕ). IsReportOf core is_coordinator Tells k desk report) same is))
         ]
       ];
 })
@@ -40,14 +40,14 @@ ok_and (Ok x) P Q follows p = follows x p
 ok_and (Err e) P Q follows p = p
 
 -- what the desks of a finished run say, of which it is known from what they were gathered
-pub reported_so : {OfCoordinator CoordinatorRow OfFederate FederateRow T E : Type 0} (core : Core OfCoordinator CoordinatorRow) (hub : Bool) (of_federates : Core OfFederate FederateRow) (federates_hub : Bool)
+pub reported_so : {OfCoordinator CoordinatorRow OfFederate FederateRow T E : Type 0} (core : Core OfCoordinator CoordinatorRow) (is_coordinator : Bool) (of_federates : Core OfFederate FederateRow) (federates_coordinate : Bool)
     (Tells : OfFederate → Report → Type 0) (items : T → List (Option WorkerResult)) (results : Result T E)
     (coordinator : Desk OfCoordinator) (federates : List (Desk OfFederate)) (reports : List Report) (journal : List Event) →
-    IsOkAnd results (λ left. AreGathered coordinator federates (items left)) → StationIsReplay core hub coordinator → core.finished coordinator.station.node ≡ true →
-    journal ≡ coordinator.journal → AreReportsOf of_federates federates_hub Tells federates reports →
-    IsOkAnd results (λ left. AreReported core hub of_federates federates_hub Tells (items left) reports journal)
-reported_so core hub of_federates federates_hub Tells items results coordinator federates reports journal gathered replayed finished from are =
-    ok_and results (λ left. AreGathered coordinator federates (items left)) (λ left. AreReported core hub of_federates federates_hub Tells (items left) reports journal)
+    IsOkAnd results (λ left. AreGathered coordinator federates (items left)) → StationIsReplay core is_coordinator coordinator → core.finished coordinator.station.node ≡ true →
+    journal ≡ coordinator.journal → AreReportsOf of_federates federates_coordinate Tells federates reports →
+    IsOkAnd results (λ left. AreReported core is_coordinator of_federates federates_coordinate Tells (items left) reports journal)
+reported_so core is_coordinator of_federates federates_coordinate Tells items results coordinator federates reports journal gathered replayed finished from are =
+    ok_and results (λ left. AreGathered coordinator federates (items left)) (λ left. AreReported core is_coordinator of_federates federates_coordinate Tells (items left) reports journal)
     (λ left p. record {
       coordinator = coordinator;
       federates = federates;

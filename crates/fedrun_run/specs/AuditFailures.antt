@@ -4,12 +4,13 @@ use Rattle.std.specs.Fmt.{decimal}
 use Rattle.plan.specs.declared.draft.Draft.{Draft}
 use Rattle.node.specs.declared.node_id.NodeId.{NodeId}
 use Rattle.node.specs.declared.node_id.NodeId.TheVariants.{Coordinator, Federate}
-use Rattle.fedrun_text.specs.PlanText.{federate_name}
+use Rattle.files_text.specs.PlanText.{federate_name}
 use Rattle.recorder_reports.specs.declared.unproved.Unproved.{Unproved}
 use Rattle.recorder_reports.specs.declared.unproved.Unproved.TheVariants as unproved
 use Rattle.recorder_reports.specs.Numbers as numbers
 use Rattle.fedrun_run.specs.declared.audit_failure.AuditFailure.{AuditFailure}
-use Rattle.fedrun_run.specs.declared.audit_failure.AuditFailure.TheVariants.{Stranger, Double, Missing, Stuck, Mismatch, Memory}
+use Rattle.fedrun_run.specs.declared.audit_failure.AuditFailure.TheVariants.{Stranger, Double, Missing, Stuck, Mismatch}
+use Rattle.fedrun_run.specs.declared.audit_failure.AuditFailure.TheVariants.{Memory}
 
 -- a node's name
 abbrev pub node_name : Draft → NodeId → List ℕ

@@ -11,10 +11,10 @@ use Rattle.reactor_program.specs.Behaviour.{Behaviour}
 use Rattle.plan_network.specs.Network.{network_of}
 use Rattle.node.specs.declared.event.Event.{Event}
 use Rattle.world_stations.specs.declared.step.Step.{Step}
-use Rattle.fedrun_text.specs.declared.row_format.RowFormat.{RowFormat}
-use Rattle.fedrun_text.specs.Formats.{heading, formatted_rows}
-use Rattle.fedrun_text.specs.PlanText.{printed_each}
-use Rattle.fedrun_record.specs.StepText.{printed_steps}
+use Rattle.files_text.specs.declared.row_format.RowFormat.{RowFormat}
+use Rattle.files_text.specs.Formats.{heading, formatted_rows}
+use Rattle.files_text.specs.PlanText.{printed_each}
+use Rattle.files_record.specs.StepText.{printed_steps}
 use Rattle.wires.specs.declared.job.WorkerResult.{WorkerResult}
 use Rattle.wires.specs.declared.run_fault.Cause.{Cause}
 use Rattle.wires.specs.declared.run_fault.Cause.TheVariants.{TurnsUsedUp}
@@ -52,23 +52,29 @@ abbrev pub IsTextOf : RunOutput → Draft → List Report → List ℕ → Type 
 IsTextOf (Rows format) d reports text = text ≡ printed_reports format d reports
 IsTextOf Steps d reports text = ⊥
 
--- a writer's bytes grew by what is printed of these reports, which an audit proved with this journal of the coordinator:
-pub record PrintsReports (output : RunOutput) (d : Draft) (programs : List Behaviour) (inputs : List Input) (reports : List Report) (coordinator : List Event) (before after : Option (List ℕ)) : Type 0 where
+-- a writer's bytes grew by what is printed of these reports, which an audit proved with this journal of the
+-- coordinator:
+pub record PrintsReports (output : RunOutput) (d : Draft) (programs : List Behaviour) (inputs : List Input)
+    (reports : List Report) (coordinator : List Event) (before after : Option (List ℕ)) : Type 0 where
   pub steps : List Step
-  -- these steps of the federation's world give each federate's journal and rows as it reports them, and the coordinator's journal
+  -- these steps of the federation's world give each federate's journal and rows as it reports them, and the
+  -- coordinator's journal
   pub proved : IsProvedBy (claim d programs inputs reports coordinator) steps
   -- that journal gives a finished coordinator
   pub finished : IsFinishedBy (claim d programs inputs reports coordinator)
-  -- so each federate's rows are rows of its part of what the undivided program computes, in their order, from the first on
+  -- so each federate's rows are rows of its part of what the undivided program computes, in their order, from the first
+  -- on
   pub prefix : (j : ℕ) → j < federate_count d →
       (turns : ℕ) × BeginsWith (part j (whole (network_of d programs inputs) turns)) (reported_rows reports j)
   -- and none of that part is missing
-  pub whole_part : (j : ℕ) → j < federate_count d → HasEveryRow (network_of d programs inputs) j (reported_rows reports j)
+  pub whole_part : (j : ℕ) → j < federate_count d
+      → HasEveryRow (network_of d programs inputs) j (reported_rows reports j)
   -- they are printed, federate by federate, or these very steps are
   pub printed : Appends before after (printed_run output d reports steps)
 
 -- the same of the reports and the coordinator's journal that a run's nodes gave, from what all its workers left
-pub record PrintsAudited (output : RunOutput) (d : Draft) (programs : List Behaviour) (inputs : List Input) (before after : Option (List ℕ)) : Type 0 where
+pub record PrintsAudited (output : RunOutput) (d : Draft) (programs : List Behaviour) (inputs : List Input)
+    (before after : Option (List ℕ)) : Type 0 where
   pub left : List (Option WorkerResult)
   pub reports : List Report
   pub coordinator : List Event
@@ -76,13 +82,15 @@ pub record PrintsAudited (output : RunOutput) (d : Draft) (programs : List Behav
   pub prints : PrintsReports output d programs inputs reports coordinator before after
 
 -- an audit doesn't believe these reports with this journal of the coordinator, and answers this failure
-pub record IsAuditFailureOf (d : Draft) (programs : List Behaviour) (inputs : List Input) (reports : List Report) (coordinator : List Event) (failure : AuditFailure) : Type 0 where
+pub record IsAuditFailureOf (d : Draft) (programs : List Behaviour) (inputs : List Input) (reports : List Report)
+    (coordinator : List Event) (failure : AuditFailure) : Type 0 where
   pub fault : Unproved
   pub unproved : IsUnproved (claim d programs inputs reports coordinator) fault
   pub answered : IsFailureOf d fault failure
 
 -- the same of the reports and the coordinator's journal that a run's nodes gave, from what all its workers left
-pub record IsAuditFailure (d : Draft) (programs : List Behaviour) (inputs : List Input) (failure : AuditFailure) : Type 0 where
+pub record IsAuditFailure (d : Draft) (programs : List Behaviour) (inputs : List Input)
+    (failure : AuditFailure) : Type 0 where
   pub left : List (Option WorkerResult)
   pub reports : List Report
   pub coordinator : List Event
@@ -90,16 +98,19 @@ pub record IsAuditFailure (d : Draft) (programs : List Behaviour) (inputs : List
   pub fails : IsAuditFailureOf d programs inputs reports coordinator failure
 
 -- these reports are proved, and this journal doesn't give a finished coordinator
-pub record IsUnfinished (d : Draft) (programs : List Behaviour) (inputs : List Input) (reports : List Report) (coordinator : List Event) : Type 0 where
+pub record IsUnfinished (d : Draft) (programs : List Behaviour) (inputs : List Input) (reports : List Report)
+    (coordinator : List Event) : Type 0 where
   pub steps : List Step
   pub proved : IsProvedBy (claim d programs inputs reports coordinator) steps
   pub unfinished : ¬ IsFinishedBy (claim d programs inputs reports coordinator)
 
--- why nothing is printed of these reports, with this journal of the coordinator, or not all of it. Of the output nothing is
--- said; an audit that is out of memory is among its failures
+-- why nothing is printed of these reports, with this journal of the coordinator, or not all of it. Of the output
+-- nothing is said; an audit that is out of memory is among its failures
 abbrev pub IsAuditedFaultOf : Draft → List Behaviour → List Input → List Report → List Event → AuditedFault → Type 0
-IsAuditedFaultOf d programs inputs reports coordinator (fault.Unproved failure) = IsAuditFailureOf d programs inputs reports coordinator failure
-IsAuditedFaultOf d programs inputs reports coordinator (fault.NotFinished cause) = (cause ≡ TurnsUsedUp) × IsUnfinished d programs inputs reports coordinator
+IsAuditedFaultOf d programs inputs reports coordinator (fault.Unproved failure) =
+    IsAuditFailureOf d programs inputs reports coordinator failure
+IsAuditedFaultOf d programs inputs reports coordinator (fault.NotFinished cause) =
+    (cause ≡ TurnsUsedUp) × IsUnfinished d programs inputs reports coordinator
 IsAuditedFaultOf d programs inputs reports coordinator fault.Memory = ⊥
 IsAuditedFaultOf d programs inputs reports coordinator fault.CannotWrite = Unit {0}
 

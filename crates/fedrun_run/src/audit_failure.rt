@@ -1,5 +1,5 @@
 ghost use Rattle.std.specs.Prelude.{◌≡◌, IfOk};
-ghost use Rattle.fedrun_text.specs.PlanText.{federate_name};
+ghost use Rattle.files_text.specs.PlanText.{federate_name};
 ghost use Rattle.fedrun_run.specs.AuditFailures.{node_name, failure_of, number_of, IsFailureOf};
 
 use node::NodeId;
@@ -19,11 +19,12 @@ pub enum AuditFailure {
     Double,
     /// The federate of this name has no report.
     Missing(Text),
-    /// No further event of any journal can be placed: this node's journal isn't used up, and this is its next event, counted from
+    /// No further event of any journal can be placed: this node's journal isn't used up, and this is its next event,
+    /// counted from
     /// 1. The node is `coordinator`, or a federate by its name.
     Stuck { node: Text, event: usize },
-    /// The journals agree, but the rows of the federate of this name aren't what it computed: the first place, counted from 1, at
-    /// which they differ.
+    /// The journals agree, but the rows of the federate of this name aren't what it computed: the first place, counted
+    /// from 1, at which they differ.
     Mismatch { federate: Text, row: usize },
     /// No memory for the audit, or for the name that is to be printed. The same run may be made again.
     Memory,

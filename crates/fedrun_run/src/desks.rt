@@ -36,7 +36,8 @@ pub fn federate_desks<'a>(
 ) -> Result<Vec<Desk<Federate<'a>>>, Memory>
     requires programs { AreProgramsOf plan.now programs.now }
     requires inputs { AreInputsOf plan.now inputs.now }
-    ensures initial { IfOk result (λ desks. desks.items ≡ unused_federates plan.now programs.now inputs.now (federate_count plan.now)) }
+    ensures initial { IfOk result (λ desks. desks.items
+        ≡ unused_federates plan.now programs.now inputs.now (federate_count plan.now)) }
     ensures each { IfOk result (λ desks. vec_len desks ≡ federate_count plan.now) }
 {
     let mut desks = Vec::new(alloc);

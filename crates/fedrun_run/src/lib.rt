@@ -1,9 +1,10 @@
 //! A federation run in threads, and once it is audited its rows printed, or the steps of the audit as a schedule file.
 //!
-//! Promise to the layer above: something is printed only of reports that an audit proved, and whose coordinator is finished: so the
-//! rows are each federate's whole part of what the undivided program computes, and the steps give them (`specs/Printed`). What is
-//! audited, believed or not, is what the nodes' own desks say: these are gathered from what all workers of a run left, and each one's
-//! station is the replay of its journal (`specs/Reported`). That it is the run just made isn't said.
+//! Promise to the layer above: something is printed only of reports that an audit proved, and whose coordinator is
+//! finished: so the rows are each federate's whole part of what the undivided program computes, and the steps give them
+//! (`specs/Printed`). What is audited, believed or not, is what the nodes' own desks say: these are gathered from what
+//! all workers of a run left, and each one's station is the replay of its journal (`specs/Reported`). That it is the
+//! run just made isn't said.
 //!
 //!     print_audited_run --> desks            a desk for each node
 //!                       --> wires            all nodes in threads, over TCP on loopback

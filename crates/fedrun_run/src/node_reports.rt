@@ -11,8 +11,8 @@ use crate::printing::text_of;
 use crate::reporting::Reporting;
 use crate::{AuditedFault, RunOutput};
 use desk::Desk;
-use journal::Journal;
 use node::Node;
+use node_journal::Journal;
 use plan::Plan;
 use recorder_reports::{Collector, Report, ReportFault};
 use std::alloc::Global;
@@ -29,8 +29,8 @@ pub(crate) struct NodeReports<'a> {
     pub text: Option<Vec<u8>>,
 }
 
-/// What all nodes say, when all their workers have ended, from what these leave. That a run isn't finished comes before anything
-/// of a report. Their rows are written as text.
+/// What all nodes say, when all their workers have ended, from what these leave. That a run isn't finished comes before
+/// anything of a report. Their rows are written as text.
 pub(crate) fn reports_by<'a, H: Node, M: Reporting>(
     alloc: Global,
     plan: &'a Plan,
@@ -39,8 +39,12 @@ pub(crate) fn reports_by<'a, H: Node, M: Reporting>(
     output: RunOutput,
 ) -> Result<NodeReports<'a>, AuditedFault>
     requires each { length nodes.federates.items ≡ federate_count plan.now }
-    ensures ok { IfOk result (λ said. IsOkAnd results (λ left. AreReported H.core H.HUB M.core M.HUB M.tells left.items said.reports.reports said.coordinator)) }
-    ensures text { IfOk result (λ said. IfSome said.text (λ text. IsTextOf output plan.now said.reports.reports text.items)) }
+    ensures ok { IfOk result (λ said.
+        IsOkAnd results (λ left. AreReported H.core H.IS_COORDINATOR M.core M.IS_COORDINATOR M.tells left.items
+        said.reports.reports
+        said.coordinator)) }
+    ensures text { IfOk result (λ said.
+        IfSome said.text (λ text. IsTextOf output plan.now said.reports.reports text.items)) }
     ensures fault { IfErr result IsOfTheRun }
 {
     let gathered = finished(gathered(alloc, nodes, results))?;
@@ -63,7 +67,8 @@ fn gathered<H: Node, M: Node>(
     results: Result<Vec<Option<WorkerResult>>, RunFault>,
 ) -> Result<Gathered<H, M>, RunFault>
     ensures each { IfOk result (λ gathered. length gathered.federates.items ≡ length nodes.federates.items) }
-    ensures shares { IfOk result (λ gathered. IsOkAnd results (λ left. AreGathered gathered.coordinator gathered.federates.items left.items)) }
+    ensures shares { IfOk result (λ gathered.
+        IsOkAnd results (λ left. AreGathered gathered.coordinator gathered.federates.items left.items)) }
     ensures run { IfErr results (λ why. result ≡ Err why) }
 {
     match results {
@@ -78,7 +83,9 @@ fn finished<H: Node, M: Node>(
 ) -> Result<Gathered<H, M>, AuditedFault>
     ensures same { IfOk result (λ desks. gathered ≡ Ok desks) }
     ensures finished { IfOk result (λ desks. H.core.finished desks.coordinator.station.node ≡ true) }
-    ensures unfinished { IfErr result (λ fault. IfOk gathered (λ desks. (H.core.finished desks.coordinator.station.node ≡ false) × (fault ≡ AuditedFault.NotFinished TurnsUsedUp))) }
+    ensures unfinished { IfErr result
+        (λ fault. IfOk gathered (λ desks. (H.core.finished desks.coordinator.station.node ≡ false)
+        × (fault ≡ AuditedFault.NotFinished TurnsUsedUp))) }
     ensures fault { IfErr result (λ fault. IfErr gathered (λ why. fault ≡ fault_of_run why)) }
 {
     match gathered {
@@ -110,7 +117,7 @@ fn reports_of<'a, M: Reporting>(
     desks: Vec<Desk<M>>,
 ) -> Result<Collector<'a>, ReportFault>
     requires each { length desks.items ≡ federate_count plan.now }
-    ensures ok { IfOk result (λ collected. AreReportsOf M.core M.HUB M.tells desks.items collected.reports) }
+    ensures ok { IfOk result (λ collected. AreReportsOf M.core M.IS_COORDINATOR M.tells desks.items collected.reports) }
     ensures memory { IfErr result (λ fault. fault ≡ ReportFault.Memory) }
 {
     let mut reports = Collector::new(alloc, plan);
@@ -136,7 +143,7 @@ fn add(reports: &mut Collector<'_>, report: Report) -> Result<(), ReportFault>
 
 // What a federate's desk says: the node's rows, and the journal.
 fn report<M: Reporting>(federate: usize, desk: Desk<M>) -> Report
-    ensures { IsReportOf M.core M.HUB M.tells federate desk result }
+    ensures { IsReportOf M.core M.IS_COORDINATOR M.tells federate desk result }
 {
     let (station, journal) = desk.into_parts();
     station.into_node().report(federate, journal)

@@ -1,4 +1,4 @@
-use fedrun_text::RowFormat;
+use files_text::RowFormat;
 
 /// What is printed of a run that an audit proved.
 #[derive(Clone, Copy, Debug, PartialEq, Eq)]

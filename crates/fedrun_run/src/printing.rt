@@ -1,16 +1,16 @@
 ghost use Rattle.std.specs.Prelude.{◌≡◌, ◌≢◌, ◌∷◌, [], OnOk, IfErr, IfSome};
 ghost use Rattle.std.specs.Io.KnownBytes.{Appends};
-ghost use Rattle.fedrun_text.specs.Formats.{formatted_rows};
+ghost use Rattle.files_text.specs.Formats.{formatted_rows};
 ghost use Rattle.recorder_reports.specs.Reports.{reported_rows};
-ghost use Rattle.fedrun_record.specs.StepText.{printed_steps};
+ghost use Rattle.files_record.specs.StepText.{printed_steps};
 ghost use Rattle.fedrun_run.specs.Printed.{PrintsReports, IsAuditedFaultOf, IsTextOf, printed_reports, printed_run};
 
 use crate::audit_failure::AuditFailure;
 use crate::fault::AuditedFault;
 use crate::output::RunOutput;
-use fedrun_record::write_steps;
-use fedrun_text::{CannotWrite, RowFormat, write_heading, write_rows};
-use journal::Journal;
+use files_record::write_steps;
+use files_text::{CannotWrite, RowFormat, write_heading, write_rows};
+use node_journal::Journal;
 use plan::Plan;
 use recorder::IncrementalAudit;
 use recorder_reports::{Report, report_of};
@@ -19,8 +19,8 @@ use std::io::Write;
 use wires::Cause;
 use world_stations::{MadeSteps, Step};
 
-/// Ends the audit with these reports and the coordinator's journal, and where they are proved and the coordinator is finished, prints
-/// their rows, federate by federate, or the steps that prove them. The caller flushes.
+/// Ends the audit with these reports and the coordinator's journal, and where they are proved and the coordinator is
+/// finished, prints their rows, federate by federate, or the steps that prove them. The caller flushes.
 pub fn print_audited<O: Write>(
     alloc: Global,
     plan: &Plan,
@@ -31,9 +31,12 @@ pub fn print_audited<O: Write>(
     out: &mut O,
 ) -> Result<(), AuditedFault>
     requires plan { audit.draft ≡ plan.now }
-    ensures ok { OnOk result (PrintsReports output plan.now audit.entry.programs audit.entry.inputs reports.now coordinator.now (O.contents out.old) (O.contents out.new)) }
-    ensures fault { IfErr result (IsAuditedFaultOf plan.now audit.entry.programs audit.entry.inputs reports.now coordinator.now) }
-    ensures untouched { IfErr result (λ fault. fault ≢ AuditedFault.CannotWrite → O.contents out.new ≡ O.contents out.old) }
+    ensures ok { OnOk result (PrintsReports output plan.now audit.entry.programs audit.entry.inputs reports.now
+        coordinator.now (O.contents out.old) (O.contents out.new)) }
+    ensures fault { IfErr result (IsAuditedFaultOf plan.now audit.entry.programs audit.entry.inputs reports.now
+        coordinator.now) }
+    ensures untouched { IfErr result
+        (λ fault. fault ≢ AuditedFault.CannotWrite → O.contents out.new ≡ O.contents out.old) }
 {
     print_audited_text(alloc, plan, audit, reports, coordinator, output, None, out)
 }
@@ -51,9 +54,12 @@ pub(crate) fn print_audited_text<O: Write>(
 ) -> Result<(), AuditedFault>
     requires plan { audit.draft ≡ plan.now }
     requires text { IfSome text (λ text. IsTextOf output plan.now reports.now text.now) }
-    ensures ok { OnOk result (PrintsReports output plan.now audit.entry.programs audit.entry.inputs reports.now coordinator.now (O.contents out.old) (O.contents out.new)) }
-    ensures fault { IfErr result (IsAuditedFaultOf plan.now audit.entry.programs audit.entry.inputs reports.now coordinator.now) }
-    ensures untouched { IfErr result (λ fault. fault ≢ AuditedFault.CannotWrite → O.contents out.new ≡ O.contents out.old) }
+    ensures ok { OnOk result (PrintsReports output plan.now audit.entry.programs audit.entry.inputs reports.now
+        coordinator.now (O.contents out.old) (O.contents out.new)) }
+    ensures fault { IfErr result (IsAuditedFaultOf plan.now audit.entry.programs audit.entry.inputs reports.now
+        coordinator.now) }
+    ensures untouched { IfErr result
+        (λ fault. fault ≢ AuditedFault.CannotWrite → O.contents out.new ≡ O.contents out.old) }
 {
     match audit.conclude(alloc, reports, coordinator) {
         Ok(audited) if audited.is_finished => {
@@ -66,8 +72,8 @@ pub(crate) fn print_audited_text<O: Write>(
     }
 }
 
-// The rows of reports as they are printed, before it is known whether they are proved: none where steps are printed, or there is no memory
-// for them.
+// The rows of reports as they are printed, before it is known whether they are proved: none where steps are printed, or
+// there is no memory for them.
 pub(crate) fn text_of(
     alloc: Global,
     plan: &Plan,
@@ -96,7 +102,8 @@ fn print_run<O: Write>(
     text: Option<&[u8]>,
 ) -> Result<(), CannotWrite>
     requires text { IfSome text (λ text. IsTextOf output plan.now reports.now text.now) }
-    ensures { OnOk result (Appends (O.contents out.old) (O.contents out.new) (printed_run output plan.now reports.now steps.now.steps)) }
+    ensures { OnOk result (Appends (O.contents out.old) (O.contents out.new)
+        (printed_run output plan.now reports.now steps.now.steps)) }
 {
     match (output, text) {
         (RunOutput::Rows(_), Some(text)) => print_text(out, text),
@@ -144,7 +151,8 @@ fn print_reports<O: Write>(
     reports: &[Report],
     format: RowFormat,
 ) -> Result<(), CannotWrite>
-    ensures { OnOk result (Appends (O.contents out.old) (O.contents out.new) (printed_reports format plan.now reports.now)) }
+    ensures { OnOk result (Appends (O.contents out.old) (O.contents out.new)
+        (printed_reports format plan.now reports.now)) }
 {
     write_heading(out, format)?;
     for federate in 0..plan.federate_count() {
@@ -161,7 +169,8 @@ fn print_report<O: Write>(
     federate: usize,
     format: RowFormat,
 ) -> Result<(), CannotWrite>
-    ensures { OnOk result (Appends (O.contents out.old) (O.contents out.new) (formatted_rows format plan.now.federates (reported_rows reports.now federate))) }
+    ensures { OnOk result (Appends (O.contents out.old) (O.contents out.new)
+        (formatted_rows format plan.now.federates (reported_rows reports.now federate))) }
 {
     match report_of(reports, federate) {
         Some(report) => write_rows(out, plan, &report.rows, format),

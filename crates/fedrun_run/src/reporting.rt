@@ -2,8 +2,8 @@ ghost use Rattle.std.specs.Prelude.{◌≡◌};
 ghost use Rattle.recorder_reports.specs.declared.report.Report.{Report as IsReport};
 
 use federate::Federate;
-use journal::Journal;
 use node::Node;
+use node_journal::Journal;
 use recorder_reports::Report;
 
 /// A node that reports what it computed.

@@ -28,9 +28,9 @@ use std::time::Clock;
 use wires::{Nodes, RunFault, Terms, WorkerResult, run_over_tcp};
 use wires_workers::NoGate;
 
-/// Runs the federation in threads over TCP on loopback until the coordinator is finished or a federate's turns are made,
-/// audits what its nodes wrote down, and prints each federate's rows, federate by federate, or the steps that prove them. The caller
-/// flushes. That a run isn't finished comes before any failure of the audit.
+/// Runs the federation in threads over TCP on loopback until the coordinator is finished or a federate's turns are
+/// made, audits what its nodes wrote down, and prints each federate's rows, federate by federate, or the steps that
+/// prove them. The caller flushes. That a run isn't finished comes before any failure of the audit.
 pub fn print_audited_run<
     R: Threads + Wait + Clock + Net<Stream = TcpStream, Listener = TcpListener> + Sync,
     O: Write,
@@ -48,9 +48,11 @@ pub fn print_audited_run<
 ) -> Result<(), AuditedFault>
     requires programs { AreProgramsOf plan.now programs.now }
     requires inputs { AreInputsOf plan.now inputs.now }
-    ensures ok { OnOk result (PrintsAudited output plan.now programs.now inputs.now (O.contents out.old) (O.contents out.new)) }
+    ensures ok { OnOk result (PrintsAudited output plan.now programs.now inputs.now (O.contents out.old)
+        (O.contents out.new)) }
     ensures fault { IfErr result (IsAuditedFault plan.now programs.now inputs.now) }
-    ensures untouched { IfErr result (λ fault. fault ≢ AuditedFault.CannotWrite → O.contents out.new ≡ O.contents out.old) }
+    ensures untouched { IfErr result
+        (λ fault. fault ≢ AuditedFault.CannotWrite → O.contents out.new ≡ O.contents out.old) }
 {
     progress.until(plan.stop_time());
     let Ok(audit) = IncrementalAudit::new(alloc, plan, programs, inputs) else {
@@ -93,8 +95,11 @@ fn run_and_ask<
 ) -> (IncrementalAudit<'a>, Result<NodeReports<'a>, AuditedFault>)
     requires each { length nodes.federates.items ≡ federate_count plan.now }
     ensures audit { result.0 ≡ audit.entry }
-    ensures reported { IfOk result.1 (λ said. (left : List (Option IsLeft)) × AreReported H.core H.HUB M.core M.HUB M.tells left said.reports.reports said.coordinator) }
-    ensures text { IfOk result.1 (λ said. IfSome said.text (λ text. IsTextOf output plan.now said.reports.reports text.items)) }
+    ensures reported { IfOk result.1
+        (λ said. (left : List (Option IsLeft))
+        × AreReported H.core H.IS_COORDINATOR M.core M.IS_COORDINATOR M.tells left said.reports.reports said.coordinator) }
+    ensures text { IfOk result.1 (λ said.
+        IfSome said.text (λ text. IsTextOf output plan.now said.reports.reports text.items)) }
     ensures fault { IfErr result.1 IsOfTheRun }
 {
     let (audit, results) = run_watched(rt, alloc, &nodes, audit, terms, progress);
@@ -142,8 +147,11 @@ fn take_apart<'a, R: Threads + Sync, H: Node + Send, M: Reporting + Send>(
 ) -> (IncrementalAudit<'a>, Result<NodeReports<'a>, AuditedFault>)
     requires each { length nodes.federates.items ≡ federate_count plan.now }
     ensures audit { result.0 ≡ audit.entry }
-    ensures reported { IfOk result.1 (λ said. IsOkAnd results (λ left. AreReported H.core H.HUB M.core M.HUB M.tells left.items said.reports.reports said.coordinator)) }
-    ensures text { IfOk result.1 (λ said. IfSome said.text (λ text. IsTextOf output plan.now said.reports.reports text.items)) }
+    ensures reported { IfOk result.1
+        (λ said. IsOkAnd results (λ left.
+        AreReported H.core H.IS_COORDINATOR M.core M.IS_COORDINATOR M.tells left.items said.reports.reports said.coordinator)) }
+    ensures text { IfOk result.1 (λ said.
+        IfSome said.text (λ text. IsTextOf output plan.now said.reports.reports text.items)) }
     ensures fault { IfErr result.1 IsOfTheRun }
 {
     thread::join(
@@ -156,8 +164,11 @@ fn take_apart<'a, R: Threads + Sync, H: Node + Send, M: Reporting + Send>(
         },
         ||
             requires { length nodes.federates.items ≡ federate_count plan.now }
-            ensures reported { IfOk result (λ said. IsOkAnd results (λ left. AreReported H.core H.HUB M.core M.HUB M.tells left.items said.reports.reports said.coordinator)) }
-            ensures text { IfOk result (λ said. IfSome said.text (λ text. IsTextOf output plan.entry.now said.reports.reports text.items)) }
+            ensures reported { IfOk result
+                (λ said. IsOkAnd results (λ left.
+                AreReported H.core H.IS_COORDINATOR M.core M.IS_COORDINATOR M.tells left.items said.reports.reports said.coordinator)) }
+            ensures text { IfOk result (λ said.
+                IfSome said.text (λ text. IsTextOf output plan.entry.now said.reports.reports text.items)) }
             ensures fault { IfErr result IsOfTheRun }
         { reports_by(alloc, plan, nodes, results, output) },
     )

@@ -11,8 +11,8 @@ use Rattle.plan.specs.declared.draft.Draft.{Draft}
 use Rattle.plan.specs.declared.input.Input.{Input}
 use Rattle.reactor_program.specs.Behaviour.{Behaviour}
 use Rattle.whole.specs.Progress.{Progress, network_in, all_rows_in, rows_in, later_by}
-use Rattle.fedrun_text.specs.declared.row_format.RowFormat.{RowFormat}
-use Rattle.fedrun_text.specs.Formats.{heading, formatted_row, formatted_rows}
+use Rattle.files_text.specs.declared.row_format.RowFormat.{RowFormat}
+use Rattle.files_text.specs.Formats.{heading, formatted_row, formatted_rows}
 use Rattle.fedrun_whole.specs.PrintedTurns.{PrintsFirstRows, IsPrinted, let_go_after}
 
 -- some turns are made, whatever the answer

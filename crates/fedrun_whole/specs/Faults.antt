@@ -1,4 +1,5 @@
--- The faults of a program that has `whole` and `check` alone: the exit status that goes with each, and how it is printed.
+-- The faults of a program that has `whole` and `check` alone: the exit status that goes with each, and how it is
+-- printed.
 use Rattle.std.specs.Prelude.{ℕ, List}
 use Rattle.fedrun_fault.specs.Faults as every
 use Rattle.fedrun_fault.specs.Usage.{usage_status, usage_text}

@@ -13,10 +13,10 @@ use fedrun_progress::Progress;
 use std::alloc::Global;
 use std::io::Write;
 
-/// Does what the words ask for, over these files, and answers the exit status: 0 where it is done, 1 where what it was given
-/// is refused or can't be read, 2 where the words are no command of the program, 3 where it couldn't finish. What it has to say
-/// of a failure is one line to `err`: what `err` gains is a prefix of that line, and `answer` says whether it is all of it; what
-/// `err` refuses changes nothing else.
+/// Does what the words ask for, over these files, and answers the exit status: 0 where it is done, 1 where what it was
+/// given is refused or can't be read, 2 where the words are no command of the program, 3 where it couldn't finish. What
+/// it has to say of a failure is one line to `err`: what `err` gains is a prefix of that line, and `answer` says
+/// whether it is all of it; what `err` refuses changes nothing else.
 pub fn command<F: Files, O: Write, E: Write, P: Progress>(
     alloc: Global,
     words: &[String],
@@ -27,7 +27,9 @@ pub fn command<F: Files, O: Write, E: Write, P: Progress>(
 ) -> u8
     ensures done { result ≡ 0 → PrintsAlone (F.contents files.old) (O.contents out.old) (O.contents out.new) }
     ensures quiet { result ≡ 0 → err.new ≡ err.old }
-    ensures printed { result ≢ 0 → PrintsFault (StandsAlone (F.contents files.old) (Answers (F.answers files.old) (F.answers files.new)) (O.contents out.old) (O.contents out.new)) status_of printed_fault result (AppendsPrefix (E.contents err.old) (E.contents err.new)) }
+    ensures printed { result ≢ 0 → PrintsFault
+        (StandsAlone (F.contents files.old) (Answers (F.answers files.old) (F.answers files.new)) (O.contents out.old)
+        (O.contents out.new)) status_of printed_fault result (AppendsPrefix (E.contents err.old) (E.contents err.new)) }
     ensures untouched { result ≡ 1 → out.new ≡ out.old }
     ensures unused { result ≡ 2 → out.new ≡ out.old }
     ensures statuses { result ≤ 3 }
@@ -46,7 +48,10 @@ pub fn answer<F: Files, O: Write, E: Write, P: Progress>(
 ) -> Answered
     ensures done { result.status ≡ 0 → PrintsAlone (F.contents files.old) (O.contents out.old) (O.contents out.new) }
     ensures quiet { result.status ≡ 0 → err.new ≡ err.old }
-    ensures printed { result.status ≢ 0 → PrintsFault (StandsAlone (F.contents files.old) (Answers (F.answers files.old) (F.answers files.new)) (O.contents out.old) (O.contents out.new)) status_of printed_fault result.status (AppendsPrinted result.is_printed (E.contents err.old) (E.contents err.new)) }
+    ensures printed { result.status ≢ 0
+        → PrintsFault (StandsAlone (F.contents files.old) (Answers (F.answers files.old) (F.answers files.new))
+        (O.contents out.old) (O.contents out.new)) status_of printed_fault result.status
+        (AppendsPrinted result.is_printed (E.contents err.old) (E.contents err.new)) }
     ensures untouched { result.status ≡ 1 → out.new ≡ out.old }
     ensures unused { result.status ≡ 2 → out.new ≡ out.old }
     ensures statuses { result.status ≤ 3 }

@@ -11,8 +11,8 @@ use crate::turns::print_turns;
 use fedrun_fault::{Fault, MoreFault, NoSuchCommand};
 use fedrun_files::{Files, read_federation, read_sources};
 use fedrun_progress::Progress;
-use fedrun_text::RowFormat;
 use fedrun_words::{Request, read_words};
+use files_text::RowFormat;
 use std::alloc::Global;
 use std::io::Write;
 
@@ -26,7 +26,8 @@ pub(crate) fn perform<'a, F: Files, O: Write, P: Progress>(
     progress: &P,
 ) -> Result<(), Fault<'a, NoSuchCommand>>
     ensures ok { OnOk result (PrintsAlone (F.contents files.old) (O.contents out.old) (O.contents out.new)) }
-    ensures stands { IfErr result (StandsAlone (F.contents files.old) (Answers (F.answers files.old) (F.answers files.new)) (O.contents out.old) (O.contents out.new)) }
+    ensures stands { IfErr result (StandsAlone (F.contents files.old)
+        (Answers (F.answers files.old) (F.answers files.new)) (O.contents out.old) (O.contents out.new)) }
     ensures untouched { IfErr result (λ fault. alone.status_of fault ≢ 3 → out.new ≡ out.old) }
 {
     match read_words(alloc, words) {
@@ -45,7 +46,8 @@ fn fulfil<'a, F: Files, O: Write, P: Progress>(
     progress: &P,
 ) -> Result<(), Fault<'a, NoSuchCommand>>
     ensures ok { OnOk result (PrintsAlone (F.contents files.old) (O.contents out.old) (O.contents out.new)) }
-    ensures stands { IfErr result (StandsAlone (F.contents files.old) (Answers (F.answers files.old) (F.answers files.new)) (O.contents out.old) (O.contents out.new)) }
+    ensures stands { IfErr result (StandsAlone (F.contents files.old)
+        (Answers (F.answers files.old) (F.answers files.new)) (O.contents out.old) (O.contents out.new)) }
     ensures untouched { IfErr result (λ fault. alone.status_of fault ≢ 3 → out.new ≡ out.old) }
 {
     match *request {
@@ -62,7 +64,7 @@ fn fulfil<'a, F: Files, O: Write, P: Progress>(
     }
 }
 
-/// Prints the rows of the undivided program after at most so many turns, in this format.
+/// Prints the rows of the undivided program after at most this many turns, in this format.
 pub fn whole<'a, M: MoreFault, F: Files, O: Write, P: Progress>(
     alloc: Global,
     federation: &'a str,
@@ -73,8 +75,11 @@ pub fn whole<'a, M: MoreFault, F: Files, O: Write, P: Progress>(
     out: &mut O,
     progress: &P,
 ) -> Result<(), Fault<'a, M>>
-    ensures ok { OnOk result (PrintsWhole (F.contents files.old) federation.entry.now inputs.entry.now turns format (O.contents out.old) (O.contents out.new)) }
-    ensures stands { IfErr result (IsWholeFault (F.contents files.old) (Answers (F.answers files.old) (F.answers files.new)) (O.contents out.old) (O.contents out.new) federation.entry inputs.entry turns format) }
+    ensures ok { OnOk result (PrintsWhole (F.contents files.old) federation.entry.now inputs.entry.now turns format
+        (O.contents out.old) (O.contents out.new)) }
+    ensures stands { IfErr result (IsWholeFault (F.contents files.old)
+        (Answers (F.answers files.old) (F.answers files.new)) (O.contents out.old) (O.contents out.new) federation.entry
+        inputs.entry turns format) }
     ensures untouched { IfErr result (λ fault. status_of M.status_of fault ≢ 3 → out.new ≡ out.old) }
 {
     match read_sources(alloc, federation, inputs, files) {
@@ -99,8 +104,11 @@ pub fn check<'a, M: MoreFault, F: Files, O: Write>(
     files: &mut F,
     out: &mut O,
 ) -> Result<(), Fault<'a, M>>
-    ensures ok { OnOk result (PrintsPlan (F.contents files.old federation.entry.now) (O.contents out.old) (O.contents out.new)) }
-    ensures stands { IfErr result (IsCheckFault (F.contents files.old) (Answers (F.answers files.old) (F.answers files.new)) (O.contents out.old) (O.contents out.new) federation.entry) }
+    ensures ok { OnOk result (PrintsPlan (F.contents files.old federation.entry.now) (O.contents out.old)
+        (O.contents out.new)) }
+    ensures stands { IfErr result (IsCheckFault (F.contents files.old)
+        (Answers (F.answers files.old) (F.answers files.new)) (O.contents out.old) (O.contents out.new)
+        federation.entry) }
     ensures untouched { IfErr result (λ fault. status_of M.status_of fault ≢ 3 → out.new ≡ out.old) }
 {
     match read_federation(alloc, federation, files) {

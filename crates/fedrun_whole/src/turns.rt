@@ -3,14 +3,14 @@ ghost use Rattle.std.specs.Io.KnownBytes.{Appends};
 ghost use Rattle.plan.specs.External.{AreInputsOf};
 ghost use Rattle.reactor_programs.specs.Programs.{AreProgramsOf};
 ghost use Rattle.whole.specs.Progress.{pending_in};
-ghost use Rattle.fedrun_text.specs.Formats.{heading};
+ghost use Rattle.files_text.specs.Formats.{heading};
 ghost use Rattle.fedrun_fault.specs.Faults.{status_of};
 ghost use Rattle.fedrun_whole.specs.PrintedTurns.{PrintsRows, PrintsFirstRows, IsPrinted, let_go_after};
 ghost use Rattle.fedrun_whole.specs.Refused.{IsTurnsFault};
 
 use fedrun_fault::{Fault, MoreFault};
 use fedrun_progress::Progress;
-use fedrun_text::{CannotWrite, RowFormat, write_heading, write_rows};
+use files_text::{CannotWrite, RowFormat, write_heading, write_rows};
 use plan::{Inputs, Plan};
 use reactor::Rows;
 use reactor_programs::Programs;
@@ -21,8 +21,8 @@ use whole::Whole;
 /// Of how many turns the rows are kept before they are written.
 const TURNS_AT_ONCE: u32 = 1024;
 
-/// Prints the rows of the undivided program after at most so many turns, in this format, as they are made. Where there is no
-/// memory for a turn, the rows before it are written.
+/// Prints the rows of the undivided program after at most this many turns, in this format, as they are made. Where
+/// there is no memory for a turn, the rows before it are written.
 pub fn print_turns<M: MoreFault, O: Write, P: Progress>(
     alloc: Global,
     plan: &Plan,
@@ -35,8 +35,10 @@ pub fn print_turns<M: MoreFault, O: Write, P: Progress>(
 ) -> Result<(), Fault<'static, M>>
     requires programs { AreProgramsOf plan.now programs.now }
     requires inputs { AreInputsOf plan.now inputs.now }
-    ensures ok { OnOk result (PrintsRows plan.now programs.now inputs.now turns format (O.contents out.old) (O.contents out.new)) }
-    ensures stands { IfErr result (IsTurnsFault plan.now programs.now inputs.now turns format (O.contents out.old) (O.contents out.new)) }
+    ensures ok { OnOk result (PrintsRows plan.now programs.now inputs.now turns format (O.contents out.old)
+        (O.contents out.new)) }
+    ensures stands { IfErr result (IsTurnsFault plan.now programs.now inputs.now turns format (O.contents out.old)
+        (O.contents out.new)) }
     ensures late { IfErr result (λ fault. status_of M.status_of fault ≡ 3) }
 {
     progress.until(plan.stop_time());
@@ -52,7 +54,7 @@ pub fn print_turns<M: MoreFault, O: Write, P: Progress>(
     }
 }
 
-/// Makes at most so many turns, or as many as there is memory for, and prints their rows under their heading.
+/// Makes at most this many turns, or as many as there is memory for, and prints their rows under their heading.
 fn print_all<O: Write, P: Progress>(
     alloc: Global,
     plan: &Plan,
@@ -65,8 +67,12 @@ fn print_all<O: Write, P: Progress>(
 ) -> Result<Result<(), reactor::Memory>, CannotWrite>
     requires programs { AreProgramsOf plan.now programs.now }
     requires inputs { AreInputsOf plan.now inputs.now }
-    ensures ok { IfOk result (λ turned. OnOk turned (PrintsRows plan.now programs.now inputs.now turns format (O.contents out.old) (O.contents out.new))) }
-    ensures err { IfOk result (λ turned. OnErr turned (PrintsFirstRows plan.now programs.now inputs.now turns format (O.contents out.old) (O.contents out.new))) }
+    ensures ok { IfOk result (λ turned.
+        OnOk turned (PrintsRows plan.now programs.now inputs.now turns format (O.contents out.old)
+        (O.contents out.new))) }
+    ensures err { IfOk result (λ turned.
+        OnErr turned (PrintsFirstRows plan.now programs.now inputs.now turns format (O.contents out.old)
+        (O.contents out.new))) }
 {
     write_heading(out, format)?;
     match Whole::new(alloc, plan, programs, inputs) {
@@ -75,7 +81,8 @@ fn print_all<O: Write, P: Progress>(
     }
 }
 
-/// Makes at most so many turns, or as many as there is memory for, and prints their rows, for which the heading is written.
+/// Makes at most this many turns, or as many as there is memory for, and prints their rows, for which the heading is
+/// written.
 fn print_in_batches<O: Write, P: Progress>(
     program: &mut Whole<'_>,
     plan: &Plan,
@@ -87,8 +94,12 @@ fn print_in_batches<O: Write, P: Progress>(
     requires draft { program.old.draft ≡ plan.now }
     requires none_made { program.old.turns ≡ 0 }
     requires none_discarded { program.old.discarded ≡ 0 }
-    ensures ok { IfOk result (λ turned. OnOk turned ((before : Option (List ℕ)) → Appends before (O.contents out.old) (heading format) → PrintsRows plan.now program.old.programs program.old.inputs turns format before (O.contents out.new))) }
-    ensures err { IfOk result (λ turned. OnErr turned ((before : Option (List ℕ)) → Appends before (O.contents out.old) (heading format) → PrintsFirstRows plan.now program.old.programs program.old.inputs turns format before (O.contents out.new))) }
+    ensures ok { IfOk result (λ turned.
+        OnOk turned ((before : Option (List ℕ)) → Appends before (O.contents out.old) (heading format)
+        → PrintsRows plan.now program.old.programs program.old.inputs turns format before (O.contents out.new))) }
+    ensures err { IfOk result (λ turned.
+        OnErr turned ((before : Option (List ℕ)) → Appends before (O.contents out.old) (heading format)
+        → PrintsFirstRows plan.now program.old.programs program.old.inputs turns format before (O.contents out.new))) }
 {
     let mut left = turns;
     while left > 0 {
@@ -102,7 +113,7 @@ fn print_in_batches<O: Write, P: Progress>(
     Ok(Ok(()))
 }
 
-/// Makes at most so many turns, prints their rows, and lets go of them.
+/// Makes at most this many turns, prints their rows, and lets go of them.
 fn print_batch<O: Write, P: Progress>(
     program: &mut Whole<'_>,
     plan: &Plan,
@@ -112,9 +123,13 @@ fn print_batch<O: Write, P: Progress>(
     progress: &P,
 ) -> Result<Result<u32, reactor::Memory>, CannotWrite>
     requires { program.old.draft ≡ plan.now }
-    ensures printed { OnOk result ((before : Option (List ℕ)) → IsPrinted program.old format before (O.contents out.old) → IsPrinted program.new format before (O.contents out.new)) }
-    ensures made { IfOk result (λ turned. IfOk turned (λ made. (program.new ≡ let_go_after made program.old) × (made ≤ most) × (made < most → pending_in program.new ≡ []))) }
-    ensures err { IfOk result (λ turned. OnErr turned ((made : ℕ) × (program.new ≡ let_go_after made program.old) × (made < most))) }
+    ensures printed { OnOk result ((before : Option (List ℕ)) → IsPrinted program.old format before (O.contents out.old)
+        → IsPrinted program.new format before (O.contents out.new)) }
+    ensures made { IfOk result (λ turned.
+        IfOk turned (λ made. (program.new ≡ let_go_after made program.old) × (made ≤ most)
+        × (made < most → pending_in program.new ≡ []))) }
+    ensures err { IfOk result (λ turned.
+        OnErr turned ((made : ℕ) × (program.new ≡ let_go_after made program.old) × (made < most))) }
 {
     let turned = program.turns(most);
     write_rows(out, plan, program.rows(), format)?;

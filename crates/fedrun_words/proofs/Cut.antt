@@ -97,7 +97,7 @@ printed_grows (Some text) a b c told count piece slice so_far piece_is slice_is 
     subst (Appends a c) (ap (λ l. take told text ++ l) next ∙ sym (take-add told count text))
     (Appends-trans a b c (take told text) (take count slice) so_far written)
 
--- so much of a text is a prefix of it
+-- a front of a text is a prefix of it
 pub is_begun : (output : Option (List ℕ)) (a b : Option (List ℕ)) (told : ℕ) → IfSome output (λ text. Appends a b (take told text))
     → IfSome output (AppendsPrefix a b)
 is_begun None a b told so_far = tt

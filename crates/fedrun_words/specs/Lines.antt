@@ -11,7 +11,8 @@ displayed_line None = None
 displayed_line (Some text) = Some (line_of text)
 
 -- a fault that stands was printed: the exit status is its own, and of its line and no other this holds
-pub record PrintsFault {Fault : Type 0} (Stands : Fault → Type 0) (status_of : Fault → ℕ) (printed_fault : Fault → List ℕ) (status : ℕ) (IsGained : List ℕ → Type 0) : Type 0 where
+pub record PrintsFault {Fault : Type 0} (Stands : Fault → Type 0) (status_of : Fault → ℕ)
+    (printed_fault : Fault → List ℕ) (status : ℕ) (IsGained : List ℕ → Type 0) : Type 0 where
   pub fault : Fault
   pub stands : Stands fault
   pub status_is : status ≡ status_of fault

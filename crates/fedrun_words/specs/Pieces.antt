@@ -12,7 +12,7 @@ pub record AppendsPrinted (is_whole : Bool) (before after : Option (List ℕ)) (
   pub begun : AppendsPrefix before after text
   pub whole : IsTrue is_whole → Appends before after text
 
--- what was kept of a text is the piece after so many bytes, and so many of these are still to come
+-- what was kept of a text is the piece after this many bytes, and this many of these are still to come
 pub record IsPiece (from : ℕ) (text : List ℕ) (before : ℕ) (kept : List ℕ) : Type 0 where
   pub before_is : before ≡ from - length text
   pub kept_is : kept ≡ take PIECE (drop from text)

@@ -1,7 +1,7 @@
 use crate::request::Request;
 use clap::error::{Error, ErrorKind};
 use clap::{Arg, ArgAction, ArgMatches, Command};
-use fedrun_text::RowFormat;
+use files_text::RowFormat;
 use std::alloc::{AllocError, Global};
 
 /// The turns of a run for which no number is given.

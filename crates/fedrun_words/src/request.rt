@@ -1,9 +1,9 @@
-use fedrun_text::RowFormat;
+use files_text::RowFormat;
 
 /// What the words ask for. Files are given by their names; an `inputs` of `-` is a file without any.
 #[derive(Debug, PartialEq, Eq, Drop)]
 pub enum Request<'a> {
-    /// The rows of the undivided program after at most so many turns, in this format.
+    /// The rows of the undivided program after at most this many turns, in this format.
     Whole {
         federation: &'a str,
         inputs: &'a str,
@@ -14,8 +14,8 @@ pub enum Request<'a> {
     Check {
         federation: &'a str,
     },
-    /// The steps that a schedule's world refuses, and the rows after it, or in the other format the rows alone; with `until_stuck`,
-    /// after so many closing rounds at most.
+    /// The steps that a schedule's world refuses, and the rows after it, or in the other format the rows alone; with
+    /// `until_stuck`, after this many closing rounds at most.
     Replay {
         federation: &'a str,
         inputs: &'a str,
@@ -23,8 +23,8 @@ pub enum Request<'a> {
         until_stuck: Option<u32>,
         format: RowFormat,
     },
-    /// The rows of the federation in threads, of which each makes so many turns at most, in this format. Federates write this version
-    /// of frames, 1 or 2.
+    /// The rows of the federation in threads, of which each makes this many turns at most, in this format. Federates
+    /// write this version of frames, 1 or 2.
     Run {
         federation: &'a str,
         inputs: &'a str,
@@ -39,7 +39,8 @@ pub enum Request<'a> {
         turns: u32,
         frames: u8,
     },
-    /// Each step of a schedule, with the frames that it sent; with `until_stuck`, those of so many closing rounds at most too.
+    /// Each step of a schedule, with the frames that it sent; with `until_stuck`, those of this many closing rounds at
+    /// most too.
     Frames {
         federation: &'a str,
         inputs: &'a str,
@@ -50,7 +51,7 @@ pub enum Request<'a> {
     DrawFederation {
         federation: &'a str,
     },
-    /// The picture of a schedule; with `until_stuck`, of so many closing rounds at most too.
+    /// The picture of a schedule; with `until_stuck`, of this many closing rounds at most too.
     DrawSchedule {
         federation: &'a str,
         inputs: &'a str,

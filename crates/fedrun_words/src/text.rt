@@ -12,7 +12,8 @@ use std::io::{ErrorKind, Write};
 
 /// Prints a text on a line of the program's own, and says whether all of it was written.
 pub fn print_line<E: Write, D: Display>(err: &mut E, text: &D) -> bool
-    ensures { IfSome (D.output text.now) (λ bytes. AppendsPrinted result (E.contents err.old) (E.contents err.new) (line_of bytes)) }
+    ensures { IfSome (D.output text.now)
+        (λ bytes. AppendsPrinted result (E.contents err.old) (E.contents err.new) (line_of bytes)) }
 {
     print_text(err, &ProgramLine(text))
 }
@@ -39,9 +40,10 @@ pub fn print_text<E: Write, D: Display>(err: &mut E, text: &D) -> bool
     false
 }
 
-/// What a text has after so many bytes, as far as there is room for a piece; none where it can't be displayed.
+/// What a text has after this many bytes, as far as there is room for a piece; none where it can't be displayed.
 fn piece_of<D: Display>(text: &D, from: usize) -> Option<ArrayVec<u8, PIECE>>
-    ensures { IfSome result (λ piece. IfSome (D.output text.now) (λ bytes. piece.items ≡ take PIECE (drop from bytes))) }
+    ensures { IfSome result (λ piece.
+        IfSome (D.output text.now) (λ bytes. piece.items ≡ take PIECE (drop from bytes))) }
 {
     let mut piece = Piece {
         before: from,

@@ -1,7 +1,8 @@
-//! The program `fedwhole`: `whole` and `check` alone, as `fedrun` has them. It stands on few crates, and so is proved sooner.
+//! The program `fedwhole`: `whole` and `check` alone, as `fedrun` has them. It stands on few crates, and so is proved
+//! sooner.
 //!
-//! All it does is `fedrun_whole::command`, a function over words, files and writers; `main` hands it the machine's, and shows
-//! beside it how far it is, where that is asked for.
+//! All it does is `fedrun_whole::command`, a function over words, files and writers; `main` hands it the machine's, and
+//! shows beside it how far it is, where that is asked for.
 #![tactic(auto)]
 
 use fedrun_fault::{Fault, NoSuchCommand, refuse};

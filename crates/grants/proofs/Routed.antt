@@ -97,7 +97,7 @@ pub wires_made_are : (d : Draft) (routes : List Routed) (w : Wires) → IsLegal 
 wires_made_are d routes w legal rs e =
     (subst AreWires (sym e) (wires_are d legal), rs ∙ ap (λ x. routed_below x x.federates) (sym e))
 
--- so many initial records, then one more
+-- this many initial records, then one more
 one_more_initial : (count : ℕ) → federate_records_listed count (λ j. initial_federate_record) ++ initial_federate_record ∷ [] ≡ federate_records_listed (suc count) (λ j. initial_federate_record)
 one_more_initial zero = refl
 one_more_initial (suc count) = ap (λ (ss : List FederateRecord). initial_federate_record ∷ ss) (one_more_initial count)

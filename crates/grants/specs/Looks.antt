@@ -7,7 +7,7 @@ use Rattle.grants.specs.Records.{Records, is_eligible_in}
 abbrev pub most_looks : ℕ
 most_looks = 2 ^ 64 - 1
 
--- after so many more
+-- after this many more
 abbrev pub counted : ℕ → ℕ → ℕ
 counted looks more = min most_looks (looks + more)
 
@@ -30,4 +30,5 @@ differ a b = if a then not b else b
 
 -- how many federates are eligible in one and not in the other
 abbrev pub changed_between : Records → Records → ℕ
-changed_between before after = count_below before.wires.federates (λ j. differ (is_eligible_in before j) (is_eligible_in after j))
+changed_between before after =
+    count_below before.wires.federates (λ j. differ (is_eligible_in before j) (is_eligible_in after j))

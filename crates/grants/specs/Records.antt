@@ -15,7 +15,13 @@ pub record Records : Type 0 where
 
 -- before any signal came
 abbrev pub initial_records : Draft → Records
-initial_records d = record { wires = wires_of d; federate_records = federate_records_listed (federate_count d) (λ j. initial_federate_record); looks = 0 }
+initial_records d =
+    record {
+      wires = wires_of d;
+      federate_records = federate_records_listed (federate_count d)
+          (λ j. initial_federate_record);
+      looks = 0;
+    }
 
 -- with another record of federate i
 abbrev pub with_federate_record : Records → ℕ → FederateRecord → Records

@@ -1,5 +1,6 @@
 -- Whom a federate hears from, and whom it reaches.
-use Rattle.std.specs.Prelude.{ℕ, zero, suc, Bool, false, ◌&&◌, ◌||◌, nat_eq, if◌then◌else◌, List, [], ◌∷◌, ◌++◌, filter, Option, None, Some}
+use Rattle.std.specs.Prelude.{ℕ, zero, suc, Bool, false, ◌&&◌, ◌||◌, nat_eq, if◌then◌else◌, List, [], ◌∷◌, ◌++◌, filter}
+use Rattle.std.specs.Prelude.{Option, None, Some}
 use Rattle.tag.specs.LogicalTime.{LogicalTime}
 use Rattle.network.specs.Connection.{Connection}
 use Rattle.network.specs.Tables.{Table}
@@ -43,7 +44,8 @@ leads (c ∷ rest) i j = (nat_eq c.source i && nat_eq c.target j) || leads rest 
 abbrev pub outgoing_of : List Connection → ℕ → List Connection
 outgoing_of connections i = filter (λ c. nat_eq c.source i) connections
 
--- the federates to which a connection leads from i: what i completed bears on whether they are eligible, and on nobody else
+-- the federates to which a connection leads from i: what i completed bears on whether they are eligible, and on nobody
+-- else
 abbrev pub connected_to : Wires → ℕ → List ℕ
 connected_to w i = listed_below w.federates (leads w.connections i)
 
@@ -55,7 +57,13 @@ pub record Routed : Type 0 where
   pub downstream : List ℕ
 
 abbrev pub routed : Wires → ℕ → Routed
-routed w j = record { upstream = upstream_of (least_by w) j w.federates; incoming = incoming_of w.connections j; targets = connected_to w j; downstream = looked_at w j }
+routed w j =
+    record {
+      upstream = upstream_of (least_by w) j w.federates;
+      incoming = incoming_of w.connections j;
+      targets = connected_to w j;
+      downstream = looked_at w j;
+    }
 
 -- those of the first `count` federates
 abbrev pub routed_below : Wires → ℕ → List Routed

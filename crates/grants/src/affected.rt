@@ -1,4 +1,5 @@
-ghost use Rattle.std.specs.Prelude.{◌≡◌, ◌↔◌, ℕ, ◌+◌, ◌-◌, ◌^◌, ◌<◌, All, IfOk, true, false, if◌then◌else◌, length, replicate, slice_index_or, slice_set};
+ghost use Rattle.std.specs.Prelude.{◌≡◌, ◌↔◌, ℕ, ◌+◌, ◌-◌, ◌^◌, ◌<◌, All, IfOk, true, false, if◌then◌else◌, length};
+ghost use Rattle.std.specs.Prelude.{replicate, slice_index_or, slice_set};
 ghost use Rattle.protocol.specs.Grant.{is_eligible};
 ghost use Rattle.protocol.specs.FederateRecords.{federate_record_at};
 ghost use Rattle.grants.specs.Wires.{least_by, network_by};
@@ -72,7 +73,10 @@ impl AffectedFederates {
         requires count { length federate_records.now ≡ wiring.now.federates }
         requires federate { federate < wiring.now.federates }
         requires flags { length self.old.eligible ≡ wiring.now.federates }
-        ensures eligible { self.new.eligible ≡ slice_set self.old.eligible federate (is_eligible (network_by wiring.now) (least_by wiring.now) (federate_record_at federate_records.now) federate) }
+        ensures eligible { self.new.eligible
+            ≡ slice_set self.old.eligible federate
+            (is_eligible (network_by wiring.now) (least_by wiring.now)
+            (federate_record_at federate_records.now) federate) }
         ensures looks { self.new.looks ≡ counted self.old.looks 1 }
     {
         let was = self.eligible[federate];
@@ -92,7 +96,9 @@ impl AffectedFederates {
         requires count { length federate_records.now ≡ wiring.now.federates }
         requires federates { All (λ j. j < wiring.now.federates) federates.now }
         requires flags { length self.old.eligible ≡ wiring.now.federates }
-        ensures eligible { self.new.eligible ≡ flags_after (is_eligible (network_by wiring.now) (least_by wiring.now) (federate_record_at federate_records.now)) federates.now self.old.eligible }
+        ensures eligible { self.new.eligible
+            ≡ flags_after (is_eligible (network_by wiring.now) (least_by wiring.now)
+            (federate_record_at federate_records.now)) federates.now self.old.eligible }
         ensures looks { self.new.looks ≡ counted self.old.looks (length federates.now) }
     {
         // For the prover: looks stay below 2^64.

@@ -21,8 +21,8 @@ pub fn first_upstream(upstream: &[Upstream], federate_records: &[FederateRecord]
     first
 }
 
-/// The least tag at which anything can arrive over these connections that comes after their senders' last LTC; FOREVER where there
-/// are none.
+/// The least tag at which anything can arrive over these connections that comes after their senders' last LTC; FOREVER
+/// where there are none.
 pub fn first_incoming(incoming: &[Connection], federate_records: &[FederateRecord]) -> Tag
     requires { All (λ c. c.source < length federate_records.now) incoming.now }
     ensures { result ≡ first_incoming (federate_record_at federate_records.now) incoming.now }
@@ -75,7 +75,8 @@ fn arrival_from(from: &Upstream, federate_records: &[FederateRecord]) -> Tag
 /// The first tag at which anything can arrive over a connection that comes after its sender's last LTC.
 fn arrival_over(connection: &Connection, federate_records: &[FederateRecord]) -> Tag
     requires { connection.now.source < length federate_records.now }
-    ensures { result ≡ sum_of (after_completed (federate_record_at federate_records.now connection.now.source).completed) connection.now.delay }
+    ensures { result ≡ sum_of (after_completed
+        (federate_record_at federate_records.now connection.now.source).completed) connection.now.delay }
 {
     let sent = after_completed(federate_records[connection.source()].completed());
     plus(sent, connection.delay())

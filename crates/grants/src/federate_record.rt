@@ -25,7 +25,13 @@ impl Model for FederateRecord {
 
     ghost Value = { FederateRecordOf };
 
-    ghost view = { λ s. record { completed = s.completed; granted = s.granted; announced = s.announced; next = s.next; transit = s.transit.keys } };
+    ghost view = { λ s. record {
+      completed = s.completed;
+      granted = s.granted;
+      announced = s.announced;
+      next = s.next;
+      transit = s.transit.keys;
+    } };
 }
 
 impl FederateRecord {
@@ -80,7 +86,8 @@ impl FederateRecord {
 
     /// Whether it waits for a grant: it has announced, and its next tag isn't granted yet and not later than stop.
     pub fn is_waiting(&self, stop: FiniteTag) -> bool
-        ensures { result ≡ (self.now.announced && is_past self.now.granted self.now.next && is_at_most self.now.next stop) }
+        ensures { result ≡ (self.now.announced && is_past self.now.granted self.now.next
+            && is_at_most self.now.next stop) }
     {
         self.announced && is_past(self.granted, self.next) && self.next <= stop.tag()
     }

@@ -35,7 +35,12 @@ impl Model for Routes {
 
     ghost Value = { Routed };
 
-    ghost view = { λ r. record { upstream = r.upstream.items; incoming = r.incoming.items; targets = r.targets.items; downstream = r.downstream.items } };
+    ghost view = { λ r. record {
+      upstream = r.upstream.items;
+      incoming = r.incoming.items;
+      targets = r.targets.items;
+      downstream = r.downstream.items;
+    } };
 }
 
 impl Routes {
@@ -84,7 +89,8 @@ impl Routes {
 /// The federates from which a path leads to this one.
 fn upstream_of(alloc: Global, plan: &Plan, federate: usize) -> Result<Vec<Upstream>, Memory>
     requires { federate < federate_count plan.now }
-    ensures { IfOk result (λ upstream. upstream.items ≡ upstream_of (least_by (wires_of plan.now)) federate (federate_count plan.now)) }
+    ensures { IfOk result (λ upstream. upstream.items
+        ≡ upstream_of (least_by (wires_of plan.now)) federate (federate_count plan.now)) }
 {
     let mut upstream = Vec::new(alloc);
     for from in 0..plan.federate_count() {

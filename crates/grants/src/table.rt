@@ -1,4 +1,5 @@
-ghost use Rattle.std.specs.Prelude.{◌≡◌, ◌↔◌, ℕ, ◌+◌, ◌<◌, ◌≤◌, IfOk, OnOk, OnErr, IsTrue, Some, false, filter, length, slice_get};
+ghost use Rattle.std.specs.Prelude.{◌≡◌, ◌↔◌, ℕ, ◌+◌, ◌<◌, ◌≤◌, IfOk, OnOk, OnErr, IsTrue, Some, false, filter, length};
+ghost use Rattle.std.specs.Prelude.{slice_get};
 ghost use Rattle.tag.specs.LogicalTime.{LogicalTime, is_before, lesser, origin, predecessor_of};
 ghost use Rattle.protocol.specs.FederateRecord.{least_with, initial_federate_record, with_tag};
 ghost use Rattle.protocol.specs.FederateRecords.{federate_record_at, federate_records_listed};
@@ -19,8 +20,8 @@ use std::alloc::Global;
 use std::marker::Model;
 use tag::{FiniteTag, Tag, pred};
 
-/// What the coordinator knows of each federate, and who is eligible for a grant. Federates go by number. Each setter takes any
-/// value, so that a change can be taken back.
+/// What the coordinator knows of each federate, and who is eligible for a grant. Federates go by number. Each setter
+/// takes any value, so that a change can be taken back.
 #[derive(Drop)]
 pub struct Table {
     wiring: Wiring,
@@ -34,7 +35,11 @@ impl Model for Table {
 
     ghost Value = { Records };
 
-    ghost view = { λ t. record { wires = t.wiring; federate_records = t.federate_records.items; looks = t.affected.looks } };
+    ghost view = { λ t. record {
+      wires = t.wiring;
+      federate_records = t.federate_records.items;
+      looks = t.affected.looks;
+    } };
 
     ghost invariant = { λ t. IsKept t.wiring t.federate_records.items t.affected.eligible };
 }
@@ -110,7 +115,8 @@ impl Table {
     pub fn least_transit(&self, federate: usize) -> Option<FiniteTag>
         requires { federate < self.now.wires.federates }
         ensures first { result ≡ slice_get (federate_record_at self.now.federate_records federate).transit 0 }
-        ensures least { (tag : LogicalTime) → least_with tag (federate_record_at self.now.federate_records federate).transit ≡ lesser_with tag result }
+        ensures least { (tag : LogicalTime)
+            → least_with tag (federate_record_at self.now.federate_records federate).transit ≡ lesser_with tag result }
     {
         self.federate_records[federate].least_transit()
     }
@@ -125,7 +131,8 @@ impl Table {
     /// Whether a federate gets a grant.
     pub fn eligible(&self, federate: usize) -> bool
         requires { federate < self.now.wires.federates }
-        ensures paths { IsTrue result ↔ Eligible (network_by self.now.wires) (federate_record_at self.now.federate_records) federate }
+        ensures paths { IsTrue result ↔ Eligible (network_by self.now.wires)
+            (federate_record_at self.now.federate_records) federate }
         ensures table { result ≡ is_eligible_in self.now federate }
     {
         // For the prover: the least delays are least over all paths.
@@ -135,17 +142,21 @@ impl Table {
 
     /// Whether any federate gets a grant. It takes the same time however many there are.
     pub fn has_eligible(&self) -> bool
-        ensures { result ≡ false ↔ ((federate : ℕ) → federate < self.now.wires.federates → is_eligible_in self.now federate ≡ false) }
+        ensures { result ≡ false ↔ ((federate : ℕ) → federate < self.now.wires.federates
+            → is_eligible_in self.now federate ≡ false) }
     {
         self.affected.has_eligible()
     }
 
-    /// How far an eligible federate may be granted: the last tag before anything can still arrive at it, or stop if that is earlier.
+    /// How far an eligible federate may be granted: the last tag before anything can still arrive at it, or stop if
+    /// that is earlier.
     pub fn grant(&self, federate: usize) -> FiniteTag
         requires federate { federate < self.now.wires.federates }
         requires eligible { IsTrue (is_eligible_in self.now federate) }
-        ensures widest { IsWidest (network_by self.now.wires) (federate_record_at self.now.federate_records) federate result }
-        ensures rule { grant_widest (network_by self.now.wires) (least_by self.now.wires) (federate_record_at self.now.federate_records) federate ≡ Some result }
+        ensures widest { IsWidest (network_by self.now.wires) (federate_record_at self.now.federate_records)
+            federate result }
+        ensures rule { grant_widest (network_by self.now.wires) (least_by self.now.wires)
+            (federate_record_at self.now.federate_records) federate ≡ Some result }
     {
         // For the prover: the least delays are least over all paths.
         self.wiring.invariant();
@@ -155,8 +166,8 @@ impl Table {
         last_before(bound, self.wiring.stop())
     }
 
-    /// The federates that a change of this one's next tag may make eligible, in order: itself, and each that a path leads to from
-    /// it.
+    /// The federates that a change of this one's next tag may make eligible, in order: itself, and each that a path
+    /// leads to from it.
     pub fn affected_by(&self, federate: usize) -> &[usize]
         requires { federate < self.now.wires.federates }
         ensures { result.now ≡ looked_at self.now.wires federate }
@@ -167,7 +178,8 @@ impl Table {
     /// Sets a federate's next tag. It looks at that federate, and at each that a path leads to from it.
     pub fn set_next(&mut self, federate: usize, next: Tag)
         requires { federate < self.old.wires.federates }
-        ensures value { self.new ≡ with_looks (changed_at self.old federate (λ s. record s { next = next })) self.new.looks }
+        ensures value { self.new ≡ with_looks (changed_at self.old federate (λ s. record s { next = next }))
+            self.new.looks }
         ensures few_looks { self.new.looks ≤ self.old.looks + 1 + reached_from self.old.wires federate }
         ensures looks { counted self.old.looks (changed_between self.old self.new) ≤ self.new.looks }
     {
@@ -180,11 +192,12 @@ impl Table {
             .look_at_each(&self.wiring, self.federate_records.as_slice(), federates);
     }
 
-    /// Sets the tag of a federate's last LTC. It looks at each federate that a connection leads to from it: what it completed bears
-    /// on nobody else.
+    /// Sets the tag of a federate's last LTC. It looks at each federate that a connection leads to from it: what it
+    /// completed bears on nobody else.
     pub fn set_completed(&mut self, federate: usize, completed: Option<FiniteTag>)
         requires { federate < self.old.wires.federates }
-        ensures value { self.new ≡ with_looks (changed_at self.old federate (λ s. record s { completed = completed })) self.new.looks }
+        ensures value { self.new ≡ with_looks (changed_at self.old federate (λ s. record s { completed = completed }))
+            self.new.looks }
         ensures few_looks { self.new.looks ≤ self.old.looks + length (connected_to self.old.wires federate) }
         ensures looks { counted self.old.looks (changed_between self.old self.new) ≤ self.new.looks }
     {
@@ -200,7 +213,8 @@ impl Table {
     /// Sets whether a NET of a federate came. It looks at that federate alone.
     pub fn set_announced(&mut self, federate: usize, announced: bool)
         requires { federate < self.old.wires.federates }
-        ensures value { self.new ≡ with_looks (changed_at self.old federate (λ s. record s { announced = announced })) self.new.looks }
+        ensures value { self.new ≡ with_looks (changed_at self.old federate (λ s. record s { announced = announced }))
+            self.new.looks }
         ensures few_looks { self.new.looks ≤ self.old.looks + 1 }
         ensures looks { counted self.old.looks (changed_between self.old self.new) ≤ self.new.looks }
     {
@@ -215,7 +229,8 @@ impl Table {
     /// Sets the last TAG to a federate. It looks at that federate alone.
     pub fn set_granted(&mut self, federate: usize, granted: Option<FiniteTag>)
         requires { federate < self.old.wires.federates }
-        ensures value { self.new ≡ with_looks (changed_at self.old federate (λ s. record s { granted = granted })) self.new.looks }
+        ensures value { self.new ≡ with_looks (changed_at self.old federate (λ s. record s { granted = granted }))
+            self.new.looks }
         ensures few_looks { self.new.looks ≤ self.old.looks + 1 }
         ensures looks { counted self.old.looks (changed_between self.old self.new) ≤ self.new.looks }
     {
@@ -230,7 +245,8 @@ impl Table {
     /// A message with this tag is on its way to a federate. It looks at nobody.
     pub fn add_transit(&mut self, federate: usize, tag: FiniteTag) -> Result<(), Memory>
         requires { federate < self.old.wires.federates }
-        ensures ok { OnOk result (self.new ≡ changed_at self.old federate (λ s. record s { transit = with_tag tag s.transit })) }
+        ensures ok { OnOk result (self.new
+            ≡ changed_at self.old federate (λ s. record s { transit = with_tag tag s.transit })) }
         ensures err { OnErr result (self.new ≡ self.old) }
     {
         // For the prover: the least delays are least over all paths.
@@ -242,7 +258,8 @@ impl Table {
     /// No message up to this tag is on its way to a federate. It looks at nobody.
     pub fn drop_transit(&mut self, federate: usize, completed: FiniteTag)
         requires { federate < self.old.wires.federates }
-        ensures { self.new ≡ changed_at self.old federate (λ s. record s { transit = filter (λ t. is_before completed t) s.transit }) }
+        ensures { self.new ≡ changed_at self.old federate
+            (λ s. record s { transit = filter (λ t. is_before completed t) s.transit }) }
     {
         // For the prover: the least delays are least over all paths.
         self.wiring.invariant();
@@ -251,9 +268,10 @@ impl Table {
     }
 }
 
-/// So many records, before any signal came.
+/// This many records, before any signal came.
 fn initial_federate_records(alloc: Global, count: usize) -> Result<Vec<FederateRecord>, Memory>
-    ensures { IfOk result (λ federate_records. federate_records.items ≡ federate_records_listed count (λ j. initial_federate_record)) }
+    ensures { IfOk result (λ federate_records. federate_records.items
+        ≡ federate_records_listed count (λ j. initial_federate_record)) }
 {
     let mut federate_records = Vec::new(alloc);
     for _federate in 0..count {

@@ -32,10 +32,19 @@ impl Model for Wiring {
 
     ghost Value = { Wires };
 
-    ghost view = { λ w. record { federates = length w.routes.items; connections = w.connections.items; stop = w.stop } };
+    ghost view = { λ w. record {
+      federates = length w.routes.items;
+      connections = w.connections.items;
+      stop = w.stop;
+    } };
 
-    ghost invariant = { λ w. AreWires (record { federates = length w.routes.items; connections = w.connections.items; stop = w.stop })
-        × (w.routes.items ≡ routed_below (record { federates = length w.routes.items; connections = w.connections.items; stop = w.stop }) (length w.routes.items)) };
+    ghost invariant = { λ w. AreWires
+        (record { federates = length w.routes.items; connections = w.connections.items; stop = w.stop })
+        × (w.routes.items ≡ routed_below (record {
+          federates = length w.routes.items;
+          connections = w.connections.items;
+          stop = w.stop;
+        }) (length w.routes.items)) };
 }
 
 impl Wiring {
@@ -89,12 +98,13 @@ impl Wiring {
         self.routes[federate].targets()
     }
 
-    /// Before this tag nothing can still arrive at a federate. It goes over those from which a path leads to it, and over the
-    /// connections that end at it.
+    /// Before this tag nothing can still arrive at a federate. It goes over those from which a path leads to it, and
+    /// over the connections that end at it.
     pub fn bound(&self, federate_records: &[FederateRecord], federate: usize) -> Tag
         requires count { length federate_records.now ≡ self.now.federates }
         requires federate { federate < self.now.federates }
-        ensures { result ≡ bound_of (network_by self.now) (least_by self.now) (federate_record_at federate_records.now) federate }
+        ensures { result ≡ bound_of (network_by self.now) (least_by self.now)
+            (federate_record_at federate_records.now) federate }
     {
         let routes = &self.routes[federate];
         let by_paths = first_upstream(routes.upstream(), federate_records);
@@ -102,24 +112,26 @@ impl Wiring {
         greater(by_paths, by_connections)
     }
 
-    /// Whether a tag is before the bound: nothing can still arrive at the federate then, over any path or over the connections
-    /// that end at it. It looks no further than it has to.
+    /// Whether a tag is before the bound: nothing can still arrive at the federate then, over any path or over the
+    /// connections that end at it. It looks no further than it has to.
     pub fn passes(&self, tag: Tag, federate_records: &[FederateRecord], federate: usize) -> bool
         requires count { length federate_records.now ≡ self.now.federates }
         requires federate { federate < self.now.federates }
-        ensures { result ≡ is_before tag (bound_of (network_by self.now) (least_by self.now) (federate_record_at federate_records.now) federate) }
+        ensures { result ≡ is_before tag
+            (bound_of (network_by self.now) (least_by self.now) (federate_record_at federate_records.now) federate) }
     {
         let routes = &self.routes[federate];
         passes_incoming(tag, routes.incoming(), federate_records)
             || passes_upstream(tag, routes.upstream(), federate_records)
     }
 
-    /// Whether a federate gets a grant: it has announced, and its next tag isn't granted yet, not later than stop, and before the
-    /// bound.
+    /// Whether a federate gets a grant: it has announced, and its next tag isn't granted yet, not later than stop, and
+    /// before the bound.
     pub fn is_eligible(&self, federate_records: &[FederateRecord], federate: usize) -> bool
         requires count { length federate_records.now ≡ self.now.federates }
         requires federate { federate < self.now.federates }
-        ensures { result ≡ is_eligible (network_by self.now) (least_by self.now) (federate_record_at federate_records.now) federate }
+        ensures { result ≡ is_eligible (network_by self.now) (least_by self.now)
+            (federate_record_at federate_records.now) federate }
     {
         let federate_record = &federate_records[federate];
         federate_record.is_waiting(self.stop)

@@ -14,7 +14,8 @@ is_own federate incarnation (Refuse i _) = nat_eq i incarnation
 
 -- what an open end answers to a frame of its link, by the number that it offered last and the number that it took last
 abbrev pub answer_when_open : (offered taken : ℕ) → Frame → Result Arrival LinkFault
-answer_when_open offered taken (Hello hello) = if nat_lt offered hello.last_taken then Err LinkFault.AckOfUnsent else Ok Arrival.Resume
+answer_when_open offered taken (Hello hello) =
+    if nat_lt offered hello.last_taken then Err LinkFault.AckOfUnsent else Ok Arrival.Resume
 answer_when_open offered taken (Data _ n _) =
     if nat_le n taken then Ok Arrival.Repeated
     else if nat_eq n (taken + 1) then Ok Arrival.Signal

@@ -1,6 +1,7 @@
--- What a caller sees of a link end: of the signals offered the kept ones alone. Each answer and each step is of this image.
--- A number of a signal is 0 where there is none yet.
-use Rattle.std.specs.Prelude.{ℕ, ◌+◌, ◌-◌, ◌^◌, ◌<◌, ◌≤◌, Bool, true, false, if◌then◌else◌, nat_eq, List, [], ◌∷◌, ◌++◌, length, drop, min, max, Option, Some, None, Result, Ok, Err}
+-- What a caller sees of a link end: of the signals offered the kept ones alone. Each answer and each step is of this
+-- image. A number of a signal is 0 where there is none yet.
+use Rattle.std.specs.Prelude.{ℕ, ◌+◌, ◌-◌, ◌^◌, ◌<◌, ◌≤◌, Bool, true, false, if◌then◌else◌, nat_eq, List, [], ◌∷◌, ◌++◌}
+use Rattle.std.specs.Prelude.{length, drop, min, max, Option, Some, None, Result, Ok, Err}
 use Rattle.signal.specs.declared.signal.Signal.{Signal}
 use Rattle.signal.specs.declared.frame.Frame.{Frame}
 use Rattle.signal.specs.declared.frame.Frame.TheVariants.{Hello, Data, Ack, Refuse}

@@ -31,4 +31,5 @@ after_all i (frame ∷ frames) = after_all (after_coming i frame) frames
 abbrev pub taken_of : Image → List Frame → List Signal
 taken_of i [] = []
 taken_of i (frame ∷ frames) =
-    (if nat_lt i.taken (after_coming i frame).taken then carried_by frame else []) ++ taken_of (after_coming i frame) frames
+    (if nat_lt i.taken (after_coming i frame).taken then carried_by frame else [])
+    ++ taken_of (after_coming i frame) frames

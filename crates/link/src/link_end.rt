@@ -1,4 +1,5 @@
-ghost use Rattle.std.specs.Prelude.{◌≡◌, ◌≢◌, ◌+◌, ◌-◌, ◌<◌, ◌≤◌, ◌⊎◌, length, drop, ◌^◌, IsOk, IsOkUnless, OnOk, OnErr, IfOk};
+ghost use Rattle.std.specs.Prelude.{◌≡◌, ◌≢◌, ◌+◌, ◌-◌, ◌<◌, ◌≤◌, ◌⊎◌, length, drop, ◌^◌, IsOk, IsOkUnless, OnOk};
+ghost use Rattle.std.specs.Prelude.{OnErr, IfOk};
 ghost use Rattle.signal.specs.Batch.{numbered};
 ghost use Rattle.std.specs.VecDeque.{deque_capacity, deque_len};
 
@@ -39,7 +40,8 @@ impl Model for LinkEnd {
 impl LinkEnd {
     ghost use Rattle.signal.specs.declared.frame.Frame.TheVariants.{Data};
     ghost use Rattle.link.specs.Answer.{is_own};
-    ghost use Rattle.link.specs.Image.{blank, last_number, acknowledge, IsImage, room_left, offer_of, after_offer, answer_of, after_frame, after_close, ack_of, hello_of, resent_by};
+    ghost use Rattle.link.specs.Image.{blank, last_number, acknowledge, IsImage, room_left, offer_of, after_offer};
+    ghost use Rattle.link.specs.Image.{answer_of, after_frame, after_close, ack_of, hello_of, resent_by};
 
     /// An open end that has offered and taken nothing. It keeps at most `room` signals.
     pub fn new(alloc: Global, federate: u16, incarnation: u32, room: usize) -> LinkEnd

@@ -4,7 +4,8 @@ use crate::fault::LinkFault;
 use std::alloc::{AllocError, AllocFailed};
 use std::fmt;
 
-/// There was no memory for frames. It is the machine that lacks it: nothing changed, and the same call may succeed later.
+/// There was no memory for frames. It is the machine that lacks it: nothing changed, and the same call may succeed
+/// later.
 #[derive(Clone, Copy, Debug, PartialEq, Eq)]
 pub struct Memory;
 

@@ -8,10 +8,10 @@ use Rattle.signal.specs.declared.frame.Frame.{Frame}
 use Rattle.signal.specs.declared.frame.Frame.TheVariants.{Hello, Data, Ack, Refuse}
 use Rattle.signal.specs.Batch.{numbered}
 use Rattle.link.specs.Image.{Image, last_number, acknowledge, after_frame, after_close, ack_of, hello_by, hello_of, resent_by}
-use Rattle.link_laws.specs.Way.{offered_in, IsSaid}
+use Rattle.link_laws.specs.Way.{offered_in, IsGenuine}
 use Rattle.link_laws.specs.Link.{Side, says, offers, notes, takes, greeting}
 use Rattle.link_laws.proofs.Places.{get_below, take_more, take_next, drop_twice, length_of_rest}
-use Rattle.link_laws.proofs.Ways.{AreOld, AreSaid, offers_more, offers_same, way_offers, way_repeats, resent_said, resent_old}
+use Rattle.link_laws.proofs.Ways.{AreOld, AreGenuine, offers_more, offers_same, way_offers, way_repeats, resent_genuine, resent_old}
 
 -- what a side keeps was offered and isn't acknowledged; what is acknowledged the other took, and that was offered; and its frames say
 -- no more than this
@@ -20,7 +20,7 @@ pub record IsCarried (i : ℕ) (kept : List Signal) (acknowledged told : ℕ) (s
   pub acknowledged_taken : acknowledged ≤ taken
   pub taken_offered : taken ≤ length (offered_in i sent)
   pub took_is : took ≡ take taken (offered_in i sent)
-  pub said : AreSaid i (offered_in i sent) told sent
+  pub genuine : AreGenuine i (offered_in i sent) told sent
 
 -- from one side to the other
 abbrev pub Carried : ℕ → Side → Side → Type 0
@@ -44,29 +44,29 @@ more_told i kept acknowledged told more sent taken took l c =
       acknowledged_taken = c.acknowledged_taken;
       taken_offered = c.taken_offered;
       took_is = c.took_is;
-      said = each_more (IsSaid i (offered_in i sent) told) (IsSaid i (offered_in i sent) more) (λ f h. tell_more (offered_in i sent) f h) sent c.said;
+      genuine = each_more (IsGenuine i (offered_in i sent) told) (IsGenuine i (offered_in i sent) more) (λ f h. tell_more (offered_in i sent) f h) sent c.genuine;
     }
   where
-    tell_more : (offered : List Signal) (f : Frame) → IsSaid i offered told f → IsSaid i offered more f
+    tell_more : (offered : List Signal) (f : Frame) → IsGenuine i offered told f → IsGenuine i offered more f
     tell_more offered (Hello hello) h = λ e. (let m = h e in omega arith)
     tell_more offered (Data k n signal) h = h
     tell_more offered (Ack k n) h = λ e. (let m = h e in omega arith)
     tell_more offered (Refuse k n) h = tt
 
 -- frames that bring no signal
-carried_says : (i : ℕ) (kept : List Signal) (acknowledged told : ℕ) (sent more : List Frame) (taken : ℕ) (took : List Signal) → AreOld i (length (offered_in i sent)) more → AreSaid i (offered_in i sent) told more → IsCarried i kept acknowledged told sent taken took → IsCarried i kept acknowledged told (sent ++ more) taken took
-carried_says i kept acknowledged told sent more taken took old said c =
+carried_says : (i : ℕ) (kept : List Signal) (acknowledged told : ℕ) (sent more : List Frame) (taken : ℕ) (took : List Signal) → AreOld i (length (offered_in i sent)) more → AreGenuine i (offered_in i sent) told more → IsCarried i kept acknowledged told sent taken took → IsCarried i kept acknowledged told (sent ++ more) taken took
+carried_says i kept acknowledged told sent more taken took old genuine c =
     let same : offered_in i (sent ++ more) ≡ offered_in i sent = offers_same i sent more old in
     let P : List Signal → Type 0 = λ x. kept ≡ drop acknowledged x in
     let Q : List Signal → Type 0 = λ x. taken ≤ length x in
     let R : List Signal → Type 0 = λ x. took ≡ take taken x in
-    let S : List Signal → Type 0 = λ x. AreSaid i x told (sent ++ more) in
+    let S : List Signal → Type 0 = λ x. AreGenuine i x told (sent ++ more) in
     record {
       kept_is = subst P (sym same) c.kept_is;
       acknowledged_taken = c.acknowledged_taken;
       taken_offered = subst Q (sym same) c.taken_offered;
       took_is = subst R (sym same) c.took_is;
-      said = subst S (sym same) (way_repeats i told told sent more (omega arith) c.said said);
+      genuine = subst S (sym same) (way_repeats i told told sent more (omega arith) c.genuine genuine);
     }
 
 -- signals under the next numbers
@@ -84,7 +84,7 @@ carried_offers i kept acknowledged told sent taken took signals c =
     let P : List Signal → Type 0 = λ x. kept ++ signals ≡ drop acknowledged x in
     let Q : List Signal → Type 0 = λ x. taken ≤ length x in
     let R : List Signal → Type 0 = λ x. took ≡ take taken x in
-    let S : List Signal → Type 0 = λ x. AreSaid i x told more in
+    let S : List Signal → Type 0 = λ x. AreGenuine i x told more in
     let within : taken ≤ length (offered_in i sent ++ signals) = longer (offered_in i sent) signals taken b in
     subst N (sym next)
     (record {
@@ -92,7 +92,7 @@ carried_offers i kept acknowledged told sent taken took signals c =
       acknowledged_taken = c.acknowledged_taken;
       taken_offered = subst Q (sym grows) within;
       took_is = subst R (sym grows) (c.took_is ∙ sym (take_more taken offered signals b));
-      said = subst S (sym grows) (way_offers i told told sent signals (omega arith) c.said);
+      genuine = subst S (sym grows) (way_offers i told told sent signals (omega arith) c.genuine);
     })
   where
     longer : (xs ys : List Signal) (k : ℕ) → k ≤ length xs → k ≤ length (xs ++ ys)
@@ -109,7 +109,7 @@ carried_acknowledges i kept acknowledged told sent taken took n l c =
       acknowledged_taken = omega arith;
       taken_offered = c.taken_offered;
       took_is = c.took_is;
-      said = c.said;
+      genuine = c.genuine;
     }
 
 -- the other side takes the signal in its turn
@@ -124,7 +124,7 @@ carried_takes i kept acknowledged told sent taken took signal n e at c =
       acknowledged_taken = omega arith;
       taken_offered = omega arith;
       took_is = subst P (sym next) (ap (λ (x : List Signal). x ++ signal ∷ []) c.took_is ∙ sym (take_next taken (offered_in i sent) signal at));
-      said = c.said;
+      genuine = c.genuine;
     }
 
 -- the other side hears of a signal again
@@ -135,9 +135,9 @@ carried_repeats i kept acknowledged told sent taken took n l c =
     subst P (sym same) c
 
 -- the same of sides
-pub linked_says : (i : ℕ) (s r : Side) (more : List Frame) → AreOld i (length (offered_in i s.sent)) more → AreSaid i (offered_in i s.sent) s.end.taken more → IsLinked i s r → IsLinked i (says s more) r
-linked_says i s r more old said l =
-    record { here = l.here; there = l.there; out = carried_says i s.end.kept s.end.acknowledged s.end.taken s.sent more r.end.taken r.took old said l.out; back = l.back }
+pub linked_says : (i : ℕ) (s r : Side) (more : List Frame) → AreOld i (length (offered_in i s.sent)) more → AreGenuine i (offered_in i s.sent) s.end.taken more → IsLinked i s r → IsLinked i (says s more) r
+linked_says i s r more old genuine l =
+    record { here = l.here; there = l.there; out = carried_says i s.end.kept s.end.acknowledged s.end.taken s.sent more r.end.taken r.took old genuine l.out; back = l.back }
 
 offers_if : (i : ℕ) (s r : Side) (signals : List Signal) (b : Bool) → IsLinked i s r → IsLinked i (if b then s else record { end = record s.end { kept = s.end.kept ++ signals }; sent = s.sent ++ numbered s.end.incarnation (last_number s.end + 1) signals; took = s.took }) r
 offers_if i s r signals true l = l
@@ -157,8 +157,8 @@ pub linked_closes : (i : ℕ) (s r : Side) → IsLinked i s r → IsLinked i (re
 linked_closes i s r l = record { here = l.here; there = l.there; out = l.out; back = l.back }
 
 -- an acknowledgement of what was taken
-ack_said : (i : ℕ) (offered : List Signal) (e : Image) → AreSaid i offered e.taken (ack_of e ∷ [])
-ack_said i offered e = ((λ same. omega arith), tt)
+ack_genuine : (i : ℕ) (offered : List Signal) (e : Image) → AreGenuine i offered e.taken (ack_of e ∷ [])
+ack_genuine i offered e = ((λ same. omega arith), tt)
 
 pub linked_takes : (i : ℕ) (s r : Side) (k n : ℕ) (signal : Signal) → n ≡ s.end.taken + 1 → slice_get (offered_in i r.sent) s.end.taken ≡ Some signal → IsLinked i s r → IsLinked i (takes s (Data k n signal) signal) r
 linked_takes i s r k n signal e at l =
@@ -168,7 +168,7 @@ linked_takes i s r k n signal e at l =
       here = l.here;
       there = l.there;
       out = carried_says i s.end.kept s.end.acknowledged (max s.end.taken n) s.sent (ack_of (after_frame s.end (Data k n signal)) ∷ []) r.end.taken r.took (refl, tt)
-          (ack_said i (offered_in i s.sent) (after_frame s.end (Data k n signal))) told;
+          (ack_genuine i (offered_in i s.sent) (after_frame s.end (Data k n signal))) told;
       back = carried_takes i r.end.kept r.end.acknowledged r.end.taken r.sent s.end.taken s.took signal n e at l.back;
     }
 
@@ -196,7 +196,7 @@ resends_if i s r false l =
     let Q : List Signal → Type 0 = λ x. IsLinked i (says s (numbered i (s.end.acknowledged + 1) x)) r in
     subst P (sym l.here)
     (subst Q (sym l.out.kept_is)
-    (linked_says i s r again (resent_old i s.end.acknowledged offered (omega arith)) (resent_said i s.end.acknowledged s.end.taken offered (omega arith)) l))
+    (linked_says i s r again (resent_old i s.end.acknowledged offered (omega arith)) (resent_genuine i s.end.acknowledged s.end.taken offered (omega arith)) l))
 
 pub linked_resends : (i : ℕ) (s r : Side) → IsLinked i s r → IsLinked i (says s (resent_by s.end)) r
 linked_resends i s r l = resends_if i s r s.end.closed l

@@ -14,9 +14,9 @@ use Rattle.link.specs.declared.arrival.Arrival.TheVariants as arrival
 use Rattle.link.specs.declared.fault.LinkFault.{LinkFault}
 use Rattle.signal.specs.Batch.{numbered}
 use Rattle.link.specs.Image.{Image, last_number, answer_of, after_frame, ack_of, hello_by, resent_by}
-use Rattle.link_laws.specs.Way.{offered_in, is_old, IsSaid}
+use Rattle.link_laws.specs.Way.{offered_in, is_old, IsGenuine}
 use Rattle.link_laws.specs.Link.{Side, says, lets_in, hears, gets, greeting, side_after, Gets, Offers, Resends, Greets, Closes, TurnsAway, Act, replaced}
-use Rattle.link_laws.proofs.Ways.{AreOld, AreSaid}
+use Rattle.link_laws.proofs.Ways.{AreOld, AreGenuine}
 use Rattle.link_laws.proofs.Carried.{IsLinked, linked_back, linked_says}
 use Rattle.link_laws.proofs.Taken.{at_place}
 
@@ -180,24 +180,24 @@ foreign_old i count (Data k n signal) h = other_old k i n count h
 foreign_old i count (Ack k n) h = refl
 foreign_old i count (Refuse k n) h = refl
 
-foreign_said : (i most : ℕ) (offered : List Signal) (frame : Frame) → IsForeign i frame → IsSaid i offered most frame
-foreign_said i most offered (Hello hello) h = λ e. absurd (h e)
-foreign_said i most offered (Data k n signal) h = λ e. absurd (h e)
-foreign_said i most offered (Ack k n) h = λ e. absurd (h e)
-foreign_said i most offered (Refuse k n) h = tt
+foreign_genuine : (i most : ℕ) (offered : List Signal) (frame : Frame) → IsForeign i frame → IsGenuine i offered most frame
+foreign_genuine i most offered (Hello hello) h = λ e. absurd (h e)
+foreign_genuine i most offered (Data k n signal) h = λ e. absurd (h e)
+foreign_genuine i most offered (Ack k n) h = λ e. absurd (h e)
+foreign_genuine i most offered (Refuse k n) h = tt
 
 pub all_old : (i count : ℕ) (frames : List Frame) → AreForeign i frames → AreOld i count frames
 all_old i count [] h = tt
 all_old i count (x ∷ xs) h = (foreign_old i count x h.0, all_old i count xs h.1)
 
-all_said : (i most : ℕ) (offered : List Signal) (frames : List Frame) → AreForeign i frames → AreSaid i offered most frames
-all_said i most offered [] h = tt
-all_said i most offered (x ∷ xs) h = (foreign_said i most offered x h.0, all_said i most offered xs h.1)
+all_genuine : (i most : ℕ) (offered : List Signal) (frames : List Frame) → AreForeign i frames → AreGenuine i offered most frames
+all_genuine i most offered [] h = tt
+all_genuine i most offered (x ∷ xs) h = (foreign_genuine i most offered x h.0, all_genuine i most offered xs h.1)
 
 pub foreign_says : (i : ℕ) (s r : Side) (more : List Frame) → AreForeign i more → IsLinked i s r → IsLinked i s (says r more)
 foreign_says i s r more foreign l =
     linked_back i (says r more) s
-    (linked_says i r s more (all_old i _ more foreign) (all_said i r.end.taken (offered_in i r.sent) more foreign) (linked_back i s r l))
+    (linked_says i r s more (all_old i _ more foreign) (all_genuine i r.end.taken (offered_in i r.sent) more foreign) (linked_back i s r l))
 
 pub replaced_is_blank : (i : ℕ) (s : Side) → i ≤ s.end.incarnation → IsBlank i (replaced s)
 replaced_is_blank i s h = record { later = omega arith; taken = refl; took = refl }

@@ -9,7 +9,7 @@ use Rattle.signal.specs.declared.signal.Signal.{Signal}
 use Rattle.signal.specs.declared.frame.Frame.{Frame}
 use Rattle.signal.specs.declared.frame.Frame.TheVariants.{Hello, Data, Ack, Refuse}
 use Rattle.signal.specs.Batch.{numbered}
-use Rattle.link_laws.specs.Way.{with_offered, offered_with, offered_in, is_old, IsSaid, IsWay}
+use Rattle.link_laws.specs.Way.{with_offered, offered_with, offered_in, is_old, IsGenuine, IsWay}
 use Rattle.link_laws.proofs.Places.{get_seam, get_more, length_of_rest}
 
 pub offered-append : (i : ℕ) (offered : List Signal) (xs ys : List Frame) → offered_with i offered (xs ++ ys) ≡ offered_with i (offered_with i offered xs) ys
@@ -46,26 +46,26 @@ offered_old i offered [] h = refl
 offered_old i offered (x ∷ xs) h = ap (λ (o : List Signal). offered_with i o xs) (with_old i offered x h.0) ∙ offered_old i offered xs h.1
 
 -- what was said stays said as more is offered and more may be told
-pub said_more : (i most more : ℕ) (offered others : List Signal) (frame : Frame) → most ≤ more → IsSaid i offered most frame → IsSaid i (offered ++ others) more frame
-said_more i most more offered others (Hello hello) l h = λ e. (let m = h e in omega arith)
-said_more i most more offered others (Data k n signal) l h = λ e. ((h e).0, get_more offered others (n - 1) signal (h e).1)
-said_more i most more offered others (Ack k n) l h = λ e. (let m = h e in omega arith)
-said_more i most more offered others (Refuse k n) l h = h
+pub genuine_more : (i most more : ℕ) (offered others : List Signal) (frame : Frame) → most ≤ more → IsGenuine i offered most frame → IsGenuine i (offered ++ others) more frame
+genuine_more i most more offered others (Hello hello) l h = λ e. (let m = h e in omega arith)
+genuine_more i most more offered others (Data k n signal) l h = λ e. ((h e).0, get_more offered others (n - 1) signal (h e).1)
+genuine_more i most more offered others (Ack k n) l h = λ e. (let m = h e in omega arith)
+genuine_more i most more offered others (Refuse k n) l h = h
 
-abbrev pub AreSaid : ℕ → List Signal → ℕ → List Frame → Type 0
-AreSaid i offered most frames = AllByRecursion (IsSaid i offered most) frames
+abbrev pub AreGenuine : ℕ → List Signal → ℕ → List Frame → Type 0
+AreGenuine i offered most frames = AllByRecursion (IsGenuine i offered most) frames
 
-pub all_said_more : (i most more : ℕ) (offered others : List Signal) (frames : List Frame) → most ≤ more → AreSaid i offered most frames → AreSaid i (offered ++ others) more frames
-all_said_more i most more offered others frames l h = each_more (IsSaid i offered most) (IsSaid i (offered ++ others) more) (λ f s. said_more i most more offered others f l s) frames h
+pub all_genuine_more : (i most more : ℕ) (offered others : List Signal) (frames : List Frame) → most ≤ more → AreGenuine i offered most frames → AreGenuine i (offered ++ others) more frames
+all_genuine_more i most more offered others frames l h = each_more (IsGenuine i offered most) (IsGenuine i (offered ++ others) more) (λ f s. genuine_more i most more offered others f l s) frames h
 
 -- numbered signals are said where they stand at their numbers
-pub numbered_said : (i n most : ℕ) (before signals : List Signal) → n ≡ length before + 1 → AreSaid i (before ++ signals) most (numbered i n signals)
-numbered_said i n most before [] e = tt
-numbered_said i n most before (signal ∷ rest) e =
+pub numbered_genuine : (i n most : ℕ) (before signals : List Signal) → n ≡ length before + 1 → AreGenuine i (before ++ signals) most (numbered i n signals)
+numbered_genuine i n most before [] e = tt
+numbered_genuine i n most before (signal ∷ rest) e =
     let longer = length-append before (signal ∷ []) in
-    let P : List Signal → Type 0 = λ x. AreSaid i x most (numbered i (n + 1) rest) in (
+    let P : List Signal → Type 0 = λ x. AreGenuine i x most (numbered i (n + 1) rest) in (
       (λ same. (omega arith, get_seam before signal rest (n - 1) (omega arith))),
-      subst P (append_assoc before (signal ∷ []) rest) (numbered_said i (n + 1) most (before ++ signal ∷ []) rest (omega arith)),
+      subst P (append_assoc before (signal ∷ []) rest) (numbered_genuine i (n + 1) most (before ++ signal ∷ []) rest (omega arith)),
     )
 
 number_old : (i k n count : ℕ) → n ≤ count → (not (nat_eq k i) || nat_le n count) ≡ true
@@ -76,10 +76,10 @@ numbered_old i n count [] l = tt
 numbered_old i n count (signal ∷ rest) l = (number_old i i n count (omega arith), numbered_old i (n + 1) count rest (omega arith))
 
 -- a direction with more frames: some that bring these signals
-pub way_offers : (i most more : ℕ) (frames : List Frame) (signals : List Signal) → most ≤ more → AreSaid i (offered_in i frames) most frames → AreSaid i (offered_in i frames ++ signals) more (frames ++ numbered i (length (offered_in i frames) + 1) signals)
+pub way_offers : (i most more : ℕ) (frames : List Frame) (signals : List Signal) → most ≤ more → AreGenuine i (offered_in i frames) most frames → AreGenuine i (offered_in i frames ++ signals) more (frames ++ numbered i (length (offered_in i frames) + 1) signals)
 way_offers i most more frames signals l h =
-    each_append (IsSaid i (offered_in i frames ++ signals) more) frames (numbered i (length (offered_in i frames) + 1) signals)
-    (all_said_more i most more (offered_in i frames) signals frames l h) (numbered_said i (length (offered_in i frames) + 1) more (offered_in i frames) signals refl)
+    each_append (IsGenuine i (offered_in i frames ++ signals) more) frames (numbered i (length (offered_in i frames) + 1) signals)
+    (all_genuine_more i most more (offered_in i frames) signals frames l h) (numbered_genuine i (length (offered_in i frames) + 1) more (offered_in i frames) signals refl)
 
 pub offers_more : (i : ℕ) (frames : List Frame) (signals : List Signal) → offered_in i (frames ++ numbered i (length (offered_in i frames) + 1) signals) ≡ offered_in i frames ++ signals
 offers_more i frames signals =
@@ -90,11 +90,11 @@ offers_more i frames signals =
 pub offers_same : (i : ℕ) (frames more : List Frame) → AreOld i (length (offered_in i frames)) more → offered_in i (frames ++ more) ≡ offered_in i frames
 offers_same i frames more h = offered-append i [] frames more ∙ offered_old i (offered_in i frames) more h
 
-pub way_repeats : (i most more : ℕ) (frames others : List Frame) → most ≤ more → AreSaid i (offered_in i frames) most frames → AreSaid i (offered_in i frames) more others → AreSaid i (offered_in i frames) more (frames ++ others)
+pub way_repeats : (i most more : ℕ) (frames others : List Frame) → most ≤ more → AreGenuine i (offered_in i frames) most frames → AreGenuine i (offered_in i frames) more others → AreGenuine i (offered_in i frames) more (frames ++ others)
 way_repeats i most more frames others l h k =
-    let P : List Signal → Type 0 = λ x. AreSaid i x more frames in
-    each_append (IsSaid i (offered_in i frames) more) frames others
-    (subst P (append-nil (offered_in i frames)) (all_said_more i most more (offered_in i frames) [] frames l h)) k
+    let P : List Signal → Type 0 = λ x. AreGenuine i x more frames in
+    each_append (IsGenuine i (offered_in i frames) more) frames others
+    (subst P (append-nil (offered_in i frames)) (all_genuine_more i most more (offered_in i frames) [] frames l h)) k
 
 -- what is sent again is old, and was said
 length_of_take : {X : Type 0} (k : ℕ) (xs : List X) → k ≤ length xs → length (take k xs) ≡ k
@@ -102,11 +102,11 @@ length_of_take zero xs l = refl
 length_of_take (suc k) [] l = absurd (omega arith)
 length_of_take (suc k) (x ∷ xs) l = ap suc (length_of_take k xs (omega arith))
 
-pub resent_said : (i k most : ℕ) (offered : List Signal) → k ≤ length offered → AreSaid i offered most (numbered i (k + 1) (drop k offered))
-resent_said i k most offered l =
-    let P : List Signal → Type 0 = λ x. AreSaid i x most (numbered i (k + 1) (drop k offered)) in
+pub resent_genuine : (i k most : ℕ) (offered : List Signal) → k ≤ length offered → AreGenuine i offered most (numbered i (k + 1) (drop k offered))
+resent_genuine i k most offered l =
+    let P : List Signal → Type 0 = λ x. AreGenuine i x most (numbered i (k + 1) (drop k offered)) in
     let size = length_of_take k offered l in
-    subst P (take-append-drop k offered) (numbered_said i (k + 1) most (take k offered) (drop k offered) (omega arith))
+    subst P (take-append-drop k offered) (numbered_genuine i (k + 1) most (take k offered) (drop k offered) (omega arith))
 
 pub resent_old : (i k : ℕ) (offered : List Signal) → k ≤ length offered → AreOld i (length offered) (numbered i (k + 1) (drop k offered))
 resent_old i k offered l = let size = length_of_rest k offered l in numbered_old i (k + 1) (length offered) (drop k offered) (omega arith)
@@ -115,13 +115,13 @@ resent_old i k offered l = let size = length_of_rest k offered l in numbered_old
 pub way_with_more : (i most more : ℕ) (frames : List Frame) (signals : List Signal) → most ≤ more → IsWay i most frames → IsWay i more (frames ++ numbered i (length (offered_in i frames) + 1) signals)
 way_with_more i most more frames signals l w =
     let sent = numbered i (length (offered_in i frames) + 1) signals in
-    let P : List Signal → Type 0 = λ x. All (IsSaid i x more) (frames ++ sent) in
+    let P : List Signal → Type 0 = λ x. All (IsGenuine i x more) (frames ++ sent) in
     subst P (sym (offers_more i frames signals))
-    (from_each (IsSaid i (offered_in i frames ++ signals) more) (frames ++ sent) (way_offers i most more frames signals l (each (IsSaid i (offered_in i frames) most) frames w)))
+    (from_each (IsGenuine i (offered_in i frames ++ signals) more) (frames ++ sent) (way_offers i most more frames signals l (each (IsGenuine i (offered_in i frames) most) frames w)))
 
-pub way_with_old : (i most more : ℕ) (frames others : List Frame) → most ≤ more → IsWay i most frames → All (λ f. IsTrue (is_old i (length (offered_in i frames)) f)) others → All (IsSaid i (offered_in i frames) more) others → IsWay i more (frames ++ others)
-way_with_old i most more frames others l w old said =
-    let P : List Signal → Type 0 = λ x. All (IsSaid i x more) (frames ++ others) in
+pub way_with_old : (i most more : ℕ) (frames others : List Frame) → most ≤ more → IsWay i most frames → All (λ f. IsTrue (is_old i (length (offered_in i frames)) f)) others → All (IsGenuine i (offered_in i frames) more) others → IsWay i more (frames ++ others)
+way_with_old i most more frames others l w old genuine =
+    let P : List Signal → Type 0 = λ x. All (IsGenuine i x more) (frames ++ others) in
     subst P (sym (offers_same i frames others (each (λ f. IsTrue (is_old i (length (offered_in i frames)) f)) others old)))
-    (from_each (IsSaid i (offered_in i frames) more) (frames ++ others)
-    (way_repeats i most more frames others l (each (IsSaid i (offered_in i frames) most) frames w) (each (IsSaid i (offered_in i frames) more) others said)))
+    (from_each (IsGenuine i (offered_in i frames) more) (frames ++ others)
+    (way_repeats i most more frames others l (each (IsGenuine i (offered_in i frames) most) frames w) (each (IsGenuine i (offered_in i frames) more) others genuine)))

@@ -1,5 +1,7 @@
--- A link with any nodes at its two ends, of which the second may forget all: what may be done at one end, and what both have taken then.
-use Rattle.std.specs.Prelude.{◌≡◌, ◌≢◌, ℕ, ◌+◌, ◌≤◌, length, take, Bool, true, false, if◌then◌else◌, List, [], ◌∷◌, ◌++◌, slice_get, Option, None, Some, Result, Ok, Err}
+-- A link with any nodes at its two ends, of which the second may forget all: what may be done at one end, and what both
+-- have taken then.
+use Rattle.std.specs.Prelude.{◌≡◌, ◌≢◌, ℕ, ◌+◌, ◌≤◌, length, take, Bool, true, false, if◌then◌else◌, List, [], ◌∷◌}
+use Rattle.std.specs.Prelude.{◌++◌, slice_get, Option, None, Some, Result, Ok, Err}
 use Rattle.signal.specs.declared.signal.Signal.{Signal}
 use Rattle.signal.specs.declared.frame.Frame.{Frame}
 use Rattle.signal.specs.declared.frame.Frame.TheVariants.{Hello, Data, Ack, Refuse}
@@ -8,7 +10,8 @@ use Rattle.link.specs.declared.arrival.Arrival.TheVariants as arrival
 use Rattle.link.specs.declared.fault.LinkFault.{LinkFault}
 use Rattle.signal.specs.Batch.{numbered}
 use Rattle.link_laws.specs.Way.{offered_in}
-use Rattle.link.specs.Image.{Image, blank, last_number, answer_of, after_frame, after_close, ack_of, hello_of, resent_by}
+use Rattle.link.specs.Image.{Image, blank, last_number, answer_of, after_frame, after_close, ack_of, hello_of}
+use Rattle.link.specs.Image.{resent_by}
 
 -- one side of a link: its end, the frames that it ever sent, and the signals that its node took
 pub record Side : Type 0 where
@@ -37,10 +40,15 @@ notes s frame = record s { end = after_frame s.end frame }
 -- a side whose node takes a signal: it is acknowledged
 abbrev pub takes : Side → Frame → Signal → Side
 takes s frame signal =
-    record { end = after_frame s.end frame; sent = s.sent ++ ack_of (after_frame s.end frame) ∷ []; took = s.took ++ signal ∷ [] }
+    record {
+      end = after_frame s.end frame;
+      sent = s.sent ++ ack_of (after_frame s.end frame) ∷ [];
+      took = s.took
+          ++ signal ∷ [];
+    }
 
--- a side after a frame that its end doesn't refuse. A signal in its turn goes to the node, and is taken or isn't; a repeated one is
--- acknowledged again; a greeting is answered by all that is kept
+-- a side after a frame that its end doesn't refuse. A signal in its turn goes to the node, and is taken or isn't; a
+-- repeated one is acknowledged again; a greeting is answered by all that is kept
 abbrev pub lets_in : (is_taken : Bool) → Side → Frame → Arrival → Side
 lets_in true s (Data i n signal) arrival.Signal = takes s (Data i n signal) signal
 lets_in false s (Data i n signal) arrival.Signal = s
@@ -64,9 +72,9 @@ abbrev pub greeting : Option Frame → List Frame
 greeting None = []
 greeting (Some frame) = frame ∷ []
 
--- what may be done at a side: a frame that the other sent at this place comes, and its signal, if it is one in its turn, is taken or
--- isn't; the node sends signals; all that is kept is sent again; the other side is greeted; the link is closed, and the other side is answered so
--- with a number; or a frame of another incarnation is sent
+-- what may be done at a side: a frame that the other sent at this place comes, and its signal, if it is one in its
+-- turn, is taken or isn't; the node sends signals; all that is kept is sent again; the other side is greeted; the link
+-- is closed, and the other side is answered so with a number; or a frame of another incarnation is sent
 pub data Act : Type 0 where
   Gets : (place : ℕ) → (is_taken : Bool) → Act
   Offers : (signals : List Signal) → Act
@@ -125,4 +133,6 @@ pub record IsTakenInOrder (incarnation : ℕ) (s r : Side) : Type 0 where
 
 -- no frame that the second side sent tells the first one of signals taken that were never offered
 abbrev pub TellsNothingUnsent : Side → Side → Type 0
-TellsNothingUnsent s r = (place : ℕ) (frame : Frame) → slice_get r.sent place ≡ Some frame → answer_of s.end frame ≢ Err LinkFault.AckOfUnsent
+TellsNothingUnsent s r =
+    (place : ℕ) (frame : Frame) → slice_get r.sent place ≡ Some frame
+    → answer_of s.end frame ≢ Err LinkFault.AckOfUnsent

@@ -44,9 +44,9 @@ zip_length R [] (x ∷ xs) h = absurd h
 zip_length R (t ∷ ts) [] h = absurd h
 zip_length R (t ∷ ts) (x ∷ xs) h = ap suc (zip_length R ts xs h.1)
 
-few_said : {X : Type 0} (R : Members → X → Type 0) (key : List ℕ) (m : Members) (values : List Value) (xs : List X) (most : ℕ)
+few_read : {X : Type 0} (R : Members → X → Type 0) (key : List ℕ) (m : Members) (values : List Value) (xs : List X) (most : ℕ)
     → length values ≤ most → SaysArray key m (map view values) → SaysEach R key m xs → length xs ≤ most
-few_said R key m values xs most few held says =
+few_read R key m values xs most few held says =
     let same : length (map view values) ≡ length (map table says.tables) = ap length (one_array key m (map view values) (map table says.tables) held says.there) in
     let zipped : length says.tables ≡ length xs = zip_length R says.tables xs says.each in
     omega (arith, length-map values view, length-map says.tables table)
@@ -54,7 +54,7 @@ few_said R key m values xs most few held says =
 -- as many are read as there are entries
 pub each_few : {X : Type 0} {most : ℕ} (R : Members → X → Type 0) (key : List ℕ) (m : Members) (values : List Value) (r : Result (Vec X Global) TableFault)
     → length values ≤ most → SaysArray key m (map view values) → IfOk r (λ each. SaysEach R key m each.items) → IfOk r (λ each. length each.items ≤ most)
-each_few {X} {most} R key m values (Ok each) few held says = few_said R key m values each.items most few held says
+each_few {X} {most} R key m values (Ok each) few held says = few_read R key m values each.items most few held says
 each_few R key m values (Err fault) few held says = says
 
 abbrev timer_with : List ℕ → ℕ → ℕ → Timer

@@ -6,7 +6,8 @@ use Rattle.plan.specs.declared.input_fault.InputFault.TheVariants as input_fault
 use Rattle.loadfed_tables.specs.declared.fault.TableFault.{TableFault}
 use Rattle.loadfed_tables.specs.declared.fault.TableFault.TheVariants as table_fault
 use Rattle.loadfed.specs.declared.fault.LoadFault.{LoadFault}
-use Rattle.loadfed.specs.declared.fault.LoadFault.TheVariants.{NotToml, WrongShape, Plan, UnknownAction, RepeatedInput, OverLimit, Memory}
+use Rattle.loadfed.specs.declared.fault.LoadFault.TheVariants.{NotToml, WrongShape, Plan, UnknownAction, RepeatedInput}
+use Rattle.loadfed.specs.declared.fault.LoadFault.TheVariants.{OverLimit, Memory}
 
 -- a fault of a table
 abbrev pub fault_of_table : TableFault → LoadFault

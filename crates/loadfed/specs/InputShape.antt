@@ -1,5 +1,6 @@
 -- What an input file says, and what stands against it, stage by stage.
-use Rattle.std.specs.Prelude.{◌≡◌, ℕ, ◌≤◌, ◌⊎◌, List, [], ◌∷◌, length, codes, All, AllPairs, IsSome, Result, MatchResult}
+use Rattle.std.specs.Prelude.{◌≡◌, ℕ, ◌≤◌, ◌⊎◌, List, [], ◌∷◌, length, codes, All, AllPairs, IsSome, Result}
+use Rattle.std.specs.Prelude.{MatchResult}
 use Rattle.toml.specs.Data.{Members}
 use Rattle.plan.specs.declared.draft.Draft.{Draft}
 use Rattle.plan.specs.declared.input.Input.{Input}
@@ -49,7 +50,8 @@ HasInputFault members fault =
 
 -- what is wrong with the shape of an input file, and at which key
 abbrev pub HasInputsFault : Members → TableFault → Type 0
-HasInputsFault members fault = HasUnknownKey input_file_keys members fault ⊎ HasTablesFault HasInputFault (codes "input") members fault
+HasInputsFault members fault =
+    HasUnknownKey input_file_keys members fault ⊎ HasTablesFault HasInputFault (codes "input") members fault
 
 -- a file that isn't too long records these inputs
 pub record SaysInputFile (bytes : List ℕ) (inputs : List Input) : Type 0 where
@@ -67,9 +69,11 @@ pub data IsFaultOfInputs (d : Draft) (inputs : List Input) (fault : LoadFault) :
   -- an input is for an action that isn't there
   unknown_action : fault ≡ UnknownAction → ¬ (AreKnown d inputs) → IsFaultOfInputs d inputs fault
   -- one action has two inputs at one tag
-  repeated_input : fault ≡ RepeatedInput → AreKnown d inputs → ¬ (AllPairs AreApart inputs) → IsFaultOfInputs d inputs fault
+  repeated_input : fault ≡ RepeatedInput → AreKnown d inputs → ¬ (AllPairs AreApart inputs)
+      → IsFaultOfInputs d inputs fault
   -- there are more inputs than there may be
-  too_many : fault ≡ OverLimit → AreKnown d inputs → AllPairs AreApart inputs → ¬ (length inputs ≤ MOST_INPUTS) → IsFaultOfInputs d inputs fault
+  too_many : fault ≡ OverLimit → AreKnown d inputs → AllPairs AreApart inputs → ¬ (length inputs ≤ MOST_INPUTS)
+      → IsFaultOfInputs d inputs fault
 
 -- the recorded inputs aren't inputs of the federation
 pub record HasRecordedFault (d : Draft) (bytes : List ℕ) (fault : LoadFault) : Type 0 where
@@ -92,4 +96,5 @@ pub data HasInputFileFault (d : Draft) (bytes : List ℕ) (fault : LoadFault) : 
 
 -- what loading an input file answers: the inputs of the federation that it records, or why it records none
 abbrev pub IsInputLoading : Draft → List ℕ → Result (List Input) LoadFault → Type 0
-IsInputLoading d bytes result = MatchResult result (λ inputs. SaysInputFile bytes inputs × AreInputsOf d inputs) (HasInputFileFault d bytes)
+IsInputLoading d bytes result =
+    MatchResult result (λ inputs. SaysInputFile bytes inputs × AreInputsOf d inputs) (HasInputFileFault d bytes)

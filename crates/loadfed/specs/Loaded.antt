@@ -54,7 +54,8 @@ pub record IsNoDocument (most : ℕ) (bytes : List ℕ) (fault : LoadFault) : Ty
   pub none : (file : Members) → IsDocument bytes file → ⊥
 
 -- a document with a fault in its tables
-pub record HasFileFault (Has : Members → TableFault → Type 0) (most : ℕ) (bytes : List ℕ) (fault : LoadFault) : Type 0 where
+pub record HasFileFault (Has : Members → TableFault → Type 0) (most : ℕ) (bytes : List ℕ)
+    (fault : LoadFault) : Type 0 where
   pub few : length bytes ≤ most
   pub file : Members
   pub document : IsDocument bytes file
@@ -120,4 +121,5 @@ pub data HasLoadFault (bytes : List ℕ) (fault : LoadFault) : Type 0 where
 -- what loading a federation file answers: the federation that it is, with its programs, or why it is none
 abbrev pub IsLoading : List ℕ → Result (Draft × List Behaviour) LoadFault → Type 0
 IsLoading bytes result =
-    MatchResult result (λ loaded. IsFederationFile bytes loaded.0 loaded.1 × AreProgramsOf loaded.0 loaded.1) (HasLoadFault bytes)
+    MatchResult result (λ loaded. IsFederationFile bytes loaded.0 loaded.1 × AreProgramsOf loaded.0 loaded.1)
+    (HasLoadFault bytes)

@@ -6,7 +6,8 @@ use Rattle.plan.specs.PlanFaults as plan_faults
 use Rattle.plan.specs.InputFaults.{input_number_of, printed_input_fault}
 use Rattle.reactor_program.specs.ProgramFaults.{printed_fault_of}
 use Rattle.loadfed.specs.declared.fault.LoadFault.{LoadFault}
-use Rattle.loadfed.specs.declared.fault.LoadFault.TheVariants.{NotToml, WrongShape, Plan, Program, UnknownAction, RepeatedInput, OverLimit, Memory}
+use Rattle.loadfed.specs.declared.fault.LoadFault.TheVariants.{NotToml, WrongShape, Plan, Program, UnknownAction}
+use Rattle.loadfed.specs.declared.fault.LoadFault.TheVariants.{RepeatedInput, OverLimit, Memory}
 
 -- the refusal's number; those of recorded inputs are `plan`'s
 abbrev pub number_of : LoadFault → ℕ

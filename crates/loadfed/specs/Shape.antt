@@ -11,7 +11,8 @@ use Rattle.reactor_program.specs.declared.program.State.{State}
 use Rattle.reactor_program.specs.declared.reaction_draft.ReactionDraft.{ReactionDraft}
 use Rattle.toml.specs.Data.{Members}
 use Rattle.reactor_program.specs.declared.limits.TheConstants.{MOST_STATES, MOST_REACTIONS, MOST_LINES}
-use Rattle.loadfed_tables.specs.Tables.{HasOnly, SaysNumber, SaysName, SaysPort, SaysDuration, MaySay, SaysDurationOrZero, SaysTexts, SaysNames, SaysTables, SaysEach}
+use Rattle.loadfed_tables.specs.Tables.{HasOnly, SaysNumber, SaysName, SaysPort, SaysDuration, MaySay}
+use Rattle.loadfed_tables.specs.Tables.{SaysDurationOrZero, SaysTexts, SaysNames, SaysTables, SaysEach}
 
 -- the keys of a federation file
 abbrev pub file_keys : List (List ℕ)
@@ -20,7 +21,8 @@ file_keys = codes "stop" ∷ codes "federate" ∷ codes "connection" ∷ []
 -- the keys of a federate
 abbrev pub federate_keys : List (List ℕ)
 federate_keys =
-    codes "name" ∷ codes "inputs" ∷ codes "outputs" ∷ codes "actions" ∷ codes "physical" ∷ codes "timers" ∷ codes "state"
+    codes "name" ∷ codes "inputs" ∷ codes "outputs" ∷ codes "actions" ∷ codes "physical" ∷ codes "timers"
+    ∷ codes "state"
     ∷ codes "reaction" ∷ []
 
 -- the keys of a timer

@@ -4,9 +4,11 @@ use Rattle.toml.specs.Data.{Data, table, Members}
 use Rattle.reactor_program.specs.declared.limits.TheConstants.{MOST_STATES, MOST_REACTIONS, MOST_LINES}
 use Rattle.loadfed_tables.specs.declared.fault.TableFault.{TableFault}
 use Rattle.loadfed_tables.specs.declared.fault.TableFault.TheVariants.{OverLimit}
-use Rattle.loadfed_tables.specs.Tables.{SaysNumber, SaysName, SaysDuration, MaySay, SaysDurationOrZero, SaysArray, SaysTexts, SaysNames, SaysTables, SaysPort}
+use Rattle.loadfed_tables.specs.Tables.{SaysNumber, SaysName, SaysDuration, MaySay, SaysDurationOrZero, SaysArray}
+use Rattle.loadfed_tables.specs.Tables.{SaysTexts, SaysNames, SaysTables, SaysPort}
 use Rattle.loadfed_tables.specs.TableFaults.{IsWrongAt, HasUnknownKey}
-use Rattle.loadfed.specs.Shape.{file_keys, federate_keys, timer_keys, state_keys, reaction_keys, connection_keys, SaysTriggers, SaysFederateName}
+use Rattle.loadfed.specs.Shape.{file_keys, federate_keys, timer_keys, state_keys, reaction_keys, connection_keys}
+use Rattle.loadfed.specs.Shape.{SaysTriggers, SaysFederateName}
 
 -- more entries than there may be
 pub record HasTooMany (key : List ℕ) (most : ℕ) (members : Members) (fault : TableFault) : Type 0 where
@@ -16,7 +18,8 @@ pub record HasTooMany (key : List ℕ) (most : ℕ) (members : Members) (fault :
   pub many : most < length entries
 
 -- a fault in one of the tables of an array
-pub record HasFaultInside (Has : Members → TableFault → Type 0) (key : List ℕ) (members : Members) (fault : TableFault) : Type 0 where
+pub record HasFaultInside (Has : Members → TableFault → Type 0) (key : List ℕ) (members : Members)
+    (fault : TableFault) : Type 0 where
   pub entries : List Data
   pub there : SaysArray key members entries
   pub place : ℕ
@@ -26,7 +29,8 @@ pub record HasFaultInside (Has : Members → TableFault → Type 0) (key : List 
 
 -- no array of tables, or a fault in one of them
 abbrev pub HasTablesFault : (Members → TableFault → Type 0) → List ℕ → Members → TableFault → Type 0
-HasTablesFault Has key members fault = IsWrongAt key (SaysTables key members) fault ⊎ HasFaultInside Has key members fault
+HasTablesFault Has key members fault =
+    IsWrongAt key (SaysTables key members) fault ⊎ HasFaultInside Has key members fault
 
 -- in a timer's table
 abbrev pub HasTimerFault : Members → TableFault → Type 0
@@ -59,7 +63,8 @@ HasStatesFault members fault =
 -- in the reactions of a federate: too many, or one of them
 abbrev pub HasReactionsFault : Members → TableFault → Type 0
 HasReactionsFault members fault =
-    HasTooMany (codes "reaction") MOST_REACTIONS members fault ⊎ HasTablesFault HasReactionFault (codes "reaction") members fault
+    HasTooMany (codes "reaction") MOST_REACTIONS members fault
+    ⊎ HasTablesFault HasReactionFault (codes "reaction") members fault
 
 -- no array of names stands at the key
 abbrev pub HasNamesFault : List ℕ → Members → TableFault → Type 0

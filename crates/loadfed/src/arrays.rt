@@ -20,7 +20,8 @@ pub trait FromTable: Sized + Drop {
 
     fn from_table(alloc: Global, table: &Section<'_>) -> Result<Self, TableFault>
         ensures ok { IfOk result (says (members_of table.now)) }
-        ensures refused { IfErr result (λ fault. (fault ≡ TableFault.Memory) ⊎ has_fault (members_of table.now) fault) };
+        ensures refused { IfErr result
+            (λ fault. (fault ≡ TableFault.Memory) ⊎ has_fault (members_of table.now) fault) };
 }
 
 /// What the tables of the array at a key say, in their order.
@@ -30,14 +31,15 @@ pub fn read_each<T: FromTable>(
     key: &str,
 ) -> Result<Vec<T>, TableFault>
     ensures ok { IfOk result (λ each. SaysEach T.says key.now (members_of section.now) each.items) }
-    ensures refused { IfErr result (λ fault. (fault ≡ TableFault.Memory) ⊎ HasTablesFault T.has_fault key.now (members_of section.now) fault) }
+    ensures refused { IfErr result
+        (λ fault. (fault ≡ TableFault.Memory) ⊎ HasTablesFault T.has_fault key.now (members_of section.now) fault) }
 {
     let values = section.array(key)?;
     let mut each = Vec::new(alloc);
     for value in values {
         let table = Section::entry(alloc, key, value)?;
-        let said = T::from_table(alloc, &table)?;
-        each.push(said)?;
+        let entry = T::from_table(alloc, &table)?;
+        each.push(entry)?;
     }
     Ok(each)
 }

@@ -12,7 +12,9 @@ use std::alloc::Global;
 /// The connections in a file's table.
 pub fn connections_shape(alloc: Global, file: &Section<'_>) -> Result<Connections, TableFault>
     ensures ok { IfOk result (SaysEach SaysConnection (codes "connection") (members_of file.now)) }
-    ensures refused { IfErr result (λ fault. (fault ≡ TableFault.Memory) ⊎ HasTablesFault HasConnectionFault (codes "connection") (members_of file.now) fault) }
+    ensures refused { IfErr result
+        (λ fault. (fault ≡ TableFault.Memory)
+        ⊎ HasTablesFault HasConnectionFault (codes "connection") (members_of file.now) fault) }
 {
     let connections = read_each(alloc, file, "connection")?;
     Ok(Connections::new(connections))

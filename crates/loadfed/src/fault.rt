@@ -9,8 +9,8 @@ use reactor_program::ProgramFault;
 use std::alloc::{AllocError, AllocFailed};
 use std::fmt;
 
-/// Why a file isn't taken. Nothing of it is kept. But for `Memory`, whoever wrote the file caused it: the caller prints them, and
-/// may load the file again once it is changed.
+/// Why a file isn't taken. Nothing of it is kept. But for `Memory`, whoever wrote the file caused it: the caller prints
+/// them, and may load the file again once it is changed.
 #[derive(Debug, Drop)]
 pub enum LoadFault {
     /// The bytes are no TOML document.
@@ -27,7 +27,8 @@ pub enum LoadFault {
     RepeatedInput,
     /// A file that is too long, or more states, reactions, lines or recorded inputs than there may be. Write fewer.
     OverLimit,
-    /// An allocation failed, wherever it was: the machine caused it, and the file may be good. The same call may be made again.
+    /// An allocation failed, wherever it was: the machine caused it, and the file may be good. The same call may be
+    /// made again.
     Memory,
 }
 

@@ -5,7 +5,8 @@ ghost use Rattle.plan.specs.Legal.{IsLegal};
 ghost use Rattle.reactor_program.specs.Behaviour.{Behaviour};
 ghost use Rattle.reactor_programs.specs.Programs.{AreProgramsOf};
 ghost use Rattle.reactor_program.specs.Spelled.{SpellsProgram, IsReadable};
-ghost use Rattle.loadfed.specs.Loaded.{SpellPrograms, IsFederationFile, IsPlanFault, IsProgramFault, IsFaultAmong, IsLoading};
+ghost use Rattle.loadfed.specs.Loaded.{SpellPrograms, IsFederationFile, IsPlanFault, IsProgramFault, IsFaultAmong};
+ghost use Rattle.loadfed.specs.Loaded.{IsLoading};
 
 use crate::errors::{of_plan, of_program};
 use crate::fault::LoadFault;
@@ -20,12 +21,14 @@ use std::alloc::Global;
 /// The most bytes that a federation file has.
 pub const MOST_BYTES: usize = 1_048_576;
 
-/// The federation that a file's bytes spell. The first stage that has a fault answers: size, TOML, shape, plan, programs.
+/// The federation that a file's bytes spell. The first stage that has a fault answers: size, TOML, shape, plan,
+/// programs.
 pub fn load(alloc: Global, bytes: &[u8]) -> Result<(Plan, Programs), LoadFault>
     ensures outcome { IsLoading bytes.now result }
 
     // Of a file that is a federation out of memory alone is answered.
-    ensures accepts { (d : Draft) (programs : List Behaviour) → IsFederationFile bytes.now d programs → IfErr result (λ fault. fault ≡ LoadFault.Memory) }
+    ensures accepts { (d : Draft) (programs : List Behaviour) → IsFederationFile bytes.now d programs
+        → IfErr result (λ fault. fault ≡ LoadFault.Memory) }
 {
     staged(alloc, bytes)
 }
@@ -48,7 +51,10 @@ fn loaded(alloc: Global, shape: Shape) -> Result<(Plan, Programs), LoadFault>
     ensures legal { OnOk result (IsLegal shape.draft) }
     ensures spelled { IfOk result (λ loaded. SpellPrograms shape.draft.federates shape.programs.items loaded.1) }
     ensures programs { IfOk result (λ loaded. AreProgramsOf loaded.0 loaded.1) }
-    ensures refused { IfErr result (λ fault. (fault ≡ LoadFault.Memory) ⊎ (IsPlanFault shape.draft fault ⊎ (IsLegal shape.draft × IsFaultAmong shape.draft.federates shape.programs.items fault))) }
+    ensures refused { IfErr result
+        (λ fault. (fault ≡ LoadFault.Memory)
+        ⊎ (IsPlanFault shape.draft fault
+        ⊎ (IsLegal shape.draft × IsFaultAmong shape.draft.federates shape.programs.items fault))) }
 {
     let Shape { draft, programs } = shape;
     let plan = planned(alloc, draft)?;
@@ -76,7 +82,8 @@ fn planned(alloc: Global, draft: Draft) -> Result<Plan, LoadFault>
 fn parsed(alloc: Global, plan: &Plan, shapes: Vec<ProgramShape>) -> Result<Vec<Program>, LoadFault>
     requires { AreReady plan.now.federates shapes.items }
     ensures ok { IfOk result (λ programs. SpellPrograms plan.now.federates shapes.items programs.items) }
-    ensures refused { IfErr result (λ fault. (fault ≡ LoadFault.Memory) ⊎ IsFaultAmong plan.now.federates shapes.items fault) }
+    ensures refused { IfErr result
+        (λ fault. (fault ≡ LoadFault.Memory) ⊎ IsFaultAmong plan.now.federates shapes.items fault) }
 {
     // For the prover: the plan is legal.
     plan.invariant();

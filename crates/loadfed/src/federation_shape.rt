@@ -43,7 +43,9 @@ fn federates(
     file: &Section<'_>,
 ) -> Result<(Federates, Vec<ProgramShape>), TableFault>
     ensures ok { IfOk result (λ made. SaysFederates (members_of file.now) made.0 made.1.items) }
-    ensures refused { IfErr result (λ fault. (fault ≡ TableFault.Memory) ⊎ HasTablesFault HasFederateFault (codes "federate") (members_of file.now) fault) }
+    ensures refused { IfErr result
+        (λ fault. (fault ≡ TableFault.Memory)
+        ⊎ HasTablesFault HasFederateFault (codes "federate") (members_of file.now) fault) }
 {
     let shapes = read_each(alloc, file, "federate")?;
     parted(alloc, shapes)
@@ -54,7 +56,8 @@ fn parted(
     alloc: Global,
     shapes: Vec<FederateShape>,
 ) -> Result<(Federates, Vec<ProgramShape>), TableFault>
-    ensures ok { IfOk result (λ made. (made.0 ≡ map (λ shape. shape.federate) shapes.items) × (made.1.items ≡ map (λ shape. shape.program) shapes.items)) }
+    ensures ok { IfOk result (λ made. (made.0 ≡ map (λ shape. shape.federate) shapes.items)
+        × (made.1.items ≡ map (λ shape. shape.program) shapes.items)) }
     ensures refused { IfErr result (λ fault. fault ≡ TableFault.Memory) }
 {
     let mut federates = Vec::new(alloc);
@@ -95,7 +98,9 @@ impl FromTable for FederateShape {
 /// A federate's name, which isn't that of the coordinator.
 fn federate_name(alloc: Global, section: &Section<'_>) -> Result<Text, TableFault>
     ensures ok { IfOk result (SaysFederateName (members_of section.now)) }
-    ensures refused { IfErr result (λ fault. (fault ≡ TableFault.Memory) ⊎ IsWrongAt (codes "name") (SaysFederateName (members_of section.now)) fault) }
+    ensures refused { IfErr result
+        (λ fault. (fault ≡ TableFault.Memory)
+        ⊎ IsWrongAt (codes "name") (SaysFederateName (members_of section.now)) fault) }
 {
     let name = section.name("name")?;
     if name.is("coordinator") {

@@ -4,7 +4,8 @@ ghost use Rattle.loadfed_tables.specs.Sections.{members_of};
 ghost use Rattle.loadfed_tables.specs.Tables.{SaysTexts, SaysEach};
 ghost use Rattle.loadfed.specs.Shape.{SaysState, SaysTriggers, SaysReaction, SaysProgram};
 ghost use Rattle.loadfed_tables.specs.TableFaults.{IsWrongAt};
-ghost use Rattle.loadfed.specs.ShapeFaults.{HasTooMany, HasStateFault, HasReactionFault, HasStatesFault, HasReactionsFault};
+ghost use Rattle.loadfed.specs.ShapeFaults.{HasTooMany, HasStateFault, HasReactionFault, HasStatesFault};
+ghost use Rattle.loadfed.specs.ShapeFaults.{HasReactionsFault};
 
 use crate::arrays::{FromTable, read_each};
 use loadfed_tables::{Section, TableFault};
@@ -33,7 +34,9 @@ impl ProgramShape {
     /// The states and reactions in a federate's table.
     pub fn read(alloc: Global, federate: &Section<'_>) -> Result<ProgramShape, TableFault>
         ensures ok { IfOk result (SaysProgram (members_of federate.now)) }
-        ensures refused { IfErr result (λ fault. (fault ≡ TableFault.Memory) ⊎ (HasStatesFault (members_of federate.now) fault ⊎ HasReactionsFault (members_of federate.now) fault)) }
+        ensures refused { IfErr result
+            (λ fault. (fault ≡ TableFault.Memory)
+            ⊎ (HasStatesFault (members_of federate.now) fault ⊎ HasReactionsFault (members_of federate.now) fault)) }
     {
         let states = states(alloc, federate)?;
         let reactions = reactions(alloc, federate)?;
@@ -58,7 +61,8 @@ impl ProgramShape {
 fn states(alloc: Global, federate: &Section<'_>) -> Result<Vec<State>, TableFault>
     ensures ok { IfOk result (λ states. SaysEach SaysState (codes "state") (members_of federate.now) states.items) }
     ensures few { IfOk result (λ states. length states.items ≤ MOST_STATES) }
-    ensures refused { IfErr result (λ fault. (fault ≡ TableFault.Memory) ⊎ HasStatesFault (members_of federate.now) fault) }
+    ensures refused { IfErr result
+        (λ fault. (fault ≡ TableFault.Memory) ⊎ HasStatesFault (members_of federate.now) fault) }
 {
     let values = federate.array("state")?;
     if values.len() > MOST_STATES {
@@ -81,9 +85,11 @@ impl FromTable for State {
 }
 
 fn reactions(alloc: Global, federate: &Section<'_>) -> Result<Vec<ReactionDraft>, TableFault>
-    ensures ok { IfOk result (λ reactions. SaysEach SaysReaction (codes "reaction") (members_of federate.now) reactions.items) }
+    ensures ok { IfOk result (λ reactions.
+        SaysEach SaysReaction (codes "reaction") (members_of federate.now) reactions.items) }
     ensures few { IfOk result (λ reactions. length reactions.items ≤ MOST_REACTIONS) }
-    ensures refused { IfErr result (λ fault. (fault ≡ TableFault.Memory) ⊎ HasReactionsFault (members_of federate.now) fault) }
+    ensures refused { IfErr result
+        (λ fault. (fault ≡ TableFault.Memory) ⊎ HasReactionsFault (members_of federate.now) fault) }
 {
     let values = federate.array("reaction")?;
     if values.len() > MOST_REACTIONS {
@@ -108,7 +114,9 @@ impl FromTable for ReactionDraft {
 /// The triggers in a reaction's table, of which there is at least one.
 fn triggers(alloc: Global, section: &Section<'_>) -> Result<Names, TableFault>
     ensures ok { IfOk result (SaysTriggers (members_of section.now)) }
-    ensures refused { IfErr result (λ fault. (fault ≡ TableFault.Memory) ⊎ IsWrongAt (codes "triggers") (SaysTriggers (members_of section.now)) fault) }
+    ensures refused { IfErr result
+        (λ fault. (fault ≡ TableFault.Memory)
+        ⊎ IsWrongAt (codes "triggers") (SaysTriggers (members_of section.now)) fault) }
 {
     let triggers = section.texts("triggers")?;
     if triggers.as_slice().is_empty() {
@@ -122,7 +130,10 @@ fn triggers(alloc: Global, section: &Section<'_>) -> Result<Names, TableFault>
 fn body(section: &Section<'_>) -> Result<Names, TableFault>
     ensures ok { IfOk result (SaysTexts (codes "body") (members_of section.now)) }
     ensures few { IfOk result (λ body. length body ≤ MOST_LINES) }
-    ensures refused { IfErr result (λ fault. (fault ≡ TableFault.Memory) ⊎ (IsWrongAt (codes "body") (SaysTexts (codes "body") (members_of section.now)) fault ⊎ HasTooMany (codes "body") MOST_LINES (members_of section.now) fault)) }
+    ensures refused { IfErr result
+        (λ fault. (fault ≡ TableFault.Memory)
+        ⊎ (IsWrongAt (codes "body") (SaysTexts (codes "body") (members_of section.now)) fault
+        ⊎ HasTooMany (codes "body") MOST_LINES (members_of section.now) fault)) }
 {
     let body = section.texts("body")?;
     if body.as_slice().len() > MOST_LINES {

@@ -2,7 +2,8 @@ ghost use Rattle.std.specs.Prelude.{◌≡◌, ◌⊎◌, List, IfOk, IfErr, cod
 ghost use Rattle.plan.specs.declared.input.Input.{Input};
 ghost use Rattle.plan.specs.External.{AreInputsOf};
 ghost use Rattle.loadfed_tables.specs.Sections.{members_of};
-ghost use Rattle.loadfed.specs.InputShape.{SaysInput, SaysInputs, HasInputFault, HasInputsFault, SaysInputFile, IsFaultOfInputs, IsInputLoading};
+ghost use Rattle.loadfed.specs.InputShape.{SaysInput, SaysInputs, HasInputFault, HasInputsFault, SaysInputFile};
+ghost use Rattle.loadfed.specs.InputShape.{IsFaultOfInputs, IsInputLoading};
 
 use crate::arrays::{FromTable, read_each};
 use crate::errors::of_inputs;
@@ -15,13 +16,14 @@ use tag::FiniteTag;
 /// The most bytes that an input file has.
 pub const MOST_INPUT_BYTES: usize = 8_388_608;
 
-/// The inputs of this plan that a file's bytes record. The first stage that has a fault answers: size, TOML, shape, then an
-/// unknown action, a repeated input, and too many of them.
+/// The inputs of this plan that a file's bytes record. The first stage that has a fault answers: size, TOML, shape,
+/// then an unknown action, a repeated input, and too many of them.
 pub fn load_inputs(alloc: Global, bytes: &[u8], plan: &Plan) -> Result<Inputs, LoadFault>
     ensures outcome { IsInputLoading plan.now bytes.now result }
 
     // Of a file that records inputs of the plan out of memory alone is answered.
-    ensures accepts { (inputs : List Input) → SaysInputFile bytes.now inputs → AreInputsOf plan.now inputs → IfErr result (λ fault. fault ≡ LoadFault.Memory) }
+    ensures accepts { (inputs : List Input) → SaysInputFile bytes.now inputs → AreInputsOf plan.now inputs
+        → IfErr result (λ fault. fault ≡ LoadFault.Memory) }
 {
     staged(alloc, bytes, plan)
 }

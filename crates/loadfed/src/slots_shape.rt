@@ -17,7 +17,8 @@ pub fn slots_shape(
     reactions: &[ReactionDraft],
 ) -> Result<Slots, TableFault>
     ensures ok { IfOk result (SaysSlots reactions.now (members_of federate.now)) }
-    ensures refused { IfErr result (λ fault. (fault ≡ TableFault.Memory) ⊎ HasSlotsFault (members_of federate.now) fault) }
+    ensures refused { IfErr result
+        (λ fault. (fault ≡ TableFault.Memory) ⊎ HasSlotsFault (members_of federate.now) fault) }
 {
     let inputs = federate.names("inputs")?;
     let outputs = federate.names("outputs")?;

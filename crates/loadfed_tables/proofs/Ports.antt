@@ -48,8 +48,8 @@ back_told key m text front back fault says cut (inl memory) = inl memory
 back_told key m text front back fault says cut (inr h) =
     inr (record { told = h.0; nothing = no_port_of key m text front back says cut (λ f b. (let other = h.1 in cc)) })
 
-pub port_said : (key : List ℕ) (m : Members) (text front back federate port : List ℕ) → SaysText key m text → text ≡ front ++ (46 ∷ back) → federate ≡ front → port ≡ back
+pub port_read : (key : List ℕ) (m : Members) (text front back federate port : List ℕ) → SaysText key m text → text ≡ front ++ (46 ∷ back) → federate ≡ front → port ≡ back
     → IsTrue (is_name federate) → IsTrue (is_name port) → SaysPort key m (record { federate = federate; port = port })
-port_said key m text front back federate port says parts f b named_f named_b =
+port_read key m text front back federate port says parts f b named_f named_b =
     let same : text ≡ federate ++ (46 ∷ port) = parts ∙ sym (ap (λ x. x ++ (46 ∷ back)) f) ∙ sym (ap (λ x. federate ++ (46 ∷ x)) b) in
     record { text_is = subst (λ t. SaysText key m t) same says; federate_named = named_f; port_named = named_b }

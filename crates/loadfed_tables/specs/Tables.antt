@@ -1,5 +1,6 @@
 -- What stands at a key of a table of a TOML document.
-use Rattle.std.specs.Prelude.{◌≡◌, ℕ, ℤ, pos, ◌<◌, ◌^◌, ◌⊎◌, Bool, IsTrue, List, [], ◌∷◌, ◌++◌, codes, map, All, Option, None, Some}
+use Rattle.std.specs.Prelude.{◌≡◌, ℕ, ℤ, pos, ◌<◌, ◌^◌, ◌⊎◌, Bool, IsTrue, List, [], ◌∷◌, ◌++◌, codes, map, All, Option}
+use Rattle.std.specs.Prelude.{None, Some}
 use Rattle.std.specs.List.{AllZip, list_any}
 use Rattle.std.specs.Str.{bytes_eq}
 use Rattle.tag_text.specs.Duration.{Spells}
@@ -79,7 +80,8 @@ abbrev pub SaysTables : List ℕ → Members → List Members → Type 0
 SaysTables key members tables = SaysArray key members (map table tables)
 
 -- an array of tables, each of which says one of these, in their order
-pub record SaysEach {X : Type 0} (Says : Members → X → Type 0) (key : List ℕ) (members : Members) (xs : List X) : Type 0 where
+pub record SaysEach {X : Type 0} (Says : Members → X → Type 0) (key : List ℕ) (members : Members)
+    (xs : List X) : Type 0 where
   pub tables : List Members
   pub there : SaysTables key members tables
   pub each : AllZip Says tables xs

@@ -10,7 +10,9 @@ use toml::Table;
 /// The TOML document that the bytes are.
 pub fn document(alloc: Global, bytes: &[u8]) -> Result<Table, TableFault>
     ensures ok { IfOk result (λ file. IsDocument bytes.now (table_view file)) }
-    ensures refused { IfErr result (λ fault. (fault ≡ TableFault.Memory) ⊎ ((fault ≡ TableFault.NotToml) × ((file : Members) → ¬ (IsDocument bytes.now file)))) }
+    ensures refused { IfErr result
+        (λ fault. (fault ≡ TableFault.Memory)
+        ⊎ ((fault ≡ TableFault.NotToml) × ((file : Members) → ¬ (IsDocument bytes.now file)))) }
 {
     match toml::table_from_slice(alloc, bytes) {
         Ok(table) => Ok(table),

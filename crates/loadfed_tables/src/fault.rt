@@ -13,7 +13,8 @@ pub enum TableFault {
     WrongShape(Text),
     /// More entries than there may be. Write fewer.
     OverLimit,
-    /// An allocation failed, wherever it was: the machine caused it, and the file may be good. The same call may be made again.
+    /// An allocation failed, wherever it was: the machine caused it, and the file may be good. The same call may be
+    /// made again.
     Memory,
 }
 

@@ -1,7 +1,7 @@
 //! A table of a TOML document, read key by key.
 //!
-//! Promise to the layer above: each reading of `Section` gives what stands at its key, as `specs/Tables` says, or answers
-//! that key as `WrongShape`, where nothing stands there that may. Begin with `section`.
+//! Promise to the layer above: each reading of `Section` gives what stands at its key, as `specs/Tables` says, or
+//! answers that key as `WrongShape`, where nothing stands there that may. Begin with `section`.
 #![tactic(auto)]
 
 mod data;

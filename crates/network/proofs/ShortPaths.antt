@@ -112,7 +112,7 @@ few_targets cs n ends i walk j is_walk apart =
     let few : length (targets walk) ≤ n = length-le_from_distinct_below (targets walk) n apart (targets_below cs n ends i walk j is_walk) in
     omega (arith, length-map walk (λ (c : Connection). c.target))
 
--- a path of at most so many connections whose total is no more than that of this one
+-- a path of at most this many connections whose total is no more than that of this one
 pub record Shortened (cs : List Connection) (n i j : ℕ) (long : List Connection) : Type 0 where
   pub path : List Connection
   pub is_path : IsPath cs i path j

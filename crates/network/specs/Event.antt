@@ -1,10 +1,11 @@
 -- Events, and which of several events for one slot at one tag is present there.
-use Rattle.std.specs.Prelude.{ℕ, zero, suc, ◌+◌, ℤ, Bool, ◌&&◌, ◌||◌, nat_eq, nat_lt, if◌then◌else◌, List, [], ◌∷◌, ◌++◌, filter, find, Option, None, Some}
+use Rattle.std.specs.Prelude.{ℕ, zero, suc, ◌+◌, ℤ, Bool, ◌&&◌, ◌||◌, nat_eq, nat_lt, if◌then◌else◌, List, [], ◌∷◌}
+use Rattle.std.specs.Prelude.{◌++◌, filter, find, Option, None, Some}
 use Rattle.std.specs.Option.{option_map}
 use Rattle.tag.specs.LogicalTime.{LogicalTime, origin, is_before, is_same}
 
--- where an event comes from: the tag of the turn that made it, and its place in that turn's list of schedulings (0 for an
--- output, and for an external event)
+-- where an event comes from: the tag of the turn that made it, and its place in that turn's list of schedulings (0 for
+-- an output, and for an external event)
 pub record Source : Type 0 where
   pub tag : LogicalTime
   pub place : ℕ
@@ -42,7 +43,8 @@ latest (e ∷ rest) = Some (later_of e (latest rest))
 
 -- what is present at a reactor's slot at a tag: the value of the event with the latest source
 abbrev pub present_at : List Event → ℕ → LogicalTime → ℕ → Option ℤ
-present_at events reactor tag slot = option_map (λ e. e.value) (latest (filter (λ e. is_at reactor tag e && nat_eq e.slot slot) events))
+present_at events reactor tag slot =
+    option_map (λ e. e.value) (latest (filter (λ e. is_at reactor tag e && nat_eq e.slot slot) events))
 
 -- a slot or a port by number, with the value there
 pub record Entry : Type 0 where

@@ -1,5 +1,5 @@
--- Two inputs that meet: a gateway's messages of (0, 2^32 - 1) and of (1 ns, 0), each a microstep later, arrive at (1 ns, 0) and
--- at (1 ns, 1), since the first one's microstep carries.
+-- Two inputs that meet: a gateway's messages of (0, 2^32 - 1) and of (1 ns, 0), each a microstep later, arrive at (1
+-- ns, 0) and at (1 ns, 1), since the first one's microstep carries.
 use Rattle.std.specs.Prelude.{ℕ, ℤ, pos, List, [], ◌∷◌, Option, None, nat_eq, if◌then◌else◌}
 use Rattle.tag.specs.LogicalTime.{LogicalTime, one_microstep}
 use Rattle.network.specs.Event.{Entry, outside}
@@ -24,7 +24,9 @@ gateway =
       connections = record { source = 0; port = 0; target = 1; slot = 1; delay = one_microstep } ∷ [];
       rank = λ reactor. reactor;
       stop = at 10000000 0;
-      external = outside (at 10000000 0) 1 2 (pos 0) ∷ outside (at 0 4294967295) 0 1 (pos 1) ∷ outside (at 1 0) 0 1 (pos 2) ∷ [];
+      external =
+          outside (at 10000000 0) 1 2 (pos 0) ∷ outside (at 0 4294967295) 0 1 (pos 1)
+          ∷ outside (at 1 0) 0 1 (pos 2) ∷ [];
       initial = λ reactor. [];
       effect = gateway_effect;
     }

@@ -1,4 +1,5 @@
--- What a network keeps, so that the laws hold of it. Every legal federation with its programs and inputs gives such a network.
+-- What a network keeps, so that the laws hold of it. Every legal federation with its programs and inputs gives such a
+-- network.
 use Rattle.std.specs.Prelude.{◌≡◌, ◌≢◌, ℕ, ◌<◌, ◌≤◌, ℤ, List, All, AllPairs, IsTrue, Option}
 use Rattle.tag.specs.LogicalTime.{IsFinite, origin, is_at_most}
 use Rattle.tag.specs.Total.{IsPlainDelay}
@@ -53,4 +54,5 @@ pub record IsLawful (n : Network) : Type 0 where
   pub ranks_apart : (i j : ℕ) → i < n.reactors → j < n.reactors → n.rank i ≡ n.rank j → i ≡ j
   pub ranks_rise : All (λ c. c.delay ≡ origin → n.rank c.source < n.rank c.target) n.connections
   -- what reactors schedule, whatever their states and whatever is present
-  pub schedulings : (reactor : ℕ) (states : List ℤ) (present : ℕ → Option ℤ) → All (IsOwn n reactor) (n.effect reactor states present).schedulings
+  pub schedulings : (reactor : ℕ) (states : List ℤ) (present : ℕ → Option ℤ)
+      → All (IsOwn n reactor) (n.effect reactor states present).schedulings

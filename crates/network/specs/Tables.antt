@@ -11,23 +11,26 @@ Table = ℕ → ℕ → Option LogicalTime
 
 -- each entry is the least delay over all paths; none where there is no path
 abbrev pub IsLeastTable : Network → Table → Type 0
-IsLeastTable n table = (i j : ℕ) → MatchOption (table i j) (IsUnreachable n.connections i j) (IsLeastDelay n.connections i j)
+IsLeastTable n table =
+    (i j : ℕ) → MatchOption (table i j) (IsUnreachable n.connections i j) (IsLeastDelay n.connections i j)
 
 -- if there is a delay, some path from i to j has it as its total
 abbrev pub IsAttained : List Connection → ℕ → ℕ → Option LogicalTime → Type 0
 IsAttained connections i j None = Unit {0}
-IsAttained connections i j (Some delay) = (path : List Connection) × IsPath connections i path j × (total_of path ≡ delay)
+IsAttained connections i j (Some delay) =
+    (path : List Connection) × IsPath connections i path j × (total_of path ≡ delay)
 
 -- there is a delay, and it is at most this one
 abbrev pub IsWithin : Option LogicalTime → LogicalTime → Type 0
 IsWithin None bound = ⊥
 IsWithin (Some delay) bound = IsTrue (is_at_most delay bound)
 
--- two facts: over one connection the least delay is at most its own; and where a connection leads to a path, the least delay
--- from its beginning is at most its own delay and then the path's least
+-- two facts: over one connection the least delay is at most its own; and where a connection leads to a path, the least
+-- delay from its beginning is at most its own delay and then the path's least
 pub record IsTable (n : Network) (table : Table) : Type 0 where
   pub direct : All (λ c. IsWithin (table c.source c.target) c.delay) n.connections
-  pub onward : (j : ℕ) → All (λ c. IfSome (table c.target j) (λ rest. IsWithin (table c.source j) (sum_of c.delay rest))) n.connections
+  pub onward : (j : ℕ) → All (λ c.
+      IfSome (table c.target j) (λ rest. IsWithin (table c.source j) (sum_of c.delay rest))) n.connections
 
 -- a lawful network with a table of its least delays, which keeps the two facts
 pub record IsLawfulWith (n : Network) (table : Table) : Type 0 where

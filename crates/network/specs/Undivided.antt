@@ -1,5 +1,7 @@
--- The undivided program: all reactors of a network as one program, with one set of pending events. It knows no more than the network.
-use Rattle.std.specs.Prelude.{ℕ, zero, suc, ◌+◌, ℤ, Bool, not, ◌&&◌, ◌||◌, nat_eq, nat_lt, if◌then◌else◌, List, [], ◌∷◌, ◌++◌, filter, Option, None, Some}
+-- The undivided program: all reactors of a network as one program, with one set of pending events. It knows no more
+-- than the network.
+use Rattle.std.specs.Prelude.{ℕ, zero, suc, ◌+◌, ℤ, Bool, not, ◌&&◌, ◌||◌, nat_eq, nat_lt, if◌then◌else◌, List, [], ◌∷◌}
+use Rattle.std.specs.Prelude.{◌++◌, filter, Option, None, Some}
 use Rattle.std.specs.List.{flat_map}
 use Rattle.tag.specs.LogicalTime.{LogicalTime, is_before, is_at_most, is_same, sum_of}
 use Rattle.network.specs.Connection.{Connection}
@@ -13,7 +15,8 @@ pub record Row : Type 0 where
   pub inputs : List Entry
   pub outputs : List Entry
 
--- the row of a turn at a tag: of a reactor with so many slots and output ports, with this present, and with this effect
+-- the row of a turn at a tag: of a reactor with this many slots and output ports, with this present, and with this
+-- effect
 abbrev pub row_made : ℕ → ℕ → ℕ → LogicalTime → (ℕ → Option ℤ) → Effect → Row
 row_made reactor slots ports tag present effect =
     record { reactor = reactor; tag = tag; inputs = listed slots present; outputs = listed ports effect.outputs }
@@ -35,7 +38,8 @@ initial_of n = record { states = n.initial; pending = n.external; rows = [] }
 
 -- by these ranks, a reactor's turn at a tag is before another's: by tag, then by rank
 abbrev pub comes_before : (ℕ → ℕ) → ℕ → LogicalTime → ℕ → LogicalTime → Bool
-comes_before rank reactor tag other other_tag = is_before tag other_tag || (is_same tag other_tag && nat_lt (rank reactor) (rank other))
+comes_before rank reactor tag other other_tag =
+    is_before tag other_tag || (is_same tag other_tag && nat_lt (rank reactor) (rank other))
 
 -- the first event's turn is before the second's
 abbrev pub is_turn_before : Network → Event → Event → Bool

@@ -1,5 +1,7 @@
--- The events that one reactor has still to run: a list that strictly rises by tag and slot, with one value for a slot at a tag.
-use Rattle.std.specs.Prelude.{ℕ, ℤ, Bool, IsTrue, ◌&&◌, ◌||◌, nat_eq, nat_lt, if◌then◌else◌, List, [], ◌∷◌, filter, Option, None, Some}
+-- The events that one reactor has still to run: a list that strictly rises by tag and slot, with one value for a slot
+-- at a tag.
+use Rattle.std.specs.Prelude.{ℕ, ℤ, Bool, IsTrue, ◌&&◌, ◌||◌, nat_eq, nat_lt, if◌then◌else◌, List, [], ◌∷◌, filter}
+use Rattle.std.specs.Prelude.{Option, None, Some}
 use Rattle.tag.specs.LogicalTime.{LogicalTime, is_before, is_same}
 use Rattle.network.specs.Event.{Event}
 use Rattle.network.specs.Items.{AllPairsByRecursion}

@@ -1,7 +1,7 @@
 //! Networks of reactors, and the undivided program that they are: definitions, with no code but a limit.
 //!
-//! Promise to the layer above: words to cite, and what holds of walks and paths (`proofs`). Begin with `specs/Network`, then
-//! `specs/Undivided`.
+//! Promise to the layer above: words to cite, and what holds of walks and paths (`proofs`). Begin with `specs/Network`,
+//! then `specs/Undivided`.
 #![tactic(auto)]
 
 pub mod limits;

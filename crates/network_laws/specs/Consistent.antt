@@ -24,10 +24,13 @@ pub record IsConsistent (n : Network) (trace : ℕ → List Turn) (Settled : ℕ
   pub called_for : (j : ℕ) → j < n.reactors → All (IsCalledFor n trace j) (trace j)
   pub settled : (j : ℕ) → j < n.reactors → All (λ turn. Settled j turn.tag) (trace j)
   -- where it is settled, a turn that is called for was taken
-  pub complete : (j : ℕ) (t : LogicalTime) → IsInTime n j t → Settled j t → SeesSomething n trace j t → IsTrue (has_turn_at t (trace j))
+  pub complete : (j : ℕ) (t : LogicalTime) → IsInTime n j t → Settled j t → SeesSomething n trace j t
+      → IsTrue (has_turn_at t (trace j))
   -- what is settled is settled earlier too, of the reactor itself and along connections
   pub earlier : (j : ℕ) (s t : LogicalTime) → IsTrue (is_before s t) → Settled j t → Settled j s
-  pub along : (s : LogicalTime) → IsFinite s → All (λ c. IsTrue (is_at_most (sum_of s c.delay) n.stop) → Settled c.target (sum_of s c.delay) → Settled c.source s) n.connections
+  pub along : (s : LogicalTime) → IsFinite s
+      → All (λ c. IsTrue (is_at_most (sum_of s c.delay) n.stop) → Settled c.target (sum_of s c.delay)
+      → Settled c.source s) n.connections
 
 -- where a test passes
 abbrev pub Where : (ℕ → LogicalTime → Bool) → ℕ → LogicalTime → Type 0

@@ -1,5 +1,6 @@
 -- Histories: the turns that a reactor took, newest first, and what replaying them gives.
-use Rattle.std.specs.Prelude.{ℕ, ℤ, Bool, false, ◌||◌, nat_eq, if◌then◌else◌, List, [], ◌∷◌, ◌++◌, map, reverse, AllPairs, IsTrue, Option}
+use Rattle.std.specs.Prelude.{ℕ, ℤ, Bool, false, ◌||◌, nat_eq, if◌then◌else◌, List, [], ◌∷◌, ◌++◌, map, reverse}
+use Rattle.std.specs.Prelude.{AllPairs, IsTrue, Option}
 use Rattle.tag.specs.LogicalTime.{LogicalTime, is_before, is_at_most, is_same}
 use Rattle.network.specs.Event.{value_at}
 use Rattle.network.specs.Network.{Network, Effect}

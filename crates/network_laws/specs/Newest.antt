@@ -1,4 +1,5 @@
--- What a history last gave to a slot at a tag: the newest turn that gave anything counts, and in it the last scheduling.
+-- What a history last gave to a slot at a tag: the newest turn that gave anything counts, and in it the last
+-- scheduling.
 use Rattle.std.specs.Prelude.{ℕ, ℤ, ◌&&◌, nat_eq, if◌then◌else◌, List, [], ◌∷◌, Option, None, Some}
 use Rattle.tag.specs.LogicalTime.{LogicalTime, is_same, sum_of}
 use Rattle.network.specs.Connection.{Connection}
@@ -14,11 +15,13 @@ or_else (Some x) other = Some x
 abbrev pub carried_to : Connection → LogicalTime → LogicalTime → Option ℤ → Option ℤ
 carried_to c from tag value = if is_same (sum_of from c.delay) tag then value else None
 
--- what a connection carries to a tag: what was set at its port by the newest turn that set it and from which it leads there
+-- what a connection carries to a tag: what was set at its port by the newest turn that set it and from which it leads
+-- there
 abbrev pub last_carried : Network → Connection → LogicalTime → List Turn → Option ℤ
 last_carried n c tag [] = None
 last_carried n c tag (turn ∷ earlier) =
-    or_else (carried_to c turn.tag tag ((effect_after n c.source earlier turn).outputs c.port)) (last_carried n c tag earlier)
+    or_else (carried_to c turn.tag tag ((effect_after n c.source earlier turn).outputs c.port))
+    (last_carried n c tag earlier)
 
 -- what a scheduling makes present at a slot at a tag
 abbrev pub scheduled_to : Scheduling → LogicalTime → ℕ → LogicalTime → Option ℤ
@@ -33,4 +36,5 @@ last_in_list (s ∷ rest) from slot tag = or_else (last_in_list rest from slot t
 abbrev pub last_scheduled : Network → ℕ → ℕ → LogicalTime → List Turn → Option ℤ
 last_scheduled n reactor slot tag [] = None
 last_scheduled n reactor slot tag (turn ∷ earlier) =
-    or_else (last_in_list (effect_after n reactor earlier turn).schedulings turn.tag slot tag) (last_scheduled n reactor slot tag earlier)
+    or_else (last_in_list (effect_after n reactor earlier turn).schedulings turn.tag slot tag)
+    (last_scheduled n reactor slot tag earlier)

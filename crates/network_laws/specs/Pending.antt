@@ -9,11 +9,13 @@ use Rattle.network.specs.Undivided.{comes_before}
 -- something is present at a slot of this reactor at this tag, and nothing for an earlier turn
 pub record IsNext (n : Network) (events : List Event) (reactor : ℕ) (tag : LogicalTime) : Type 0 where
   pub something : (slot : ℕ) × (value : ℤ) × (present_at events reactor tag slot ≡ Some value)
-  pub first : (other : ℕ) (earlier : LogicalTime) (slot : ℕ) (value : ℤ) → other < n.reactors → present_at events other earlier slot ≡ Some value → comes_before n.rank other earlier reactor tag ≡ false
+  pub first : (other : ℕ) (earlier : LogicalTime) (slot : ℕ) (value : ℤ) → other < n.reactors
+      → present_at events other earlier slot ≡ Some value → comes_before n.rank other earlier reactor tag ≡ false
 
 -- nothing is present at any slot at any tag
 abbrev pub IsQuiet : Network → List Event → Type 0
-IsQuiet n events = (reactor : ℕ) (tag : LogicalTime) (slot : ℕ) → reactor < n.reactors → present_at events reactor tag slot ≡ None
+IsQuiet n events =
+    (reactor : ℕ) (tag : LogicalTime) (slot : ℕ) → reactor < n.reactors → present_at events reactor tag slot ≡ None
 
 -- the second is for the same slot at the same tag, and its source is later
 abbrev pub Replaces : Event → Event → Type 0

@@ -9,7 +9,8 @@ use Rattle.network_laws.specs.History.{Turn, effect_after}
 -- the events that a reactor's history makes, those of its oldest turn first
 abbrev pub made_in : Network → ℕ → List Turn → List Event
 made_in n reactor [] = []
-made_in n reactor (turn ∷ earlier) = made_in n reactor earlier ++ made_by n reactor turn.tag (effect_after n reactor earlier turn)
+made_in n reactor (turn ∷ earlier) =
+    made_in n reactor earlier ++ made_by n reactor turn.tag (effect_after n reactor earlier turn)
 
 -- the events that the histories of the first `count` reactors make
 abbrev pub made_by_first : Network → ℕ → (ℕ → List Turn) → List Event

@@ -19,10 +19,11 @@ abbrev pub is_ahead_of : Network → ℕ → LogicalTime → Option Event → Bo
 is_ahead_of n reactor tag None = true
 is_ahead_of n reactor tag (Some e) = comes_before n.rank reactor tag e.reactor e.tag
 
--- a reactor's turns up to a tag are done: nothing is pending, or the least (tag, rank) pending is later than the reactor's at the tag
+-- a reactor's turns up to a tag are done: nothing is pending, or the least (tag, rank) pending is later than the
+-- reactor's at the tag
 abbrev pub is_settled : Network → Undivided → ℕ → LogicalTime → Bool
 is_settled n u reactor tag = is_ahead_of n reactor tag (first_of_turns n u.pending)
 
--- so many turns are enough for a tag: as many for each tag up to it as there are reactors at most
+-- this many turns are enough for a tag: as many for each tag up to it as there are reactors at most
 abbrev pub IsEnough : LogicalTime → ℕ → Type 0
 IsEnough tag turns = place tag * MOST_REACTORS + MOST_REACTORS ≤ turns

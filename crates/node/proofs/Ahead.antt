@@ -57,15 +57,15 @@ lets_in_ahead core is s peer e (Data i n signal) Arrival.Signal =
     (ends_ahead core s.node (acknowledging s peer e (Data i n signal)) (core.accept s.node peer signal) (is.accept s.node peer signal))
 lets_in_ahead core is s peer e frame arrival = stays core s.node
 
-comes_ahead : {View Row : Type 0} (core : Core View Row) → IsCore core → (hub : Bool) (s : Station View) (peer : ℕ) (e : Image) (frame : Frame) (r : Result Arrival LinkFault) →
-    GoesOn core s.node (comes core hub s peer e frame r).station.node
-comes_ahead core is hub s peer e frame (Ok arrival) = lets_in_ahead core is s peer e frame arrival
-comes_ahead core is hub s peer e frame (Err fault) = stays core s.node
+comes_ahead : {View Row : Type 0} (core : Core View Row) → IsCore core → (is_coordinator : Bool) (s : Station View) (peer : ℕ) (e : Image) (frame : Frame) (r : Result Arrival LinkFault) →
+    GoesOn core s.node (comes core is_coordinator s peer e frame r).station.node
+comes_ahead core is is_coordinator s peer e frame (Ok arrival) = lets_in_ahead core is s peer e frame arrival
+comes_ahead core is is_coordinator s peer e frame (Err fault) = stays core s.node
 
-frame_ahead : {View Row : Type 0} (core : Core View Row) → IsCore core → (hub : Bool) (s : Station View) (peer : ℕ) (frame : Frame) (o : Option Image) →
-    GoesOn core s.node (frame_comes core hub s peer frame o).station.node
-frame_ahead core is hub s peer frame None = stays core s.node
-frame_ahead core is hub s peer frame (Some e) = comes_ahead core is hub s peer e frame (answer_of e frame)
+frame_ahead : {View Row : Type 0} (core : Core View Row) → IsCore core → (is_coordinator : Bool) (s : Station View) (peer : ℕ) (frame : Frame) (o : Option Image) →
+    GoesOn core s.node (frame_comes core is_coordinator s peer frame o).station.node
+frame_ahead core is is_coordinator s peer frame None = stays core s.node
+frame_ahead core is is_coordinator s peer frame (Some e) = comes_ahead core is is_coordinator s peer e frame (answer_of e frame)
 
 resends_ahead : {View Row : Type 0} (core : Core View Row) (s : Station View) (peer : ℕ) (o : Option Image) → GoesOn core s.node (resends s peer o).station.node
 resends_ahead core s peer None = stays core s.node
@@ -75,11 +75,11 @@ greets_ahead : {View Row : Type 0} (core : Core View Row) (s : Station View) (pe
 greets_ahead core s peer None = stays core s.node
 greets_ahead core s peer (Some e) = stays core s.node
 
-pub ahead : {View Row : Type 0} (core : Core View Row) → IsCore core → (hub : Bool) (s : Station View) (e : Event) → GoesOn core s.node (step_of core hub s e).station.node
-ahead core is hub s (event.Frame peer frame) = frame_ahead core is hub s peer frame (slice_get s.ends peer)
-ahead core is hub s (event.Resend peer) = resends_ahead core s peer (slice_get s.ends peer)
-ahead core is hub s (event.Hello peer) = greets_ahead core s peer (slice_get s.ends peer)
-ahead core is hub s event.Announce =
+pub ahead : {View Row : Type 0} (core : Core View Row) → IsCore core → (is_coordinator : Bool) (s : Station View) (e : Event) → GoesOn core s.node (step_of core is_coordinator s e).station.node
+ahead core is is_coordinator s (event.Frame peer frame) = frame_ahead core is is_coordinator s peer frame (slice_get s.ends peer)
+ahead core is is_coordinator s (event.Resend peer) = resends_ahead core s peer (slice_get s.ends peer)
+ahead core is is_coordinator s (event.Hello peer) = greets_ahead core s peer (slice_get s.ends peer)
+ahead core is is_coordinator s event.Announce =
     acts_ahead core s (ending_of (unsent s) (core.announce s.node)) (ends_ahead core s.node (unsent s) (core.announce s.node) (is.announce s.node))
-ahead core is hub s event.Advance =
+ahead core is is_coordinator s event.Advance =
     acts_ahead core s (ending_of (unsent s) (core.advance s.node)) (ends_ahead core s.node (unsent s) (core.advance s.node) (is.advance s.node))

@@ -17,14 +17,14 @@ use Rattle.node.specs.declared.outgoing.Outgoing.{Outgoing}
 use Rattle.node.specs.Numbers.{fault_number, closes}
 use Rattle.node.specs.Mail.{Mail, lacks_room, bare}
 use Rattle.node.specs.Core.{Core, Made, Ending, Refuses, LacksRoom, Stays, Moves, ending_of, answer_of as answer_for, node_after, mail_after, IsCall}
-use Rattle.node.specs.Step.{Station, Silent, Says, Declines, said, acts, takes, received, with_end, addressed, acknowledging, unsent, lets_in, noted, answer_with, changes, returned}
+use Rattle.node.specs.Step.{Station, Silent, Says, Declines, answer_in, acts, takes, received, with_end, addressed, acknowledging, unsent, lets_in, noted, answer_with, changes, returned}
 use Rattle.node.proofs.Posts.{all_posted_bare, bare_at, still_answers}
 
 acts_as : {View : Type 0} (before after : View) (ends : List Image) (mail : Mail) (answer : Result Bool NodeFault) (reply : Reply) (ending : Ending View) →
     answer ≡ answer_for ending → after ≡ node_after before ending → mail ≡ mail_after (record { ends = ends; frames = [] }) ending →
-    (answer ≡ Ok true → said reply ≡ Says mail.frames) → (answer ≡ Ok false → said reply ≡ Silent) →
-    ((f : NodeFault) → answer ≡ Err f → said reply ≡ Declines (fault_number f) []) →
-    record { station = record { node = after; ends = mail.ends }; answer = said reply } ≡ acts (record { node = before; ends = ends }) ending
+    (answer ≡ Ok true → answer_in reply ≡ Says mail.frames) → (answer ≡ Ok false → answer_in reply ≡ Silent) →
+    ((f : NodeFault) → answer ≡ Err f → answer_in reply ≡ Declines (fault_number f) []) →
+    record { station = record { node = after; ends = mail.ends }; answer = answer_in reply } ≡ acts (record { node = before; ends = ends }) ending
 acts_as before after ends mail answer reply (Refuses r) answers node posts done nothing refused = rw (node, refused (fault.Refused r) answers, posts) refl
 acts_as before after ends mail answer reply LacksRoom answers node posts done nothing refused = rw (node, refused fault.NoRoom answers, posts) refl
 acts_as before after ends mail answer reply Stays answers node posts done nothing refused = rw (node, nothing answers, posts) refl
@@ -33,9 +33,9 @@ acts_as before after ends mail answer reply (Moves v m) answers node posts done 
 -- what a node does by itself is the station's step
 pub acts_ended : {View : Type 0} (before after : View) (ends : List Image) (mail : Mail) (answer : Result Bool NodeFault) (result : Result Reply Memory)
     (made : outcome.Outcome (Made View)) → (answer ≢ Err fault.Memory → IsCall before after (record { ends = ends; frames = [] }) mail answer made) →
-    (answer ≡ Ok true → IfOk result (λ reply. said reply ≡ Says mail.frames)) → (answer ≡ Ok false → IfOk result (λ reply. said reply ≡ Silent)) →
-    ((f : NodeFault) → answer ≡ Err f → IfOk result (λ reply. said reply ≡ Declines (fault_number f) [])) → OnOk result (answer ≢ Err fault.Memory) →
-    IfOk result (λ reply. record { station = record { node = after; ends = mail.ends }; answer = said reply } ≡
+    (answer ≡ Ok true → IfOk result (λ reply. answer_in reply ≡ Says mail.frames)) → (answer ≡ Ok false → IfOk result (λ reply. answer_in reply ≡ Silent)) →
+    ((f : NodeFault) → answer ≡ Err f → IfOk result (λ reply. answer_in reply ≡ Declines (fault_number f) [])) → OnOk result (answer ≢ Err fault.Memory) →
+    IfOk result (λ reply. record { station = record { node = after; ends = mail.ends }; answer = answer_in reply } ≡
     acts (record { node = before; ends = ends }) (ending_of (record { ends = ends; frames = [] }) made))
 acts_ended before after ends mail answer (Ok reply) made call done nothing refused no_memory =
     let is = call no_memory in
@@ -101,9 +101,9 @@ unsent_mail m none = ap (mail_of m.ends) none
 pub acts_done : {View : Type 0} (s : Station View) (node : View) (first : Mail) (after : View) (mail left : Mail) (answer : Result Bool NodeFault)
     (result : Result Reply Memory) (step : View → outcome.Outcome (Made View)) → record { node = node; ends = first.ends } ≡ s → first.frames ≡ [] →
     left ≡ record { ends = mail.ends; frames = [] } → (answer ≢ Err fault.Memory → IsCall node after first mail answer (step node)) →
-    (answer ≡ Ok true → IfOk result (λ reply. said reply ≡ Says mail.frames)) → (answer ≡ Ok false → IfOk result (λ reply. said reply ≡ Silent)) →
-    ((f : NodeFault) → answer ≡ Err f → IfOk result (λ reply. said reply ≡ Declines (fault_number f) [])) → OnOk result (answer ≢ Err fault.Memory) →
-    IfOk result (λ reply. record { station = record { node = after; ends = left.ends }; answer = said reply } ≡ acts s (ending_of (unsent s) (step s.node)))
+    (answer ≡ Ok true → IfOk result (λ reply. answer_in reply ≡ Says mail.frames)) → (answer ≡ Ok false → IfOk result (λ reply. answer_in reply ≡ Silent)) →
+    ((f : NodeFault) → answer ≡ Err f → IfOk result (λ reply. answer_in reply ≡ Declines (fault_number f) [])) → OnOk result (answer ≢ Err fault.Memory) →
+    IfOk result (λ reply. record { station = record { node = after; ends = left.ends }; answer = answer_in reply } ≡ acts s (ending_of (unsent s) (step s.node)))
 acts_done s node first after mail left answer result step is none posts call done nothing refused no_memory =
     rw (← is, posts) (acts_ended node after first.ends mail answer result (step node)
     (λ unless. rw (← unsent_mail first none) (call unless)) done nothing refused no_memory)
@@ -194,9 +194,9 @@ pub noted_ended : {View Row : Type 0} (core : Core View Row) (s : Station View) 
     (result : Result Reply Memory) → record { node = node; ends = first.ends } ≡ s → slice_get s.ends peer ≡ Some e →
     ((i n : ℕ) (signal : Signal) → frame ≡ Data i n signal → arrival ≡ Arrival.Signal → ⊥) →
     ((x : Image) → slice_get first.ends peer ≡ Some x →
-    IfOk result (λ reply. said reply ≡ answer_with (changes x frame) (addressed peer (returned (after_frame x frame) frame)))) →
+    IfOk result (λ reply. answer_in reply ≡ answer_with (changes x frame) (addressed peer (returned (after_frame x frame) frame)))) →
     OnOk result (left ≡ received peer frame first) →
-    IfOk result (λ reply. record { station = record { node = node; ends = left.ends }; answer = said reply } ≡ lets_in core s peer e frame arrival)
+    IfOk result (λ reply. record { station = record { node = node; ends = left.ends }; answer = answer_in reply } ≡ lets_in core s peer e frame arrival)
 noted_ended core s node first left peer e frame arrival (Ok reply) is found other told received_is =
     let at : slice_get first.ends peer ≡ Some e = ap (λ s. slice_get s.ends peer) is ∙ found in
     let here : node ≡ s.node = ap (λ s. s.node) is in

@@ -77,15 +77,15 @@ lets_in_fresh core s peer e (Data i n signal) Arrival.Signal is =
     (ended_fresh (acknowledging s peer e (Data i n signal)) (core.accept s.node peer signal))
 lets_in_fresh core s peer e frame arrival is = noted_fresh s peer e frame is
 
-comes_fresh : {View Row : Type 0} (core : Core View Row) (hub : Bool) (s : Station View) (peer : ℕ) (e : Image) (frame : Frame) (r : Result Arrival LinkFault) →
-    slice_get s.ends peer ≡ Some e → map fresh (comes core hub s peer e frame r).station.ends ≡ map fresh s.ends
-comes_fresh core hub s peer e frame (Ok arrival) is = lets_in_fresh core s peer e frame arrival is
-comes_fresh core hub s peer e frame (Err fault) is = refl
+comes_fresh : {View Row : Type 0} (core : Core View Row) (is_coordinator : Bool) (s : Station View) (peer : ℕ) (e : Image) (frame : Frame) (r : Result Arrival LinkFault) →
+    slice_get s.ends peer ≡ Some e → map fresh (comes core is_coordinator s peer e frame r).station.ends ≡ map fresh s.ends
+comes_fresh core is_coordinator s peer e frame (Ok arrival) is = lets_in_fresh core s peer e frame arrival is
+comes_fresh core is_coordinator s peer e frame (Err fault) is = refl
 
-frame_comes_fresh : {View Row : Type 0} (core : Core View Row) (hub : Bool) (s : Station View) (peer : ℕ) (frame : Frame) (o : Option Image) →
-    slice_get s.ends peer ≡ o → map fresh (frame_comes core hub s peer frame o).station.ends ≡ map fresh s.ends
-frame_comes_fresh core hub s peer frame None is = refl
-frame_comes_fresh core hub s peer frame (Some e) is = comes_fresh core hub s peer e frame (answer_of e frame) is
+frame_comes_fresh : {View Row : Type 0} (core : Core View Row) (is_coordinator : Bool) (s : Station View) (peer : ℕ) (frame : Frame) (o : Option Image) →
+    slice_get s.ends peer ≡ o → map fresh (frame_comes core is_coordinator s peer frame o).station.ends ≡ map fresh s.ends
+frame_comes_fresh core is_coordinator s peer frame None is = refl
+frame_comes_fresh core is_coordinator s peer frame (Some e) is = comes_fresh core is_coordinator s peer e frame (answer_of e frame) is
 
 resends_fresh : {View : Type 0} (s : Station View) (peer : ℕ) (o : Option Image) → map fresh (resends s peer o).station.ends ≡ map fresh s.ends
 resends_fresh s peer None = refl
@@ -95,16 +95,16 @@ greets_fresh : {View : Type 0} (s : Station View) (peer : ℕ) (o : Option Image
 greets_fresh s peer None = refl
 greets_fresh s peer (Some e) = refl
 
-step_fresh : {View Row : Type 0} (core : Core View Row) (hub : Bool) (s : Station View) (e : Event) → map fresh (step_of core hub s e).station.ends ≡ map fresh s.ends
-step_fresh core hub s (event.Frame peer frame) = frame_comes_fresh core hub s peer frame (slice_get s.ends peer) refl
-step_fresh core hub s (event.Resend peer) = resends_fresh s peer (slice_get s.ends peer)
-step_fresh core hub s (event.Hello peer) = greets_fresh s peer (slice_get s.ends peer)
-step_fresh core hub s event.Announce = acts_fresh s (ending_of (unsent s) (core.announce s.node)) (ended_fresh (unsent s) (core.announce s.node))
-step_fresh core hub s event.Advance = acts_fresh s (ending_of (unsent s) (core.advance s.node)) (ended_fresh (unsent s) (core.advance s.node))
+step_fresh : {View Row : Type 0} (core : Core View Row) (is_coordinator : Bool) (s : Station View) (e : Event) → map fresh (step_of core is_coordinator s e).station.ends ≡ map fresh s.ends
+step_fresh core is_coordinator s (event.Frame peer frame) = frame_comes_fresh core is_coordinator s peer frame (slice_get s.ends peer) refl
+step_fresh core is_coordinator s (event.Resend peer) = resends_fresh s peer (slice_get s.ends peer)
+step_fresh core is_coordinator s (event.Hello peer) = greets_fresh s peer (slice_get s.ends peer)
+step_fresh core is_coordinator s event.Announce = acts_fresh s (ending_of (unsent s) (core.announce s.node)) (ended_fresh (unsent s) (core.announce s.node))
+step_fresh core is_coordinator s event.Advance = acts_fresh s (ending_of (unsent s) (core.advance s.node)) (ended_fresh (unsent s) (core.advance s.node))
 
 station_of : {View : Type 0} → View → List Image → Station View
 station_of node ends = record { node = node; ends = ends }
 
-pub initial_stays : {View Row : Type 0} (core : Core View Row) → IsCore core → (hub : Bool) (s : Station View) (e : Event) →
-    initial_of core (step_of core hub s e).station ≡ initial_of core s
-initial_stays core is hub s e = rw ((ahead core is hub s e).initial, step_fresh core hub s e) refl
+pub initial_stays : {View Row : Type 0} (core : Core View Row) → IsCore core → (is_coordinator : Bool) (s : Station View) (e : Event) →
+    initial_of core (step_of core is_coordinator s e).station ≡ initial_of core s
+initial_stays core is is_coordinator s e = rw ((ahead core is is_coordinator s e).initial, step_fresh core is_coordinator s e) refl

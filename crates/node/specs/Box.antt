@@ -22,7 +22,7 @@ reserves ends = map (λ e. e.reserved) ends
 abbrev pub reserved_at : List ℕ → ℕ → ℕ
 reserved_at reserved peer = get_or reserved peer 0
 
--- where a peer has an end that isn't closed, so many offers take no memory there
+-- where a peer has an end that isn't closed, this many offers take no memory there
 abbrev pub HasMemory : List Image → List ℕ → (peer count : ℕ) → Type 0
 HasMemory ends reserved peer count =
     (e : Image) → slice_get ends peer ≡ Some e → e.closed ≡ false → count ≤ reserved_at reserved peer
@@ -31,7 +31,7 @@ HasMemory ends reserved peer count =
 abbrev pub NoneLost : List ℕ → List ℕ → Type 0
 NoneLost before after = (peer : ℕ) → reserved_at before peer ≤ reserved_at after peer
 
--- there is room and memory for so many signals to a peer
+-- there is room and memory for this many signals to a peer
 pub record IsReadyFor (b : Outbox) (peer count : ℕ) : Type 0 where
   pub room : lacks_at peer count b.mail.ends ≡ false
   pub memory : HasMemory b.mail.ends b.reserved peer count

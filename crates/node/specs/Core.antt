@@ -34,12 +34,13 @@ pub record GoesOn {View Row : Type 0} (core : Core View Row) (before after : Vie
 
 -- what every node owes: each step goes on
 pub record IsCore {View Row : Type 0} (core : Core View Row) : Type 0 where
-  pub accept : (v : View) (peer : ℕ) (signal : Signal) (made : Made View) → core.accept v peer signal ≡ Done made → GoesOn core v made.after
+  pub accept : (v : View) (peer : ℕ) (signal : Signal) (made : Made View) → core.accept v peer signal ≡ Done made
+      → GoesOn core v made.after
   pub announce : (v : View) (made : Made View) → core.announce v ≡ Done made → GoesOn core v made.after
   pub advance : (v : View) (made : Made View) → core.advance v ≡ Done made → GoesOn core v made.after
 
--- what a call of a node comes to, memory aside: the signal is refused, a link has no room for what it would send, there is
--- nothing to do, or it is done
+-- what a call of a node comes to, memory aside: the signal is refused, a link has no room for what it would send, there
+-- is nothing to do, or it is done
 pub data Ending (View : Type 0) : Type 0 where
   Refuses : (refusal : Refusal) → Ending View
   LacksRoom : Ending View
@@ -78,7 +79,8 @@ mail_after m Stays = m
 mail_after m (Moves after mail) = mail
 
 -- a call is what its step function says
-pub record IsCall {View : Type 0} (before after : View) (mail mail_then : Mail) (answer : Result Bool NodeFault) (outcome : Outcome (Made View)) : Type 0 where
+pub record IsCall {View : Type 0} (before after : View) (mail mail_then : Mail) (answer : Result Bool NodeFault)
+    (outcome : Outcome (Made View)) : Type 0 where
   pub answers : answer ≡ answer_of (ending_of mail outcome)
   pub node : after ≡ node_after before (ending_of mail outcome)
   pub posts : mail_then ≡ mail_after mail (ending_of mail outcome)

@@ -1,5 +1,6 @@
 -- What a node's posts make of the link ends, and whether there is room for them. Peer p is at place p.
-use Rattle.std.specs.Prelude.{ℕ, ◌+◌, Bool, false, ◌&&◌, ◌||◌, not, if◌then◌else◌, nat_eq, nat_lt, is_ok, List, [], ◌∷◌, ◌++◌, length, filter, set, slice_get, Option, None, Some, Result, Ok, Err}
+use Rattle.std.specs.Prelude.{ℕ, ◌+◌, Bool, false, ◌&&◌, ◌||◌, not, if◌then◌else◌, nat_eq, nat_lt, is_ok, List, [], ◌∷◌}
+use Rattle.std.specs.Prelude.{◌++◌, length, filter, set, slice_get, Option, None, Some, Result, Ok, Err}
 use Rattle.signal.specs.declared.signal.Signal.{Signal}
 use Rattle.signal.specs.declared.frame.Frame.{Frame}
 use Rattle.link.specs.declared.fault.LinkFault.{LinkFault}
@@ -43,11 +44,11 @@ all_posted m (post ∷ posts) = all_posted (posted m post) posts
 abbrev pub count_for : ℕ → List Post → ℕ
 count_for peer posts = length (filter (λ post. nat_eq post.peer peer) posts)
 
--- an end that isn't closed has no room for so many signals
+-- an end that isn't closed has no room for this many signals
 abbrev pub lacks : Image → ℕ → Bool
 lacks e count = not e.closed && nat_lt (room_left e) count
 
--- a peer's end lacks room for so many signals
+-- a peer's end lacks room for this many signals
 abbrev pub peer_lacks : Option Image → ℕ → Bool
 peer_lacks None count = false
 peer_lacks (Some e) count = lacks e count

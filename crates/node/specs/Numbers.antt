@@ -5,7 +5,8 @@ use Rattle.protocol.specs.declared.refusal.Refusal.{Refusal}
 use Rattle.protocol.specs.Refusals.{number_of, text_of}
 use Rattle.node.specs.declared.fault.NodeFault.{NodeFault}
 use Rattle.node.specs.declared.fault.NodeFault.TheVariants as fault
-use Rattle.protocol.specs.declared.refusal.Refusal.TheVariants.{Late, OldGrant, WrongSignal, NotYours, BelowGrant, NotRising, AfterStop, NotForCoordinator}
+use Rattle.protocol.specs.declared.refusal.Refusal.TheVariants.{Late, OldGrant, WrongSignal, NotYours, BelowGrant}
+use Rattle.protocol.specs.declared.refusal.Refusal.TheVariants.{NotRising, AfterStop, NotForCoordinator}
 
 -- the signals of a step don't fit in a link
 abbrev pub no_room : ℕ

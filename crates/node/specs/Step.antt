@@ -1,5 +1,6 @@
 -- A station: a node with its link ends. What it answers to an event, and what stands after it.
-use Rattle.std.specs.Prelude.{ℕ, Bool, true, false, ◌&&◌, not, if◌then◌else◌, nat_eq, nat_lt, List, [], ◌∷◌, map, set, slice_get, Option, None, Some, Result, Ok, Err}
+use Rattle.std.specs.Prelude.{ℕ, Bool, true, false, ◌&&◌, not, if◌then◌else◌, nat_eq, nat_lt, List, [], ◌∷◌, map, set}
+use Rattle.std.specs.Prelude.{slice_get, Option, None, Some, Result, Ok, Err}
 use Rattle.signal.specs.declared.frame.Frame.{Frame}
 use Rattle.signal.specs.declared.frame.Frame.TheVariants.{Hello, Data, Ack, Refuse}
 use Rattle.link.specs.declared.arrival.Arrival.{Arrival}
@@ -22,7 +23,8 @@ pub record Station (View : Type 0) : Type 0 where
   pub node : View
   pub ends : List Image
 
--- what a station answers: nothing changed and nothing is said; these frames go out; or a refusal by its number, with frames
+-- what a station answers: nothing changed and nothing is said; these frames go out; or a refusal by its number, with
+-- frames
 pub data Answer : Type 0 where
   Silent : Answer
   Says : (frames : List Outgoing) → Answer
@@ -34,10 +36,10 @@ pub record Stepped (View : Type 0) : Type 0 where
   pub answer : Answer
 
 -- the answer that a reply gives
-abbrev pub said : Reply → Answer
-said reply.Nothing = Silent
-said (reply.Done frames) = Says frames.items
-said (reply.Refused number frames) = Declines number frames.items
+abbrev pub answer_in : Reply → Answer
+answer_in reply.Nothing = Silent
+answer_in (reply.Done frames) = Says frames.items
+answer_in (reply.Refused number frames) = Declines number frames.items
 
 -- the frames to a peer
 abbrev pub addressed : ℕ → List Frame → List Outgoing
@@ -127,24 +129,28 @@ lets_in core s peer e (Data i n signal) arrival.Signal =
 lets_in core s peer e frame arrival = noted s peer e frame
 
 -- a stranger's Hello is answered by the one node that all others are linked to
-abbrev pub turned_away : (hub : Bool) → ℕ → Image → Frame → List Outgoing
-turned_away hub peer e (Hello hello) =
-    if hub && not (nat_eq hello.incarnation e.incarnation) then addressed peer (Refuse hello.incarnation (link.number_of LinkFault.Stranger) ∷ []) else []
-turned_away hub peer e frame = []
+abbrev pub turned_away : (is_coordinator : Bool) → ℕ → Image → Frame → List Outgoing
+turned_away is_coordinator peer e (Hello hello) =
+    if is_coordinator && not (nat_eq hello.incarnation e.incarnation)
+    then addressed peer (Refuse hello.incarnation (link.number_of LinkFault.Stranger) ∷ []) else []
+turned_away is_coordinator peer e frame = []
 
 -- what the end answers to a frame comes first
-abbrev pub comes : {View Row : Type 0} → Core View Row → (hub : Bool) → Station View → ℕ → Image → Frame → Result Arrival LinkFault → Stepped View
-comes core hub s peer e frame (Err fault) = same s (Declines (link.number_of fault) (turned_away hub peer e frame))
-comes core hub s peer e frame (Ok arrival) = lets_in core s peer e frame arrival
+abbrev pub comes : {View Row : Type 0} → Core View Row → (is_coordinator : Bool) → Station View → ℕ → Image → Frame
+    → Result Arrival LinkFault → Stepped View
+comes core is_coordinator s peer e frame (Err fault) =
+    same s (Declines (link.number_of fault) (turned_away is_coordinator peer e frame))
+comes core is_coordinator s peer e frame (Ok arrival) = lets_in core s peer e frame arrival
 
 -- a peer that the station hasn't is a stranger, and nothing is sent
 abbrev pub nobody : {View : Type 0} → Station View → Stepped View
 nobody s = same s (Declines (link.number_of LinkFault.Stranger) [])
 
 -- a frame comes from a peer
-abbrev pub frame_comes : {View Row : Type 0} → Core View Row → (hub : Bool) → Station View → ℕ → Frame → Option Image → Stepped View
-frame_comes core hub s peer frame None = nobody s
-frame_comes core hub s peer frame (Some e) = comes core hub s peer e frame (answer_of e frame)
+abbrev pub frame_comes : {View Row : Type 0} → Core View Row → (is_coordinator : Bool) → Station View → ℕ → Frame
+    → Option Image → Stepped View
+frame_comes core is_coordinator s peer frame None = nobody s
+frame_comes core is_coordinator s peer frame (Some e) = comes core is_coordinator s peer e frame (answer_of e frame)
 
 -- what a peer hasn't acknowledged is sent again
 abbrev pub resends : {View : Type 0} → Station View → ℕ → Option Image → Stepped View
@@ -165,13 +171,14 @@ greets s peer (Some e) = same s (answer_with false (greeting peer (hello_of e)))
 abbrev pub unsent : {View : Type 0} → Station View → Mail
 unsent s = record { ends = s.ends; frames = [] }
 
--- the step of a station, memory aside: of the hub, or of another node
-abbrev pub step_of : {View Row : Type 0} → Core View Row → (hub : Bool) → Station View → Event → Stepped View
-step_of core hub s (event.Frame peer frame) = frame_comes core hub s peer frame (slice_get s.ends peer)
-step_of core hub s (event.Resend peer) = resends s peer (slice_get s.ends peer)
-step_of core hub s (event.Hello peer) = greets s peer (slice_get s.ends peer)
-step_of core hub s event.Announce = acts s (ending_of (unsent s) (core.announce s.node))
-step_of core hub s event.Advance = acts s (ending_of (unsent s) (core.advance s.node))
+-- the step of a station, memory aside: of the coordinator, or of another node
+abbrev pub step_of : {View Row : Type 0} → Core View Row → (is_coordinator : Bool) → Station View → Event → Stepped View
+step_of core is_coordinator s (event.Frame peer frame) =
+    frame_comes core is_coordinator s peer frame (slice_get s.ends peer)
+step_of core is_coordinator s (event.Resend peer) = resends s peer (slice_get s.ends peer)
+step_of core is_coordinator s (event.Hello peer) = greets s peer (slice_get s.ends peer)
+step_of core is_coordinator s event.Announce = acts s (ending_of (unsent s) (core.announce s.node))
+step_of core is_coordinator s event.Advance = acts s (ending_of (unsent s) (core.advance s.node))
 
 -- an end as it was at the start
 abbrev pub fresh : Image → Image

@@ -17,11 +17,13 @@ pub fn nothing_needs_no_room()
 /// Through every step a station's node keeps its rows, and what it was made from.
 #[tactic(none)]
 pub fn steps_go_on<N: Node>()
-    ensures { (s : Station N) (event : Event) → GoesOn N.core s.node (step_of N.core N.HUB s event).station.node }
+    ensures { (s : Station N) (event : Event)
+        → GoesOn N.core s.node (step_of N.core N.IS_COORDINATOR s event).station.node }
 {}
 
 /// Through every step a station's initial state stays.
 #[tactic(none)]
 pub fn initial_stations_stay<N: Node>()
-    ensures { (s : Station N) (event : Event) → initial_of N.core (step_of N.core N.HUB s event).station ≡ initial_of N.core s }
+    ensures { (s : Station N) (event : Event)
+        → initial_of N.core (step_of N.core N.IS_COORDINATOR s event).station ≡ initial_of N.core s }
 {}

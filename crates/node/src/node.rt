@@ -18,7 +18,7 @@ pub trait Node: Drop {
 
     ghost listed: { Self.Rows → List Self.Row };
 
-    ghost HUB: { Bool };
+    ghost IS_COORDINATOR: { Bool };
 
     /// Its step functions, of what a caller sees of it, which stands for the node itself in every clause.
     ghost core: { Core Self Self.Row };
@@ -30,25 +30,31 @@ pub trait Node: Drop {
         signal: Signal,
         outbox: &mut Outbox,
     ) -> Result<bool, NodeFault>
-        ensures call { result ≢ Err Faults.Memory → IsCall self.old self.new outbox.old.mail outbox.new.mail result (core.accept self.old peer signal) }
-        ensures memory { result ≡ Err Faults.Memory → (self.new ≡ self.old) × (outbox.new.mail ≡ outbox.old.mail) × Allows (core.accept self.old peer signal) }
+        ensures call { result ≢ Err Faults.Memory
+            → IsCall self.old self.new outbox.old.mail outbox.new.mail result (core.accept self.old peer signal) }
+        ensures memory { result ≡ Err Faults.Memory
+            → (self.new ≡ self.old) × (outbox.new.mail ≡ outbox.old.mail) × Allows (core.accept self.old peer signal) }
         ensures lawful { SendsOnly (core.may_send self.old) (core.accept self.old peer signal) };
 
     /// Says what comes next.
     fn announce(&mut self, outbox: &mut Outbox) -> Result<bool, NodeFault>
-        ensures call { result ≢ Err Faults.Memory → IsCall self.old self.new outbox.old.mail outbox.new.mail result (core.announce self.old) }
-        ensures memory { result ≡ Err Faults.Memory → (self.new ≡ self.old) × (outbox.new.mail ≡ outbox.old.mail) × Allows (core.announce self.old) }
+        ensures call { result ≢ Err Faults.Memory
+            → IsCall self.old self.new outbox.old.mail outbox.new.mail result (core.announce self.old) }
+        ensures memory { result ≡ Err Faults.Memory
+            → (self.new ≡ self.old) × (outbox.new.mail ≡ outbox.old.mail) × Allows (core.announce self.old) }
         ensures lawful { SendsOnly (core.may_send self.old) (core.announce self.old) };
 
     /// Runs what comes next, if it may.
     fn advance(&mut self, outbox: &mut Outbox) -> Result<bool, NodeFault>
-        ensures call { result ≢ Err Faults.Memory → IsCall self.old self.new outbox.old.mail outbox.new.mail result (core.advance self.old) }
-        ensures memory { result ≡ Err Faults.Memory → (self.new ≡ self.old) × (outbox.new.mail ≡ outbox.old.mail) × Allows (core.advance self.old) }
+        ensures call { result ≢ Err Faults.Memory
+            → IsCall self.old self.new outbox.old.mail outbox.new.mail result (core.advance self.old) }
+        ensures memory { result ≡ Err Faults.Memory
+            → (self.new ≡ self.old) × (outbox.new.mail ≡ outbox.old.mail) × Allows (core.advance self.old) }
         ensures lawful { SendsOnly (core.may_send self.old) (core.advance self.old) };
 
     /// Whether the others are linked to this one: it answers a stranger so.
-    fn is_hub(&self) -> bool
-        ensures { result ≡ HUB };
+    fn is_coordinator(&self) -> bool
+        ensures { result ≡ IS_COORDINATOR };
 
     /// Its history so far.
     fn rows(&self) -> &Self::Rows

@@ -2,7 +2,7 @@
 ghost use Rattle.std.specs.Prelude.{◌≡◌, ◌<◌, List, ◌∷◌, [], length, IfOk, OnOk, OnErr, IsOk, Some, slice_get};
 ghost use Rattle.link.specs.Image.{Image, answer_of, after_frame};
 ghost use Rattle.node.specs.Kinds.{IsHello, IsData};
-ghost use Rattle.node.specs.Step.{said, answer_with, addressed, changes, returned, received};
+ghost use Rattle.node.specs.Step.{answer_in, answer_with, addressed, changes, returned, received};
 
 use crate::memory::Memory;
 use crate::outbox::Outbox;
@@ -15,7 +15,9 @@ use signal::Frame;
 pub(crate) fn note(outbox: &mut Outbox, peer: usize, frame: &Frame) -> Result<Reply, Memory>
     requires there { peer < length outbox.old.mail.ends }
     requires ok { (e : Image) → slice_get outbox.old.mail.ends peer ≡ Some e → IsOk (answer_of e frame.now) }
-    ensures reply { (e : Image) → slice_get outbox.old.mail.ends peer ≡ Some e → IfOk result (λ reply. said reply ≡ answer_with (changes e frame.now) (addressed peer (returned (after_frame e frame.now) frame.now))) }
+    ensures reply { (e : Image) → slice_get outbox.old.mail.ends peer ≡ Some e
+        → IfOk result (λ reply. answer_in reply
+        ≡ answer_with (changes e frame.now) (addressed peer (returned (after_frame e frame.now) frame.now))) }
     ensures received { OnOk result (outbox.new.mail ≡ received peer frame.now outbox.old.mail) }
     ensures unchanged { OnErr result (outbox.new.mail ≡ outbox.old.mail) }
 {
@@ -47,7 +49,9 @@ fn resume(outbox: &mut Outbox, peer: usize, frame: &Frame) -> Result<Reply, Memo
     requires there { peer < length outbox.old.mail.ends }
     requires ok { (e : Image) → slice_get outbox.old.mail.ends peer ≡ Some e → IsOk (answer_of e frame.now) }
     requires hello { IsHello frame.now }
-    ensures reply { (e : Image) → slice_get outbox.old.mail.ends peer ≡ Some e → IfOk result (λ reply. said reply ≡ answer_with (changes e frame.now) (addressed peer (returned (after_frame e frame.now) frame.now))) }
+    ensures reply { (e : Image) → slice_get outbox.old.mail.ends peer ≡ Some e
+        → IfOk result (λ reply. answer_in reply
+        ≡ answer_with (changes e frame.now) (addressed peer (returned (after_frame e frame.now) frame.now))) }
     ensures received { OnOk result (outbox.new.mail ≡ received peer frame.now outbox.old.mail) }
     ensures unchanged { OnErr result (outbox.new.mail ≡ outbox.old.mail) }
 {
@@ -66,7 +70,9 @@ fn repeat(outbox: &mut Outbox, peer: usize, frame: &Frame) -> Result<Reply, Memo
     requires there { peer < length outbox.old.mail.ends }
     requires ok { (e : Image) → slice_get outbox.old.mail.ends peer ≡ Some e → IsOk (answer_of e frame.now) }
     requires data { IsData frame.now }
-    ensures reply { (e : Image) → slice_get outbox.old.mail.ends peer ≡ Some e → IfOk result (λ reply. said reply ≡ answer_with (changes e frame.now) (addressed peer (returned (after_frame e frame.now) frame.now))) }
+    ensures reply { (e : Image) → slice_get outbox.old.mail.ends peer ≡ Some e
+        → IfOk result (λ reply. answer_in reply
+        ≡ answer_with (changes e frame.now) (addressed peer (returned (after_frame e frame.now) frame.now))) }
     ensures received { OnOk result (outbox.new.mail ≡ received peer frame.now outbox.old.mail) }
     ensures unchanged { OnErr result (outbox.new.mail ≡ outbox.old.mail) }
 {

@@ -1,4 +1,5 @@
-ghost use Rattle.std.specs.Prelude.{◌≡◌, ◌≢◌, ℕ, ◌+◌, ◌≤◌, ◌<◌, List, [], ◌∷◌, map, option_map, slice_get, false, Some, Ok, Err, if◌then◌else◌, nat_eq, OnOk, OnErr, IsOk, IfSome, length, ◌++◌, slice_set};
+ghost use Rattle.std.specs.Prelude.{◌≡◌, ◌≢◌, ℕ, ◌+◌, ◌≤◌, ◌<◌, List, [], ◌∷◌, map, option_map, slice_get, false, Some};
+ghost use Rattle.std.specs.Prelude.{Ok, Err, if◌then◌else◌, nat_eq, OnOk, OnErr, IsOk, IfSome, length, ◌++◌, slice_set};
 ghost use Rattle.link.specs.Image.{Image, EndView, after_close, answer_of};
 ghost use Rattle.node.specs.Mail.{Mail, posted, all_posted, count_for, lacks_at, lacks_room, with_frame};
 ghost use Rattle.node.specs.Step.{received, received_at};
@@ -73,10 +74,11 @@ impl Outbox {
         &self.ends[peer]
     }
 
-    /// Sees that so many signals for a peer can be put: there is room at its end, and memory is taken. It is called
+    /// Sees that this many signals for a peer can be put: there is room at its end, and memory is taken. It is called
     /// once for each peer, with the count of all signals for it.
     pub fn reserve(&mut self, peer: usize, count: usize) -> Result<(), NodeFault>
-        ensures answer { result ≢ Err Faults.Memory → result ≡ (if lacks_at peer count self.old.mail.ends then Err Faults.NoRoom else Ok tt) }
+        ensures answer { result ≢ Err Faults.Memory
+            → result ≡ (if lacks_at peer count self.old.mail.ends then Err Faults.NoRoom else Ok tt) }
         ensures ready { OnOk result (IsReadyFor self.new peer count) }
         ensures places { OnOk result (self.new.places ≡ self.old.places + count) }
         ensures none_lost { NoneLost self.old.reserved self.new.reserved }
@@ -88,7 +90,8 @@ impl Outbox {
 
     /// Sees that all these posts can be put.
     pub fn reserve_all(&mut self, posts: &[Post]) -> Result<(), NodeFault>
-        ensures answer { result ≢ Err Faults.Memory → result ≡ (if lacks_room self.old.mail.ends posts.now then Err Faults.NoRoom else Ok tt) }
+        ensures answer { result ≢ Err Faults.Memory
+            → result ≡ (if lacks_room self.old.mail.ends posts.now then Err Faults.NoRoom else Ok tt) }
         ensures ready { OnOk result (IsReady self.new posts.now) }
         ensures mail { self.new.mail ≡ self.old.mail }
     {
@@ -104,7 +107,8 @@ impl Outbox {
         requires ready { IsReadyFor self.old peer 1 }
         requires place { 1 ≤ self.old.places }
         ensures put { self.new.mail ≡ posted self.old.mail (record { peer = peer; signal = signal }) }
-        ensures one_used { (p : ℕ) → reserved_at self.old.reserved p ≤ reserved_at self.new.reserved p + (if nat_eq p peer then 1 else 0) }
+        ensures one_used { (p : ℕ) → reserved_at self.old.reserved p
+            ≤ reserved_at self.new.reserved p + (if nat_eq p peer then 1 else 0) }
         ensures place_used { self.new.places + 1 ≡ self.old.places }
     {
         self.places -= 1;
@@ -130,7 +134,12 @@ impl Outbox {
 
     /// The frame that goes out before those of the node.
     pub(crate) fn begin(&mut self, peer: usize, frame: Frame) -> Result<(), Memory>
-        ensures begun { OnOk result (self.new.mail ≡ record { ends = self.old.mail.ends; frames = self.old.mail.frames ++ record { peer = peer; frame = frame } ∷ [] }) }
+        ensures begun { OnOk result (self.new.mail
+            ≡ record {
+              ends = self.old.mail.ends;
+              frames = self.old.mail.frames
+                  ++ record { peer = peer; frame = frame } ∷ [];
+            }) }
         ensures refused { OnErr result (self.new.mail ≡ self.old.mail) }
     {
         self.places = 0;
@@ -142,7 +151,11 @@ impl Outbox {
     /// Another frame in place of the first.
     pub(crate) fn replace_first(&mut self, peer: usize, frame: Frame)
         requires { 0 < length self.old.mail.frames }
-        ensures { self.new.mail ≡ record { ends = self.old.mail.ends; frames = slice_set self.old.mail.frames 0 (record { peer = peer; frame = frame }) } }
+        ensures { self.new.mail ≡ record {
+          ends = self.old.mail.ends;
+          frames = slice_set self.old.mail.frames 0
+              (record { peer = peer; frame = frame });
+        } }
     {
         self.frames[0] = Outgoing { peer, frame };
     }
@@ -158,7 +171,8 @@ impl Outbox {
     /// Closes a peer's end.
     pub(crate) fn close(&mut self, peer: usize)
         ensures frames { self.new.mail.frames ≡ self.old.mail.frames }
-        ensures ends { (e : Image) → slice_get self.old.mail.ends peer ≡ Some e → self.new.mail.ends ≡ slice_set self.old.mail.ends peer (after_close e) }
+        ensures ends { (e : Image) → slice_get self.old.mail.ends peer ≡ Some e
+            → self.new.mail.ends ≡ slice_set self.old.mail.ends peer (after_close e) }
     {
         close_at(&mut self.ends, peer);
     }
@@ -182,7 +196,7 @@ impl Outbox {
         self.frames = frames;
     }
 
-    // Memory for so many more frames.
+    // Memory for this many more frames.
     fn reserve_places(&mut self, count: usize) -> Result<(), NodeFault>
         ensures answer { result ≢ Err Faults.Memory → result ≡ Ok tt }
         ensures places { OnOk result (self.new.places ≡ self.old.places + count) }
@@ -201,7 +215,8 @@ impl Outbox {
 // Takes in a frame at a peer's end.
 fn receive_at(ends: &mut Vec<LinkEnd>, peer: usize, frame: &Frame)
     requires { (e : Image) → slice_get (images ends.old.items) peer ≡ Some e → IsOk (answer_of e frame.now) }
-    ensures { images ends.new.items ≡ received_at (images ends.old.items) peer frame.now (slice_get (images ends.old.items) peer) }
+    ensures { images ends.new.items
+        ≡ received_at (images ends.old.items) peer frame.now (slice_get (images ends.old.items) peer) }
 {
     if let Some(end) = ends.get_mut(peer) {
         end.receive(frame);
@@ -210,7 +225,8 @@ fn receive_at(ends: &mut Vec<LinkEnd>, peer: usize, frame: &Frame)
 
 // Closes a peer's end.
 fn close_at(ends: &mut Vec<LinkEnd>, peer: usize)
-    ensures { (e : Image) → slice_get (images ends.old.items) peer ≡ Some e → images ends.new.items ≡ slice_set (images ends.old.items) peer (after_close e) }
+    ensures { (e : Image) → slice_get (images ends.old.items) peer ≡ Some e
+        → images ends.new.items ≡ slice_set (images ends.old.items) peer (after_close e) }
 {
     if let Some(end) = ends.get_mut(peer) {
         end.close();
@@ -226,7 +242,8 @@ fn count_for(posts: &[Post], peer: usize) -> usize
 
 // Room and memory at a peer's end.
 fn reserve_end(ends: &mut Vec<LinkEnd>, peer: usize, count: usize) -> Result<(), NodeFault>
-    ensures answer { result ≢ Err Faults.Memory → result ≡ (if lacks_at peer count (images ends.old.items) then Err Faults.NoRoom else Ok tt) }
+    ensures answer { result ≢ Err Faults.Memory
+        → result ≡ (if lacks_at peer count (images ends.old.items) then Err Faults.NoRoom else Ok tt) }
     ensures memory { OnOk result (HasMemory (images ends.new.items) (reserves ends.new.items) peer count) }
     ensures none_lost { NoneLost (reserves ends.old.items) (reserves ends.new.items) }
     ensures images { images ends.new.items ≡ images ends.old.items }
@@ -251,8 +268,10 @@ fn reserve_end(ends: &mut Vec<LinkEnd>, peer: usize, count: usize) -> Result<(),
 
 // Room and memory at each end, for the posts to it. Mostly there are few posts, and many ends at the coordinator.
 fn reserve_ends(ends: &mut Vec<LinkEnd>, posts: &[Post]) -> Result<(), NodeFault>
-    ensures answer { result ≢ Err Faults.Memory → result ≡ (if lacks_room (images ends.old.items) posts.now then Err Faults.NoRoom else Ok tt) }
-    ensures memory { OnOk result ((p : ℕ) → HasMemory (images ends.new.items) (reserves ends.new.items) p (count_for p posts.now)) }
+    ensures answer { result ≢ Err Faults.Memory
+        → result ≡ (if lacks_room (images ends.old.items) posts.now then Err Faults.NoRoom else Ok tt) }
+    ensures memory { OnOk result ((p : ℕ)
+        → HasMemory (images ends.new.items) (reserves ends.new.items) p (count_for p posts.now)) }
     ensures images { images ends.new.items ≡ images ends.old.items }
 {
     if posts.len() < ends.len() {
@@ -264,8 +283,10 @@ fn reserve_ends(ends: &mut Vec<LinkEnd>, posts: &[Post]) -> Result<(), NodeFault
 
 // The same post by post. Where a peer comes again, nothing is left to reserve at its end.
 fn reserve_by_post(ends: &mut Vec<LinkEnd>, posts: &[Post]) -> Result<(), NodeFault>
-    ensures answer { result ≢ Err Faults.Memory → result ≡ (if lacks_room (images ends.old.items) posts.now then Err Faults.NoRoom else Ok tt) }
-    ensures memory { OnOk result ((p : ℕ) → HasMemory (images ends.new.items) (reserves ends.new.items) p (count_for p posts.now)) }
+    ensures answer { result ≢ Err Faults.Memory
+        → result ≡ (if lacks_room (images ends.old.items) posts.now then Err Faults.NoRoom else Ok tt) }
+    ensures memory { OnOk result ((p : ℕ)
+        → HasMemory (images ends.new.items) (reserves ends.new.items) p (count_for p posts.now)) }
     ensures images { images ends.new.items ≡ images ends.old.items }
 {
     for post in posts {
@@ -276,8 +297,10 @@ fn reserve_by_post(ends: &mut Vec<LinkEnd>, posts: &[Post]) -> Result<(), NodeFa
 
 // The same end by end.
 fn reserve_by_end(ends: &mut Vec<LinkEnd>, posts: &[Post]) -> Result<(), NodeFault>
-    ensures answer { result ≢ Err Faults.Memory → result ≡ (if lacks_room (images ends.old.items) posts.now then Err Faults.NoRoom else Ok tt) }
-    ensures memory { OnOk result ((p : ℕ) → HasMemory (images ends.new.items) (reserves ends.new.items) p (count_for p posts.now)) }
+    ensures answer { result ≢ Err Faults.Memory
+        → result ≡ (if lacks_room (images ends.old.items) posts.now then Err Faults.NoRoom else Ok tt) }
+    ensures memory { OnOk result ((p : ℕ)
+        → HasMemory (images ends.new.items) (reserves ends.new.items) p (count_for p posts.now)) }
     ensures images { images ends.new.items ≡ images ends.old.items }
 {
     for peer in 0..ends.len() {
@@ -289,8 +312,11 @@ fn reserve_by_end(ends: &mut Vec<LinkEnd>, posts: &[Post]) -> Result<(), NodeFau
 // Offers a signal at a peer's end.
 fn offer_at(ends: &mut Vec<LinkEnd>, peer: usize, signal: Signal) -> Option<Frame>
     requires { (e : EndView) → slice_get ends.old.items peer ≡ Some e → e.image.closed ≡ false → 0 < e.reserved }
-    ensures posted { (frames : List Outgoing) → posted (record { ends = images ends.old.items; frames = frames }) (record { peer = peer; signal = signal }) ≡ record { ends = images ends.new.items; frames = with_frame frames peer result } }
-    ensures one_used { (p : ℕ) → reserved_at (reserves ends.old.items) p ≤ reserved_at (reserves ends.new.items) p + (if nat_eq p peer then 1 else 0) }
+    ensures posted { (frames : List Outgoing)
+        → posted (record { ends = images ends.old.items; frames = frames }) (record { peer = peer; signal = signal })
+        ≡ record { ends = images ends.new.items; frames = with_frame frames peer result } }
+    ensures one_used { (p : ℕ) → reserved_at (reserves ends.old.items) p
+        ≤ reserved_at (reserves ends.new.items) p + (if nat_eq p peer then 1 else 0) }
 {
     match ends.get_mut(peer)?.offer(signal) {
         Ok(frame) => Some(frame),

@@ -2,7 +2,7 @@
 ghost use Rattle.std.specs.Prelude.{◌≡◌, ◌≢◌, [], ◌∷◌, ◌≤◌, length, IfOk, OnOk, OnErr, Ok, Err, true, false};
 ghost use Rattle.std.specs.Vec.{vec_capacity};
 ghost use Rattle.node.specs.declared.fault.NodeFault.{NodeFault as Fault};
-ghost use Rattle.node.specs.Step.{said, answer_with, addressed, turned_away, Declines, Says, Silent};
+ghost use Rattle.node.specs.Step.{answer_in, answer_with, addressed, turned_away, Declines, Says, Silent};
 ghost use Rattle.node.specs.Numbers.{fault_number};
 ghost use Rattle.node.specs.declared.fault.NodeFault.TheVariants as Faults;
 
@@ -17,7 +17,7 @@ use std::alloc::Global;
 
 // What changed something or not, and sends these.
 pub(crate) fn reply_with(changed: bool, frames: Vec<Outgoing>) -> Reply
-    ensures { said result ≡ answer_with changed frames.items }
+    ensures { answer_in result ≡ answer_with changed frames.items }
 {
     if changed || !frames.is_empty() {
         Reply::Done(frames)
@@ -52,12 +52,12 @@ pub(crate) fn address(to: &mut Vec<Outgoing>, peer: usize, frames: &[Frame])
 // What a stranger's frame is answered.
 pub(crate) fn turn_away(
     alloc: Global,
-    hub: bool,
+    is_coordinator: bool,
     peer: usize,
     end: &LinkEnd,
     frame: &Frame,
 ) -> Result<Vec<Outgoing>, Memory>
-    ensures { IfOk result (λ frames. frames.items ≡ turned_away hub peer end.now.image frame.now) }
+    ensures { IfOk result (λ frames. frames.items ≡ turned_away is_coordinator peer end.now.image frame.now) }
 {
     match (end.ack(), *frame) {
         (
@@ -66,7 +66,7 @@ pub(crate) fn turn_away(
                 ..
             },
             Frame::Hello(Hello { incarnation, .. }),
-        ) if hub && incarnation != own => {
+        ) if is_coordinator && incarnation != own => {
             let refusal = LinkFault::Stranger.number();
             one(
                 alloc,
@@ -83,7 +83,7 @@ pub(crate) fn turn_away(
 
 // A node's fault, after which nothing is sent.
 pub(crate) fn decline(outbox: &mut Outbox, fault: NodeFault) -> Result<Reply, Memory>
-    ensures reply { IfOk result (λ reply. said reply ≡ Declines (fault_number fault) []) }
+    ensures reply { IfOk result (λ reply. answer_in reply ≡ Declines (fault_number fault) []) }
     ensures done { OnOk result (fault ≢ Faults.Memory) }
     ensures memory { OnErr result (fault ≡ Faults.Memory) }
     ensures mail { outbox.new.mail ≡ record { ends = outbox.old.mail.ends; frames = [] } }
@@ -97,9 +97,10 @@ pub(crate) fn decline(outbox: &mut Outbox, fault: NodeFault) -> Result<Reply, Me
 
 // What a node did by itself.
 pub(crate) fn tell(outbox: &mut Outbox, answer: Result<bool, NodeFault>) -> Result<Reply, Memory>
-    ensures done { answer ≡ Ok true → IfOk result (λ reply. said reply ≡ Says outbox.old.mail.frames) }
-    ensures nothing { answer ≡ Ok false → IfOk result (λ reply. said reply ≡ Silent) }
-    ensures refused { (fault : Fault) → answer ≡ Err fault → IfOk result (λ reply. said reply ≡ Declines (fault_number fault) []) }
+    ensures done { answer ≡ Ok true → IfOk result (λ reply. answer_in reply ≡ Says outbox.old.mail.frames) }
+    ensures nothing { answer ≡ Ok false → IfOk result (λ reply. answer_in reply ≡ Silent) }
+    ensures refused { (fault : Fault) → answer ≡ Err fault
+        → IfOk result (λ reply. answer_in reply ≡ Declines (fault_number fault) []) }
     ensures memory { OnErr result (answer ≡ Err Faults.Memory) }
     ensures no_memory { OnOk result (answer ≢ Err Faults.Memory) }
     ensures mail { outbox.new.mail ≡ record { ends = outbox.old.mail.ends; frames = [] } }

@@ -3,7 +3,9 @@ ghost use Rattle.link.specs.Image.{Image, answer_of};
 ghost use Rattle.link.specs.declared.arrival.Arrival.TheVariants as Arrivals;
 ghost use Rattle.signal.specs.declared.frame.Frame.TheVariants as Frames;
 ghost use Rattle.node.specs.Core.{ending_of};
-ghost use Rattle.node.specs.Step.{Station as StationOf, said, step_of, frame_comes, comes, lets_in, resends, greets, acts, unsent};
+ghost use Rattle.node.specs.Step.{Station as StationOf, answer_in, step_of, frame_comes, comes, lets_in, resends};
+ghost use Rattle.node.specs.Step.{greets};
+ghost use Rattle.node.specs.Step.{acts, unsent};
 
 use crate::closing::closes;
 use crate::event::Event;
@@ -72,7 +74,8 @@ impl<N: Node> Station<N> {
 
     /// Makes one step. Without memory nothing has changed, and the same event may come again.
     pub fn step(&mut self, event: Event) -> Result<Reply, Memory>
-        ensures ended { IfOk result (λ reply. record { station = self.new; answer = said reply } ≡ step_of N.core N.HUB self.old event) }
+        ensures ended { IfOk result (λ reply. record { station = self.new; answer = answer_in reply }
+            ≡ step_of N.core N.IS_COORDINATOR self.old event) }
         ensures unchanged { OnErr result (self.new ≡ self.old) }
     {
         match event {
@@ -97,7 +100,8 @@ impl<N: Node> Station<N> {
 
     // A frame of a peer.
     fn receive(&mut self, peer: usize, frame: &Frame) -> Result<Reply, Memory>
-        ensures ended { IfOk result (λ reply. record { station = self.new; answer = said reply } ≡ frame_comes N.core N.HUB self.old peer frame.now (slice_get self.old.ends peer)) }
+        ensures ended { IfOk result (λ reply. record { station = self.new; answer = answer_in reply }
+            ≡ frame_comes N.core N.IS_COORDINATOR self.old peer frame.now (slice_get self.old.ends peer)) }
         ensures unchanged { OnErr result (self.new ≡ self.old) }
     {
         let alloc = self.outbox.alloc();
@@ -107,7 +111,7 @@ impl<N: Node> Station<N> {
         match end.peek(frame) {
             Ok(arrival) => self.let_in(peer, frame, arrival),
             Err(fault) => {
-                let frames = turn_away(alloc, self.node.is_hub(), peer, end, frame)?;
+                let frames = turn_away(alloc, self.node.is_coordinator(), peer, end, frame)?;
                 Ok(Reply::Refused(fault.number(), frames))
             }
         }
@@ -117,7 +121,9 @@ impl<N: Node> Station<N> {
     fn let_in(&mut self, peer: usize, frame: &Frame, arrival: Arrival) -> Result<Reply, Memory>
         requires there { peer < length self.old.ends }
         requires answered { (e : Image) → slice_get self.old.ends peer ≡ Some e → answer_of e frame.now ≡ Ok arrival }
-        ensures ended { (e : Image) → slice_get self.old.ends peer ≡ Some e → IfOk result (λ reply. record { station = self.new; answer = said reply } ≡ lets_in N.core self.old peer e frame.now arrival) }
+        ensures ended { (e : Image) → slice_get self.old.ends peer ≡ Some e
+            → IfOk result (λ reply. record { station = self.new; answer = answer_in reply }
+            ≡ lets_in N.core self.old peer e frame.now arrival) }
         ensures unchanged { OnErr result (self.new ≡ self.old) }
     {
         match (*frame, arrival) {
@@ -143,8 +149,11 @@ impl<N: Node> Station<N> {
         signal: Signal,
     ) -> Result<Reply, Memory>
         requires data { frame.now ≡ Frames.Data incarnation number signal }
-        requires in_turn { (e : Image) → slice_get self.old.ends peer ≡ Some e → answer_of e (Frames.Data incarnation number signal) ≡ Ok Arrivals.Signal }
-        ensures ended { (e : Image) → slice_get self.old.ends peer ≡ Some e → IfOk result (λ reply. record { station = self.new; answer = said reply } ≡ lets_in N.core self.old peer e (Frames.Data incarnation number signal) Arrivals.Signal) }
+        requires in_turn { (e : Image) → slice_get self.old.ends peer ≡ Some e
+            → answer_of e (Frames.Data incarnation number signal) ≡ Ok Arrivals.Signal }
+        ensures ended { (e : Image) → slice_get self.old.ends peer ≡ Some e
+            → IfOk result (λ reply. record { station = self.new; answer = answer_in reply }
+            ≡ lets_in N.core self.old peer e (Frames.Data incarnation number signal) Arrivals.Signal) }
         ensures unchanged { OnErr result (self.new ≡ self.old) }
     {
         self.outbox.begin(
@@ -177,7 +186,8 @@ impl<N: Node> Station<N> {
 
     // What a peer hasn't acknowledged is sent again.
     fn resend(&mut self, peer: usize) -> Result<Reply, Memory>
-        ensures ended { IfOk result (λ reply. record { station = self.new; answer = said reply } ≡ resends self.old peer (slice_get self.old.ends peer)) }
+        ensures ended { IfOk result (λ reply. record { station = self.new; answer = answer_in reply }
+            ≡ resends self.old peer (slice_get self.old.ends peer)) }
         ensures unchanged { OnErr result (self.new ≡ self.old) }
     {
         let alloc = self.outbox.alloc();
@@ -194,7 +204,8 @@ impl<N: Node> Station<N> {
 
     // A new connection to a peer.
     fn greet(&mut self, peer: usize) -> Result<Reply, Memory>
-        ensures ended { IfOk result (λ reply. record { station = self.new; answer = said reply } ≡ greets self.old peer (slice_get self.old.ends peer)) }
+        ensures ended { IfOk result (λ reply. record { station = self.new; answer = answer_in reply }
+            ≡ greets self.old peer (slice_get self.old.ends peer)) }
         ensures unchanged { OnErr result (self.new ≡ self.old) }
     {
         let alloc = self.outbox.alloc();
@@ -209,7 +220,8 @@ impl<N: Node> Station<N> {
 
     // The node says what comes next.
     fn announce(&mut self) -> Result<Reply, Memory>
-        ensures ended { IfOk result (λ reply. record { station = self.new; answer = said reply } ≡ acts self.old (ending_of (unsent self.old) (N.core.announce self.old.node))) }
+        ensures ended { IfOk result (λ reply. record { station = self.new; answer = answer_in reply }
+            ≡ acts self.old (ending_of (unsent self.old) (N.core.announce self.old.node))) }
         ensures unchanged { OnErr result (self.new ≡ self.old) }
     {
         let answer = self.node.announce(&mut self.outbox);
@@ -218,7 +230,8 @@ impl<N: Node> Station<N> {
 
     // The node runs what comes next.
     fn advance(&mut self) -> Result<Reply, Memory>
-        ensures ended { IfOk result (λ reply. record { station = self.new; answer = said reply } ≡ acts self.old (ending_of (unsent self.old) (N.core.advance self.old.node))) }
+        ensures ended { IfOk result (λ reply. record { station = self.new; answer = answer_in reply }
+            ≡ acts self.old (ending_of (unsent self.old) (N.core.advance self.old.node))) }
         ensures unchanged { OnErr result (self.new ≡ self.old) }
     {
         let answer = self.node.advance(&mut self.outbox);

@@ -1,5 +1,5 @@
--- The coordinator as a node: it does what the definition of the coordinator says, by the wiring of its plan, and grants as much as is
--- safe. Its peer j is federate j.
+-- The coordinator as a node: it does what the definition of the coordinator says, by the wiring of its plan, and grants
+-- as much as is safe. Its peer j is federate j.
 use Rattle.std.specs.Prelude.{ℕ, Bool, ◌&&◌, List, []}
 use Rattle.network.specs.Network.{Network}
 use Rattle.network.specs.Wiring.{wiring}
@@ -7,7 +7,8 @@ use Rattle.signal.specs.declared.signal.Signal.{Signal}
 use Rattle.protocol.specs.declared.post.Post.{Post}
 use Rattle.protocol.specs.Outcome.{Outcome, Nothing, with_made}
 use Rattle.protocol.specs.FederateRecord.{FederateRecord, initial_federate_record}
-use Rattle.protocol.specs.FederateRecords.{Listed, federate_record_at, federate_records_listed, coordinator_accepts_in, is_finished}
+use Rattle.protocol.specs.FederateRecords.{Listed, federate_record_at, federate_records_listed, coordinator_accepts_in}
+use Rattle.protocol.specs.FederateRecords.{is_finished}
 use Rattle.protocol.specs.Grant.{Rule, grant_widest, all_below}
 use Rattle.protocol.specs.Machine.{sent_to}
 use Rattle.protocol.specs.Alone.{is_of_step, is_sent_past}
@@ -34,17 +35,20 @@ abbrev pub made_by : CoordinatorNode → Listed → Made CoordinatorNode
 made_by v made = record { after = record v { federate_records = made.after }; sent = made.sent }
 
 abbrev pub accepts : CoordinatorNode → ℕ → Signal → Outcome (Made CoordinatorNode)
-accepts v peer signal = with_made (made_by v) (coordinator_accepts_in (wiring_in v.draft) (rule_in v.draft) v.federate_records peer signal)
+accepts v peer signal =
+    with_made (made_by v) (coordinator_accepts_in (wiring_in v.draft) (rule_in v.draft) v.federate_records peer signal)
 
 -- to each federate at most one message and then at most one TAG, both later than what it was granted before
 abbrev pub coordinator_may_send : CoordinatorNode → List Post → Bool
 coordinator_may_send v posts =
     all_below (federate_count v.draft)
-    (λ j. is_of_step (sent_to j posts) && is_sent_past (federate_record_at v.federate_records j).granted (sent_to j posts))
+    (λ j. is_of_step (sent_to j posts)
+    && is_sent_past (federate_record_at v.federate_records j).granted (sent_to j posts))
 
 -- as it was made
 abbrev pub initial_node : CoordinatorNode → CoordinatorNode
-initial_node v = record v { federate_records = federate_records_listed (federate_count v.draft) (λ j. initial_federate_record) }
+initial_node v =
+    record v { federate_records = federate_records_listed (federate_count v.draft) (λ j. initial_federate_record) }
 
 -- it says and runs nothing by itself, and has no rows
 abbrev pub coordinator_core : Core CoordinatorNode (Unit {0})

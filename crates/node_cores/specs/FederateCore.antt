@@ -5,7 +5,8 @@ use Rattle.network.specs.Undivided.{Row}
 use Rattle.signal.specs.declared.signal.Signal.{Signal}
 use Rattle.protocol.specs.declared.post.Post.{Post}
 use Rattle.protocol.specs.Outcome.{Outcome, with_made}
-use Rattle.protocol.specs.Federate.{Federate, Stepped, initial_federate, federate_accepts, federate_announces, federate_advances}
+use Rattle.protocol.specs.Federate.{Federate, Stepped, initial_federate, federate_accepts, federate_announces}
+use Rattle.protocol.specs.Federate.{federate_advances}
 use Rattle.protocol.specs.Alone.{is_sent_after}
 use Rattle.node.specs.Core.{Core, Made}
 use Rattle.plan.specs.declared.draft.Draft.{Draft}

@@ -7,7 +7,8 @@ ghost use Rattle.node.specs.Core.{IsCore};
 ghost use Rattle.node_cores.specs.FederateCore.{federate_core};
 ghost use Rattle.node_cores.specs.CoordinatorCore.{coordinator_core};
 
-/// Each step of a federate adds to its rows, and leaves what it was made from; and so does each step of the coordinator, which has no rows.
+/// Each step of a federate adds to its rows, and leaves what it was made from; and so does each step of the
+/// coordinator, which has no rows.
 pub fn nodes_go_on()
     ensures federate { IsCore federate_core }
     ensures coordinator { IsCore coordinator_core }

@@ -1,5 +1,7 @@
 -- What comes to a federation from outside: startups, firings of timers, and recorded inputs, up to stop.
-use Rattle.std.specs.Prelude.{◌≡◌, ℕ, zero, suc, ◌+◌, ◌-◌, ◌*◌, ◌/◌, ◌≤◌, pos, Bool, nat_eq, nat_le, if◌then◌else◌, List, [], ◌∷◌, ◌++◌, map, filter, length, All, AllPairs, IsSome, Option, None, Some, slice_get}
+use Rattle.std.specs.Prelude.{◌≡◌, ℕ, zero, suc, ◌+◌, ◌-◌, ◌*◌, ◌/◌, ◌≤◌, pos, Bool, nat_eq, nat_le, if◌then◌else◌}
+use Rattle.std.specs.Prelude.{List, [], ◌∷◌, ◌++◌, map, filter, length, All, AllPairs, IsSome, Option, None, Some}
+use Rattle.std.specs.Prelude.{slice_get}
 use Rattle.std.specs.Option.{option_map}
 use Rattle.std.specs.List.{filter_map}
 use Rattle.tag.specs.LogicalTime.{LogicalTime, origin, is_at_most, IsFinite}
@@ -14,14 +16,15 @@ use Rattle.plan.specs.declared.input.TheConstants.{MOST_INPUTS}
 use Rattle.plan_slots.specs.Numbering.{startup_slot, first_timer, first_physical}
 use Rattle.plan.specs.Federation.{Found, found_in, stop_of}
 
--- so many times, each a period after the one before
+-- this many times, each a period after the one before
 abbrev pub times_from : ℕ → ℕ → ℕ → List ℕ
 times_from time period zero = []
 times_from time period (suc count) = time ∷ times_from (time + period) period count
 
 -- how often a timer fires up to stop: with period 0 once
 abbrev pub firing_count : ℕ → Timer → ℕ
-firing_count stop t = if nat_le t.offset stop then (if nat_eq t.period 0 then 1 else (stop - t.offset) / t.period + 1) else 0
+firing_count stop t =
+    if nat_le t.offset stop then (if nat_eq t.period 0 then 1 else (stop - t.offset) / t.period + 1) else 0
 
 -- the times at which it does
 abbrev pub firing_times : ℕ → Timer → List ℕ
@@ -63,7 +66,8 @@ physical_slot federates found = slot_in (slice_get federates found.federate) fou
 -- the event of a recorded input
 abbrev pub input_event : List Federate → Input → Option Event
 input_event federates i =
-    option_map (λ found. outside i.tag found.federate (physical_slot federates found) i.value) (found_action federates i)
+    option_map (λ found. outside i.tag found.federate (physical_slot federates found) i.value)
+    (found_action federates i)
 
 -- recorded inputs up to stop
 abbrev pub input_events : Draft → List Input → List Event
@@ -88,7 +92,8 @@ input_events_to d inputs federate = filter (is_for federate) (input_events d inp
 
 -- the external events of one federate
 abbrev pub external_to : Draft → List Input → ℕ → List Event
-external_to d inputs federate = own_events_in d.stop federate (slice_get d.federates federate) ++ input_events_to d inputs federate
+external_to d inputs federate =
+    own_events_in d.stop federate (slice_get d.federates federate) ++ input_events_to d inputs federate
 
 -- a timer fires at this tag, up to stop: at microstep 0, at the offset, or later by a multiple of the period
 pub record FiresAt (stop : ℕ) (t : Timer) (tag : LogicalTime) : Type 0 where

@@ -5,7 +5,8 @@ use Rattle.plan_paths.specs.Cycles.{HasNoCycleAt, IsCycleFrom}
 use Rattle.plan_names.specs.declared.port.PortName.{PortName}
 use Rattle.plan.specs.declared.draft.Draft.{Draft}
 use Rattle.plan.specs.declared.plan_fault.PlanFault.{PlanFault}
-use Rattle.plan.specs.declared.plan_fault.PlanFault.TheVariants.{NoFederate, UnknownName, TwoSources, ZeroDelayCycle, OverLimit, BadTimer, Memory, RepeatedName}
+use Rattle.plan.specs.declared.plan_fault.PlanFault.TheVariants.{NoFederate, UnknownName, TwoSources, ZeroDelayCycle}
+use Rattle.plan.specs.declared.plan_fault.PlanFault.TheVariants.{OverLimit, BadTimer, Memory, RepeatedName}
 use Rattle.plan.specs.declared.limits.TheConstants.{MOST_FEDERATES, MOST_CONNECTIONS}
 use Rattle.plan_names.specs.Naming.{AreDistinct, StandsTwice}
 use Rattle.plan_slots.specs.Numbering.{all_names}

@@ -35,7 +35,8 @@ place_in names_of (Some f) name = place_of (names_of f.slots) name
 abbrev pub found_in : (Slots → List (List ℕ)) → List Federate → List ℕ → List ℕ → Option Found
 found_in names_of federates federate name =
     option_and_then
-    (λ number. option_map (λ place. record { federate = number; place = place }) (place_in names_of (slice_get federates number) name))
+    (λ number. option_map (λ place. record { federate = number; place = place })
+    (place_in names_of (slice_get federates number) name))
     (federate_number federates federate)
 
 -- the output port of this name, by the numbers of its federate and its place there

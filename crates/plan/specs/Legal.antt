@@ -9,7 +9,8 @@ use Rattle.plan_names.specs.Naming.{AreDistinct}
 use Rattle.plan_slots.specs.Numbering.{all_names}
 use Rattle.plan.specs.Federation.{federate_names, found_output, found_input, connections_of}
 
--- a draft that is a federation: within its limits, with names and ports as they must be, and without a cycle of no delay
+-- a draft that is a federation: within its limits, with names and ports as they must be, and without a cycle of no
+-- delay
 pub record IsLegal (d : Draft) : Type 0 where
   -- there is a federate, and there are not too many federates and connections
   pub some_federate : 0 < length d.federates

@@ -9,4 +9,5 @@ use Rattle.plan.specs.External.{found_action}
 -- an input's physical action by numbers, if it is there, with the input's tag
 abbrev pub occurrence_of : List Federate → Input → Option Occurrence
 occurrence_of federates i =
-    option_map (λ found. record { federate = found.federate; place = found.place; tag = i.tag }) (found_action federates i)
+    option_map (λ found. record { federate = found.federate; place = found.place; tag = i.tag })
+    (found_action federates i)

@@ -4,7 +4,8 @@ use Rattle.std.specs.List.{flat_map}
 use Rattle.std.specs.Fmt.{decimal}
 use Rattle.plan_names.specs.Ports.{printed_port}
 use Rattle.plan.specs.declared.plan_fault.PlanFault.{PlanFault}
-use Rattle.plan.specs.declared.plan_fault.PlanFault.TheVariants.{NoFederate, UnknownName, TwoSources, ZeroDelayCycle, OverLimit, BadTimer, Memory, RepeatedName}
+use Rattle.plan.specs.declared.plan_fault.PlanFault.TheVariants.{NoFederate, UnknownName, TwoSources, ZeroDelayCycle}
+use Rattle.plan.specs.declared.plan_fault.PlanFault.TheVariants.{OverLimit, BadTimer, Memory, RepeatedName}
 
 -- the refusal's number
 abbrev pub number_of : PlanFault → ℕ

@@ -8,7 +8,8 @@ use Rattle.plan.specs.Federation.{connections_of, rank_of, federate_count}
 use Rattle.plan.specs.Legal.{IsLegal}
 
 -- a legal draft, with its connections by number, each federate's rank, and the least delays between any two federates
-pub record IsPlanned (d : Draft) (by_number : List Connection) (rank_by_federate : List ℕ) (delay_table : List (List (Option LogicalTime))) : Type 0 where
+pub record IsPlanned (d : Draft) (by_number : List Connection) (rank_by_federate : List ℕ)
+    (delay_table : List (List (Option LogicalTime))) : Type 0 where
   pub legal : IsLegal d
   pub connections : by_number ≡ connections_of d
   pub rank_count : length rank_by_federate ≡ federate_count d

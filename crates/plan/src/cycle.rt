@@ -16,7 +16,8 @@ fn names_along(
     path: &[Connection],
 ) -> Result<Names, AllocError>
     requires { All (λ c. c.source < length federates.now) path.now }
-    ensures { IfOk result (λ names. map (λ name. Some name) names ≡ map (λ c. slice_get (federate_names federates.now) c.source) path.now) }
+    ensures { IfOk result (λ names. map (λ name. Some name) names
+        ≡ map (λ c. slice_get (federate_names federates.now) c.source) path.now) }
 {
     let mut names = Vec::new(alloc);
     for connection in path {

@@ -1,4 +1,5 @@
-ghost use Rattle.std.specs.Prelude.{◌≡◌, ◌≢◌, ◌<◌, ◌≤◌, ◌↔◌, ◌⊎◌, map, length, All, AllPairs, Any, IsSome, IsTrue, Some, OnOk, IfOk, IfErr, Err};
+ghost use Rattle.std.specs.Prelude.{◌≡◌, ◌≢◌, ◌<◌, ◌≤◌, ◌↔◌, ◌⊎◌, map, length, All, AllPairs, Any, IsSome, IsTrue};
+ghost use Rattle.std.specs.Prelude.{Some, OnOk, IfOk, IfErr, Err};
 ghost use Rattle.tag.specs.LogicalTime.{IsFinite};
 ghost use Rattle.plan.specs.External.{found_action, AreApart};
 ghost use Rattle.plan.specs.declared.input.TheConstants.{MOST_INPUTS};
@@ -17,7 +18,8 @@ use tag::FiniteTag;
 /// Of a federation.
 pub const MOST_INPUTS: usize = 65_536;
 
-/// A recorded input: a physical action of a federate, both by name, with the tag at which it is present and its value there.
+/// A recorded input: a physical action of a federate, both by name, with the tag at which it is present and its value
+/// there.
 #[derive(Drop)]
 pub struct Input {
     pub federate: Text,
@@ -53,12 +55,17 @@ impl Inputs {
 
         // Of inputs that are all right out of memory alone is answered.
         ensures accepts { AreInputsOf plan.now inputs.items → IfErr result (λ e. e ≡ InputFault.Memory) }
-        ensures unknown { result ≡ Err InputFault.UnknownAction → ¬ (All (λ i. IsSome (found_action plan.now.federates i)) inputs.items) }
-        ensures repeated { result ≡ Err InputFault.RepeatedInput → All (λ i. IsSome (found_action plan.now.federates i)) inputs.items × ¬ (AllPairs AreApart inputs.items) }
-        ensures over { result ≡ Err InputFault.OverLimit → All (λ i. IsSome (found_action plan.now.federates i)) inputs.items × AllPairs AreApart inputs.items × ¬ (length inputs.items ≤ MOST_INPUTS) }
+        ensures unknown { result ≡ Err InputFault.UnknownAction
+            → ¬ (All (λ i. IsSome (found_action plan.now.federates i)) inputs.items) }
+        ensures repeated { result ≡ Err InputFault.RepeatedInput
+            → All (λ i. IsSome (found_action plan.now.federates i)) inputs.items × ¬ (AllPairs AreApart inputs.items) }
+        ensures over { result ≡ Err InputFault.OverLimit
+            → All (λ i. IsSome (found_action plan.now.federates i)) inputs.items × AllPairs AreApart inputs.items
+            × ¬ (length inputs.items ≤ MOST_INPUTS) }
 
         // Where no input's action is there, nothing has to be kept.
-        ensures memory { result ≡ Err InputFault.Memory → Any (λ i. IsSome (found_action plan.now.federates i)) inputs.items }
+        ensures memory { result ≡ Err InputFault.Memory
+            → Any (λ i. IsSome (found_action plan.now.federates i)) inputs.items }
     {
         let occurrences = occurrences(alloc, plan.federates(), inputs.as_slice())?;
         if !are_distinct(alloc, occurrences.as_slice())? {
@@ -103,7 +110,8 @@ fn occurrences(
     inputs: &[Input],
 ) -> Result<Vec<Occurrence>, InputFault>
     ensures ok { IfOk result (λ found. map (λ o. Some o) found.items ≡ map (occurrence_of federates.now) inputs.now) }
-    ensures unknown { result ≡ Err InputFault.UnknownAction → ¬ (All (λ i. IsSome (found_action federates.now i)) inputs.now) }
+    ensures unknown { result ≡ Err InputFault.UnknownAction
+        → ¬ (All (λ i. IsSome (found_action federates.now i)) inputs.now) }
     ensures fault { IfErr result (λ e. (e ≡ InputFault.UnknownAction) ⊎ (e ≡ InputFault.Memory)) }
     ensures memory { result ≡ Err InputFault.Memory → Any (λ i. IsSome (found_action federates.now i)) inputs.now }
 {

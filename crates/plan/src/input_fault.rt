@@ -5,8 +5,8 @@ ghost use Rattle.plan.specs.InputFaults.{input_number_of, input_name_of};
 use std::alloc::{AllocError, AllocFailed};
 use std::fmt;
 
-/// Why recorded inputs are refused. But for `Memory`, whoever recorded them caused it: the caller prints them, and may check
-/// them again once they are changed. The plan stays as it is.
+/// Why recorded inputs are refused. But for `Memory`, whoever recorded them caused it: the caller prints them, and may
+/// check them again once they are changed. The plan stays as it is.
 #[derive(Clone, Copy, Debug, PartialEq, Eq)]
 pub enum InputFault {
     /// A federate that the plan hasn't, or no physical action of it. Correct the name.

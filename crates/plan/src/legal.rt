@@ -18,7 +18,8 @@ pub(crate) fn legal_connections(alloc: Global, draft: &Draft) -> Result<Vec<Conn
     ensures value { IfOk result (λ connections. connections.items ≡ connections_of draft.now) }
     ensures legal { OnOk result (IsLegal draft.now) }
     ensures fault { IfErr result (StandsIn draft.now) }
-    ensures memory { IfErr result (λ e. e ≡ PlanFault.Memory → (0 < length draft.now.federates) × IsWithinAllLimits draft.now × AreTimersInRange draft.now) }
+    ensures memory { IfErr result (λ e. e ≡ PlanFault.Memory
+        → (0 < length draft.now.federates) × IsWithinAllLimits draft.now × AreTimersInRange draft.now) }
 {
     refuse_out_of_range(draft)?;
     refuse_repeated(alloc, draft)?;

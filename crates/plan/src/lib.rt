@@ -1,7 +1,8 @@
 //! A federation that was checked: its federates, connections and ranks, and recorded inputs.
 //!
-//! Promise to the layer above: a `Plan` is a legal draft (`specs/Legal`), and each refusal of a draft or of recorded inputs is
-//! printed as its number, its name and what it is about (`specs/PlanFaults`, `specs/InputFaults`). Begin with `draft`, then `plan`.
+//! Promise to the layer above: a `Plan` is a legal draft (`specs/Legal`), and each refusal of a draft or of recorded
+//! inputs is printed as its number, its name and what it is about (`specs/PlanFaults`, `specs/InputFaults`). Begin with
+//! `draft`, then `plan`.
 #![tactic(auto)]
 
 mod connect;

@@ -53,7 +53,8 @@ impl Plan {
         ensures fault { IfErr result (StandsIn draft) }
 
         // Of a draft over a limit, or with a timer out of range, it is never answered.
-        ensures memory { IfErr result (λ e. e ≡ PlanFault.Memory → (0 < length draft.federates) × IsWithinAllLimits draft × AreTimersInRange draft) }
+        ensures memory { IfErr result (λ e. e ≡ PlanFault.Memory
+            → (0 < length draft.federates) × IsWithinAllLimits draft × AreTimersInRange draft) }
     {
         Plan::planned(alloc, draft)
     }
@@ -62,7 +63,8 @@ impl Plan {
         ensures ok { IfOk result (λ plan. plan ≡ draft) }
         ensures legal { OnOk result (IsLegal draft) }
         ensures fault { IfErr result (StandsIn draft) }
-        ensures memory { IfErr result (λ e. e ≡ PlanFault.Memory → (0 < length draft.federates) × IsWithinAllLimits draft × AreTimersInRange draft) }
+        ensures memory { IfErr result (λ e. e ≡ PlanFault.Memory
+            → (0 < length draft.federates) × IsWithinAllLimits draft × AreTimersInRange draft) }
     {
         let connections = legal_connections(alloc, &draft)?;
         let count = draft.federates.as_slice().len();
@@ -106,12 +108,14 @@ impl Plan {
         self.ranks[federate]
     }
 
-    /// The least total of a path of connections from one federate to another, or to itself; None where there is no path.
+    /// The least total of a path of connections from one federate to another, or to itself; None where there is no
+    /// path.
     pub fn least(&self, from: usize, to: usize) -> Option<Delay>
         requires from { from < federate_count self.now }
         requires to { to < federate_count self.now }
         ensures value { result ≡ least_of self.now from to }
-        ensures least { MatchOption result (IsUnreachable (connections_of self.now) from to) (IsLeastDelay (connections_of self.now) from to) }
+        ensures least { MatchOption result (IsUnreachable (connections_of self.now) from to)
+            (IsLeastDelay (connections_of self.now) from to) }
         ensures few { IfSome result (IsTotalWithin (connections_of self.now) MOST_FEDERATES from to) }
     {
         self.delays.delay(from, to)
@@ -119,7 +123,8 @@ impl Plan {
 
     /// The federate of a recorded input, and the slot of its physical action there, where both are there.
     pub fn recorded_at(&self, input: &Input) -> Option<(usize, usize)>
-        ensures { result ≡ option_map (λ found. (found.federate, physical_slot self.now.federates found)) (found_action self.now.federates input.now) }
+        ensures { result ≡ option_map (λ found. (found.federate, physical_slot self.now.federates found))
+            (found_action self.now.federates input.now) }
     {
         let found = found_action(self.federates(), input)?;
         let slots = &self.federates()[found.federate].slots;

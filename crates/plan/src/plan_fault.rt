@@ -6,8 +6,8 @@ use plan_names::{Names, PortName, Text};
 use std::alloc::{AllocError, AllocFailed};
 use std::fmt;
 
-/// Why a draft is refused. Nothing of it is kept. But for `Memory`, whoever wrote the draft caused it: the caller prints them,
-/// and may check the draft again once it is changed.
+/// Why a draft is refused. Nothing of it is kept. But for `Memory`, whoever wrote the draft caused it: the caller
+/// prints them, and may check the draft again once it is changed.
 #[derive(Debug, Drop)]
 pub enum PlanFault {
     /// The draft has no federate; it needs at least one.
@@ -16,8 +16,8 @@ pub enum PlanFault {
     UnknownName(PortName),
     /// Two connections go to this input port. Leave one out, or declare a second port.
     TwoSources(PortName),
-    /// Connections without any delay lead round through these federates, in the cycle's order, from the lowest number on. Give
-    /// one of the connections a delay.
+    /// Connections without any delay lead round through these federates, in the cycle's order, from the lowest number
+    /// on. Give one of the connections a delay.
     ZeroDelayCycle(Names),
     /// More federates, connections or slots than there may be. Make the federation smaller.
     OverLimit,

@@ -36,7 +36,8 @@ fn names_of_slots<'a>(alloc: Global, slots: &'a Slots) -> Result<Vec<&'a Text>, 
 }
 
 fn repeated_federate(alloc: Global, federates: &[Federate]) -> Result<Option<Text>, AllocError>
-    ensures { IfOk result (λ r. MatchOption r (AreDistinct (federate_names federates.now)) (StandsTwice (federate_names federates.now))) }
+    ensures { IfOk result (λ r. MatchOption r (AreDistinct (federate_names federates.now))
+        (StandsTwice (federate_names federates.now))) }
 {
     let names = names_of_federates(alloc, federates)?;
     repeated(names.as_slice())

@@ -1,7 +1,7 @@
 //! Names: texts, which of them are names, what has one, where one stands, and which stands twice.
 //!
-//! Promise to the layer above: a place is that of the first name that is this one, and a name that stands twice is found.
-//! Begin with `text`, then `named`; `spelling` says what a name is, `port` how a port is named.
+//! Promise to the layer above: a place is that of the first name that is this one, and a name that stands twice is
+//! found. Begin with `text`, then `named`; `spelling` says what a name is, `port` how a port is named.
 #![tactic(auto)]
 
 pub mod named;

@@ -13,7 +13,8 @@ fn stands_in(names: &[&Text], name: &Text) -> bool
 
 /// A name that stands at two places.
 pub fn repeated(names: &[&Text]) -> Result<Option<Text>, AllocError>
-    ensures { IfOk result (λ r. MatchOption r (AreDistinct (map (λ n. n.now) names.now)) (StandsTwice (map (λ n. n.now) names.now))) }
+    ensures { IfOk result (λ r. MatchOption r (AreDistinct (map (λ n. n.now) names.now))
+        (StandsTwice (map (λ n. n.now) names.now))) }
 {
     for (place, &name) in names.iter().enumerate() {
         if stands_in(&names[..place], name) {
@@ -25,7 +26,8 @@ pub fn repeated(names: &[&Text]) -> Result<Option<Text>, AllocError>
 
 /// Adds the names of these.
 pub fn push_names<'a, T: Named>(names: &mut Vec<&'a Text>, more: &'a [T]) -> Result<(), AllocError>
-    ensures { OnOk result (map (λ n. n.now) names.new.items ≡ map (λ n. n.now) names.old.items ++ map T.name_of more.now) }
+    ensures { OnOk result (map (λ n. n.now) names.new.items ≡ map (λ n. n.now) names.old.items
+        ++ map T.name_of more.now) }
 {
     for named in more {
         names.push(named.name())?;

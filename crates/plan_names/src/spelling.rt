@@ -1,12 +1,14 @@
 ghost use Rattle.std.specs.Prelude.{◌≡◌};
 ghost use Rattle.std.specs.List.{list_any, list_all};
 ghost use Rattle.std.specs.Str.{bytes_eq};
-ghost use Rattle.plan_names.specs.Spelling.{is_name_start, is_name_character, is_name, is_reserved, form_words, place_words};
+ghost use Rattle.plan_names.specs.Spelling.{is_name_start, is_name_character, is_name, is_reserved, form_words};
+ghost use Rattle.plan_names.specs.Spelling.{place_words};
 
 /// The most characters of a name, which are bytes.
 pub const LONGEST_NAME: usize = 32;
 
-/// Whether the text is a name: 1 to `LONGEST_NAME` letters, digits and `_`, of which the first is no digit, and no reserved word.
+/// Whether the text is a name: 1 to `LONGEST_NAME` letters, digits and `_`, of which the first is no digit, and no
+/// reserved word.
 pub fn is_name(text: &[u8]) -> bool
     ensures { result ≡ is_name text.now }
 {

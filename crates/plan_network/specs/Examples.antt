@@ -18,7 +18,7 @@ use Rattle.reactor_program.specs.declared.program.Reaction.{Reaction}
 use Rattle.reactor_program.specs.declared.program.State as StateOf
 use Rattle.reactor_program.specs.Behaviour.{Behaviour}
 
--- so many milliseconds
+-- this many milliseconds
 abbrev pub ms : ℕ → ℕ
 ms count = count * 1000000
 
@@ -54,7 +54,11 @@ timer_of name offset period = record { name = name; offset = offset; period = pe
 
 abbrev pub connection_from : List ℕ → List ℕ → List ℕ → List ℕ → Option ℕ → ConnectionDraft
 connection_from source port target slot after =
-    record { from = record { federate = source; port = port }; to = record { federate = target; port = slot }; after = after }
+    record {
+      from = record { federate = source; port = port };
+      to = record { federate = target; port = slot };
+      after = after;
+    }
 
 -- A counter: a source counts on each firing of its timer, and a sink adds up what comes.
 
@@ -70,14 +74,25 @@ counter_source =
     }
 
 abbrev pub counter_sink : Slots
-counter_sink = record { startup = false; inputs = codes "x" ∷ []; outputs = codes "total" ∷ []; timers = []; actions = []; physical = [] }
+counter_sink =
+    record {
+      startup = false;
+      inputs = codes "x" ∷ [];
+      outputs = codes "total"
+          ∷ [];
+      timers = [];
+      actions = [];
+      physical = [];
+    }
 
 -- with this delay of its connection
 abbrev pub counter : Option ℕ → Draft
 counter after =
     record {
       stop = ms 20;
-      federates = record { name = codes "src"; slots = counter_source } ∷ record { name = codes "snk"; slots = counter_sink } ∷ [];
+      federates =
+          record { name = codes "src"; slots = counter_source }
+          ∷ record { name = codes "snk"; slots = counter_sink } ∷ [];
       connections = connection_from (codes "src") (codes "y") (codes "snk") (codes "x") after ∷ [];
     }
 
@@ -86,12 +101,15 @@ counter_programs =
     record {
       slots = counter_source;
       states = state_named (codes "n") ∷ [];
-      reactions = reaction_to 1 (plain (Assign 0 (Binary (State 0) Plus (Number (pos 1)))) ∷ plain (Output 0 (State 0)) ∷ []) ∷ [];
+      reactions =
+          reaction_to 1 (plain (Assign 0 (Binary (State 0) Plus (Number (pos 1))))
+          ∷ plain (Output 0 (State 0)) ∷ []) ∷ [];
     } ∷
     record {
       slots = counter_sink;
       states = state_named (codes "s") ∷ [];
-      reactions = reaction_to 1 (plain (Assign 0 (Binary (State 0) Plus (Value 1))) ∷ plain (Output 0 (State 0)) ∷ []) ∷ [];
+      reactions =
+          reaction_to 1 (plain (Assign 0 (Binary (State 0) Plus (Value 1))) ∷ plain (Output 0 (State 0)) ∷ []) ∷ [];
     } ∷ []
 
 abbrev pub counter_rows : List Row
@@ -116,16 +134,35 @@ late_counter_rows =
 
 abbrev pub meeting_source : Slots
 meeting_source =
-    record { startup = true; inputs = []; outputs = codes "y" ∷ []; timers = []; actions = codes "a" ∷ []; physical = [] }
+    record {
+      startup = true;
+      inputs = [];
+      outputs = codes "y" ∷ [];
+      timers = [];
+      actions = codes "a"
+          ∷ [];
+      physical = [];
+    }
 
 abbrev pub meeting_sink : Slots
-meeting_sink = record { startup = false; inputs = codes "x" ∷ []; outputs = codes "v" ∷ []; timers = []; actions = []; physical = [] }
+meeting_sink =
+    record {
+      startup = false;
+      inputs = codes "x" ∷ [];
+      outputs = codes "v"
+          ∷ [];
+      timers = [];
+      actions = [];
+      physical = [];
+    }
 
 abbrev pub meeting : Draft
 meeting =
     record {
       stop = ms 20;
-      federates = record { name = codes "src"; slots = meeting_source } ∷ record { name = codes "snk"; slots = meeting_sink } ∷ [];
+      federates =
+          record { name = codes "src"; slots = meeting_source }
+          ∷ record { name = codes "snk"; slots = meeting_sink } ∷ [];
       connections = connection_from (codes "src") (codes "y") (codes "snk") (codes "x") (Some (ms 10)) ∷ [];
     }
 
@@ -149,7 +186,16 @@ meeting_rows =
 -- A loop: a federate whose output comes back to it.
 
 abbrev pub loop_slots : Slots
-loop_slots = record { startup = true; inputs = codes "x" ∷ []; outputs = codes "y" ∷ []; timers = []; actions = []; physical = [] }
+loop_slots =
+    record {
+      startup = true;
+      inputs = codes "x" ∷ [];
+      outputs = codes "y"
+          ∷ [];
+      timers = [];
+      actions = [];
+      physical = [];
+    }
 
 abbrev pub loop : Draft
 loop =
@@ -166,7 +212,8 @@ loop_programs =
       states = state_named (codes "n") ∷ [];
       reactions =
           reaction_to 0 (plain (Assign 0 (Single (Number (pos 1)))) ∷ plain (Output 0 (State 0)) ∷ []) ∷
-          reaction_to 1 (plain (Assign 0 (Binary (Value 1) Plus (Number (pos 1)))) ∷ plain (Output 0 (State 0)) ∷ []) ∷ [];
+          reaction_to 1 (plain (Assign 0 (Binary (Value 1) Plus (Number (pos 1))))
+          ∷ plain (Output 0 (State 0)) ∷ []) ∷ [];
     } ∷ []
 
 abbrev pub loop_rows : List Row
@@ -175,7 +222,8 @@ loop_rows =
     row_of 0 (at_ms 5) (one_entry 1 (pos 1)) (one_entry 0 (pos 2)) ∷
     row_of 0 (at_ms 10) (one_entry 1 (pos 2)) (one_entry 0 (pos 3)) ∷ []
 
--- A chain with a recorded input: the middle one hands on, 5 ms later, what comes from the first, and at once what comes from outside.
+-- A chain with a recorded input: the middle one hands on, 5 ms later, what comes from the first, and at once what comes
+-- from outside.
 
 abbrev pub chain_first : Slots
 chain_first =
@@ -224,7 +272,12 @@ chain =
 
 abbrev pub chain_programs : List Behaviour
 chain_programs =
-    record { slots = chain_first; states = []; reactions = reaction_to 1 (plain (Output 0 (Number (pos 1))) ∷ []) ∷ [] } ∷
+    record {
+      slots = chain_first;
+      states = [];
+      reactions = reaction_to 1
+          (plain (Output 0 (Number (pos 1))) ∷ []) ∷ [];
+    } ∷
     record {
       slots = chain_middle;
       states = [];
@@ -235,7 +288,9 @@ chain_programs =
     record {
       slots = chain_last;
       states = [];
-      reactions = reaction_to 1 (plain (Output 0 (Value 1)) ∷ []) ∷ reaction_to 2 (plain (Output 0 (Number (negsuc 0))) ∷ []) ∷ [];
+      reactions =
+          reaction_to 1 (plain (Output 0 (Value 1)) ∷ [])
+          ∷ reaction_to 2 (plain (Output 0 (Number (negsuc 0))) ∷ []) ∷ [];
     } ∷ []
 
 abbrev pub chain_inputs : List Input

@@ -2,7 +2,9 @@
 ghost use Rattle.std.specs.Prelude.{◌≡◌, [], None, Some};
 ghost use Rattle.network.specs.Undivided.{whole};
 ghost use Rattle.plan_network.specs.Network.{network_of};
-ghost use Rattle.plan_network.specs.Examples.{counter, counter_programs, counter_rows, late_counter_rows, meeting, meeting_programs, meeting_rows, loop, loop_programs, loop_rows, chain, chain_programs, chain_inputs, chain_rows};
+ghost use Rattle.plan_network.specs.Examples.{counter, counter_programs, counter_rows, late_counter_rows, meeting};
+ghost use Rattle.plan_network.specs.Examples.{meeting_programs, meeting_rows, loop, loop_programs, loop_rows, chain};
+ghost use Rattle.plan_network.specs.Examples.{chain_programs, chain_inputs, chain_rows};
 
 /// A counter and the sum of its counts, at one tag each time.
 pub fn counter_counts()

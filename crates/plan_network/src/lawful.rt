@@ -11,9 +11,10 @@ ghost use Rattle.reactor_program.specs.Behaviour.{Behaviour};
 ghost use Rattle.plan_network.specs.Network.{network_of};
 ghost use Rattle.reactor_programs.specs.Programs.{AreProgramsOf};
 
-/// The network of a legal federation with a program for each federate and recorded inputs is lawful, and the plan's least
-/// delays are its least delays, which keep the two facts that grants use.
+/// The network of a legal federation with a program for each federate and recorded inputs is lawful, and the plan's
+/// least delays are its least delays, which keep the two facts that grants use.
 #[tactic(auto, using(crate::proofs::LawfulNetwork::gives_lawful_with))]
 pub fn plans_give_lawful_networks()
-    ensures { (d : Draft) (programs : List Behaviour) (inputs : List Input) → IsLegal d → AreProgramsOf d programs → AreInputsOf d inputs → IsLawfulWith (network_of d programs inputs) (least_of d) }
+    ensures { (d : Draft) (programs : List Behaviour) (inputs : List Input) → IsLegal d → AreProgramsOf d programs
+        → AreInputsOf d inputs → IsLawfulWith (network_of d programs inputs) (least_of d) }
 {}

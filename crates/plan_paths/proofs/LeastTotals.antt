@@ -127,7 +127,7 @@ within_along cs most i v j bound (c ∷ rest) walk so_far all is =
     within_along cs (suc most) i c.target j (sum_of bound c.delay) rest walk.2
     (within_next cs most i c bound walk.0 (subst (λ m. IsWithin (least_within cs most i m) bound) (sym walk.1) so_far)) all (omega arith)
 
--- of a path of at most so many connections
+-- of a path of at most this many connections
 within_short : (cs : List Connection) (most i : ℕ) (path : List Connection) (j : ℕ) → IsPath cs i path j → length path ≤ most → IsWithin (least_within cs most i j) (total_of path)
 within_short cs most i [] j is_path few = absurd is_path
 within_short cs most i (c ∷ rest) j is_path few =

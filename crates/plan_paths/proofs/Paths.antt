@@ -107,7 +107,7 @@ above_reaches f j (b ∷ cs) c (suc k) below here target immediate =
     let more : above f j cs ≤ above f j (b ∷ cs) = above_more_than f j b cs in
     omega arith
 
--- no path without any delay of at most so many connections is longer
+-- no path without any delay of at most this many connections is longer
 pub within_longest : (cs : List Connection) (k i : ℕ) (path : List Connection) (j : ℕ) → IsPath cs i path j → AreImmediate path
     → length path ≤ k → length path ≤ level_within cs k j
 within_longest cs zero i path j is_path each short = short

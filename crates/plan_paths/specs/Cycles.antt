@@ -6,7 +6,8 @@ use Rattle.plan_paths.specs.Levels.{is_immediate}
 
 -- no path from this federate to itself is without any delay
 abbrev pub HasNoCycleAt : List Connection → ℕ → Type 0
-HasNoCycleAt connections start = (path : List Connection) → IsPath connections start path start → total_of path ≡ origin → ⊥
+HasNoCycleAt connections start =
+    (path : List Connection) → IsPath connections start path start → total_of path ≡ origin → ⊥
 
 -- no path from any federate to itself is without any delay
 abbrev pub HasNoImmediateCycle : List Connection → Type 0

@@ -7,5 +7,6 @@ pub record EndsTwice (connections : List Connection) (later : ℕ) : Type 0 wher
   pub first : ℕ
   pub in_order : first < later
   pub there : later < length connections
-  pub target : (d : Connection) → (slice_index_or connections first d).target ≡ (slice_index_or connections later d).target
+  pub target : (d : Connection) → (slice_index_or connections first d).target
+      ≡ (slice_index_or connections later d).target
   pub slot : (d : Connection) → (slice_index_or connections first d).slot ≡ (slice_index_or connections later d).slot

@@ -18,9 +18,21 @@ impl Model for Connection {
 
     ghost Value = { ConnectionOf };
 
-    ghost view = { λ c. record { source = c.source; port = c.port; target = c.target; slot = c.slot; delay = c.delay } };
+    ghost view = { λ c. record {
+      source = c.source;
+      port = c.port;
+      target = c.target;
+      slot = c.slot;
+      delay = c.delay;
+    } };
 
-    ghost inverse = { λ c. record { source = c.source; port = c.port; target = c.target; slot = c.slot; delay = c.delay } };
+    ghost inverse = { λ c. record {
+      source = c.source;
+      port = c.port;
+      target = c.target;
+      slot = c.slot;
+      delay = c.delay;
+    } };
 }
 
 impl Connection {

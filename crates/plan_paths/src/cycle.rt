@@ -1,5 +1,6 @@
 ghost use Rattle.std.specs.Prelude.{◌≡◌, ℕ, ◌<◌, ◌↔◌, ◌∷◌, IsTrue, All, Contains, MatchOption, IfOk};
-ghost use Rattle.plan_paths.specs.Cycles.{HasNoCycleAt, HasNoImmediateCycle, IsCycleFrom, IsWay, IsSource, IsReached, JoinsTree, IsTree};
+ghost use Rattle.plan_paths.specs.Cycles.{HasNoCycleAt, HasNoImmediateCycle, IsCycleFrom, IsWay, IsSource, IsReached};
+ghost use Rattle.plan_paths.specs.Cycles.{JoinsTree, IsTree};
 
 use crate::connection::Connection;
 use crate::rank::is_immediate;
@@ -34,7 +35,8 @@ fn joins(root: usize, tree: &[Connection], connection: Connection) -> bool
 
 /// A connection that joins the tree, where one does.
 fn next_branch(connections: &[Connection], root: usize, tree: &[Connection]) -> Option<Connection>
-    ensures { MatchOption result (All (λ c. ¬ JoinsTree root tree.now c) connections.now) (λ c. Contains connections.now c × JoinsTree root tree.now c) }
+    ensures { MatchOption result (All (λ c. ¬ JoinsTree root tree.now c) connections.now)
+        (λ c. Contains connections.now c × JoinsTree root tree.now c) }
 {
     connections.iter().copied().find(|&c| joins(root, tree, c))
 }
@@ -45,7 +47,8 @@ fn way_along(
     first: Connection,
     tree: &[Connection],
 ) -> Result<Vec<Connection>, AllocError>
-    ensures { IfOk result (λ path. (root : ℕ) → JoinsTree root tree.now first → IsTree root tree.now → IsWay (first ∷ tree.now) first.source path.items root) }
+    ensures { IfOk result (λ path. (root : ℕ) → JoinsTree root tree.now first → IsTree root tree.now
+        → IsWay (first ∷ tree.now) first.source path.items root) }
 {
     let mut path = Vec::new(alloc);
     path.push(first)?;
@@ -59,7 +62,7 @@ fn way_along(
     Ok(path)
 }
 
-/// A cycle without any delay through a federate, where none is through a lower one. There are so many federates.
+/// A cycle without any delay through a federate, where none is through a lower one. There are this many federates.
 ///
 /// A tree grows backwards from the federate, its newest connection first, until one begins at the federate itself.
 fn cycle_from(
@@ -71,7 +74,8 @@ fn cycle_from(
     requires ends { All (λ c. (c.source < count) × (c.target < count)) connections.now }
     requires within { start < count }
     requires none_lower { (lower : ℕ) → lower < start → HasNoCycleAt connections.now lower }
-    ensures { IfOk result (λ r. MatchOption r (HasNoCycleAt connections.now start) (λ path. IsCycleFrom connections.now start path.items)) }
+    ensures { IfOk result (λ r. MatchOption r (HasNoCycleAt connections.now start)
+        (λ path. IsCycleFrom connections.now start path.items)) }
 {
     let mut tree = Vec::new(alloc);
     for _branches in 0..count {
@@ -87,14 +91,16 @@ fn cycle_from(
     Ok(None)
 }
 
-/// The cycle without any delay whose lowest federate is the lowest. There are so many federates.
+/// The cycle without any delay whose lowest federate is the lowest. There are this many federates.
 pub fn lowest_cycle(
     alloc: Global,
     connections: &[Connection],
     count: usize,
 ) -> Result<Option<Vec<Connection>>, AllocError>
     requires ends { All (λ c. (c.source < count) × (c.target < count)) connections.now }
-    ensures { IfOk result (λ r. MatchOption r (HasNoImmediateCycle connections.now) (λ path. (start : ℕ) × IsCycleFrom connections.now start path.items × ((lower : ℕ) → lower < start → HasNoCycleAt connections.now lower))) }
+    ensures { IfOk result (λ r. MatchOption r (HasNoImmediateCycle connections.now)
+        (λ path. (start : ℕ) × IsCycleFrom connections.now start path.items
+        × ((lower : ℕ) → lower < start → HasNoCycleAt connections.now lower))) }
 {
     for start in 0..count {
         if let Some(path) = cycle_from(alloc, connections, start, count)? {

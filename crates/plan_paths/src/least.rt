@@ -37,7 +37,7 @@ impl Model for LeastDelays {
 }
 
 impl LeastDelays {
-    /// The table of these connections between so many federates.
+    /// The table of these connections between this many federates.
     pub fn new(
         alloc: Global,
         connections: &[Connection],
@@ -63,7 +63,7 @@ impl LeastDelays {
     }
 }
 
-/// The least delays from a federate, one of so many.
+/// The least delays from a federate, one of this many.
 fn row_of(
     alloc: Global,
     connections: &[Connection],
@@ -89,7 +89,9 @@ fn next_delays(
 ) -> Result<Vec<Option<Delay>>, AllocError>
     requires { All (λ c. (c.source < length delays.now) × (c.target < length delays.now)) connections.now }
     ensures len { IfOk result (λ next. length next.items ≡ length delays.now) }
-    ensures into { IfOk result (λ next. (j : ℕ) → j < length delays.now → slice_index_or next.items j None ≡ least_into (λ m. slice_index_or delays.now m None) from j connections.now) }
+    ensures into { IfOk result (λ next. (j : ℕ) → j < length delays.now
+        → slice_index_or next.items j None
+        ≡ least_into (λ m. slice_index_or delays.now m None) from j connections.now) }
 {
     let mut next = vec![in alloc; None; delays.len()]?;
     for &connection in connections {

@@ -1,5 +1,7 @@
--- What a federate and the coordinator keep by themselves, whatever the other side sends, lying signals too; and what they send.
-use Rattle.std.specs.Prelude.{◌≡◌, ℕ, ◌<◌, Bool, true, false, ◌&&◌, List, [], ◌∷◌, All, AllPairs, IsTrue, Option, None, Some, IfSome}
+-- What a federate and the coordinator keep by themselves, whatever the other side sends, lying signals too; and what
+-- they send.
+use Rattle.std.specs.Prelude.{◌≡◌, ℕ, ◌<◌, Bool, true, false, ◌&&◌, List, [], ◌∷◌, All, AllPairs, IsTrue, Option, None}
+use Rattle.std.specs.Prelude.{Some, IfSome}
 use Rattle.std.specs.Option.{option_map}
 use Rattle.std.specs.List.{last_or}
 use Rattle.tag.specs.LogicalTime.{LogicalTime, IsLogicalTime, IsFinite, is_before, is_at_most, is_past, is_reached}
@@ -22,8 +24,8 @@ pub record IsStillToRun (n : Network) (j : ℕ) (completed : Option LogicalTime)
   pub in_time : IsTrue (is_at_most e.tag n.stop)
   pub slot : e.slot < n.slots j
 
--- a federate: what is undone rises, by tag and slot, and is still to run; it completed no more than was granted, which is up to
--- stop; and what it completed last is the tag of its last row
+-- a federate: what is undone rises, by tag and slot, and is still to run; it completed no more than was granted, which
+-- is up to stop; and what it completed last is the tag of its last row
 pub record IsFederate (n : Network) (j : ℕ) (f : Federate) : Type 0 where
   pub undone : All (IsStillToRun n j f.completed) f.undone
   pub rising : AllPairs (λ d e. IsTrue (is_held_before d e)) f.undone
@@ -31,7 +33,8 @@ pub record IsFederate (n : Network) (j : ℕ) (f : Federate) : Type 0 where
   pub granted : IfSome f.granted (λ tag. IsFinite tag × IsTrue (is_at_most tag n.stop))
   pub last_row : last_row_tag f.rows ≡ f.completed
 
--- what the coordinator knows of a federate are tags, and those in transit strictly rise; FOREVER can be its next tag alone
+-- what the coordinator knows of a federate are tags, and those in transit strictly rise; FOREVER can be its next tag
+-- alone
 pub record IsFederateRecord (s : FederateRecord) : Type 0 where
   pub completed : IfSome s.completed IsFinite
   pub granted : IfSome s.granted IsFinite
@@ -48,7 +51,8 @@ is_of_turn (Ltc tag ∷ other ∷ rest) = false
 is_of_turn (Tag tag ∷ rest) = false
 is_of_turn (Msg connection tag value ∷ rest) = is_of_turn rest
 
--- signals that a federate may send once it has completed this tag: LTCs rise, and each message is later than every LTC before it
+-- signals that a federate may send once it has completed this tag: LTCs rise, and each message is later than every LTC
+-- before it
 abbrev pub is_sent_after : Option LogicalTime → List Signal → Bool
 is_sent_after completed [] = true
 is_sent_after completed (Net tag ∷ rest) = is_sent_after completed rest
@@ -64,7 +68,8 @@ completed_by completed (Ltc tag ∷ rest) = completed_by (Some tag) rest
 completed_by completed (Tag tag ∷ rest) = completed_by completed rest
 completed_by completed (Msg connection tag value ∷ rest) = completed_by completed rest
 
--- signals that may go to a federate once it was granted this tag: TAGs rise, and each message is later than every TAG before it
+-- signals that may go to a federate once it was granted this tag: TAGs rise, and each message is later than every TAG
+-- before it
 abbrev pub is_sent_past : Option LogicalTime → List Signal → Bool
 is_sent_past granted [] = true
 is_sent_past granted (Net tag ∷ rest) = false

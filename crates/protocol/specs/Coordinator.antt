@@ -1,12 +1,15 @@
--- The coordinator: what it does with a federate's signal, and which TAGs then go out. It knows each federate's record, by number.
-use Rattle.std.specs.Prelude.{ℕ, zero, suc, ◌+◌, not, ◌||◌, nat_eq, nat_lt, if◌then◌else◌, List, [], ◌∷◌, ◌++◌, slice_get, Option, None, Some}
+-- The coordinator: what it does with a federate's signal, and which TAGs then go out. It knows each federate's record,
+-- by number.
+use Rattle.std.specs.Prelude.{ℕ, zero, suc, ◌+◌, not, ◌||◌, nat_eq, nat_lt, if◌then◌else◌, List, [], ◌∷◌, ◌++◌}
+use Rattle.std.specs.Prelude.{slice_get, Option, None, Some}
 use Rattle.tag.specs.LogicalTime.{LogicalTime, forever, is_at_most, is_same, is_past}
 use Rattle.network.specs.Connection.{Connection}
 use Rattle.network.specs.Network.{Network, with_one}
 use Rattle.signal.specs.declared.signal.Signal.{Signal}
 use Rattle.signal.specs.declared.signal.Signal.TheVariants.{Net, Ltc, Tag, Msg}
 use Rattle.protocol.specs.declared.post.Post.{Post}
-use Rattle.protocol.specs.declared.refusal.Refusal.TheVariants.{NotYours, BelowGrant, NotRising, AfterStop, NotForCoordinator}
+use Rattle.protocol.specs.declared.refusal.Refusal.TheVariants.{NotYours, BelowGrant, NotRising, AfterStop}
+use Rattle.protocol.specs.declared.refusal.Refusal.TheVariants.{NotForCoordinator}
 use Rattle.protocol.specs.Outcome.{Outcome, Refused, Done, with_made}
 use Rattle.protocol.specs.FederateRecord.{FederateRecord, after_message, after_net, after_ltc, after_grant}
 use Rattle.protocol.specs.Grant.{Rule}
@@ -62,7 +65,8 @@ grant_post j (Some tag) = record { peer = j; signal = Tag tag } ∷ []
 -- the TAGs to these federates, in their order
 abbrev pub grants_over : Network → Rule → (ℕ → FederateRecord) → List ℕ → List Post
 grants_over n rule federate_records [] = []
-grants_over n rule federate_records (j ∷ rest) = grant_post j (grant_to n rule federate_records j) ++ grants_over n rule federate_records rest
+grants_over n rule federate_records (j ∷ rest) =
+    grant_post j (grant_to n rule federate_records j) ++ grants_over n rule federate_records rest
 
 -- the next `count` numbers from j on
 abbrev pub numbers_from : ℕ → ℕ → List ℕ
@@ -83,4 +87,5 @@ with_grants n rule made =
 
 -- what the coordinator does with a signal of federate i
 abbrev pub coordinator_accepts : Network → Rule → (ℕ → FederateRecord) → ℕ → Signal → Outcome Coordinated
-coordinator_accepts n rule federate_records i signal = with_made (with_grants n rule) (coordinator_takes n federate_records i signal)
+coordinator_accepts n rule federate_records i signal =
+    with_made (with_grants n rule) (coordinator_takes n federate_records i signal)

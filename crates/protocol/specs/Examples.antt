@@ -18,8 +18,18 @@ first_of (x ∷ rest) = x
 abbrev pub counter_effect : ℕ → List ℤ → (ℕ → Option ℤ) → Effect
 counter_effect reactor states inputs =
     if nat_eq reactor 0
-    then record { states = (first_of states +ℤ pos 1) ∷ []; outputs = λ port. Some (first_of states +ℤ pos 1); schedulings = [] }
-    else record { states = (first_of states +ℤ unwrap_or (inputs 0) (pos 0)) ∷ []; outputs = λ port. None; schedulings = [] }
+    then record {
+      states = (first_of states +ℤ pos 1)
+          ∷ [];
+      outputs = λ port. Some (first_of states +ℤ pos 1);
+      schedulings = [];
+    }
+    else record {
+      states = (first_of states +ℤ unwrap_or (inputs 0) (pos 0))
+          ∷ [];
+      outputs = λ port. None;
+      schedulings = [];
+    }
 
 abbrev pub counter : Network
 counter =
@@ -30,7 +40,8 @@ counter =
       connections = record { source = 0; port = 0; target = 1; slot = 0; delay = origin } ∷ [];
       rank = λ reactor. reactor;
       stop = at 20000000 0;
-      external = outside (at 0 0) 0 0 (pos 0) ∷ outside (at 10000000 0) 0 0 (pos 0) ∷ outside (at 20000000 0) 0 0 (pos 0) ∷ [];
+      external =
+          outside (at 0 0) 0 0 (pos 0) ∷ outside (at 10000000 0) 0 0 (pos 0) ∷ outside (at 20000000 0) 0 0 (pos 0) ∷ [];
       initial = λ reactor. pos 0 ∷ [];
       effect = counter_effect;
     }
@@ -51,13 +62,15 @@ announced = moved_by [] (Announce 0 ∷ Announce 1 ∷ ToCoordinator 1 ∷ ToCoo
 -- then the counter runs (0, 0), and the coordinator takes its message
 abbrev pub routed : ℕ → Member
 routed =
-    moved_by [] (Announce 0 ∷ Announce 1 ∷ ToCoordinator 1 ∷ ToCoordinator 0 ∷ ToFederate 0 ∷ Advance 0 ∷ ToCoordinator 0 ∷ [])
+    moved_by [] (Announce 0 ∷ Announce 1 ∷ ToCoordinator 1 ∷ ToCoordinator 0 ∷ ToFederate 0 ∷ Advance 0
+    ∷ ToCoordinator 0 ∷ [])
 
 -- then also its LTC
 abbrev pub counted : ℕ → Member
 counted =
     moved_by []
-    (Announce 0 ∷ Announce 1 ∷ ToCoordinator 1 ∷ ToCoordinator 0 ∷ ToFederate 0 ∷ Advance 0 ∷ ToCoordinator 0 ∷ ToCoordinator 0 ∷ [])
+    (Announce 0 ∷ Announce 1 ∷ ToCoordinator 1 ∷ ToCoordinator 0 ∷ ToFederate 0 ∷ Advance 0 ∷ ToCoordinator 0
+    ∷ ToCoordinator 0 ∷ [])
 
 -- then the sum runs (0, 0)
 abbrev pub summed : ℕ → Member

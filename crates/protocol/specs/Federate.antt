@@ -1,5 +1,7 @@
--- A federate: one reactor of a network, which runs a tag once that is granted. What it does with a signal, and what it says by itself.
-use Rattle.std.specs.Prelude.{ℕ, ◌+◌, ℤ, Bool, false, not, ◌&&◌, nat_eq, if◌then◌else◌, List, [], ◌∷◌, ◌++◌, map, filter, slice_get, Option, None, Some, unwrap_or}
+-- A federate: one reactor of a network, which runs a tag once that is granted. What it does with a signal, and what it
+-- says by itself.
+use Rattle.std.specs.Prelude.{ℕ, ◌+◌, ℤ, Bool, false, not, ◌&&◌, nat_eq, if◌then◌else◌, List, [], ◌∷◌, ◌++◌, map}
+use Rattle.std.specs.Prelude.{filter, slice_get, Option, None, Some, unwrap_or}
 use Rattle.tag.specs.LogicalTime.{LogicalTime, forever, is_at_most, is_same, sum_of, is_past, is_reached}
 use Rattle.network.specs.Connection.{Connection}
 use Rattle.network.specs.Network.{Network, Scheduling, Effect}
@@ -11,7 +13,8 @@ use Rattle.protocol.specs.declared.refusal.Refusal.TheVariants.{Late, OldGrant, 
 use Rattle.protocol.specs.Outcome.{Outcome, Refused, Nothing, Done}
 use Rattle.network.specs.Undone.{PendingEvent, pending_event_of, put, put_all, look, first_tag, drop_up_to}
 
--- granted: up to which tag it may run. completed: the last tag that it ran. announced: the last NET, if no tag was run since
+-- granted: up to which tag it may run. completed: the last tag that it ran. announced: the last NET, if no tag was run
+-- since
 pub record Federate : Type 0 where
   pub states : List ℤ
   pub undone : List PendingEvent
@@ -50,7 +53,11 @@ accept_message n j f None tag value = Refused WrongSignal
 accept_message n j f (Some c) tag value =
     if not (nat_eq c.target j && is_at_most tag n.stop) then Refused WrongSignal
     else if not (is_past f.completed tag && is_past f.granted tag) then Refused Late
-    else Done (record { after = record f { undone = put (record { tag = tag; slot = c.slot; value = value }) f.undone }; sent = [] })
+    else Done (record {
+      after = record f
+          { undone = put (record { tag = tag; slot = c.slot; value = value }) f.undone };
+      sent = [];
+    })
 
 -- what federate j does with a signal
 abbrev pub federate_accepts : Network → ℕ → Federate → Signal → Outcome Stepped

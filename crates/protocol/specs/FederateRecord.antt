@@ -2,9 +2,9 @@
 use Rattle.std.specs.Prelude.{Bool, true, false, if◌then◌else◌, List, [], ◌∷◌, filter, Option, None, Some}
 use Rattle.tag.specs.LogicalTime.{LogicalTime, origin, is_before, is_same, lesser}
 
--- completed: its last LTC. granted: the last TAG to it. announced: a NET came. next: before this tag it does nothing, unless
--- a message is routed to it first. transit: the tags of messages routed to it, strictly rising, without those that an LTC of it has
--- reached since
+-- completed: its last LTC. granted: the last TAG to it. announced: a NET came. next: before this tag it does nothing,
+-- unless a message is routed to it first. transit: the tags of messages routed to it, strictly rising, without those
+-- that an LTC of it has reached since
 pub record FederateRecord : Type 0 where
   pub completed : Option LogicalTime
   pub granted : Option LogicalTime
@@ -23,7 +23,8 @@ least_with tag (x ∷ rest) = lesser x (least_with tag rest)
 -- with one more tag, in its place
 abbrev pub with_tag : LogicalTime → List LogicalTime → List LogicalTime
 with_tag tag [] = tag ∷ []
-with_tag tag (x ∷ rest) = if is_before tag x then tag ∷ x ∷ rest else (if is_same tag x then x ∷ rest else x ∷ with_tag tag rest)
+with_tag tag (x ∷ rest) =
+    if is_before tag x then tag ∷ x ∷ rest else (if is_same tag x then x ∷ rest else x ∷ with_tag tag rest)
 
 -- after a message is routed to it
 abbrev pub after_message : FederateRecord → LogicalTime → FederateRecord

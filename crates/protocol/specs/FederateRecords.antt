@@ -16,7 +16,8 @@ federate_record_at federate_records j = get_or federate_records j initial_federa
 -- the records of the first `count` federates
 abbrev pub federate_records_listed : ℕ → (ℕ → FederateRecord) → List FederateRecord
 federate_records_listed zero federate_records = []
-federate_records_listed (suc count) federate_records = federate_records 0 ∷ federate_records_listed count (λ j. federate_records (suc j))
+federate_records_listed (suc count) federate_records =
+    federate_records 0 ∷ federate_records_listed count (λ j. federate_records (suc j))
 
 -- what a step makes: the list of records after it, and the signals to federates, in order
 pub record Listed : Type 0 where
@@ -33,4 +34,5 @@ coordinator_accepts_in n rule federate_records i signal =
 
 -- every federate has announced, and the next tag of each is FOREVER
 abbrev pub is_finished : Network → (ℕ → FederateRecord) → Bool
-is_finished n federate_records = all_below n.reactors (λ j. (federate_records j).announced && is_same (federate_records j).next forever)
+is_finished n federate_records =
+    all_below n.reactors (λ j. (federate_records j).announced && is_same (federate_records j).next forever)

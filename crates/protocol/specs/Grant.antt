@@ -1,7 +1,9 @@
 -- Which federate may be granted which tag: so that no message can still come to it at or below that tag.
-use Rattle.std.specs.Prelude.{◌≡◌, ℕ, zero, suc, ◌^◌, ◌⊎◌, Bool, true, ◌&&◌, ◌||◌, nat_eq, nat_lt, IsTrue, if◌then◌else◌, List, [], ◌∷◌, Contains, Option, None, Some}
+use Rattle.std.specs.Prelude.{◌≡◌, ℕ, zero, suc, ◌^◌, ◌⊎◌, Bool, true, ◌&&◌, ◌||◌, nat_eq, nat_lt, IsTrue}
+use Rattle.std.specs.Prelude.{if◌then◌else◌, List, [], ◌∷◌, Contains, Option, None, Some}
 use Rattle.std.specs.List.{list_all}
-use Rattle.tag.specs.LogicalTime.{LogicalTime, IsLogicalTime, IsFinite, origin, forever, is_before, is_at_most, sum_of, successor_of, predecessor_of, lesser, greater, is_past}
+use Rattle.tag.specs.LogicalTime.{LogicalTime, IsLogicalTime, IsFinite, origin, forever, is_before, is_at_most, sum_of}
+use Rattle.tag.specs.LogicalTime.{successor_of, predecessor_of, lesser, greater, is_past}
 use Rattle.network.specs.Connection.{Connection, IsLeastDelay}
 use Rattle.network.specs.Network.{Network}
 use Rattle.network.specs.Tables.{Table}
@@ -19,19 +21,23 @@ after_completed (Some tag) = successor_of tag
 -- nothing that a federate does from its next tag on arrives at or below the tag, over any path
 abbrev pub ByPaths : Network → (ℕ → FederateRecord) → ℕ → LogicalTime → Type 0
 ByPaths n federate_records j tag =
-    (i : ℕ) (delay : LogicalTime) → IsLeastDelay n.connections i j delay → IsTrue (is_before tag (sum_of (federate_records i).next delay))
+    (i : ℕ) (delay : LogicalTime) → IsLeastDelay n.connections i j delay
+    → IsTrue (is_before tag (sum_of (federate_records i).next delay))
 
 -- nothing that comes after the last LTC of a federate with a direct connection arrives at or below the tag
 abbrev pub ByConnections : Network → (ℕ → FederateRecord) → ℕ → LogicalTime → Type 0
 ByConnections n federate_records j tag =
-    (c : Connection) → Contains n.connections c → c.target ≡ j → IsTrue (is_before tag (sum_of (after_completed (federate_records c.source).completed) c.delay))
+    (c : Connection) → Contains n.connections c → c.target ≡ j
+    → IsTrue (is_before tag (sum_of (after_completed (federate_records c.source).completed) c.delay))
 
--- a federate that gets TAG(next): it has announced, its next tag isn't granted yet and isn't later than stop, and is safe
+-- a federate that gets TAG(next): it has announced, its next tag isn't granted yet and isn't later than stop, and is
+-- safe
 pub record Eligible (n : Network) (federate_records : ℕ → FederateRecord) (j : ℕ) : Type 0 where
   pub announced : IsTrue (federate_records j).announced
   pub not_granted : IsTrue (is_past (federate_records j).granted (federate_records j).next)
   pub in_time : IsTrue (is_at_most (federate_records j).next n.stop)
-  pub safe : ByPaths n federate_records j (federate_records j).next ⊎ ByConnections n federate_records j (federate_records j).next
+  pub safe : ByPaths n federate_records j (federate_records j).next
+      ⊎ ByConnections n federate_records j (federate_records j).next
 
 -- the test holds of all numbers below this one
 abbrev pub all_below : ℕ → (ℕ → Bool) → Bool
@@ -45,12 +51,15 @@ is_before_arrival tag next (Some delay) = is_before tag (sum_of next delay)
 
 -- by the table: nothing arrives at or below the tag over any path
 abbrev pub passes_paths : Network → Table → (ℕ → FederateRecord) → ℕ → LogicalTime → Bool
-passes_paths n table federate_records j tag = all_below n.reactors (λ i. is_before_arrival tag (federate_records i).next (table i j))
+passes_paths n table federate_records j tag =
+    all_below n.reactors (λ i. is_before_arrival tag (federate_records i).next (table i j))
 
--- over this connection, if it leads to the federate, nothing that comes after its sender's last LTC arrives at or below the tag
+-- over this connection, if it leads to the federate, nothing that comes after its sender's last LTC arrives at or below
+-- the tag
 abbrev pub passes_connection : (ℕ → FederateRecord) → ℕ → LogicalTime → Connection → Bool
 passes_connection federate_records j tag c =
-    if nat_eq c.target j then is_before tag (sum_of (after_completed (federate_records c.source).completed) c.delay) else true
+    if nat_eq c.target j then is_before tag
+    (sum_of (after_completed (federate_records c.source).completed) c.delay) else true
 
 -- by the LTCs: nothing arrives at or below the tag over any direct connection
 abbrev pub passes_connections : Network → (ℕ → FederateRecord) → ℕ → LogicalTime → Bool
@@ -59,12 +68,15 @@ passes_connections n federate_records j tag = list_all (passes_connection federa
 -- a federate that gets TAG(next), by the table
 abbrev pub is_eligible : Network → Table → (ℕ → FederateRecord) → ℕ → Bool
 is_eligible n table federate_records j =
-    (federate_records j).announced && is_past (federate_records j).granted (federate_records j).next && is_at_most (federate_records j).next n.stop &&
-    (passes_paths n table federate_records j (federate_records j).next || passes_connections n federate_records j (federate_records j).next)
+    (federate_records j).announced && is_past (federate_records j).granted (federate_records j).next
+    && is_at_most (federate_records j).next n.stop &&
+    (passes_paths n table federate_records j (federate_records j).next
+    || passes_connections n federate_records j (federate_records j).next)
 
 -- each eligible federate gets its next tag
 abbrev pub grant_next : Network → Table → Rule
-grant_next n table federate_records j = if is_eligible n table federate_records j then Some (federate_records j).next else None
+grant_next n table federate_records j =
+    if is_eligible n table federate_records j then Some (federate_records j).next else None
 
 -- the lesser of a tag and of what arrives this delay after the next tag, if there is a path
 abbrev pub lesser_arrival : LogicalTime → Option LogicalTime → LogicalTime → LogicalTime
@@ -82,7 +94,8 @@ abbrev pub bound_by_connections : (ℕ → FederateRecord) → ℕ → List Conn
 bound_by_connections federate_records j [] = forever
 bound_by_connections federate_records j (c ∷ rest) =
     if nat_eq c.target j
-    then lesser (sum_of (after_completed (federate_records c.source).completed) c.delay) (bound_by_connections federate_records j rest)
+    then lesser (sum_of (after_completed (federate_records c.source).completed) c.delay)
+    (bound_by_connections federate_records j rest)
     else bound_by_connections federate_records j rest
 
 -- before this tag nothing can still arrive
@@ -93,10 +106,13 @@ bound_of n table federate_records j =
 -- the wider grant: each eligible federate gets as much as is safe
 abbrev pub grant_widest : Network → Table → Rule
 grant_widest n table federate_records j =
-    if is_eligible n table federate_records j then Some (lesser (predecessor_of (bound_of n table federate_records j)) n.stop) else None
+    if is_eligible n table federate_records j
+    then Some (lesser (predecessor_of (bound_of n table federate_records j)) n.stop) else None
 
--- a tag that may be granted: a finite one, later than the last TAG, up to stop, that nothing can arrive at or below any more
-pub record IsSafe (n : Network) (table : Table) (federate_records : ℕ → FederateRecord) (j : ℕ) (tag : LogicalTime) : Type 0 where
+-- a tag that may be granted: a finite one, later than the last TAG, up to stop, that nothing can arrive at or below any
+-- more
+pub record IsSafe (n : Network) (table : Table) (federate_records : ℕ → FederateRecord) (j : ℕ)
+    (tag : LogicalTime) : Type 0 where
   pub finite : IsFinite tag
   pub later : IsTrue (is_past (federate_records j).granted tag)
   pub in_time : IsTrue (is_at_most tag n.stop)
@@ -105,12 +121,14 @@ pub record IsSafe (n : Network) (table : Table) (federate_records : ℕ → Fede
 -- a rule that grants such tags alone; to whom, and whether they announced, doesn't matter
 abbrev pub IsSafeRule : Network → Table → Rule → Type 0
 IsSafeRule n table rule =
-    (federate_records : ℕ → FederateRecord) → ((i : ℕ) → IsLogicalTime (federate_records i).next) → (j : ℕ) (tag : LogicalTime) → rule federate_records j ≡ Some tag → IsSafe n table federate_records j tag
+    (federate_records : ℕ → FederateRecord) → ((i : ℕ) → IsLogicalTime (federate_records i).next)
+    → (j : ℕ) (tag : LogicalTime) → rule federate_records j ≡ Some tag → IsSafe n table federate_records j tag
 
 -- whether a tag may be granted, as a test
 abbrev pub is_safe : Network → Table → (ℕ → FederateRecord) → ℕ → LogicalTime → Bool
 is_safe n table federate_records j tag =
-    (nat_lt tag.time (2 ^ 62) && nat_lt tag.microstep (2 ^ 32)) && is_past (federate_records j).granted tag && is_at_most tag n.stop &&
+    (nat_lt tag.time (2 ^ 62) && nat_lt tag.microstep (2 ^ 32)) && is_past (federate_records j).granted tag
+    && is_at_most tag n.stop &&
     (passes_paths n table federate_records j tag || passes_connections n federate_records j tag)
 
 -- this tag, if it is safe

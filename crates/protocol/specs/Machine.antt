@@ -3,14 +3,15 @@ use Rattle.std.specs.Prelude.{ℕ, Bool, true, false, nat_eq, if◌then◌else�
 use Rattle.network.specs.Network.{Network, with_one}
 use Rattle.signal.specs.declared.signal.Signal.{Signal}
 use Rattle.protocol.specs.Outcome.{Outcome, Nothing, Done, made_or, with_made}
-use Rattle.protocol.specs.Federate.{Federate, Stepped, initial_federate, federate_accepts, federate_announces, federate_advances}
+use Rattle.protocol.specs.Federate.{Federate, Stepped, initial_federate, federate_accepts, federate_announces}
+use Rattle.protocol.specs.Federate.{federate_advances}
 use Rattle.protocol.specs.FederateRecord.{FederateRecord, initial_federate_record}
 use Rattle.protocol.specs.declared.post.Post.{Post}
 use Rattle.protocol.specs.Coordinator.{Coordinated, coordinator_accepts}
 use Rattle.protocol.specs.Grant.{Rule}
 
--- one federate, its record with the coordinator, and what was offered and not yet taken, oldest first: up, of what it sends,
--- and down, of what is sent to it. A lost federate does nothing more
+-- one federate, its record with the coordinator, and what was offered and not yet taken, oldest first: up, of what it
+-- sends, and down, of what is sent to it. A lost federate does nothing more
 pub record Member : Type 0 where
   pub federate_record : FederateRecord
   pub federate : Federate
@@ -18,8 +19,8 @@ pub record Member : Type 0 where
   pub down : List Signal
   pub lost : Bool
 
--- what may happen next: the coordinator takes a federate's oldest signal, the federate takes its oldest, announces, advances, is
--- lost. Moves of numbers that no federate has may happen too, and the laws hold of them
+-- what may happen next: the coordinator takes a federate's oldest signal, the federate takes its oldest, announces,
+-- advances, is lost. Moves of numbers that no federate has may happen too, and the laws hold of them
 pub data Move : Type 0 where
   ToCoordinator : (from : ℕ) → Move
   ToFederate : (to : ℕ) → Move
@@ -29,7 +30,13 @@ pub data Move : Type 0 where
 
 abbrev pub initial_member : Network → ℕ → Member
 initial_member n j =
-    record { federate_record = initial_federate_record; federate = initial_federate n j; up = []; down = []; lost = false }
+    record {
+      federate_record = initial_federate_record;
+      federate = initial_federate n j;
+      up = [];
+      down = [];
+      lost = false;
+    }
 
 -- with one member replaced
 abbrev pub with_member : (ℕ → Member) → ℕ → Member → ℕ → Member
@@ -74,7 +81,8 @@ outcome_of n rule members (ToFederate i) = unless_lost members i (federate_takes
 outcome_of n rule members (Announce i) =
     unless_lost members i (with_made (stepped (members i) (members i).down) (federate_announces (members i).federate))
 outcome_of n rule members (Advance i) =
-    unless_lost members i (with_made (stepped (members i) (members i).down) (federate_advances n i (members i).federate))
+    unless_lost members i (with_made (stepped (members i) (members i).down)
+    (federate_advances n i (members i).federate))
 outcome_of n rule members (Lose i) = Done (with_member members i (record (members i) { lost = true }))
 
 -- after these moves, listed newest first. The rule may be another at each move: it goes by how many there were before

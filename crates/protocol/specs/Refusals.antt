@@ -2,7 +2,8 @@
 use Rattle.std.specs.Prelude.{ℕ, List, codes}
 use Rattle.signal.specs.Fault.{printed_fault}
 use Rattle.protocol.specs.declared.refusal.Refusal.{Refusal}
-use Rattle.protocol.specs.declared.refusal.Refusal.TheVariants.{Late, OldGrant, WrongSignal, NotYours, BelowGrant, NotRising, AfterStop, NotForCoordinator}
+use Rattle.protocol.specs.declared.refusal.Refusal.TheVariants.{Late, OldGrant, WrongSignal, NotYours, BelowGrant}
+use Rattle.protocol.specs.declared.refusal.Refusal.TheVariants.{NotRising, AfterStop, NotForCoordinator}
 
 -- the number by which a refusal is printed
 abbrev pub number_of : Refusal → ℕ

@@ -1,6 +1,8 @@
-//! What a federate and the coordinator do with each signal, and how they work together: definitions, and the refusals as code.
+//! What a federate and the coordinator do with each signal, and how they work together: definitions, and the refusals
+//! as code.
 //!
-//! Promise to the layer above: words to cite. Begin with `specs/Federate` and `specs/Coordinator`, then `specs/Machine`.
+//! Promise to the layer above: words to cite. Begin with `specs/Federate` and `specs/Coordinator`, then
+//! `specs/Machine`.
 #![tactic(auto)]
 
 pub mod post;
@@ -16,8 +18,8 @@ ghost use Rattle.protocol.specs.Examples.{counter, counter_table, announced, rou
 pub use post::Post;
 pub use refusal::Refusal;
 
-/// The first grant of a federate without upstream, its message and its LTC; the TAG to the next federate goes out once the LTC has
-/// come, by its direct connection alone: over paths it wouldn't.
+/// The first grant of a federate without upstream, its message and its LTC; the TAG to the next federate goes out once
+/// the LTC has come, by its direct connection alone: over paths it wouldn't.
 pub fn first_grants()
     ensures first_tag { (announced 0).down ≡ Signal.Tag (at 0 0) ∷ [] }
     ensures not_yet { (announced 1).down ≡ [] }

@@ -5,12 +5,13 @@ use std::fmt;
 /// Why a signal isn't taken. Whoever refuses it is as before.
 #[derive(Clone, Copy, Debug, PartialEq, Eq)]
 pub enum Refusal {
-    /// A federate's: a message at or below the tag that it has completed, or the one that it was granted. The coordinator granted too
-    /// early.
+    /// A federate's: a message at or below the tag that it has completed, or the one that it was granted. The
+    /// coordinator granted too early.
     Late,
     /// A federate's: a TAG that isn't later than the one before.
     OldGrant,
-    /// A federate's: a NET, an LTC, a tag later than stop, or a message on a connection that isn't there or ends elsewhere.
+    /// A federate's: a NET, an LTC, a tag later than stop, or a message on a connection that isn't there or ends
+    /// elsewhere.
     WrongSignal,
     /// The coordinator's: a message on a connection that isn't there or begins elsewhere.
     NotYours,

@@ -16,9 +16,11 @@ histories_of members j = history_of (members j).federate.rows
 -- no chain from what is pending leads to this federate at or before the tag
 abbrev pub IsSettled : Network → (ℕ → Member) → ℕ → LogicalTime → Type 0
 IsSettled n members j tag =
-    (k : ℕ) (s : LogicalTime) (path : List Connection) → IsPending n members k s → IsWalk n.connections k path j → IsTrue (is_before tag (then_along s path))
+    (k : ℕ) (s : LogicalTime) (path : List Connection) → IsPending n members k s → IsWalk n.connections k path j
+    → IsTrue (is_before tag (then_along s path))
 
 -- after any moves the histories are consistent
 abbrev pub StaysConsistent : Network → (ℕ → Rule) → Type 0
 StaysConsistent n rules =
-    (moves : List Move) → IsConsistent n (histories_of (after_moves n rules moves)) (IsSettled n (after_moves n rules moves))
+    (moves : List Move) → IsConsistent n (histories_of (after_moves n rules moves))
+    (IsSettled n (after_moves n rules moves))

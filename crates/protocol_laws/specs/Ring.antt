@@ -1,5 +1,5 @@
--- Three reactors in a ring: 0 to 1 and 1 to 2 without delay, 2 to 0 with 5 ns. From outside come (0, 0) and (5 ns, 0) at reactor
--- 0, the second together with what comes round. Each hands on one more than it gets.
+-- Three reactors in a ring: 0 to 1 and 1 to 2 without delay, 2 to 0 with 5 ns. From outside come (0, 0) and (5 ns, 0)
+-- at reactor 0, the second together with what comes round. Each hands on one more than it gets.
 use Rattle.std.specs.Prelude.{ℕ, zero, suc, ℤ, pos, ◌+ℤ◌, List, [], ◌∷◌, ◌++◌, Option, None, Some, unwrap_or}
 use Rattle.network.specs.Network.{Network, Effect}
 use Rattle.network.specs.Examples.{at}

@@ -1,4 +1,5 @@
--- Runs of the machine: nothing is refused; and a federate is quiet where its next tag is FOREVER, or where all are stuck.
+-- Runs of the machine: nothing is refused; and a federate is quiet where its next tag is FOREVER, or where all are
+-- stuck.
 use Rattle.std.specs.Prelude.{◌≡◌, ◌≢◌, ℕ, ◌<◌, Bool, true, false, IsTrue, List, [], length, IsSomeAnd}
 use Rattle.std.specs.List.{list_any}
 use Rattle.tag.specs.LogicalTime.{IsLogicalTime, forever, is_at_most}
@@ -15,7 +16,9 @@ use Rattle.protocol.specs.Machine.{Member, Move, outcome_of, after_moves}
 
 -- whatever was done before, whatever comes next isn't refused
 abbrev pub RefusesNothing : Network → (ℕ → Rule) → Type 0
-RefusesNothing n rules = (moves : List Move) (move : Move) (refusal : Refusal) → outcome_of n (rules (length moves)) (after_moves n rules moves) move ≢ Refused refusal
+RefusesNothing n rules =
+    (moves : List Move) (move : Move) (refusal : Refusal)
+    → outcome_of n (rules (length moves)) (after_moves n rules moves) move ≢ Refused refusal
 
 -- a message
 abbrev pub is_message : Signal → Bool
@@ -24,8 +27,8 @@ is_message (Ltc tag) = false
 is_message (Tag tag) = false
 is_message (Msg connection tag value) = true
 
--- a federate is quiet: no event of it is undone, no message that it sent waits for the coordinator, and none waits for it on
--- the way down
+-- a federate is quiet: no event of it is undone, no message that it sent waits for the coordinator, and none waits for
+-- it on the way down
 pub record IsQuiet (m : Member) : Type 0 where
   pub undone : m.federate.undone ≡ []
   pub up : list_any is_message m.up ≡ false
@@ -33,7 +36,9 @@ pub record IsQuiet (m : Member) : Type 0 where
 
 -- wherever a federate's next tag is FOREVER, it is quiet
 abbrev pub IsQuietWhereNextIsForever : Network → (ℕ → Rule) → Type 0
-IsQuietWhereNextIsForever n rules = (moves : List Move) (j : ℕ) → (after_moves n rules moves j).federate_record.next ≡ forever → IsQuiet (after_moves n rules moves j)
+IsQuietWhereNextIsForever n rules =
+    (moves : List Move) (j : ℕ) → (after_moves n rules moves j).federate_record.next ≡ forever
+    → IsQuiet (after_moves n rules moves j)
 
 -- a federate is stuck: there is nothing to take, to announce or to advance
 pub record IsStuck (n : Network) (j : ℕ) (m : Member) : Type 0 where
@@ -45,10 +50,12 @@ pub record IsStuck (n : Network) (j : ℕ) (m : Member) : Type 0 where
 -- a rule that leaves no eligible federate without a grant of at least its next tag
 abbrev pub IsFullRule : Network → Table → Rule → Type 0
 IsFullRule n table rule =
-    (federate_records : ℕ → FederateRecord) → ((i : ℕ) → IsLogicalTime (federate_records i).next) → (j : ℕ) → IsTrue (is_eligible n table federate_records j) →
+    (federate_records : ℕ → FederateRecord) → ((i : ℕ) → IsLogicalTime (federate_records i).next) → (j : ℕ)
+    → IsTrue (is_eligible n table federate_records j) →
     IsSomeAnd (rule federate_records j) (λ tag. IsTrue (is_at_most (federate_records j).next tag))
 
 -- wherever every federate is stuck, all are quiet
 abbrev pub IsQuietWhereStuck : Network → (ℕ → Rule) → Type 0
 IsQuietWhereStuck n rules =
-    (moves : List Move) → ((j : ℕ) → j < n.reactors → IsStuck n j (after_moves n rules moves j)) → (j : ℕ) → j < n.reactors → IsQuiet (after_moves n rules moves j)
+    (moves : List Move) → ((j : ℕ) → j < n.reactors → IsStuck n j (after_moves n rules moves j)) → (j : ℕ)
+    → j < n.reactors → IsQuiet (after_moves n rules moves j)

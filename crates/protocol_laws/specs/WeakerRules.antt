@@ -1,5 +1,7 @@
--- Weaker rules, by which a grant comes too early; and three reactors in a line, on which each of them lets a message come too late.
-use Rattle.std.specs.Prelude.{ℕ, zero, suc, Bool, true, false, ◌&&◌, ◌||◌, nat_eq, if◌then◌else◌, List, [], ◌∷◌, Option, None, Some, pos}
+-- Weaker rules, by which a grant comes too early; and three reactors in a line, on which each of them lets a message
+-- come too late.
+use Rattle.std.specs.Prelude.{ℕ, zero, suc, Bool, true, false, ◌&&◌, ◌||◌, nat_eq, if◌then◌else◌, List, [], ◌∷◌, Option}
+use Rattle.std.specs.Prelude.{None, Some, pos}
 use Rattle.std.specs.List.{list_all}
 use Rattle.tag.specs.LogicalTime.{LogicalTime, is_before, is_at_most, sum_of, is_past}
 use Rattle.network.specs.Event.{Event, outside}
@@ -15,7 +17,8 @@ use Rattle.protocol_laws.specs.Ring.{ring_effect}
 -- next tags that pass this test
 abbrev pub grant_by : Network → ((ℕ → FederateRecord) → ℕ → LogicalTime → Bool) → Rule
 grant_by n passes federate_records j =
-    if (federate_records j).announced && is_past (federate_records j).granted (federate_records j).next && is_at_most (federate_records j).next n.stop &&
+    if (federate_records j).announced && is_past (federate_records j).granted (federate_records j).next
+    && is_at_most (federate_records j).next n.stop &&
     passes federate_records j (federate_records j).next
     then Some (federate_records j).next
     else None
@@ -27,7 +30,8 @@ is_reached_from (Some completed) delay tag = is_at_most tag (sum_of completed de
 
 abbrev pub passes_last_ltcs : Network → (ℕ → FederateRecord) → ℕ → LogicalTime → Bool
 passes_last_ltcs n federate_records j tag =
-    list_all (λ c. if nat_eq c.target j then is_reached_from (federate_records c.source).completed c.delay tag else true) n.connections
+    list_all (λ c. if nat_eq c.target j then is_reached_from (federate_records c.source).completed c.delay tag
+    else true) n.connections
 
 -- at or below what comes from the next tags, in place of below it
 abbrev pub is_at_most_arrival : LogicalTime → LogicalTime → Option LogicalTime → Bool
@@ -35,12 +39,14 @@ is_at_most_arrival tag next None = true
 is_at_most_arrival tag next (Some delay) = is_at_most tag (sum_of next delay)
 
 abbrev pub passes_equal_paths : Network → Table → (ℕ → FederateRecord) → ℕ → LogicalTime → Bool
-passes_equal_paths n table federate_records j tag = all_below n.reactors (λ i. is_at_most_arrival tag (federate_records i).next (table i j))
+passes_equal_paths n table federate_records j tag =
+    all_below n.reactors (λ i. is_at_most_arrival tag (federate_records i).next (table i j))
 
 -- below what comes from the next tags of those with a direct connection alone
 abbrev pub passes_direct : Network → (ℕ → FederateRecord) → ℕ → LogicalTime → Bool
 passes_direct n federate_records j tag =
-    list_all (λ c. if nat_eq c.target j then is_before tag (sum_of (federate_records c.source).next c.delay) else true) n.connections
+    list_all (λ c. if nat_eq c.target j then is_before tag (sum_of (federate_records c.source).next c.delay)
+    else true) n.connections
 
 -- 0 to 1 with this delay, 1 to 2 without
 abbrev pub line : LogicalTime → List Event → Network
@@ -82,17 +88,21 @@ line_table delay i j = None
 abbrev pub by_last_ltcs : Rule
 by_last_ltcs =
     grant_by two_microsteps
-    (λ federate_records j tag. passes_paths two_microsteps (line_table (at 10 0)) federate_records j tag || passes_last_ltcs two_microsteps federate_records j tag)
+    (λ federate_records j tag. passes_paths two_microsteps (line_table (at 10 0)) federate_records j tag
+    || passes_last_ltcs two_microsteps federate_records j tag)
 
 -- the second: by equal paths, or by connections
 abbrev pub by_equal_paths : Rule
 by_equal_paths =
     grant_by one_tag
-    (λ federate_records j tag. passes_equal_paths one_tag (line_table (at 0 0)) federate_records j tag || passes_connections one_tag federate_records j tag)
+    (λ federate_records j tag. passes_equal_paths one_tag (line_table (at 0 0)) federate_records j tag
+    || passes_connections one_tag federate_records j tag)
 
 -- the third: by next tags over direct connections, or by connections
 abbrev pub by_direct : Rule
-by_direct = grant_by both_ends (λ federate_records j tag. passes_direct both_ends federate_records j tag || passes_connections both_ends federate_records j tag)
+by_direct =
+    grant_by both_ends (λ federate_records j tag. passes_direct both_ends federate_records j tag
+    || passes_connections both_ends federate_records j tag)
 
 -- all three announce
 abbrev pub announce_all : List Move
@@ -105,7 +115,8 @@ next_taken n rule moves i = outcome_of n rule (after_moves n (λ move. rule) mov
 -- reactor 0 runs both microsteps; its message of the second is still to be taken
 abbrev pub both_microsteps : List Move
 both_microsteps =
-    Advance 0 ∷ ToFederate 0 ∷ ToCoordinator 0 ∷ Announce 0 ∷ ToCoordinator 0 ∷ ToCoordinator 0 ∷ Advance 0 ∷ ToFederate 0 ∷ announce_all
+    Advance 0 ∷ ToFederate 0 ∷ ToCoordinator 0 ∷ Announce 0 ∷ ToCoordinator 0 ∷ ToCoordinator 0 ∷ Advance 0
+    ∷ ToFederate 0 ∷ announce_all
 
 -- reactor 0 runs its tag; its message is still to be taken
 abbrev pub first_turn : List Move

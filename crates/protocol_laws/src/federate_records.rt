@@ -11,14 +11,19 @@ ghost use Rattle.protocol.specs.Grant.{Rule};
 ghost use Rattle.protocol.specs.Coordinator.{coordinator_accepts};
 ghost use Rattle.protocol.specs.FederateRecords.{federate_record_at, federate_records_listed, is_finished};
 
-/// A list of records is read by number, records by number are listed, and one is the other's inverse. A step of the coordinator on
-/// a list, one record for each federate, leaves all records as the list after it is read.
+/// A list of records is read by number, records by number are listed, and one is the other's inverse. A step of the
+/// coordinator on a list, one record for each federate, leaves all records as the list after it is read.
 pub fn lists_stand_for_federate_records()
-    ensures read { (count : ℕ) (federate_records : ℕ → FederateRecord) (j : ℕ) → j < count → federate_record_at (federate_records_listed count federate_records) j ≡ federate_records j }
-    ensures back { (federate_records : List FederateRecord) → federate_records_listed (length federate_records) (federate_record_at federate_records) ≡ federate_records }
-    ensures length { (count : ℕ) (federate_records : ℕ → FederateRecord) → length (federate_records_listed count federate_records) ≡ count }
-    ensures accept { (n : Network) (rule : Rule) (federate_records : List FederateRecord) (i : ℕ) (signal : Signal) → IsWired n → i < n.reactors →
-        length federate_records ≡ n.reactors → IfDone (coordinator_accepts n rule (federate_record_at federate_records) i signal)
+    ensures read { (count : ℕ) (federate_records : ℕ → FederateRecord) (j : ℕ) → j < count
+        → federate_record_at (federate_records_listed count federate_records) j ≡ federate_records j }
+    ensures back { (federate_records : List FederateRecord)
+        → federate_records_listed (length federate_records) (federate_record_at federate_records) ≡ federate_records }
+    ensures length { (count : ℕ) (federate_records : ℕ → FederateRecord)
+        → length (federate_records_listed count federate_records) ≡ count }
+    ensures accept { (n : Network) (rule : Rule) (federate_records : List FederateRecord) (i : ℕ) (signal : Signal)
+        → IsWired n → i < n.reactors →
+        length federate_records ≡ n.reactors
+        → IfDone (coordinator_accepts n rule (federate_record_at federate_records) i signal)
         (λ made. federate_record_at (federate_records_listed n.reactors made.after) ≡ made.after) }
 {}
 

@@ -14,7 +14,7 @@ row_in entries s =
       outputs = slice_range entries s.outputs s.end;
     }
 
--- they stand among so many entries
+-- they stand among this many entries
 pub record IsSpanIn (count : ℕ) (s : Span) : Type 0 where
   pub inputs : s.inputs ≤ s.outputs
   pub outputs : s.outputs ≤ s.end

@@ -18,7 +18,8 @@ pub struct Span {
     pub end: usize,
 }
 
-/// Rows, oldest first. One more asks for memory only where the room of all of them grows. Contracts see the list of them.
+/// Rows, oldest first. One more asks for memory only where the room of all of them grows. Contracts see the list of
+/// them.
 #[derive(Debug, Drop)]
 pub struct Rows {
     entries: Vec<Entry>,
@@ -63,7 +64,8 @@ impl Rows {
         inputs: &[Entry],
         outputs: &[Entry],
     ) -> Result<(), Memory>
-        ensures ok { OnOk result (self.new ≡ self.old ++ record { reactor = federate; tag = tag; inputs = inputs.now; outputs = outputs.now } ∷ []) }
+        ensures ok { OnOk result (self.new ≡ self.old
+            ++ record { reactor = federate; tag = tag; inputs = inputs.now; outputs = outputs.now } ∷ []) }
         ensures err { OnErr result (self.new ≡ self.old) }
     {
         // Room for all of it first, so that nothing has to be taken back.

@@ -10,8 +10,8 @@ use reactor_program::{Entries, Entry};
 use std::alloc::Global;
 use std::marker::Model;
 
-/// A turn in room that is kept for the next one, so that a turn asks for memory only where it needs more than those before
-/// it. Contracts see the turn.
+/// A turn in room that is kept for the next one, so that a turn asks for memory only where it needs more than those
+/// before it. Contracts see the turn.
 #[derive(Drop)]
 pub struct TurnRoom {
     running: RunningTurn,
@@ -26,7 +26,11 @@ impl Model for TurnRoom {
 
     ghost Value = { TurnOf };
 
-    ghost view = { λ r. record { states = take r.states r.running.registers.items; outputs = r.outputs.items; schedulings = r.running.schedulings.items } };
+    ghost view = { λ r. record {
+      states = take r.states r.running.registers.items;
+      outputs = r.outputs.items;
+      schedulings = r.running.schedulings.items;
+    } };
 
     ghost invariant = { λ r. r.states ≤ length r.running.registers.items };
 }
@@ -86,7 +90,8 @@ impl TurnRoom {
         )
     }
 
-    /// The turn of these reactions, on these registers, so many of which are states, with these inputs present at so many slots.
+    /// The turn of these reactions, on these registers, this many of which are states, with these inputs present at
+    /// this many slots.
     pub(crate) fn run(
         &mut self,
         registers: &[i64],
@@ -98,7 +103,8 @@ impl TurnRoom {
     ) -> Result<(), Memory>
         requires begins { AreOpen states slots registers.now }
         requires within { All (ReactionWithin (length registers.now) ports) reactions.now }
-        ensures turn { OnOk result (IsTurnBy (take states registers.now) slots ports (value_at inputs.now) (drop (states + slots + slots) registers.now) reactions.now self.new) }
+        ensures turn { OnOk result (IsTurnBy (take states registers.now) slots ports (value_at inputs.now)
+            (drop (states + slots + slots) registers.now) reactions.now self.new) }
         ensures fits { OnOk result (length self.new.states ≡ states) }
     {
         self.states = 0;

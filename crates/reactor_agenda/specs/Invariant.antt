@@ -1,5 +1,6 @@
 -- What an agenda keeps, as code: what was put, by tag and slot, and of each timer the firings that are left.
-use Rattle.std.specs.Prelude.{◌≡◌, ℕ, ◌<◌, ◌^◌, ◌+◌, ℤ, pos, Bool, false, IsTrue, if◌then◌else◌, not, List, [], ◌∷◌, ◌++◌, map, filter, Option, None, Some}
+use Rattle.std.specs.Prelude.{◌≡◌, ℕ, ◌<◌, ◌^◌, ◌+◌, ℤ, pos, Bool, false, IsTrue, if◌then◌else◌, not, List, [], ◌∷◌}
+use Rattle.std.specs.Prelude.{◌++◌, map, filter, Option, None, Some}
 use Rattle.std.specs.List.{AllByRecursion}
 use Rattle.std.specs.Ordering.{is_eq}
 use Rattle.std.specs.declared.cmp.Ordering.{Ordering}
@@ -72,7 +73,8 @@ all_firings (f ∷ rest) = firings_of f ++ all_firings rest
 abbrev pub timers_from : ℕ → ℕ → List Timer → List Firings
 timers_from stop slot [] = []
 timers_from stop slot (t ∷ rest) =
-    record { slot = slot; next = t.offset; period = t.period; left = firing_count stop t } ∷ timers_from stop (slot + 1) rest
+    record { slot = slot; next = t.offset; period = t.period; left = firing_count stop t }
+    ∷ timers_from stop (slot + 1) rest
 
 -- what is undone: what was put, over the firings that are left
 abbrev pub undone_of : List PendingEvent → List Firings → List PendingEvent
@@ -81,7 +83,8 @@ undone_of events timers = put_all events (put_all (all_firings timers) [])
 -- what is there for a slot at a tag has the value that stood there, or goes where none stood there
 abbrev pub undo_to : Key → Option ℤ → List PendingEvent → List PendingEvent
 undo_to key None events = filter (λ e. not (is_for_same (held_at (key, pos 0)) e)) events
-undo_to key (Some value) events = map (λ e. if is_for_same (held_at (key, value)) e then held_at (key, value) else e) events
+undo_to key (Some value) events =
+    map (λ e. if is_for_same (held_at (key, value)) e then held_at (key, value) else e) events
 
 -- what stood before all of these were done, one after the other
 abbrev pub undo_all : List Undo → List PendingEvent → List PendingEvent
@@ -119,7 +122,8 @@ first_firing [] = forever
 first_firing (f ∷ rest) = lesser (least_in (firings_of f)) (first_firing rest)
 
 -- what an agenda keeps is in range and not later than stop, also what can be taken back
-pub record IsKept (stop : LogicalTime) (events before : List PendingEvent) (timers : List Firings) (next_firing : LogicalTime) : Type 0 where
+pub record IsKept (stop : LogicalTime) (events before : List PendingEvent) (timers : List Firings)
+    (next_firing : LogicalTime) : Type 0 where
   pub events_fit : AllByRecursion (IsFit stop) events
   pub before_fit : AllByRecursion (IsFit stop) before
   pub timers_hold : AllByRecursion IsTimer timers

@@ -46,7 +46,12 @@ impl Model for Agenda {
 
     ghost Value = { AgendaOf };
 
-    ghost view = { λ a. record { stop = a.stop; undone = undone_of a.puts a.timers.items; before = undone_of (undo_all a.undos.items a.puts) a.timers.items } };
+    ghost view = { λ a. record {
+      stop = a.stop;
+      undone = undone_of a.puts a.timers.items;
+      before = undone_of
+          (undo_all a.undos.items a.puts) a.timers.items;
+    } };
 
     ghost invariant = { λ a. IsKept a.stop a.puts (undo_all a.undos.items a.puts) a.timers.items a.next_firing };
 }
@@ -58,7 +63,8 @@ impl Agenda {
     pub fn new(alloc: Global, slots: &Slots, stop: FiniteTag) -> Result<Agenda, Memory>
         requires limits { IsWithinLimits slots.now }
         requires timers { All IsTimerInRange slots.now.timers }
-        ensures { IfOk result (λ agenda. agenda ≡ record { stop = stop; undone = own_undone stop slots.now; before = own_undone stop slots.now }) }
+        ensures { IfOk result (λ agenda. agenda
+            ≡ record { stop = stop; undone = own_undone stop slots.now; before = own_undone stop slots.now }) }
     {
         let puts = startup_of(alloc, slots.startup)?;
         stop.invariant();
@@ -82,11 +88,15 @@ impl Agenda {
         self.stop.invariant();
     }
 
-    /// Puts events one after the other, all or none; one for a slot that has a value at its tag replaces it, and one later than stop
-    /// is dropped.
+    /// Puts events one after the other, all or none; one for a slot that has a value at its tag replaces it, and one
+    /// later than stop is dropped.
     #[inline(always)]
     pub fn put_all(&mut self, events: &[PendingEvent]) -> Result<Put, Memory>
-        ensures put { OnOk result (self.new ≡ record self.old { undone = put_all (in_time self.old.stop events.now) self.old.undone; before = self.old.undone }) }
+        ensures put { OnOk result (self.new
+            ≡ record self.old {
+              undone = put_all (in_time self.old.stop events.now) self.old.undone;
+              before = self.old.undone;
+            }) }
         ensures err { OnErr result (self.new ≡ self.old) }
     {
         self.puts.in_order();
@@ -110,12 +120,14 @@ impl Agenda {
         lesser(self.puts.first_tag(), self.next_firing)
     }
 
-    /// Writes what is present at a tag over what was in `entries`, by slot, for `Reactor::run`. It takes memory only where `entries`
-    /// grows; after `Memory` nothing is said of them. It goes over all that is pending up to the tag, so ask for none after `least`.
+    /// Writes what is present at a tag over what was in `entries`, by slot, for `Reactor::run`. It takes memory only
+    /// where `entries` grows; after `Memory` nothing is said of them. It goes over all that is pending up to the tag,
+    /// so ask for none after `least`.
     pub fn at(&self, tag: Tag, entries: &mut Vec<Entry>) -> Result<(), Memory>
         ensures entries { OnOk result (entries.new.items ≡ present_in self.now.undone tag) }
         ensures inputs { OnOk result ((slot : ℕ) → value_at entries.new.items slot ≡ look self.now.undone tag slot) }
-        ensures listed { OnOk result ((count : ℕ) → AllByRecursion (λ e. e.slot < count) self.now.undone → entries.new.items ≡ listed count (look self.now.undone tag)) }
+        ensures listed { OnOk result ((count : ℕ) → AllByRecursion (λ e. e.slot < count) self.now.undone
+            → entries.new.items ≡ listed count (look self.now.undone tag)) }
     {
         entries.clear();
         add_firings(entries, self.timers.as_slice(), tag)?;
@@ -125,7 +137,12 @@ impl Agenda {
 
     /// Lets go of all up to a tag, which then can't be taken back. It needs no memory.
     pub fn drop_at(&mut self, tag: Tag)
-        ensures { self.new ≡ record { stop = self.old.stop; undone = drop_up_to tag self.old.undone; before = drop_up_to tag self.old.undone } }
+        ensures { self.new ≡ record {
+          stop = self.old.stop;
+          undone = drop_up_to tag self.old.undone;
+          before = drop_up_to
+              tag self.old.undone;
+        } }
     {
         self.undos.clear();
         drop_puts(&mut self.puts, tag);

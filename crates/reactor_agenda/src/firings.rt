@@ -6,7 +6,8 @@ ghost use Rattle.reactor_agenda.specs.Invariant.{firings_of, firing, has_due, ha
 
 use tag::{Tag, Time};
 
-/// The firings of a timer that are left: so many, the first at `next`, and each a period after the one before. Times are in ns.
+/// The firings of a timer that are left: this many, the first at `next`, and each a period after the one before. Times
+/// are in ns.
 #[derive(Clone, Copy)]
 pub struct Firings {
     pub slot: usize,
@@ -55,7 +56,8 @@ fn is_due(timer: Firings, tag: Tag) -> bool
 /// Whether one of the firings is at a tag. It goes over those before.
 pub fn fires_at(timer: Firings, tag: Tag) -> bool
     requires { IsTimer timer }
-    ensures { filter (λ e. is_same e.tag tag) (firings_of timer) ≡ (if result then firing timer.slot tag.time ∷ [] else []) }
+    ensures { filter (λ e. is_same e.tag tag) (firings_of timer)
+        ≡ (if result then firing timer.slot tag.time ∷ [] else []) }
 {
     let mut rest = timer;
     while is_before(rest, tag) {
@@ -81,7 +83,8 @@ fn is_before(timer: Firings, tag: Tag) -> bool
 fn is_next(timer: Firings, tag: Tag) -> bool
     requires timer { IsTimer timer }
     requires none_before { has_before tag (firings_of timer) ≡ false }
-    ensures { filter (λ e. is_same e.tag tag) (firings_of timer) ≡ (if result then firing timer.slot tag.time ∷ [] else []) }
+    ensures { filter (λ e. is_same e.tag tag) (firings_of timer)
+        ≡ (if result then firing timer.slot tag.time ∷ [] else []) }
 {
     if timer.left == 0 {
         return false;

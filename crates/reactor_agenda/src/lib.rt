@@ -1,7 +1,8 @@
 //! The agenda of one federate: the events that are still pending, up to stop.
 //!
-//! Promise to the layer above: an agenda is the list of what is pending (`specs/Agenda`), timer firings up to stop included, and each
-//! call does to it what the words of `network` say. Begin with `agenda`; what it keeps is in `specs/Invariant`.
+//! Promise to the layer above: an agenda is the list of what is pending (`specs/Agenda`), timer firings up to stop
+//! included, and each call does to it what the words of `network` say. Begin with `agenda`; what it keeps is in
+//! `specs/Invariant`.
 #![tactic(auto)]
 
 pub mod agenda;

@@ -1,4 +1,5 @@
-ghost use Rattle.std.specs.Prelude.{◌≡◌, ◌<◌, ◌++◌, ◌∷◌, true, false, IfOk, IfNone, IfSome, OnOk, OnErr, Some, None, [], drop};
+ghost use Rattle.std.specs.Prelude.{◌≡◌, ◌<◌, ◌++◌, ◌∷◌, true, false, IfOk, IfNone, IfSome, OnOk, OnErr, Some, None};
+ghost use Rattle.std.specs.Prelude.{[], drop};
 ghost use Rattle.std.specs.List.{HoldsAt};
 ghost use Rattle.std.specs.Ordering.{is_eq, is_lt};
 ghost use Rattle.std.specs.VecDeque.{deque_capacity, deque_len};
@@ -14,7 +15,8 @@ use std::collections::{BTreeMap, VecDeque};
 use std::marker::Model;
 use tag::Tag;
 
-/// What was put, in order. As long as each event comes after all that are there, or before them, only the queue is used.
+/// What was put, in order. As long as each event comes after all that are there, or before them, only the queue is
+/// used.
 #[derive(Drop)]
 pub struct Puts {
     /// The events that come first; there is one where there are others.
@@ -173,7 +175,8 @@ fn move_later(
 /// Takes out the last, where it is for a key.
 fn take_last(front: &mut VecDeque<(Key, i64), Global>, key: &Key) -> Option<i64>
     ensures taken { IfSome result (λ value. front.old.items ≡ front.new.items ++ (key.now, value) ∷ []) }
-    ensures other { IfNone result ((front.new.items ≡ front.old.items) × (is_eq (to_last key.now front.old.items) ≡ false)) }
+    ensures other { IfNone result ((front.new.items ≡ front.old.items)
+        × (is_eq (to_last key.now front.old.items) ≡ false)) }
     ensures room { deque_len front.old < deque_capacity front.old → deque_len front.new < deque_capacity front.new }
 {
     if !last_cmp(front, key).is_eq() {

@@ -19,7 +19,8 @@ use tag::Tag;
 pub fn add_firings(entries: &mut Vec<Entry>, timers: &[Firings], tag: Tag) -> Result<(), Memory>
     requires timers { AllByRecursion IsTimer timers.now }
     requires in_place { AreInPlace entries.old.items }
-    ensures { OnOk result (entries.new.items ≡ set_entries (map entry_of (filter (λ e. is_same e.tag tag) (all_firings timers.now))) entries.old.items) }
+    ensures { OnOk result (entries.new.items
+        ≡ set_entries (map entry_of (filter (λ e. is_same e.tag tag) (all_firings timers.now))) entries.old.items) }
 {
     for timer in timers {
         add_firing(entries, *timer, tag)?;
@@ -31,7 +32,8 @@ pub fn add_firings(entries: &mut Vec<Entry>, timers: &[Firings], tag: Tag) -> Re
 fn add_firing(entries: &mut Vec<Entry>, timer: Firings, tag: Tag) -> Result<(), Memory>
     requires timer { IsTimer timer }
     requires in_place { AreInPlace entries.old.items }
-    ensures { OnOk result (entries.new.items ≡ set_entries (map entry_of (filter (λ e. is_same e.tag tag) (firings_of timer))) entries.old.items) }
+    ensures { OnOk result (entries.new.items
+        ≡ set_entries (map entry_of (filter (λ e. is_same e.tag tag) (firings_of timer))) entries.old.items) }
 {
     if fires_at(timer, tag) {
         set_entry(entries, Entry::new(timer.slot, 0))?;
@@ -42,7 +44,8 @@ fn add_firing(entries: &mut Vec<Entry>, timer: Firings, tag: Tag) -> Result<(), 
 /// Adds what was put for a tag. It goes over what was put before it.
 pub fn add_puts(entries: &mut Vec<Entry>, puts: &Puts, tag: Tag) -> Result<(), Memory>
     requires { AreInPlace entries.old.items }
-    ensures { OnOk result (entries.new.items ≡ set_entries (map entry_of (filter (λ e. is_same e.tag tag) puts.now)) entries.old.items) }
+    ensures { OnOk result (entries.new.items
+        ≡ set_entries (map entry_of (filter (λ e. is_same e.tag tag) puts.now)) entries.old.items) }
 {
     add_front(entries, &puts.front, tag)?;
     add_rest(entries, &puts.rest, tag)
@@ -56,7 +59,8 @@ fn add_front(
 ) -> Result<(), Memory>
     requires rises { Rises (held_in front.now.items) }
     requires in_place { AreInPlace entries.old.items }
-    ensures { OnOk result (entries.new.items ≡ set_entries (map entry_of (filter (λ e. is_same e.tag tag) (held_in front.now.items))) entries.old.items) }
+    ensures { OnOk result (entries.new.items
+        ≡ set_entries (map entry_of (filter (λ e. is_same e.tag tag) (held_in front.now.items))) entries.old.items) }
 {
     for (key, value) in front.iter() {
         if !is_at_most(key.tag, tag) {
@@ -74,7 +78,8 @@ fn add_rest(
     tag: Tag,
 ) -> Result<(), Memory>
     requires { AreInPlace entries.old.items }
-    ensures { OnOk result (entries.new.items ≡ set_entries (map entry_of (filter (λ e. is_same e.tag tag) (held_in rest.now.entries))) entries.old.items) }
+    ensures { OnOk result (entries.new.items
+        ≡ set_entries (map entry_of (filter (λ e. is_same e.tag tag) (held_in rest.now.entries))) entries.old.items) }
 {
     // For the prover: `len` hands out the order of the entries.
     let _count = rest.len();
@@ -90,7 +95,9 @@ fn add_rest(
 /// Adds a value for a slot, if it was put for a tag.
 fn add_put(entries: &mut Vec<Entry>, key: &Key, value: i64, tag: Tag) -> Result<(), Memory>
     requires { AreInPlace entries.old.items }
-    ensures { OnOk result (entries.new.items ≡ set_entries (map entry_of (filter (λ e. is_same e.tag tag) (held_at (key.now, value) ∷ []))) entries.old.items) }
+    ensures { OnOk result (entries.new.items
+        ≡ set_entries (map entry_of (filter (λ e. is_same e.tag tag) (held_at (key.now, value) ∷ [])))
+        entries.old.items) }
 {
     if are_same(key.tag.tag(), tag) {
         set_entry(entries, Entry::new(key.slot, value))?;

@@ -55,7 +55,8 @@ fn put_one(puts: &mut Puts, undos: &mut Vec<Undo>, event: PendingEvent) -> Resul
     requires { vec_len undos.old < vec_capacity undos.old }
     ensures put { OnOk result (puts.new ≡ put event puts.old) }
     ensures noted { OnOk result (undo_all undos.new.items puts.new ≡ undo_all undos.old.items puts.old) }
-    ensures fit { OnOk result ((stop : LogicalTime) → IsTrue (is_at_most event.tag stop) → AllByRecursion (IsFit stop) puts.old → AllByRecursion (IsFit stop) puts.new) }
+    ensures fit { OnOk result ((stop : LogicalTime) → IsTrue (is_at_most event.tag stop)
+        → AllByRecursion (IsFit stop) puts.old → AllByRecursion (IsFit stop) puts.new) }
     ensures room { vec_capacity undos.new ≡ vec_capacity undos.old }
     ensures len { vec_len undos.new ≤ vec_len undos.old + 1 }
     ensures err { OnErr result (puts.new ≡ puts.old) }

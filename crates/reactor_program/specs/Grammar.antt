@@ -1,9 +1,11 @@
 -- How body lines are written: their syntax with names where a program has numbers, and the tokens that spell it.
-use Rattle.std.specs.Prelude.{◌≡◌, ℕ, ℤ, ◌<◌, ◌^◌, ◌⊎◌, Bool, ◌||◌, List, [], ◌∷◌, ◌++◌, Option, None, Some, IsTrue, codes}
+use Rattle.std.specs.Prelude.{◌≡◌, ℕ, ℤ, ◌<◌, ◌^◌, ◌⊎◌, Bool, ◌||◌, List, [], ◌∷◌, ◌++◌, Option, None, Some, IsTrue}
+use Rattle.std.specs.Prelude.{codes}
 use Rattle.std.specs.Str.{bytes_eq}
 use Rattle.tag_text.specs.Duration.{Spells}
 use Rattle.reactor_program.specs.declared.program.Operator.{Operator}
-use Rattle.reactor_program.specs.declared.program.Operator.TheVariants.{Plus, Minus, Times, Minimum, Maximum, Less, Equal}
+use Rattle.reactor_program.specs.declared.program.Operator.TheVariants.{Plus, Minus, Times, Minimum, Maximum, Less}
+use Rattle.reactor_program.specs.declared.program.Operator.TheVariants.{Equal}
 use Rattle.reactor_program.specs.Tokens.{IsWholeNumber, number_in}
 use Rattle.plan_names.specs.Spelling.{is_name}
 
@@ -19,7 +21,7 @@ pub data WrittenExpression : Type 0 where
   Alone : WrittenOperand → WrittenExpression
   Combined : WrittenOperand → Operator → WrittenOperand → WrittenExpression
 
--- a state gets a value, an output gets one, or an action is scheduled after so many nanoseconds
+-- a state gets a value, an output gets one, or an action is scheduled after this many nanoseconds
 pub data WrittenStatement : Type 0 where
   AssignTo : List ℕ → WrittenExpression → WrittenStatement
   OutputTo : List ℕ → WrittenOperand → WrittenStatement
@@ -55,7 +57,8 @@ operator_token Equal = codes "=="
 abbrev pub SpellsExpression : WrittenExpression → List (List ℕ) → Type 0
 SpellsExpression (Alone a) tokens = (token : List ℕ) × (tokens ≡ token ∷ []) × SpellsOperand a token
 SpellsExpression (Combined a operator b) tokens =
-    (left right : List ℕ) × (tokens ≡ left ∷ operator_token operator ∷ right ∷ []) × SpellsOperand a left × SpellsOperand b right
+    (left right : List ℕ) × (tokens ≡ left ∷ operator_token operator ∷ right ∷ []) × SpellsOperand a left
+    × SpellsOperand b right
 
 -- a duration, in one token or in two
 abbrev pub SpellsDuration : ℕ → List (List ℕ) → Type 0
@@ -68,7 +71,8 @@ abbrev pub SpellsStatement : WrittenStatement → List (List ℕ) → Type 0
 SpellsStatement (AssignTo x expression) tokens =
     (rest : List (List ℕ)) × (tokens ≡ x ∷ codes "=" ∷ rest) × IsTrue (is_name x) × SpellsExpression expression rest
 SpellsStatement (OutputTo p a) tokens =
-    (token : List ℕ) × (tokens ≡ (codes "out." ++ p) ∷ codes "=" ∷ token ∷ []) × IsTrue (is_name p) × SpellsOperand a token
+    (token : List ℕ) × (tokens ≡ (codes "out." ++ p) ∷ codes "=" ∷ token ∷ []) × IsTrue (is_name p)
+    × SpellsOperand a token
 SpellsStatement (ScheduleAfter c time a) tokens =
     (duration : List (List ℕ)) × (token : List ℕ) × (tokens ≡ codes "schedule" ∷ c ∷ (duration ++ token ∷ []))
     × IsTrue (is_name c) × SpellsDuration time duration × (time < 2 ^ 62) × SpellsOperand a token

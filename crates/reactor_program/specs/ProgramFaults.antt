@@ -2,7 +2,8 @@
 use Rattle.std.specs.Prelude.{ℕ, List, ◌++◌, codes}
 use Rattle.std.specs.Fmt.{decimal}
 use Rattle.reactor_program.specs.declared.program_fault.ProgramFault.{ProgramFault}
-use Rattle.reactor_program.specs.declared.program_fault.ProgramFault.TheVariants.{BadLine, UnknownOperand, Memory, RepeatedState}
+use Rattle.reactor_program.specs.declared.program_fault.ProgramFault.TheVariants.{BadLine, UnknownOperand, Memory}
+use Rattle.reactor_program.specs.declared.program_fault.ProgramFault.TheVariants.{RepeatedState}
 
 -- the refusal's number
 abbrev pub fault_number : ProgramFault → ℕ
@@ -18,7 +19,8 @@ printed_line_of federate reaction line = federate ++ (codes " " ++ (decimal reac
 -- what is printed after the number: the refusal's name, and where it stands in the program of this federate
 abbrev pub fault_text_of : List ℕ → ProgramFault → List ℕ
 fault_text_of federate (BadLine reaction line) = codes " BadLine " ++ printed_line_of federate reaction line
-fault_text_of federate (UnknownOperand reaction line) = codes " UnknownOperand " ++ printed_line_of federate reaction line
+fault_text_of federate (UnknownOperand reaction line) =
+    codes " UnknownOperand " ++ printed_line_of federate reaction line
 fault_text_of federate Memory = codes " Memory"
 fault_text_of federate RepeatedState = codes " RepeatedState " ++ federate
 

@@ -1,5 +1,6 @@
 -- What reading a text as something with names answers.
-use Rattle.std.specs.Prelude.{◌≡◌, ℕ, ◌<◌, ◌^◌, ◌⊎◌, List, [], ◌∷◌, ◌++◌, length, replicate, Bool, false, IsTrue, codes, if◌then◌else◌, Option, None, Some, Result, Ok, Err}
+use Rattle.std.specs.Prelude.{◌≡◌, ℕ, ◌<◌, ◌^◌, ◌⊎◌, List, [], ◌∷◌, ◌++◌, length, replicate, Bool, false, IsTrue, codes}
+use Rattle.std.specs.Prelude.{if◌then◌else◌, Option, None, Some, Result, Ok, Err}
 use Rattle.std.specs.Option.{ok_or}
 use Rattle.std.specs.List.{list_all}
 use Rattle.plan_slots.specs.declared.slots.Slots.{Slots}
@@ -24,7 +25,8 @@ begins_with_word (c ∷ rest) = is_word_character c
 -- a token in front of a text: a `:`, or a word that ends there
 abbrev pub IsTokenBefore : List ℕ → List ℕ → Type 0
 IsTokenBefore rest token =
-    (token ≡ codes ":") ⊎ ((0 < length token) × IsTrue (list_all is_word_character token) × (begins_with_word rest ≡ false))
+    (token ≡ codes ":") ⊎ ((0 < length token) × IsTrue (list_all is_word_character token)
+    × (begins_with_word rest ≡ false))
 
 -- a text is some spaces, its first token, and what follows it
 pub record IsFirstToken (text token rest : List ℕ) : Type 0 where
@@ -45,7 +47,9 @@ pub record AreFirstTokens (text both rest : List ℕ) : Type 0 where
 
 -- the text is a duration of this time, and then this one token
 abbrev pub IsTimed : List ℕ → ℕ → List ℕ → Type 0
-IsTimed text time token = (duration : List (List ℕ)) × (tokens_of text ≡ duration ++ token ∷ []) × SpellsDuration time duration × (time < 2 ^ 62)
+IsTimed text time token =
+    (duration : List (List ℕ)) × (tokens_of text ≡ duration ++ token ∷ []) × SpellsDuration time duration
+    × (time < 2 ^ 62)
 
 -- the refusal of a program for a line's fault
 abbrev pub told_at : ℕ → ℕ → LineFault → ProgramFault

@@ -14,7 +14,9 @@ use Rattle.reactor_program.specs.declared.program.Statement.{Statement}
 use Rattle.reactor_program.specs.declared.program.Statement.TheVariants.{Assign, Output, Schedule}
 use Rattle.reactor_program.specs.declared.program.Line.{Line}
 use Rattle.reactor_program.specs.declared.program.State as StateOf
-use Rattle.reactor_program.specs.Grammar.{WrittenOperand, WrittenNumber, StateNamed, ValueAt, PresenceAt, WrittenExpression, Alone, Combined, WrittenStatement, AssignTo, OutputTo, ScheduleAfter, WrittenLine}
+use Rattle.reactor_program.specs.Grammar.{WrittenOperand, WrittenNumber, StateNamed, ValueAt, PresenceAt}
+use Rattle.reactor_program.specs.Grammar.{WrittenExpression, Alone, Combined, WrittenStatement, AssignTo, OutputTo}
+use Rattle.reactor_program.specs.Grammar.{ScheduleAfter, WrittenLine}
 
 -- the names of all slots, in their order
 abbrev pub slot_names : Slots → List (List ℕ)
@@ -47,12 +49,14 @@ operand_of s states (PresenceAt x) = option_map Presence (operand_slot s x)
 abbrev pub expression_of : Slots → List StateOf.State → WrittenExpression → Option Expression
 expression_of s states (Alone a) = option_map Single (operand_of s states a)
 expression_of s states (Combined a operator b) =
-    option_and_then (λ left. option_map (λ right. Binary left operator right) (operand_of s states b)) (operand_of s states a)
+    option_and_then (λ left. option_map (λ right. Binary left operator right) (operand_of s states b))
+    (operand_of s states a)
 
 -- a written statement by numbers, where its names are there
 abbrev pub statement_of : Slots → List StateOf.State → WrittenStatement → Option Statement
 statement_of s states (AssignTo x expression) =
-    option_and_then (λ k. option_map (λ e. Assign k e) (expression_of s states expression)) (place_of (state_names states) x)
+    option_and_then (λ k. option_map (λ e. Assign k e) (expression_of s states expression))
+    (place_of (state_names states) x)
 statement_of s states (OutputTo p a) =
     option_and_then (λ port. option_map (λ value. Output port value) (operand_of s states a)) (place_of s.outputs p)
 statement_of s states (ScheduleAfter c time a) =
@@ -69,5 +73,6 @@ condition_of s states (Some a) = option_map Some (operand_of s states a)
 abbrev pub line_of : Slots → List StateOf.State → WrittenLine → Option Line
 line_of s states line =
     option_and_then
-    (λ condition. option_map (λ statement. record { condition = condition; statement = statement }) (statement_of s states line.statement))
+    (λ condition. option_map (λ statement. record { condition = condition; statement = statement })
+    (statement_of s states line.statement))
     (condition_of s states line.condition)

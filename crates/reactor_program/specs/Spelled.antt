@@ -11,7 +11,8 @@ use Rattle.reactor_program.specs.declared.program.Reaction.{Reaction}
 use Rattle.reactor_program.specs.declared.program.State as StateOf
 use Rattle.reactor_program.specs.declared.reaction_draft.ReactionDraft.{ReactionDraft}
 use Rattle.reactor_program.specs.declared.program_fault.ProgramFault.{ProgramFault}
-use Rattle.reactor_program.specs.declared.program_fault.ProgramFault.TheVariants.{BadLine, UnknownOperand, Memory, RepeatedState}
+use Rattle.reactor_program.specs.declared.program_fault.ProgramFault.TheVariants.{BadLine, UnknownOperand, Memory}
+use Rattle.reactor_program.specs.declared.program_fault.ProgramFault.TheVariants.{RepeatedState}
 use Rattle.reactor_program.specs.Tokens.{tokens_of}
 use Rattle.plan_names.specs.Spelling.{is_name}
 use Rattle.reactor_program.specs.Grammar.{WrittenLine, SpellsLine}
@@ -24,7 +25,8 @@ IsWritten text written = SpellsLine written (tokens_of text)
 
 -- the text spells this line of a reactor with these slots and states
 abbrev pub SpellsLineOf : Slots → List StateOf.State → Line → List ℕ → Type 0
-SpellsLineOf s states line text = (written : WrittenLine) × IsWritten text written × (line_of s states written ≡ Some line)
+SpellsLineOf s states line text =
+    (written : WrittenLine) × IsWritten text written × (line_of s states written ≡ Some line)
 
 -- a reaction: its triggers by slot, then its lines one by one
 pub record SpellsReaction (s : Slots) (states : List StateOf.State) (r : Reaction) (d : ReactionDraft) : Type 0 where
@@ -32,7 +34,8 @@ pub record SpellsReaction (s : Slots) (states : List StateOf.State) (r : Reactio
   pub body : AllZip (SpellsLineOf s states) r.body d.body
 
 -- a program: these slots and states, no two of one name, and the reactions one by one
-pub record SpellsProgram (s : Slots) (states : List StateOf.State) (drafts : List ReactionDraft) (b : Behaviour) : Type 0 where
+pub record SpellsProgram (s : Slots) (states : List StateOf.State) (drafts : List ReactionDraft)
+    (b : Behaviour) : Type 0 where
   pub slots : b.slots ≡ s
   pub states_are : b.states ≡ states
   pub states_apart : AreDistinct (state_names states)
@@ -49,7 +52,8 @@ HasUnknownName s states text = (written : WrittenLine) × IsWritten text written
 -- a trigger that names no slot is answered at line 0
 abbrev pub IsTriggerFault : Slots → ℕ → List (List ℕ) → ProgramFault → Type 0
 IsTriggerFault s number texts (UnknownOperand reaction line) =
-    (k : ℕ) × (text : List ℕ) × (reaction ≡ number) × (line ≡ 0) × (slice_get texts k ≡ Some text) × (trigger_slot s text ≡ None)
+    (k : ℕ) × (text : List ℕ) × (reaction ≡ number) × (line ≡ 0) × (slice_get texts k ≡ Some text)
+    × (trigger_slot s text ≡ None)
 IsTriggerFault s number texts (BadLine reaction line) = ⊥
 IsTriggerFault s number texts Memory = ⊥
 IsTriggerFault s number texts RepeatedState = ⊥
@@ -59,7 +63,8 @@ abbrev pub IsLineFault : Slots → List StateOf.State → ℕ → List (List ℕ
 IsLineFault s states number texts (BadLine reaction line) =
     (l : ℕ) × (text : List ℕ) × (reaction ≡ number) × (line ≡ l + 1) × (slice_get texts l ≡ Some text) × HasNoForm text
 IsLineFault s states number texts (UnknownOperand reaction line) =
-    (l : ℕ) × (text : List ℕ) × (reaction ≡ number) × (line ≡ l + 1) × (slice_get texts l ≡ Some text) × HasUnknownName s states text
+    (l : ℕ) × (text : List ℕ) × (reaction ≡ number) × (line ≡ l + 1) × (slice_get texts l ≡ Some text)
+    × HasUnknownName s states text
 IsLineFault s states number texts Memory = ⊥
 IsLineFault s states number texts RepeatedState = ⊥
 
@@ -72,7 +77,8 @@ IsReactionFault s states drafts fault =
 -- a refusal is answered where its fault stands; memory may be wanting anywhere
 abbrev pub IsFaultOf : Slots → List StateOf.State → List ReactionDraft → ProgramFault → Type 0
 IsFaultOf s states drafts fault =
-    (fault ≡ Memory) ⊎ (((fault ≡ RepeatedState) × ¬ (AreDistinct (state_names states))) ⊎ IsReactionFault s states drafts fault)
+    (fault ≡ Memory) ⊎ (((fault ≡ RepeatedState) × ¬ (AreDistinct (state_names states)))
+    ⊎ IsReactionFault s states drafts fault)
 
 -- what is asked before a program is read: limits, names, and no two slots of one name
 pub record IsReadable (s : Slots) (states : List StateOf.State) (drafts : List ReactionDraft) : Type 0 where

@@ -10,10 +10,12 @@ ghost use Rattle.reactor_program.specs.Spelled.{SpellsProgram};
 
 /// Of whatever form, a line reads in one way.
 pub fn lines_have_one_reading()
-    ensures { (line other : WrittenLine) (tokens : List (List ℕ)) → SpellsLine line tokens → SpellsLine other tokens → line ≡ other }
+    ensures { (line other : WrittenLine) (tokens : List (List ℕ)) → SpellsLine line tokens → SpellsLine other tokens
+        → line ≡ other }
 {}
 
 /// Slots, states and the texts of reactions are those of one program at most.
 pub fn texts_spell_one_program()
-    ensures { (slots : Slots) (states : List StateOf.State) (drafts : List ReactionDraft) (program other : Behaviour) → SpellsProgram slots states drafts program → SpellsProgram slots states drafts other → program ≡ other }
+    ensures { (slots : Slots) (states : List StateOf.State) (drafts : List ReactionDraft) (program other : Behaviour)
+        → SpellsProgram slots states drafts program → SpellsProgram slots states drafts other → program ≡ other }
 {}

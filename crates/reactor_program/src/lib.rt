@@ -1,8 +1,9 @@
-//! What a reactor runs: its program, read from the texts of triggers and body lines; and what it is given and gives, as entries.
+//! What a reactor runs: its program, read from the texts of triggers and body lines; and what it is given and gives, as
+//! entries.
 //!
-//! Promise to the layer above: `Program::parse` takes exactly the texts that `specs/Spelled` says, and answers where a fault
-//! stands, which is printed as `specs/ProgramFaults` says. Begin with `program`, then `specs/Grammar` and `specs/Resolution`;
-//! `reading` reads lines, `parse` all of a program.
+//! Promise to the layer above: `Program::parse` takes exactly the texts that `specs/Spelled` says, and answers where a
+//! fault stands, which is printed as `specs/ProgramFaults` says. Begin with `program`, then `specs/Grammar` and
+//! `specs/Resolution`; `reading` reads lines, `parse` all of a program.
 #![tactic(auto)]
 
 pub mod entry;

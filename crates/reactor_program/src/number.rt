@@ -38,7 +38,8 @@ fn negated(magnitude: u64) -> Option<i64>
 /// The number that digits spell; None for other texts, and for 2^64 or more.
 #[tactic(auto, using(crate::proofs::Numerals::digits_listed))]
 fn magnitude(digits: &[u8]) -> Option<u64>
-    ensures { SomeIff result (IsTrue (is_numeral digits.now) × (digits_value 10 digits.now < 2 ^ 64)) (digits_value 10 digits.now) }
+    ensures { SomeIff result (IsTrue (is_numeral digits.now) × (digits_value 10 digits.now < 2 ^ 64))
+        (digits_value 10 digits.now) }
 {
     if digits.is_empty() || !are_digits(digits) {
         return None;

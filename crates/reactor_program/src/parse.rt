@@ -5,7 +5,8 @@ ghost use Rattle.plan_names.specs.Naming.{AreDistinct};
 ghost use Rattle.reactor_program.specs.Behaviour.{Behaviour};
 ghost use Rattle.reactor_program.specs.Resolution.{trigger_slot, state_names};
 ghost use Rattle.reactor_program.specs.declared.limits.TheConstants.{MOST_LINES, MOST_REACTIONS};
-ghost use Rattle.reactor_program.specs.Spelled.{SpellsReaction, SpellsProgram, IsTriggerFault, IsLineFault, IsReactionFault, IsFaultOf, IsReadable};
+ghost use Rattle.reactor_program.specs.Spelled.{SpellsReaction, SpellsProgram, IsTriggerFault, IsLineFault};
+ghost use Rattle.reactor_program.specs.Spelled.{IsReactionFault, IsFaultOf, IsReadable};
 ghost use Rattle.reactor_program.specs.declared.program_fault.ProgramFault.TheVariants.{Memory};
 
 use crate::ProgramFault;
@@ -27,7 +28,8 @@ impl Program {
     ) -> Result<Program, ProgramFault>
         requires { IsReadable slots.now states.items reactions.now }
         ensures spelled { IfOk result (SpellsProgram slots.now states.items reactions.now) }
-        ensures accepts { (spelled : Behaviour) → SpellsProgram slots.now states.items reactions.now spelled → IfErr result (λ fault. fault ≡ Memory) }
+        ensures accepts { (spelled : Behaviour) → SpellsProgram slots.now states.items reactions.now spelled
+            → IfErr result (λ fault. fault ≡ Memory) }
         ensures refused { IfErr result (IsFaultOf slots.now states.items reactions.now) }
 
         // Of states of one name it is never answered.
@@ -67,7 +69,8 @@ fn parse_reactions(
     requires limits { IsWithinLimits slots.now }
     requires few { length drafts.now ≤ MOST_REACTIONS }
     requires few_lines { All (λ d. length d.body ≤ MOST_LINES) drafts.now }
-    ensures spelled { IfOk result (λ reactions. AllZip (SpellsReaction slots.now states.now) reactions.items drafts.now) }
+    ensures spelled { IfOk result (λ reactions.
+        AllZip (SpellsReaction slots.now states.now) reactions.items drafts.now) }
     ensures refused { IfErr result (λ fault. (fault ≡ Memory) ⊎ IsReactionFault slots.now states.now drafts.now fault) }
 {
     let mut reactions = Vec::new(alloc);
@@ -88,7 +91,9 @@ fn parse_reaction(
     requires limits { IsWithinLimits slots.now }
     requires few_lines { length draft.now.body ≤ MOST_LINES }
     ensures spelled { IfOk result (λ reaction. SpellsReaction slots.now states.now reaction draft.now) }
-    ensures refused { IfErr result (λ fault. (fault ≡ Memory) ⊎ (IsTriggerFault slots.now number draft.now.triggers fault ⊎ IsLineFault slots.now states.now number draft.now.body fault)) }
+    ensures refused { IfErr result
+        (λ fault. (fault ≡ Memory) ⊎ (IsTriggerFault slots.now number draft.now.triggers fault
+        ⊎ IsLineFault slots.now states.now number draft.now.body fault)) }
 {
     let triggers = parse_triggers(alloc, slots, number, draft.triggers.as_slice())?;
     let body = body(alloc, slots, states, number, draft.body.as_slice())?;
@@ -105,7 +110,8 @@ fn parse_triggers(
     texts: &[Text],
 ) -> Result<Vec<usize>, ProgramFault>
     requires { IsWithinLimits slots.now }
-    ensures spelled { IfOk result (λ triggers. AllZip (λ slot text. trigger_slot slots.now text ≡ Some slot) triggers.items texts.now) }
+    ensures spelled { IfOk result (λ triggers.
+        AllZip (λ slot text. trigger_slot slots.now text ≡ Some slot) triggers.items texts.now) }
     ensures refused { IfErr result (λ fault. (fault ≡ Memory) ⊎ IsTriggerFault slots.now number texts.now fault) }
 {
     let mut triggers = Vec::new(alloc);

@@ -144,7 +144,8 @@ impl Model for Program {
 
     ghost view = { λ p. record { slots = p.slots; states = p.states.items; reactions = p.reactions.items } };
 
-    ghost invariant = { λ p. IsWellFormed (record { slots = p.slots; states = p.states.items; reactions = p.reactions.items }) };
+    ghost invariant = { λ p. IsWellFormed
+        (record { slots = p.slots; states = p.states.items; reactions = p.reactions.items }) };
 }
 
 impl Program {

@@ -3,9 +3,9 @@ ghost use Rattle.std.specs.Prelude.{◌≡◌};
 use std::alloc::{AllocError, AllocFailed};
 use std::fmt;
 
-/// Why reactions are no program. Nothing of it is kept. Reactions and lines count from 1; line 0 is the list of triggers. But
-/// for `Memory`, whoever wrote the program caused it: the caller prints them, with the federate's name (`of`), and may read the
-/// program again once it is changed.
+/// Why reactions are no program. Nothing of it is kept. Reactions and lines count from 1; line 0 is the list of
+/// triggers. But for `Memory`, whoever wrote the program caused it: the caller prints them, with the federate's name
+/// (`of`), and may read the program again once it is changed.
 #[derive(Clone, Copy, Debug)]
 pub enum ProgramFault {
     /// The line is of no form. Write it in one of the forms.

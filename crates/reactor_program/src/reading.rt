@@ -30,7 +30,8 @@ pub(crate) fn body(
     requires limits { IsWithinLimits slots.now }
     requires few { length texts.now ≤ MOST_LINES }
     ensures spelled { IfOk result (λ lines. AllZip (SpellsLineOf slots.now states.now) lines.items texts.now) }
-    ensures refused { IfErr result (λ fault. (fault ≡ Memory) ⊎ IsLineFault slots.now states.now number texts.now fault) }
+    ensures refused { IfErr result
+        (λ fault. (fault ≡ Memory) ⊎ IsLineFault slots.now states.now number texts.now fault) }
 {
     let mut lines = Vec::new(alloc);
     for (place, text) in texts.iter().enumerate() {

@@ -5,7 +5,8 @@ ghost use Rattle.reactor_program.specs.Reading.{IsFirstToken, AreFirstTokens};
 
 /// The first token of a text, and what follows it.
 pub(crate) fn next_token(text: &[u8]) -> Option<(&[u8], &[u8])>
-    ensures tokens { MatchOption result (tokens_of text.now ≡ []) (λ parts. tokens_of text.now ≡ parts.0.now ∷ tokens_of parts.1.now) }
+    ensures tokens { MatchOption result (tokens_of text.now ≡ [])
+        (λ parts. tokens_of text.now ≡ parts.0.now ∷ tokens_of parts.1.now) }
     ensures place { IfSome result (λ parts. IsFirstToken text.now parts.0.now parts.1.now) }
 {
     let (_, text) = text.split_at(spaces_len(text));
@@ -18,7 +19,8 @@ pub(crate) fn next_token(text: &[u8]) -> Option<(&[u8], &[u8])>
 
 /// The token of a text that has one alone.
 pub(crate) fn only_token(text: &[u8]) -> Option<&[u8]>
-    ensures { MatchOption result ((token : List ℕ) → tokens_of text.now ≢ token ∷ []) (λ token. tokens_of text.now ≡ token.now ∷ []) }
+    ensures { MatchOption result ((token : List ℕ) → tokens_of text.now ≢ token ∷ [])
+        (λ token. tokens_of text.now ≡ token.now ∷ []) }
 {
     match next_token(text) {
         Some((token, rest)) => match next_token(rest) {
@@ -31,7 +33,8 @@ pub(crate) fn only_token(text: &[u8]) -> Option<&[u8]>
 
 /// The first two tokens of a text, as they stand there with the spaces between them, and what follows them.
 pub(crate) fn two_tokens(text: &[u8]) -> Option<(&[u8], &[u8])>
-    ensures { MatchOption result ((first second : List ℕ) (rest : List (List ℕ)) → tokens_of text.now ≢ first ∷ second ∷ rest) (λ parts. AreFirstTokens text.now parts.0.now parts.1.now) }
+    ensures { MatchOption result ((first second : List ℕ) (rest : List (List ℕ))
+        → tokens_of text.now ≢ first ∷ second ∷ rest) (λ parts. AreFirstTokens text.now parts.0.now parts.1.now) }
 {
     let (_, text) = text.split_at(spaces_len(text));
     let (_, rest) = next_token(text)?;

@@ -39,10 +39,10 @@ pub after_world : (w : WorldView) (steps : List Step) → after_all world_motion
 after_world w [] = ap (λ (s : List Step). record w { steps = s }) (sym (append-nil w.steps))
 after_world w (step ∷ steps) = after_world (with_step w step) steps ∙ ap (λ (s : List Step). record w { steps = s }) (append_assoc w.steps (step ∷ []) steps)
 
-replays_both : {View Row : Type 0} (core : Core View Row) (hub : Bool) (s : Station View) (xs ys : List Event) →
-    replayed.after_all core hub s (xs ++ ys) ≡ replayed.after_all core hub (replayed.after_all core hub s xs) ys
-replays_both core hub s [] ys = refl
-replays_both core hub s (x ∷ xs) ys = replays_both core hub (step_of core hub s x).station xs ys
+replays_both : {View Row : Type 0} (core : Core View Row) (is_coordinator : Bool) (s : Station View) (xs ys : List Event) →
+    replayed.after_all core is_coordinator s (xs ++ ys) ≡ replayed.after_all core is_coordinator (replayed.after_all core is_coordinator s xs) ys
+replays_both core is_coordinator s [] ys = refl
+replays_both core is_coordinator s (x ∷ xs) ys = replays_both core is_coordinator (step_of core is_coordinator s x).station xs ys
 
 happens_at : (w : Federation) (o : Option Occurrence) → (happens coordinator_core federate_core w o).world.coordinator ≡ replayed.after_all coordinator_core true w.coordinator (event_at Coordinator o)
 happens_at w None = refl

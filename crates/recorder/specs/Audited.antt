@@ -19,7 +19,8 @@ use Rattle.world.specs.World.{WorldView, stations_of}
 use Rattle.recorder.specs.declared.audited_run.AuditedRun.{AuditedRun}
 use Rattle.recorder_reports.specs.declared.report.Report.{Report}
 use Rattle.recorder_reports.specs.declared.unproved.Unproved.{Unproved}
-use Rattle.recorder_reports.specs.declared.unproved.Unproved.TheVariants.{Stranger, Double, Missing, Stuck, Mismatch, Memory}
+use Rattle.recorder_reports.specs.declared.unproved.Unproved.TheVariants.{Stranger, Double, Missing, Stuck, Mismatch}
+use Rattle.recorder_reports.specs.declared.unproved.Unproved.TheVariants.{Memory}
 use Rattle.recorder_reports.specs.Reports.{reported_rows, all_journals, AreComplete, IsIncomplete}
 use Rattle.recorder.specs.Placing.{world_motion}
 use Rattle.recorder_reports.specs.Difference.{DifferAt}
@@ -43,11 +44,14 @@ claim_of w reports coordinator =
 
 -- a search for the journals of a claim ended so, in this world
 abbrev pub HasSearched : Claim → WorldView → Found → Type 0
-HasSearched c w found = IsFound world_motion (world_of c []) (all_journals (federate_count c.draft) c.reports c.coordinator) w found
+HasSearched c w found =
+    IsFound world_motion (world_of c []) (all_journals (federate_count c.draft) c.reports c.coordinator) w found
 
--- each node's events are its journal, where these steps are made one after the other from the initial world, and nobody forgets
+-- each node's events are its journal, where these steps are made one after the other from the initial world, and nobody
+-- forgets
 abbrev pub AgreesWith : Claim → List Step → Type 0
-AgreesWith c steps = Agrees world_motion (world_of c []) steps (all_journals (federate_count c.draft) c.reports c.coordinator)
+AgreesWith c steps =
+    Agrees world_motion (world_of c []) steps (all_journals (federate_count c.draft) c.reports c.coordinator)
 
 -- the rows that federate j has in a world are those that it reports
 abbrev pub HasReportedRows : WorldView → List Report → ℕ → Type 0
@@ -62,7 +66,8 @@ pub record IsFirstApart (w : WorldView) (reports : List Report) (j row : ℕ) : 
 -- the coordinator's journal, replayed from its initial state, gives a coordinator that says that all is finished
 abbrev pub IsFinishedBy : Claim → Type 0
 IsFinishedBy c =
-    coordinator_core.finished (replayed.after_all coordinator_core true (initial_world c.draft c.programs c.inputs).coordinator c.coordinator).node ≡ true
+    coordinator_core.finished (replayed.after_all coordinator_core true
+    (initial_world c.draft c.programs c.inputs).coordinator c.coordinator).node ≡ true
 
 -- the reports are proved by these steps:
 pub record IsProvedBy (c : Claim) (steps : List Step) : Type 0 where
@@ -74,7 +79,8 @@ pub record IsProvedBy (c : Claim) (steps : List Step) : Type 0 where
   pub rows : (j : ℕ) → j < federate_count c.draft → HasReportedRows (world_of c steps) c.reports j
   -- they are a prefix of its part of what the undivided program computes
   pub prefix : (j : ℕ) → j < federate_count c.draft →
-      (turns : ℕ) × BeginsWith (part j (whole (network_of c.draft c.programs c.inputs) turns)) (reported_rows c.reports j)
+      (turns : ℕ) × BeginsWith (part j (whole (network_of c.draft c.programs c.inputs) turns))
+      (reported_rows c.reports j)
   -- and where the coordinator's journal gives a finished one, none of them is missing
   pub whole_run : IsFinishedBy c → (j : ℕ) → j < federate_count c.draft →
       HasEveryRow (network_of c.draft c.programs c.inputs) j (reported_rows c.reports j)
@@ -96,6 +102,8 @@ IsUnproved c Double = IsIncomplete (federate_count c.draft) c.reports Double
 IsUnproved c (Missing j) = IsIncomplete (federate_count c.draft) c.reports (Missing j)
 IsUnproved c (Stuck node event) =
     AreComplete (federate_count c.draft) c.reports
-    × ((steps : List Step) × IsStuck world_motion (world_of c []) steps (all_journals (federate_count c.draft) c.reports c.coordinator) node event)
-IsUnproved c (Mismatch j row) = AreComplete (federate_count c.draft) c.reports × ((steps : List Step) × IsMismatch c steps j row)
+    × ((steps : List Step) × IsStuck world_motion (world_of c []) steps
+    (all_journals (federate_count c.draft) c.reports c.coordinator) node event)
+IsUnproved c (Mismatch j row) =
+    AreComplete (federate_count c.draft) c.reports × ((steps : List Step) × IsMismatch c steps j row)
 IsUnproved c Memory = AreComplete (federate_count c.draft) c.reports

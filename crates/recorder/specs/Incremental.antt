@@ -15,7 +15,8 @@ pub record IsAhead (initial made : WorldView) (read : List ℕ) (known : List (L
   pub reading : IsReading world_motion initial known (record { state = made; read = read })
 
 -- the same of a begun audit of that federation; where steps were lost, nothing is said of its world
-pub record IsIncremental (initial made : WorldView) (read : List ℕ) (known : List (List Event)) (is_given_up : Bool) : Type 0 where
+pub record IsIncremental (initial made : WorldView) (read : List ℕ) (known : List (List Event))
+    (is_given_up : Bool) : Type 0 where
   pub programs : AreProgramsOf initial.draft initial.programs
   pub inputs : AreInputsOf initial.draft initial.inputs
   pub ahead : is_given_up ≡ false → IsAhead initial made read known

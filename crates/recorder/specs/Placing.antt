@@ -1,4 +1,5 @@
--- The machine of an audit: a federation's world, by what it was made from and its steps. And which step an event at a node can be.
+-- The machine of an audit: a federation's world, by what it was made from and its steps. And which step an event at a
+-- node can be.
 use Rattle.std.specs.Prelude.{ℕ, zero, suc, nat_lt, if◌then◌else◌, List, [], Option, None, Some}
 use Rattle.plan.specs.declared.draft.Draft.{Draft}
 use Rattle.plan.specs.declared.input.Input.{Input}
@@ -38,7 +39,7 @@ abbrev pub to_peer : ℕ → Option Step → Option Step
 to_peer zero step = step
 to_peer (suc peer) step = None
 
--- among so many federates, the one step that is this event at this node, where no frame comes
+-- among this many federates, the one step that is this event at this node, where no frame comes
 abbrev pub step_alone : ℕ → NodeId → Event → Option Step
 step_alone count node (event.Frame peer frame) = None
 step_alone count Coordinator (event.Resend peer) = step_if count peer (Resend (Down peer))

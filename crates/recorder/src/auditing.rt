@@ -5,17 +5,17 @@ ghost use Rattle.recorder.specs.Audited.{IsProvedBy, HasEnded, IsUnproved};
 
 use crate::audited_run::AuditedRun;
 use crate::incremental::IncrementalAudit;
-use journal::Journal;
+use node_journal::Journal;
 use plan::{Inputs, Plan};
 use reactor_programs::Programs;
 use recorder_reports::{Report, Unproved, refuse_incomplete};
 use std::alloc::Global;
 use world_stations::Step;
 
-/// Makes a world anew from what each node wrote down, and compares its rows with those of the reports. An Ok is the list of its
-/// steps: nobody forgets in it, each node's events are its journal, and each federate's rows are those that it reports. So they
-/// are a prefix of its part of what the undivided program computes, and all of it where the coordinator's journal gives a
-/// finished one. In a run of honest nodes it takes time in proportion to the journals.
+/// Makes a world anew from what each node wrote down, and compares its rows with those of the reports. An Ok is the
+/// list of its steps: nobody forgets in it, each node's events are its journal, and each federate's rows are those that
+/// it reports. So they are a prefix of its part of what the undivided program computes, and all of it where the
+/// coordinator's journal gives a finished one. In a run of honest nodes it takes time in proportion to the journals.
 pub fn audit(
     alloc: Global,
     plan: &Plan,
@@ -26,8 +26,22 @@ pub fn audit(
 ) -> Result<Vec<Step>, Unproved>
     requires programs { AreProgramsOf plan.now programs.now }
     requires inputs { AreInputsOf plan.now inputs.now }
-    ensures proved { IfOk result (λ steps. IsProvedBy (record { draft = plan.now; programs = programs.now; inputs = inputs.now; reports = reports.now; coordinator = coordinator.now }) steps.items) }
-    ensures unproved { IfErr result (IsUnproved (record { draft = plan.now; programs = programs.now; inputs = inputs.now; reports = reports.now; coordinator = coordinator.now })) }
+    ensures proved { IfOk result (λ steps.
+        IsProvedBy (record {
+          draft = plan.now;
+          programs = programs.now;
+          inputs = inputs.now;
+          reports = reports.now;
+          coordinator = coordinator.now;
+        }) steps.items) }
+    ensures unproved { IfErr result
+        (IsUnproved (record {
+          draft = plan.now;
+          programs = programs.now;
+          inputs = inputs.now;
+          reports = reports.now;
+          coordinator = coordinator.now;
+        })) }
 {
     match audit_run(alloc, plan, programs, inputs, reports, coordinator) {
         Ok(audited) => match audited.steps.after(0) {
@@ -49,8 +63,22 @@ pub fn audit_run(
 ) -> Result<AuditedRun, Unproved>
     requires programs { AreProgramsOf plan.now programs.now }
     requires inputs { AreInputsOf plan.now inputs.now }
-    ensures ended { IfOk result (HasEnded (record { draft = plan.now; programs = programs.now; inputs = inputs.now; reports = reports.now; coordinator = coordinator.now })) }
-    ensures unproved { IfErr result (IsUnproved (record { draft = plan.now; programs = programs.now; inputs = inputs.now; reports = reports.now; coordinator = coordinator.now })) }
+    ensures ended { IfOk result (HasEnded
+        (record {
+          draft = plan.now;
+          programs = programs.now;
+          inputs = inputs.now;
+          reports = reports.now;
+          coordinator = coordinator.now;
+        })) }
+    ensures unproved { IfErr result
+        (IsUnproved (record {
+          draft = plan.now;
+          programs = programs.now;
+          inputs = inputs.now;
+          reports = reports.now;
+          coordinator = coordinator.now;
+        })) }
 {
     if let Err(fault) = refuse_incomplete(plan.federate_count(), reports) {
         return Err(fault);

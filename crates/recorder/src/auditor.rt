@@ -1,4 +1,5 @@
-ghost use Rattle.std.specs.Prelude.{◌≡◌, ◌≢◌, ◌↔◌, ℕ, ◌<◌, ◌≤◌, true, None, Some, length, nat_lt, IfOk, IfSome, OnOk, OnErr};
+ghost use Rattle.std.specs.Prelude.{◌≡◌, ◌≢◌, ◌↔◌, ℕ, ◌<◌, ◌≤◌, true, None, Some, length, nat_lt, IfOk, IfSome, OnOk};
+ghost use Rattle.std.specs.Prelude.{OnErr};
 ghost use Rattle.std.proofs.Common.{refl};
 ghost use Rattle.node.specs.declared.event.Event.TheVariants as Events;
 ghost use Rattle.plan.specs.External.{AreInputsOf};
@@ -19,7 +20,8 @@ use std::marker::Model;
 use world::World;
 use world_stations::{Dir, Step};
 
-/// The world of a federation, as the machine that a search for its nodes' journals moves, step by step. Contracts see that world.
+/// The world of a federation, as the machine that a search for its nodes' journals moves, step by step. Contracts see
+/// that world.
 #[derive(Drop)]
 pub struct Auditor<'a> {
     world: World<'a>,
@@ -155,8 +157,8 @@ fn delivery_of(
     Some(Step::Deliver(dir, k))
 }
 
-// A place at which this frame stands in a direction: ahead, where it wasn't looked for in vain before; or, where it looks exactly,
-// anywhere.
+// A place at which this frame stands in a direction: ahead, where it wasn't looked for in vain before; or, where it
+// looks exactly, anywhere.
 fn place_of(
     world: &World<'_>,
     cursors: &Cursors,
@@ -165,7 +167,8 @@ fn place_of(
     exact: bool,
 ) -> Option<usize>
     ensures found { IfSome result (λ k. frame_at (frames_in (stations_of world.now) dir) k ≡ Some frame.now) }
-    ensures none { result ≡ None → exact ≡ true → (k : ℕ) → frame_at (frames_in (stations_of world.now) dir) k ≢ Some frame.now }
+    ensures none { result ≡ None → exact ≡ true → (k : ℕ)
+        → frame_at (frames_in (stations_of world.now) dir) k ≢ Some frame.now }
 {
     let end = world.sent(dir).saturating_add(1);
     if let Some(k) = place_among(world, dir, frame, cursors.unseen(dir, frame), end) {
@@ -243,7 +246,8 @@ fn place_anywhere(world: &World<'_>, dir: Dir, frame: &Frame) -> Option<usize>
 // The first of these places at which the frame stands.
 fn place_among(world: &World<'_>, dir: Dir, frame: &Frame, from: usize, to: usize) -> Option<usize>
     ensures found { IfSome result (λ k. frame_at (frames_in (stations_of world.now) dir) k ≡ Some frame.now) }
-    ensures none { result ≡ None → (k : ℕ) → from ≤ k → k < to → frame_at (frames_in (stations_of world.now) dir) k ≢ Some frame.now }
+    ensures none { result ≡ None → (k : ℕ) → from ≤ k → k < to
+        → frame_at (frames_in (stations_of world.now) dir) k ≢ Some frame.now }
 {
     for k in from..to {
         if is_at(world, dir, k, frame) {

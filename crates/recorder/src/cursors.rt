@@ -2,8 +2,9 @@ use signal::Frame;
 use std::alloc::{AllocError, Global};
 use world_stations::Dir;
 
-/// Where the next frame is looked for, direction by direction, and where it was looked for in vain. A writer writes Acks after all
-/// else, and leaves some out; so they are looked for by themselves. No answer rests on it, where the search is exact.
+/// Where the next frame is looked for, direction by direction, and where it was looked for in vain. A writer writes
+/// Acks after all else, and leaves some out; so they are looked for by themselves. No answer rests on it, where the
+/// search is exact.
 #[derive(Drop)]
 pub(crate) struct Cursors {
     up: Vec<Pair>,
@@ -27,7 +28,7 @@ struct Cursor {
 }
 
 impl Cursors {
-    /// Each at the first frame, for so many federates.
+    /// Each at the first frame, for this many federates.
     pub(crate) fn new(alloc: Global, count: usize) -> Result<Cursors, AllocError> {
         let first = Pair {
             acks: Cursor::after(0),
@@ -49,7 +50,7 @@ impl Cursors {
         self.set(dir, frame, Cursor::after(k.max(next.saturating_sub(1))));
     }
 
-    /// This frame, which comes next, isn't among so many that were sent.
+    /// This frame, which comes next, isn't among this many that were sent.
     pub(crate) fn miss(&mut self, dir: Dir, frame: &Frame, sent: usize) {
         let next = self.at(dir, frame).next;
         let unseen = sent.saturating_add(1).max(next);

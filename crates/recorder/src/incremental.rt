@@ -15,8 +15,8 @@ use crate::Auditor;
 use crate::audited_run::AuditedRun;
 use crate::judging::judge;
 use crate::known::{add_to, are_prefixes, none_known, references_to};
-use journal::Journal;
 use node::NodeId;
+use node_journal::Journal;
 use plan::{Inputs, Plan};
 use reactor_programs::Programs;
 use recorder_reports::{Report, Unproved, all_journals, refuse_incomplete};
@@ -25,8 +25,8 @@ use recorder_search::{Found, Reading};
 use std::alloc::{AllocError, Global};
 use std::marker::Model;
 
-/// An audit that is begun while the nodes of a federation still write their journals. Contracts see the world of the federation
-/// that it is about, before the first step.
+/// An audit that is begun while the nodes of a federation still write their journals. Contracts see the world of the
+/// federation that it is about, before the first step.
 #[derive(Drop)]
 pub struct IncrementalAudit<'a> {
     plan: &'a Plan,
@@ -49,7 +49,8 @@ impl<'a> Model for IncrementalAudit<'a> {
 
     ghost view = { λ a. initial_of a.plan.now a.programs.now a.inputs.now };
 
-    ghost invariant = { λ a. IsIncremental (initial_of a.plan.now a.programs.now a.inputs.now) a.auditor a.reading a.known.items a.is_given_up };
+    ghost invariant = { λ a. IsIncremental (initial_of a.plan.now a.programs.now a.inputs.now) a.auditor a.reading
+        a.known.items a.is_given_up };
 }
 
 impl<'a> IncrementalAudit<'a> {
@@ -96,7 +97,8 @@ impl<'a> IncrementalAudit<'a> {
         }
     }
 
-    /// A node's journal goes on with these events. Without memory they aren't known, and nothing is lost: they may come again.
+    /// A node's journal goes on with these events. Without memory they aren't known, and nothing is lost: they may come
+    /// again.
     pub fn add(&mut self, node: NodeId, events: &Journal) -> Result<(), AllocError>
         ensures { self.new ≡ self.old }
     {
@@ -105,7 +107,8 @@ impl<'a> IncrementalAudit<'a> {
         add_to(&mut self.known, place_of(node), events)
     }
 
-    /// Makes steps for what is known, as far as guesses go. Without memory those steps are lost, and are made again at the end.
+    /// Makes steps for what is known, as far as guesses go. Without memory those steps are lost, and are made again at
+    /// the end.
     pub fn go_on(&mut self, alloc: Global)
         ensures { self.new ≡ self.old }
     {
@@ -124,8 +127,8 @@ impl<'a> IncrementalAudit<'a> {
         }
     }
 
-    /// Now that all journals are there: what `audit_run` says of them. Only what wasn't read yet is read, unless what is known isn't
-    /// a prefix of them, or steps were lost.
+    /// Now that all journals are there: what `audit_run` says of them. Only what wasn't read yet is read, unless what
+    /// is known isn't a prefix of them, or steps were lost.
     pub fn conclude(
         self,
         alloc: Global,
@@ -181,7 +184,8 @@ impl<'a> IncrementalAudit<'a> {
         reports: &[Report],
         coordinator: &Journal,
     ) -> Result<(Auditor<'a>, Found), Unproved>
-        ensures searched { IfOk result (λ ended. HasSearched (claim_of self.entry reports.now coordinator.now) ended.0 ended.1) }
+        ensures searched { IfOk result
+            (λ ended. HasSearched (claim_of self.entry reports.now coordinator.now) ended.0 ended.1) }
         ensures memory { IfErr result (λ fault. fault ≡ Faults.Memory) }
     {
         let empty = Journal::new(alloc);
@@ -202,7 +206,8 @@ impl<'a> IncrementalAudit<'a> {
         journals: &[&Journal],
     ) -> Result<(Auditor<'a>, Found), Unproved>
         requires sized { length journals.now ≡ federate_count self.draft + 1 }
-        ensures searched { IfOk result (λ ended. IsFound world_motion self.entry (map (λ j. j.now) journals.now) ended.0 ended.1) }
+        ensures searched { IfOk result
+            (λ ended. IsFound world_motion self.entry (map (λ j. j.now) journals.now) ended.0 ended.1) }
         ensures memory { IfErr result (λ fault. fault ≡ Faults.Memory) }
     {
         if self.is_given_up || !are_prefixes(&self.known, journals) {
@@ -219,7 +224,8 @@ impl<'a> IncrementalAudit<'a> {
         alloc: Global,
         journals: &[&Journal],
     ) -> Result<(Auditor<'a>, Found), Unproved>
-        ensures searched { IfOk result (λ ended. IsFound world_motion self.entry (map (λ j. j.now) journals.now) ended.0 ended.1) }
+        ensures searched { IfOk result
+            (λ ended. IsFound world_motion self.entry (map (λ j. j.now) journals.now) ended.0 ended.1) }
         ensures memory { IfErr result (λ fault. fault ≡ Faults.Memory) }
     {
         let (plan, programs, inputs) = (self.plan, self.programs, self.inputs);
@@ -238,7 +244,9 @@ fn search_from_initial<'a>(
 ) -> Result<(Auditor<'a>, Found), Unproved>
     requires programs { AreProgramsOf plan.now programs.now }
     requires inputs { AreInputsOf plan.now inputs.now }
-    ensures searched { IfOk result (λ ended. IsFound world_motion (initial_of plan.now programs.now inputs.now) (map (λ j. j.now) journals.now) ended.0 ended.1) }
+    ensures searched { IfOk result
+        (λ ended. IsFound world_motion (initial_of plan.now programs.now inputs.now) (map (λ j. j.now) journals.now)
+        ended.0 ended.1) }
     ensures memory { IfErr result (λ fault. fault ≡ Faults.Memory) }
 {
     // For the prover: before the first step nothing is read.
@@ -255,7 +263,10 @@ fn read_to_end<'a>(
     journals: &[&Journal],
 ) -> Result<(Auditor<'a>, Found), Unproved>
     requires sized { length reading ≡ length journals.now }
-    ensures found { IfOk result (λ ended. (initial : WorldView) → IsReading world_motion initial (map (λ j. j.now) journals.now) (record { state = auditor.entry; read = reading }) → IsFound world_motion initial (map (λ j. j.now) journals.now) ended.0 ended.1) }
+    ensures found { IfOk result (λ ended. (initial : WorldView)
+        → IsReading world_motion initial (map (λ j. j.now) journals.now)
+        (record { state = auditor.entry; read = reading })
+        → IsFound world_motion initial (map (λ j. j.now) journals.now) ended.0 ended.1) }
     ensures memory { IfErr result (λ fault. fault ≡ Faults.Memory) }
 {
     let found = reading.finish(&mut auditor, journals)?;

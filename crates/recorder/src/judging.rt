@@ -18,16 +18,23 @@ use recorder_reports::{Report, Unproved, first_difference, report_of};
 use recorder_search::Found;
 use world::World;
 
-// What is to be said of complete reports, in the world in which a search for their journals ended, whatever the coordinator's is.
+// What is to be said of complete reports, in the world in which a search for their journals ended, whatever the
+// coordinator's is.
 pub(crate) fn judge(
     world: World<'_>,
     reports: &[Report],
     found: Found,
 ) -> Result<AuditedRun, Unproved>
-    requires federation { IsLegal world.draft × AreProgramsOf world.draft world.programs × AreInputsOf world.draft world.inputs }
+    requires federation { IsLegal world.draft × AreProgramsOf world.draft world.programs
+        × AreInputsOf world.draft world.inputs }
     requires complete { AreComplete (federate_count world.draft) reports.now }
-    ensures ended { IfOk result (λ audited. (coordinator : List Event) → HasSearched (claim_of world.entry reports.now coordinator) world.entry found → HasEnded (claim_of world.entry reports.now coordinator) audited) }
-    ensures unproved { IfErr result (λ fault. (coordinator : List Event) → HasSearched (claim_of world.entry reports.now coordinator) world.entry found → IsUnproved (claim_of world.entry reports.now coordinator) fault) }
+    ensures ended { IfOk result (λ audited. (coordinator : List Event)
+        → HasSearched (claim_of world.entry reports.now coordinator) world.entry found
+        → HasEnded (claim_of world.entry reports.now coordinator) audited) }
+    ensures unproved { IfErr result
+        (λ fault. (coordinator : List Event)
+        → HasSearched (claim_of world.entry reports.now coordinator) world.entry found
+        → IsUnproved (claim_of world.entry reports.now coordinator) fault) }
 {
     match fault_of(&world, reports, found) {
         Some(fault) => Err(fault),
@@ -37,9 +44,13 @@ pub(crate) fn judge(
 
 // Why the reports aren't believed, after a search that ended so in this world.
 fn fault_of(world: &World<'_>, reports: &[Report], found: Found) -> Option<Unproved>
-    requires federation { IsLegal world.now.draft × AreProgramsOf world.now.draft world.now.programs × AreInputsOf world.now.draft world.now.inputs }
+    requires federation { IsLegal world.now.draft × AreProgramsOf world.now.draft world.now.programs
+        × AreInputsOf world.now.draft world.now.inputs }
     requires complete { AreComplete (federate_count world.now.draft) reports.now }
-    ensures { MatchOption result ((found ≡ Ends.All) × ((j : ℕ) → j < federate_count world.now.draft → HasReportedRows world.now reports.now j)) (λ fault. (coordinator : List Event) → HasSearched (claim_of world.now reports.now coordinator) world.now found → IsUnproved (claim_of world.now reports.now coordinator) fault) }
+    ensures { MatchOption result ((found ≡ Ends.All)
+        × ((j : ℕ) → j < federate_count world.now.draft → HasReportedRows world.now reports.now j))
+        (λ fault. (coordinator : List Event) → HasSearched (claim_of world.now reports.now coordinator) world.now found
+        → IsUnproved (claim_of world.now reports.now coordinator) fault) }
 {
     match found {
         Found::Stuck(node, event) => Some(Unproved::Stuck(node, event)),
@@ -62,11 +73,13 @@ fn run_of(world: World<'_>) -> AuditedRun
     }
 }
 
-// The first federate whose rows aren't those that it reports, and the first place, counted from 1, at which they differ.
+// The first federate whose rows aren't those that it reports, and the first place, counted from 1, at which they
+// differ.
 fn first_apart(world: &World<'_>, reports: &[Report]) -> Option<(usize, usize)>
     requires sized { length (stations_of world.now).federates ≡ federate_count world.now.draft }
     requires reported { (j : ℕ) → j < federate_count world.now.draft → 1 ≤ how_many reports.now j }
-    ensures { MatchOption result ((j : ℕ) → j < federate_count world.now.draft → HasReportedRows world.now reports.now j) (λ found. IsFirstApart world.now reports.now found.0 found.1) }
+    ensures { MatchOption result ((j : ℕ) → j < federate_count world.now.draft
+        → HasReportedRows world.now reports.now j) (λ found. IsFirstApart world.now reports.now found.0 found.1) }
 {
     for federate in 0..world.federate_count() {
         if let Some(row) = difference_at(world, reports, federate) {
@@ -80,7 +93,8 @@ fn first_apart(world: &World<'_>, reports: &[Report]) -> Option<(usize, usize)>
 fn difference_at(world: &World<'_>, reports: &[Report], federate: usize) -> Option<usize>
     requires there { federate < length (stations_of world.now).federates }
     requires reported { 1 ≤ how_many reports.now federate }
-    ensures { MatchOption result (HasReportedRows world.now reports.now federate) (DifferAt (reported_rows reports.now federate) (rows_in (stations_of world.now) federate)) }
+    ensures { MatchOption result (HasReportedRows world.now reports.now federate)
+        (DifferAt (reported_rows reports.now federate) (rows_in (stations_of world.now) federate)) }
 {
     let Some(report) = report_of(reports, federate) else {
         return None;

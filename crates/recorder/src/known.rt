@@ -3,10 +3,10 @@ ghost use Rattle.std.specs.Prelude.{◌≡◌, ◌↔◌, ◌++◌, [], map, set
 ghost use Rattle.recorder_search.specs.Reading.{GrewTo};
 ghost use Rattle.network_laws.specs.Settled.{BeginsWith};
 
-use journal::Journal;
+use node_journal::Journal;
 use std::alloc::{AllocError, Global};
 
-// Of so many journals nothing.
+// Of this many journals nothing.
 pub(crate) fn none_known(alloc: Global, count: usize) -> Result<Vec<Journal>, AllocError> {
     let mut known = Vec::new(alloc);
     for _ in 0..count {
@@ -21,7 +21,8 @@ pub(crate) fn add_to(
     place: usize,
     events: &Journal,
 ) -> Result<(), AllocError>
-    ensures added { OnOk result (known.new.items ≡ set known.old.items place (get_or known.old.items place [] ++ events.now)) }
+    ensures added { OnOk result (known.new.items
+        ≡ set known.old.items place (get_or known.old.items place [] ++ events.now)) }
     ensures unchanged { OnErr result (known.new.items ≡ known.old.items) }
 {
     match known.get_mut(place) {

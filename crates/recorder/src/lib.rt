@@ -1,7 +1,7 @@
 //! The audit that believes what federates report after a run.
 //!
-//! Promise to the layer above: an Ok of `audit` is a list of steps of the federation's world, in which nobody forgets, each node's
-//! events are its journal, and each federate's rows are those that it reports (`specs/Audited`).
+//! Promise to the layer above: an Ok of `audit` is a list of steps of the federation's world, in which nobody forgets,
+//! each node's events are its journal, and each federate's rows are those that it reports (`specs/Audited`).
 //!
 //!     reports --> audit --> recorder_reports     one of each federate?
 //!                   |
@@ -12,9 +12,9 @@
 //!     journals as they grow --> IncrementalAudit::add, go_on      steps are made ahead, while nodes still write
 //!     reports --> IncrementalAudit::conclude                      the same as `audit_run`, where only what is left is read
 //!
-//! An `Auditor` is the `Machine` of that search: a step that it makes for an event is that event, and with None, where it looks
-//! exactly, no step is (`specs/Placing`); `cursors` says where a frame is looked for first, and no answer rests on it. Begin with
-//! `auditing`, then `incremental`.
+//! An `Auditor` is the `Machine` of that search: a step that it makes for an event is that event, and with None, where
+//! it looks exactly, no step is (`specs/Placing`); `cursors` says where a frame is looked for first, and no answer
+//! rests on it. Begin with `auditing`, then `incremental`.
 #![tactic(auto)]
 
 pub mod audited_run;

@@ -2,7 +2,8 @@
 use Rattle.std.specs.Prelude.{◌≡◌, ◌≢◌, ℕ, ◌+◌, ◌<◌, List, slice_get}
 use Rattle.network.specs.Undivided.{Row}
 
--- the first place, counted from 1, at which they differ. Where one is a prefix of the other, it is the place after the shorter one
+-- the first place, counted from 1, at which they differ. Where one is a prefix of the other, it is the place after the
+-- shorter one
 pub record DifferAt (rows others : List Row) (place : ℕ) : Type 0 where
   pub before : ℕ
   pub counted : place ≡ before + 1

@@ -5,7 +5,8 @@ use Rattle.recorder_search.specs.Fault.{memory_number}
 use Rattle.recorder_reports.specs.declared.report_fault.ReportFault.{ReportFault}
 use Rattle.recorder_reports.specs.declared.report_fault.ReportFault.TheVariants as fault
 use Rattle.recorder_reports.specs.declared.unproved.Unproved.{Unproved}
-use Rattle.recorder_reports.specs.declared.unproved.Unproved.TheVariants.{Stranger, Double, Missing, Stuck, Mismatch, Memory}
+use Rattle.recorder_reports.specs.declared.unproved.Unproved.TheVariants.{Stranger, Double, Missing, Stuck, Mismatch}
+use Rattle.recorder_reports.specs.declared.unproved.Unproved.TheVariants.{Memory}
 
 -- the number by which a failure of an audit is printed
 abbrev pub number_of : Unproved → ℕ

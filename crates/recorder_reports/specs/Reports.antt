@@ -7,21 +7,22 @@ use Rattle.recorder_reports.specs.declared.report.Report.{Report}
 use Rattle.recorder_reports.specs.declared.report_fault.ReportFault.{ReportFault}
 use Rattle.recorder_reports.specs.declared.report_fault.ReportFault.TheVariants as fault
 use Rattle.recorder_reports.specs.declared.unproved.Unproved.{Unproved}
-use Rattle.recorder_reports.specs.declared.unproved.Unproved.TheVariants.{Stranger, Double, Missing, Stuck, Mismatch, Memory}
+use Rattle.recorder_reports.specs.declared.unproved.Unproved.TheVariants.{Stranger, Double, Missing, Stuck, Mismatch}
+use Rattle.recorder_reports.specs.declared.unproved.Unproved.TheVariants.{Memory}
 
 -- how many reports of federate j there are
 abbrev pub how_many : List Report → ℕ → ℕ
 how_many reports j = count_by (λ report. nat_eq report.federate j) reports
 
--- each report is of one of so many federates
+-- each report is of one of this many federates
 abbrev pub AreKnown : (count : ℕ) → List Report → Type 0
 AreKnown count reports = All (λ report. report.federate < count) reports
 
--- none of so many federates has two
+-- none of this many federates has two
 abbrev pub AreSingle : (count : ℕ) → List Report → Type 0
 AreSingle count reports = (j : ℕ) → j < count → how_many reports j ≤ 1
 
--- each of so many federates has one report, and nobody else has any
+-- each of this many federates has one report, and nobody else has any
 pub record AreComplete (count : ℕ) (reports : List Report) : Type 0 where
   pub known : AreKnown count reports
   pub each : (j : ℕ) → j < count → how_many reports j ≡ 1
@@ -40,7 +41,8 @@ pub record IsFirstMissing (count : ℕ) (reports : List Report) (j : ℕ) : Type
 abbrev pub IsIncomplete : (count : ℕ) → List Report → Unproved → Type 0
 IsIncomplete count reports Stranger = ¬ AreKnown count reports
 IsIncomplete count reports Double = AreKnown count reports × HasDouble count reports
-IsIncomplete count reports (Missing j) = AreKnown count reports × AreSingle count reports × IsFirstMissing count reports j
+IsIncomplete count reports (Missing j) =
+    AreKnown count reports × AreSingle count reports × IsFirstMissing count reports j
 IsIncomplete count reports (Stuck node event) = ⊥
 IsIncomplete count reports (Mismatch j row) = ⊥
 IsIncomplete count reports Memory = ⊥
@@ -63,9 +65,10 @@ journal_of (Some report) = report.journal
 abbrev pub reported_rows : List Report → ℕ → List Row
 reported_rows reports j = rows_of (report_of reports j)
 
--- all journals: the coordinator's, then those of so many federates by number
+-- all journals: the coordinator's, then those of this many federates by number
 abbrev pub all_journals : (count : ℕ) → List Report → (coordinator : List Event) → List (List Event)
-all_journals count reports coordinator = coordinator ∷ map (λ j. journal_of (report_of reports j)) (range_with_len 0 count)
+all_journals count reports coordinator =
+    coordinator ∷ map (λ j. journal_of (report_of reports j)) (range_with_len 0 count)
 
 -- a collector: how many federates there are, and the reports so far, oldest first
 pub record Collecting : Type 0 where

@@ -1,6 +1,7 @@
 //! Whether each federate has one report.
 ghost use Rattle.std.specs.Prelude.{◌≡◌, ◌↔◌, ℕ, ◌<◌, ◌≤◌, IsTrue, MatchBool, option_map, MatchOption, MatchResult};
-ghost use Rattle.recorder_reports.specs.Reports.{how_many, report_of, AreKnown, AreSingle, AreComplete, HasDouble, IsFirstMissing, IsIncomplete};
+ghost use Rattle.recorder_reports.specs.Reports.{how_many, report_of, AreKnown, AreSingle, AreComplete, HasDouble};
+ghost use Rattle.recorder_reports.specs.Reports.{IsFirstMissing, IsIncomplete};
 
 use crate::report::Report;
 use crate::unproved::Unproved;

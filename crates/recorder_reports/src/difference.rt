@@ -6,8 +6,8 @@ use reactor::{RowView, Rows};
 use reactor_program::Entry;
 use tag::Tag;
 
-/// The first place, counted from 1, at which they differ. Where one is a prefix of the other, it is the place after the shorter
-/// one.
+/// The first place, counted from 1, at which they differ. Where one is a prefix of the other, it is the place after the
+/// shorter one.
 pub fn first_difference(rows: &Rows, others: &Rows) -> Option<usize>
     ensures { MatchOption result (rows.now ≡ others.now) (DifferAt rows.now others.now) }
 {

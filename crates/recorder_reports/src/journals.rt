@@ -4,11 +4,11 @@ ghost use Rattle.recorder_reports.specs.Reports.{report_of, journal_of, all_jour
 
 use crate::complete::report_of;
 use crate::report::Report;
-use journal::Journal;
+use node_journal::Journal;
 use std::alloc::{AllocError, Global};
 
-/// The coordinator's journal, then those of so many federates by number, an empty one where there is no report. Without memory
-/// nothing has changed.
+/// The coordinator's journal, then those of this many federates by number, an empty one where there is no report.
+/// Without memory nothing has changed.
 pub fn all_journals<'r>(
     alloc: Global,
     count: usize,
@@ -17,7 +17,8 @@ pub fn all_journals<'r>(
     empty: &'r Journal,
 ) -> Result<Vec<&'r Journal>, AllocError>
     requires { empty.now ≡ [] }
-    ensures { IfOk result (λ journals. map (λ j. j.now) journals.items ≡ all_journals count reports.now coordinator.now) }
+    ensures { IfOk result (λ journals. map (λ j. j.now) journals.items
+        ≡ all_journals count reports.now coordinator.now) }
 {
     let mut journals = Vec::new(alloc);
     journals.push(coordinator)?;

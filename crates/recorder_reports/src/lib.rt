@@ -1,7 +1,7 @@
 //! What federates report after a run, and why reports aren't believed.
 //!
-//! Promise to the layer above: a collector takes exactly the first report of each federate; whether reports are complete, and where
-//! two lists of rows differ, is answered exactly (`specs`).
+//! Promise to the layer above: a collector takes exactly the first report of each federate; whether reports are
+//! complete, and where two lists of rows differ, is answered exactly (`specs`).
 //!
 //!     Report --> Collector::add          a federate's report, once
 //!     reports --> refuse_incomplete      one of each federate?

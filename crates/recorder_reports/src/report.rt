@@ -1,4 +1,4 @@
-use journal::Journal;
+use node_journal::Journal;
 use reactor::Rows;
 
 /// What a federate tells after a run. It is believed only after `audit`.

@@ -5,8 +5,8 @@ ghost use Rattle.recorder_reports.specs.declared.unproved.Unproved.TheVariants a
 use node::NodeId;
 use std::alloc::AllocError;
 
-/// Why an audit doesn't believe its reports. They are tested in this order, but for `Memory`, which is answered only of complete
-/// reports, and then at any time.
+/// Why an audit doesn't believe its reports. They are tested in this order, but for `Memory`, which is answered only of
+/// complete reports, and then at any time.
 #[derive(Clone, Copy, Debug, PartialEq, Eq)]
 pub enum Unproved {
     /// A report is of a federate that isn't there.
@@ -15,11 +15,11 @@ pub enum Unproved {
     Double,
     /// This federate, the first one, has no report.
     Missing(usize),
-    /// No further event of any journal can be placed: the first node whose journal isn't used up, and its next event, counted
-    /// from 1.
+    /// No further event of any journal can be placed: the first node whose journal isn't used up, and its next event,
+    /// counted from 1.
     Stuck(NodeId, usize),
-    /// The journals agree, but this federate's rows, the first one's, aren't what it computed: the first place, counted from 1,
-    /// at which they differ. Where one list is a prefix of the other, it is the place after the shorter one.
+    /// The journals agree, but this federate's rows, the first one's, aren't what it computed: the first place, counted
+    /// from 1, at which they differ. Where one list is a prefix of the other, it is the place after the shorter one.
     Mismatch(usize, usize),
     /// An allocation failed. The same audit may be made again.
     Memory,

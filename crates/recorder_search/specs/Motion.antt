@@ -23,7 +23,10 @@ IsEvent motion state step node event = motion.occurrence state step ≡ Some (re
 abbrev pub IsNoStep : {State : Type 0} → Motion State → State → NodeId → Event → Type 0
 IsNoStep motion state node event = (step : Step) → ¬ IsEvent motion state step node event
 
--- an event at a node is placed by a step that is made; where none is found nothing changes, and an exact search misses none
-abbrev pub Placed : {State : Type 0} → Motion State → NodeId → Event → (exact : Bool) → State → State → Option Step → Type 0
-Placed motion node event exact before after (Some step) = IsEvent motion before step node event × (after ≡ motion.after before step)
+-- an event at a node is placed by a step that is made; where none is found nothing changes, and an exact search misses
+-- none
+abbrev pub Placed : {State : Type 0} → Motion State → NodeId → Event → (exact : Bool) → State → State
+    → Option Step → Type 0
+Placed motion node event exact before after (Some step) =
+    IsEvent motion before step node event × (after ≡ motion.after before step)
 Placed motion node event exact before after None = (after ≡ before) × (exact ≡ true → IsNoStep motion before node event)

@@ -8,11 +8,13 @@ use crate::machine::Machine;
 /// Before the machine's first step nothing is read, of any journals.
 #[tactic(none)]
 pub fn nothing_is_read<M: Machine>()
-    ensures { (initial : M) (journals : List (List Event)) (count : ℕ) → IsReading M.motion initial journals (record { state = initial; read = replicate count 0 }) }
+    ensures { (initial : M) (journals : List (List Event)) (count : ℕ)
+        → IsReading M.motion initial journals (record { state = initial; read = replicate count 0 }) }
 {}
 
 /// What is read of journals is read of longer ones.
 #[tactic(none)]
 pub fn longer_journals_are_read<M: Machine>()
-    ensures { (initial : M) (journals longer : List (List Event)) (p : Position M) → GrewTo journals longer → IsReading M.motion initial journals p → IsReading M.motion initial longer p }
+    ensures { (initial : M) (journals longer : List (List Event)) (p : Position M) → GrewTo journals longer
+        → IsReading M.motion initial journals p → IsReading M.motion initial longer p }
 {}

@@ -1,8 +1,9 @@
 //! The search for a list of steps that agrees with what each node of a federation wrote down.
 //!
-//! Promise to the layer above: with an Ok the machine made steps in which each node's events are its journal, or no further event
-//! of a journal can be placed (`specs/Journals`), whatever machine makes the steps. The search keeps no list of them. The journals
-//! may grow while a `Reading` reads ahead: what is said at the end is said of the whole journals (`growing`).
+//! Promise to the layer above: with an Ok the machine made steps in which each node's events are its journal, or no
+//! further event of a journal can be placed (`specs/Journals`), whatever machine makes the steps. The search keeps no
+//! list of them. The journals may grow while a `Reading` reads ahead: what is said at the end is said of the whole
+//! journals (`growing`).
 //!
 //!     Reading::new --> read_ahead ...   rounds by guesses alone, until one moves nothing: while the journals still grow
 //!          |

@@ -11,8 +11,9 @@ pub trait Machine: Drop {
     /// Which event a step is, at which node, and the state after it.
     ghost motion: { Motion Self };
 
-    /// Makes a step that is this event at this node, and says which one. With None nothing has changed: where `exact` is true no
-    /// step is this event, else a guess may have been wrong. Memory is for a growth that was refused, and nothing has changed then.
+    /// Makes a step that is this event at this node, and says which one. With None nothing has changed: where `exact`
+    /// is true no step is this event, else a guess may have been wrong. Memory is for a growth that was refused, and
+    /// nothing has changed then.
     fn place(&mut self, node: NodeId, event: Event, exact: bool) -> Result<Option<Step>, Memory>
         ensures placed { IfOk result (λ found. Placed motion node event exact self.old self.new found) }
         ensures unchanged { OnErr result (self.new ≡ self.old) };

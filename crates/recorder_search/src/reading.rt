@@ -1,12 +1,13 @@
 //! Reading journals, with a machine that makes the steps.
-ghost use Rattle.std.specs.Prelude.{◌≡◌, ◌≢◌, ℕ, ◌<◌, ◌≤◌, true, false, length, get_or, slice_get, map, [], replicate, IfOk, OnOk};
+ghost use Rattle.std.specs.Prelude.{◌≡◌, ◌≢◌, ℕ, ◌<◌, ◌≤◌, true, false, length, get_or, slice_get, map, [], replicate};
+ghost use Rattle.std.specs.Prelude.{IfOk, OnOk};
 ghost use Rattle.recorder_search.specs.Journals.{node_at};
 ghost use Rattle.recorder_search.specs.Reading.{GoesOn, IsBlocked, IsFirstUnread, IsReading};
 
 use crate::machine::Machine;
 use crate::memory::Memory;
-use journal::Journal;
 use node::{Event, NodeId};
+use node_journal::Journal;
 use std::alloc::Global;
 
 // Events of one journal that are read before the next journal is, at most.
@@ -64,8 +65,11 @@ fn read_one<M: Machine>(
     exact: bool,
 ) -> Result<bool, Memory>
     requires { place < length read.old }
-    ensures goes_on { IfOk result (λ moved. GoesOn M.motion (map (λ j. j.now) journals.now) (record { state = machine.old; read = read.old }) (record { state = machine.new; read = read.new }) moved) }
-    ensures blocked { IfOk result (λ moved. moved ≡ false → exact ≡ true → IsBlocked M.motion (map (λ j. j.now) journals.now) (record { state = machine.old; read = read.old }) place) }
+    ensures goes_on { IfOk result (λ moved.
+        GoesOn M.motion (map (λ j. j.now) journals.now) (record { state = machine.old; read = read.old })
+        (record { state = machine.new; read = read.new }) moved) }
+    ensures blocked { IfOk result (λ moved. moved ≡ false → exact ≡ true
+        → IsBlocked M.motion (map (λ j. j.now) journals.now) (record { state = machine.old; read = read.old }) place) }
 {
     let Some(event) = next_event(journals, read, near, place) else {
         return Ok(false);
@@ -77,8 +81,8 @@ fn read_one<M: Machine>(
     Ok(true)
 }
 
-// Reads the journal at a place, as far as it goes now, but at most so many events at once: what a node sent is still near when another
-// one takes it in.
+// Reads the journal at a place, as far as it goes now, but at most this many events at once: what a node sent is still
+// near when another one takes it in.
 fn read_on<M: Machine>(
     machine: &mut M,
     journals: &[&Journal],
@@ -88,8 +92,11 @@ fn read_on<M: Machine>(
     exact: bool,
 ) -> Result<bool, Memory>
     requires { place < length read.old }
-    ensures goes_on { IfOk result (λ moved. GoesOn M.motion (map (λ j. j.now) journals.now) (record { state = machine.old; read = read.old }) (record { state = machine.new; read = read.new }) moved) }
-    ensures blocked { IfOk result (λ moved. moved ≡ false → exact ≡ true → IsBlocked M.motion (map (λ j. j.now) journals.now) (record { state = machine.old; read = read.old }) place) }
+    ensures goes_on { IfOk result (λ moved.
+        GoesOn M.motion (map (λ j. j.now) journals.now) (record { state = machine.old; read = read.old })
+        (record { state = machine.new; read = read.new }) moved) }
+    ensures blocked { IfOk result (λ moved. moved ≡ false → exact ≡ true
+        → IsBlocked M.motion (map (λ j. j.now) journals.now) (record { state = machine.old; read = read.old }) place) }
 {
     if !read_one(machine, journals, read, near, place, exact)? {
         return Ok(false);
@@ -110,8 +117,11 @@ pub(crate) fn round<M: Machine>(
     near: &mut [usize],
     exact: bool,
 ) -> Result<bool, Memory>
-    ensures goes_on { IfOk result (λ moved. GoesOn M.motion (map (λ j. j.now) journals.now) (record { state = machine.old; read = read.old }) (record { state = machine.new; read = read.new }) moved) }
-    ensures blocked { IfOk result (λ moved. moved ≡ false → exact ≡ true → (place : ℕ) → place < length read.old → IsBlocked M.motion (map (λ j. j.now) journals.now) (record { state = machine.old; read = read.old }) place) }
+    ensures goes_on { IfOk result (λ moved.
+        GoesOn M.motion (map (λ j. j.now) journals.now) (record { state = machine.old; read = read.old })
+        (record { state = machine.new; read = read.new }) moved) }
+    ensures blocked { IfOk result (λ moved. moved ≡ false → exact ≡ true → (place : ℕ) → place < length read.old
+        → IsBlocked M.motion (map (λ j. j.now) journals.now) (record { state = machine.old; read = read.old }) place) }
 {
     let mut moved = false;
     for place in 0..read.len() {
@@ -146,8 +156,12 @@ pub(crate) fn read_all<M: Machine>(
     read: &mut [usize],
     near: &mut [usize],
 ) -> Result<(), Memory>
-    ensures reading { OnOk result ((initial : M) → IsReading M.motion initial (map (λ j. j.now) journals.now) (record { state = machine.old; read = read.old }) → IsReading M.motion initial (map (λ j. j.now) journals.now) (record { state = machine.new; read = read.new })) }
-    ensures blocked { OnOk result ((place : ℕ) → place < length read.old → IsBlocked M.motion (map (λ j. j.now) journals.now) (record { state = machine.new; read = read.new }) place) }
+    ensures reading { OnOk result ((initial : M)
+        → IsReading M.motion initial (map (λ j. j.now) journals.now) (record { state = machine.old; read = read.old })
+        → IsReading M.motion initial (map (λ j. j.now) journals.now)
+        (record { state = machine.new; read = read.new })) }
+    ensures blocked { OnOk result ((place : ℕ) → place < length read.old
+        → IsBlocked M.motion (map (λ j. j.now) journals.now) (record { state = machine.new; read = read.new }) place) }
 {
     while round(machine, journals, read, near, false)?
         || round(machine, journals, read, near, true)?
@@ -162,7 +176,10 @@ pub(crate) fn read_by_guesses<M: Machine>(
     read: &mut [usize],
     near: &mut [usize],
 ) -> Result<(), Memory>
-    ensures reading { OnOk result ((initial : M) → IsReading M.motion initial (map (λ j. j.now) journals.now) (record { state = machine.old; read = read.old }) → IsReading M.motion initial (map (λ j. j.now) journals.now) (record { state = machine.new; read = read.new })) }
+    ensures reading { OnOk result ((initial : M)
+        → IsReading M.motion initial (map (λ j. j.now) journals.now) (record { state = machine.old; read = read.old })
+        → IsReading M.motion initial (map (λ j. j.now) journals.now)
+        (record { state = machine.new; read = read.new })) }
 {
     while round(machine, journals, read, near, false)? {}
     Ok(())

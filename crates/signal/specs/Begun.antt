@@ -1,5 +1,6 @@
 -- A begun Batch, of which signals are still to be given, and what a reader finds at the front of its bytes.
-use Rattle.std.specs.Prelude.{◌≡◌, ℕ, ◌+◌, ◌-◌, ◌^◌, ◌<◌, ◌≤◌, zero, suc, ◌==◌, nat_lt, if◌then◌else◌, List, [], ◌∷◌, ◌++◌, length, drop, slice_index}
+use Rattle.std.specs.Prelude.{◌≡◌, ℕ, ◌+◌, ◌-◌, ◌^◌, ◌<◌, ◌≤◌, zero, suc, ◌==◌, nat_lt, if◌then◌else◌, List, [], ◌∷◌}
+use Rattle.std.specs.Prelude.{◌++◌, length, drop, slice_index}
 use Rattle.std.specs.List.{flat_map, AllByRecursion}
 use Rattle.std.specs.Int.{w64, cast_signed}
 use Rattle.tag.specs.LogicalTime.{LogicalTime, forever}
@@ -29,7 +30,7 @@ signal_at bytes =
     else if kind == TAG_KIND then Tag tag
     else Msg (number_at 1 2 bytes) tag (cast_signed w64 (number_at 15 8 bytes))
 
--- so many signals, one behind the other
+-- this many signals, one behind the other
 abbrev pub signals_at : ℕ → List ℕ → List Signal
 signals_at zero bytes = []
 signals_at (suc n) bytes = signal_at bytes ∷ signals_at n (drop (signal_size (slice_index bytes 0)) bytes)

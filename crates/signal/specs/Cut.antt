@@ -1,5 +1,6 @@
 -- How frames are cut into pieces, and how a list of frames is written.
-use Rattle.std.specs.Prelude.{◌≡◌, ℕ, ◌+◌, ◌-◌, ◌≤◌, Bool, false, ◌&&◌, ◌⊎◌, if◌then◌else◌, nat_lt, nat_le, nat_eq, IsTrue, List, [], ◌∷◌, ◌++◌, length, flat_map, All}
+use Rattle.std.specs.Prelude.{◌≡◌, ℕ, ◌+◌, ◌-◌, ◌≤◌, Bool, false, ◌&&◌, ◌⊎◌, if◌then◌else◌, nat_lt, nat_le, nat_eq}
+use Rattle.std.specs.Prelude.{IsTrue, List, [], ◌∷◌, ◌++◌, length, flat_map, All}
 use Rattle.signal.specs.declared.wire.TheConstants.{BATCHING, MOST_SIGNALS}
 use Rattle.signal.specs.declared.signal.Signal.{Signal}
 use Rattle.signal.specs.declared.frame.Frame.{Frame}
@@ -32,13 +33,15 @@ in_front frame (piece ∷ pieces) = (frame ∷ piece) ∷ pieces
 -- the longest stretches in which each frame goes on with the one before it
 abbrev pub stretches : List Frame → List (List Frame)
 stretches [] = []
-stretches (frame ∷ frames) = if goes_on (frame ∷ []) frames then in_front frame (stretches frames) else (frame ∷ []) ∷ stretches frames
+stretches (frame ∷ frames) =
+    if goes_on (frame ∷ []) frames then in_front frame (stretches frames) else (frame ∷ []) ∷ stretches frames
 
 -- a stretch cut from its front into pieces as long as a Batch may be, of which the first has this many places
 abbrev pub cut_stretch : (places : ℕ) → List Frame → List (List Frame)
 cut_stretch places [] = []
 cut_stretch places (frame ∷ frames) =
-    if nat_lt 1 places then in_front frame (cut_stretch (places - 1) frames) else (frame ∷ []) ∷ cut_stretch MOST_SIGNALS frames
+    if nat_lt 1 places then in_front frame (cut_stretch (places - 1) frames) else (frame ∷ [])
+    ∷ cut_stretch MOST_SIGNALS frames
 
 -- all pieces
 abbrev pub cut : List Frame → List (List Frame)
@@ -54,11 +57,13 @@ IsStretch (frame ∷ next ∷ frames) = IsTrue (follows frame next) × IsStretch
 abbrev pub IsPiece : List Frame → Type 0
 IsPiece piece = IsStretch piece × (length piece ≤ MOST_SIGNALS)
 
--- no piece could have more from the front of the next one: it is as long as a Batch may be, or that doesn't go on with it
+-- no piece could have more from the front of the next one: it is as long as a Batch may be, or that doesn't go on with
+-- it
 abbrev pub AreLongest : List (List Frame) → Type 0
 AreLongest [] = Unit {0}
 AreLongest (piece ∷ []) = Unit {0}
-AreLongest (piece ∷ next ∷ pieces) = ((length piece ≡ MOST_SIGNALS) ⊎ (goes_on piece next ≡ false)) × AreLongest (next ∷ pieces)
+AreLongest (piece ∷ next ∷ pieces) =
+    ((length piece ≡ MOST_SIGNALS) ⊎ (goes_on piece next ≡ false)) × AreLongest (next ∷ pieces)
 
 -- the pieces are the frames in order, and each is as long as it may be
 pub record IsCut (frames : List Frame) (pieces : List (List Frame)) : Type 0 where
@@ -77,7 +82,8 @@ signals_of (Refuse incarnation refusal ∷ frames) = signals_of frames
 -- Data frames in a row as a Batch; no other frames go into one
 abbrev pub batch_bytes : List Frame → List ℕ
 batch_bytes [] = []
-batch_bytes (Data incarnation number signal ∷ frames) = framed (batch_of incarnation number (signal ∷ signals_of frames))
+batch_bytes (Data incarnation number signal ∷ frames) =
+    framed (batch_of incarnation number (signal ∷ signals_of frames))
 batch_bytes (Hello hello ∷ frames) = []
 batch_bytes (Ack incarnation last_taken ∷ frames) = []
 batch_bytes (Refuse incarnation refusal ∷ frames) = []

@@ -1,9 +1,13 @@
 -- What is wrong with the bytes that stand where a frame should begin, and how each fault is printed.
-use Rattle.std.specs.Prelude.{ℕ, zero, suc, ◌+◌, ◌^◌, List, ◌++◌, codes, length, take, drop, slice_index, Bool, nat_lt, nat_le, ◌==◌, ◌&&◌, ◌||◌, not, if◌then◌else◌, Option, Some, None, is_some}
+use Rattle.std.specs.Prelude.{ℕ, zero, suc, ◌+◌, ◌^◌, List, ◌++◌, codes, length, take, drop, slice_index, Bool, nat_lt}
+use Rattle.std.specs.Prelude.{nat_le, ◌==◌, ◌&&◌, ◌||◌, not, if◌then◌else◌, Option, Some, None, is_some}
 use Rattle.std.specs.Fmt.{decimal}
 use Rattle.byteorder.specs.Endian.{big_number}
 use Rattle.tag.specs.LogicalTime.{forever}
-use Rattle.signal.specs.declared.wire.TheConstants.{LENGTH_SIZE, LONGEST_BODY, HELLO_KIND, HELLO_SIZE, DATA_KIND, BEFORE_SIGNAL, ACK_KIND, ACK_SIZE, REFUSE_KIND, REFUSE_SIZE, BATCH_KIND, BEFORE_SIGNALS, LEAST_SIGNALS, MOST_SIGNALS, NET_KIND, MSG_KIND, POINT_SIZE, MSG_SIZE, FOREVER_TIME, FOREVER_MICROSTEP}
+use Rattle.signal.specs.declared.wire.TheConstants.{LENGTH_SIZE, LONGEST_BODY, HELLO_KIND, HELLO_SIZE, DATA_KIND}
+use Rattle.signal.specs.declared.wire.TheConstants.{BEFORE_SIGNAL, ACK_KIND, ACK_SIZE, REFUSE_KIND, REFUSE_SIZE}
+use Rattle.signal.specs.declared.wire.TheConstants.{BATCH_KIND, BEFORE_SIGNALS, LEAST_SIGNALS, MOST_SIGNALS, NET_KIND}
+use Rattle.signal.specs.declared.wire.TheConstants.{MSG_KIND, POINT_SIZE, MSG_SIZE, FOREVER_TIME, FOREVER_MICROSTEP}
 use Rattle.signal.specs.declared.fault.FrameFault.{FrameFault}
 use Rattle.signal.specs.declared.fault.FrameFault.TheVariants.{BadLength, BadKind, BadTag, Trailing}
 
@@ -47,7 +51,8 @@ number_at place n bytes = big_number n (drop place bytes)
 
 -- a time before FOREVER's; twelve bytes ff are FOREVER, which only a NET may say
 abbrev pub is_tag : Bool → ℕ → ℕ → Bool
-is_tag is_net time microstep = nat_lt time forever.time || (is_net && time == FOREVER_TIME && microstep == FOREVER_MICROSTEP)
+is_tag is_net time microstep =
+    nat_lt time forever.time || (is_net && time == FOREVER_TIME && microstep == FOREVER_MICROSTEP)
 
 abbrev pub signal_size : ℕ → ℕ
 signal_size kind = if kind == MSG_KIND then MSG_SIZE else POINT_SIZE
@@ -85,7 +90,8 @@ shape_fault (suc n) bytes =
 -- the fault of n signals of which one has no tag
 abbrev pub tags_fault : ℕ → List ℕ → Option FrameFault
 tags_fault zero bytes = None
-tags_fault (suc n) bytes = if not (has_tag bytes) then Some BadTag else tags_fault n (drop (signal_size (slice_index bytes 0)) bytes)
+tags_fault (suc n) bytes =
+    if not (has_tag bytes) then Some BadTag else tags_fault n (drop (signal_size (slice_index bytes 0)) bytes)
 
 -- the first fault of n signals that should fill the bytes
 abbrev pub signals_fault : ℕ → List ℕ → Option FrameFault
@@ -130,7 +136,9 @@ length_at bytes = big_number LENGTH_SIZE bytes
 
 -- the bytes end before the frame's length is there, or before all of its body is
 abbrev pub is_partial : List ℕ → Bool
-is_partial bytes = nat_lt (length bytes) LENGTH_SIZE || (is_length (length_at bytes) && nat_lt (length bytes) (LENGTH_SIZE + length_at bytes))
+is_partial bytes =
+    nat_lt (length bytes) LENGTH_SIZE
+    || (is_length (length_at bytes) && nat_lt (length bytes) (LENGTH_SIZE + length_at bytes))
 
 -- the fault of the frame that should begin here, as far as the bytes decide it
 abbrev pub fault_at : List ℕ → Option FrameFault

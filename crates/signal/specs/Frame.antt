@@ -9,8 +9,10 @@ use Rattle.signal.specs.Batch.{IsBatch}
 
 -- the body of a frame: its kind, for a Hello a version, and then its fields
 abbrev pub body_of : ℕ → Frame → List ℕ
-body_of version (Hello hello) = HELLO_KIND ∷ version ∷ big_bytes 2 hello.federate ++ big_bytes 4 hello.incarnation ++ big_bytes 8 hello.last_taken
-body_of version (Data incarnation number signal) = DATA_KIND ∷ big_bytes 4 incarnation ++ big_bytes 8 number ++ signal_bytes signal
+body_of version (Hello hello) =
+    HELLO_KIND ∷ version ∷ big_bytes 2 hello.federate ++ big_bytes 4 hello.incarnation ++ big_bytes 8 hello.last_taken
+body_of version (Data incarnation number signal) =
+    DATA_KIND ∷ big_bytes 4 incarnation ++ big_bytes 8 number ++ signal_bytes signal
 body_of version (Ack incarnation last_taken) = ACK_KIND ∷ big_bytes 4 incarnation ++ big_bytes 8 last_taken
 body_of version (Refuse incarnation refusal) = REFUSE_KIND ∷ big_bytes 4 incarnation ++ big_bytes 2 refusal
 

@@ -1,5 +1,5 @@
--- Frames and signals as bytes: how each is spelled, which fault stands where a frame should begin, how a stream of bytes is
--- read, and how a list of frames is written.
+-- Frames and signals as bytes: how each is spelled, which fault stands where a frame should begin, how a stream of
+-- bytes is read, and how a list of frames is written.
 pub mod Signal
 -- Several signals in one body.
 pub mod Batch

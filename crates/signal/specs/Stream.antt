@@ -1,13 +1,14 @@
 -- A stream of bytes that is read frame by frame.
-use Rattle.std.specs.Prelude.{◌≡◌, List, [], ◌∷◌, ◌++◌, ℕ, slice_index, IsTrue, IsSome, IfSome, ◌==◌, ◌⊎◌, Option, Some, None, Result, Ok, Err, is_some, if◌then◌else◌}
+use Rattle.std.specs.Prelude.{◌≡◌, List, [], ◌∷◌, ◌++◌, ℕ, slice_index, IsTrue, IsSome, IfSome, ◌==◌, ◌⊎◌, Option, Some}
+use Rattle.std.specs.Prelude.{None, Result, Ok, Err, is_some, if◌then◌else◌}
 use Rattle.signal.specs.declared.wire.TheConstants.{VERSION, HELLO_KIND}
 use Rattle.signal.specs.declared.frame.Frame.{Frame}
 use Rattle.signal.specs.declared.fault.FrameFault.{FrameFault}
 use Rattle.signal.specs.Frame.{Spells}
 use Rattle.signal.specs.Fault.{is_partial, fault_at}
 
--- the fault that stands for good, if one does, the frames of a begun Batch that are still to be given, the bytes that are
--- still to be read behind them, and the version of the last Hello that was given
+-- the fault that stands for good, if one does, the frames of a begun Batch that are still to be given, the bytes that
+-- are still to be read behind them, and the version of the last Hello that was given
 pub record Stream : Type 0 where
   pub fault : Option FrameFault
   pub begun : List Frame
@@ -37,7 +38,8 @@ version_after before body = if slice_index body 0 == HELLO_KIND then slice_index
 -- the rest carries: the spelling is taken off, and what else it carries is begun.
 pub data Comes (old : Stream) (frame : Frame) (new : Stream) : Type 0 where
   goes_on : old.begun ≡ frame ∷ new.begun → new.rest ≡ old.rest → new.version ≡ old.version → Comes old frame new
-  begins : (front : List ℕ) (spelling : Spells front (frame ∷ new.begun)) → old.begun ≡ [] → old.rest ≡ front ++ new.rest
+  begins : (front : List ℕ) (spelling : Spells front (frame ∷ new.begun)) → old.begun ≡ []
+      → old.rest ≡ front ++ new.rest
       → new.version ≡ version_after old.version spelling.body → Comes old frame new
 
 -- a frame comes, and there is no fault
@@ -68,7 +70,8 @@ Gives old (Err fault) new = GivesFault old fault new
 -- spellings one after the other, which carry these frames, and then a rest
 pub data Splits : List ℕ → List Frame → List ℕ → Type 0 where
   done : {bytes rest : List ℕ} {frames : List Frame} → bytes ≡ rest → frames ≡ [] → Splits bytes frames rest
-  more : {bytes rest : List ℕ} {frames : List Frame} (front behind : List ℕ) (some others : List Frame) → Spells front some → bytes ≡ front ++ behind
+  more : {bytes rest : List ℕ} {frames : List Frame} (front behind : List ℕ) (some others : List Frame)
+      → Spells front some → bytes ≡ front ++ behind
       → frames ≡ some ++ others → Splits behind others rest → Splits bytes frames rest
 
 -- no frame stands at the front: the bytes end inside one, or it has a fault
@@ -104,8 +107,8 @@ frames_given [] = []
 frames_given (feed bytes ∷ calls) = frames_given calls
 frames_given (answer given ∷ calls) = frames_of given ++ frames_given calls
 
--- the bytes are spellings of these frames, in order, and of those that are still to be given, and then the rest; bytes that
--- came after a fault stand behind it, and the fault is that of the frame which should begin the rest
+-- the bytes are spellings of these frames, in order, and of those that are still to be given, and then the rest; bytes
+-- that came after a fault stand behind it, and the fault is that of the frame which should begin the rest
 pub record TellsStream (bytes : List ℕ) (frames : List Frame) (s : Stream) : Type 0 where
   pub later : List ℕ
   pub splits : Splits bytes (frames ++ s.begun) (s.rest ++ later)

@@ -1,6 +1,7 @@
 //! Several signals in one body.
 
-ghost use Rattle.std.specs.Prelude.{◌≡◌, ◌-◌, ◌≤◌, ◌<◌, ◌∷◌, length, drop, slice_index, MatchResult, OnOk, IfOk, IfErr, Some, None};
+ghost use Rattle.std.specs.Prelude.{◌≡◌, ◌-◌, ◌≤◌, ◌<◌, ◌∷◌, length, drop, slice_index, MatchResult, OnOk, IfOk, IfErr};
+ghost use Rattle.std.specs.Prelude.{Some, None};
 ghost use Rattle.signal.specs.Fault.{signal_size, shape_fault, tags_fault, signals_fault, body_fault};
 ghost use Rattle.signal.specs.Begun.{signal_at, AreSignals, BeginsSignal, HasSignals, IsBegun, frames_at};
 ghost use Rattle.signal.specs.declared.wire.TheConstants.{BATCH_KIND};
@@ -87,7 +88,7 @@ pub fn batch_of(body: &[u8]) -> Result<Begun, FrameFault>
     })
 }
 
-/// Whether so many signals fill these bytes.
+/// Whether this many signals fill these bytes.
 #[tactic(auto, using(crate::proofs::Checking::shape_first, crate::proofs::Checking::then_tags))]
 fn check_signals(bytes: &[u8], count: usize) -> Result<(), FrameFault>
     ensures filled { OnOk result (AreSignals count bytes.now) }
@@ -97,7 +98,7 @@ fn check_signals(bytes: &[u8], count: usize) -> Result<(), FrameFault>
     check_tags(bytes, count)
 }
 
-// Whether so many signals fill these bytes, whatever their tags are.
+// Whether this many signals fill these bytes, whatever their tags are.
 fn check_shape(bytes: &[u8], count: usize) -> Result<(), FrameFault>
     ensures { MatchResult result (λ _. shape_fault count bytes.now ≡ None) (λ e. shape_fault count bytes.now ≡ Some e) }
 {

@@ -18,7 +18,8 @@ use crate::wire::{
     HELLO_SIZE, REFUSE_KIND, REFUSE_SIZE,
 };
 
-/// The first frame that all of these bytes carry, and what is begun behind it. `version` is that of the last Hello before.
+/// The first frame that all of these bytes carry, and what is begun behind it. `version` is that of the last Hello
+/// before.
 pub fn first_of(body: &[u8], version: u8) -> Result<Front, FrameFault>
     requires { 0 < length body.now }
     ensures first { IfOk result (IsFirst version body.now) }

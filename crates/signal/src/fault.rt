@@ -7,8 +7,8 @@ use std::fmt;
 pub enum FrameFault {
     /// The writer sent a length of 0 or above 1486, or a body shorter than its kind needs.
     BadLength,
-    /// The writer sent a kind of frame or of signal that there isn't, a Hello of version 0, or a Batch of fewer than 2 or
-    /// more than 64 signals, or one whose last number is above 2^64 - 1.
+    /// The writer sent a kind of frame or of signal that there isn't, a Hello of version 0, or a Batch of fewer than 2
+    /// or more than 64 signals, or one whose last number is above 2^64 - 1.
     BadKind,
     /// The writer sent a time of 2^62 ns or more that isn't FOREVER, or FOREVER in another signal than a NET.
     BadTag,

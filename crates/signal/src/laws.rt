@@ -4,26 +4,30 @@ ghost use Rattle.std.specs.Prelude.{◌≡◌, ◌<◌, ◌++◌, List, ℕ, All
 ghost use Rattle.signal.specs.declared.frame.Frame.{Frame};
 ghost use Rattle.signal.specs.Frame.{IsFrame, Spells};
 ghost use Rattle.signal.specs.Fault.{is_partial, fault_at};
-ghost use Rattle.signal.specs.Stream.{Stream, start, fed, Splits, HasNoFrame, Call, Session, bytes_fed, frames_given, TellsStream};
+ghost use Rattle.signal.specs.Stream.{Stream, start, fed, Splits, HasNoFrame, Call, Session, bytes_fed, frames_given};
+ghost use Rattle.signal.specs.Stream.{TellsStream};
 ghost use Rattle.signal.specs.Cut.{cut, written, IsCut};
 
 /// No spelling begins another: one list of bytes begins with one spelling at most, and that carries one list of frames.
 pub fn one_reading()
-    ensures { (a b x y : List ℕ) (frames others : List Frame) → Spells a frames → Spells b others → a ++ x ≡ b ++ y → (frames ≡ others) × (a ≡ b) × (x ≡ y) }
+    ensures { (a b x y : List ℕ) (frames others : List Frame) → Spells a frames → Spells b others → a ++ x ≡ b ++ y
+        → (frames ≡ others) × (a ≡ b) × (x ≡ y) }
 {}
 
 /// Where a spelling begins, no fault stands and nothing is missing.
 pub fn no_fault_in_a_spelling()
-    ensures { (bytes rest : List ℕ) (frames : List Frame) → Spells bytes frames → (fault_at (bytes ++ rest) ≡ None) × (is_partial (bytes ++ rest) ≡ false) }
+    ensures { (bytes rest : List ℕ) (frames : List Frame) → Spells bytes frames
+        → (fault_at (bytes ++ rest) ≡ None) × (is_partial (bytes ++ rest) ≡ false) }
 {}
 
 /// What was written is read again, whatever follows.
 pub fn written_is_read()
-    ensures { (own peer : ℕ) (frames : List Frame) (rest : List ℕ) → 0 < own → own < 256 → All IsFrame frames → Splits (written own peer frames ++ rest) frames rest }
+    ensures { (own peer : ℕ) (frames : List Frame) (rest : List ℕ) → 0 < own → own < 256 → All IsFrame frames
+        → Splits (written own peer frames ++ rest) frames rest }
 {}
 
-/// The pieces in which frames are written are the frames in order. Each is one frame, or the Data frames of 2 to 64 signals in
-/// a row; and of two neighbours the first has 64, or the second doesn't go on with it.
+/// The pieces in which frames are written are the frames in order. Each is one frame, or the Data frames of 2 to 64
+/// signals in a row; and of two neighbours the first has 64, or the second doesn't go on with it.
 pub fn cut_is_longest()
     ensures { (frames : List Frame) → IsCut frames (cut frames) }
 {}
@@ -35,12 +39,14 @@ pub fn only_cut()
 
 /// A stream is these frames and then a rest in one way only, if no frame begins the rest.
 pub fn one_stream()
-    ensures { (bytes : List ℕ) (frames others : List Frame) (rest more : List ℕ) → HasNoFrame rest → HasNoFrame more → Splits bytes frames rest → Splits bytes others more → (frames ≡ others) × (rest ≡ more) }
+    ensures { (bytes : List ℕ) (frames others : List Frame) (rest more : List ℕ) → HasNoFrame rest → HasNoFrame more
+        → Splits bytes frames rest → Splits bytes others more → (frames ≡ others) × (rest ≡ more) }
 {}
 
 /// What was read before more bytes came, and what is read then, is what the whole stream is.
 pub fn read_in_pieces()
-    ensures { (a b : List ℕ) (frames others : List Frame) (rest more : List ℕ) → Splits a frames rest → Splits (rest ++ b) others more → Splits (a ++ b) (frames ++ others) more }
+    ensures { (a b : List ℕ) (frames others : List Frame) (rest more : List ℕ) → Splits a frames rest
+        → Splits (rest ++ b) others more → Splits (a ++ b) (frames ++ others) more }
 {}
 
 /// Feeding two pieces is feeding both at once.
@@ -48,8 +54,9 @@ pub fn fed_in_pieces()
     ensures { (s : Stream) (a b : List ℕ) → fed (fed s a) b ≡ fed s (a ++ b) }
 {}
 
-/// Whatever calls a reader has had: the bytes fed are spellings of the frames given, in order, and of those of a begun Batch
-/// that are still to be given, and then the rest; a fault stands in the place of the frame that has it.
+/// Whatever calls a reader has had: the bytes fed are spellings of the frames given, in order, and of those of a begun
+/// Batch that are still to be given, and then the rest; a fault stands in the place of the frame that has it.
 pub fn whole_stream()
-    ensures { (calls : List Call) (s : Stream) → Session start calls s → TellsStream (bytes_fed calls) (frames_given calls) s }
+    ensures { (calls : List Call) (s : Stream) → Session start calls s
+        → TellsStream (bytes_fed calls) (frames_given calls) s }
 {}

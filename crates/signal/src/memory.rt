@@ -3,7 +3,8 @@ ghost use Rattle.std.specs.Prelude.{◌≡◌};
 use std::alloc::{AllocError, AllocFailed};
 use std::fmt;
 
-/// There was no memory for bytes. It is the machine that lacks it: nothing changed, and the same call may succeed later.
+/// There was no memory for bytes. It is the machine that lacks it: nothing changed, and the same call may succeed
+/// later.
 #[derive(Clone, Copy, Debug, PartialEq, Eq)]
 pub struct Memory;
 

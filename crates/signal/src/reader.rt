@@ -7,8 +7,8 @@ use crate::wire::VERSION;
 use std::alloc::Global;
 use std::marker::Model;
 
-/// Reads frames from a stream of bytes that comes in any pieces. The signals of a Batch come as the Data frames that they
-/// stand for, one after the other.
+/// Reads frames from a stream of bytes that comes in any pieces. The signals of a Batch come as the Data frames that
+/// they stand for, one after the other.
 #[derive(Debug, Drop)]
 pub struct FrameReader {
     buffer: Vec<u8>,
@@ -73,11 +73,12 @@ impl FrameReader {
         Ok(())
     }
 
-    /// The next frame, or None where the bytes so far end inside it. A Batch that has a fault gives none of its frames. An
-    /// error comes again for good. This takes no memory.
+    /// The next frame, or None where the bytes so far end inside it. A Batch that has a fault gives none of its frames.
+    /// An error comes again for good. This takes no memory.
     pub fn next(&mut self) -> Result<Option<Frame>, FrameFault>
         ensures gives { Gives self.old result self.new }
-        ensures only { (answer : Result (Option Frame) FrameFault) (after : Stream) → Gives self.old answer after → (result ≡ answer) × (self.new ≡ after) }
+        ensures only { (answer : Result (Option Frame) FrameFault) (after : Stream) → Gives self.old answer after
+            → (result ≡ answer) × (self.new ≡ after) }
         ensures left { result ≡ Ok None → length self.new.rest < LENGTH_SIZE + LONGEST_BODY }
     {
         self.read()
@@ -109,8 +110,8 @@ impl FrameReader {
         }
     }
 
-    // Discards the bytes that were read, once they are as many as those that are left: so no more bytes are ever moved than
-    // are discarded.
+    // Discards the bytes that were read, once they are as many as those that are left: so no more bytes are ever moved
+    // than are discarded.
     fn discard(&mut self)
         ensures { self.new ≡ self.old }
     {

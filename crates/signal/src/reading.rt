@@ -1,6 +1,7 @@
 //! The signal that some bytes spell.
 
-ghost use Rattle.std.specs.Prelude.{◌≡◌, ◌≤◌, ◌<◌, length, take, drop, slice_index, MatchResult, IfOk, IfErr, Some, false, true, nat_lt, MatchBool};
+ghost use Rattle.std.specs.Prelude.{◌≡◌, ◌≤◌, ◌<◌, length, take, drop, slice_index, MatchResult, IfOk, IfErr, Some};
+ghost use Rattle.std.specs.Prelude.{false, true, nat_lt, MatchBool};
 ghost use Rattle.byteorder.specs.Endian.{big_number};
 ghost use Rattle.tag.specs.LogicalTime.{IsFinite, IsLogicalTime};
 ghost use Rattle.signal.specs.Signal.{tag_bytes, signal_bytes, IsSignal};
@@ -19,7 +20,8 @@ use tag::{FiniteTag, Time};
 fn finite_tag_of(bytes: &[u8]) -> Result<FiniteTag, FrameFault>
     requires { 12 ≤ length bytes.now }
     ensures found { IfOk result (λ g. IsFinite g × (take 12 bytes.now ≡ tag_bytes g)) }
-    ensures fault { IfErr result (λ e. (e ≡ FrameFault.BadTag) × (is_tag false (big_number 8 bytes.now) (big_number 4 (drop 8 bytes.now)) ≡ false)) }
+    ensures fault { IfErr result (λ e. (e ≡ FrameFault.BadTag)
+        × (is_tag false (big_number 8 bytes.now) (big_number 4 (drop 8 bytes.now)) ≡ false)) }
 {
     let (time, rest) = take_u64(bytes);
     let (microstep, _) = take_u32(rest);
@@ -37,7 +39,8 @@ fn finite_tag_of(bytes: &[u8]) -> Result<FiniteTag, FrameFault>
 fn tag_of(bytes: &[u8]) -> Result<tag::Tag, FrameFault>
     requires { 12 ≤ length bytes.now }
     ensures found { IfOk result (λ g. IsLogicalTime g × (take 12 bytes.now ≡ tag_bytes g)) }
-    ensures fault { IfErr result (λ e. (e ≡ FrameFault.BadTag) × (is_tag true (big_number 8 bytes.now) (big_number 4 (drop 8 bytes.now)) ≡ false)) }
+    ensures fault { IfErr result (λ e. (e ≡ FrameFault.BadTag)
+        × (is_tag true (big_number 8 bytes.now) (big_number 4 (drop 8 bytes.now)) ≡ false)) }
 {
     let (time, rest) = take_u64(bytes);
     let (microstep, _) = take_u32(rest);
@@ -52,7 +55,8 @@ fn tag_of(bytes: &[u8]) -> Result<tag::Tag, FrameFault>
 
 /// Whether there are as many bytes as are needed.
 pub fn check_size(size: usize, needed: usize) -> Result<(), FrameFault>
-    ensures { MatchResult result (λ _. size ≡ needed) (λ e. MatchBool (nat_lt size needed) (e ≡ FrameFault.BadLength) ((needed < size) × (e ≡ FrameFault.Trailing))) }
+    ensures { MatchResult result (λ _. size ≡ needed)
+        (λ e. MatchBool (nat_lt size needed) (e ≡ FrameFault.BadLength) ((needed < size) × (e ≡ FrameFault.Trailing))) }
 {
     if size < needed {
         return Err(FrameFault::BadLength);

@@ -23,10 +23,10 @@ pub fn write_frame(frame: &Frame, bytes: &mut Vec<u8>) -> Result<(), Memory>
     or_as_before(result, before, bytes)
 }
 
-/// Appends the bytes of frames that are sent one after the other. A Hello has the version `own`; `peer` is the version of the
-/// last Hello that came from the peer, 1 before any. Where both are 2 or more, Data frames of one incarnation that are numbered
-/// by steps of one go into Batches, as many at a time as one may have. Where there is no memory for all of the bytes, they are
-/// as they were.
+/// Appends the bytes of frames that are sent one after the other. A Hello has the version `own`; `peer` is the version
+/// of the last Hello that came from the peer, 1 before any. Where both are 2 or more, Data frames of one incarnation
+/// that are numbered by steps of one go into Batches, as many at a time as one may have. Where there is no memory for
+/// all of the bytes, they are as they were.
 pub fn write_frames(frames: &[Frame], own: u8, peer: u8, bytes: &mut Vec<u8>) -> Result<(), Memory>
     requires { 0 < own }
     ensures written { OnOk result (bytes.new.items ≡ bytes.old.items ++ written own peer frames.now) }

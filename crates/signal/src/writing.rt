@@ -1,4 +1,5 @@
-//! The bytes of frames, pieces and signals. Where there is no memory, some of them may stand behind the bytes that were there.
+//! The bytes of frames, pieces and signals. Where there is no memory, some of them may stand behind the bytes that were
+//! there.
 
 ghost use Rattle.std.specs.Prelude.{◌≡◌, ◌+◌, ◌*◌, ◌≤◌, ◌<◌, ◌++◌, ◌∷◌, [], length, OnOk, OnErr};
 ghost use Rattle.std.specs.List.{flat_map, AllByRecursion};
@@ -6,7 +7,8 @@ ghost use Rattle.byteorder.specs.Endian.{big_bytes};
 ghost use Rattle.signal.specs.Signal.{point_bytes, tag_bytes, signal_bytes};
 ghost use Rattle.signal.specs.Frame.{frame_bytes, frame_bytes_by, IsFrame};
 ghost use Rattle.signal.specs.Cut.{IsStretch, signals_of, batch_bytes, piece_bytes, Extends};
-ghost use Rattle.signal.specs.declared.wire.TheConstants.{BATCH_KIND, BEFORE_SIGNAL, DATA_KIND, LONGEST_BODY, MSG_KIND, MSG_SIZE, MOST_SIGNALS};
+ghost use Rattle.signal.specs.declared.wire.TheConstants.{BATCH_KIND, BEFORE_SIGNAL, DATA_KIND, LONGEST_BODY, MSG_KIND};
+ghost use Rattle.signal.specs.declared.wire.TheConstants.{MSG_SIZE, MOST_SIGNALS};
 
 use crate::frame::{Frame, Hello};
 use crate::memory::Memory;
@@ -106,7 +108,8 @@ fn write_data(
     signal: Signal,
     bytes: &mut Vec<u8>,
 ) -> Result<(), Memory>
-    ensures written { OnOk result (bytes.new.items ≡ bytes.old.items ++ frame_bytes (Frame.Data incarnation number signal)) }
+    ensures written { OnOk result (bytes.new.items ≡ bytes.old.items
+        ++ frame_bytes (Frame.Data incarnation number signal)) }
     ensures extended { OnErr result (Extends bytes.old.items bytes.new.items) }
 {
     append(bytes, &data_head(size_of(&signal), incarnation, number))?;

@@ -5,7 +5,9 @@ use Rattle.std.specs.Ordering.{partial_lt, partial_le, ord_min, ord_max}
 use Rattle.tag.specs.LogicalTime.{LogicalTime, is_before, is_at_most, is_same, lesser, greater}
 
 -- `==`, `<`, `<=`, `min` and `max` are those of logical times
-pub record IsOrderOfTags (eq : LogicalTime → LogicalTime → Bool) (partial_cmp : LogicalTime → LogicalTime → Option Ordering) (cmp : LogicalTime → LogicalTime → Ordering) : Type 0 where
+pub record IsOrderOfTags (eq : LogicalTime → LogicalTime → Bool)
+    (partial_cmp : LogicalTime → LogicalTime → Option Ordering)
+    (cmp : LogicalTime → LogicalTime → Ordering) : Type 0 where
   pub same : (g h : LogicalTime) → eq g h ≡ is_same g h
   pub before : (g h : LogicalTime) → partial_lt partial_cmp g h ≡ is_before g h
   pub at_most : (g h : LogicalTime) → partial_le partial_cmp g h ≡ is_at_most g h

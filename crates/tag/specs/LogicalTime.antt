@@ -1,5 +1,6 @@
 -- Logical time. A tag is a point of it, a delay is a length of it; both are a time and a microstep.
-use Rattle.std.specs.Prelude.{◌≡◌, ℕ, ◌+◌, ◌-◌, ◌*◌, ◌^◌, ◌<◌, ◌≤◌, Bool, true, false, if◌then◌else◌, nat_lt, nat_eq, ◌&&◌, ◌||◌, Option, None, Some}
+use Rattle.std.specs.Prelude.{◌≡◌, ℕ, ◌+◌, ◌-◌, ◌*◌, ◌^◌, ◌<◌, ◌≤◌, Bool, true, false, if◌then◌else◌, nat_lt, nat_eq}
+use Rattle.std.specs.Prelude.{◌&&◌, ◌||◌, Option, None, Some}
 
 -- a time in nanoseconds, then a microstep
 pub record LogicalTime : Type 0 where
@@ -66,7 +67,8 @@ carried g = if nat_lt g.microstep (2 ^ 32) then g else record { time = g.time + 
 abbrev pub capped : LogicalTime → LogicalTime
 capped g = if nat_lt g.time (2 ^ 62) then g else forever
 
--- before carrying: a length with a time begins a new instant at its own microstep, one without goes on by its microsteps
+-- before carrying: a length with a time begins a new instant at its own microstep, one without goes on by its
+-- microsteps
 abbrev pub moved : LogicalTime → LogicalTime → LogicalTime
 moved g d =
     if nat_lt 0 d.time

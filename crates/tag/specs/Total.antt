@@ -1,4 +1,5 @@
--- The total of a path, which is how much later what leaves its first federate arrives at its last; and permitted delays.
+-- The total of a path, which is how much later what leaves its first federate arrives at its last; and permitted
+-- delays.
 use Rattle.std.specs.Prelude.{◌≡◌, ℕ, ◌^◌, ◌<◌, List, [], ◌∷◌}
 use Rattle.std.specs.List.{fold}
 use Rattle.tag.specs.LogicalTime.{LogicalTime, origin, sum_of, delay_of}

@@ -1,7 +1,10 @@
 //! The laws of tags and delays: each function's contract is one, for all logical times.
 
-ghost use Rattle.std.specs.Prelude.{◌≡◌, ℕ, ◌+◌, ◌-◌, ◌*◌, ◌^◌, ◌<◌, ◌≤◌, ◌≢◌, ◌⊎◌, ◌↔◌, List, ◌++◌, length, All, IfSome, IsSomeAnd, IsTrue, Some, false, min, max};
-ghost use Rattle.tag.specs.LogicalTime.{LogicalTime, IsLogicalTime, IsFinite, CarriesNothing, origin, forever, logical_time, one_microstep, is_before, is_at_most, is_same, place, sum_of, successor_of, tag_before};
+ghost use Rattle.std.specs.Prelude.{◌≡◌, ℕ, ◌+◌, ◌-◌, ◌*◌, ◌^◌, ◌<◌, ◌≤◌, ◌≢◌, ◌⊎◌, ◌↔◌, List, ◌++◌, length, All};
+ghost use Rattle.std.specs.Prelude.{IfSome, IsSomeAnd, IsTrue, Some, false, min, max};
+ghost use Rattle.tag.specs.LogicalTime.{LogicalTime, IsLogicalTime, IsFinite, CarriesNothing, origin, forever};
+ghost use Rattle.tag.specs.LogicalTime.{logical_time, one_microstep, is_before, is_at_most, is_same, place, sum_of};
+ghost use Rattle.tag.specs.LogicalTime.{successor_of, tag_before};
 ghost use Rattle.tag.specs.Compared.{IsOrderOfTags};
 ghost use Rattle.tag.specs.Total.{total_of, IsPlainDelay};
 
@@ -12,7 +15,8 @@ use crate::tag::Tag;
 /// Of two tags one is earlier, or they are one.
 pub fn order_is_total()
     ensures irreflexive { (g : LogicalTime) → is_before g g ≡ false }
-    ensures transitive { (g h k : LogicalTime) → IsTrue (is_before g h) → IsTrue (is_before h k) → IsTrue (is_before g k) }
+    ensures transitive { (g h k : LogicalTime) → IsTrue (is_before g h) → IsTrue (is_before h k)
+        → IsTrue (is_before g k) }
     ensures one_of_three { (g h : LogicalTime) → IsTrue (is_before g h) ⊎ ((g ≡ h) ⊎ IsTrue (is_before h g)) }
     ensures at_most { (g h : LogicalTime) → IsTrue (is_at_most g h) ↔ (is_before h g ≡ false) }
     ensures same { (g h : LogicalTime) → IsTrue (is_same g h) ↔ (g ≡ h) }
@@ -21,16 +25,20 @@ pub fn order_is_total()
 #[tactic(auto, unfolding(crate::specs::LogicalTime::place))]
 /// A tag may be taken for its place, one number.
 pub fn places_keep_the_order()
-    ensures before { (g h : LogicalTime) → g.microstep < 2 ^ 32 → h.microstep < 2 ^ 32 → IsTrue (is_before g h) ↔ (place g < place h) }
-    ensures at_most { (g h : LogicalTime) → g.microstep < 2 ^ 32 → h.microstep < 2 ^ 32 → IsTrue (is_at_most g h) ↔ (place g ≤ place h) }
-    ensures one_tag_a_place { (g h : LogicalTime) → g.microstep < 2 ^ 32 → h.microstep < 2 ^ 32 → place g ≡ place h → g ≡ h }
+    ensures before { (g h : LogicalTime) → g.microstep < 2 ^ 32 → h.microstep < 2 ^ 32
+        → IsTrue (is_before g h) ↔ (place g < place h) }
+    ensures at_most { (g h : LogicalTime) → g.microstep < 2 ^ 32 → h.microstep < 2 ^ 32
+        → IsTrue (is_at_most g h) ↔ (place g ≤ place h) }
+    ensures one_tag_a_place { (g h : LogicalTime) → g.microstep < 2 ^ 32 → h.microstep < 2 ^ 32
+        → place g ≡ place h → g ≡ h }
 {}
 
 #[tactic(auto, unfolding(crate::specs::LogicalTime::place))]
 /// A sum is a tag or a delay, and where it stands.
 pub fn sums_are_logical_times()
     ensures logical { (g d : LogicalTime) → IsLogicalTime g → IsLogicalTime d → IsLogicalTime (sum_of g d) }
-    ensures place { (g d : LogicalTime) → IsLogicalTime g → IsLogicalTime d → place (sum_of g d) ≡ min (2 ^ 94) (min (place g + place d) (g.time * 2 ^ 32 + max (2 ^ 32) (place d))) }
+    ensures place { (g d : LogicalTime) → IsLogicalTime g → IsLogicalTime d
+        → place (sum_of g d) ≡ min (2 ^ 94) (min (place g + place d) (g.time * 2 ^ 32 + max (2 ^ 32) (place d))) }
 {}
 
 /// `(g + a) + b` against `g + (a then b)`.
@@ -47,12 +55,14 @@ pub fn then_associates()
 /// A permitted delay is none, one microstep, or a time below 2^62 ns.
 #[tactic(auto, using(crate::proofs::Paths::plain_delays))]
 pub fn permitted_delays()
-    ensures { (d : LogicalTime) → IsPlainDelay d ↔ ((d ≡ origin) ⊎ ((d ≡ one_microstep) ⊎ ((0 < d.time) × (d.time < 2 ^ 62) × (d.microstep ≡ 0)))) }
+    ensures { (d : LogicalTime) → IsPlainDelay d
+        ↔ ((d ≡ origin) ⊎ ((d ≡ one_microstep) ⊎ ((0 < d.time) × (d.time < 2 ^ 62) × (d.microstep ≡ 0)))) }
 {}
 
 /// The total of a path of fewer than 2^32 connections, wherever the path is cut.
 pub fn paths_may_be_cut()
-    ensures cut { (front back : List LogicalTime) → All IsPlainDelay (front ++ back) → length (front ++ back) < 2 ^ 32 → total_of (front ++ back) ≡ sum_of (total_of front) (total_of back) }
+    ensures cut { (front back : List LogicalTime) → All IsPlainDelay (front ++ back) → length (front ++ back) < 2 ^ 32
+        → total_of (front ++ back) ≡ sum_of (total_of front) (total_of back) }
     ensures logical { (path : List LogicalTime) → All IsPlainDelay path → IsLogicalTime (total_of path) }
 {}
 
@@ -70,14 +80,16 @@ pub fn sums_are_later()
 /// What `succ` gives is the least later tag.
 pub fn successors_are_least()
     ensures later { (g : LogicalTime) → IsLogicalTime g → g ≢ forever → IsTrue (is_before g (successor_of g)) }
-    ensures least { (g h : LogicalTime) → IsLogicalTime g → IsLogicalTime h → IsTrue (is_before g h) → IsTrue (is_at_most (successor_of g) h) }
+    ensures least { (g h : LogicalTime) → IsLogicalTime g → IsLogicalTime h → IsTrue (is_before g h)
+        → IsTrue (is_at_most (successor_of g) h) }
     ensures forever_stays { successor_of forever ≡ forever }
 {}
 
 /// What `pred` gives is the greatest earlier tag, and takes `succ` back.
 pub fn predecessors_are_greatest()
     ensures earlier { (g : LogicalTime) → IfSome (tag_before g) (λ h. IsTrue (is_before h g)) }
-    ensures greatest { (g h : LogicalTime) → IsLogicalTime g → IsLogicalTime h → IsTrue (is_before h g) → IsSomeAnd (tag_before g) (λ k. IsTrue (is_at_most h k)) }
+    ensures greatest { (g h : LogicalTime) → IsLogicalTime g → IsLogicalTime h → IsTrue (is_before h g)
+        → IsSomeAnd (tag_before g) (λ k. IsTrue (is_at_most h k)) }
     ensures finite { (g : LogicalTime) → IsLogicalTime g → IfSome (tag_before g) IsFinite }
     ensures of_successor { (g : LogicalTime) → IsLogicalTime g → g ≢ forever → tag_before (successor_of g) ≡ Some g }
     ensures then_successor { (g : LogicalTime) → IsLogicalTime g → IfSome (tag_before g) (λ h. successor_of h ≡ g) }
@@ -106,5 +118,6 @@ pub fn forever_of_both_kinds() -> (Tag, Delay)
 pub fn code_compares_as_defined()
     ensures tags { IsOrderOfTags ⟦<Tag as PartialEq>⟧.eq ⟦<Tag as PartialOrd>⟧.partial_cmp ⟦<Tag as Ord>⟧.cmp }
     ensures delays { IsOrderOfTags ⟦<Delay as PartialEq>⟧.eq ⟦<Delay as PartialOrd>⟧.partial_cmp ⟦<Delay as Ord>⟧.cmp }
-    ensures finite_tags { IsOrderOfTags ⟦<FiniteTag as PartialEq>⟧.eq ⟦<FiniteTag as PartialOrd>⟧.partial_cmp ⟦<FiniteTag as Ord>⟧.cmp }
+    ensures finite_tags { IsOrderOfTags ⟦<FiniteTag as PartialEq>⟧.eq ⟦<FiniteTag as PartialOrd>⟧.partial_cmp
+        ⟦<FiniteTag as Ord>⟧.cmp }
 {}

@@ -52,7 +52,9 @@ pub fn pred(tag: Tag) -> Option<Tag>
 /// None where the sum is FOREVER.
 fn sum(time: u64, microstep: u32, delay: Delay) -> Option<(Time, u32)>
     requires { IsLogicalTime (record { time = time; microstep = microstep }) }
-    ensures { let g : LogicalTime = record { time = time; microstep = microstep } in MatchOption result (sum_of g delay ≡ forever) (λ s. record { time = s.0; microstep = s.1 } ≡ sum_of g delay) }
+    ensures { let g : LogicalTime = record { time = time; microstep = microstep }
+        in MatchOption result (sum_of g delay ≡ forever)
+        (λ s. record { time = s.0; microstep = s.1 } ≡ sum_of g delay) }
 {
     // For the prover: a delay is at most FOREVER.
     delay.invariant();

@@ -53,7 +53,7 @@ impl Tag {
         }
     }
 
-    /// The tag that is so much later than the first.
+    /// The tag that is later than the first by the second.
     pub(crate) fn after_origin(delay: Delay) -> Tag
         ensures { result ≡ delay }
     {

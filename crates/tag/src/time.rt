@@ -64,7 +64,8 @@ impl fmt::Display for Time {
     }
 }
 
-/// A time in ns as a count of the greatest unit that divides it. The unit is sought from ns on, since most times are of a small one.
+/// A time in ns as a count of the greatest unit that divides it. The unit is sought from ns on, since most times are of
+/// a small one.
 #[tactic(auto, using(crate::proofs::Units::in_ns, crate::proofs::Units::in_us, crate::proofs::Units::in_ms))]
 pub fn in_units(time: u64) -> (u64, &'static str)
     requires { 0 < time }

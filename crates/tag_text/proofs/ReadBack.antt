@@ -7,7 +7,7 @@ use Rattle.tag_text.specs.Duration.{IsUnit, Spells}
 use Rattle.tag.specs.Printed.{printed_time}
 use Rattle.tag_text.proofs.Numerals.{numerals}
 
--- so many of a unit, one space before its name
+-- a count of a unit, one space before its name
 many_spelled : (count unit : ℕ) (name : List ℕ) → count < 2 ^ 64 → IsUnit name unit → Spells (decimal count ++ (codes " " ++ name)) (count * unit)
 many_spelled count unit name small u =
     let numeral = decimal_is_IsNumeral count small in

@@ -20,7 +20,7 @@ pub record HasParts (text digits : List ℕ) (unit : ℕ) : Type 0 where
   pub digits_are : IsTrue (all_ascii_digits digits)
   pub unit_is : IsUnit name unit
 
--- a number and a unit of which it is so many
+-- a number and the unit that it counts
 pub record SpellsWithUnit (text : List ℕ) (value : ℕ) : Type 0 where
   pub digits : List ℕ
   pub unit : ℕ

@@ -1,4 +1,5 @@
-ghost use Rattle.std.specs.Prelude.{◌≡◌, ℕ, ◌<◌, ◌≤◌, ◌^◌, ◌↔◌, ◌*◌, List, length, IsTrue, IfOk, MatchOption, SomeIff, ◌==◌};
+ghost use Rattle.std.specs.Prelude.{◌≡◌, ℕ, ◌<◌, ◌≤◌, ◌^◌, ◌↔◌, ◌*◌, List, length, IsTrue, IfOk, MatchOption, SomeIff};
+ghost use Rattle.std.specs.Prelude.{◌==◌};
 ghost use Rattle.std.specs.Char.{is_ascii_digit};
 ghost use Rattle.std.specs.List.{prefix_len};
 ghost use Rattle.std.specs.Str.{all_ascii_digits};
@@ -72,7 +73,8 @@ pub fn parse_duration(text: &str) -> Result<u64, DurationFault>
 
 /// The digits in front, and the unit in nanoseconds.
 fn parts(text: &[u8]) -> Option<(&[u8], u64)>
-    ensures { MatchOption result ((digits : List ℕ) (unit : ℕ) → ¬ (HasParts text.now digits unit)) (λ parts. HasParts text.now parts.0.now parts.1) }
+    ensures { MatchOption result ((digits : List ℕ) (unit : ℕ) → ¬ (HasParts text.now digits unit))
+        (λ parts. HasParts text.now parts.0.now parts.1) }
 {
     let (digits, rest) = text.split_at(digits_len(text));
     if digits.is_empty() {

@@ -1,4 +1,5 @@
-//! Attempts to connect that come to nothing count as turns: where no connection is made, and where no frame comes on one.
+//! Attempts to connect that come to nothing count as turns: where no connection is made, and where no frame comes on
+//! one.
 use coordinator::Coordinator;
 use federate::Federate;
 use node::{Event, NodeId};
@@ -20,7 +21,8 @@ const TURNS: u32 = 5;
 /// How many attempts come to nothing before the federate's first turn.
 const ATTEMPTS: u64 = 3;
 
-/// Lets no attempt come to anything. The federate's first turn waits until so many have come to nothing, at most 10,000 times 1 ms.
+/// Lets no attempt come to anything. The federate's first turn waits until this many have come to nothing, at most
+/// 10,000 times 1 ms.
 #[derive(Drop)]
 struct InVain {
     /// Whether a connection is made, on which nothing comes.
@@ -88,7 +90,8 @@ fn turns_beside_attempts<R: Machine>(rt: &R, connects: bool) -> Option<usize> {
     turns_made(&gathered)
 }
 
-/// Three attempts or more are turns of the five, so at most two are made otherwise, and one at least, in which the attempts came.
+/// Three attempts or more are turns of the five, so at most two are made otherwise, and one at least, in which the
+/// attempts came.
 #[test]
 fn counts_attempts_that_come_to_nothing_as_turns(rt: HostRuntime) {
     for connects in [false, true] {

@@ -1,4 +1,4 @@
-//! Of frames that wait for a writer so many are kept, and no more: those that came first.
+//! Of frames that wait for a writer this many are kept, and no more: those that came first.
 use node::Outgoing;
 use signal::Frame;
 use std::alloc::Global;
@@ -8,10 +8,10 @@ use tests_lines::tap::frames_of;
 use wires_transports::{Connection, Ending, MemoryCut, MemoryTransport, Transport, pair};
 use wires_workers::{Side, WriterQueue, write};
 
-/// So many frames wait at most.
+/// This many frames wait at most.
 const MOST: usize = 16_384;
 
-/// So many frames for the peer, which refuse with this number.
+/// This many frames for the peer, which refuse with this number.
 fn frames(alloc: Global, count: usize, refusal: u16) -> Option<Vec<Outgoing>> {
     let frame = Frame::Refuse {
         incarnation: 1,
@@ -37,7 +37,8 @@ fn is_second(frame: &Frame) -> bool {
     matches!(frame, Frame::Refuse { refusal: 71, .. })
 }
 
-/// How many frames of each of the two refusals are written, where so many of the one wait and then so many of the other are put.
+/// How many frames of each of the two refusals are written, where this many of the one wait and then this many of the
+/// other are put.
 fn written<R: Wait + Clock>(
     rt: &R,
     alloc: Global,

@@ -1,5 +1,5 @@
-//! Whichever call over the connections fails, and however much of a send went before that, a run has its rows, and an audit proves
-//! them: the federate connects again.
+//! Whichever call over the connections fails, and however much of a send went before that, a run has its rows, and an
+//! audit proves them: the federate connects again.
 ghost use Rattle.std.specs.Prelude.{◌≡◌, ◌≤◌};
 
 use std::alloc::Global;
@@ -23,7 +23,7 @@ enum Over {
 }
 
 impl Over {
-    /// Of so many bytes.
+    /// Of this many bytes.
     fn of(self, bytes: usize) -> usize {
         match self {
             Over::Nothing => 0,
@@ -33,7 +33,7 @@ impl Over {
     }
 }
 
-/// Lets so many calls pass, fails the next one, and lets all pass after it.
+/// Lets this many calls pass, fails the next one, and lets all pass after it.
 #[derive(Drop)]
 struct Fuse {
     passing: u64,
@@ -104,7 +104,8 @@ fn mends<R: Threads + Wait + Clock + Sync>(
     is_right(alloc, federation, gathered)
 }
 
-/// How many calls a run makes, where it is right whichever of them fails; else the first one whose failure isn't mended.
+/// How many calls a run makes, where it is right whichever of them fails; else the first one whose failure isn't
+/// mended.
 fn mends_each<R: Threads + Wait + Clock + Sync>(
     rt: &R,
     alloc: Global,

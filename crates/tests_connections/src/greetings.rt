@@ -9,8 +9,8 @@ use tests_lines::tap::{End, Fate, Tap, frames_of};
 use tests_samples::{Machine, loaded};
 use wires_workers::NoGate;
 
-/// Counts the connections that begin with a Hello, and those that don't, at both ends of each. One send in ten fails until so many
-/// have.
+/// Counts the connections that begin with a Hello, and those that don't, at both ends of each. One send in ten fails
+/// until this many have.
 #[derive(Drop)]
 struct Beginnings {
     alloc: Global,

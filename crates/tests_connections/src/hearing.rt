@@ -1,5 +1,5 @@
-//! Where nothing is lost, nothing is sent again: whatever a federate waits for wakes its runner, each time anew, and each frame of a
-//! step is handed on.
+//! Where nothing is lost, nothing is sent again: whatever a federate waits for wakes its runner, each time anew, and
+//! each frame of a step is handed on.
 use coordinator::Coordinator;
 use federate::Federate;
 use node::Event;
@@ -33,7 +33,8 @@ fn resends<R: Machine>(rt: &R, federation: &Federation) -> Option<bool> {
     }
 }
 
-/// Whether one of so many runs sends nothing again. A machine with much else to do may keep a federate waiting in some of them.
+/// Whether one of this many runs sends nothing again. A machine with much else to do may keep a federate waiting in
+/// some of them.
 fn hears<R: Machine>(rt: &R, runs: u32) -> Option<bool> {
     let federation = loaded(rt.alloc(), BY_TURNS, "")?;
     for _ in 0..runs {
@@ -44,7 +45,8 @@ fn hears<R: Machine>(rt: &R, runs: u32) -> Option<bool> {
     Some(false)
 }
 
-/// Without wake-ups each of the 41 turns would take a wait, and so one of the two federates would have waited ten times in each run.
+/// Without wake-ups each of the 41 turns would take a wait, and so one of the two federates would have waited ten times
+/// in each run.
 #[test]
 fn is_woken_by_each_thing_that_it_waits_for(rt: HostRuntime) {
     assert_eq!(rt; hears(&rt, 30), Some(true));

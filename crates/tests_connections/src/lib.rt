@@ -1,5 +1,5 @@
-//! Tests of federations in threads whose connections break, lose something, carry bytes that are no frame, or can't be had: a run has
-//! its rows all the same, where it has turns left. No program uses this crate.
+//! Tests of federations in threads whose connections break, lose something, carry bytes that are no frame, or can't be
+//! had: a run has its rows all the same, where it has turns left. No program uses this crate.
 //!
 //! Begin with `fused`, then `one_send`.
 #![tactic(auto)]

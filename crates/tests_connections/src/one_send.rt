@@ -30,7 +30,8 @@ const TERMS: Terms = Terms {
     frames: 2,
 };
 
-/// What befalls one send at an end, the n-th of all its connections, counted from 0; and how often each of two federates connects.
+/// What befalls one send at an end, the n-th of all its connections, counted from 0; and how often each of two
+/// federates connects.
 #[derive(Drop)]
 struct Once {
     end: End,
@@ -86,8 +87,8 @@ fn connections<R: Machine>(rt: &R, once: &Once) -> Option<[u64; 2]> {
     }
 }
 
-/// Bytes that are no frame, with the number of their fault: a length of 0; a body of no kind; an LTC with FOREVER; an Ack with a byte
-/// too many.
+/// Bytes that are no frame, with the number of their fault: a length of 0; a body of no kind; an LTC with FOREVER; an
+/// Ack with a byte too many.
 const MALICIOUS: &[(u16, &[u8])] = &[
     (40, &[0, 0, 0, 0]),
     (41, &[0, 0, 0, 1, 9]),
@@ -111,7 +112,8 @@ fn fault(alloc: Global, bytes: &[u8]) -> Option<u16> {
     }
 }
 
-/// Whether bytes that are no frame end their connection, and no other, wherever they come behind one of src's first sends.
+/// Whether bytes that are no frame end their connection, and no other, wherever they come behind one of src's first
+/// sends.
 fn ends_one_connection<R: Machine>(rt: &R, bytes: &'static [u8]) -> bool {
     for end in SRC {
         for nth in 0..3 {
@@ -132,7 +134,7 @@ fn ends_a_connection_on_which_something_is_no_frame(rt: HostRuntime) {
     }
 }
 
-/// How often src and snk connect where so much of a send goes, and it fails.
+/// How often src and snk connect where this much of a send goes, and it fails.
 #[test]
 fn ends_a_connection_on_which_a_send_failed(rt: HostRuntime) {
     for end in SRC {

@@ -1,5 +1,6 @@
-//! A federate that hears nothing: after ten waits of its runner it greets and sends again what may be lost, and each time after ten
-//! more. The numbers are those of docs/PROTOCOL.md, written out: a test that cited the constants of the code would pass with any.
+//! A federate that hears nothing: after ten waits of its runner it greets and sends again what may be lost, and each
+//! time after ten more. The numbers are those of docs/PROTOCOL.md, written out: a test that cited the constants of the
+//! code would pass with any.
 use node::Event;
 use std::alloc::Global;
 use tests_lines::journals::events_of;
@@ -39,8 +40,8 @@ fn turns(events: &[Event]) -> usize {
         .count()
 }
 
-/// How many turns there are between the last two resendings of a journal; none where there are fewer, or one of the two doesn't stand
-/// right behind a greeting.
+/// How many turns there are between the last two resendings of a journal; none where there are fewer, or one of the two
+/// doesn't stand right behind a greeting.
 fn turns_between(alloc: Global, journal: &[Event]) -> Option<usize> {
     let places = resendings(alloc, journal)?;
     let last = *places.last()?;

@@ -1,11 +1,11 @@
-//! Reports of desks are collected and audited. A report that is refused is handed back, an audit that is out of memory may be made
-//! again, and one that is begun while journals grow goes on.
+//! Reports of desks are collected and audited. A report that is refused is handed back, an audit that is out of memory
+//! may be made again, and one that is begun while journals grow goes on.
 use crate::desks::{Run, played};
 use crate::loading::loaded;
 use desk::Desk;
 use federate::Federate;
-use journal::Journal;
 use node::NodeId;
+use node_journal::Journal;
 use recorder::{
     AuditedRun, Collector, IncrementalAudit, Refused, Report, ReportFault, Unproved, audit,
 };
@@ -31,7 +31,8 @@ fn size_of(report: &Report) -> Size {
     }
 }
 
-/// Whether a report is taken: at once, or where it was out of memory and handed back, and all is as before, the next time.
+/// Whether a report is taken: at once, or where it was out of memory and handed back, and all is as before, the next
+/// time.
 fn takes(collector: &mut Collector<'_>, report: Report) -> bool {
     let count = collector.reports().len();
     let size = size_of(&report);
@@ -124,7 +125,8 @@ fn audits_twice(alloc: Global, federation: &Federation, said: Said<'_>) -> Optio
 
 // ---- audits of journals that grow
 
-/// Whether an audit knows these events of a node too: at once, or where it was out of memory and knows none of them, the next time.
+/// Whether an audit knows these events of a node too: at once, or where it was out of memory and knows none of them,
+/// the next time.
 fn learns(audit: &mut IncrementalAudit<'_>, node: NodeId, events: &Journal) -> bool {
     let known = audit.known(node);
     if audit.add(node, events).is_err() {

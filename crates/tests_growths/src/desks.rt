@@ -1,13 +1,13 @@
-//! Desks that get the events of rounds, on one thread, with their frames as bytes between them. An event that is refused isn't in
-//! the journal, and nothing else has changed.
+//! Desks that get the events of rounds, on one thread, with their frames as bytes between them. An event that is
+//! refused isn't in the journal, and nothing else has changed.
 use crate::loading::{are_all_of, loaded};
 use crate::ways::Way;
 use coordinator::Coordinator;
 use desk::{Desk, Memory};
 use federate::Federate;
 use fedrun_run::{coordinator_desk, federate_desks};
-use journal::Journal;
 use node::{Event, Node, Reply};
+use node_journal::Journal;
 use std::alloc::Global;
 use tests_samples::Federation;
 
@@ -63,7 +63,8 @@ fn marks_of<N: Counted>(desk: &Desk<N>) -> Marks {
     }
 }
 
-/// Hands an event in: at once, or where it was out of memory and all is as before, the next time. None where that fails.
+/// Hands an event in: at once, or where it was out of memory and all is as before, the next time. None where that
+/// fails.
 fn hand_in<N: Counted>(desk: &mut Desk<N>, event: &Event) -> Option<Reply> {
     let before = marks_of(desk);
     match desk.handle(*event) {
@@ -101,8 +102,8 @@ impl<'a> Run<'a> {
         }
     }
 
-    /// A federate's desk gets an event, and what it answers is on its way. None, here and below, where that fails or a node
-    /// refuses something.
+    /// A federate's desk gets an event, and what it answers is on its way. None, here and below, where that fails or a
+    /// node refuses something.
     fn federate_gets(&mut self, number: usize, event: Event) -> Option<()> {
         match hand_in(self.federates.get_mut(number)?, &event)? {
             Reply::Nothing => Some(()),

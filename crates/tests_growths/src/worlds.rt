@@ -51,7 +51,8 @@ fn marks_of(world: &World<'_>) -> Marks {
     }
 }
 
-/// Whether a step is made and no node refuses it: at once, or where it was out of memory and all is as before, the next time.
+/// Whether a step is made and no node refuses it: at once, or where it was out of memory and all is as before, the next
+/// time.
 fn makes(world: &mut World<'_>, step: Step) -> bool {
     let before = marks_of(world);
     let outcome = match world.apply(step) {
@@ -159,8 +160,8 @@ fn makes_the_same_step_after_a_refusal(rt: HostRuntime) {
     assert_eq!(rt; plays_twice(rt.alloc()), Some(true));
 }
 
-/// Steps of federates and frames that aren't there: with the greatest numbers that are kept in little memory, with greater ones, and
-/// with small ones behind these.
+/// Steps of federates and frames that aren't there: with the greatest numbers that are kept in little memory, with
+/// greater ones, and with small ones behind these.
 const IDLE: [Step; 9] = [
     Step::Announce(65_535),
     Step::Deliver(Dir::Up(0), 4_294_967_295),

@@ -64,7 +64,7 @@ fn first_piece(bytes: &[u8]) -> Option<(usize, &[u8])> {
     Some((count, bytes.get(size..)?))
 }
 
-/// Whether the bytes are spellings of so many frames each.
+/// Whether the bytes are spellings of this many frames each.
 fn is_cut(bytes: &[u8], counts: &[usize]) -> bool {
     let mut left = bytes;
     for count in counts {
@@ -76,7 +76,8 @@ fn is_cut(bytes: &[u8], counts: &[usize]) -> bool {
     left.is_empty()
 }
 
-/// Whether frames are written as spellings of so many each, and read again. None, here and below, where there was no memory.
+/// Whether frames are written as spellings of this many each, and read again. None, here and below, where there was no
+/// memory.
 fn are_cut(alloc: Global, own: u8, peer: u8, frames: &[Frame], counts: &[usize]) -> Option<bool>
     requires { 0 < own }
 {
@@ -145,7 +146,7 @@ const ROWS: [(u64, &[usize]); 7] = [
     (130, &[64, 64, 2]),
 ];
 
-/// So many messages in a row.
+/// This many messages in a row.
 fn row(alloc: Global, count: u64) -> Option<Vec<Frame>> {
     let mut frames = Vec::new(alloc);
     for number in 1..=count {

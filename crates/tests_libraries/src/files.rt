@@ -299,7 +299,7 @@ fn wrong_inputs(alloc: Global, plan: &Plan) -> Option<&'static str> {
     None
 }
 
-/// Whether so many bytes of an input file are too many.
+/// Whether this many bytes of an input file are too many.
 fn are_too_many(alloc: Global, plan: &Plan, count: usize) -> bool {
     match Vec::from_elem(alloc, b'#', count) {
         Ok(long) => matches!(

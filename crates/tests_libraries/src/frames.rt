@@ -89,7 +89,8 @@ fn frames() -> [Frame; 7] {
     ]
 }
 
-/// Those of the frames that the reader has still to give when it gives no more; None where it gives another one, or a fault.
+/// Those of the frames that the reader has still to give when it gives no more; None where it gives another one, or a
+/// fault.
 fn not_given<'a>(reader: &mut FrameReader, frames: &'a [Frame]) -> Option<&'a [Frame]> {
     let mut left = frames;
     for _ in 0..=frames.len() {
@@ -278,7 +279,7 @@ fn refuses_bytes_for_good(rt: HostRuntime) {
     }
 }
 
-/// How many acknowledgements a reader gives before anything else, at most so many.
+/// How many acknowledgements a reader gives before anything else, at most this many.
 fn acknowledgements(reader: &mut FrameReader, most: usize) -> usize {
     for count in 0..most {
         if !matches!(reader.next(), Ok(Some(Frame::Ack { .. }))) {
@@ -288,7 +289,7 @@ fn acknowledgements(reader: &mut FrameReader, most: usize) -> usize {
     most
 }
 
-/// Whether so many acknowledgements, fed in one piece, are read; None where there was no memory for them.
+/// Whether this many acknowledgements, fed in one piece, are read; None where there was no memory for them.
 fn are_fed_at_once(alloc: Global, count: usize) -> Option<bool> {
     let mut stream = Vec::new(alloc);
     for _ in 0..count {

@@ -1,8 +1,8 @@
-//! Tests of what the crates below it let others call, and of what no clause there says: rows of small federations, least
-//! delays of worked examples, how files are answered, what lines are read as, which of several values on an agenda counts, that
-//! calls succeed with ample memory, and that out of memory is answered and changes nothing, whichever allocation is refused:
-//! `rt try --test --fail-alloc 1..`. It has nothing of its own: a crate with tests is proved twice, so the libraries have
-//! theirs here.
+//! Tests of what the crates below it let others call, and of what no clause there says: rows of small federations,
+//! least delays of worked examples, how files are answered, what lines are read as, which of several values on an
+//! agenda counts, that calls succeed with ample memory, and that out of memory is answered and changes nothing,
+//! whichever allocation is refused: `rt try --test --fail-alloc 1..`. It has nothing of its own: a crate with tests is
+//! proved twice, so the libraries have theirs here.
 //!
 //! Begin with `federations`, whose texts the others load.
 #![tactic(auto)]

@@ -60,7 +60,7 @@ enum Step {
     Left(usize, usize),
     /// What it greets with and what it acknowledges.
     Says(Option<Frame>, Frame),
-    /// So many frames are sent again, of which this is the first.
+    /// This many frames are sent again, of which this is the first.
     Resends(usize, Option<Frame>),
     /// It is closed by this side.
     Closes,
@@ -101,7 +101,7 @@ fn resends(end: &LinkEnd, count: usize, first: Option<Frame>) -> bool {
     }
 }
 
-/// The place of the first step that a fresh end with so much room doesn't do.
+/// The place of the first step that a fresh end with this much room doesn't do.
 fn first_wrong(alloc: Global, room: usize, steps: &[Step]) -> Option<usize> {
     let mut end = LinkEnd::new(alloc, 4, 1, room);
     for (place, step) in steps.iter().enumerate() {
@@ -183,7 +183,7 @@ fn is_closed_by_a_refusal(rt: HostRuntime) {
     assert_eq!(rt; first_wrong(rt.alloc(), 3, &steps), None);
 }
 
-/// Whether so many signals are taken one after the other, and each that was refused out of memory the next time.
+/// Whether this many signals are taken one after the other, and each that was refused out of memory the next time.
 fn takes_all(end: &mut LinkEnd, signals: u16) -> bool {
     for number in 1..=signals {
         let frame = data(u64::from(number), number);
@@ -228,7 +228,8 @@ fn does_all(end: &mut LinkEnd) -> bool {
         && resent(end) == Some(20)
 }
 
-/// Whichever allocation is refused, nothing has changed and the same call succeeds later: `rt try --test --fail-alloc N`.
+/// Whichever allocation is refused, nothing has changed and the same call succeeds later: `rt try --test --fail-alloc
+/// N`.
 #[test]
 fn changes_nothing_without_memory(rt: HostRuntime) {
     let mut end = LinkEnd::new(rt.alloc(), 4, 1, 100);

@@ -1,5 +1,5 @@
-//! Out of memory: it is answered, nothing else is, nothing changes, and the next call succeeds. These pass with ample memory
-//! and whichever one allocation is refused: `rt try --test --fail-alloc N`.
+//! Out of memory: it is answered, nothing else is, nothing changes, and the next call succeeds. These pass with ample
+//! memory and whichever one allocation is refused: `rt try --test --fail-alloc N`.
 ghost use Rattle.plan.specs.External.{AreInputsOf};
 ghost use Rattle.reactor_programs.specs.Programs.{AreProgramsOf};
 

@@ -1,5 +1,5 @@
-//! Out of memory in `put_all` and in turns: all is as before, and the call made again succeeds. These pass with ample memory and
-//! whichever one allocation is refused.
+//! Out of memory in `put_all` and in turns: all is as before, and the call made again succeeds. These pass with ample
+//! memory and whichever one allocation is refused.
 ghost use Rattle.std.specs.Prelude.{◌<◌, length};
 ghost use Rattle.plan.specs.External.{AreInputsOf};
 ghost use Rattle.reactor_programs.specs.Programs.{AreProgramsOf};
@@ -48,7 +48,7 @@ impl Shown {
     }
 }
 
-/// So many events at different times, with one value.
+/// This many events at different times, with one value.
 fn events(alloc: Global, count: u64, value: i64) -> Option<Vec<PendingEvent>> {
     let mut events = Vec::new(alloc);
     for place in 0..count.min(TIMES) {
@@ -65,7 +65,8 @@ fn is_shown(alloc: Global, agenda: &Agenda, shown: &Shown) -> bool {
     }
 }
 
-/// Puts events, at the second call where memory is refused, which is to change nothing. None where it does, or is refused again.
+/// Puts events, at the second call where memory is refused, which is to change nothing. None where it does, or is
+/// refused again.
 fn put(alloc: Global, agenda: &mut Agenda, events: &[PendingEvent], before: &Shown) -> Option<Put> {
     match agenda.put_all(events) {
         Ok(put) => Some(put),
@@ -98,7 +99,7 @@ fn is_put(
     }
 }
 
-/// The same of so many events with one value; None where there was no memory for anything else.
+/// The same of this many events with one value; None where there was no memory for anything else.
 fn are_put_at_once(
     alloc: Global,
     agenda: &mut Agenda,
@@ -169,7 +170,7 @@ after = "20 us"
 /// How many rows it has.
 const ROWS: usize = 31;
 
-/// What is present of counts that come so many us later.
+/// What is present of counts that come this many us later.
 fn late(us: usize, delay: usize) -> Option<i64> {
     i64::try_from(us.checked_sub(delay)?).ok()?.checked_add(1)
 }
@@ -184,7 +185,7 @@ fn is_row(row: &RowView<'_>, us: usize) -> bool {
         && value_at(row.outputs(), 0) == late(us, 0)
 }
 
-/// Whether these are the first of its rows, so many.
+/// Whether these are the first of its rows, this many.
 fn are_first(rows: &Rows, count: usize) -> bool {
     for us in 0..rows.len().min(ROWS) {
         if !is_row(&rows.row(us), us) {

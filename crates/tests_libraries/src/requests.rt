@@ -1,6 +1,6 @@
 //! What the words of the command line ask for.
-use fedrun_text::RowFormat;
 use fedrun_words::{Request, WordsFault, read_words};
+use files_text::RowFormat;
 use std::alloc::Global;
 use std::test::Fail;
 

@@ -33,7 +33,7 @@ fn is_row(row: &RowView<'_>, federate: usize, time: u64, input: i64, output: i64
         && row.outputs() == [Entry::new(0, output)].as_slice()
 }
 
-/// Whether these are the first rows, so many of them.
+/// Whether these are the first rows, this many of them.
 pub(crate) fn are_first(rows: &Rows, count: usize) -> bool {
     rows.len() == count && count <= ROWS.len() && are(rows, &ROWS[..count])
 }
@@ -51,7 +51,7 @@ fn are(rows: &Rows, expected: &[(usize, u64, i64, i64)]) -> bool {
     rows.len() == expected.len()
 }
 
-/// Whether so many turns at most are made, and then so many rows are there.
+/// Whether this many turns at most are made, and then this many rows are there.
 fn makes(whole: &mut Whole<'_>, most: u32, made: u32, count: usize) -> bool {
     whole.turns(most) == Ok(made) && are_first(whole.rows(), count)
 }

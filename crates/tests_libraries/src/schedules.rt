@@ -1,6 +1,6 @@
 //! Which lines a schedule has, what each asks for, and which line is answered as bad.
 use crate::federations::loaded;
-use fedrun_script::{Command, MOST_BYTES, ScheduleLine, ScriptFault, read_script};
+use files_script::{Command, MOST_BYTES, ScheduleLine, ScriptFault, read_script};
 use plan::Plan;
 use std::alloc::Global;
 use std::test::Fail;
@@ -129,8 +129,8 @@ fn refuses_other_lines(rt: HostRuntime) -> Result<(), Fail> {
     Ok(())
 }
 
-/// Files, with the line that is answered as bad, 0 where none is; else how many commands they have, the line of the last of
-/// these, and how many lines they have.
+/// Files, with the line that is answered as bad, 0 where none is; else how many commands they have, the line of the
+/// last of these, and how many lines they have.
 const FILES: &[(&[u8], usize, usize, usize, usize)] = &[
     (b"", 0, 0, 0, 0),
     (b"\n", 0, 0, 0, 1),

@@ -28,7 +28,7 @@ const BAD: &[&str] = &[
     "0x1 s", "1 s s",
 ];
 
-/// The first text that isn't of so many nanoseconds.
+/// The first text that isn't of this many nanoseconds.
 fn not_read() -> Option<&'static str> {
     for (text, nanoseconds) in DURATIONS {
         if parse_duration(text) != Ok(*nanoseconds) {

@@ -1,6 +1,7 @@
 //! Federations that these tests run beside those of `tests_samples`.
 
-/// Two federates that send to each other by turns: none of them comes to its end before the other has sent what it sends.
+/// Two federates that send to each other by turns: none of them comes to its end before the other has sent what it
+/// sends.
 pub const BY_TURNS: &str = r#"stop = "40 ms"
 connection = [
     { from = "src.y", to = "snk.x", after = "1 ms" },

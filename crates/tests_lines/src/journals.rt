@@ -1,6 +1,6 @@
 //! Journals, as tests look at them.
-use journal::Journal;
 use node::Event;
+use node_journal::Journal;
 use std::alloc::Global;
 
 /// A list of a journal's events; None without memory for it.

@@ -1,8 +1,8 @@
-//! Federations in threads over connections that a test has its hands on, over memory and over TCP: their nodes, their runs, and what
-//! an audit answers after it. No part of the product.
+//! Federations in threads over connections that a test has its hands on, over memory and over TCP: their nodes, their
+//! runs, and what an audit answers after it. No part of the product.
 //!
-//! Begin with `tap`, by which a test sees and changes what goes over connections, then `lines`, which runs a federation over them;
-//! `nodes` and `reported` are what a run begins with and what stands after it.
+//! Begin with `tap`, by which a test sees and changes what goes over connections, then `lines`, which runs a federation
+//! over them; `nodes` and `reported` are what a run begins with and what stands after it.
 #![tactic(auto)]
 
 pub mod federations;

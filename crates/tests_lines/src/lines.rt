@@ -146,7 +146,7 @@ impl Acceptor for NoAcceptor {
     fn let_in<R: Wait + Clock>(self, _rt: &R, _alloc: Global, _ending: &Ending) {}
 }
 
-/// The ways of so many federates to the coordinator.
+/// The ways of this many federates to the coordinator.
 fn lines<'p, L: Pairing<T, C>, T: Drop, C: Drop>(
     alloc: Global,
     count: usize,

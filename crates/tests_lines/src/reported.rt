@@ -3,7 +3,7 @@ use crate::nodes::has_all_rows;
 use coordinator::Coordinator;
 use desk::Desk;
 use federate::Federate;
-use journal::Journal;
+use node_journal::Journal;
 use recorder::{Report, Unproved, audit};
 use std::alloc::Global;
 use tests_samples::Federation;

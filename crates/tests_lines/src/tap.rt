@@ -1,4 +1,5 @@
-//! What a test does to the connections of a run: it sees what is sent and what comes, and may break, lose or add something.
+//! What a test does to the connections of a run: it sees what is sent and what comes, and may break, lose or add
+//! something.
 ghost use Rattle.std.specs.Prelude.{◌≡◌, ◌≤◌, ◌<◌};
 
 use signal::{Frame, FrameReader};
@@ -39,7 +40,7 @@ impl Fate {
         }
     }
 
-    /// So many bytes of it go, and it fails.
+    /// This many bytes of it go, and it fails.
     pub fn broken(goes: usize) -> Fate {
         Fate {
             goes,
@@ -65,8 +66,8 @@ pub trait Tap {
         true
     }
 
-    /// These bytes, which are whole frames, are about to be sent at an end, where so many sends went before them on the same
-    /// connection; what becomes of them.
+    /// These bytes, which are whole frames, are about to be sent at an end, where this many sends went before them on
+    /// the same connection; what becomes of them.
     fn sends(&self, _end: End, _before: u64, _bytes: &[u8]) -> Fate {
         Fate::whole()
     }

@@ -30,7 +30,8 @@ accepts v peer (Msg connection tag value) =
 -- a hundred messages are sent
 abbrev pub advances : Counter → Outcome (Made Counter)
 advances v =
-    if nat_lt v.sent 100 then Done (record { after = record v { sent = v.sent + 1 }; sent = next_message v ∷ [] }) else Nothing
+    if nat_lt v.sent 100 then Done
+    (record { after = record v { sent = v.sent + 1 }; sent = next_message v ∷ [] }) else Nothing
 
 abbrev pub counting : Core Counter ℕ
 counting = record {

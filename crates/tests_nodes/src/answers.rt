@@ -1,4 +1,4 @@
-//! What a hub's station answers: what its ends refuse, what its node refuses, and what is taken.
+//! What the coordinator's station answers: what its ends refuse, what its node refuses, and what is taken.
 use crate::counter::Counter;
 use link::LinkEnd;
 use node::{Event, Outgoing, Reply, Station};
@@ -15,8 +15,8 @@ enum Expected {
     Refused(u16, Option<Outgoing>),
 }
 
-/// A hub's station with two peers.
-fn hub(alloc: Global) -> Result<Station<Counter>, AllocError> {
+/// The coordinator's station with two peers.
+fn coordinator(alloc: Global) -> Result<Station<Counter>, AllocError> {
     let mut ends = Vec::with_capacity(alloc, 2)?;
     ends.push(LinkEnd::new(alloc, 0, 1, 4))?;
     ends.push(LinkEnd::new(alloc, 1, 1, 4))?;
@@ -97,7 +97,7 @@ fn answers(station: &mut Station<Counter>, event: Event, expected: Expected) -> 
 
 /// The place of the first step that doesn't answer so, of a fresh station's steps, one after the other.
 fn first_wrong(alloc: Global, steps: &[(Event, Expected)]) -> Result<Option<usize>, AllocError> {
-    let mut station = hub(alloc)?;
+    let mut station = coordinator(alloc)?;
     for (place, (event, expected)) in steps.iter().enumerate() {
         if !answers(&mut station, *event, *expected) {
             return Ok(Some(place));

@@ -12,7 +12,8 @@ use std::test::Fail;
 use tag::{FiniteTag, Tag, Time};
 use tests_samples::{LOOP, STARTED_COUNTER};
 
-/// What a step is to answer: this acknowledgement and then this signal, if any, or a refusal, and what is sent then, if anything.
+/// What a step is to answer: this acknowledgement and then this signal, if any, or a refusal, and what is sent then, if
+/// anything.
 #[derive(Clone, Copy)]
 enum Expected {
     Sent(Outgoing, Option<Post>),
@@ -195,7 +196,8 @@ fn wrong_of_fresh(alloc: Global, plan: &Plan, steps: &[Step]) -> Option<Option<u
     Some(first_wrong(&mut station, steps))
 }
 
-/// The same of a coordinator that is made again where there was no memory for it; where there is no plan, no step is right.
+/// The same of a coordinator that is made again where there was no memory for it; where there is no plan, no step is
+/// right.
 fn wrong_of_plan(alloc: Global, plan: Option<Plan>, steps: &[Step]) -> Option<usize> {
     match plan {
         Some(plan) => match wrong_of_fresh(alloc, &plan, steps) {

@@ -34,7 +34,7 @@ impl Node for Counter {
 
     ghost listed = { λ none. [] };
 
-    ghost HUB = { true };
+    ghost IS_COORDINATOR = { true };
 
     ghost core = { counting };
 
@@ -88,7 +88,7 @@ impl Node for Counter {
         Ok(true)
     }
 
-    fn is_hub(&self) -> bool {
+    fn is_coordinator(&self) -> bool {
         true
     }
 

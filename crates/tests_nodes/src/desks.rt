@@ -37,7 +37,8 @@ fn told(reply: &Reply) -> Option<u64> {
     }
 }
 
-/// Hands in advances; the share, where each is answered the number of its place in the journal: the station numbers them.
+/// Hands in advances; the share, where each is answered the number of its place in the journal: the station numbers
+/// them.
 fn advance<R: Wait>(rt: &R, alloc: Global, shared: &Shared<Counter>, count: u32) -> Option<Share> {
     let mut share = Share::new(alloc);
     for _ in 0..count {
@@ -63,7 +64,8 @@ fn by_two<R: Threads + Wait + Sync>(
     )
 }
 
-/// How many events the journal has that is gathered from these shares; None where they disagree, or there was no memory.
+/// How many events the journal has that is gathered from these shares; None where they disagree, or there was no
+/// memory.
 fn gathered(alloc: Global, shared: Shared<Counter>, first: Share, second: Share) -> Option<usize> {
     let mut shares = Vec::with_capacity(alloc, 2).ok()?;
     shares.push(first).ok()?;

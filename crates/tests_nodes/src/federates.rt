@@ -1,5 +1,5 @@
-//! Federates at their stations: the answers of one to each event, late messages and old grants, that what it sends is in order
-//! whatever comes, and out of memory.
+//! Federates at their stations: the answers of one to each event, late messages and old grants, that what it sends is
+//! in order whatever comes, and out of memory.
 use crate::joined::Chance;
 use federate::Federate;
 use link::LinkEnd;
@@ -227,8 +227,8 @@ fn sum_steps() -> [(Event, Expected); 8] {
     ]
 }
 
-/// The first of a fresh federate's steps that isn't answered so, and whether its only row is that of the first sum then; None
-/// where there was no memory for it.
+/// The first of a fresh federate's steps that isn't answered so, and whether its only row is that of the first sum
+/// then; None where there was no memory for it.
 fn answers_of(
     alloc: Global,
     federation: &Federation,
@@ -404,7 +404,7 @@ fn sent_by_fresh(alloc: Global, federation: &Federation, chance: &mut Chance) ->
     sent_by(&mut station, chance)
 }
 
-/// The same of so many of them.
+/// The same of this many of them.
 fn sent_in_order(alloc: Global, federation: &Federation, lists: u32) -> Option<usize> {
     let mut chance = Chance(1);
     let mut count = 0usize;

@@ -55,8 +55,8 @@ impl Side {
         }
     }
 
-    /// One step. What it sends is on its way to the other side, each frame not at all, once or twice. None where something
-    /// else is refused than a number above the next, or a message for which there is no room.
+    /// One step. What it sends is on its way to the other side, each frame not at all, once or twice. None where
+    /// something else is refused than a number above the next, or a message for which there is no room.
     fn step(&mut self, chance: &mut Chance, event: Event, other: &mut Side) -> Option<()> {
         let frames = match self.station.step(event) {
             Ok(Reply::Nothing | Reply::Refused(52 | 60, _)) => return Some(()),
@@ -109,7 +109,7 @@ impl Side {
     }
 }
 
-/// Whether both sides have taken all within so many rounds. They take messages in order alone.
+/// Whether both sides have taken all within this many rounds. They take messages in order alone.
 fn all_taken(alloc: Global, seed: u64, rounds: u32) -> Option<bool> {
     let mut chance = Chance(seed);
     let mut left = Side::new(alloc).ok()?;

@@ -1,6 +1,6 @@
 //! In how little room journals keep their events, which no contract says.
-use journal::{Batch, Journal};
 use node::Event;
+use node_journal::{Batch, Journal};
 use std::alloc::{AllocError, Global};
 
 /// Events that come together.
@@ -24,7 +24,7 @@ fn add_together(alloc: Global, journal: &mut Journal) -> Result<(), AllocError> 
     Ok(())
 }
 
-/// A journal of twice what comes together, each with so many turns behind it.
+/// A journal of twice what comes together, each with this many turns behind it.
 fn twice(alloc: Global, turns: u32) -> Result<Journal, AllocError> {
     let mut journal = Journal::new(alloc);
     for _ in 0..2 {
@@ -34,7 +34,8 @@ fn twice(alloc: Global, turns: u32) -> Result<Journal, AllocError> {
     Ok(journal)
 }
 
-/// How many events such a journal has, and in how many blocks it keeps them; then the same of its copy from the third event on.
+/// How many events such a journal has, and in how many blocks it keeps them; then the same of its copy from the third
+/// event on.
 fn kept(alloc: Global, turns: u32) -> Result<[usize; 4], AllocError> {
     let journal = twice(alloc, turns)?;
     let mut copy = Journal::new(alloc);

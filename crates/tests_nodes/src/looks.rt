@@ -32,7 +32,8 @@ fn looks_in_chain(alloc: Global, federate: usize) -> Option<u64> {
     looks_of(alloc, &plan, federate)
 }
 
-/// One look at the federate itself, and at most one at each of those after it: of the last, of the last but one, of the first.
+/// One look at the federate itself, and at most one at each of those after it: of the last, of the last but one, of the
+/// first.
 #[test]
 fn looks_at_most_at_a_federate_and_those_after_it(rt: HostRuntime) {
     for (federate, most) in [(63, 1), (62, 2), (0, 64)] {

@@ -86,7 +86,8 @@ fn is_lawful(course: &Course, peer: usize, signal: &Signal) -> bool
     }
 }
 
-/// A lawful signal of a federate, or one that isn't. Where none of eight is so, it is NET(FOREVER), which is always lawful.
+/// A lawful signal of a federate, or one that isn't. Where none of eight is so, it is NET(FOREVER), which is always
+/// lawful.
 fn drawn(chance: &mut Chance, course: &Course, peer: usize, lawful: bool) -> Signal
     requires { peer < 2 }
 {
@@ -167,7 +168,8 @@ fn goes_on(station: &mut Station<Coordinator>, chance: &mut Chance, course: &mut
     }
 }
 
-/// What a fresh coordinator sends for a list of forty made-up signals; None where it isn't in order, or there was no memory.
+/// What a fresh coordinator sends for a list of forty made-up signals; None where it isn't in order, or there was no
+/// memory.
 fn sent_by_fresh(alloc: Global, plan: &Plan, chance: &mut Chance) -> Option<Sent> {
     let mut station = station(alloc, plan)?;
     let mut course = Course {
@@ -218,8 +220,8 @@ fn sent_both_ways(alloc: Global, lists: u32) -> Option<Sent> {
     sent_in_all(alloc, &plan, lists)
 }
 
-/// After a TAG a federate gets neither an earlier or equal TAG nor a message at or below it. The counts only show that the test
-/// isn't empty.
+/// After a TAG a federate gets neither an earlier or equal TAG nor a message at or below it. The counts only show that
+/// the test isn't empty.
 #[test]
 fn sends_in_order_whatever_comes(rt: HostRuntime) -> Result<(), Fail> {
     let sent = sent_both_ways(rt.alloc(), 10_000).ok_or("in order")?;

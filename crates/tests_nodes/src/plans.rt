@@ -26,7 +26,7 @@ impl Wire {
     }
 }
 
-/// A plan of so many federates that stops at a time in ns; None where it isn't legal, or there was no memory for it.
+/// A plan of this many federates that stops at a time in ns; None where it isn't legal, or there was no memory for it.
 pub(crate) fn planned(alloc: Global, federates: usize, wires: &[Wire], stop: u64) -> Option<Plan> {
     let draft = Draft {
         stop: Time::new(stop)?,

@@ -1,11 +1,11 @@
-//! A blank federate with the next incarnation takes the place of another after its first row: the coordinator doesn't know it, it is
-//! told so, and nothing is printed.
+//! A blank federate with the next incarnation takes the place of another after its first row: the coordinator doesn't
+//! know it, it is told so, and nothing is printed.
 use crate::printed::printed;
 use crate::relay::{NEXT, results, with_blank};
 use coordinator::Coordinator;
 use federate::Federate;
-use journal::Journal;
 use node::{Event, Node, NodeId};
+use node_journal::Journal;
 use recorder::{Report, Unproved};
 use signal::{Frame, Hello};
 use std::alloc::Global;

@@ -1,10 +1,11 @@
-//! A federate that lies: it announces a late tag, and sends a message for an earlier one once the receiver was granted more. The
-//! receiver gets nothing at or below what it was granted, the one that lied is refused and connects no more, and nothing is printed.
+//! A federate that lies: it announces a late tag, and sends a message for an earlier one once the receiver was granted
+//! more. The receiver gets nothing at or below what it was granted, the one that lied is refused and connects no more,
+//! and nothing is printed.
 use crate::printed::printed;
 use coordinator::Coordinator;
 use federate::Federate;
-use journal::Journal;
 use node::{Event, Node, NodeId};
+use node_journal::Journal;
 use signal::{Frame, Signal};
 use std::alloc::Global;
 use std::sync::Wait;
@@ -55,8 +56,9 @@ const TERMS: Terms = Terms {
     frames: 2,
 };
 
-/// Has src lie: where it sends its message, the early one goes. Src is held before it advances until snk has sent an LTC, and so has
-/// run a tag that it was granted, at most 10,000 times 1 ms. Src's connection breaks once a Refuse has come on it.
+/// Has src lie: where it sends its message, the early one goes. Src is held before it advances until snk has sent an
+/// LTC, and so has run a tag that it was granted, at most 10,000 times 1 ms. Src's connection breaks once a Refuse has
+/// come on it.
 #[derive(Drop)]
 struct Lie {
     alloc: Global,

@@ -1,7 +1,7 @@
 //! What is printed of reports that an audit doesn't prove.
 use fedrun_run::{AuditedFault, RunOutput, print_audited};
-use fedrun_text::RowFormat;
-use journal::Journal;
+use files_text::RowFormat;
+use node_journal::Journal;
 use recorder::{IncrementalAudit, Report};
 use std::alloc::Global;
 use tests_samples::Federation;

@@ -1,5 +1,6 @@
-//! A federate that the coordinator refuses, since a signal that it never sent came in its name: it hears of that and connects no more.
-//! Where the Refuse is lost with its connection, it isn't sent again: the federate goes on until its turns are used up.
+//! A federate that the coordinator refuses, since a signal that it never sent came in its name: it hears of that and
+//! connects no more. Where the Refuse is lost with its connection, it isn't sent again: the federate goes on until its
+//! turns are used up.
 use coordinator::Coordinator;
 use federate::Federate;
 use node::Event;
@@ -33,8 +34,8 @@ const REFUSE: Frame = Frame::Refuse {
     refusal: 75,
 };
 
-/// Forges the first signal of src behind its first Hello. The connection on which the Refuse is sent breaks: after it came, or before
-/// it goes.
+/// Forges the first signal of src behind its first Hello. The connection on which the Refuse is sent breaks: after it
+/// came, or before it goes.
 #[derive(Drop)]
 struct Forging {
     alloc: Global,

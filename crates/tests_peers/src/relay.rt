@@ -8,9 +8,9 @@ use crossbeam_channel::Receiver;
 use desk::{Desk, Shared};
 use federate::Federate;
 use fedrun_run::{coordinator_desk, federate_desks};
-use journal::Journal;
 use link::LinkEnd;
 use node::{Event, Node, NodeId, Station};
+use node_journal::Journal;
 use signal::{Frame, Hello, Signal};
 use std::alloc::Global;
 use std::net::{Net, SocketAddr, TcpListener, TcpStream};
@@ -45,8 +45,8 @@ const TERMS: Terms = Terms {
     frames: 2,
 };
 
-/// When the blank federate connects, and from when on the second doesn't any more: after the second's first row. The first is held
-/// then, until the blank one's Hello has come, at most 10,000 times 1 ms.
+/// When the blank federate connects, and from when on the second doesn't any more: after the second's first row. The
+/// first is held then, until the blank one's Hello has come, at most 10,000 times 1 ms.
 #[derive(Drop)]
 struct Relay<'a, 'f> {
     alloc: Global,
@@ -225,7 +225,8 @@ struct Entrance<'r, 'a, 'f, 'm, M: Net<Stream = TcpStream, Listener = TcpListene
     acceptor: TcpAcceptor<'m>,
 }
 
-/// On a port that the system gives. No connection comes by the number of the blank federate, which the coordinator doesn't know.
+/// On a port that the system gives. No connection comes by the number of the blank federate, which the coordinator
+/// doesn't know.
 fn open<'r, 'a, 'f, 'm, M: Net<Stream = TcpStream, Listener = TcpListener>>(
     net: &'m M,
     alloc: Global,

@@ -5,8 +5,8 @@ use fedrun_files::FileFault;
 use std::net::{Net, TcpListener, TcpStream};
 use tests_samples::{COUNTER, Machine};
 
-/// Words of a command where `fed.toml` alone is there, its status, and the files that it asks for: each with why its bytes
-/// aren't given, none where they are.
+/// Words of a command where `fed.toml` alone is there, its status, and the files that it asks for: each with why its
+/// bytes aren't given, none where they are.
 const ASKED: &[(&[&str], u8, &[(&str, Option<FileFault>)])] = &[
     (&["whole", "fed.toml", "-", "4"], 0, &[("fed.toml", None)]),
     (&["check", "fed.toml"], 0, &[("fed.toml", None)]),

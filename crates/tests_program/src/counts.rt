@@ -1,4 +1,4 @@
-//! As many as there may be, and one more. The numbers are those of docs/FORMATS.md, written out: tests that cited the
+//! As many as there may be, and one more. The numbers are those of docs/FILES.md, written out: tests that cited the
 //! constants of the code would pass with any.
 use crate::outcome::{Outcome, outcome_of, shown};
 use std::alloc::Global;
@@ -10,8 +10,8 @@ const OVER_PLAN: &str = "fedrun: 14 OverLimit\n";
 
 const OVER_FILE: &str = "fedrun: 36 OverLimit\n";
 
-/// What a federation file counts in all, or within what stands around it: what stands before the entries, an entry, in which
-/// `%` is its number, what stands after them, how many there may be, and what is printed of one more.
+/// What a federation file counts in all, or within what stands around it: what stands before the entries, an entry, in
+/// which `%` is its number, what stands after them, how many there may be, and what is printed of one more.
 const COUNTS: &[(&str, &str, &str, usize, &str)] = &[
     ("federate = [", r#"{ name = "f%" }, "#, "]", 64, OVER_PLAN),
     // Lines of a reaction.
@@ -61,7 +61,7 @@ fn push_entry(file: &mut String, entry: &str, number: usize) -> Option<()> {
     Some(())
 }
 
-/// A text with so many entries.
+/// A text with this many entries.
 fn listed(alloc: Global, before: &str, entry: &str, after: &str, count: usize) -> Option<String> {
     let mut file = String::from_str(alloc, before).ok()?;
     for number in 0..count {
@@ -81,7 +81,7 @@ fn outcome<R: Machine + Net<Stream = TcpStream, Listener = TcpListener>>(
     outcome_of(rt, &words, &["stop = \"0\"\n", federation], &[inputs])
 }
 
-/// The same of a federation file with so many entries.
+/// The same of a federation file with this many entries.
 fn outcome_of_count<R: Machine + Net<Stream = TcpStream, Listener = TcpListener>>(
     rt: &R,
     before: &str,
@@ -93,7 +93,7 @@ fn outcome_of_count<R: Machine + Net<Stream = TcpStream, Listener = TcpListener>
     outcome(rt, federation.as_str(), "")
 }
 
-/// A federation file with so many entries is answered so.
+/// A federation file with this many entries is answered so.
 fn assert_count<R: Machine + Net<Stream = TcpStream, Listener = TcpListener>>(
     rt: &R,
     before: &str,
@@ -106,7 +106,7 @@ fn assert_count<R: Machine + Net<Stream = TcpStream, Listener = TcpListener>>(
     assert_eq!(rt; shown(&outcome), Some(wanted), "{count} in {before}");
 }
 
-/// So many entries are taken, of which nothing is printed, and one more is refused, of which this line is printed.
+/// This many entries are taken, of which nothing is printed, and one more is refused, of which this line is printed.
 fn assert_counted<R: Machine + Net<Stream = TcpStream, Listener = TcpListener>>(
     rt: &R,
     before: &str,
@@ -145,7 +145,7 @@ fn takes_as_many_in_each_list_of_a_federate_and_no_more(rt: HostRuntime) -> Resu
 /// A federate with a physical action.
 const PHYSICAL: &str = r#"federate = [{ name = "f", physical = ["p"] }]"#;
 
-/// What is answered of so many recorded inputs.
+/// What is answered of this many recorded inputs.
 fn outcome_of_inputs<R: Machine + Net<Stream = TcpStream, Listener = TcpListener>>(
     rt: &R,
     count: usize,
@@ -173,7 +173,7 @@ inputs = [
 ]
 "#;
 
-/// A federation with so many connections, each to an input of its own.
+/// A federation with this many connections, each to an input of its own.
 fn connected(alloc: Global, count: usize) -> Option<String> {
     let mut file = listed(alloc, "", RECEIVER, "", 33)?;
     for number in 0..count {
@@ -187,7 +187,7 @@ fn connected(alloc: Global, count: usize) -> Option<String> {
     Some(file)
 }
 
-/// What is answered of so many connections.
+/// What is answered of this many connections.
 fn outcome_of_connections<R: Machine + Net<Stream = TcpStream, Listener = TcpListener>>(
     rt: &R,
     count: usize,

@@ -23,8 +23,8 @@ impl Model for Answered {
     ghost view = { λ a. record { name = a.name.items; fault = a.fault } };
 }
 
-/// One file, and no other. Its bytes are known, and so is what was answered: where there is no memory to note an answer, the
-/// program ends.
+/// One file, and no other. Its bytes are known, and so is what was answered: where there is no memory to note an
+/// answer, the program ends.
 #[derive(Drop)]
 pub struct KnownFile<'a, R> {
     rt: &'a R,
@@ -50,9 +50,11 @@ impl<'a, R: AllocGlobal> KnownFile<'a, R> {
 
     /// The bytes of a file.
     fn look_up(&self, name: &str, most: usize) -> Result<Vec<u8>, FileFault>
-        ensures whole { IfOk result (λ bytes. AreBytesOf (contents_of self.now.name.now self.now.text.now name.now) bytes.items) }
+        ensures whole { IfOk result (λ bytes.
+            AreBytesOf (contents_of self.now.name.now self.now.text.now name.now) bytes.items) }
         ensures few { IfOk result (λ bytes. vec_len bytes ≤ most) }
-        ensures over { result ≡ Err over_limit → IfSome (contents_of self.now.name.now self.now.text.now name.now) (λ bytes. most < length bytes) }
+        ensures over { result ≡ Err over_limit
+            → IfSome (contents_of self.now.name.now self.now.text.now name.now) (λ bytes. most < length bytes) }
     {
         if name != self.name {
             return Err(FileFault::Unreadable);
@@ -67,7 +69,8 @@ impl<'a, R: AllocGlobal> KnownFile<'a, R> {
 impl<R: AllocGlobal + Abort> KnownFile<'_, R> {
     /// Notes what is answered about a file.
     fn note(&mut self, name: &str, fault: Option<FileFault>)
-        ensures noted { self.new.answers.items ≡ self.old.answers.items ++ record { name = name.now; fault = fault } ∷ [] }
+        ensures noted { self.new.answers.items ≡ self.old.answers.items
+            ++ record { name = name.now; fault = fault } ∷ [] }
         ensures name { self.new.name ≡ self.old.name }
         ensures text { self.new.text ≡ self.old.text }
     {

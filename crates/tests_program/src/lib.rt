@@ -1,7 +1,7 @@
-//! Tests of what stands above nodes and isn't a federation in threads: replays, and the program's commands, over files and writers in
-//! memory. What schedules print, and made-up lists of steps whose rows are compared with the undivided program's; how many signals
-//! a link has room for; that steps, schedulings, messages and events may be many; what is printed, by words and files. No program
-//! uses this crate.
+//! Tests of what stands above nodes and isn't a federation in threads: replays, and the program's commands, over files
+//! and writers in memory. What schedules print, and made-up lists of steps whose rows are compared with the undivided
+//! program's; how many signals a link has room for; that steps, schedulings, messages and events may be many; what is
+//! printed, by words and files. No program uses this crate.
 //!
 //! Begin with `outcome` and `rows` for commands, with `played` for replays.
 #![tactic(auto)]

@@ -11,7 +11,7 @@ const TAKEN: (u8, &str, &str) = (0, "", "");
 
 const OVER_LIMIT: (u8, &str, &str) = (1, "", "fedrun: 36 OverLimit\n");
 
-/// How a federation file with so many bytes is answered.
+/// How a federation file with this many bytes is answered.
 fn federation_of<R: Machine + Net<Stream = TcpStream, Listener = TcpListener>>(
     rt: &R,
     length: usize,
@@ -30,7 +30,7 @@ fn takes_a_federation_of_a_mebibyte_and_no_more(rt: HostRuntime) {
     }
 }
 
-/// How an input file of so many bytes is answered.
+/// How an input file of this many bytes is answered.
 fn inputs_of<R: Machine + Net<Stream = TcpStream, Listener = TcpListener>>(
     rt: &R,
     length: usize,

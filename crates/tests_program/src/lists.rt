@@ -1,5 +1,5 @@
-//! Made-up lists of steps: whatever happens to the frames, no node refuses a signal, and the rows of each federate that kept its
-//! state are a prefix of its part of the undivided program's rows.
+//! Made-up lists of steps: whatever happens to the frames, no node refuses a signal, and the rows of each federate that
+//! kept its state are a prefix of its part of the undivided program's rows.
 ghost use Rattle.std.specs.Prelude.{◌<◌, length};
 
 use crate::worlds::world_of;
@@ -19,8 +19,8 @@ const LISTS: u64 = 1_000;
 /// How many steps each has.
 const STEPS: usize = 200;
 
-/// How many rows of a federation its lists compare at least. Where one federate gets each step, no step of some 43 lists is
-/// Forget, (63/64)^200 of all, and each of these compares a row or more.
+/// How many rows of a federation its lists compare at least. Where one federate gets each step, no step of some 43
+/// lists is Forget, (63/64)^200 of all, and each of these compares a row or more.
 const LEAST_ROWS: usize = 40;
 
 /// Made-up numbers, the same ones each time.

@@ -1,5 +1,5 @@
-//! That there may be many of what no limit is stated for: steps of a replay, schedulings in one turn, events on an agenda, messages in
-//! transit. Ample memory has to suffice for all of them.
+//! That there may be many of what no limit is stated for: steps of a replay, schedulings in one turn, events on an
+//! agenda, messages in transit. Ample memory has to suffice for all of them.
 use crate::outcome::joined;
 use crate::played::Case;
 use crate::room::{GRANTED, advances};
@@ -11,8 +11,8 @@ use tests_samples::{COUNTER, Federation, loaded};
 use world::World;
 use world_stations::{Dir, Outcome, Step};
 
-/// Each of these rounds has a step or more by which each of the two federates announces, and one by which it advances: these are
-/// 80,000 steps.
+/// Each of these rounds has a step or more by which each of the two federates announces, and one by which it advances:
+/// these are 80,000 steps.
 #[test]
 fn replays_many_steps(rt: HostRuntime) -> Result<(), Fail> {
     let case = Case {
@@ -29,8 +29,8 @@ fn replays_many_steps(rt: HostRuntime) -> Result<(), Fail> {
     Ok(())
 }
 
-/// Adds a reaction to startup that schedules every second event of so many, a microsecond after the one before each. A reaction
-/// has at most 256 lines.
+/// Adds a reaction to startup that schedules every second event of this many, a microsecond after the one before each.
+/// A reaction has at most 256 lines.
 fn add_reaction(file: &mut String, events: u32, first: u32) -> Option<()> {
     file.push_str("[[federate.reaction]]\ntriggers = [\"startup\"]\nbody = [\n")
         .ok()?;
@@ -42,7 +42,7 @@ fn add_reaction(file: &mut String, events: u32, first: u32) -> Option<()> {
     file.push_str("]\n").ok()
 }
 
-/// A federate that schedules so many events in its first turn, by two reactions.
+/// A federate that schedules this many events in its first turn, by two reactions.
 fn scheduling(alloc: Global, events: u32) -> Option<String> {
     let mut file = String::from_str(
         alloc,
@@ -61,7 +61,7 @@ fn advances_in(alloc: Global, federation: &Federation) -> Option<(usize, Outcome
     advances(&mut world, 0, 10_000)
 }
 
-/// The same of one that schedules so many events in its first turn.
+/// The same of one that schedules this many events in its first turn.
 fn advances_of(alloc: Global, events: u32) -> Option<(usize, Outcome)> {
     let file = scheduling(alloc, events)?;
     let federation = loaded(alloc, file.as_str(), "")?;
@@ -98,8 +98,8 @@ fn deliver(world: &mut World<'_>, dir: Dir, from: usize) -> Option<()> {
     Some(())
 }
 
-/// How many messages are on their way to the receiver at once, where it hears of nothing before all are sent, and how often it then
-/// advances.
+/// How many messages are on their way to the receiver at once, where it hears of nothing before all are sent, and how
+/// often it then advances.
 fn received(alloc: Global, federation: &Federation) -> Option<(usize, usize)> {
     let mut world = world_of(alloc, federation)?;
     world.run(GRANTED).ok()?;

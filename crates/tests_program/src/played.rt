@@ -2,7 +2,7 @@
 use crate::outcome::joined;
 use fedrun_progress::NoProgress;
 use fedrun_replay::replay;
-use fedrun_script::{Script, read_script};
+use files_script::{Script, read_script};
 use std::alloc::Global;
 use tests_samples::{Federation, loaded};
 

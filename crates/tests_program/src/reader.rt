@@ -4,7 +4,8 @@ use std::alloc::Global;
 use std::io::{ErrorKind, Read};
 use std::{fs, io, rt};
 
-/// A reader that is interrupted before each piece, gives so many bytes, and then ends, or fails with an error of this kind.
+/// A reader that is interrupted before each piece, gives this many bytes, and then ends, or fails with an error of this
+/// kind.
 #[derive(Drop)]
 struct Pieces {
     left: usize,
@@ -41,7 +42,7 @@ impl Read for Pieces {
     }
 }
 
-/// How many bytes are read of a reader that has so many, at most so many, before this failure.
+/// How many bytes are read of a reader that has this many, at most this many, before this failure.
 fn read(
     alloc: Global,
     bytes: usize,
@@ -93,7 +94,7 @@ fn reads_to_the_end(rt: HostRuntime) {
     }
 }
 
-/// How many bytes of a file of the machine's are read, at most so many.
+/// How many bytes of a file of the machine's are read, at most this many.
 fn read_file<R: rt::Files + AllocGlobal>(
     rt: &R,
     name: &str,
@@ -104,7 +105,7 @@ fn read_file<R: rt::Files + AllocGlobal>(
     Ok(bytes.len())
 }
 
-/// Whether a file of five bytes is read, at most so many or one less, and one that isn't there is not.
+/// Whether a file of five bytes is read, at most this many or one less, and one that isn't there is not.
 fn are_files_read<R: rt::Files + AllocGlobal>(rt: &R) -> bool {
     let name = "five_bytes";
     let is_written = fs::write(rt, name, "bytes").is_ok();

@@ -1,7 +1,7 @@
 //! A writer that refuses every write.
 use fedrun_progress::NoProgress;
 use fedrun_replay::{ReplayFault, replay};
-use fedrun_script::{Script, read_script};
+use files_script::{Script, read_script};
 use std::alloc::Global;
 use std::io;
 use std::io::Write;

@@ -73,7 +73,7 @@ fn refuses_schedules_before_any_step(rt: HostRuntime) {
     }
 }
 
-/// How a comment of so many bytes is answered as a schedule.
+/// How a comment of this many bytes is answered as a schedule.
 fn outcome_of_length<R: Machine + Net<Stream = TcpStream, Listener = TcpListener>>(
     rt: &R,
     length: usize,

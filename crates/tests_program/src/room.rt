@@ -1,5 +1,5 @@
-//! The room of a link: how many signals a federate sends that aren't acknowledged. The number is that of docs/FORMATS.md, written
-//! out: a test that cited the constant of the code would pass with any.
+//! The room of a link: how many signals a federate sends that aren't acknowledged. The number is that of
+//! docs/FILES.md, written out: a test that cited the constant of the code would pass with any.
 use crate::schedules::TICKS;
 use crate::worlds::world_of;
 use std::alloc::Global;
@@ -8,14 +8,16 @@ use tests_samples::{Federation, loaded};
 use world::World;
 use world_stations::{Dir, Outcome, Step};
 
-/// It announces, and is granted all that it has to run. The acknowledgement, the first frame that goes to it, is on its way.
+/// It announces, and is granted all that it has to run. The acknowledgement, the first frame that goes to it, is on its
+/// way.
 pub(crate) const GRANTED: &[Step] = &[
     Step::Announce(0),
     Step::Deliver(Dir::Up(0), 1),
     Step::Deliver(Dir::Down(0), 2),
 ];
 
-/// How often a federate advances, one signal each time, before something else happens, and what; none within so many times.
+/// How often a federate advances, one signal each time, before something else happens, and what; none within this many
+/// times.
 pub(crate) fn advances(
     world: &mut World<'_>,
     federate: usize,
@@ -49,7 +51,8 @@ fn advances_of(alloc: Global, most: usize) -> Option<[(usize, Outcome); 2]> {
     advances_twice(alloc, &federation, most)
 }
 
-/// With the NET that it announced, 4,096 signals aren't acknowledged. The acknowledgement of the NET makes room for one.
+/// With the NET that it announced, 4,096 signals aren't acknowledged. The acknowledgement of the NET makes room for
+/// one.
 #[test]
 fn refuses_the_4097th_signal_without_an_acknowledgement(rt: HostRuntime) {
     let full = Outcome::Refused(60);

@@ -18,7 +18,7 @@ const COUNTER_ROWS: &[&str] = &[
     "snk (20 ms, 0) [x=3] -> [total=6]\n",
 ];
 
-/// So many turns of the counter print so many rows.
+/// This many turns of the counter print this many rows.
 const TURNS: &[(&str, usize)] = &[
     ("0", 0),
     ("1", 1),
@@ -39,8 +39,8 @@ fn prints_the_rows_of_at_most_n_turns(rt: HostRuntime) -> Result<(), Fail> {
     Ok(())
 }
 
-/// So many turns of an action that is scheduled again and again print so many rows, also of more turns than those whose rows
-/// are kept at once.
+/// This many turns of an action that is scheduled again and again print this many rows, also of more turns than those
+/// whose rows are kept at once.
 const MANY_TURNS: &[(&str, u32)] = &[
     ("1023", 1023),
     ("1024", 1024),
@@ -50,7 +50,7 @@ const MANY_TURNS: &[(&str, u32)] = &[
     ("4294967295", 2200),
 ];
 
-/// The rows of so many turns.
+/// The rows of this many turns.
 fn rows_of_ticks(alloc: Global, ticks: u32) -> Option<String> {
     let mut rows = String::from_str(alloc, "a (0, 0) [startup] -> []\n").ok()?;
     for tick in 1..ticks {

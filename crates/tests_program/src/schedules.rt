@@ -92,9 +92,9 @@ end
         closing: None,
         text: &["end\n"],
     },
-    // Frames that rounds leave out. Line 2 sends src an Ack and a TAG, and line 3 skips both. Line 4 brings the NET of src once more,
-    // for which another Ack is sent, and brings src that Ack alone. Line 5 brings nothing. Only line 6 brings the TAG. In line 7 src
-    // runs its first tag, and snk, which hears of it at the end of the round, runs none.
+    // Frames that rounds leave out. Line 2 sends src an Ack and a TAG, and line 3 skips both. Line 4 brings the NET of
+    // src once more, for which another Ack is sent, and brings src that Ack alone. Line 5 brings nothing. Only line 6
+    // brings the TAG. In line 7 src runs its first tag, and snk, which hears of it at the end of the round, runs none.
     Case {
         federation: COUNTER,
         inputs: "",
@@ -103,8 +103,8 @@ end
         closing: None,
         text: &["src (0, 0) [t] -> [y=1]\nend\n"],
     },
-    // The same without the line that skips: line 3 brings the TAG, src runs a tag in each of the rounds after it (lines 4 and 6), and
-    // snk its first one in line 6, after it was granted that in line 4.
+    // The same without the line that skips: line 3 brings the TAG, src runs a tag in each of the rounds after it (lines
+    // 4 and 6), and snk its first one in line 6, after it was granted that in line 4.
     Case {
         federation: COUNTER,
         inputs: "",
@@ -208,8 +208,9 @@ end
         closing: Some(20),
         text: &["stuck\nend\n"],
     },
-    // Four rounds. In the second src runs its first tag, and snk is granted its own first at the end of it. In the third snk says what it
-    // has next and then runs it; what comes next it says in the fourth, and isn't granted before the end of that.
+    // Four rounds. In the second src runs its first tag, and snk is granted its own first at the end of it. In the
+    // third snk says what it has next and then runs it; what comes next it says in the fourth, and isn't granted before
+    // the end of that.
     Case {
         federation: COUNTER,
         inputs: "",
@@ -225,8 +226,9 @@ end
 ",
         ],
     },
-    // Closing rounds after a federate forgot, whose steps have the number after the last line's: what snk announces is refused in each of
-    // them; the first message of src in the second and, sent again, in the third; its second message in the third.
+    // Closing rounds after a federate forgot, whose steps have the number after the last line's: what snk announces is
+    // refused in each of them; the first message of src in the second and, sent again, in the third; its second message
+    // in the third.
     Case {
         federation: COUNTER,
         inputs: "",

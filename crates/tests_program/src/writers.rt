@@ -8,7 +8,7 @@ use std::io::Write;
 use std::net::{Net, TcpListener, TcpStream};
 use tests_samples::{COUNTER, Machine};
 
-/// A writer that takes so many bytes, and then refuses.
+/// A writer that takes this many bytes, and then refuses.
 #[derive(Drop)]
 struct Narrow {
     room: usize,

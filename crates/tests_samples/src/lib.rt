@@ -1,5 +1,5 @@
-//! The worked federations and their input files, which tests of several crates load, and the rows that they must have: as they
-//! were worked out, and as the undivided program gives them. No part of the product.
+//! The worked federations and their input files, which tests of several crates load, and the rows that they must have:
+//! as they were worked out, and as the undivided program gives them. No part of the product.
 //!
 //! Federations that differ from the counter in a few lines are made of the same text. Begin with `federation`.
 #![tactic(auto)]
@@ -72,7 +72,8 @@ timers = [{ name = "t", offset = "0", period = "10 ms" }]
 "#
 );
 
-/// A counter `src`, which counts at 0, 10 and 20 ms, and `snk`, the sum of its counts. Its last table is the connection.
+/// A counter `src`, which counts at 0, 10 and 20 ms, and `snk`, the sum of its counts. Its last table is the
+/// connection.
 pub const COUNTER: &str = counter!(r#"["x"]"#, "");
 
 /// The counter with each count a microstep on its way.

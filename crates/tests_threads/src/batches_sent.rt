@@ -1,4 +1,5 @@
-//! Where both ends have version 2 and many signals wait, Batches go over a connection; where one has version 1, none does.
+//! Where both ends have version 2 and many signals wait, Batches go over a connection; where one has version 1, none
+//! does.
 use std::sync::atomic::{AtomicU64, Ordering};
 use tests_lines::lines::{AMPLE, ran_in_memory};
 use tests_lines::nodes::has_all_rows;
@@ -60,7 +61,8 @@ impl Tap for Counting {
     }
 }
 
-/// How many Batches are sent in a run of many ticks, where federates write this version of frames; None where it hasn't its rows.
+/// How many Batches are sent in a run of many ticks, where federates write this version of frames; None where it hasn't
+/// its rows.
 fn batches_sent<R: Machine>(rt: &R, frames: u8) -> Option<u64> {
     let federation = loaded(rt.alloc(), MANY_TICKS, "")?;
     let counting = Counting {

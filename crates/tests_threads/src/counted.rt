@@ -1,5 +1,5 @@
 //! Reports of strangers, second ones, and missing ones.
-use journal::Journal;
+use node_journal::Journal;
 use plan::Plan;
 use reactor::Rows;
 use recorder::{Collector, Report, ReportFault, Unproved};

@@ -1,8 +1,8 @@
 //! What is copied of a journal while its node runs.
 use desk::{Share, Shared};
 use federate::Federate;
-use journal::Journal;
 use node::Event;
+use node_journal::Journal;
 use std::alloc::Global;
 use std::sync::Wait;
 use tests_lines::journals::events_of;

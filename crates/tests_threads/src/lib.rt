@@ -1,6 +1,6 @@
-//! Tests of federations in threads, and of audits: over TCP they have the rows of the undivided program; what two federates do over
-//! memory at the same time; what workers are told, and what they hand on; what is printed of a run, and what an audit answers of
-//! reports. No program uses this crate.
+//! Tests of federations in threads, and of audits: over TCP they have the rows of the undivided program; what two
+//! federates do over memory at the same time; what workers are told, and what they hand on; what is printed of a run,
+//! and what an audit answers of reports. No program uses this crate.
 //!
 //! Begin with `running` for runs over TCP, `meeting` for runs over memory, and `counted` for audits.
 #![tactic(auto)]

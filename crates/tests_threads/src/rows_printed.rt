@@ -1,14 +1,14 @@
 //! A run over TCP prints its rows, federate by federate; one with too few turns prints none.
 use fedrun_progress::NoProgress;
 use fedrun_run::{AuditedFault, RunOutput, print_audited_run};
-use fedrun_text::RowFormat;
+use files_text::RowFormat;
 use std::net::{Net, TcpListener, TcpStream};
 use std::test::Fail;
 use tests_samples::worked_rows::COUNTER_ROWS;
 use tests_samples::{COUNTER, Federation, Machine, loaded};
 use wires::Terms;
 
-/// Prints the rows of a run of at most so many turns; whether it is printed that the run isn't finished.
+/// Prints the rows of a run of at most this many turns; whether it is printed that the run isn't finished.
 fn is_unfinished<R: Machine + Net<Stream = TcpStream, Listener = TcpListener>>(
     rt: &R,
     federation: &Federation,
@@ -32,7 +32,7 @@ fn is_unfinished<R: Machine + Net<Stream = TcpStream, Listener = TcpListener>>(
     }
 }
 
-/// What is printed after at most so many turns, and whether it is printed that the run isn't finished.
+/// What is printed after at most this many turns, and whether it is printed that the run isn't finished.
 fn printed<R: Machine + Net<Stream = TcpStream, Listener = TcpListener>>(
     rt: &R,
     turns: u32,

@@ -30,7 +30,7 @@ fn frames() -> [Frame; 2] {
     [granted, ack]
 }
 
-/// How many turns follow each of the frames where so many are left, and how many slips a reader has then.
+/// How many turns follow each of the frames where this many are left, and how many slips a reader has then.
 fn followed<R: Wait + Clock>(
     rt: &R,
     alloc: Global,
@@ -43,7 +43,7 @@ fn followed<R: Wait + Clock>(
     (first.turns, second.turns, share.slips().len())
 }
 
-/// The same of the counter's src, whose runner has begun with so many turns and has ended.
+/// The same of the counter's src, whose runner has begun with this many turns and has ended.
 fn followed_at_src<R: Machine>(rt: &R, turns: u32) -> Option<(u32, u32, usize)> {
     let federation = loaded(rt.alloc(), COUNTER, "")?;
     let nodes = nodes_of(rt.alloc(), &federation)?;
@@ -56,8 +56,8 @@ fn followed_at_src<R: Machine>(rt: &R, turns: u32) -> Option<(u32, u32, usize)> 
     Some(followed(rt, rt.alloc(), &context))
 }
 
-/// Each of the first three turns announces a tag and makes its row; the next one announces that none is left, and the fifth does
-/// nothing. After the acknowledgement one more does nothing.
+/// Each of the first three turns announces a tag and makes its row; the next one announces that none is left, and the
+/// fifth does nothing. After the acknowledgement one more does nothing.
 #[test]
 fn makes_turns_until_one_does_nothing(rt: HostRuntime) {
     let cases = [

@@ -1,8 +1,8 @@
 //! All turns of a federate are counted, whoever makes them: its runner, or its reader behind what came.
 use coordinator::Coordinator;
 use federate::Federate;
-use journal::Journal;
 use node::Event;
+use node_journal::Journal;
 use std::net::{Net, TcpListener, TcpStream};
 use tests_lines::nodes::{is_finished, nodes_of};
 use tests_samples::{Federation, Machine, loaded};
@@ -28,7 +28,8 @@ from = "src.y"
 to = "snk.x"
 "#;
 
-/// How many turns a journal has; none where an announcement isn't followed by an advance at once, or an advance stands alone.
+/// How many turns a journal has; none where an announcement isn't followed by an advance at once, or an advance stands
+/// alone.
 fn turns(journal: &Journal) -> Option<u32> {
     let mut turns: u32 = 0;
     let mut has_announced = false;
@@ -55,7 +56,7 @@ fn most_turns(gathered: &Gathered<Coordinator<'_>, Federate<'_>>) -> Option<u32>
     Some(most)
 }
 
-/// The most turns that any federate made where each may make so many; none where the run is finished all the same.
+/// The most turns that any federate made where each may make this many; none where the run is finished all the same.
 fn made<R: Machine + Net<Stream = TcpStream, Listener = TcpListener>>(
     rt: &R,
     federation: &Federation,

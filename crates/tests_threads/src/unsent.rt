@@ -1,6 +1,7 @@
-//! A frame that was never sent: a coordinator grants before it heard of anything, and a federate announces after the grant.
-use journal::Journal;
+//! A frame that was never sent: a coordinator grants before it heard of anything, and a federate announces after the
+//! grant.
 use node::{Event, NodeId};
+use node_journal::Journal;
 use reactor::Rows;
 use recorder::{Report, Unproved};
 use signal::{Frame, Signal};

@@ -203,7 +203,8 @@ fn sends_of_src<R: Machine>(rt: &R) -> Option<Vec<u32>> {
     sends_of(rt, rt.alloc(), &context, &sends)
 }
 
-/// A turn says three signals, NET, MSG and LTC: so after the third time 576 aren't acknowledged, and after the last one 260.
+/// A turn says three signals, NET, MSG and LTC: so after the third time 576 aren't acknowledged, and after the last one
+/// 260.
 #[test]
 fn leaves_what_is_for_a_peer_with_512_signals_to_the_writer(rt: HostRuntime) {
     let expected = [1, 2, 2, 2, 3];

@@ -54,7 +54,8 @@ after_put t target kept = record kept { undone = put_all (in_time kept.stop (put
 -- what is kept of a federate, after it was put to all these targets
 abbrev pub after_puts : TurnMade → List (ℕ × List Connection) → ℕ → Kept → Kept
 after_puts t [] federate kept = kept
-after_puts t (target ∷ rest) federate kept = after_puts t rest federate (if nat_eq target.0 federate then after_put t target kept else kept)
+after_puts t (target ∷ rest) federate kept =
+    after_puts t rest federate (if nat_eq target.0 federate then after_put t target kept else kept)
 
 -- what is kept, after what was up to a tag was dropped
 abbrev pub dropped : LogicalTime → Kept → Kept
@@ -62,7 +63,9 @@ dropped tag kept = record kept { undone = drop_up_to tag kept.undone }
 
 -- what is kept of a federate, after a turn was put to these targets
 abbrev pub after_turn : TurnMade → List (ℕ × List Connection) → ℕ → Kept → Kept
-after_turn t targets federate kept = if nat_eq t.federate federate then dropped t.tag (after_puts t targets federate kept) else after_puts t targets federate kept
+after_turn t targets federate kept =
+    if nat_eq t.federate federate then dropped t.tag (after_puts t targets federate kept)
+    else after_puts t targets federate kept
 
 -- the federate is one of these targets
 abbrev pub has_target : ℕ → List (ℕ × List Connection) → Bool

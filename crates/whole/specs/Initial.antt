@@ -11,7 +11,8 @@ use Rattle.whole.specs.Schedule.{initial_undone, IsAgendaUpTo}
 -- the agenda of a federate, with these recorded inputs
 pub record IsOpenWith (d : Draft) (inputs : List Input) (federate : ℕ) (a : Agenda) : Type 0 where
   pub up_to : IsAgendaUpTo (stop_of d) a
-  pub undone : (tag : LogicalTime) (slot : ℕ) → look a.undone tag slot ≡ look (initial_undone d inputs federate) tag slot
+  pub undone : (tag : LogicalTime) (slot : ℕ)
+      → look a.undone tag slot ≡ look (initial_undone d inputs federate) tag slot
 
 -- an agenda for each federate, with these recorded inputs
 pub record AreOpenWith (d : Draft) (inputs : List Input) (agendas : List Agenda) : Type 0 where

@@ -30,18 +30,24 @@ programs_in reactors = map (λ r. r.behaviour) reactors
 
 -- what is undone of each federate is what is pending for it: the same is found for each slot at each tag
 abbrev pub HoldsPending : Draft → Schedule → Undivided → Type 0
-HoldsPending d s u = (federate : ℕ) (tag : LogicalTime) (slot : ℕ) → federate < federate_count d → look (undone_of s federate) tag slot ≡ present_at u.pending federate tag slot
+HoldsPending d s u =
+    (federate : ℕ) (tag : LogicalTime) (slot : ℕ) → federate < federate_count d
+    → look (undone_of s federate) tag slot ≡ present_at u.pending federate tag slot
 
 -- reactors, what is undone, and rows are those after as many turns as there are rows and rows let go
-pub record IsAfterTurns (d : Draft) (inputs : List Input) (reactors : List Reactor) (schedule : Schedule) (discarded : ℕ) (rows : List Row) : Type 0 where
+pub record IsAfterTurns (d : Draft) (inputs : List Input) (reactors : List Reactor) (schedule : Schedule)
+    (discarded : ℕ) (rows : List Row) : Type 0 where
   pub programs : HaveSlotsOf d.federates (programs_in reactors)
   pub lawful : IsLawful (network_of d (programs_in reactors) inputs)
   pub draft : schedule.draft ≡ d
   pub discard : List Row
   pub as_many : length discard ≡ discarded
-  pub states : (undivided_after (network_of d (programs_in reactors) inputs) (discarded + length rows)).states ≡ states_in reactors
-  pub all_rows : (undivided_after (network_of d (programs_in reactors) inputs) (discarded + length rows)).rows ≡ discard ++ rows
-  pub pending : HoldsPending d schedule (undivided_after (network_of d (programs_in reactors) inputs) (discarded + length rows))
+  pub states : (undivided_after (network_of d (programs_in reactors) inputs) (discarded + length rows)).states
+      ≡ states_in reactors
+  pub all_rows : (undivided_after (network_of d (programs_in reactors) inputs) (discarded + length rows)).rows
+      ≡ discard ++ rows
+  pub pending : HoldsPending d schedule
+      (undivided_after (network_of d (programs_in reactors) inputs) (discarded + length rows))
   -- there is one turn for each federate and tag at most
   pub few : discarded + length rows ≤ 2 ^ 100
 

@@ -1,4 +1,5 @@
--- An undivided program that goes on turn by turn: what it was made from, how many turns were made, and whose rows were let go.
+-- An undivided program that goes on turn by turn: what it was made from, how many turns were made, and whose rows were
+-- let go.
 use Rattle.std.specs.Prelude.{ℕ, ◌+◌, List, drop}
 use Rattle.network.specs.Event.{Event}
 use Rattle.network.specs.Network.{Network}
@@ -8,7 +9,8 @@ use Rattle.plan.specs.declared.input.Input.{Input}
 use Rattle.reactor_program.specs.Behaviour.{Behaviour}
 use Rattle.plan_network.specs.Network.{network_of}
 
--- what an undivided program was made from, how many turns were made, and of how many, the first ones, the rows were let go
+-- what an undivided program was made from, how many turns were made, and of how many, the first ones, the rows were let
+-- go
 pub record Progress : Type 0 where
   pub draft : Draft
   pub programs : List Behaviour
@@ -36,6 +38,13 @@ rows_in p = drop p.discarded (all_rows_in p)
 abbrev pub pending_in : Progress → List Event
 pending_in p = (undivided_in p).pending
 
--- so many turns later
+-- this many turns later
 abbrev pub later_by : ℕ → Progress → Progress
-later_by turns p = record { draft = p.draft; programs = p.programs; inputs = p.inputs; turns = p.turns + turns; discarded = p.discarded }
+later_by turns p =
+    record {
+      draft = p.draft;
+      programs = p.programs;
+      inputs = p.inputs;
+      turns = p.turns + turns;
+      discarded = p.discarded;
+    }

@@ -1,5 +1,6 @@
 -- What is undone of each federate, and when each is next.
-use Rattle.std.specs.Prelude.{◌≡◌, ℕ, ◌<◌, ℤ, false, ◌&&◌, not, nat_eq, nat_lt, if◌then◌else◌, List, [], map, filter, length, slice_get, Option, None, Some}
+use Rattle.std.specs.Prelude.{◌≡◌, ℕ, ◌<◌, ℤ, false, ◌&&◌, not, nat_eq, nat_lt, if◌then◌else◌, List, [], map, filter}
+use Rattle.std.specs.Prelude.{length, slice_get, Option, None, Some}
 use Rattle.tag.specs.LogicalTime.{LogicalTime, is_before}
 use Rattle.network.specs.Connection.{Connection}
 use Rattle.network.specs.Undivided.{comes_before}
@@ -35,7 +36,8 @@ initial_undone d inputs federate = put_all (map pending_event_of (filter (is_for
 pub record IsDueFirst (s : Schedule) (federate : ℕ) (tag : LogicalTime) : Type 0 where
   pub there : federate < federate_count s.draft
   pub something : (slot : ℕ) × (value : ℤ) × (look (undone_of s federate) tag slot ≡ Some value)
-  pub first : (other : ℕ) (earlier : LogicalTime) (slot : ℕ) (value : ℤ) → other < federate_count s.draft → look (undone_of s other) earlier slot ≡ Some value →
+  pub first : (other : ℕ) (earlier : LogicalTime) (slot : ℕ) (value : ℤ) → other < federate_count s.draft
+      → look (undone_of s other) earlier slot ≡ Some value →
       comes_before (rank_of s.draft) other earlier federate tag ≡ false
 
 -- nothing is undone
@@ -51,7 +53,8 @@ IsFirstDue s (Some next) = IsDueFirst s next.federate next.tag
 abbrev pub found_after : TurnMade → Draft → List PendingEvent → ℕ → LogicalTime → ℕ → Option ℤ
 found_after t d undone federate tag slot =
     if nat_eq federate t.federate && not (is_before t.tag tag) then None
-    else look (put_all (in_time (stop_of d) (put_to t (federate, between t.federate federate (connections_of d)))) undone) tag slot
+    else look (put_all (in_time (stop_of d) (put_to t (federate, between t.federate federate (connections_of d))))
+    undone) tag slot
 
 pub record IsAfterTurn (t : TurnMade) (old new : Schedule) : Type 0 where
   pub draft : new.draft ≡ old.draft
@@ -60,7 +63,8 @@ pub record IsAfterTurn (t : TurnMade) (old new : Schedule) : Type 0 where
 
 -- when a federate is next
 abbrev pub next_on : Draft → List Agenda → ℕ → Next
-next_on d agendas federate = record { federate = federate; tag = least_on (slice_get agendas federate); rank = rank_of d federate }
+next_on d agendas federate =
+    record { federate = federate; tag = least_on (slice_get agendas federate); rank = rank_of d federate }
 
 -- the agenda is of this stop, and keeps what every agenda keeps
 pub record IsAgendaUpTo (stop : LogicalTime) (a : Agenda) : Type 0 where
@@ -72,8 +76,10 @@ abbrev pub for_each : {A : Type 0} → Draft → (ℕ → A) → ℕ → Option 
 for_each d value federate = if nat_lt federate (federate_count d) then Some (value federate) else None
 
 -- an agenda for each federate, when each is next, and the targets of each
-pub record IsSchedule (d : Draft) (agendas : List Agenda) (nexts : List Next) (targets : List (List (ℕ × List Connection))) : Type 0 where
+pub record IsSchedule (d : Draft) (agendas : List Agenda) (nexts : List Next)
+    (targets : List (List (ℕ × List Connection))) : Type 0 where
   pub count : length agendas ≡ federate_count d
   pub each : (federate : ℕ) (a : Agenda) → slice_get agendas federate ≡ Some a → IsAgendaUpTo (stop_of d) a
   pub next : (federate : ℕ) → slice_get nexts federate ≡ for_each d (next_on d agendas) federate
-  pub wired : (federate : ℕ) → slice_get targets federate ≡ for_each d (λ f. targets_below (connections_of d) f (federate_count d)) federate
+  pub wired : (federate : ℕ) → slice_get targets federate
+      ≡ for_each d (λ f. targets_below (connections_of d) f (federate_count d)) federate

@@ -1,5 +1,6 @@
 -- To which federates a turn of a federate can put events: itself, and those that its connections lead to.
-use Rattle.std.specs.Prelude.{◌≢◌, ℕ, zero, suc, Bool, true, false, ◌&&◌, ◌||◌, nat_eq, if◌then◌else◌, List, [], ◌∷◌, ◌++◌, map, filter}
+use Rattle.std.specs.Prelude.{◌≢◌, ℕ, zero, suc, Bool, true, false, ◌&&◌, ◌||◌, nat_eq, if◌then◌else◌, List, [], ◌∷◌}
+use Rattle.std.specs.Prelude.{◌++◌, map, filter}
 use Rattle.std.specs.List.{AllByRecursion}
 use Rattle.network.specs.Connection.{Connection}
 use Rattle.whole.specs.declared.targets.Target.{Target}
@@ -19,12 +20,14 @@ is_target connections source target = nat_eq target source || is_some (between s
 
 -- a target, if it is one
 abbrev pub target_if : List Connection → ℕ → ℕ → List (ℕ × List Connection)
-target_if connections source target = if is_target connections source target then (target, between source target connections) ∷ [] else []
+target_if connections source target =
+    if is_target connections source target then (target, between source target connections) ∷ [] else []
 
 -- the targets among the first `count` federates, each with the connections that lead to it
 abbrev pub targets_below : List Connection → ℕ → ℕ → List (ℕ × List Connection)
 targets_below connections source zero = []
-targets_below connections source (suc count) = targets_below connections source count ++ target_if connections source count
+targets_below connections source (suc count) =
+    targets_below connections source count ++ target_if connections source count
 
 -- a target, as code
 abbrev pub shown : Target → ℕ × List Connection

@@ -55,7 +55,8 @@ fn put_input(
     input: &Input,
 ) -> Result<(), Memory>
     requires { length agendas.old ≡ federate_count plan.now }
-    ensures { OnOk result ((inputs : List InputOf) → AreOpenWith plan.now inputs agendas.old → AreOpenWith plan.now (inputs ++ input.now ∷ []) agendas.new) }
+    ensures { OnOk result ((inputs : List InputOf) → AreOpenWith plan.now inputs agendas.old
+        → AreOpenWith plan.now (inputs ++ input.now ∷ []) agendas.new) }
 {
     let Some((federate, slot)) = plan.recorded_at(input) else {
         return Ok(());

@@ -2,7 +2,8 @@ ghost use Rattle.std.specs.Prelude.{◌≡◌, ℕ, ◌<◌, ◌++◌, ◌∷◌
 ghost use Rattle.std.specs.List.{flat_map};
 ghost use Rattle.std.specs.Option.{option_map};
 ghost use Rattle.reactor_agenda.specs.Agenda.{in_time};
-ghost use Rattle.whole.specs.Construction.{held_if, carried_over, deferred_by, own_deferred, put_to, after_puts, has_target, kept_on};
+ghost use Rattle.whole.specs.Construction.{held_if, carried_over, deferred_by, own_deferred, put_to, after_puts};
+ghost use Rattle.whole.specs.Construction.{has_target, kept_on};
 ghost use Rattle.whole.specs.Targets.{shown, all_shown, AreApart};
 
 use crate::targets::Target;
@@ -31,7 +32,14 @@ impl<'t> Model for TurnMade<'t> {
 
     ghost Value = { TurnMadeOf };
 
-    ghost view = { λ t. record { federate = t.federate; tag = t.tag; stop = t.stop; inputs = t.inputs.now; outputs = t.outputs.now; schedulings = t.schedulings.now } };
+    ghost view = { λ t. record {
+      federate = t.federate;
+      tag = t.tag;
+      stop = t.stop;
+      inputs = t.inputs.now;
+      outputs = t.outputs.now;
+      schedulings = t.schedulings.now;
+    } };
 }
 
 /// Puts what a turn makes on the agendas of its targets, and adds its row: all or nothing. `events` is room.
@@ -45,10 +53,20 @@ pub fn put_made(
     requires there { All (λ t. t.federate < length agendas.old) targets.now }
     requires apart { AreApart (all_shown targets.now) }
     ensures length { length agendas.new ≡ length agendas.old }
-    ensures put { OnOk result ((federate : ℕ) → slice_get (map kept_on agendas.new) federate ≡ option_map (after_puts turn.now (all_shown targets.now) federate) (slice_get (map kept_on agendas.old) federate)) }
-    ensures row { OnOk result (rows.new ≡ rows.old ++ record { reactor = turn.now.federate; tag = turn.now.tag; inputs = turn.now.inputs; outputs = turn.now.outputs } ∷ []) }
+    ensures put { OnOk result ((federate : ℕ)
+        → slice_get (map kept_on agendas.new) federate
+        ≡ option_map (after_puts turn.now (all_shown targets.now) federate)
+        (slice_get (map kept_on agendas.old) federate)) }
+    ensures row { OnOk result (rows.new ≡ rows.old
+        ++ record {
+          reactor = turn.now.federate;
+          tag = turn.now.tag;
+          inputs = turn.now.inputs;
+          outputs = turn.now.outputs;
+        } ∷ []) }
     ensures err { OnErr result (map kept_on agendas.new ≡ map kept_on agendas.old) }
-    ensures others { OnErr result ((federate : ℕ) → has_target federate (all_shown targets.now) ≡ false → slice_get agendas.new federate ≡ slice_get agendas.old federate) }
+    ensures others { OnErr result ((federate : ℕ) → has_target federate (all_shown targets.now) ≡ false
+        → slice_get agendas.new federate ≡ slice_get agendas.old federate) }
     ensures no_row { OnErr result (rows.new ≡ rows.old) }
 {
     match targets {
@@ -119,7 +137,8 @@ fn add_carried_over(
 }
 
 fn add_deferred(events: &mut Vec<PendingEvent>, turn: &TurnMade<'_>) -> Result<(), Memory>
-    ensures { OnOk result (events.new.items ≡ events.old.items ++ flat_map (deferred_by turn.now) turn.now.schedulings) }
+    ensures { OnOk result (events.new.items ≡ events.old.items
+        ++ flat_map (deferred_by turn.now) turn.now.schedulings) }
 {
     for scheduling in turn.schedulings {
         add_deferred_by(events, turn, *scheduling)?;

@@ -1,4 +1,5 @@
-ghost use Rattle.std.specs.Prelude.{◌≡◌, ℕ, ◌<◌, ◌≤◌, ◌+◌, ◌*◌, ◌/◌, length, List, All, IfOk, IsTrue, true, Some, slice_get, slice_set};
+ghost use Rattle.std.specs.Prelude.{◌≡◌, ℕ, ◌<◌, ◌≤◌, ◌+◌, ◌*◌, ◌/◌, length, List, All, IfOk, IsTrue, true, Some};
+ghost use Rattle.std.specs.Prelude.{slice_get, slice_set};
 ghost use Rattle.std.specs.Option.{option_map};
 ghost use Rattle.whole.specs.declared.nexts.Next.{Next as NextOf};
 ghost use Rattle.whole.specs.Construction.{has_target, least_on};
@@ -27,8 +28,8 @@ pub struct Next {
     pub rank: usize,
 }
 
-/// When each federate is next. The first of each block is kept beside them, so that the first of all is found without reading
-/// all. Contracts see the list.
+/// When each federate is next. The first of each block is kept beside them, so that the first of all is found without
+/// reading all. Contracts see the list.
 #[derive(Drop)]
 pub struct Nexts {
     nexts: Vec<Next>,
@@ -51,7 +52,8 @@ impl Nexts {
     /// Of the federates of a plan.
     pub fn new(alloc: Global, plan: &Plan, agendas: &[Agenda]) -> Result<Nexts, Memory>
         requires { length agendas.now ≡ federate_count plan.now }
-        ensures { IfOk result (λ nexts. (federate : ℕ) → slice_get nexts federate ≡ for_each plan.now (next_on plan.now agendas.now) federate) }
+        ensures { IfOk result (λ nexts. (federate : ℕ)
+            → slice_get nexts federate ≡ for_each plan.now (next_on plan.now agendas.now) federate) }
     {
         let nexts = nexts_of(alloc, plan, agendas)?;
         let firsts = firsts_of(alloc, nexts.as_slice())?;
@@ -70,7 +72,8 @@ impl Nexts {
     /// Gives a federate the tag of its next event.
     fn set_tag(&mut self, federate: usize, tag: Tag)
         requires { federate < length self.old }
-        ensures { (next : NextOf) → slice_get self.old federate ≡ Some next → self.new ≡ slice_set self.old federate (record next { tag = tag }) }
+        ensures { (next : NextOf) → slice_get self.old federate ≡ Some next
+            → self.new ≡ slice_set self.old federate (record next { tag = tag }) }
     {
         if is_at(self.nexts.as_slice(), federate, tag) {
             return;
@@ -87,7 +90,8 @@ impl Nexts {
 /// When each federate of a plan is next.
 fn nexts_of(alloc: Global, plan: &Plan, agendas: &[Agenda]) -> Result<Vec<Next>, Memory>
     requires { length agendas.now ≡ federate_count plan.now }
-    ensures { IfOk result (λ nexts. (federate : ℕ) → slice_get nexts.items federate ≡ for_each plan.now (next_on plan.now agendas.now) federate) }
+    ensures { IfOk result (λ nexts. (federate : ℕ)
+        → slice_get nexts.items federate ≡ for_each plan.now (next_on plan.now agendas.now) federate) }
 {
     let mut nexts = Vec::new(alloc);
     for federate in 0..agendas.len() {
@@ -154,7 +158,8 @@ fn is_at(nexts: &[Next], federate: usize, tag: Tag) -> bool
 fn set_tag(nexts: &mut [Next], firsts: &mut [Next], federate: usize, tag: Tag)
     requires there { federate < length nexts.old }
     requires firsts { AreFirsts nexts.old firsts.old }
-    ensures nexts { (next : NextOf) → slice_get nexts.old federate ≡ Some next → nexts.new ≡ slice_set nexts.old federate (record next { tag = tag }) }
+    ensures nexts { (next : NextOf) → slice_get nexts.old federate ≡ Some next
+        → nexts.new ≡ slice_set nexts.old federate (record next { tag = tag }) }
     ensures firsts { AreFirsts nexts.new firsts.new }
     ensures length { length nexts.new ≡ length nexts.old }
     ensures as_many { length firsts.new ≡ length firsts.old }
@@ -170,7 +175,10 @@ fn set_tag(nexts: &mut [Next], firsts: &mut [Next], federate: usize, tag: Tag)
 /// where the one that was replaced may have been the first.
 fn first_after(nexts: &[Next], block: usize, first: &Next, was: &Next, next: &Next) -> Next
     requires { block * 8 < length nexts.now }
-    ensures { (before : List NextOf) (federate : ℕ) → federate < length before → federate / 8 ≡ block → slice_get before federate ≡ Some was.now → nexts.now ≡ slice_set before federate next.now → IsFirstAmong before (block * 8) (block * 8 + 8) first.now → IsFirstAmong nexts.now (block * 8) (block * 8 + 8) result }
+    ensures { (before : List NextOf) (federate : ℕ) → federate < length before → federate / 8 ≡ block
+        → slice_get before federate ≡ Some was.now → nexts.now ≡ slice_set before federate next.now
+        → IsFirstAmong before (block * 8) (block * 8 + 8) first.now
+        → IsFirstAmong nexts.now (block * 8) (block * 8 + 8) result }
 {
     if is_earlier(next, first) {
         *next
@@ -185,9 +193,13 @@ fn first_after(nexts: &[Next], block: usize, first: &Next, was: &Next, next: &Ne
 pub fn renew(nexts: &mut Nexts, agendas: &[Agenda], targets: &[Target])
     requires there { All (λ t. t.federate < length nexts.old) targets.now }
     requires agendas { All (λ t. t.federate < length agendas.now) targets.now }
-    ensures renewed { (federate : ℕ) → slice_get nexts.new federate ≡ option_map (renewed agendas.now (has_target federate (all_shown targets.now)) federate) (slice_get nexts.old federate) }
+    ensures renewed { (federate : ℕ)
+        → slice_get nexts.new federate
+        ≡ option_map (renewed agendas.now (has_target federate (all_shown targets.now)) federate)
+        (slice_get nexts.old federate) }
     ensures length { length nexts.new ≡ length nexts.old }
-    ensures known { (federate : ℕ) (a : AgendaOf) → has_target federate (all_shown targets.now) ≡ true → slice_get agendas.now federate ≡ Some a → IsAgenda a }
+    ensures known { (federate : ℕ) (a : AgendaOf) → has_target federate (all_shown targets.now) ≡ true
+        → slice_get agendas.now federate ≡ Some a → IsAgenda a }
 {
     for target in targets {
         let federate = target.federate;

@@ -1,4 +1,5 @@
-ghost use Rattle.std.specs.Prelude.{◌≡◌, ℕ, ◌<◌, ◌++◌, ◌∷◌, [], length, map, All, IfOk, OnOk, OnErr, true, Some, slice_get};
+ghost use Rattle.std.specs.Prelude.{◌≡◌, ℕ, ◌<◌, ◌++◌, ◌∷◌, [], length, map, All, IfOk, OnOk, OnErr, true, Some};
+ghost use Rattle.std.specs.Prelude.{slice_get};
 ghost use Rattle.std.specs.Option.{option_map};
 ghost use Rattle.reactor_agenda.specs.Agenda.{Agenda as AgendaOf, IsAgenda};
 ghost use Rattle.whole.specs.Construction.{after_turn, has_target, kept_on};
@@ -44,7 +45,8 @@ impl<'p> Model for Schedule<'p> {
 
     ghost view = { λ s. record { draft = s.plan.now; undone = map (λ a. a.undone) s.agendas.items } };
 
-    ghost invariant = { λ s. IsSchedule s.plan.now s.agendas.items s.nexts (map (λ ts. all_shown ts.items) s.targets.items) };
+    ghost invariant = { λ s. IsSchedule s.plan.now s.agendas.items s.nexts
+        (map (λ ts. all_shown ts.items) s.targets.items) };
 }
 
 impl<'p> Schedule<'p> {
@@ -53,7 +55,10 @@ impl<'p> Schedule<'p> {
     /// What comes from outside is pending, up to stop.
     pub fn new(alloc: Global, plan: &'p Plan, inputs: &Inputs) -> Result<Schedule<'p>, Memory>
         ensures draft { IfOk result (λ schedule. schedule.draft ≡ plan.now) }
-        ensures pending { IfOk result (λ schedule. (federate : ℕ) (tag : LogicalTime) (slot : ℕ) → federate < federate_count plan.now → look (undone_of schedule federate) tag slot ≡ look (initial_undone plan.now inputs.now federate) tag slot) }
+        ensures pending { IfOk result (λ schedule. (federate : ℕ) (tag : LogicalTime) (slot : ℕ)
+            → federate < federate_count plan.now
+            → look (undone_of schedule federate) tag slot
+            ≡ look (initial_undone plan.now inputs.now federate) tag slot) }
     {
         plan.invariant();
         let mut agendas = initial_agendas(alloc, plan)?;
@@ -85,7 +90,8 @@ impl<'p> Schedule<'p> {
     /// Writes what is present for a federate at the tag of its next turn over what was in `entries`.
     pub fn at(&self, federate: usize, tag: Tag, entries: &mut Vec<Entry>) -> Result<(), Memory>
         requires { federate < federate_count self.now.draft }
-        ensures { OnOk result ((count : ℕ) → AllByRecursion (λ e. e.slot < count) (undone_of self.now federate) → entries.new.items ≡ listed count (look (undone_of self.now federate) tag)) }
+        ensures { OnOk result ((count : ℕ) → AllByRecursion (λ e. e.slot < count) (undone_of self.now federate)
+            → entries.new.items ≡ listed count (look (undone_of self.now federate) tag)) }
     {
         match self.agendas[federate].at(tag, entries) {
             Ok(()) => Ok(()),
@@ -97,7 +103,13 @@ impl<'p> Schedule<'p> {
     pub fn put(&mut self, rows: &mut Rows, turn: &TurnMade<'_>) -> Result<(), Memory>
         requires federate { turn.now.federate < federate_count self.old.draft }
         ensures put { OnOk result (IsAfterTurn turn.now self.old self.new) }
-        ensures row { OnOk result (rows.new ≡ rows.old ++ record { reactor = turn.now.federate; tag = turn.now.tag; inputs = turn.now.inputs; outputs = turn.now.outputs } ∷ []) }
+        ensures row { OnOk result (rows.new ≡ rows.old
+            ++ record {
+              reactor = turn.now.federate;
+              tag = turn.now.tag;
+              inputs = turn.now.inputs;
+              outputs = turn.now.outputs;
+            } ∷ []) }
         ensures err { OnErr result (self.new ≡ self.old) }
         ensures no_row { OnErr result (rows.new ≡ rows.old) }
     {
@@ -113,7 +125,8 @@ impl<'p> Schedule<'p> {
     }
 }
 
-/// Puts what a turn makes on the agendas of its targets, and adds its row; then lets go of what was up to its tag. All or nothing.
+/// Puts what a turn makes on the agendas of its targets, and adds its row; then lets go of what was up to its tag. All
+/// or nothing.
 #[tactic(auto, using(crate::proofs::Putting::drop_step))]
 fn put_turn(
     agendas: &mut [Agenda],
@@ -129,10 +142,23 @@ fn put_turn(
     requires apart { AreApart (all_shown targets.now) }
     ensures length { length agendas.new ≡ length agendas.old }
     ensures nexts_length { length nexts.new ≡ length nexts.old }
-    ensures put { OnOk result ((federate : ℕ) → slice_get (map kept_on agendas.new) federate ≡ option_map (after_turn turn.now (all_shown targets.now) federate) (slice_get (map kept_on agendas.old) federate)) }
-    ensures nexts { OnOk result ((federate : ℕ) → slice_get nexts.new federate ≡ option_map (renewed agendas.new (has_target federate (all_shown targets.now)) federate) (slice_get nexts.old federate)) }
-    ensures known { OnOk result ((federate : ℕ) (a : AgendaOf) → has_target federate (all_shown targets.now) ≡ true → slice_get agendas.new federate ≡ Some a → IsAgenda a) }
-    ensures row { OnOk result (rows.new ≡ rows.old ++ record { reactor = turn.now.federate; tag = turn.now.tag; inputs = turn.now.inputs; outputs = turn.now.outputs } ∷ []) }
+    ensures put { OnOk result ((federate : ℕ)
+        → slice_get (map kept_on agendas.new) federate
+        ≡ option_map (after_turn turn.now (all_shown targets.now) federate)
+        (slice_get (map kept_on agendas.old) federate)) }
+    ensures nexts { OnOk result ((federate : ℕ)
+        → slice_get nexts.new federate
+        ≡ option_map (renewed agendas.new (has_target federate (all_shown targets.now)) federate)
+        (slice_get nexts.old federate)) }
+    ensures known { OnOk result ((federate : ℕ) (a : AgendaOf) → has_target federate (all_shown targets.now) ≡ true
+        → slice_get agendas.new federate ≡ Some a → IsAgenda a) }
+    ensures row { OnOk result (rows.new ≡ rows.old
+        ++ record {
+          reactor = turn.now.federate;
+          tag = turn.now.tag;
+          inputs = turn.now.inputs;
+          outputs = turn.now.outputs;
+        } ∷ []) }
     ensures err { OnErr result (map kept_on agendas.new ≡ map kept_on agendas.old) }
     ensures no_next { OnErr result (nexts.new ≡ nexts.old) }
     ensures no_row { OnErr result (rows.new ≡ rows.old) }

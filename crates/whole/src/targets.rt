@@ -18,7 +18,9 @@ pub struct Target {
 
 /// The targets of each federate's turns.
 pub fn all_targets(alloc: Global, plan: &Plan) -> Result<Vec<Vec<Target>>, Memory>
-    ensures { IfOk result (λ targets. (federate : ℕ) → option_map (λ ts. all_shown ts.items) (slice_get targets.items federate) ≡ for_each plan.now (λ f. targets_below (connections_of plan.now) f (federate_count plan.now)) federate) }
+    ensures { IfOk result (λ targets. (federate : ℕ)
+        → option_map (λ ts. all_shown ts.items) (slice_get targets.items federate)
+        ≡ for_each plan.now (λ f. targets_below (connections_of plan.now) f (federate_count plan.now)) federate) }
 {
     let mut targets = Vec::new(alloc);
     for federate in 0..plan.federate_count() {
@@ -29,7 +31,8 @@ pub fn all_targets(alloc: Global, plan: &Plan) -> Result<Vec<Vec<Target>>, Memor
 
 /// The targets of a federate's turns, by number.
 fn targets_of(alloc: Global, plan: &Plan, source: usize) -> Result<Vec<Target>, Memory>
-    ensures { IfOk result (λ targets. all_shown targets.items ≡ targets_below (connections_of plan.now) source (federate_count plan.now)) }
+    ensures { IfOk result (λ targets. all_shown targets.items
+        ≡ targets_below (connections_of plan.now) source (federate_count plan.now)) }
 {
     let mut targets = Vec::new(alloc);
     for federate in 0..plan.federate_count() {

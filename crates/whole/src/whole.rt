@@ -11,8 +11,8 @@ use reactor_programs::Programs;
 use std::alloc::Global;
 use std::marker::Model;
 
-/// The undivided program of a plan with its programs and inputs. Contracts see what it was made from, how many turns were made,
-/// and of how many of them the rows were let go.
+/// The undivided program of a plan with its programs and inputs. Contracts see what it was made from, how many turns
+/// were made, and of how many of them the rows were let go.
 #[derive(Drop)]
 pub struct Whole<'a> {
     plan: &'a Plan,
@@ -35,7 +35,13 @@ impl<'a> Model for Whole<'a> {
 
     ghost Value = { Progress };
 
-    ghost view = { λ w. record { draft = w.plan.now; programs = programs_in w.reactors.items; inputs = w.inputs.now; turns = w.discarded + length w.rows; discarded = w.discarded } };
+    ghost view = { λ w. record {
+      draft = w.plan.now;
+      programs = programs_in w.reactors.items;
+      inputs = w.inputs.now;
+      turns = w.discarded + length w.rows;
+      discarded = w.discarded;
+    } };
 
     ghost invariant = { λ w. IsAfterTurns w.plan.now w.inputs.now w.reactors.items w.schedule w.discarded w.rows };
 }
@@ -53,7 +59,8 @@ impl<'a> Whole<'a> {
     ) -> Result<Whole<'a>, Memory>
         requires programs { AreProgramsOf plan.now programs.now }
         requires inputs { AreInputsOf plan.now inputs.now }
-        ensures { IfOk result (λ whole. whole ≡ record { draft = plan.now; programs = programs.now; inputs = inputs.now; turns = 0; discarded = 0 }) }
+        ensures { IfOk result (λ whole. whole
+            ≡ record { draft = plan.now; programs = programs.now; inputs = inputs.now; turns = 0; discarded = 0 }) }
     {
         plan.invariant();
         let mut reactors = Vec::new(alloc);
@@ -72,8 +79,8 @@ impl<'a> Whole<'a> {
         })
     }
 
-    /// Makes so many turns, or fewer where nothing is left, and answers how many. Where memory is refused, the turns before stay made,
-    /// and something is pending.
+    /// Makes this many turns, or fewer where nothing is left, and answers how many. Where memory is refused, the turns
+    /// before stay made, and something is pending.
     pub fn turns(&mut self, n: u32) -> Result<u32, Memory>
         ensures made { IfOk result (λ made. self.new ≡ later_by made self.old) }
         ensures at_most { IfOk result (λ made. made ≤ n) }
@@ -107,7 +114,8 @@ impl<'a> Whole<'a> {
 
     /// One turn, if anything is pending. Where memory is refused, something is, and nothing changes.
     fn turn(&mut self) -> Result<bool, Memory>
-        ensures made { IfOk result (λ more. MatchBool more (self.new ≡ later_by 1 self.old) ((self.new ≡ self.old) × (pending_in self.old ≡ []))) }
+        ensures made { IfOk result (λ more.
+            MatchBool more (self.new ≡ later_by 1 self.old) ((self.new ≡ self.old) × (pending_in self.old ≡ []))) }
         ensures err { OnErr result (self.new ≡ self.old) }
         ensures pending { OnErr result (pending_in self.old ≢ []) }
     {

@@ -7,7 +7,7 @@ use Rattle.std.proofs.lemmas.List.{take_more}
 use Rattle.std.proofs.lemmas.List.Elements.{filter_map-append}
 use Rattle.node.specs.declared.node_id.NodeId.{NodeId}
 use Rattle.node.specs.declared.node_id.NodeId.TheVariants.{Coordinator, Federate}
-use Rattle.journal.specs.declared.slip.Slip.{Slip}
+use Rattle.node_journal.specs.declared.slip.Slip.{Slip}
 use Rattle.desk.specs.Replay.{Desk}
 use Rattle.desk.specs.Shares.{Agree}
 use Rattle.wires.specs.declared.job.WorkerResult.{WorkerResult}

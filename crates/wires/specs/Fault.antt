@@ -5,7 +5,8 @@ use Rattle.wires.specs.declared.run_fault.RunFault.{RunFault}
 use Rattle.wires.specs.declared.run_fault.RunFault.TheVariants.{NotFinished, Memory}
 use Rattle.wires.specs.declared.run_fault.Cause.TheVariants.{SharesDisagree}
 
--- what is printed of it: a run that isn't finished has no number, whatever the cause, and its out of memory is printed as a desk's
+-- what is printed of it: a run that isn't finished has no number, whatever the cause, and its out of memory is printed
+-- as a desk's
 abbrev pub text_of : RunFault → List ℕ
 text_of (NotFinished cause) = codes "not finished"
 text_of Memory = memory_text

@@ -1,8 +1,9 @@
 -- What the workers of one node leave, among what all workers of a run leave, and the desks that are gathered from it.
-use Rattle.std.specs.Prelude.{◌≡◌, ◌≢◌, ℕ, Bool, true, false, nat_eq, if◌then◌else◌, List, filter_map, slice_get, Option, Some, None}
+use Rattle.std.specs.Prelude.{◌≡◌, ◌≢◌, ℕ, Bool, true, false, nat_eq, if◌then◌else◌, List, filter_map, slice_get}
+use Rattle.std.specs.Prelude.{Option, Some, None}
 use Rattle.node.specs.declared.node_id.NodeId.{NodeId}
 use Rattle.node.specs.declared.node_id.NodeId.TheVariants.{Coordinator, Federate}
-use Rattle.journal.specs.declared.slip.Slip.{Slip}
+use Rattle.node_journal.specs.declared.slip.Slip.{Slip}
 use Rattle.desk.specs.Replay.{Desk}
 use Rattle.desk.specs.Shares.{Agree}
 use Rattle.wires.specs.declared.job.WorkerResult.{WorkerResult}
@@ -29,9 +30,11 @@ SameOfOthers own before after = (node : NodeId) → node ≢ own → shares_of n
 
 -- the journal of each federate's desk, by number, is what the shares of its workers say
 abbrev pub FederatesAgree : {View : Type 0} → List (Desk View) → List (Option WorkerResult) → Type 0
-FederatesAgree {View} desks results = (k : ℕ) (desk : Desk View) → slice_get desks k ≡ Some desk → Agree desk.journal (shares_of (Federate k) results)
+FederatesAgree {View} desks results =
+    (k : ℕ) (desk : Desk View) → slice_get desks k ≡ Some desk → Agree desk.journal (shares_of (Federate k) results)
 
 -- the desks of a federation, the federates' by number, are what the shares of all workers say
-pub record AreGathered {OfCoordinator OfFederate : Type 0} (coordinator : Desk OfCoordinator) (federates : List (Desk OfFederate)) (results : List (Option WorkerResult)) : Type 0 where
+pub record AreGathered {OfCoordinator OfFederate : Type 0} (coordinator : Desk OfCoordinator)
+    (federates : List (Desk OfFederate)) (results : List (Option WorkerResult)) : Type 0 where
   pub coordinator_agrees : Agree coordinator.journal (shares_of Coordinator results)
   pub federates_agree : FederatesAgree federates results

@@ -16,7 +16,7 @@ use wires_workers::{Context, Gate, WakeUps, WriterQueue, read, read_dialed, runn
 pub enum Job<'a, H: Node, M: Node, G: Gate, T: Drop, C: Drop, D: Drop, E: Drop> {
     /// Writes what a node sends to one peer, by this version of frames.
     Write(&'a WriterQueue<T, C>, &'a Ending, u8),
-    /// Runs a federate for so many turns.
+    /// Runs a federate for this many turns.
     Run(Context<'a, M, G, T, C>, &'a WakeUps, u32),
     /// Lets connections in.
     LetIn(E, &'a Ending),
@@ -76,8 +76,9 @@ impl<'a, H: Node, M: Node, G: Gate, T: Transport, C: Cut, D: Dial<T, C> + Drop, 
     }
 }
 
-/// Starts each job in a thread of its own, in this order, and waits for all of them; what they leave. Where a thread can't be
-/// started, no more are, and the run is to end: a job that waits for what comes stands behind those that end it then.
+/// Starts each job in a thread of its own, in this order, and waits for all of them; what they leave. Where a thread
+/// can't be started, no more are, and the run is to end: a job that waits for what comes stands behind those that end
+/// it then.
 pub fn start<'a, R: Threads + Wait + Clock + Sync, J: Work + Send + 'a>(
     rt: &R,
     alloc: Global,

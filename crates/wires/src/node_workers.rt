@@ -18,7 +18,7 @@ pub struct NodeWorkers<'n, N: Node, T: Drop, C: Drop> {
 }
 
 impl<'n, N: Node, T: Drop, C: Drop> NodeWorkers<'n, N, T, C> {
-    /// Of a node with so many peers: it has a writer for each, and a runner where that is said.
+    /// Of a node with this many peers: it has a writer for each, and a runner where that is said.
     pub fn new(
         alloc: Global,
         node: NodeId,
@@ -75,7 +75,7 @@ fn wake_ups(alloc: Global, has_runner: bool) -> Result<Option<WakeUps>, RunFault
     }
 }
 
-/// So many channels: their senders, and their receivers.
+/// This many channels: their senders, and their receivers.
 pub fn channels<O: Drop>(
     alloc: Global,
     count: usize,

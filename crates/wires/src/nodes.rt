@@ -11,8 +11,8 @@ use node::{Node, NodeId};
 use std::alloc::Global;
 use wires_transports::Ending;
 
-/// The desks of a federation under their locks, the federates' by number, for one run. While their workers run, others may look at
-/// them.
+/// The desks of a federation under their locks, the federates' by number, for one run. While their workers run, others
+/// may look at them.
 #[derive(Drop)]
 pub struct Nodes<H: Node, M: Node> {
     pub coordinator: Shared<H>,
@@ -49,15 +49,16 @@ impl<H: Node, M: Node> Nodes<H, M> {
         })
     }
 
-    /// The desks, from what all workers leave: each one's journal is what the shares of its node's workers say. Where a node's
-    /// workers don't agree with its journal: `SharesDisagree`.
+    /// The desks, from what all workers leave: each one's journal is what the shares of its node's workers say. Where a
+    /// node's workers don't agree with its journal: `SharesDisagree`.
     pub fn gather(
         self,
         alloc: Global,
         mut results: Vec<Option<WorkerResult>>,
     ) -> Result<Gathered<H, M>, RunFault>
         ensures each { IfOk result (λ gathered. length gathered.federates.items ≡ length self.federates.items) }
-        ensures shares { IfOk result (λ gathered. AreGathered gathered.coordinator gathered.federates.items results.items) }
+        ensures shares { IfOk result (λ gathered.
+            AreGathered gathered.coordinator gathered.federates.items results.items) }
         ensures fault { IfErr result IsFaultOfGathering }
     {
         let Nodes {

@@ -1,8 +1,8 @@
 //! All workers of a federation's nodes, each in a thread of its own.
 //!
-//! A federate has three threads: one reads, one writes, one runs. The coordinator has two for each federate, which read and write, and one
-//! more that lets connections in. They end in any case: a runner sees within its turns that the run is to end, then writers
-//! do, then readers come to the end of what was sent.
+//! A federate has three threads: one reads, one writes, one runs. The coordinator has two for each federate, which read
+//! and write, and one more that lets connections in. They end in any case: a runner sees within its turns that the run
+//! is to end, then writers do, then readers come to the end of what was sent.
 use crate::{Cause, Job, NodeWorkers, Nodes, RunFault, Terms, WorkerResult, channels, start};
 use crossbeam_channel::Receiver;
 use desk::Shared;
@@ -18,8 +18,9 @@ use wires_transports::{
 };
 use wires_workers::{Gate, WriterQueue};
 
-/// How a federate connects to the coordinator. A run has one for each federate, in their order. The thread that makes a federate's
-/// connections owns `dial` and lets it go at its end: what that holds, as the other end of `arrivals`, ends with it.
+/// How a federate connects to the coordinator. A run has one for each federate, in their order. The thread that makes a
+/// federate's connections owns `dial` and lets it go at its end: what that holds, as the other end of `arrivals`, ends
+/// with it.
 #[derive(Drop)]
 pub struct Endpoint<D: Drop, T: Drop, C: Drop> {
     pub dial: D,
@@ -54,8 +55,9 @@ struct RunContext<'a, 'n, H: Node, M: Node, G: Gate, T: Drop, C: Drop> {
     terms: Terms,
 }
 
-/// Runs a federation in threads, until the coordinator is finished or a federate's turns are made; what its workers leave. All
-/// of them have ended when it returns, and the run is at its end. Where a thread can't be started, the others end: `NoThread`.
+/// Runs a federation in threads, until the coordinator is finished or a federate's turns are made; what its workers
+/// leave. All of them have ended when it returns, and the run is at its end. Where a thread can't be started, the
+/// others end: `NoThread`.
 pub fn run<
     R: Threads + Wait + Clock + Sync,
     H: Node + Send,
@@ -262,8 +264,8 @@ fn add_readers<'a, 'n, H: Node, M: Node, G: Gate, T: Drop, C: Drop, D: Drop, E: 
     Ok(())
 }
 
-/// Runs a federation in threads over TCP on loopback, on a port that the system gives: see `run`. A connection that none of its
-/// federates has made is closed before anything is read of it.
+/// Runs a federation in threads over TCP on loopback, on a port that the system gives: see `run`. A connection that
+/// none of its federates has made is closed before anything is read of it.
 pub fn run_over_tcp<
     R: Threads + Wait + Clock + Net<Stream = TcpStream, Listener = TcpListener> + Sync,
     H: Node + Send,
@@ -300,7 +302,7 @@ fn run_on_loopback<
     run(rt, alloc, nodes, lines, acceptor, gate, terms)
 }
 
-// An acceptor on a port that the system gives, and for each of so many federates a line to it.
+// An acceptor on a port that the system gives, and for each of this many federates a line to it.
 fn open<'a, R: Net<Stream = TcpStream, Listener = TcpListener>>(
     rt: &'a R,
     alloc: Global,

@@ -1,7 +1,8 @@
 -- The coordinator's answers, and the bytes that say them.
 use Rattle.std.specs.Prelude.{ℕ, ◌==◌, Bool, true, false, if◌then◌else◌, Option, Some, None}
 use Rattle.wires_greeting.specs.declared.answer.Answer.{Answer}
-use Rattle.wires_greeting.specs.declared.answer.Answer.TheVariants.{GoOn, OtherFiles, NoSuchFederate, Finished, NotAllowed}
+use Rattle.wires_greeting.specs.declared.answer.Answer.TheVariants.{GoOn, OtherFiles, NoSuchFederate, Finished}
+use Rattle.wires_greeting.specs.declared.answer.Answer.TheVariants.{NotAllowed}
 
 -- the byte that says an answer
 abbrev pub byte_of : Answer → ℕ
@@ -37,7 +38,8 @@ is_finished NoSuchFederate = false
 is_finished Finished = true
 is_finished NotAllowed = false
 
--- whether the federate's proof is to come behind an answer: where frames begin, and where the run is finished, so that it is told
+-- whether the federate's proof is to come behind an answer: where frames begin, and where the run is finished, so that
+-- it is told
 abbrev pub wants_proof : Answer → Bool
 wants_proof GoOn = true
 wants_proof OtherFiles = false

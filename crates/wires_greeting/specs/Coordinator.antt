@@ -1,11 +1,15 @@
 -- The coordinator's side of a greeting: its states, and what the federate's two messages make of it.
-use Rattle.std.specs.Prelude.{ℕ, List, Bool, true, false, bytes_eq, if◌then◌else◌, Option, Some, None, option_map, slice_get}
+use Rattle.std.specs.Prelude.{ℕ, List, Bool, true, false, bytes_eq, if◌then◌else◌, Option, Some, None, option_map}
+use Rattle.std.specs.Prelude.{slice_get}
 use Rattle.wires_greeting.specs.declared.answer.Answer.{Answer}
-use Rattle.wires_greeting.specs.declared.answer.Answer.TheVariants.{GoOn, OtherFiles, NoSuchFederate, Finished, NotAllowed}
+use Rattle.wires_greeting.specs.declared.answer.Answer.TheVariants.{GoOn, OtherFiles, NoSuchFederate, Finished}
+use Rattle.wires_greeting.specs.declared.answer.Answer.TheVariants.{NotAllowed}
 use Rattle.wires_greeting.specs.declared.greeting.Greeting.{Greeting}
 use Rattle.wires_greeting.specs.declared.challenge.Challenge.{Challenge}
 use Rattle.wires_greeting.specs.declared.coordinator_side.CoordinatorState.{CoordinatorState}
-use Rattle.wires_greeting.specs.declared.coordinator_side.CoordinatorState.TheVariants.{Waiting, Challenged, LetIn, Finishing, Told, Refused, OtherProtocol, NotProved}
+use Rattle.wires_greeting.specs.declared.coordinator_side.CoordinatorState.TheVariants.{Waiting, Challenged, LetIn}
+use Rattle.wires_greeting.specs.declared.coordinator_side.CoordinatorState.TheVariants.{Finishing, Told, Refused}
+use Rattle.wires_greeting.specs.declared.coordinator_side.CoordinatorState.TheVariants.{OtherProtocol, NotProved}
 use Rattle.wires_greeting.specs.Answer.{is_go_on, is_finished}
 use Rattle.wires_greeting.specs.Message.{challenge_bytes, greeting_of}
 use Rattle.wires_greeting.specs.Proof.{federate_proof, challenge_by}
@@ -44,9 +48,11 @@ answered greeting challenge =
     else Refused challenge.answer
 
 -- the state by the greeting that came, if what came is one
-abbrev pub greeted : Coordinator → (random : List ℕ) (allowed : List Bool) (finished : Bool) → Option Greeting → CoordinatorState
+abbrev pub greeted : Coordinator → (random : List ℕ) (allowed : List Bool) (finished : Bool) → Option Greeting
+    → CoordinatorState
 greeted side random allowed finished None = OtherProtocol
-greeted side random allowed finished (Some greeting) = answered greeting (challenge_to side random allowed finished greeting)
+greeted side random allowed finished (Some greeting) =
+    answered greeting (challenge_to side random allowed finished greeting)
 
 -- whether the greeting is still to come
 abbrev pub is_waiting : CoordinatorState → Bool
@@ -62,22 +68,26 @@ is_waiting NotProved = false
 -- what these bytes make of the side, if it waits for a greeting; else they change nothing
 abbrev pub after_greeting : Coordinator → (bytes random : List ℕ) (allowed : List Bool) (finished : Bool) → Coordinator
 after_greeting side bytes random allowed finished =
-    if is_waiting side.state then record side { state = greeted side random allowed finished (greeting_of bytes) } else side
+    if is_waiting side.state then record side
+    { state = greeted side random allowed finished (greeting_of bytes) } else side
 
 -- what is sent once these bytes came: the challenge, if they are a greeting that was waited for
 abbrev pub sent_after : Coordinator → (bytes random : List ℕ) (allowed : List Bool) (finished : Bool) → Option (List ℕ)
 sent_after side bytes random allowed finished =
     if is_waiting side.state
-    then option_map (λ greeting. challenge_bytes (challenge_to side random allowed finished greeting)) (greeting_of bytes)
+    then option_map (λ greeting. challenge_bytes (challenge_to side random allowed finished greeting))
+    (greeting_of bytes)
     else None
 
--- what these bytes make of a state: after a challenge the federate is let in, or was told that the run is finished, if they are its
--- proof by this key
+-- what these bytes make of a state: after a challenge the federate is let in, or was told that the run is finished, if
+-- they are its proof by this key
 abbrev pub proved : (key proof : List ℕ) → CoordinatorState → CoordinatorState
 proved key proof Waiting = Waiting
-proved key proof (Challenged greeting challenge) = if bytes_eq proof (federate_proof key greeting challenge) then LetIn greeting challenge else NotProved
+proved key proof (Challenged greeting challenge) =
+    if bytes_eq proof (federate_proof key greeting challenge) then LetIn greeting challenge else NotProved
 proved key proof (LetIn greeting challenge) = LetIn greeting challenge
-proved key proof (Finishing greeting challenge) = if bytes_eq proof (federate_proof key greeting challenge) then Told greeting challenge else NotProved
+proved key proof (Finishing greeting challenge) =
+    if bytes_eq proof (federate_proof key greeting challenge) then Told greeting challenge else NotProved
 proved key proof (Told greeting challenge) = Told greeting challenge
 proved key proof (Refused answer) = Refused answer
 proved key proof OtherProtocol = OtherProtocol

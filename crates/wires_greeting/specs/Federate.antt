@@ -21,7 +21,8 @@ begun key greeting = record { key = key; greeting = greeting; state = Greeted }
 
 -- whether the challenge proves that the coordinator has the secret, heard this side's greeting, and answers so
 abbrev pub is_proved : Federate → Challenge → Bool
-is_proved side challenge = bytes_eq challenge.proof (coordinator_proof side.key side.greeting challenge.answer challenge.random)
+is_proved side challenge =
+    bytes_eq challenge.proof (coordinator_proof side.key side.greeting challenge.answer challenge.random)
 
 -- the state by a challenge that is proved: it is believed
 abbrev pub believed : Challenge → FederateState
@@ -50,13 +51,17 @@ is_greeted NotProved = false
 
 -- what these bytes make of the side, if it waits for a challenge; else they change nothing
 abbrev pub after_challenge : Federate → List ℕ → Federate
-after_challenge side bytes = if is_greeted side.state then record side { state = challenged side (challenge_of bytes) } else side
+after_challenge side bytes =
+    if is_greeted side.state then record side { state = challenged side (challenge_of bytes) } else side
 
--- what a side sends to the proved challenge that came, if one came: its proof, where frames begin or the run is finished
+-- what a side sends to the proved challenge that came, if one came: its proof, where frames begin or the run is
+-- finished
 abbrev pub sent_to : Federate → Option Challenge → Option (List ℕ)
 sent_to side None = None
-sent_to side (Some challenge) = if wants_proof challenge.answer then Some (federate_proof side.key side.greeting challenge) else None
+sent_to side (Some challenge) =
+    if wants_proof challenge.answer then Some (federate_proof side.key side.greeting challenge) else None
 
 -- what is sent once these bytes came
 abbrev pub sent_after : Federate → List ℕ → Option (List ℕ)
-sent_after side bytes = if is_greeted side.state then sent_to side (proved_challenge side (challenge_of bytes)) else None
+sent_after side bytes =
+    if is_greeted side.state then sent_to side (proved_challenge side (challenge_of bytes)) else None

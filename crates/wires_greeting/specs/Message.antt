@@ -1,5 +1,6 @@
 -- The greeting and the challenge as bytes, both ways. The federate's proof is its bytes.
-use Rattle.std.specs.Prelude.{◌≡◌, ℕ, ◌^◌, ◌<◌, List, [], ◌∷◌, ◌++◌, take, drop, length, slice_index, bytes_eq, codes, if◌then◌else◌, Option, Some, None, option_map}
+use Rattle.std.specs.Prelude.{◌≡◌, ℕ, ◌^◌, ◌<◌, List, [], ◌∷◌, ◌++◌, take, drop, length, slice_index, bytes_eq, codes}
+use Rattle.std.specs.Prelude.{if◌then◌else◌, Option, Some, None, option_map}
 use Rattle.std.specs.Int.{w16, to_be_bytes, from_be_bytes}
 use Rattle.wires_greeting.specs.declared.sizes.TheConstants.{DIGEST_SIZE, RANDOM_SIZE, PROOF_SIZE}
 use Rattle.wires_greeting.specs.declared.answer.Answer.{Answer}

@@ -1,5 +1,5 @@
--- What each side proves: that it has the secret, and that this was said on this connection. Each message that is proved begins
--- with a word for the side, so that neither side's proof is the other's.
+-- What each side proves: that it has the secret, and that this was said on this connection. Each message that is proved
+-- begins with a word for the side, so that neither side's proof is the other's.
 use Rattle.std.specs.Prelude.{ℕ, List, ◌∷◌, ◌++◌, codes}
 use Rattle.wires_greeting.specs.declared.answer.Answer.{Answer}
 use Rattle.wires_greeting.specs.declared.greeting.Greeting.{Greeting}
@@ -26,4 +26,5 @@ federate_proof key greeting challenge = hmac_by key (federate_said greeting chal
 
 -- the challenge of a coordinator that has the key
 abbrev pub challenge_by : List ℕ → Greeting → Answer → List ℕ → Challenge
-challenge_by key greeting answer random = record { answer = answer; random = random; proof = coordinator_proof key greeting answer random }
+challenge_by key greeting answer random =
+    record { answer = answer; random = random; proof = coordinator_proof key greeting answer random }

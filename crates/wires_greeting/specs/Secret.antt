@@ -7,7 +7,8 @@ use Rattle.wires_greeting.specs.declared.key.TheConstants.{LEAST_SECRET, MOST_SE
 use Rattle.wires_greeting.specs.declared.key.SecretFault.{SecretFault}
 use Rattle.wires_greeting.specs.declared.key.SecretFault.TheVariants.{TooShort, TooLong}
 
--- why these bytes are no secret, if they are none. Zeros at the end aren't counted: a key has the same proofs with and without them
+-- why these bytes are no secret, if they are none. Zeros at the end aren't counted: a key has the same proofs with and
+-- without them
 abbrev pub secret_fault : List ℕ → Option SecretFault
 secret_fault secret =
     if nat_lt (length secret) LEAST_SECRET then Some TooShort

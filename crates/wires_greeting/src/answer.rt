@@ -58,7 +58,8 @@ impl Answer {
         matches!(self, Answer::Finished)
     }
 
-    /// Whether the federate proves the secret behind it: where frames begin, and where it is told that the run is finished.
+    /// Whether the federate proves the secret behind it: where frames begin, and where it is told that the run is
+    /// finished.
     pub fn wants_proof(self) -> bool
         ensures { result ≡ wants_proof self }
     {

@@ -22,23 +22,26 @@ pub enum CoordinatorState {
         greeting: Greeting,
         challenge: Challenge,
     },
-    /// It heard this greeting and gave this challenge, which says that the run is finished. The federate's proof is still to come.
+    /// It heard this greeting and gave this challenge, which says that the run is finished. The federate's proof is
+    /// still to come.
     Finishing {
         greeting: Greeting,
         challenge: Challenge,
     },
-    /// The federate of that greeting proved that it has the secret and heard this challenge: it was told that the run is finished. The
-    /// connection is to be closed.
+    /// The federate of that greeting proved that it has the secret and heard this challenge: it was told that the run
+    /// is finished. The connection is to be closed.
     Told {
         greeting: Greeting,
         challenge: Challenge,
     },
-    /// It gave this answer, which is neither to go on nor that the run is finished. Once the challenge is sent, the connection is to be
-    /// closed.
+    /// It gave this answer, which is neither to go on nor that the run is finished. Once the challenge is sent, the
+    /// connection is to be closed.
     Refused(Answer),
-    /// What came was no greeting of this protocol and version. The connection is to be closed, and nothing is to be said on it.
+    /// What came was no greeting of this protocol and version. The connection is to be closed, and nothing is to be
+    /// said on it.
     OtherProtocol,
-    /// What came wasn't the federate's proof: it has another secret, or proves another connection. The connection is to be closed.
+    /// What came wasn't the federate's proof: it has another secret, or proves another connection. The connection is to
+    /// be closed.
     NotProved,
 }
 
@@ -66,8 +69,9 @@ impl CoordinatorState {
     }
 }
 
-/// The coordinator's side of one connection's greeting. Read as many bytes as a greeting has, hand them to `greeted` and send
-/// what it gives; then, where it is `Challenged` or `Finishing`, read as many bytes as a proof has, and hand them to `proved`.
+/// The coordinator's side of one connection's greeting. Read as many bytes as a greeting has, hand them to `greeted`
+/// and send what it gives; then, where it is `Challenged` or `Finishing`, read as many bytes as a proof has, and hand
+/// them to `proved`.
 #[derive(Drop)]
 pub struct CoordinatorSide {
     key: Key,
@@ -86,7 +90,8 @@ impl Model for CoordinatorSide {
 impl CoordinatorSide {
     ghost use Rattle.std.specs.Prelude.{◌≡◌, bytes_eq};
     ghost use Rattle.wires_greeting.specs.Proof.{federate_proof};
-    ghost use Rattle.wires_greeting.specs.Coordinator.{waiting, is_waiting, answer_to, challenge_to, after_greeting, sent_after, after_proof, let_in, told};
+    ghost use Rattle.wires_greeting.specs.Coordinator.{waiting, is_waiting, answer_to, challenge_to, after_greeting};
+    ghost use Rattle.wires_greeting.specs.Coordinator.{sent_after, after_proof, let_in, told};
 
     /// The side of a coordinator that has these files, by their digest.
     pub fn new(key: Key, files: [u8; DIGEST_SIZE]) -> CoordinatorSide
@@ -127,8 +132,8 @@ impl CoordinatorSide {
     }
 
     /// Takes a greeting, and gives the challenge to be sent, if what came is one. `random` is new for this connection;
-    /// `allowed` says of each federate of the federation whether it may still take part, and `finished` whether the run is
-    /// finished. A second greeting changes nothing.
+    /// `allowed` says of each federate of the federation whether it may still take part, and `finished` whether the run
+    /// is finished. A second greeting changes nothing.
     pub fn greeted(
         &mut self,
         message: &[u8; GREETING_SIZE],

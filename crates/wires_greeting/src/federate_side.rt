@@ -14,11 +14,11 @@ pub enum FederateState {
     Greeted,
     /// The coordinator has the secret and said to go on. Once this side's proof is sent, frames begin.
     Proved(Challenge),
-    /// The coordinator has the secret and gave another answer. Once this side's proof is sent, if there is one, the connection is to be
-    /// closed.
+    /// The coordinator has the secret and gave another answer. Once this side's proof is sent, if there is one, the
+    /// connection is to be closed.
     Refused(Answer),
-    /// What came was no challenge, or wasn't proved: whoever answered has another secret, or answers another greeting. The
-    /// connection is to be closed, and nothing that was said on it is to be believed.
+    /// What came was no challenge, or wasn't proved: whoever answered has another secret, or answers another greeting.
+    /// The connection is to be closed, and nothing that was said on it is to be believed.
     NotProved,
 }
 
@@ -58,7 +58,8 @@ impl Model for FederateSide {
 impl FederateSide {
     ghost use Rattle.std.specs.Prelude.{◌≡◌};
     ghost use Rattle.wires_greeting.specs.Message.{greeting_bytes, challenge_of};
-    ghost use Rattle.wires_greeting.specs.Federate.{begun, is_greeted, is_proved, proved_challenge, after_challenge, sent_to, sent_after};
+    ghost use Rattle.wires_greeting.specs.Federate.{begun, is_greeted, is_proved, proved_challenge, after_challenge};
+    ghost use Rattle.wires_greeting.specs.Federate.{sent_to, sent_after};
 
     /// The side of a federate that says this greeting, whose random bytes are new for this connection.
     pub fn new(key: Key, greeting: Greeting) -> FederateSide
@@ -85,8 +86,8 @@ impl FederateSide {
         self.state
     }
 
-    /// Takes the coordinator's challenge, and gives what to send then: the proof, if frames begin, or the run is finished.
-    /// A second one changes nothing.
+    /// Takes the coordinator's challenge, and gives what to send then: the proof, if frames begin, or the run is
+    /// finished. A second one changes nothing.
     pub fn challenged(&mut self, message: &[u8; CHALLENGE_SIZE]) -> Option<[u8; PROOF_SIZE]>
         ensures side { self.new ≡ after_challenge self.old message.now }
         ensures sent { result ≡ sent_after self.old message.now }

@@ -7,8 +7,8 @@ ghost use Rattle.wires_greeting.specs.Files.{with_length, files_digest};
 use crate::sizes::DIGEST_SIZE;
 use sha2::{Digest, Sha256};
 
-/// The digest by which both sides know that they have the same federation file and the same input file; of no input file the
-/// bytes are empty.
+/// The digest by which both sides know that they have the same federation file and the same input file; of no input
+/// file the bytes are empty.
 pub fn files_digest(federation: &[u8], inputs: &[u8]) -> [u8; DIGEST_SIZE]
     ensures { result ≡ files_digest federation.now inputs.now }
 {

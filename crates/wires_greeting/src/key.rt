@@ -15,8 +15,8 @@ pub const MOST_SECRET: usize = 4096;
 /// Why there is no key.
 #[derive(Clone, Copy, Debug, PartialEq, Eq)]
 pub enum SecretFault {
-    /// The secret has fewer than 16 bytes, not counting zeros at its end, with which a key has the same proofs: whoever gave it makes
-    /// a longer one.
+    /// The secret has fewer than 16 bytes, not counting zeros at its end, with which a key has the same proofs: whoever
+    /// gave it makes a longer one.
     TooShort,
     /// The secret has more than 4,096 bytes: it is likely another file than was meant.
     TooLong,
@@ -24,8 +24,8 @@ pub enum SecretFault {
     Missing,
 }
 
-/// What both sides prove to each other that they have: a secret, as HMAC-SHA-256 takes it, or none. There is no key without a
-/// secret for another address than loopback.
+/// What both sides prove to each other that they have: a secret, as HMAC-SHA-256 takes it, or none. There is no key
+/// without a secret for another address than loopback.
 #[derive(Clone, Copy)]
 pub struct Key {
     block: [u8; BLOCK_SIZE],
@@ -48,7 +48,8 @@ impl Key {
 
     /// The key of a secret.
     pub fn of_secret(secret: &[u8]) -> Result<Key, SecretFault>
-        ensures { MatchResult result (λ key. (secret_fault secret.now ≡ None) × (key ≡ key_block secret.now)) (λ fault. secret_fault secret.now ≡ Some fault) }
+        ensures { MatchResult result (λ key. (secret_fault secret.now ≡ None) × (key ≡ key_block secret.now))
+            (λ fault. secret_fault secret.now ≡ Some fault) }
     {
         if secret.len() < LEAST_SECRET {
             return Err(SecretFault::TooShort);
@@ -66,7 +67,8 @@ impl Key {
 
     /// The key where no secret was given, for connections to or from this address: the empty key, on loopback alone.
     pub fn without_secret(address: &IpAddr) -> Result<Key, SecretFault>
-        ensures { MatchResult result (λ key. IsLoopback address.now × (key ≡ key_block [])) (λ fault. (¬ IsLoopback address.now) × (fault ≡ SecretFault.Missing)) }
+        ensures { MatchResult result (λ key. IsLoopback address.now × (key ≡ key_block []))
+            (λ fault. (¬ IsLoopback address.now) × (fault ≡ SecretFault.Missing)) }
     {
         if !address.is_loopback() {
             return Err(SecretFault::Missing);

@@ -5,11 +5,12 @@
 //!         Greeted, then Proved  --- proof ----> CoordinatorSide::proved: Challenged, then LetIn; frames begin
 //!         or Refused: finished  --- proof ----> CoordinatorSide::proved: Finishing, then Told
 //!
-//! Promise to the layer above: each call is a step of `specs/Federate` or `specs/Coordinator`. By the laws of `laws`, frames
-//! begin only where both sides proved the secret over all that this connection said, with the same files, and where the
-//! federation has the federate; and only such a federate counts as told that the run is finished. No connection and no thread is in here: whoever uses it hands in what was received, and random
-//! bytes that are new for each connection, and sends what it is given. Begin with `specs/Message` and `specs/Proof`, then
-//! `federate_side` and `coordinator_side`; keys are made in `key`, by the rule that another address than loopback needs a secret.
+//! Promise to the layer above: each call is a step of `specs/Federate` or `specs/Coordinator`. By the laws of `laws`,
+//! frames begin only where both sides proved the secret over all that this connection said, with the same files, and
+//! where the federation has the federate; and only such a federate counts as told that the run is finished. No
+//! connection and no thread is in here: whoever uses it hands in what was received, and random bytes that are new for
+//! each connection, and sends what it is given. Begin with `specs/Message` and `specs/Proof`, then `federate_side` and
+//! `coordinator_side`; keys are made in `key`, by the rule that another address than loopback needs a secret.
 #![tactic(auto)]
 
 pub mod answer;

@@ -5,7 +5,9 @@ use Rattle.wires_greeting.specs.declared.answer.Answer.TheVariants as answers
 use Rattle.wires_greeting.specs.declared.federate_side.FederateState.{FederateState}
 use Rattle.wires_greeting.specs.declared.federate_side.FederateState.TheVariants as states
 use Rattle.wires_hosts.specs.declared.dial_fault.DialFault.{DialFault}
-use Rattle.wires_hosts.specs.declared.dial_fault.DialFault.TheVariants.{NotConnected, NoRandom, NoAnswer, NotProved, OtherFiles, NoSuchFederate, Finished, NotAllowed}
+use Rattle.wires_hosts.specs.declared.dial_fault.DialFault.TheVariants.{NotConnected, NoRandom, NoAnswer, NotProved}
+use Rattle.wires_hosts.specs.declared.dial_fault.DialFault.TheVariants.{OtherFiles, NoSuchFederate, Finished}
+use Rattle.wires_hosts.specs.declared.dial_fault.DialFault.TheVariants.{NotAllowed}
 
 -- the fault by a refusal that is proved; one that says to go on is none, and isn't believed
 abbrev pub by_refusal : Answer → DialFault

@@ -5,8 +5,8 @@ use Rattle.wires_greeting.specs.declared.coordinator_side.CoordinatorState.TheVa
 use Rattle.wires_hosts.specs.declared.next.Next.{Next}
 use Rattle.wires_hosts.specs.declared.next.Next.TheVariants.{Greeting, Proof, Hello}
 
--- what is next by where the coordinator's side of a greeting came to: frames only where a federate is let in, and nothing behind a
--- refusal or where a federate was told that the run is finished
+-- what is next by where the coordinator's side of a greeting came to: frames only where a federate is let in, and
+-- nothing behind a refusal or where a federate was told that the run is finished
 abbrev pub next_by : CoordinatorState → Option Next
 next_by states.Waiting = Some Greeting
 next_by (states.Challenged greeting challenge) = Some Proof

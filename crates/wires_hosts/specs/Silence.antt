@@ -3,8 +3,8 @@ use Rattle.std.specs.Prelude.{ℕ, ◌+◌, ◌^◌, ◌-◌, min, nat_eq, if◌
 use Rattle.wires_hosts.specs.declared.silence.Silence.{Silence}
 use Rattle.wires_hosts.specs.declared.times.TheConstants.{PATIENCE_LOOK_MS}
 
--- the silence after one more look, at which so much was heard in all: none where that is more than before, and else longer by the
--- time between two looks
+-- the silence after one more look, with how much was heard in all: none where that is more than before, and else
+-- longer by the time between two looks
 abbrev pub after_look : Silence → (heard : ℕ) → Silence
 after_look silence heard = record {
   heard = heard;

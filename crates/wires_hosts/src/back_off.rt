@@ -23,7 +23,7 @@ impl BackOff {
         }
     }
 
-    /// Begins an attempt, where something was heard so often by now; the pause before it, in ms.
+    /// Begins an attempt, where this is how often something was heard by now; the pause before it, in ms.
     pub fn begin(&self, heard: u64) -> u64 {
         let before = self.heard.swap(heard, Ordering::SeqCst);
         let pause = pause_before(self.pause.load(Ordering::SeqCst), before, heard);

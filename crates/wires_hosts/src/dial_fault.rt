@@ -12,8 +12,8 @@ pub enum DialFault {
     NoRandom,
     /// The connection ended before there was an answer, or none came in time. Another attempt may come to more.
     NoAnswer,
-    /// What was answered isn't proved by the secret: the coordinator has another secret, or it isn't the coordinator. Nothing of it is
-    /// believed, so another attempt may come to more.
+    /// What was answered isn't proved by the secret: the coordinator has another secret, or it isn't the coordinator.
+    /// Nothing of it is believed, so another attempt may come to more.
     NotProved,
     /// The coordinator has another federation file or another input file.
     OtherFiles,

@@ -15,7 +15,7 @@ pub struct Heard {
 }
 
 impl Heard {
-    /// Nothing so far. A coordinator has so many federates, and a federate's process has none.
+    /// Nothing so far. A coordinator has this many federates, and a federate's process has none.
     pub fn new(alloc: Global, federates: usize) -> Result<Heard, AllocError> {
         let mut told = Vec::new(alloc);
         told.resize_with(federates, || AtomicBool::new(false))?;

@@ -19,8 +19,8 @@ use wires_transports::{Accepted, Acceptor, Cut, Deadline, Ending, TcpCut, TcpTra
 // Connections that are taken from the listener in a row, at most.
 const AT_ONCE: usize = 64;
 
-/// Connections that aren't let in so far, at most. Of more some are given up, drawn at random: however many strangers connect, each
-/// connection of a federate has its chance to be let in.
+/// Connections that aren't let in so far, at most. Of more some are given up, drawn at random: however many strangers
+/// connect, each connection of a federate has its chance to be let in.
 pub const PENDING_MOST: usize = 128;
 
 /// To a federate's reader.
@@ -38,11 +38,11 @@ pub struct HostEntrance {
     pub patience: Duration,
 }
 
-/// Lets federates' processes in that have the secret and the same files. Each one's connection goes to its reader, with its Hello, and
-/// the older one, if there is one, is ended. What fails the greeting is closed without an event, and what is silent keeps nobody
-/// else waiting. Once the run is to end, readers get no more connections, and what they haven't read to the end a second later is
-/// ended. Where the run is finished, whoever asks then is told so, until all federates were, each of which proved it by the secret, or
-/// the patience is over.
+/// Lets federates' processes in that have the secret and the same files. Each one's connection goes to its reader, with
+/// its Hello, and the older one, if there is one, is ended. What fails the greeting is closed without an event, and
+/// what is silent keeps nobody else waiting. Once the run is to end, readers get no more connections, and what they
+/// haven't read to the end a second later is ended. Where the run is finished, whoever asks then is told so, until all
+/// federates were, each of which proved it by the secret, or the patience is over.
 #[derive(Drop)]
 pub struct HostAcceptor<'a, S: RandomSource> {
     random: &'a S,
@@ -187,9 +187,9 @@ fn pause(is_calm: bool) -> u64 {
     if is_calm { CALM_PAUSE_MS } else { PAUSE_MS }
 }
 
-// Takes connections that came to those that are pending, and gives some of them up where these are too many; whether one came. One
-// for which there is no memory is closed. Where one can't be taken, as where no more files may be open, one that is pending is given
-// up for the next.
+// Takes connections that came to those that are pending, and gives some of them up where these are too many; whether
+// one came. One for which there is no memory is closed. Where one can't be taken, as where no more files may be open,
+// one that is pending is given up for the next.
 fn accept_some<R: Clock, S: RandomSource>(
     rt: &R,
     entrance: &HostEntrance,
@@ -229,8 +229,8 @@ fn give_up_one<S: RandomSource>(random: &S, pending: &mut Vec<PendingHost>) {
     }
 }
 
-// Listens to all that are pending; those that are pending still. What is not let in is closed, and so is what there is no memory
-// to keep.
+// Listens to all that are pending; those that are pending still. What is not let in is closed, and so is what there is
+// no memory to keep.
 fn listen_to<'a, R: Wait + Clock, S: RandomSource>(
     rt: &R,
     alloc: Global,
@@ -264,8 +264,8 @@ fn listen_to<'a, R: Wait + Clock, S: RandomSource>(
     left
 }
 
-// Hands a connection to its federate's reader, in place of the older one, which is ended. Where that can't be, it is ended too, so
-// that the federate connects again.
+// Hands a connection to its federate's reader, in place of the older one, which is ended. Where that can't be, it is
+// ended too, so that the federate connects again.
 fn hand_on<'a, R: Wait>(
     rt: &R,
     alloc: Global,

@@ -31,8 +31,8 @@ pub struct FederateHost {
     pub federate: u16,
 }
 
-/// Makes a federate's connections to the coordinator's process. What an attempt came to is noted; where the coordinator refused, the
-/// run is to end. Before an attempt it waits as `BackOff` says, and not past the end of the run.
+/// Makes a federate's connections to the coordinator's process. What an attempt came to is noted; where the coordinator
+/// refused, the run is to end. Before an attempt it waits as `BackOff` says, and not past the end of the run.
 #[derive(Drop)]
 pub struct HostDial<'a, M: Net<Stream = TcpStream, Listener = TcpListener> + Clock + RandomSource> {
     machine: &'a M,
@@ -106,7 +106,7 @@ impl<'a, M: Net<Stream = TcpStream, Listener = TcpListener> + Clock + RandomSour
     }
 }
 
-// Waits for so many ms; false where the run is to end before.
+// Waits for this many ms; false where the run is to end before.
 fn has_paused<M: Clock>(clock: &M, pause: u64, ending: &Ending) -> bool {
     for _ in 0..pause / ENDING_LOOK_MS {
         if ending.is_set() {
@@ -166,8 +166,8 @@ fn greet<R: Wait, M: Clock>(
     }
 }
 
-// Sends and reads the messages of the greeting. None where the connection ended before, or the time for it is over, or the run is
-// to end.
+// Sends and reads the messages of the greeting. None where the connection ended before, or the time for it is over, or
+// the run is to end.
 fn exchange<R: Wait, M: Clock>(
     rt: &R,
     clock: &M,

@@ -74,7 +74,8 @@ impl Incoming {
     }
 }
 
-/// Reads what has come on a stream that doesn't wait: how many bytes, 0 where no more will come, and None where nothing has come.
+/// Reads what has come on a stream that doesn't wait: how many bytes, 0 where no more will come, and None where nothing
+/// has come.
 pub(crate) fn read_now<S: Read>(stream: &mut S, room: &mut [u8]) -> io::Result<Option<usize>>
     ensures room { length room.new ≡ length room.old }
     ensures came { IfOk result (λ read. IfSome read (λ count. count ≤ length room.new)) }

@@ -1,15 +1,15 @@
-//! Connections between machines: how a federate's process connects to the coordinator's, who is let in, and how those that come
-//! late hear that the run is finished.
+//! Connections between machines: how a federate's process connects to the coordinator's, who is let in, and how those
+//! that come late hear that the run is finished.
 //!
 //!     HostDial::dial: BackOff ---- connects ----> HostAcceptor: PendingHost ---- its Hello ----> its federate's reader
 //!         FederateSide  <---- greeting, challenge, proof ---->  CoordinatorSide
 //!
-//! Promise to the layer above: a connection is handed on only where `wires_greeting` lets its federate in, and where its first
-//! frame is a Hello of that very federate (`specs/Hello`); a federate counts as told only where it proved so to `wires_greeting`. Of
-//! connections that are too many one is given up that is drawn at random (`specs/Draw`). What an attempt to connect came to is
-//! `specs/DialFault`, how long to wait before the next one `specs/BackOff`, and how long nothing was heard `specs/Silence`. A call
-//! over a connection fails only where it fails over what it is around. Nothing is said of when a call returns. Keys are made by
-//! `wires_greeting::Key` alone.
+//! Promise to the layer above: a connection is handed on only where `wires_greeting` lets its federate in, and where
+//! its first frame is a Hello of that very federate (`specs/Hello`); a federate counts as told only where it proved so
+//! to `wires_greeting`. Of connections that are too many one is given up that is drawn at random (`specs/Draw`). What
+//! an attempt to connect came to is `specs/DialFault`, how long to wait before the next one `specs/BackOff`, and how
+//! long nothing was heard `specs/Silence`. A call over a connection fails only where it fails over what it is around.
+//! Nothing is said of when a call returns. Keys are made by `wires_greeting::Key` alone.
 //!
 //! Begin with `heard`, which one process's threads share, then `host_dial` and `host_acceptor`.
 #![tactic(auto)]

@@ -16,7 +16,8 @@ pub enum Next {
 impl Next {
     ghost use Rattle.wires_hosts.specs.Next.{next_by};
 
-    /// What is next by where the coordinator's side of a greeting came to. None where nothing is: the connection is to be closed.
+    /// What is next by where the coordinator's side of a greeting came to. None where nothing is: the connection is to
+    /// be closed.
     pub fn by_state(state: &CoordinatorState) -> Option<Next>
         ensures { result ≡ next_by state.now }
     {

@@ -78,7 +78,8 @@ impl PendingHost {
         alloc: Global,
         terms: &Terms<'_, S>,
     ) -> HostState
-        ensures let_in { (federate : ℕ) → result ≡ HostState.Hello federate → let_in self.new.side.state ≡ Some federate }
+        ensures let_in { (federate : ℕ) → result ≡ HostState.Hello federate
+            → let_in self.new.side.state ≡ Some federate }
         ensures told { (federate : ℕ) → result ≡ HostState.Told federate → told self.new.side.state ≡ Some federate }
     {
         match self.take(alloc, terms) {
@@ -111,8 +112,10 @@ impl PendingHost {
 
     // Takes what has come of what is next. None where the connection is to be closed.
     fn take<S: RandomSource>(&mut self, alloc: Global, terms: &Terms<'_, S>) -> Option<HostState>
-        ensures let_in { (federate : ℕ) → result ≡ Some (HostState.Hello federate) → let_in self.new.side.state ≡ Some federate }
-        ensures told { (federate : ℕ) → result ≡ Some (HostState.Told federate) → told self.new.side.state ≡ Some federate }
+        ensures let_in { (federate : ℕ) → result ≡ Some (HostState.Hello federate)
+            → let_in self.new.side.state ≡ Some federate }
+        ensures told { (federate : ℕ) → result ≡ Some (HostState.Told federate)
+            → told self.new.side.state ≡ Some federate }
     {
         match self.next {
             Next::Greeting => {
@@ -142,8 +145,10 @@ impl PendingHost {
 
     // Once the proof is whole, the federate is let in or was told that the run is finished, or neither.
     fn take_proof(&mut self) -> Option<HostState>
-        ensures let_in { (federate : ℕ) → result ≡ Some (HostState.Hello federate) → let_in self.new.side.state ≡ Some federate }
-        ensures told { (federate : ℕ) → result ≡ Some (HostState.Told federate) → told self.new.side.state ≡ Some federate }
+        ensures let_in { (federate : ℕ) → result ≡ Some (HostState.Hello federate)
+            → let_in self.new.side.state ≡ Some federate }
+        ensures told { (federate : ℕ) → result ≡ Some (HostState.Told federate)
+            → told self.new.side.state ≡ Some federate }
     {
         if !self.incoming.read(&mut self.stream, PROOF_SIZE)? {
             return Some(HostState::NotYet);
@@ -159,8 +164,10 @@ impl PendingHost {
 
     // The first frame is a Hello of the federate that was let in, or nothing more is read.
     fn take_hello(&mut self, alloc: Global) -> Option<HostState>
-        ensures let_in { (federate : ℕ) → result ≡ Some (HostState.Hello federate) → let_in self.new.side.state ≡ Some federate }
-        ensures told { (federate : ℕ) → result ≡ Some (HostState.Told federate) → told self.new.side.state ≡ Some federate }
+        ensures let_in { (federate : ℕ) → result ≡ Some (HostState.Hello federate)
+            → let_in self.new.side.state ≡ Some federate }
+        ensures told { (federate : ℕ) → result ≡ Some (HostState.Told federate)
+            → told self.new.side.state ≡ Some federate }
     {
         let federate = self.side.let_in()?;
         if !self.incoming.read(&mut self.stream, HELLO_SIZE)? {

@@ -2,8 +2,9 @@ ghost use Rattle.std.specs.Prelude.{◌≡◌};
 
 use crate::times::PATIENCE_LOOK_MS;
 
-/// How long nothing was heard, by looks at how often something was. It is counted in looks and not by the clock: a process that was
-/// stopped for a while, and goes on, has heard what came meanwhile before it thinks that it was silent.
+/// How long nothing was heard, by looks at how often something was. It is counted in looks and not by the clock: a
+/// process that was stopped for a while, and goes on, has heard what came meanwhile before it thinks that it was
+/// silent.
 #[derive(Clone, Copy, Debug, PartialEq, Eq)]
 pub struct Silence {
     /// How often something had been heard at the last look.
@@ -15,14 +16,14 @@ pub struct Silence {
 impl Silence {
     ghost use Rattle.wires_hosts.specs.Silence as definition;
 
-    /// The silence begins, where something was heard so often by now.
+    /// The silence begins, where this is how often something was heard by now.
     pub fn new(heard: u64) -> Silence
         ensures { result ≡ record { heard = heard; quiet_ms = 0 } }
     {
         Silence { heard, quiet_ms: 0 }
     }
 
-    /// After one more look, at which something was heard so often by now.
+    /// After one more look, with how often something was heard by now.
     pub fn after_look(self, heard: u64) -> Silence
         ensures { result ≡ definition.after_look self heard }
     {

@@ -1,6 +1,6 @@
 -- The shares that the workers of one node left. All that is left is that node's: it has the process alone.
 use Rattle.std.specs.Prelude.{List, filter_map, Option, Some, None}
-use Rattle.journal.specs.declared.slip.Slip.{Slip}
+use Rattle.node_journal.specs.declared.slip.Slip.{Slip}
 use Rattle.wires.specs.declared.job.WorkerResult.{WorkerResult}
 
 -- the share that a worker left: none where it left nothing

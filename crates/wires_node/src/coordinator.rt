@@ -1,4 +1,5 @@
-//! The coordinator's workers: two for each federate, which read and write, one that lets connections in, and the caller's watcher.
+//! The coordinator's workers: two for each federate, which read and write, one that lets connections in, and the
+//! caller's watcher.
 ghost use Rattle.std.specs.Prelude.{◌≡◌};
 
 use crate::gathering::gather_desk;
@@ -57,13 +58,13 @@ impl<'a, H: Node, G: Gate, T: Transport, C: Cut, E: Acceptor, W: Work> Work
     }
 }
 
-/// Runs the coordinator in threads until `ending` is set: a worker sets it once the coordinator is finished, and acceptor and
-/// watcher may before. Its desk then; whether it is finished is asked of that. All workers have ended when it returns, and `ending` is
-/// set.
+/// Runs the coordinator in threads until `ending` is set: a worker sets it once the coordinator is finished, and
+/// acceptor and watcher may before. Its desk then; whether it is finished is asked of that. All workers have ended when
+/// it returns, and `ending` is set.
 ///
-/// `arrivals` is where the acceptor's connections come, of each federate by its number; a reader ends once nobody holds their other
-/// end and the connections that came have ended. So acceptor and watcher end once `ending` is set, and the acceptor ends then what
-/// connections are left. Where a thread can't be started, the others end: `NoThread`.
+/// `arrivals` is where the acceptor's connections come, of each federate by its number; a reader ends once nobody holds
+/// their other end and the connections that came have ended. So acceptor and watcher end once `ending` is set, and the
+/// acceptor ends then what connections are left. Where a thread can't be started, the others end: `NoThread`.
 pub fn run_coordinator<
     R: Threads + Wait + Clock + Sync,
     H: Node + Send,
@@ -118,8 +119,9 @@ fn run_workers<
     start(rt, alloc, jobs, ending)
 }
 
-// The jobs, in the order in which they are started. The acceptor is the last, so that it takes the end of the run for what its
-// workers say only where all of them were started; where one can't be, it is let go, and readers hear that nobody comes.
+// The jobs, in the order in which they are started. The acceptor is the last, so that it takes the end of the run for
+// what its workers say only where all of them were started; where one can't be, it is let go, and readers hear that
+// nobody comes.
 fn jobs_of<'a, 'n, H: Node, G: Gate, T: Transport, C: Cut, E: Drop, W: Drop>(
     alloc: Global,
     workers: &'a NodeWorkers<'n, H, T, C>,

@@ -1,4 +1,5 @@
-//! A federate's workers: one writes, one runs, one makes the connections to the coordinator and reads them, and the caller's watcher.
+//! A federate's workers: one writes, one runs, one makes the connections to the coordinator and reads them, and the
+//! caller's watcher.
 ghost use Rattle.std.specs.Prelude.{◌≡◌};
 
 use crate::gathering::gather_desk;
@@ -18,7 +19,7 @@ use wires_workers::{Context, Gate, WakeUps, WriterQueue, read_dialed, runner, wr
 enum Job<'a, M: Node, G: Gate, T: Drop, C: Drop, D: Drop, W: Drop> {
     // Writes what is sent to the coordinator, by this version of frames.
     Write(&'a WriterQueue<T, C>, &'a Ending, u8),
-    // Runs the federate for so many turns.
+    // Runs the federate for this many turns.
     Run(Context<'a, M, G, T, C>, &'a WakeUps, u32),
     // What the caller wants done beside the run. Then it ends the last connection, once the run is to end.
     Watch(W, &'a LastConnection<C>, &'a Ending),
@@ -60,12 +61,12 @@ impl<'a, M: Node, G: Gate, T: Transport, C: Cut, D: Dial<T, C> + Drop, W: Work> 
     }
 }
 
-/// Runs a federate in threads until `ending` is set: a worker sets it once the turns are made or the federate's end is closed, and
-/// dial and watcher may before. Its desk then. All workers have ended when it returns, and `ending` is set: a connection on which the
-/// coordinator says nothing more is ended a second later.
+/// Runs a federate in threads until `ending` is set: a worker sets it once the turns are made or the federate's end is
+/// closed, and dial and watcher may before. Its desk then. All workers have ended when it returns, and `ending` is set:
+/// a connection on which the coordinator says nothing more is ended a second later.
 ///
-/// The thread that makes the connections owns `dial` and lets it go at its end. The watcher ends once `ending` is set. Where a thread
-/// can't be started, the others end: `NoThread`.
+/// The thread that makes the connections owns `dial` and lets it go at its end. The watcher ends once `ending` is set.
+/// Where a thread can't be started, the others end: `NoThread`.
 pub fn run_federate<
     R: Threads + Wait + Clock + Sync,
     M: Node + Send,
@@ -119,7 +120,8 @@ fn run_workers<
     start(rt, alloc, jobs, ending)
 }
 
-// The jobs, in the order in which they are started: the reader waits for what comes, so it stands behind those that end it.
+// The jobs, in the order in which they are started: the reader waits for what comes, so it stands behind those that end
+// it.
 fn jobs_of<'a, 'n, M: Node, G: Gate, T: Transport, C: Cut, D: Drop, W: Drop>(
     alloc: Global,
     workers: &'a NodeWorkers<'n, M, T, C>,

@@ -9,8 +9,8 @@ use node::Node;
 use std::alloc::Global;
 use wires::{Cause, RunFault, WorkerResult};
 
-/// The desk of a node, from what all its workers left: its journal is what their shares say. Where they don't agree with it:
-/// `SharesDisagree`.
+/// The desk of a node, from what all its workers left: its journal is what their shares say. Where they don't agree
+/// with it: `SharesDisagree`.
 pub fn gather_desk<N: Node>(
     alloc: Global,
     shared: Shared<N>,

@@ -1,7 +1,8 @@
 //! The connection that a federate has, for whoever ends it.
 //!
-//! A federate's reader waits for what the coordinator sends, however long. Where the coordinator's machine is silent, nothing comes
-//! any more, not even the end. So a run that is to end would not; here its last connection is ended a second after that.
+//! A federate's reader waits for what the coordinator sends, however long. Where the coordinator's machine is silent,
+//! nothing comes any more, not even the end. So a run that is to end would not; here its last connection is ended a
+//! second after that.
 ghost use Rattle.std.specs.Prelude.{◌≡◌};
 
 use std::alloc::Global;
@@ -33,7 +34,8 @@ impl<C: Cut> LastConnection<C> {
         *place = Some(cut);
     }
 
-    /// Waits until the run is to end. Then it ends the connection, once no worker has it any more or the time for that is over.
+    /// Waits until the run is to end. Then it ends the connection, once no worker has it any more or the time for that
+    /// is over.
     pub fn end<R: Wait + Clock>(&self, rt: &R, ending: &Ending) {
         for _ in rt.forever() {
             if ending.is_set() {

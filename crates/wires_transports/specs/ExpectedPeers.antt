@@ -6,9 +6,12 @@ use Rattle.wires_transports.specs.declared.expected_peers.DialState.TheVariants.
 use Rattle.wires_transports.specs.declared.expected_peers.Origin.{Origin}
 use Rattle.wires_transports.specs.declared.expected_peers.Origin.TheVariants.{Federate, Unclear, Stranger}
 
--- a connection from this address, where the federates' dialers are at this: whose it is, and what they are at afterwards. A
--- federate's is expected no more, so it is let in once.
+-- a connection from this address, where the federates' dialers are at this: whose it is, and what they are at
+-- afterwards. A federate's is expected no more, so it is let in once.
 pub data IsJudged (peer : SocketAddr) (states : List DialState) : Origin → List DialState → Type 0 where
-  federate : (j : ℕ) → slice_get states j ≡ Some (Connected peer) → IsJudged peer states (Federate j) (slice_set states j Idle)
-  unclear : (j : ℕ) → All (λ state. state ≢ Connected peer) states → slice_get states j ≡ Some Connecting → IsJudged peer states Unclear states
-  stranger : All (λ state. state ≢ Connected peer) states → All (λ state. state ≢ Connecting) states → IsJudged peer states Stranger states
+  federate : (j : ℕ) → slice_get states j ≡ Some (Connected peer)
+      → IsJudged peer states (Federate j) (slice_set states j Idle)
+  unclear : (j : ℕ) → All (λ state. state ≢ Connected peer) states → slice_get states j ≡ Some Connecting
+      → IsJudged peer states Unclear states
+  stranger : All (λ state. state ≢ Connected peer) states → All (λ state. state ≢ Connecting) states
+      → IsJudged peer states Stranger states

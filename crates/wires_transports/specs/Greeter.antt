@@ -3,7 +3,7 @@ use Rattle.std.specs.Prelude.{ℕ, nat_lt, if◌then◌else◌, Option, Some, No
 use Rattle.signal.specs.declared.frame.Frame.{Frame}
 use Rattle.signal.specs.declared.frame.Frame.TheVariants.{Hello, Data, Ack, Refuse}
 
--- a Hello's federate, where there are so many federates that it is one of them
+-- a Hello's federate, where it is one of this many federates
 abbrev pub greeter_of : Frame → (federates : ℕ) → Option ℕ
 greeter_of (Hello hello) federates = if nat_lt hello.federate federates then Some hello.federate else None
 greeter_of (Data incarnation number signal) federates = None

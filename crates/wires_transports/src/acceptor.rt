@@ -28,10 +28,10 @@ pub trait Acceptor: Drop {
     fn let_in<R: Wait + Clock>(self, rt: &R, alloc: Global, ending: &Ending);
 }
 
-/// Lets connections in over TCP that federates of the run have made, each once; all others are closed before anything is read of
-/// them. Each federate's go to its reader, and the older one, if there is one, is ended. A federate's connection that doesn't begin
-/// with a federate's Hello is closed; one that is silent keeps no other waiting. What its readers haven't read to the end a second
-/// after the run is to end is ended.
+/// Lets connections in over TCP that federates of the run have made, each once; all others are closed before anything
+/// is read of them. Each federate's go to its reader, and the older one, if there is one, is ended. A federate's
+/// connection that doesn't begin with a federate's Hello is closed; one that is silent keeps no other waiting. What its
+/// readers haven't read to the end a second after the run is to end is ended.
 #[derive(Drop)]
 pub struct TcpAcceptor<'a> {
     listener: TcpListener,
@@ -43,7 +43,8 @@ pub struct TcpAcceptor<'a> {
 }
 
 impl<'a> TcpAcceptor<'a> {
-    /// What comes to this listener (see `listen`) and is expected goes to these readers, of each federate by its number.
+    /// What comes to this listener (see `listen`) and is expected goes to these readers, of each federate by its
+    /// number.
     pub fn new(
         alloc: Global,
         listener: TcpListener,
@@ -100,7 +101,7 @@ fn pause(is_calm: bool) -> u64 {
     if is_calm { CALM_PAUSE_MS } else { PAUSE_MS }
 }
 
-// Takes connections that came, so many at most; whether one came. One for which there is no memory is closed.
+// Takes connections that came, this many at most; whether one came. One for which there is no memory is closed.
 fn accept_some(listener: &TcpListener, arrived: &mut Vec<TcpStream>) -> bool {
     for count in 0..AT_ONCE {
         match listener.accept() {
@@ -140,8 +141,8 @@ fn sort_out<R: Wait + Clock>(
     unclear
 }
 
-// Listens to all pending; those that are pending still. One that says whose it is goes to its reader, one that can't say it
-// any more is closed, and so is one that there is no memory to keep.
+// Listens to all pending; those that are pending still. One that says whose it is goes to its reader, one that can't
+// say it any more is closed, and so is one that there is no memory to keep.
 fn listen_to<R: Wait + Clock>(
     rt: &R,
     alloc: Global,
@@ -162,8 +163,8 @@ fn listen_to<R: Wait + Clock>(
     left
 }
 
-// Hands a connection to its federate's reader, in place of the older one, which is ended. Where there is no memory for it, it is
-// ended too, so that the federate connects again.
+// Hands a connection to its federate's reader, in place of the older one, which is ended. Where there is no memory for
+// it, it is ended too, so that the federate connects again.
 fn hand_on<R: Wait>(
     rt: &R,
     readers: &[Sender<Accepted<TcpTransport, TcpCut>>],

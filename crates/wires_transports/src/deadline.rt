@@ -8,7 +8,7 @@ pub struct Deadline {
 }
 
 impl Deadline {
-    /// The wait is over so many ms from now.
+    /// The wait is over this many ms from now.
     pub fn after<R: Clock>(rt: &R, millis: u64) -> Deadline {
         let end = match Instant::now(rt) {
             Ok(now) => now.checked_add(Duration::from_millis(millis)),

@@ -1,7 +1,7 @@
 //! Which connections are a run's own.
 //!
-//! Whoever is on the machine can connect to a run's port. But all connections of a run are made by the run itself: one is let in
-//! only where its other end is a socket that a federate's dialer has connected.
+//! Whoever is on the machine can connect to a run's port. But all connections of a run are made by the run itself: one
+//! is let in only where its other end is a socket that a federate's dialer has connected.
 ghost use Rattle.std.specs.Prelude.{◌≡◌, ◌≢◌, ◌↔◌, None, Some, All, IsTrue, IfSome, slice_get};
 ghost use Rattle.wires_transports.specs.ExpectedPeers.{IsJudged};
 
@@ -45,7 +45,7 @@ pub struct ExpectedPeers {
 }
 
 impl ExpectedPeers {
-    /// Of so many federates, none of which connects so far.
+    /// Of this many federates, none of which connects so far.
     pub fn new(alloc: Global, federates: usize) -> Result<ExpectedPeers, AllocError> {
         let mut states = Vec::new(alloc);
         states.resize_with(federates, || DialState::Idle)?;
@@ -75,8 +75,9 @@ impl ExpectedPeers {
 
     /// Whose this connection is: a federate's once.
     ///
-    /// Two connections between the same addresses can't be at a time. So where first this one and then the dialer's socket is still
-    /// connected, they are the two ends of one connection, and no stranger has taken the address of a socket that was closed.
+    /// Two connections between the same addresses can't be at a time. So where first this one and then the dialer's
+    /// socket is still connected, they are the two ends of one connection, and no stranger has taken the address of a
+    /// socket that was closed.
     pub(crate) fn origin<R: Wait>(&self, rt: &R, arrived: &TcpStream) -> Origin {
         let mut dialers = self.dialers.lock(rt);
         let Ok(peer) = arrived.peer_addr() else {
@@ -97,8 +98,8 @@ impl ExpectedPeers {
     }
 }
 
-// Whose a connection from this address is. A dialer is said to be connecting before it connects, so what comes where none is
-// connecting is no federate's.
+// Whose a connection from this address is. A dialer is said to be connecting before it connects, so what comes where
+// none is connecting is no federate's.
 fn judge(states: &mut [DialState], peer: SocketAddr) -> Origin
     ensures { IsJudged peer states.old result states.new }
 {

@@ -1,14 +1,14 @@
-//! Connections between nodes: bytes that go out and come in, over memory and over TCP on loopback, and how they are made,
-//! let in and ended.
+//! Connections between nodes: bytes that go out and come in, over memory and over TCP on loopback, and how they are
+//! made, let in and ended.
 //!
-//! Promise to the layer above: a call over a connection fails only where the connection counted a failure, bytes over memory are
-//! taken in the order in which they were sent, and a connection that is let in over TCP was made by a federate of the run and began
-//! with a Hello. Nothing is said of when a call returns.
+//! Promise to the layer above: a call over a connection fails only where the connection counted a failure, bytes over
+//! memory are taken in the order in which they were sent, and a connection that is let in over TCP was made by a
+//! federate of the run and began with a Hello. Nothing is said of when a call returns.
 //!
 //!     Dial::dial ---- connects ----> Acceptor::let_in: ExpectedPeers, whose it is ----> PendingConnection, its Hello ----> its federate's reader
 //!
-//! Begin with `transport`, then `connection`, then `tcp` and `in_memory`, then `expected_peers`; `specs/Pipe`, `specs/Greeter`,
-//! `specs/ExpectedPeers` and `specs/Fault` are its definitions.
+//! Begin with `transport`, then `connection`, then `tcp` and `in_memory`, then `expected_peers`; `specs/Pipe`,
+//! `specs/Greeter`, `specs/ExpectedPeers` and `specs/Fault` are its definitions.
 #![tactic(auto)]
 
 pub mod acceptor;

@@ -1,7 +1,7 @@
 //! How long whoever has threads waits: one place for all such times, each in ms.
 //!
-//! A runner that hears nothing has waited `WAITS_BEFORE_RESEND` times `RUNNER_WAIT_MS`, which is 100 ms, before it sends again
-//! what may be lost.
+//! A runner that hears nothing has waited `WAITS_BEFORE_RESEND` times `RUNNER_WAIT_MS`, which is 100 ms, before it
+//! sends again what may be lost.
 
 /// Between two looks at a listener, and before the next attempt to connect.
 pub const PAUSE_MS: u64 = 1;
@@ -9,14 +9,15 @@ pub const PAUSE_MS: u64 = 1;
 /// Between two looks at a listener that is calm.
 pub const CALM_PAUSE_MS: u64 = 10;
 
-/// A listener is calm where every federate has a connection, and for so long nobody came and no other waited to be let in. Until then
-/// it is looked at so often that a crowd can't fill the system's queue, in which a federate's own connection would have no place.
+/// A listener is calm where every federate has a connection, and for so long nobody came and no other waited to be let
+/// in. Until then it is looked at so often that a crowd can't fill the system's queue, in which a federate's own
+/// connection would have no place.
 pub const CALM_AFTER_MS: u64 = 200;
 
 /// The longest wait of a runner for a wake-up.
 pub const RUNNER_WAIT_MS: u64 = 10;
 
-/// After so many waits in a row without a wake-up, what may be lost is sent again.
+/// After this many waits in a row without a wake-up, what may be lost is sent again.
 pub const WAITS_BEFORE_RESEND: u8 = 10;
 
 /// The longest wait until a writer sees by itself that the run is to end.

@@ -2,8 +2,8 @@
 use Rattle.std.proofs.Common.{◌≡◌, refl, suc, drop, ℕ, ◌+◌, ◌<◌, ◌≤◌, ◌∷◌, ◌++◌, [], List, length, take, get_or, subst, sym, ap, ◌∙◌}
 use Rattle.std.proofs.lemmas.List.{append_assoc, append-nil, take_all, take_more, take-append-drop}
 use Rattle.node.specs.declared.event.Event.{Event}
-use Rattle.journal.specs.declared.slip.Slip.{Slip}
-use Rattle.journal.specs.Slips.{slips_from}
+use Rattle.node_journal.specs.declared.slip.Slip.{Slip}
+use Rattle.node_journal.specs.Slips.{slips_from}
 use Rattle.wires_workers.specs.HandedIn.{AreHandedIn, HandedIn, handled, none, one_more}
 
 -- more of them, behind those before

@@ -3,7 +3,7 @@ use Rattle.std.proofs.Common.{◌≡◌, ℕ, suc, ◌+◌, ◌∷◌, ◌++◌,
 use Rattle.std.proofs.lemmas.List.{append_assoc, append-nil}
 use Rattle.node.specs.declared.event.Event.{Event}
 use Rattle.node.specs.declared.event.Event.TheVariants.{Announce, Advance}
-use Rattle.journal.specs.declared.slip.Slip.{Slip}
+use Rattle.node_journal.specs.declared.slip.Slip.{Slip}
 use Rattle.wires_workers.specs.HandedIn.{AreHandedIn, HandedIn, none, one_more, events_of_turns}
 
 -- no turn
@@ -14,7 +14,7 @@ no_turn old made is = subst (λ count. AreHandedIn old (events_of_turns count) o
 pub and_no_turn : (old : List Slip) (events : List Event) (new : List Slip) → AreHandedIn old events new → AreHandedIn old (events ++ events_of_turns 0) new
 and_no_turn old events new handed = subst (λ list. AreHandedIn old list new) (sym (append-nil events)) handed
 
--- after so many turns one more is handed in
+-- after this many turns one more is handed in
 pub one_more_turn : (turns : ℕ) {old share between new : List Slip} → AreHandedIn old (events_of_turns turns) share → HandedIn share Announce between → HandedIn between Advance new →
     AreHandedIn old (events_of_turns (turns + 1)) new
 one_more_turn turns {old} {share} {between} {new} before announced advanced =

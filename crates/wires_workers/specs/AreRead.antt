@@ -9,4 +9,5 @@ use Rattle.node.specs.declared.event.Event.TheVariants as Events
 pub data AreRead (peer : ℕ) (old : Stream) : List Event → Stream → Type 0 where
   none : AreRead peer old [] old
   one_more : {events : List Event} {stream : Stream} {frame : Frame} {new : Stream} →
-      AreRead peer old events stream → GivesFrame stream frame new → AreRead peer old (events ++ Events.Frame peer frame ∷ []) new
+      AreRead peer old events stream → GivesFrame stream frame new
+      → AreRead peer old (events ++ Events.Frame peer frame ∷ []) new

@@ -1,12 +1,13 @@
 -- Who sends what waits for a peer.
-use Rattle.std.specs.Prelude.{ℕ, Bool, false, not, ◌&&◌, ◌||◌, if◌then◌else◌, nat_eq, nat_le, List, length, Option, None, Some}
+use Rattle.std.specs.Prelude.{ℕ, Bool, false, not, ◌&&◌, ◌||◌, if◌then◌else◌, nat_eq, nat_le, List, length, Option}
+use Rattle.std.specs.Prelude.{None, Some}
 use Rattle.node.specs.declared.outgoing.Outgoing.{Outgoing}
 use Rattle.wires_workers.specs.declared.writer_queue.Task.{Task}
 use Rattle.wires_workers.specs.declared.writer_queue.Task.TheVariants.{Leave, Notify, Write}
 use Rattle.wires_workers.specs.declared.context.TheConstants.{SIGNALS_BEHIND}
 use Rattle.wires_workers.specs.LoneAcks.{are_few_acks}
 
--- whether a peer is behind that hasn't acknowledged so many signals
+-- whether a peer is behind that hasn't acknowledged this many signals
 abbrev pub is_behind : Option ℕ → Bool
 is_behind None = false
 is_behind (Some unacked) = nat_le SIGNALS_BEHIND unacked
@@ -15,8 +16,8 @@ is_behind (Some unacked) = nat_le SIGNALS_BEHIND unacked
 abbrev pub waits : (is_new : Bool) → List Outgoing → Bool
 waits is_new frames = is_new || not (nat_eq (length frames) 0)
 
--- on the same connection few Acks alone are left where the writer looks soon, and else it is to; of all else the writer begins a new
--- connection and writes to a peer that is behind, and who made the steps writes the rest
+-- on the same connection few Acks alone are left where the writer looks soon, and else it is to; of all else the writer
+-- begins a new connection and writes to a peer that is behind, and who made the steps writes the rest
 abbrev pub task_of : (is_new is_behind looks_soon : Bool) → List Outgoing → Task
 task_of is_new is_behind looks_soon frames =
     if not is_new && are_few_acks frames

@@ -1,11 +1,12 @@
 -- The frames that wait for a writer's next send, and the versions by which they are written.
-use Rattle.std.specs.Prelude.{ℕ, Bool, false, ◌&&◌, if◌then◌else◌, nat_eq, nat_le, List, [], ◌∷◌, ◌++◌, Option, None, Some}
+use Rattle.std.specs.Prelude.{ℕ, Bool, false, ◌&&◌, if◌then◌else◌, nat_eq, nat_le, List, [], ◌∷◌, ◌++◌, Option, None}
+use Rattle.std.specs.Prelude.{Some}
 use Rattle.signal.specs.declared.frame.Frame.{Frame}
 use Rattle.signal.specs.declared.frame.Frame.TheVariants.{Hello, Data, Ack, Refuse}
 use Rattle.signal.specs.Cut.{written}
 
--- the node's own version, that of the peer's last Hello on this connection, the frames that wait, and behind them the last Ack, if
--- one waits
+-- the node's own version, that of the peer's last Hello on this connection, the frames that wait, and behind them the
+-- last Ack, if one waits
 pub record Waiting : Type 0 where
   pub own : ℕ
   pub peer : ℕ
@@ -20,7 +21,8 @@ fresh own = record { own = own; peer = 1; frames = []; ack = None }
 abbrev pub emptied : Waiting → Waiting
 emptied w = record w { frames = []; ack = None }
 
--- where this frame is an Ack, the other one needn't be sent besides: it is an Ack of the same incarnation, and says no more
+-- where this frame is an Ack, the other one needn't be sent besides: it is an Ack of the same incarnation, and says no
+-- more
 abbrev pub covers : Frame → Frame → Bool
 covers (Ack incarnation last_taken) (Ack other earlier) = nat_eq incarnation other && nat_le earlier last_taken
 covers (Ack incarnation last_taken) (Hello hello) = false
@@ -51,7 +53,11 @@ uncovered (Some ack) frame = if covers frame ack then [] else ack ∷ []
 -- a frame waits too: an Ack in place of the one before, if it covers that
 abbrev pub with_frame : Waiting → Frame → Waiting
 with_frame w (Ack incarnation last_taken) =
-    record w { frames = w.frames ++ uncovered w.ack (Ack incarnation last_taken); ack = Some (Ack incarnation last_taken) }
+    record w {
+      frames = w.frames ++ uncovered w.ack (Ack incarnation last_taken);
+      ack = Some
+          (Ack incarnation last_taken);
+    }
 with_frame w (Hello hello) = record w { frames = w.frames ++ Hello hello ∷ [] }
 with_frame w (Data incarnation number signal) = record w { frames = w.frames ++ Data incarnation number signal ∷ [] }
 with_frame w (Refuse incarnation refusal) = record w { frames = w.frames ++ Refuse incarnation refusal ∷ [] }

@@ -1,6 +1,6 @@
 ghost use Rattle.std.specs.Prelude.{◌≡◌, ℕ, ◌≤◌, ◌+◌, None, ◌∷◌, ◌++◌, List, [], IfSome};
 ghost use Rattle.node.specs.declared.event.Event.TheVariants as Events;
-ghost use Rattle.journal.specs.declared.slip.Slip.{Slip};
+ghost use Rattle.node_journal.specs.declared.slip.Slip.{Slip};
 ghost use Rattle.wires_workers.specs.HandedIn.{AreHandedIn, HandedIn, events_of_turns};
 ghost use Rattle.wires_workers.specs.RetryState.{turned};
 ghost use Rattle.wires_workers.specs.Sending.{is_behind};
@@ -10,8 +10,8 @@ use crate::retry_state::{Next, RetryState};
 use crate::wake_ups::{WakeUp, WakeUps};
 use crate::writer_queue::WriterQueue;
 use desk::{BatchReply, Locked, Share, Shared, is_done};
-use journal::Batch;
 use node::{Event, Node, NodeId, Outgoing, Reply};
+use node_journal::Batch;
 use std::alloc::Global;
 use std::sync::Wait;
 use std::thread;
@@ -19,17 +19,17 @@ use std::time::{Clock, Duration};
 use wires_transports::times::PAUSE_MS;
 use wires_transports::{Cut, Ending, Transport};
 
-/// So many turns are made while a desk's lock is held, at most.
+/// How many turns are made while a desk's lock is held, at most.
 pub(crate) const TURNS_AT_ONCE: u32 = 256;
 
-/// A peer that hasn't acknowledged so many signals is behind. Fewer of them, 20 KiB at most, have room on a connection that nobody
-/// reads; so who writes them doesn't wait for a reader.
+/// A peer that hasn't acknowledged this many signals is behind. Fewer of them, 20 KiB at most, have room on a
+/// connection that nobody reads; so who writes them doesn't wait for a reader.
 pub(crate) const SIGNALS_BEHIND: usize = 512;
 
-/// A peer that hasn't acknowledged so many signals is far behind: a quarter of what its end keeps.
+/// A peer that hasn't acknowledged this many signals is far behind: a quarter of what its end keeps.
 pub(crate) const SIGNALS_FAR_BEHIND: usize = 1_024;
 
-// So often it is looked whether a peer is still far behind, at most.
+// How often it is looked whether a peer is still far behind, at most.
 const LOOKS_AT_PEER: u32 = 20;
 
 /// Turns that were made.
@@ -73,10 +73,11 @@ pub struct Context<'a, N: Node, G: Gate, T: Drop, C: Drop> {
 }
 
 impl<'a, N: Node, G: Gate, T: Transport, C: Cut> Context<'a, N, G, T, C> {
-    /// Passes the gate and makes the event's step. Where it did something, the runner gets a wake-up. None where there was no
-    /// memory: then nothing has changed.
+    /// Passes the gate and makes the event's step. Where it did something, the runner gets a wake-up. None where there
+    /// was no memory: then nothing has changed.
     pub fn step<R: Wait + Clock>(&self, rt: &R, share: &mut Share, event: Event) -> Option<Reply>
-        ensures slip { IfSome result (λ _. (place : ℕ) × (share.new ≡ share.old ++ record { place = place; event = event } ∷ [])) }
+        ensures slip { IfSome result (λ _. (place : ℕ)
+            × (share.new ≡ share.old ++ record { place = place; event = event } ∷ [])) }
         ensures unchanged { result ≡ None → share.new ≡ share.old }
     {
         self.gate.pass(rt, self.node, Point::of(&event));
@@ -91,9 +92,9 @@ impl<'a, N: Node, G: Gate, T: Transport, C: Cut> Context<'a, N, G, T, C> {
         }
     }
 
-    /// Makes the events' steps one after the other, and puts the frames of the replies to what waits for their peers while the desk's
-    /// lock is held. Where the gate is open the lock is held over all of them, and else the gate is passed before each. Whether one of
-    /// them did something.
+    /// Makes the events' steps one after the other, and puts the frames of the replies to what waits for their peers
+    /// while the desk's lock is held. Where the gate is open the lock is held over all of them, and else the gate is
+    /// passed before each. Whether one of them did something.
     pub fn hand_in<R: Wait + Clock>(
         &self,
         rt: &R,
@@ -114,8 +115,9 @@ impl<'a, N: Node, G: Gate, T: Transport, C: Cut> Context<'a, N, G, T, C> {
         has_done
     }
 
-    /// Makes the steps of what a peer sent, as `hand_in` does. Where the gate is open, the turns that they allow are made under the same
-    /// lock, unless the runner makes some at the moment: it gets a wake-up where there may be more to do.
+    /// Makes the steps of what a peer sent, as `hand_in` does. Where the gate is open, the turns that they allow are
+    /// made under the same lock, unless the runner makes some at the moment: it gets a wake-up where there may be more
+    /// to do.
     #[tactic(auto, using(crate::proofs::SeveralTurns::and_no_turn))]
     pub fn take_in<R: Wait + Clock>(
         &self,
@@ -155,9 +157,9 @@ impl<'a, N: Node, G: Gate, T: Transport, C: Cut> Context<'a, N, G, T, C> {
         self.hand_in(rt, alloc, share, &[Event::Hello(0), Event::Resend(0)]);
     }
 
-    /// Makes turns, an announcement and then an advance each, until one of them did nothing, at most so many but one at least.
-    /// Where the gate is open the desk's lock is held over them; else one turn is made, and the gate is passed before each of its
-    /// events. The runner makes them so, and gets no wake-up of them.
+    /// Makes turns, an announcement and then an advance each, until one of them did nothing, at most this many but one
+    /// at least. Where the gate is open the desk's lock is held over them; else one turn is made, and the gate is
+    /// passed before each of its events. The runner makes them so, and gets no wake-up of them.
     pub fn take_turns<R: Wait + Clock>(
         &self,
         rt: &R,
@@ -252,8 +254,8 @@ impl<'a, N: Node, G: Gate, T: Transport, C: Cut> Context<'a, N, G, T, C> {
         }
     }
 
-    // Makes the turns that are allowed by what was done, if anything was: none where the runner makes some at the moment, and at a
-    // node without one. It is idle where the runner needn't go on.
+    // Makes the turns that are allowed by what was done, if anything was: none where the runner makes some at the
+    // moment, and at a node without one. It is idle where the runner needn't go on.
     #[tactic(auto, using(crate::proofs::SeveralTurns::no_turn))]
     fn follow(&self, desk: &mut Locked<'_, N>, share: &mut Share, said: &mut BatchReply) -> Turns
         ensures handed_in { AreHandedIn share.old (events_of_turns result.made) share.new }
@@ -271,8 +273,9 @@ impl<'a, N: Node, G: Gate, T: Transport, C: Cut> Context<'a, N, G, T, C> {
         }
     }
 
-    // Puts what was said to what waits for its peers, gives the lock up, and sends it. Where the node is finished the run is to end,
-    // also if a send waits for a peer that reads nothing. A peer that was sent something and is far behind, if there is one.
+    // Puts what was said to what waits for its peers, gives the lock up, and sends it. Where the node is finished the
+    // run is to end, also if a send waits for a peer that reads nothing. A peer that was sent something and is far
+    // behind, if there is one.
     fn leave<R: Wait>(&self, rt: &R, desk: Locked<'_, N>, said: BatchReply) -> Option<usize> {
         let is_finished = !self.ending.is_set() && desk.finished();
         let BatchReply { mut frames, .. } = said;
@@ -311,8 +314,8 @@ impl<'a, N: Node, G: Gate, T: Transport, C: Cut> Context<'a, N, G, T, C> {
         }
     }
 
-    // Puts the frames to what waits for their peers. Only who holds the desk's lock may: so frames for one peer are written in the
-    // order of the steps, whoever hands in. A peer of them that is far behind, if there is one.
+    // Puts the frames to what waits for their peers. Only who holds the desk's lock may: so frames for one peer are
+    // written in the order of the steps, whoever hands in. A peer of them that is far behind, if there is one.
     fn put<R: Wait>(&self, rt: &R, held: &Locked<'_, N>, frames: &[Outgoing]) -> Option<usize> {
         let mut behind = None;
         for part in frames.chunk_by(|one, other| one.peer == other.peer) {
@@ -350,14 +353,14 @@ impl<'a, N: Node, G: Gate, T: Transport, C: Cut> Context<'a, N, G, T, C> {
     }
 }
 
-// Whether a peer is behind that hasn't acknowledged so many signals.
+// Whether a peer is behind that hasn't acknowledged this many signals.
 fn is_behind(unacked: Option<usize>) -> bool
     ensures { result ≡ is_behind unacked }
 {
     matches!(unacked, Some(count) if SIGNALS_BEHIND <= count)
 }
 
-// Whether a peer is far behind that hasn't acknowledged so many signals.
+// Whether a peer is far behind that hasn't acknowledged this many signals.
 fn is_far_behind(unacked: Option<usize>) -> bool {
     matches!(unacked, Some(count) if SIGNALS_FAR_BEHIND <= count)
 }
@@ -397,8 +400,8 @@ fn enter_each<N: Node>(
     }
 }
 
-// Makes the steps of events, which may be a batch, and adds what is said. Those for which there was no memory among the others are made
-// one by one.
+// Makes the steps of events, which may be a batch, and adds what is said. Those for which there was no memory among the
+// others are made one by one.
 fn enter_all<N: Node>(
     desk: &mut Locked<'_, N>,
     share: &mut Share,
@@ -451,7 +454,7 @@ fn enter_some<N: Node>(
     counted(state, turns)
 }
 
-// Makes turns until one of them did nothing, at most so many but one at least, and adds what is said.
+// Makes turns until one of them did nothing, at most this many but one at least, and adds what is said.
 fn enter_turns<N: Node>(
     desk: &mut Locked<'_, N>,
     share: &mut Share,
@@ -473,7 +476,8 @@ fn enter_turns<N: Node>(
 
 // Makes a turn, and adds what is said. Whether it did nothing.
 fn turn_is_idle<N: Node>(desk: &mut Locked<'_, N>, share: &mut Share, said: &mut BatchReply) -> bool
-    ensures { (between : List Slip) × HandedIn share.old Events.Announce between × HandedIn between Events.Advance share.new }
+    ensures { (between : List Slip) × HandedIn share.old Events.Announce between
+        × HandedIn between Events.Advance share.new }
 {
     let has_announced = enter(desk, share, Event::Announce, said);
     let has_advanced = enter(desk, share, Event::Advance, said);

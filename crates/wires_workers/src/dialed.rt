@@ -15,9 +15,9 @@ use std::time::{Clock, Duration};
 use wires_transports::times::PAUSE_MS;
 use wires_transports::{Accepted, Cut, Dial, Transport};
 
-/// Connects a federate to its one peer, and reads. Where a connection breaks or ends, it makes a new one at once, until the run
-/// is to end or the federate's end is closed; its share. An attempt that fails counts as a turn of the runner, and so does a
-/// connection on which no frame came.
+/// Connects a federate to its one peer, and reads. Where a connection breaks or ends, it makes a new one at once, until
+/// the run is to end or the federate's end is closed; its share. An attempt that fails counts as a turn of the runner,
+/// and so does a connection on which no frame came.
 pub fn read_dialed<R: Wait + Clock, N: Node, G: Gate, T: Transport, C: Cut, D: Dial<T, C>>(
     rt: &R,
     alloc: Global,

@@ -32,7 +32,8 @@ impl Point {
 
 /// What each worker passes before each event, with no lock held: it may make the worker wait.
 pub trait Gate {
-    /// Whether it makes nobody wait. Then it isn't passed, and a worker may hand in several events while it holds a lock.
+    /// Whether it makes nobody wait. Then it isn't passed, and a worker may hand in several events while it holds a
+    /// lock.
     fn is_open(&self) -> bool;
 
     /// A worker of this node is about to hand in an event of this kind.

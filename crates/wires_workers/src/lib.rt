@@ -1,7 +1,7 @@
 //! The workers that stand between a connection and a node: a reader, a writer, a runner.
 //!
-//! Promise to the layer above: what is handed in are the frames that were read, and whole turns, and no more; what a runner does next
-//! is `specs/RetryState`. Nothing is said of when a call returns.
+//! Promise to the layer above: what is handed in are the frames that were read, and whole turns, and no more; what a
+//! runner does next is `specs/RetryState`. Nothing is said of when a call returns.
 //!
 //!     federate                                                  coordinator
 //!     dialed::read_dialed -- connects, Hello first ----------> an acceptor --- the connection ---+
@@ -12,8 +12,9 @@
 //!              |         |       v                                               |
 //!            sends   writer::write    runner::run --> Context::take_turns    WriterQueue, one for each federate
 //!
-//! All workers of a node share one `Context`. A run ends where `Ending` is set: runners stop and tell their writers, writers
-//! end what they send, readers come to the end of what was sent. Begin with `gate`, then `context`, then `reader`.
+//! All workers of a node share one `Context`. A run ends where `Ending` is set: runners stop and tell their writers,
+//! writers end what they send, readers come to the end of what was sent. Begin with `gate`, then `context`, then
+//! `reader`.
 #![tactic(auto)]
 
 pub mod context;

@@ -18,8 +18,8 @@ use std::sync::{Arc, Wait};
 use std::time::Clock;
 use wires_transports::{Accepted, Connection, Cut, Transport};
 
-// Bytes of one read, at most: some 500 frames. What comes of them is one send to each peer, which wakes one thread there. With more
-// at once the nodes behind would wait for them too long.
+// Bytes of one read, at most: some 500 frames. What comes of them is one send to each peer, which wakes one thread
+// there. With more at once the nodes behind would wait for them too long.
 const ROOM: usize = 16_384;
 // Events that are handed in at once, at most.
 const AT_ONCE: usize = 512;
@@ -54,7 +54,8 @@ pub fn read<R: Wait + Clock, N: Node, G: Gate, T: Transport, C: Cut>(
     share
 }
 
-// Greets the peer on a new connection. The reply has the frame that is sent first; it is nothing where the end is closed.
+// Greets the peer on a new connection. The reply has the frame that is sent first; it is nothing where the end is
+// closed.
 pub(crate) fn greet<R: Wait + Clock, N: Node, G: Gate, T: Transport, C: Cut>(
     rt: &R,
     context: &Context<'_, N, G, T, C>,
@@ -66,8 +67,8 @@ pub(crate) fn greet<R: Wait + Clock, N: Node, G: Gate, T: Transport, C: Cut>(
     reply
 }
 
-// Reads a connection to its end. The writer is asked to begin with the greeting. At the end, and where what came is no frame,
-// both directions are ended. Where the run is to end, the writer may have ended before: then nothing is read.
+// Reads a connection to its end. The writer is asked to begin with the greeting. At the end, and where what came is no
+// frame, both directions are ended. Where the run is to end, the writer may have ended before: then nothing is read.
 pub(crate) fn read_connection<R: Wait + Clock, N: Node, G: Gate, T: Transport, C: Cut>(
     rt: &R,
     alloc: Global,
@@ -103,7 +104,8 @@ pub(crate) fn read_connection<R: Wait + Clock, N: Node, G: Gate, T: Transport, C
     cut.cut(rt);
 }
 
-// Hands in all whole frames that are there, and reads what comes next, to the end of the connection or what is no frame.
+// Hands in all whole frames that are there, and reads what comes next, to the end of the connection or what is no
+// frame.
 fn read_on<R: Wait + Clock, N: Node, G: Gate, T: Transport, C: Cut>(
     rt: &R,
     alloc: Global,
@@ -142,9 +144,9 @@ fn has_read<R: Wait, T: Transport>(
     }
 }
 
-// Hands in whole frames, as many as are handed in at once, and makes turns behind them; whether there may be more frames. What comes
-// after them, and is no frame, is no event: then none. Where a Hello has another version than the last one, the writer hears of it
-// before the node answers.
+// Hands in whole frames, as many as are handed in at once, and makes turns behind them; whether there may be more
+// frames. What comes after them, and is no frame, is no event: then none. Where a Hello has another version than the
+// last one, the writer hears of it before the node answers.
 fn take_some<R: Wait + Clock, N: Node, G: Gate, T: Transport, C: Cut>(
     rt: &R,
     alloc: Global,
@@ -155,7 +157,9 @@ fn take_some<R: Wait + Clock, N: Node, G: Gate, T: Transport, C: Cut>(
     heard: &mut u8,
     most: &mut usize,
 ) -> Option<bool>
-    ensures events { (events : List IsEvent) × (stream : Stream) × (turns : ℕ) × AreRead peer frames.old events stream × AreHandedIn share.old (events ++ events_of_turns turns) share.new × (context.now.runner ≡ None → turns ≡ 0) × IfSome result (λ _. frames.new ≡ stream) }
+    ensures events { (events : List IsEvent) × (stream : Stream) × (turns : ℕ) × AreRead peer frames.old events stream
+        × AreHandedIn share.old (events ++ events_of_turns turns) share.new × (context.now.runner ≡ None → turns ≡ 0)
+        × IfSome result (λ _. frames.new ≡ stream) }
     ensures heard { heard.new ≡ frames.new.version }
 {
     let mut events = Vec::new(alloc);
@@ -170,8 +174,8 @@ fn take_some<R: Wait + Clock, N: Node, G: Gate, T: Transport, C: Cut>(
     next
 }
 
-// Waits a little for a peer that is far behind, if that isn't the reader's own: it would have no room for more, and what it has no room
-// for has to be sent again. How many events are handed in next, at most.
+// Waits a little for a peer that is far behind, if that isn't the reader's own: it would have no room for more, and
+// what it has no room for has to be sent again. How many events are handed in next, at most.
 fn pace<R: Wait + Clock, N: Node, G: Gate, T: Transport, C: Cut>(
     rt: &R,
     context: &Context<'_, N, G, T, C>,
@@ -187,8 +191,8 @@ fn pace<R: Wait + Clock, N: Node, G: Gate, T: Transport, C: Cut>(
     }
 }
 
-// Makes an event of each of the next whole frames, at most so many; whether there may be more. None where what comes next is no frame, or there is
-// no memory for the event.
+// Makes an event of each of the next whole frames, at most this many; whether there may be more. None where what comes
+// next is no frame, or there is no memory for the event.
 fn collect(
     peer: usize,
     frames: &mut FrameReader,
@@ -196,7 +200,8 @@ fn collect(
     events: &mut Vec<Event>,
 ) -> Option<bool>
     requires { events.old.items ≡ [] }
-    ensures { (stream : Stream) × AreRead peer frames.old events.new.items stream × IfSome result (λ _. frames.new ≡ stream) }
+    ensures { (stream : Stream) × AreRead peer frames.old events.new.items stream
+        × IfSome result (λ _. frames.new ≡ stream) }
 {
     for _ in 0..most {
         events.reserve(1).ok()?;

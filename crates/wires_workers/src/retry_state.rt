@@ -37,7 +37,7 @@ impl Model for RetryState {
 }
 
 impl RetryState {
-    /// So many turns, and no wait so far.
+    /// This many turns, and no wait so far.
     pub fn new(turns: u32) -> RetryState
         ensures { result ≡ record { turns = turns; waits = 0 } }
     {
@@ -62,7 +62,8 @@ impl RetryState {
         }
     }
 
-    /// So many turns were made, the last of them idle where it did nothing. An attempt to connect that failed is one too.
+    /// This many turns were made, the last of them idle where it did nothing. An attempt to connect that failed is one
+    /// too.
     pub fn after_turns(&mut self, made: u32, idle: bool) -> Next
         ensures state { self.new ≡ turned self.old made }
         ensures next { result ≡ after_turn self.new idle }

@@ -13,8 +13,8 @@ use std::sync::Wait;
 use std::time::Clock;
 use wires_transports::{Cut, Transport};
 
-/// Runs a node for so many turns, those that its reader makes among them, or until the run is to end; its share. Where the turns are
-/// used up, the run is to end.
+/// Runs a node for this many turns, those that its reader makes among them, or until the run is to end; its share.
+/// Where the turns are used up, the run is to end.
 pub fn run<R: Wait + Clock, N: Node, G: Gate, T: Transport, C: Cut>(
     rt: &R,
     alloc: Global,
@@ -42,7 +42,7 @@ pub fn run<R: Wait + Clock, N: Node, G: Gate, T: Transport, C: Cut>(
     share
 }
 
-// So many turns may be made from now on.
+// This many turns may be made from now on.
 fn begin<R: Wait>(rt: &R, wake_ups: &WakeUps, turns: u32) -> Next {
     let mut state = wake_ups.state(rt);
     *state = RetryState::new(turns);

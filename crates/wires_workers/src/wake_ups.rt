@@ -24,8 +24,8 @@ pub struct Waited {
     pub failed: u32,
 }
 
-/// The wake-ups of a node's workers to its runner, and how many turns are left to them. However much is done, a `Done` that waits is
-/// not sent again.
+/// The wake-ups of a node's workers to its runner, and how many turns are left to them. However much is done, a `Done`
+/// that waits is not sent again.
 #[derive(Drop)]
 pub struct WakeUps {
     sender: Sender<WakeUp>,
@@ -62,8 +62,8 @@ impl WakeUps {
             .ok()
     }
 
-    /// Takes all wake-ups that are waiting, before a turn that answers them. What is done before it ends is seen by that turn, and of
-    /// what is done after it there is a wake-up again.
+    /// Takes all wake-ups that are waiting, before a turn that answers them. What is done before it ends is seen by
+    /// that turn, and of what is done after it there is a wake-up again.
     pub fn take_waiting<R: Wait>(&self, rt: &R) -> Waited {
         let mut waited = Waited {
             has_done: false,
@@ -85,8 +85,8 @@ impl WakeUps {
         self.state.lock(rt)
     }
 
-    /// How many turns are left, unless somebody else makes some. Who holds a desk's lock doesn't wait for the runner, which may be
-    /// waiting for that lock.
+    /// How many turns are left, unless somebody else makes some. Who holds a desk's lock doesn't wait for the runner,
+    /// which may be waiting for that lock.
     pub(crate) fn try_state(&self) -> Option<MutexGuard<'_, RetryState>> {
         self.state.try_lock()
     }

@@ -13,8 +13,8 @@ use std::thread;
 use std::time::Clock;
 use wires_transports::{Cut, Ending, Transport};
 
-/// A writer: the connection on which it writes, if there is one, and the frames that it writes next. Of Acks that a later one
-/// covers only the later one is written, behind all else.
+/// A writer: the connection on which it writes, if there is one, and the frames that it writes next. Of Acks that a
+/// later one covers only the later one is written, behind all else.
 #[derive(Drop)]
 pub struct Writer<T: Drop, C: Drop> {
     side: Option<Side<T, C>>,
@@ -90,8 +90,8 @@ impl<T: Transport, C: Cut> Writer<T, C> {
         self.peer = version;
     }
 
-    /// Sends all that is to be written, at once. A connection that fails is cut. Where there is no memory for the bytes, the
-    /// frames are lost, as on a line that loses frames.
+    /// Sends all that is to be written, at once. A connection that fails is cut. Where there is no memory for the
+    /// bytes, the frames are lost, as on a line that loses frames.
     pub fn flush<R: Wait>(&mut self, rt: &R)
         ensures { self.new ≡ emptied self.old }
     {
@@ -132,7 +132,8 @@ impl<T: Transport, C: Cut> Writer<T, C> {
         }
     }
 
-    /// Puts frames behind what is written next. A frame for which there is no memory is lost, as on a line that loses frames.
+    /// Puts frames behind what is written next. A frame for which there is no memory is lost, as on a line that loses
+    /// frames.
     pub(crate) fn add_all(&mut self, frames: &[Outgoing]) {
         for outgoing in frames {
             let _ = self.add(&outgoing.frame);
@@ -150,7 +151,8 @@ fn write_waiting(
 ) -> Result<(), Memory>
     requires own { 0 < own }
     requires none { bytes.old.items ≡ [] }
-    ensures all { OnOk result (bytes.new.items ≡ all_bytes (record { own = own; peer = peer; frames = frames.old.items; ack = ack })) }
+    ensures all { OnOk result (bytes.new.items
+        ≡ all_bytes (record { own = own; peer = peer; frames = frames.old.items; ack = ack })) }
     ensures nothing { OnErr result (bytes.new.items ≡ []) }
 {
     if let Some(ack) = ack {
@@ -178,9 +180,9 @@ fn covers(frame: &Frame, ack: &Frame) -> bool
     }
 }
 
-/// Writes what is waiting and nobody else writes, each time in one send, until the run is to end, by this version of frames: 1, or 2 or
-/// more with Batches where the peer reads them. Acks alone, while they are few, wait a little for other frames. What was asked before
-/// the end is still written.
+/// Writes what is waiting and nobody else writes, each time in one send, until the run is to end, by this version of
+/// frames: 1, or 2 or more with Batches where the peer reads them. Acks alone, while they are few, wait a little for
+/// other frames. What was asked before the end is still written.
 pub fn write<R: Wait + Clock, T: Transport, C: Cut>(
     rt: &R,
     alloc: Global,
@@ -191,7 +193,8 @@ pub fn write<R: Wait + Clock, T: Transport, C: Cut>(
     queue.open(rt, alloc, own.max(1));
     let mut is_late = false;
     for _ in rt.forever() {
-        // Before it sees whether the run is to end: else the notification of the end may be the one that it has had already.
+        // Before it sees whether the run is to end: else the notification of the end may be the one that it has had
+        // already.
         queue.look();
         let is_last = ending.is_set();
         let looks_soon = queue.send_all(rt, is_late || is_last);

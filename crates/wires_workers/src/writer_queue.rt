@@ -1,18 +1,21 @@
 //! What a writer is asked.
 //!
-//! The frames wait in one list under a lock, which the writer exchanges for an empty one: frame by frame through a channel, the
-//! two would wait for each other's locks at each frame, those of the channel and of memory.
+//! The frames wait in one list under a lock, which the writer exchanges for an empty one: frame by frame through a
+//! channel, the two would wait for each other's locks at each frame, those of the channel and of memory.
 //!
-//! An Ack says nothing that its peer waits for. So Acks alone, while they are few, stay in the list until other frames are asked for
-//! the same peer or the writer has waited a little; and they don't wake a writer that looks soon by itself.
+//! An Ack says nothing that its peer waits for. So Acks alone, while they are few, stay in the list until other frames
+//! are asked for the same peer or the writer has waited a little; and they don't wake a writer that looks soon by
+//! itself.
 //!
-//! Who made the steps writes what waits, where nobody writes and the peer isn't behind: to wake a thread takes longer than a send.
-//! The writer does all else: new connections, Acks alone, what goes to a peer that is behind, what comes while somebody writes, and
-//! the end. Who writes is `specs/Sending`.
+//! Who made the steps writes what waits, where nobody writes and the peer isn't behind: to wake a thread takes longer
+//! than a send. The writer does all else: new connections, Acks alone, what goes to a peer that is behind, what comes
+//! while somebody writes, and the end. Who writes is `specs/Sending`.
 //!
-//! Of the two locks the pen's is taken first, and the list's is never held over a send. Whoever put frames looks at the list once
-//! more, and where somebody else has the pen notifies the writer, which waits for it: so nothing stays that nobody looks at.
-ghost use Rattle.std.specs.Prelude.{◌≡◌, ◌↔◌, ◌+◌, ◌≤◌, length, IsTrue, ◌<◌, None, Some, [], ◌++◌, ◌&&◌, not, is_some, if◌then◌else◌, OnOk, OnErr, IfOk, IfErr};
+//! Of the two locks the pen's is taken first, and the list's is never held over a send. Whoever put frames looks at the
+//! list once more, and where somebody else has the pen notifies the writer, which waits for it: so nothing stays that
+//! nobody looks at.
+ghost use Rattle.std.specs.Prelude.{◌≡◌, ◌↔◌, ◌+◌, ◌≤◌, length, IsTrue, ◌<◌, None, Some, [], ◌++◌, ◌&&◌, not, is_some};
+ghost use Rattle.std.specs.Prelude.{if◌then◌else◌, OnOk, OnErr, IfOk, IfErr};
 ghost use Rattle.wires_workers.specs.LoneAcks.{is_ack, are_acks, are_few_acks, is_left};
 ghost use Rattle.wires_workers.specs.Sending.{task_of, waits};
 ghost use Rattle.wires_workers.specs.declared.writer_queue.TheConstants.{WAITING_MOST};
@@ -30,11 +33,11 @@ use std::time::{Clock, Duration};
 use wires_transports::times::{ACK_WAIT_MS, WRITER_WAIT_MS};
 use wires_transports::{Cut, Transport};
 
-/// So many Acks are sent without other frames at once.
+/// How many Acks are sent without other frames at once.
 pub const ACKS_AT_ONCE: usize = 64;
 
-/// So many frames wait for a writer, at most: four times what an end keeps. A peer that greets over and over and doesn't read has the
-/// same signals put again with each Hello.
+/// How many frames wait for a writer, at most: four times what an end keeps. A peer that greets over and over and
+/// doesn't read has the same signals put again with each Hello.
 pub const WAITING_MOST: usize = 16_384;
 
 // What a writer does next.
@@ -95,8 +98,8 @@ impl<T: Drop, C: Drop> Waiting<T, C> {
         }
     }
 
-    // A new connection, on which this is sent first. What was not yet sent is dropped: the ends send it again when they are
-    // greeted.
+    // A new connection, on which this is sent first. What was not yet sent is dropped: the ends send it again when they
+    // are greeted.
     fn begin(&mut self, side: Side<T, C>, greeting: Vec<Outgoing>)
         ensures side { self.new.side ≡ Some side }
         ensures peer { self.new.peer ≡ 1 }
@@ -116,7 +119,7 @@ impl<T: Drop, C: Drop> Waiting<T, C> {
         self.peer = version;
     }
 
-    // Whether so many more frames may wait.
+    // Whether this many more frames may wait.
     fn has_room(&self, more: usize) -> bool
         ensures { IsTrue result ↔ length self.now.frames.items + more ≤ WAITING_MOST }
     {
@@ -146,7 +149,8 @@ impl<T: Drop, C: Drop> Waiting<T, C> {
 
     // What is to be done about it.
     fn task(&self) -> Task
-        ensures { result ≡ task_of (is_some self.now.side) self.now.is_behind self.now.looks_soon self.now.frames.items }
+        ensures { result ≡ task_of (is_some self.now.side) self.now.is_behind self.now.looks_soon
+            self.now.frames.items }
     {
         if self.may_wait() {
             if self.looks_soon || self.frames.is_empty() {
@@ -177,9 +181,11 @@ impl<T: Drop, C: Drop> Waiting<T, C> {
     // All that waits, where who asks is to write it; else what is to be done.
     fn take_to_write(&mut self, frames: &mut Vec<Outgoing>) -> Result<Asked<T, C>, Task>
         requires { frames.old.items ≡ [] }
-        ensures write { IfOk result (λ _. task_of (is_some self.old.side) self.old.is_behind self.old.looks_soon self.old.frames.items ≡ Task.Write) }
+        ensures write { IfOk result (λ _.
+            task_of (is_some self.old.side) self.old.is_behind self.old.looks_soon self.old.frames.items ≡ Task.Write) }
         ensures taken { OnOk result (frames.new.items ≡ self.old.frames.items) }
-        ensures other { IfErr result (λ task. task_of (is_some self.old.side) self.old.is_behind self.old.looks_soon self.old.frames.items ≡ task) }
+        ensures other { IfErr result (λ task.
+            task_of (is_some self.old.side) self.old.is_behind self.old.looks_soon self.old.frames.items ≡ task) }
         ensures unchanged { OnErr result (self.new.frames.items ≡ self.old.frames.items) }
     {
         match self.task() {
@@ -193,10 +199,12 @@ impl<T: Drop, C: Drop> Waiting<T, C> {
         requires { frames.old.items ≡ [] }
         ensures side { result.side ≡ self.old.side }
         ensures peer { result.peer ≡ self.old.peer }
-        ensures frames { frames.new.items ≡ (if is_left is_late (is_some self.old.side) self.old.frames.items then [] else self.old.frames.items) }
+        ensures frames { frames.new.items
+            ≡ (if is_left is_late (is_some self.old.side) self.old.frames.items then [] else self.old.frames.items) }
         ensures no_side { self.new.side ≡ None }
         ensures same_peer { self.new.peer ≡ self.old.peer }
-        ensures left { self.new.frames.items ≡ (if is_left is_late (is_some self.old.side) self.old.frames.items then self.old.frames.items else []) }
+        ensures left { self.new.frames.items
+            ≡ (if is_left is_late (is_some self.old.side) self.old.frames.items then self.old.frames.items else []) }
     {
         let stays = !is_late && self.may_wait();
         let asked = Asked {
@@ -231,8 +239,8 @@ fn is_ack(frame: &Frame) -> bool
     matches!(frame, Frame::Ack { .. })
 }
 
-/// What a writer is asked, and a notifier that wakes it. However often it is asked before it looks, it is notified once: to wake a
-/// thread takes longer than to ask it.
+/// What a writer is asked, and a notifier that wakes it. However often it is asked before it looks, it is notified
+/// once: to wake a thread takes longer than to ask it.
 #[derive(Drop)]
 pub struct WriterQueue<T: Drop, C: Drop> {
     waiting: Mutex<Waiting<T, C>>,
@@ -257,8 +265,8 @@ impl<T: Drop, C: Drop> WriterQueue<T, C> {
         })
     }
 
-    /// Asks the writer to write on this connection from now on, where the greeting is sent first. What was not yet sent is
-    /// dropped: the ends send it again when they are greeted.
+    /// Asks the writer to write on this connection from now on, where the greeting is sent first. What was not yet sent
+    /// is dropped: the ends send it again when they are greeted.
     pub fn begin<R: Wait>(&self, rt: &R, side: Side<T, C>, greeting: Vec<Outgoing>) {
         let mut waiting = self.waiting.lock(rt);
         waiting.begin(side, greeting);
@@ -266,15 +274,16 @@ impl<T: Drop, C: Drop> WriterQueue<T, C> {
         self.notify(rt);
     }
 
-    /// Says which version the peer's Hello on this connection has: what is written from now on, and waits already, may be of it.
+    /// Says which version the peer's Hello on this connection has: what is written from now on, and waits already, may
+    /// be of it.
     pub fn hear<R: Wait>(&self, rt: &R, version: u8) {
         let mut waiting = self.waiting.lock(rt);
         waiting.hear(version);
     }
 
-    /// Puts frames behind those that wait. Where there is no memory for them, or too many wait, they are lost, as on a line that loses
-    /// frames. Whether the peer is behind is said of the frames that it hasn't acknowledged. They wait until `send` or the writer sends
-    /// them.
+    /// Puts frames behind those that wait. Where there is no memory for them, or too many wait, they are lost, as on a
+    /// line that loses frames. Whether the peer is behind is said of the frames that it hasn't acknowledged. They wait
+    /// until `send` or the writer sends them.
     pub fn put<R: Wait>(&self, rt: &R, frames: &[Outgoing], is_behind: bool) {
         let mut waiting = self.waiting.lock(rt);
         if waiting.has_room(frames.len()) {
@@ -320,8 +329,8 @@ impl<T: Transport, C: Cut> WriterQueue<T, C> {
         *place = Some(pen);
     }
 
-    /// Sends what waits, where nobody does and the peer isn't behind; else the writer sends it. Acks alone, while they are few, wait
-    /// a little for other frames.
+    /// Sends what waits, where nobody does and the peer isn't behind; else the writer sends it. Acks alone, while they
+    /// are few, wait a little for other frames.
     pub fn send<R: Wait>(&self, rt: &R) {
         let is_left = match self.pen.try_lock() {
             Some(mut place) => self.leaves_some(rt, &mut place),
@@ -338,7 +347,8 @@ impl<T: Transport, C: Cut> WriterQueue<T, C> {
         waiting.task()
     }
 
-    // Writes what waits, where who asks is to; whether something is left to the writer. All is before it begins, and after its end.
+    // Writes what waits, where who asks is to; whether something is left to the writer. All is before it begins, and
+    // after its end.
     fn leaves_some<R: Wait>(&self, rt: &R, place: &mut Option<Pen<T, C>>) -> bool {
         match place {
             Some(pen) => {
@@ -367,8 +377,8 @@ impl<T: Transport, C: Cut> WriterQueue<T, C> {
         waiting.take_to_write(frames)
     }
 
-    /// The writer looks, and sends all that waits, once nobody else does; Acks alone, while they are few, where it is late. Whether it
-    /// is to look again soon.
+    /// The writer looks, and sends all that waits, once nobody else does; Acks alone, while they are few, where it is
+    /// late. Whether it is to look again soon.
     pub fn send_all<R: Wait>(&self, rt: &R, is_late: bool) -> bool {
         let mut pen = self.pen.lock(rt);
         match &mut *pen {

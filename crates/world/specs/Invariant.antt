@@ -17,9 +17,10 @@ pub record IsFederation (w : WorldView) : Type 0 where
   pub programs_fit : AreProgramsOf w.draft w.programs
   pub inputs_fit : AreInputsOf w.draft w.inputs
 
--- its plan is legal, its programs and inputs are the plan's, its stations are those after its steps, and it knows whether somebody
--- forgot
-pub record IsMade (d : Draft) (programs : List Behaviour) (inputs : List Input) (stations : Federation) (has_forgotten : Bool) : Type 0 where
+-- its plan is legal, its programs and inputs are the plan's, its stations are those after its steps, and it knows
+-- whether somebody forgot
+pub record IsMade (d : Draft) (programs : List Behaviour) (inputs : List Input) (stations : Federation)
+    (has_forgotten : Bool) : Type 0 where
   pub legal : IsLegal d
   pub programs_fit : AreProgramsOf d programs
   pub inputs_fit : AreInputsOf d inputs

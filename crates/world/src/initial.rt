@@ -25,7 +25,8 @@ fn new_end(alloc: Global, federate: usize) -> LinkEnd
 
 // The coordinator's ends, one for each federate.
 fn new_ends(alloc: Global, plan: &Plan) -> Result<Vec<LinkEnd>, Memory>
-    ensures { IfOk result (λ ends. map (λ e. e.image) ends.items ≡ map new_end (range_with_len 0 (federate_count plan.now))) }
+    ensures { IfOk result (λ ends. map (λ e. e.image) ends.items
+        ≡ map new_end (range_with_len 0 (federate_count plan.now))) }
 {
     plan.invariant();
     let mut ends = Vec::new(alloc);
@@ -80,7 +81,8 @@ pub(crate) fn new_federates<'a>(
 ) -> Result<Vec<Station<Federate<'a>>>, Memory>
     requires programs { AreProgramsOf plan.now programs.now }
     requires inputs { AreInputsOf plan.now inputs.now }
-    ensures { IfOk result (λ stations. stations.items ≡ new_federates plan.now programs.now inputs.now (federate_count plan.now)) }
+    ensures { IfOk result (λ stations. stations.items
+        ≡ new_federates plan.now programs.now inputs.now (federate_count plan.now)) }
 {
     let mut stations = Vec::new(alloc);
     for number in 0..plan.federate_count() {

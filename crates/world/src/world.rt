@@ -1,4 +1,5 @@
-ghost use Rattle.std.specs.Prelude.{◌≡◌, ℕ, ◌<◌, [], take, length, option_map, slice_get, IsTrue, IfOk, OnOk, OnErr, ◌↔◌, ◌||◌};
+ghost use Rattle.std.specs.Prelude.{◌≡◌, ℕ, ◌<◌, [], take, length, option_map, slice_get, IsTrue, IfOk, OnOk, OnErr};
+ghost use Rattle.std.specs.Prelude.{◌↔◌, ◌||◌};
 ghost use Rattle.link.specs.Image.{room_left};
 ghost use Rattle.plan.specs.External.{AreInputsOf};
 ghost use Rattle.plan.specs.Federation.{federate_count};
@@ -25,8 +26,8 @@ use std::alloc::Global;
 use std::marker::Model;
 use world_stations::{Dir, MadeSteps, Memory, Outcome, Stations, Step};
 
-/// A world of a federation: its coordinator, its federates, and all frames that they ever sent. Contracts see what it was made
-/// from and the steps made: all else follows from them.
+/// A world of a federation: its coordinator, its federates, and all frames that they ever sent. Contracts see what it
+/// was made from and the steps made: all else follows from them.
 #[derive(Drop)]
 pub struct World<'a> {
     plan: &'a Plan,
@@ -64,7 +65,8 @@ impl<'a> World<'a> {
     ) -> Result<World<'a>, Memory>
         requires programs { AreProgramsOf plan.now programs.now }
         requires inputs { AreInputsOf plan.now inputs.now }
-        ensures { IfOk result (λ world. world ≡ record { draft = plan.now; programs = programs.now; inputs = inputs.now; steps = [] }) }
+        ensures { IfOk result (λ world. world
+            ≡ record { draft = plan.now; programs = programs.now; inputs = inputs.now; steps = [] }) }
     {
         plan.invariant();
         let coordinator = new_coordinator(alloc, plan)?;
@@ -87,8 +89,8 @@ impl<'a> World<'a> {
         let _ = &self.plan;
     }
 
-    /// Makes one step. It is listed also where it is refused or doesn't apply; without memory the world is as before, and the same
-    /// step may come again.
+    /// Makes one step. It is listed also where it is refused or doesn't apply; without memory the world is as before,
+    /// and the same step may come again.
     pub fn apply(&mut self, step: Step) -> Result<Outcome, Memory>
         ensures done { OnOk result (self.new ≡ with_step self.old step) }
         ensures outcome { IfOk result (λ outcome. outcome ≡ (step_in (stations_of self.old) step).outcome) }
@@ -105,7 +107,8 @@ impl<'a> World<'a> {
     /// Makes steps, one after the other. Without memory those before the refused one stay made.
     pub fn run(&mut self, steps: &[Step]) -> Result<(), Memory>
         ensures done { OnOk result (self.new ≡ with_steps self.old steps.now) }
-        ensures refused { OnErr result ((n : ℕ) × (n < length steps.now) × (self.new ≡ with_steps self.old (take n steps.now))) }
+        ensures refused { OnErr result
+            ((n : ℕ) × (n < length steps.now) × (self.new ≡ with_steps self.old (take n steps.now))) }
         ensures plain { ArePlain self.new }
         ensures faithful { IsFaithful self.new }
     {
@@ -140,7 +143,8 @@ impl<'a> World<'a> {
 
     /// A federate's rows; None where there is no such federate.
     pub fn rows(&self, federate: usize) -> Option<&Rows>
-        ensures { option_map (λ r. r.now) result ≡ option_map (λ s. s.node.federate.rows) (slice_get (stations_of self.now).federates federate) }
+        ensures { option_map (λ r. r.now) result
+            ≡ option_map (λ s. s.node.federate.rows) (slice_get (stations_of self.now).federates federate) }
     {
         Some(self.stations.federate(federate)?.node().rows())
     }
@@ -191,8 +195,8 @@ impl<'a> World<'a> {
         self.stations.room_left(dir)
     }
 
-    /// Whether the world is stuck: nobody forgot, every signal sent was taken and acknowledged, and nobody has anything to announce
-    /// or to run.
+    /// Whether the world is stuck: nobody forgot, every signal sent was taken and acknowledged, and nobody has anything
+    /// to announce or to run.
     pub fn stuck(&self) -> bool
         ensures { IsTrue result ↔ IsStuck (stations_of self.now) }
     {

@@ -18,7 +18,7 @@ use Rattle.world_progress.proofs.Sums.{where_so, at_one}
 use Rattle.world_progress.proofs.Outcomes.{refused_or}
 use Rattle.world_progress.proofs.CoordinatorCosts.{net_costs, message_costs}
 
--- at each federate so much more may come of it than before
+-- at each federate more may come of it by this amount than before
 abbrev pub Changes : (ℕ → FederateRecord) → Coordinated → (ℕ → ℕ) → Type 0
 Changes federate_records made more = (j : ℕ) → ungranted (made.after j) + all_worth worth_down (sent_to j made.sent) ≤ ungranted (federate_records j) + more j
 

@@ -112,7 +112,7 @@ among_turn count j key l a =
     (among_later (key ∷ []) (agains count) (turns count ++ (ups count ++ downs count))
     (among_first (key ∷ []) (turns count) (ups count ++ downs count) (among_each turn_tasks count j (key ∷ []) l a)))
 
--- closing rounds that lead to a stuck world, at most two for each of so many
+-- closing rounds that lead to a stuck world, at most two for each of this many
 record Ends (d : Draft) (p : Playing) (most : ℕ) : Type 0 where
   rounds : ℕ
   few : rounds ≤ most + most

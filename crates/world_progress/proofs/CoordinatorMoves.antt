@@ -22,7 +22,7 @@ use Rattle.world_progress.proofs.Queues.{worth-append}
 use Rattle.world_progress.proofs.CoordinatorCosts.{grant_costs}
 use Rattle.world_progress.proofs.Changes.{Changes, IsChange, change_of}
 
--- a move after which all can do so much less
+-- a move after which all can do less by this amount
 abbrev pub CostsSo : Network → (cost : ℕ) → (ℕ → Member) → Outcome (ℕ → Member) → Type 0
 CostsSo n cost members o = IfDone o (λ after. left_of n after + cost ≤ left_of n members)
 

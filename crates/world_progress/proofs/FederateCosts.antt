@@ -103,6 +103,6 @@ advance_to_costs : (n : Network) (j rows : ℕ) (m : Member) (o : Option Logical
 advance_to_costs n j rows m None most = tt
 advance_to_costs n j rows m (Some tag) most = turn_if n j rows m tag (is_reached m.federate.granted tag) most
 
--- it advances, and then has no more rows than so many
+-- it advances, and then has no more rows than this many
 pub advance_costs : (n : Network) (j rows : ℕ) (m : Member) → ((made : Stepped) → federate_advances n j m.federate ≡ Done made → length made.after.rows ≤ rows) → Costs n j rows 1 m m.down (federate_advances n j m.federate)
 advance_costs n j rows m most = advance_to_costs n j rows m (first_tag m.federate.undone) most

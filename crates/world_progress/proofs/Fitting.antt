@@ -68,7 +68,7 @@ count_at_most p posts =
     let few = count_by-le-length (λ (post : Post). nat_eq post.peer p) posts in
     omega arith
 
--- at these ends, at each of which so many posts at most find room, all find room
+-- at these ends, at each of which this many posts at most find room, all find room
 lacks_none : (ends : List Image) (posts : List Post) (most : ℕ) → ((p : ℕ) → count_for p posts ≤ most) → ((p : ℕ) (e : Image) (count : ℕ) → slice_get ends p ≡ Some e → count ≤ most → lacks e count ≡ false) → lacks_room ends posts ≡ false
 lacks_none ends posts most few room = room_for_all ends posts (λ p. at_peer p (slice_get ends p) refl)
   where

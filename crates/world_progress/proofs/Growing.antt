@@ -67,16 +67,16 @@ offers_grown : (s : Side) (signals : List Signal) (b : Bool) → Grown s (if b t
 offers_grown s signals true = unchanged_grown s
 offers_grown s signals false = record { taken = omega arith; acknowledged = omega arith; room = refl; more = numbered s.end.incarnation (last_number s.end + 1) signals; sent = refl }
 
-said_grown : (s : Side) (frames : List Frame) → Grown s (says s frames)
-said_grown s frames = record { taken = omega arith; acknowledged = omega arith; room = refl; more = frames; sent = refl }
+spoken_grown : (s : Side) (frames : List Frame) → Grown s (says s frames)
+spoken_grown s frames = record { taken = omega arith; acknowledged = omega arith; room = refl; more = frames; sent = refl }
 
 act_grown : (s : Side) (coming : List Frame) (act : Act) → Grown s (side_after s coming act)
 act_grown s coming (Gets place is_taken) = gets_grown s (slice_get coming place) is_taken
 act_grown s coming (Offers signals) = offers_grown s signals s.end.closed
-act_grown s coming Resends = said_grown s (resent_by s.end)
-act_grown s coming Greets = said_grown s (greeting (hello_of s.end))
+act_grown s coming Resends = spoken_grown s (resent_by s.end)
+act_grown s coming Greets = spoken_grown s (greeting (hello_of s.end))
 act_grown s coming (Closes number) = record { taken = omega arith; acknowledged = omega arith; room = refl; more = Refuse s.end.incarnation number ∷ []; sent = refl }
-act_grown s coming (TurnsAway incarnation number) = said_grown s (Refuse incarnation number ∷ [])
+act_grown s coming (TurnsAway incarnation number) = spoken_grown s (Refuse incarnation number ∷ [])
 
 acts_grown : (s : Side) (coming : List Frame) (acts : List Act) → Grown s (acted s coming acts)
 acts_grown s coming [] = unchanged_grown s

@@ -49,8 +49,8 @@ use Rattle.world_progress.proofs.Sent.{accept_sends}
 use Rattle.world_progress.proofs.Reached.{Reached, Next, next, ahead, acked, acknowledged_of_link, taken_of_link, initial_reached}
 use Rattle.world_progress.proofs.Facing.{side_out, direction, own, IsSame, kept_same}
 use Rattle.world_progress.proofs.Fitting.{coordinator_fits, federate_fits, if_done}
-use Rattle.world_progress.proofs.Happening.{taken_by_hub, taken_by_federate}
-use Rattle.world_progress.proofs.Speaking.{room_at_hub, nothing_announced, nothing_advanced}
+use Rattle.world_progress.proofs.Happening.{taken_by_coordinator, taken_by_federate}
+use Rattle.world_progress.proofs.Speaking.{room_at_coordinator, nothing_announced, nothing_advanced}
 use Rattle.world_progress.proofs.Settling.{Takes, settles}
 
 -- where one of two is so for each number, one of them is so for all
@@ -112,13 +112,13 @@ module _ (d : Draft) (programs : List Behaviour) (inputs : List Input) (legal : 
   -- the coordinator takes its next signal, where its ends keep nothing
   takes_up_at : (v : Federation) (s : Reached d programs inputs v) → ((j : ℕ) → j < federate_count d → length (s.links j).first.end.kept ≡ 0) → (j : ℕ) → j < federate_count d → Takes d programs inputs v s (Up j)
   takes_up_at v s none j below w r same place n signal found in_turn plain =
-      taken_by_hub d programs inputs w r j place 1 n signal below found in_turn
+      taken_by_coordinator d programs inputs w r j place 1 n signal below found in_turn
       (λ m does. coordinator_fits d programs inputs w.coordinator.node w.coordinator.ends j signal m r.run.draft does
-      (room_at_hub d programs inputs w r small (λ k l. kept_same d programs inputs v s w r (Down k) l same ∙ none k l))) plain
+      (room_at_coordinator d programs inputs w r small (λ k l. kept_same d programs inputs v s w r (Down k) l same ∙ none k l))) plain
 
   -- a world whose ends keep nothing, and whose federates have nothing to announce or to run, is stuck
   settled_at : (w : Federation) (s : Reached d programs inputs w) → ((j : ℕ) → j < federate_count d → length (s.links j).first.end.kept ≡ 0) → ((j : ℕ) → j < federate_count d → length (s.links j).second.end.kept ≡ 0) → (dir : Dir) → All (IsSettled w dir) (frames_in w dir)
-  settled_at w s hub others =
+  settled_at w s at_coordinator others =
       let forgot : list_any is_forget (world_after d programs inputs s.steps).steps ≡ false = ap (list_any is_forget) (listed_so d programs inputs s.steps) ∙ s.unforgot in
       let P : Federation → Type 0 = λ x. (dir : Dir) → All (IsSettled x dir) (frames_in x dir) in
       let Q : Federation → Type 0 = λ x. KeepsNothing x in
@@ -126,7 +126,7 @@ module _ (d : Draft) (programs : List Behaviour) (inputs : List Input) (legal : 
     where
       kept_none : (dir : Dir) → federate_of dir < federate_count d → length (side_out dir s.links).end.kept ≡ 0
       kept_none (Up j) below = others j below
-      kept_none (Down j) below = hub j below
+      kept_none (Down j) below = at_coordinator j below
 
       no_sender : (dir : Dir) → federate_count d ≤ federate_of dir → sender w dir ≡ None
       no_sender (Up j) beyond = ap own_end (nothing_beyond w.federates j (let size = s.run.shown.federates in omega arith))
@@ -151,10 +151,10 @@ module _ (d : Draft) (programs : List Behaviour) (inputs : List Input) (legal : 
 
   is_stuck : (w : Federation) (s : Reached d programs inputs w) → ((j : ℕ) → j < federate_count d → length (s.links j).first.end.kept ≡ 0) → ((j : ℕ) → j < federate_count d → length (s.links j).second.end.kept ≡ 0)
       → ((j : ℕ) → j < federate_count d → federate_announces (members_after d programs inputs s.moves j).federate ≡ machine.Nothing) → ((j : ℕ) → j < federate_count d → federate_advances (network_of d programs inputs) j (members_after d programs inputs s.moves j).federate ≡ machine.Nothing) → IsStuck w
-  is_stuck w s hub others told run =
+  is_stuck w s at_coordinator others told run =
       record {
         kept = ap (λ (x : Federation). list_any is_forget x.steps) s.is ∙ ap (list_any is_forget) (listed_so d programs inputs s.steps) ∙ s.unforgot;
-        settled = settled_at w s hub others;
+        settled = settled_at w s at_coordinator others;
         announced = λ j. elim (cases_lt j (federate_count d)) [
           | inl below ↦ announced_at j below
           | inr beyond ↦ not_there w s j (record { node = Federate j; event = event.Announce }) beyond
@@ -195,7 +195,7 @@ module _ (d : Draft) (programs : List Behaviour) (inputs : List Input) (legal : 
       → ((j : ℕ) → j < federate_count d → (K : Type 0) → Shows w s K (Advance j) → K ⊎ F) → IsStuck w ⊎ F
   stuck_unless w s F settles announces advances = elim (collect (federate_count d) (λ j. length (s.links j).first.end.kept ≡ 0) F (λ j l. settles (Down j) l (takes_down_at w s j l))) [
     | inr f ↦ inr f
-    | inl hub ↦ elim (collect (federate_count d) (λ j. length (s.links j).second.end.kept ≡ 0) F (λ j l. settles (Up j) l (takes_up_at w s hub j l))) [
+    | inl at_coordinator ↦ elim (collect (federate_count d) (λ j. length (s.links j).second.end.kept ≡ 0) F (λ j l. settles (Up j) l (takes_up_at w s at_coordinator j l))) [
       | inr f ↦ inr f
       | inl others ↦ elim (collect (federate_count d) (λ j. federate_announces (members_after d programs inputs s.moves j).federate ≡ machine.Nothing) F
           (λ j l. announces j l (federate_announces (members_after d programs inputs s.moves j).federate ≡ machine.Nothing)
@@ -209,7 +209,7 @@ module _ (d : Draft) (programs : List Behaviour) (inputs : List Input) (legal : 
                 let P : List Move → Type 0 = λ y. federate_advances (network_of d programs inputs) j (members_after d programs inputs y j).federate ≡ machine.Nothing in
                 subst P same.moves (nothing_advanced d programs inputs q.world r legal small j l (kept_same d programs inputs w s q.world r (Up j) l same ∙ others j l) x (stays.moves ∙ sym same.moves)))))) [
                   | inr f ↦ inr f
-                  | inl run ↦ inl (is_stuck w s hub others told run)
+                  | inl run ↦ inl (is_stuck w s at_coordinator others told run)
                 ]
           ]
     ]

@@ -47,8 +47,8 @@ unaddressed : (q : ℕ) (frames : List Frame) → map (λ (out : Outgoing). out.
 unaddressed q [] = refl
 unaddressed q (frame ∷ rest) = ap (λ (x : List Frame). frame ∷ x) (unaddressed q rest)
 
-hub_sends : (w : Federation) (made : Stepped CoordinatorNode) (j : ℕ) (before frames : List Frame) → slice_get w.down j ≡ Some before → frames_of made.answer ≡ addressed j frames → frames_in (after_coordinator w made).world (Down j) ≡ before ++ frames
-hub_sends w made j before frames found are =
+coordinator_sends : (w : Federation) (made : Stepped CoordinatorNode) (j : ℕ) (before frames : List Frame) → slice_get w.down j ≡ Some before → frames_of made.answer ≡ addressed j frames → frames_in (after_coordinator w made).world (Down j) ≡ before ++ frames
+coordinator_sends w made j before frames found are =
     got (sent_out w.down (frames_of made.answer)) j (before ++ frames_to j (frames_of made.answer)) [] (sent_out_at w.down (frames_of made.answer) j before found) ∙
     ap (λ (x : List Frame). before ++ x) (ap (frames_to j) are ∙ to_itself j frames)
 
@@ -67,15 +67,15 @@ pub if_below : (w : Federation) (j : ℕ) (o : Occurrence) → j < length w.fede
 if_below w j o below = ap (λ (b : Bool). happens coordinator_core federate_core w (if b then Some o else None)) (lt-ltb j (length w.federates) below)
 
 -- a frame comes
-frame_at_hub : (w : Federation) (j k : ℕ) (frame : Frame) → slice_get (frames_in w (Up j)) k ≡ Some frame → happens coordinator_core federate_core w (delivered (Up j) (slice_get (frames_in w (Up j)) k)) ≡ after_coordinator w (step_of coordinator_core true w.coordinator (event.Frame j frame))
-frame_at_hub w j k frame found = ap (λ (o : Option Frame). happens coordinator_core federate_core w (delivered (Up j) o)) found
+frame_at_coordinator : (w : Federation) (j k : ℕ) (frame : Frame) → slice_get (frames_in w (Up j)) k ≡ Some frame → happens coordinator_core federate_core w (delivered (Up j) (slice_get (frames_in w (Up j)) k)) ≡ after_coordinator w (step_of coordinator_core true w.coordinator (event.Frame j frame))
+frame_at_coordinator w j k frame found = ap (λ (o : Option Frame). happens coordinator_core federate_core w (delivered (Up j) o)) found
 
 frame_at_own : (w : Federation) (j k : ℕ) (s : Station FederateNode) (frame : Frame) → slice_get w.federates j ≡ Some s → slice_get (frames_in w (Down j)) k ≡ Some frame → happens coordinator_core federate_core w (delivered (Down j) (slice_get (frames_in w (Down j)) k)) ≡ after_federate w j (step_of federate_core false s (event.Frame 0 frame))
 frame_at_own w j k s frame there found = ap (λ (o : Option Frame). happens coordinator_core federate_core w (delivered (Down j) o)) found ∙ at_own w j s (event.Frame 0 frame) there
 
 -- a station's step at a frame that its end takes in by itself
-comes_at : {View Row : Type 0} (core : Core View Row) (hub : Bool) (s : Station View) (q : ℕ) (e : Image) (frame : Frame) (arrived : Arrival) → slice_get s.ends q ≡ Some e → answer_of e frame ≡ Ok arrived → step_of core hub s (event.Frame q frame) ≡ lets_in core s q e frame arrived
-comes_at core hub s q e frame arrived found is = ap (frame_comes core hub s q frame) found ∙ ap (comes core hub s q e frame) is
+comes_at : {View Row : Type 0} (core : Core View Row) (is_coordinator : Bool) (s : Station View) (q : ℕ) (e : Image) (frame : Frame) (arrived : Arrival) → slice_get s.ends q ≡ Some e → answer_of e frame ≡ Ok arrived → step_of core is_coordinator s (event.Frame q frame) ≡ lets_in core s q e frame arrived
+comes_at core is_coordinator s q e frame arrived found is = ap (frame_comes core is_coordinator s q frame) found ∙ ap (comes core is_coordinator s q e frame) is
 
 noted_frames : {View : Type 0} (s : Station View) (q : ℕ) (e : Image) (frame : Frame) → frames_of (noted s q e frame).answer ≡ addressed q (returned (after_frame e frame) frame)
 noted_frames s q e frame = frames_with (changes e frame) (addressed q (returned (after_frame e frame) frame))
@@ -104,7 +104,7 @@ sends_again d programs inputs w r (Down j) below =
     let here = own_there d programs inputs w r j below in
     let step : step_of coordinator_core true w.coordinator (event.Resend j) ≡ record { station = w.coordinator; answer = answer_with false (addressed j (resent_by (r.links j).first.end)) } = ap (resends w.coordinator j) at.first in
     let frames : frames_of (step_of coordinator_core true w.coordinator (event.Resend j)).answer ≡ addressed j (resent_by (r.links j).first.end) = ap (λ (x : Stepped CoordinatorNode). frames_of x.answer) step ∙ frames_with false (addressed j (resent_by (r.links j).first.end)) in
-    let all = hub_sends w (step_of coordinator_core true w.coordinator (event.Resend j)) j (r.links j).first.sent (resent_by (r.links j).first.end) at.down frames in
+    let all = coordinator_sends w (step_of coordinator_core true w.coordinator (event.Resend j)) j (r.links j).first.sent (resent_by (r.links j).first.end) at.down frames in
     ap (λ (x : Applied CoordinatorNode FederateNode). frames_in x.world (Down j)) (if_below w j (record { node = Coordinator; event = event.Resend j }) here) ∙
     all ∙ ap (λ (x : List Frame). x ++ resent_by (r.links j).first.end) (sym (got w.down j (r.links j).first.sent [] at.down))
 
@@ -115,8 +115,8 @@ repeats d programs inputs w r (Up j) place k n signal below found is =
     let at = r.run.shown.each j below in
     let step = comes_at coordinator_core true w.coordinator j (r.links j).first.end (Data k n signal) arrival.Repeated at.first is in
     let frames : frames_of (step_of coordinator_core true w.coordinator (event.Frame j (Data k n signal))).answer ≡ addressed j (ack_of (after_frame (r.links j).first.end (Data k n signal)) ∷ []) = ap (λ (x : Stepped CoordinatorNode). frames_of x.answer) step ∙ noted_frames w.coordinator j (r.links j).first.end (Data k n signal) in
-    let all = hub_sends w (step_of coordinator_core true w.coordinator (event.Frame j (Data k n signal))) j (r.links j).first.sent (ack_of (after_frame (r.links j).first.end (Data k n signal)) ∷ []) at.down frames in
-    ap (λ (x : Applied CoordinatorNode FederateNode). frames_in x.world (Down j)) (frame_at_hub w j place (Data k n signal) found) ∙
+    let all = coordinator_sends w (step_of coordinator_core true w.coordinator (event.Frame j (Data k n signal))) j (r.links j).first.sent (ack_of (after_frame (r.links j).first.end (Data k n signal)) ∷ []) at.down frames in
+    ap (λ (x : Applied CoordinatorNode FederateNode). frames_in x.world (Down j)) (frame_at_coordinator w j place (Data k n signal) found) ∙
     all ∙ ap (λ (x : List Frame). x ++ ack_of (after_frame (r.links j).first.end (Data k n signal)) ∷ []) (sym (got w.down j (r.links j).first.sent [] at.down))
 repeats d programs inputs w r (Down j) place k n signal below found is =
     let at = r.run.shown.each j below in
@@ -139,7 +139,7 @@ acknowledges d programs inputs w r (Up j) place k n below found is =
 acknowledges d programs inputs w r (Down j) place k n below found is =
     let at = r.run.shown.each j below in
     let step = comes_at coordinator_core true w.coordinator j (r.links j).first.end (Ack k n) arrival.Acked at.first is in
-    ap (λ (x : Applied CoordinatorNode FederateNode). sender x.world (Down j)) (frame_at_hub w j place (Ack k n) found) ∙
+    ap (λ (x : Applied CoordinatorNode FederateNode). sender x.world (Down j)) (frame_at_coordinator w j place (Ack k n) found) ∙
     ap (λ (x : Stepped CoordinatorNode). slice_get x.station.ends j) step ∙
     get_set_here w.coordinator.ends j (r.links j).first.end (after_frame (r.links j).first.end (Ack k n)) at.first
 
@@ -192,10 +192,10 @@ signal_taken core s q k n signal e (machine.Done m) found room plain =
     let P : Bool → Type 0 = λ b. IsRisen e (takes s q e (Data k n signal) (acknowledging s q e (Data k n signal)) (if b then LacksRoom else Moves m.after (all_posted (acknowledging s q e (Data k n signal)) m.sent))).station.ends q n in
     subst P (sym none) (received_there (all_posted (acknowledging s q e (Data k n signal)) m.sent) q k n signal e at.0 at.1 at.2)
 
-in_turn_taken : {View Row : Type 0} (core : Core View Row) (hub : Bool) (s : Station View) (q k n : ℕ) (signal : Signal) (e : Image) → slice_get s.ends q ≡ Some e → answer_of e (Data k n signal) ≡ Ok arrival.Signal → ((m : Made View) → core.accept s.node q signal ≡ machine.Done m → lacks_room s.ends m.sent ≡ false)
-    → IsPlainAnswer (step_of core hub s (event.Frame q (Data k n signal))).answer → IsRisen e (step_of core hub s (event.Frame q (Data k n signal))).station.ends q n
-in_turn_taken {View = View} core hub s q k n signal e found is room plain =
-    let step = comes_at core hub s q e (Data k n signal) arrival.Signal found is in
+in_turn_taken : {View Row : Type 0} (core : Core View Row) (is_coordinator : Bool) (s : Station View) (q k n : ℕ) (signal : Signal) (e : Image) → slice_get s.ends q ≡ Some e → answer_of e (Data k n signal) ≡ Ok arrival.Signal → ((m : Made View) → core.accept s.node q signal ≡ machine.Done m → lacks_room s.ends m.sent ≡ false)
+    → IsPlainAnswer (step_of core is_coordinator s (event.Frame q (Data k n signal))).answer → IsRisen e (step_of core is_coordinator s (event.Frame q (Data k n signal))).station.ends q n
+in_turn_taken {View = View} core is_coordinator s q k n signal e found is room plain =
+    let step = comes_at core is_coordinator s q e (Data k n signal) arrival.Signal found is in
     let P : Stepped View → Type 0 = λ x. IsPlainAnswer x.answer in
     let Q : Stepped View → Type 0 = λ x. IsRisen e x.station.ends q n in
     subst Q (sym step) (signal_taken core s q k n signal e (core.accept s.node q signal) found room (subst P step plain))
@@ -206,11 +206,11 @@ pub record IsTaken (w : Federation) (dir : Dir) (e : Image) (n : ℕ) : Type 0 w
   pub receiving : receiver w dir ≡ Some end
   pub taken : end.taken ≡ max e.taken n
 
-pub taken_by_hub : (d : Draft) (programs : List Behaviour) (inputs : List Input) (w : Federation) (r : Reached d programs inputs w) (j place k n : ℕ) (signal : Signal) → j < federate_count d → slice_get (frames_in w (Up j)) place ≡ Some (Data k n signal) → answer_of (r.links j).first.end (Data k n signal) ≡ Ok arrival.Signal
+pub taken_by_coordinator : (d : Draft) (programs : List Behaviour) (inputs : List Input) (w : Federation) (r : Reached d programs inputs w) (j place k n : ℕ) (signal : Signal) → j < federate_count d → slice_get (frames_in w (Up j)) place ≡ Some (Data k n signal) → answer_of (r.links j).first.end (Data k n signal) ≡ Ok arrival.Signal
     → ((m : Made CoordinatorNode) → coordinator_core.accept w.coordinator.node j signal ≡ machine.Done m → lacks_room w.coordinator.ends m.sent ≡ false) → IsPlain (step_in w (Deliver (Up j) (suc place))).outcome → IsTaken (step_in w (Deliver (Up j) (suc place))).world (Up j) (r.links j).first.end n
-taken_by_hub d programs inputs w r j place k n signal below found is room plain =
+taken_by_coordinator d programs inputs w r j place k n signal below found is room plain =
     let at = r.run.shown.each j below in
-    let does = frame_at_hub w j place (Data k n signal) found in
+    let does = frame_at_coordinator w j place (Data k n signal) found in
     let P : Applied CoordinatorNode FederateNode → Type 0 = λ x. IsPlain x.outcome in
     let made = step_of coordinator_core true w.coordinator (event.Frame j (Data k n signal)) in
     let risen = in_turn_taken coordinator_core true w.coordinator j k n signal (r.links j).first.end at.first is room (plain_answer (step_of coordinator_core true w.coordinator (event.Frame j (Data k n signal))).answer (subst P does plain)) in

@@ -1,4 +1,4 @@
--- So only so many moves of a run do anything, and only so many signals are sent in it.
+-- So only a bounded number of a run's moves do anything, and only a bounded number of signals are sent in it.
 use Rattle.std.proofs.Common.{◌≡◌, ℕ, ◌+◌, ◌*◌, ◌-◌, ◌≤◌, List, [], ◌∷◌, length, refl, ap, arith}
 use Rattle.network.specs.Network.{Network}
 use Rattle.network.specs.Lawful.{IsLawful}

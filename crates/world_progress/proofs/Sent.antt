@@ -15,7 +15,7 @@ use Rattle.world_progress.specs.Worth.{worth_up, all_worth}
 use Rattle.world_progress.proofs.Outcomes.{refused_or}
 use Rattle.world_progress.proofs.Queues.{worth-append}
 
--- messages, at most so many
+-- messages, at most this many
 pub record AreFew (signals : List Signal) (most : ℕ) : Type 0 where
   pub few : length signals ≤ most
   pub worth : all_worth worth_up signals ≡ 9 * length signals

@@ -40,9 +40,9 @@ use Rattle.world_progress.proofs.Fitting.{fits, federate_fits, announce_few, adv
 use Rattle.world_progress.proofs.Happening.{at_own, if_below}
 
 -- at the coordinator
-pub room_at_hub : (d : Draft) (programs : List Behaviour) (inputs : List Input) (w : Federation) (r : Reached d programs inputs w) → fuel_of (network_of d programs inputs) < 2 ^ 63 → ((j : ℕ) → j < federate_count d → length (r.links j).first.end.kept ≡ 0)
+pub room_at_coordinator : (d : Draft) (programs : List Behaviour) (inputs : List Input) (w : Federation) (r : Reached d programs inputs w) → fuel_of (network_of d programs inputs) < 2 ^ 63 → ((j : ℕ) → j < federate_count d → length (r.links j).first.end.kept ≡ 0)
     → (p : ℕ) (e : Image) (count : ℕ) → slice_get w.coordinator.ends p ≡ Some e → count ≤ 2 → lacks e count ≡ false
-room_at_hub d programs inputs w r small none p e count found few =
+room_at_coordinator d programs inputs w r small none p e count found few =
     let size = r.run.shown.ends in
     let placed = place_there w.coordinator.ends p e found in
     let below : p < federate_count d = omega arith in

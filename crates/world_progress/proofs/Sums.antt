@@ -5,15 +5,15 @@ use Rattle.std.proofs.lemmas.Bool.{cases_lt, eq-eqb, eqb-true, ne_eqb}
 use Rattle.std.proofs.Math.Nat.{mul-suc, mul-add}
 use Rattle.world_progress.specs.Fuel.{sum_below}
 
--- so much where a test passes
+-- this amount where a test passes
 abbrev pub where_so : Bool → ℕ → ℕ
 where_so b k = if b then k else 0
 
--- so much where it doesn't
+-- this amount where it doesn't
 abbrev pub unless_so : Bool → ℕ → ℕ
 unless_so b k = if b then 0 else k
 
--- so much at one number, and nothing elsewhere
+-- this amount at one number, and nothing elsewhere
 abbrev pub at_one : ℕ → ℕ → ℕ → ℕ
 at_one i k j = where_so (nat_eq j i) k
 

@@ -67,7 +67,7 @@ takes_down (Announce i) j = 0
 takes_down (Advance i) j = 0
 takes_down (Lose i) j = 0
 
--- a move of one of so many federates, which loses nobody
+-- a move of one of this many federates, which loses nobody
 abbrev pub IsOfOne : ℕ → Move → Type 0
 IsOfOne count (ToCoordinator i) = i < count
 IsOfOne count (ToFederate i) = i < count
@@ -75,7 +75,7 @@ IsOfOne count (Announce i) = i < count
 IsOfOne count (Advance i) = i < count
 IsOfOne count (Lose i) = ⊥
 
--- links after acts at both sides, which take at most so many signals
+-- links after acts at both sides, which take at most this many signals
 pub record IsActed (links after : ℕ → Link) (count : ℕ) (ups downs : ℕ → ℕ) : Type 0 where
   pub firsts : ℕ → List Act
   pub seconds : ℕ → List Act

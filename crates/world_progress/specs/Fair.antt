@@ -1,4 +1,5 @@
--- Schedules by which everything goes on: in each of their segments every federate is asked, and each direction is served once.
+-- Schedules by which everything goes on: in each of their segments every federate is asked, and each direction is
+-- served once.
 use Rattle.std.specs.Prelude.{◌≡◌, ℕ, suc, ◌<◌, List, [], ◌∷◌, ◌++◌, length}
 use Rattle.node_cores.specs.FederateCore.{federate_core}
 use Rattle.node_cores.specs.CoordinatorCore.{coordinator_core}
@@ -31,16 +32,20 @@ pub record Makes (steps : List Step) (step : Step) : Type 0 where
 -- the frame of this number comes; and if its receiver then answers, the first frame of the answer comes
 pub record Brings (w : Federation) (dir : Dir) (number : ℕ) (steps : List Step) : Type 0 where
   pub comes : Makes steps (Deliver dir number)
-  pub answers : sent_count (after_these w comes.before) (back dir) < sent_count (step_in (after_these w comes.before) (Deliver dir number)).world (back dir) →
+  pub answers : sent_count (after_these w comes.before) (back dir)
+      < sent_count (step_in (after_these w comes.before) (Deliver dir number)).world (back dir) →
       Makes comes.after (Deliver (back dir) (suc (sent_count (after_these w comes.before) (back dir))))
 
--- the sender of a direction sends again what isn't acknowledged; and if there is something, the first frame of it is brought
+-- the sender of a direction sends again what isn't acknowledged; and if there is something, the first frame of it is
+-- brought
 pub record Serves (w : Federation) (dir : Dir) (steps : List Step) : Type 0 where
   pub resends : Makes steps (Resend dir)
-  pub brings : sent_count (after_these w resends.before) dir < sent_count (step_in (after_these w resends.before) (Resend dir)).world dir →
-      Brings (step_in (after_these w resends.before) (Resend dir)).world dir (suc (sent_count (after_these w resends.before) dir)) resends.after
+  pub brings : sent_count (after_these w resends.before) dir
+      < sent_count (step_in (after_these w resends.before) (Resend dir)).world dir →
+      Brings (step_in (after_these w resends.before) (Resend dir)).world dir
+      (suc (sent_count (after_these w resends.before) dir)) resends.after
 
--- each of so many federates is asked to announce and to advance, and each direction is served
+-- each of this many federates is asked to announce and to advance, and each direction is served
 pub record IsFair (federates : ℕ) (w : Federation) (steps : List Step) : Type 0 where
   pub announces : (j : ℕ) → j < federates → Makes steps (Announce j)
   pub advances : (j : ℕ) → j < federates → Makes steps (Advance j)

@@ -42,7 +42,8 @@ with_made p steps = record p { world = after_steps coordinator_core federate_cor
 abbrev pub with_cursor : Playing → Dir → ℕ → Playing
 with_cursor p dir count = record p { cursors = moved_to p.cursors dir count }
 
--- so many frames of a direction come, those after the first `gone`: Deliver dir (gone + 1), .., Deliver dir (gone + count)
+-- this many frames of a direction come, those after the first `gone`: Deliver dir (gone + 1), .., Deliver dir (gone +
+-- count)
 abbrev pub delivers : Dir → (gone count : ℕ) → List Step
 delivers dir gone count = map (λ before. Deliver dir (before + 1)) (range_with_len gone count)
 
@@ -94,20 +95,22 @@ turn_tasks j = makes (Announce j) ∷ makes (Advance j) ∷ []
 abbrev pub resend_tasks : ℕ → List Task
 resend_tasks j = makes (Resend (Up j)) ∷ makes (Resend (Down j)) ∷ []
 
--- a round of so many federates: in order each announces and advances; then what each sent comes, in order; then what was sent to each
+-- a round of this many federates: in order each announces and advances; then what each sent comes, in order; then what
+-- was sent to each
 abbrev pub round_tasks : ℕ → List Task
 round_tasks federates =
-    for_each turn_tasks federates ++ (for_each (λ j. brings (Up j) ∷ []) federates ++ for_each (λ j. brings (Down j) ∷ []) federates)
+    for_each turn_tasks federates ++ (for_each (λ j. brings (Up j) ∷ []) federates
+    ++ for_each (λ j. brings (Down j) ∷ []) federates)
 
 -- a closing round: in order at each link is sent again what isn't acknowledged; then one round
 abbrev pub closing_round_tasks : ℕ → List Task
 closing_round_tasks federates = for_each resend_tasks federates ++ round_tasks federates
 
--- so many closing rounds
+-- this many closing rounds
 abbrev pub closing_rounds_tasks : ℕ → (rounds : ℕ) → List Task
 closing_rounds_tasks federates rounds = for_each (λ round. closing_round_tasks federates) rounds
 
--- after so many closing rounds
+-- after this many closing rounds
 abbrev pub after_closing_rounds : ℕ → (rounds : ℕ) → Playing → Playing
 after_closing_rounds federates rounds p = after_tasks (closing_rounds_tasks federates rounds) p
 

@@ -1,20 +1,24 @@
--- Runs in which nobody is lost, by rules that grant sparingly: how many of their moves do something, how many signals they
--- send, and where they end.
-use Rattle.std.specs.Prelude.{◌≡◌, ℕ, ◌+◌, ◌<◌, ◌≤◌, ◌++◌, Bool, true, false, IsTrue, if◌then◌else◌, List, [], ◌∷◌, length, Some}
+-- Runs in which nobody is lost, by rules that grant sparingly: how many of their moves do something, how many signals
+-- they send, and where they end.
+use Rattle.std.specs.Prelude.{◌≡◌, ℕ, ◌+◌, ◌<◌, ◌≤◌, ◌++◌, Bool, true, false, IsTrue, if◌then◌else◌, List, [], ◌∷◌}
+use Rattle.std.specs.Prelude.{length, Some}
 use Rattle.tag.specs.LogicalTime.{LogicalTime, IsLogicalTime, is_at_most, is_past}
 use Rattle.network.specs.Network.{Network}
 use Rattle.protocol.specs.Outcome.{Outcome, Refused, Nothing, Done}
 use Rattle.protocol.specs.FederateRecord.{FederateRecord}
 use Rattle.protocol.specs.Grant.{Rule}
-use Rattle.protocol.specs.Machine.{Member, Move, ToCoordinator, ToFederate, Announce, Advance, Lose, outcome_of, after_moves}
+use Rattle.protocol.specs.Machine.{Member, Move, ToCoordinator, ToFederate, Announce, Advance, Lose, outcome_of}
+use Rattle.protocol.specs.Machine.{after_moves}
 use Rattle.protocol_laws.specs.Runs.{IsStuck}
 use Rattle.world_progress.specs.Fuel.{sum_below}
 
 -- a rule that grants nothing to a federate whose next tag is granted already, and never less than the next tag
 abbrev pub IsSparing : Rule → Type 0
 IsSparing rule =
-    (federate_records : ℕ → FederateRecord) → ((i : ℕ) → IsLogicalTime (federate_records i).next) → (j : ℕ) (tag : LogicalTime) → rule federate_records j ≡ Some tag →
-    IsTrue (is_past (federate_records j).granted (federate_records j).next) × IsTrue (is_at_most (federate_records j).next tag)
+    (federate_records : ℕ → FederateRecord) → ((i : ℕ) → IsLogicalTime (federate_records i).next)
+    → (j : ℕ) (tag : LogicalTime) → rule federate_records j ≡ Some tag →
+    IsTrue (is_past (federate_records j).granted (federate_records j).next)
+    × IsTrue (is_at_most (federate_records j).next tag)
 
 -- a move of a federate that is there, and none by which one is lost
 abbrev pub IsOfMember : Network → Move → Type 0
@@ -50,12 +54,14 @@ outcome_after n rules moves move = outcome_of n (rules (length moves)) (after_mo
 -- how many of these moves, listed newest first, did something
 abbrev pub count_done : Network → (ℕ → Rule) → List Move → ℕ
 count_done n rules [] = 0
-count_done n rules (move ∷ earlier) = (if is_done (outcome_after n rules earlier move) then 1 else 0) + count_done n rules earlier
+count_done n rules (move ∷ earlier) =
+    (if is_done (outcome_after n rules earlier move) then 1 else 0) + count_done n rules earlier
 
 -- how many signals they took
 abbrev pub count_taken : Network → (ℕ → Rule) → List Move → ℕ
 count_taken n rules [] = 0
-count_taken n rules (move ∷ earlier) = (if is_done (outcome_after n rules earlier move) then takes move else 0) + count_taken n rules earlier
+count_taken n rules (move ∷ earlier) =
+    (if is_done (outcome_after n rules earlier move) then takes move else 0) + count_taken n rules earlier
 
 -- how many signals wait in all queues
 abbrev pub count_waiting : Network → (ℕ → Member) → ℕ
@@ -65,7 +71,7 @@ count_waiting n members = sum_below n.reactors (λ j. length (members j).up + le
 abbrev pub NothingDoes : Network → (ℕ → Rule) → List Move → Type 0
 NothingDoes n rules moves = (move : Move) → IsOfMember n move → is_done (outcome_after n rules moves move) ≡ false
 
--- after at most so many more moves every federate is stuck
+-- after at most this many more moves every federate is stuck
 pub record EndsStuck (n : Network) (rules : ℕ → Rule) (moves : List Move) (most : ℕ) : Type 0 where
   pub more : List Move
   pub there : AreOfMembers n (more ++ moves)

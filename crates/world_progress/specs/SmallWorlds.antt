@@ -15,7 +15,8 @@ bare_slots startup = record { startup = startup; inputs = []; outputs = []; time
 
 -- one federate, which stops at 0
 abbrev pub alone : Bool → Draft
-alone startup = record { stop = 0; federates = record { name = codes "one"; slots = bare_slots startup } ∷ []; connections = [] }
+alone startup =
+    record { stop = 0; federates = record { name = codes "one"; slots = bare_slots startup } ∷ []; connections = [] }
 
 -- and does nothing
 abbrev pub alone_programs : Bool → List Behaviour
@@ -23,7 +24,11 @@ alone_programs startup = record { slots = bare_slots startup; states = []; react
 
 -- its world, of which nothing was asked
 abbrev pub unplayed : Bool → Playing
-unplayed startup = record { world = initial_world (alone startup) (alone_programs startup) []; cursors = record { up = 0 ∷ []; down = 0 ∷ [] } }
+unplayed startup =
+    record {
+      world = initial_world (alone startup) (alone_programs startup) [];
+      cursors = record { up = 0 ∷ []; down = 0 ∷ [] };
+    }
 
 -- what every closing round begins with
 abbrev pub first_steps : List Step
@@ -33,9 +38,9 @@ first_steps = Resend (Up 0) ∷ Resend (Down 0) ∷ Announce 0 ∷ Advance 0 ∷
 abbrev pub quiet_steps : List Step
 quiet_steps = first_steps ++ Deliver (Up 0) 1 ∷ Deliver (Down 0) 1 ∷ first_steps
 
--- with startup: it announces (0, 0) (up 1), which is acknowledged and granted (down 1, 2), and acknowledges that (up 2), which comes in
--- the next round, so that the TAG is sent again (down 3) and acknowledged again (up 4). It runs (0, 0) (its LTC, up 3, down 4), announces
--- that nothing more comes (up 5, down 5); then nothing is left
+-- with startup: it announces (0, 0) (up 1), which is acknowledged and granted (down 1, 2), and acknowledges that (up
+-- 2), which comes in the next round, so that the TAG is sent again (down 3) and acknowledged again (up 4). It runs (0,
+-- 0) (its LTC, up 3, down 4), announces that nothing more comes (up 5, down 5); then nothing is left
 abbrev pub startup_steps : List Step
 startup_steps =
     first_steps ++ Deliver (Up 0) 1 ∷ Deliver (Down 0) 1 ∷ Deliver (Down 0) 2 ∷

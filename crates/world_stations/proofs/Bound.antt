@@ -236,21 +236,21 @@ turned_if : (ends : List Image) (peer : ℕ) (e : Image) (i n : ℕ) (b : Bool) 
 turned_if ends peer e i n true found = to_one ends peer e (Refuse i n ∷ []) found (omega arith)
 turned_if ends peer e i n false found = no_frames ends
 
-turned_few : (hub : Bool) (s : List Image) (peer : ℕ) (e : Image) (frame : Frame) → slice_get s peer ≡ Some e → IsBounded s (turned_away hub peer e frame)
-turned_few hub s peer e (Hello hello) found = turned_if s peer e hello.incarnation (number_of_fault LinkFault.Stranger) (hub && not (nat_eq hello.incarnation e.incarnation)) found
-turned_few hub s peer e (Data i n signal) found = no_frames s
-turned_few hub s peer e (Ack i n) found = no_frames s
-turned_few hub s peer e (Refuse i n) found = no_frames s
+turned_few : (is_coordinator : Bool) (s : List Image) (peer : ℕ) (e : Image) (frame : Frame) → slice_get s peer ≡ Some e → IsBounded s (turned_away is_coordinator peer e frame)
+turned_few is_coordinator s peer e (Hello hello) found = turned_if s peer e hello.incarnation (number_of_fault LinkFault.Stranger) (is_coordinator && not (nat_eq hello.incarnation e.incarnation)) found
+turned_few is_coordinator s peer e (Data i n signal) found = no_frames s
+turned_few is_coordinator s peer e (Ack i n) found = no_frames s
+turned_few is_coordinator s peer e (Refuse i n) found = no_frames s
 
-comes_within : {View Row : Type 0} (core : Core View Row) (hub : Bool) (s : Station View) (peer : ℕ) (e : Image) (frame : Frame) (r : Result Arrival LinkFault) →
-    slice_get s.ends peer ≡ Some e → IsWithin s.ends (comes core hub s peer e frame r)
-comes_within core hub s peer e frame (Ok arrival) found = lets_in_within core s peer e frame arrival found
-comes_within core hub s peer e frame (Err fault) found = record { bounded = turned_few hub s.ends peer e frame found; ends_stay = refl }
+comes_within : {View Row : Type 0} (core : Core View Row) (is_coordinator : Bool) (s : Station View) (peer : ℕ) (e : Image) (frame : Frame) (r : Result Arrival LinkFault) →
+    slice_get s.ends peer ≡ Some e → IsWithin s.ends (comes core is_coordinator s peer e frame r)
+comes_within core is_coordinator s peer e frame (Ok arrival) found = lets_in_within core s peer e frame arrival found
+comes_within core is_coordinator s peer e frame (Err fault) found = record { bounded = turned_few is_coordinator s.ends peer e frame found; ends_stay = refl }
 
-frame_within : {View Row : Type 0} (core : Core View Row) (hub : Bool) (s : Station View) (peer : ℕ) (frame : Frame) (o : Option Image) → slice_get s.ends peer ≡ o →
-    IsWithin s.ends (frame_comes core hub s peer frame o)
-frame_within core hub s peer frame None is = record { bounded = no_frames s.ends; ends_stay = refl }
-frame_within core hub s peer frame (Some e) is = comes_within core hub s peer e frame (answer_of e frame) is
+frame_within : {View Row : Type 0} (core : Core View Row) (is_coordinator : Bool) (s : Station View) (peer : ℕ) (frame : Frame) (o : Option Image) → slice_get s.ends peer ≡ o →
+    IsWithin s.ends (frame_comes core is_coordinator s peer frame o)
+frame_within core is_coordinator s peer frame None is = record { bounded = no_frames s.ends; ends_stay = refl }
+frame_within core is_coordinator s peer frame (Some e) is = comes_within core is_coordinator s peer e frame (answer_of e frame) is
 
 resends_within : {View : Type 0} (s : Station View) (peer : ℕ) (o : Option Image) → slice_get s.ends peer ≡ o → IsWithin s.ends (resends s peer o)
 resends_within s peer None is = record { bounded = no_frames s.ends; ends_stay = refl }
@@ -272,9 +272,9 @@ greets_within s peer (Some e) is = record {
 }
 
 -- every step keeps to the bound, whatever the core
-pub within : {View Row : Type 0} (core : Core View Row) (hub : Bool) (s : Station View) (e : Event) → IsWithin s.ends (step_of core hub s e)
-within core hub s (event.Frame peer frame) = frame_within core hub s peer frame (slice_get s.ends peer) refl
-within core hub s (event.Resend peer) = resends_within s peer (slice_get s.ends peer) refl
-within core hub s (event.Hello peer) = greets_within s peer (slice_get s.ends peer) refl
-within core hub s event.Announce = by_itself s (core.announce s.node)
-within core hub s event.Advance = by_itself s (core.advance s.node)
+pub within : {View Row : Type 0} (core : Core View Row) (is_coordinator : Bool) (s : Station View) (e : Event) → IsWithin s.ends (step_of core is_coordinator s e)
+within core is_coordinator s (event.Frame peer frame) = frame_within core is_coordinator s peer frame (slice_get s.ends peer) refl
+within core is_coordinator s (event.Resend peer) = resends_within s peer (slice_get s.ends peer) refl
+within core is_coordinator s (event.Hello peer) = greets_within s peer (slice_get s.ends peer) refl
+within core is_coordinator s event.Announce = by_itself s (core.announce s.node)
+within core is_coordinator s event.Advance = by_itself s (core.advance s.node)

@@ -26,13 +26,13 @@ acted s coming [] = s
 acted s coming (act ∷ rest) = acted (side_after s coming act) coming rest
 
 -- an act by which nothing is taken, offered or closed; strangers are turned away at the coordinator alone
-abbrev pub IsQuiet : (hub : Bool) → (incarnation : ℕ) → Act → Type 0
-IsQuiet hub i (Gets place is_taken) = is_taken ≡ false
-IsQuiet hub i (Offers signals) = ⊥
-IsQuiet hub i Resends = Unit {0}
-IsQuiet hub i Greets = Unit {0}
-IsQuiet hub i (Closes number) = ⊥
-IsQuiet hub i (TurnsAway k number) = (hub ≡ true) × (k ≢ i)
+abbrev pub IsQuiet : (is_coordinator : Bool) → (incarnation : ℕ) → Act → Type 0
+IsQuiet is_coordinator i (Gets place is_taken) = is_taken ≡ false
+IsQuiet is_coordinator i (Offers signals) = ⊥
+IsQuiet is_coordinator i Resends = Unit {0}
+IsQuiet is_coordinator i Greets = Unit {0}
+IsQuiet is_coordinator i (Closes number) = ⊥
+IsQuiet is_coordinator i (TurnsAway k number) = (is_coordinator ≡ true) × (k ≢ i)
 
 -- an answer with no refusal but those that may come
 abbrev pub IsPlainAnswer : Answer → Type 0
@@ -83,18 +83,18 @@ pub record IsHandedOn {View Row : Type 0} (core : Core View Row) (s : Station Vi
   pub node : core.accept s.node q signal ≡ o
 
 -- what kind of step it is: the node is left as it was; it takes a signal; it says or runs something by itself; or it refuses
-pub data Kind {View Row : Type 0} (core : Core View Row) (hub : Bool) (s : Station View) (e : Event) (place : ℕ) (made : Stepped View) (acts : ℕ → List Act) : Type 0 where
-  quiet : made.station.node ≡ s.node → IsPlainAnswer made.answer → ((p : ℕ) (i : Image) → slice_get s.ends p ≡ Some i → AllByRecursion (IsQuiet hub i.incarnation) (acts p)) → Kind core hub s e place made acts
-  takes : (q : ℕ) (m : Made View) → IsHandedOn core s e q (outcome.Done m) → made.station.node ≡ m.after → IsPlainAnswer made.answer → ((p : ℕ) → acts p ≡ taking q place p (sent_to p m.sent)) → Kind core hub s e place made acts
-  notes : (q : ℕ) → IsHandedOn core s e q outcome.Nothing → ((p : ℕ) → acts p ≡ taking q place p []) → Kind core hub s e place made acts
-  says : (m : Made View) → Speaks core s.node e (outcome.Done m) → made.station.node ≡ m.after → IsPlainAnswer made.answer → ((p : ℕ) → acts p ≡ Offers (sent_to p m.sent) ∷ []) → Kind core hub s e place made acts
-  declines : (q : ℕ) (refusal : Refusal) → IsHandedOn core s e q (outcome.Refused refusal) → ((p : ℕ) → AllByRecursion TakesNone (acts p)) → Kind core hub s e place made acts
-  cannot : (refusal : Refusal) → Speaks core s.node e (outcome.Refused refusal) → ((p : ℕ) → AllByRecursion TakesNone (acts p)) → Kind core hub s e place made acts
+pub data Kind {View Row : Type 0} (core : Core View Row) (is_coordinator : Bool) (s : Station View) (e : Event) (place : ℕ) (made : Stepped View) (acts : ℕ → List Act) : Type 0 where
+  quiet : made.station.node ≡ s.node → IsPlainAnswer made.answer → ((p : ℕ) (i : Image) → slice_get s.ends p ≡ Some i → AllByRecursion (IsQuiet is_coordinator i.incarnation) (acts p)) → Kind core is_coordinator s e place made acts
+  takes : (q : ℕ) (m : Made View) → IsHandedOn core s e q (outcome.Done m) → made.station.node ≡ m.after → IsPlainAnswer made.answer → ((p : ℕ) → acts p ≡ taking q place p (sent_to p m.sent)) → Kind core is_coordinator s e place made acts
+  notes : (q : ℕ) → IsHandedOn core s e q outcome.Nothing → ((p : ℕ) → acts p ≡ taking q place p []) → Kind core is_coordinator s e place made acts
+  says : (m : Made View) → Speaks core s.node e (outcome.Done m) → made.station.node ≡ m.after → IsPlainAnswer made.answer → ((p : ℕ) → acts p ≡ Offers (sent_to p m.sent) ∷ []) → Kind core is_coordinator s e place made acts
+  declines : (q : ℕ) (refusal : Refusal) → IsHandedOn core s e q (outcome.Refused refusal) → ((p : ℕ) → AllByRecursion TakesNone (acts p)) → Kind core is_coordinator s e place made acts
+  cannot : (refusal : Refusal) → Speaks core s.node e (outcome.Refused refusal) → ((p : ℕ) → AllByRecursion TakesNone (acts p)) → Kind core is_coordinator s e place made acts
 
 -- a step of a station, as acts at each side
-pub record IsCourse {View Row : Type 0} (core : Core View Row) (hub : Bool) (s : Station View) (e : Event) (came : ℕ → List Frame) (place : ℕ) (made : Stepped View) : Type 0 where
+pub record IsCourse {View Row : Type 0} (core : Core View Row) (is_coordinator : Bool) (s : Station View) (e : Event) (came : ℕ → List Frame) (place : ℕ) (made : Stepped View) : Type 0 where
   pub acts : ℕ → List Act
   pub seen : (p : ℕ) (side : Side) → slice_get s.ends p ≡ Some side.end → IsSeen side.sent made.station.ends (frames_of made.answer) p (acted side (came p) (acts p))
   pub within : AllByRecursion (λ o. o.peer < length s.ends) (frames_of made.answer)
   pub size : length made.station.ends ≡ length s.ends
-  pub kind : Kind core hub s e place made acts
+  pub kind : Kind core is_coordinator s e place made acts

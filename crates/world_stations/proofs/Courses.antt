@@ -75,13 +75,13 @@ place_there (x ∷ xs) zero e found = omega arith
 place_there (x ∷ xs) (suc q) e found = let h = place_there xs q e found in omega arith
 
 -- quiet acts at one peer
-quiet_only : (hub : Bool) (s : List Image) (q : ℕ) (e : Image) (own : List Act) → slice_get s q ≡ Some e → AllByRecursion (IsQuiet hub e.incarnation) own → (p : ℕ) (i : Image) → slice_get s p ≡ Some i → AllByRecursion (IsQuiet hub i.incarnation) (only q own p)
-quiet_only hub s q e own found are p i there = by_number (nat_eq p q) refl
+quiet_only : (is_coordinator : Bool) (s : List Image) (q : ℕ) (e : Image) (own : List Act) → slice_get s q ≡ Some e → AllByRecursion (IsQuiet is_coordinator e.incarnation) own → (p : ℕ) (i : Image) → slice_get s p ≡ Some i → AllByRecursion (IsQuiet is_coordinator i.incarnation) (only q own p)
+quiet_only is_coordinator s q e own found are p i there = by_number (nat_eq p q) refl
   where
-    by_number : (b : Bool) → nat_eq p q ≡ b → AllByRecursion (IsQuiet hub i.incarnation) (if b then own else [])
+    by_number : (b : Bool) → nat_eq p q ≡ b → AllByRecursion (IsQuiet is_coordinator i.incarnation) (if b then own else [])
     by_number true is =
         let here : e ≡ i = some_end s q e i found (ap (λ x. slice_get s x) (sym (eqb-true p q is)) ∙ there) in
-        let P : Image → Type 0 = λ x. AllByRecursion (IsQuiet hub x.incarnation) own in
+        let P : Image → Type 0 = λ x. AllByRecursion (IsQuiet is_coordinator x.incarnation) own in
         subst P here are
     by_number false is = tt
 
@@ -96,35 +96,35 @@ plain_with false [] = tt
 plain_with false (x ∷ xs) = tt
 
 -- a step by which the node isn't asked: at one peer's end
-quiet_course : {View Row : Type 0} (core : Core View Row) (hub : Bool) (s : Station View) (event : Event) (came : ℕ → List Frame) (place : ℕ) (made : Stepped View) (q : ℕ) (e : Image) (frames : List Frame) (own : List Act) → slice_get s.ends q ≡ Some e → made.station.node ≡ s.node → length made.station.ends ≡ length s.ends → ((p : ℕ) → p ≢ q → slice_get made.station.ends p ≡ slice_get s.ends p) → OwnSeen s.ends made.station.ends q (came q) frames own → frames_of made.answer ≡ addressed q frames → IsPlainAnswer made.answer → AllByRecursion (IsQuiet hub e.incarnation) own → IsCourse core hub s event came place made
-quiet_course core hub s event came place made q e frames own found node size others mine said plain are =
+quiet_course : {View Row : Type 0} (core : Core View Row) (is_coordinator : Bool) (s : Station View) (event : Event) (came : ℕ → List Frame) (place : ℕ) (made : Stepped View) (q : ℕ) (e : Image) (frames : List Frame) (own : List Act) → slice_get s.ends q ≡ Some e → made.station.node ≡ s.node → length made.station.ends ≡ length s.ends → ((p : ℕ) → p ≢ q → slice_get made.station.ends p ≡ slice_get s.ends p) → OwnSeen s.ends made.station.ends q (came q) frames own → frames_of made.answer ≡ addressed q frames → IsPlainAnswer made.answer → AllByRecursion (IsQuiet is_coordinator e.incarnation) own → IsCourse core is_coordinator s event came place made
+quiet_course core is_coordinator s event came place made q e frames own found node size others mine answered plain are =
     let P : List Outgoing → Type 0 = λ x. (p : ℕ) (side : Side) → slice_get s.ends p ≡ Some side.end → IsSeen side.sent made.station.ends x p (acted side (came p) (only q own p)) in
     let Q : List Outgoing → Type 0 = λ x. AllByRecursion (λ (o : Outgoing). o.peer < length s.ends) x in
     record {
       acts = only q own;
-      seen = subst P (sym said) (one_seen s.ends made.station.ends came q frames own others mine);
-      within = subst Q (sym said) (to_one q (length s.ends) frames (place_there s.ends q e found));
+      seen = subst P (sym answered) (one_seen s.ends made.station.ends came q frames own others mine);
+      within = subst Q (sym answered) (to_one q (length s.ends) frames (place_there s.ends q e found));
       size = size;
-      kind = quiet node plain (quiet_only hub s.ends q e own found are);
+      kind = quiet node plain (quiet_only is_coordinator s.ends q e own found are);
     }
 
 -- a step by which nothing changes and these frames go out
-same_course : {View Row : Type 0} (core : Core View Row) (hub : Bool) (s : Station View) (event : Event) (came : ℕ → List Frame) (place : ℕ) (answer : Answer) (q : ℕ) (e : Image) (frames : List Frame) (own : List Act) → slice_get s.ends q ≡ Some e → ((t : Side) → t.end ≡ e → ((acted t (came q) own).end ≡ t.end) × ((acted t (came q) own).sent ≡ t.sent ++ frames)) → frames_of answer ≡ addressed q frames → IsPlainAnswer answer → AllByRecursion (IsQuiet hub e.incarnation) own → IsCourse core hub s event came place (same s answer)
-same_course core hub s event came place answer q e frames own found mine said plain are =
-    quiet_course core hub s event came place (same s answer) q e frames own found refl refl (λ p o. refl)
+same_course : {View Row : Type 0} (core : Core View Row) (is_coordinator : Bool) (s : Station View) (event : Event) (came : ℕ → List Frame) (place : ℕ) (answer : Answer) (q : ℕ) (e : Image) (frames : List Frame) (own : List Act) → slice_get s.ends q ≡ Some e → ((t : Side) → t.end ≡ e → ((acted t (came q) own).end ≡ t.end) × ((acted t (came q) own).sent ≡ t.sent ++ frames)) → frames_of answer ≡ addressed q frames → IsPlainAnswer answer → AllByRecursion (IsQuiet is_coordinator e.incarnation) own → IsCourse core is_coordinator s event came place (same s answer)
+same_course core is_coordinator s event came place answer q e frames own found mine answered plain are =
+    quiet_course core is_coordinator s event came place (same s answer) q e frames own found refl refl (λ p o. refl)
     (λ t there. (
     let is = mine t (some_end s.ends q t.end e there found) in
-    (there ∙ ap (λ (x : Image). Some x) (sym is.0), is.1))) said plain are
+    (there ∙ ap (λ (x : Image). Some x) (sym is.0), is.1))) answered plain are
 
 -- a step by which nothing at all happens
-still : {View Row : Type 0} (core : Core View Row) (hub : Bool) (s : Station View) (event : Event) (came : ℕ → List Frame) (place : ℕ) (answer : Answer) → frames_of answer ≡ [] → IsPlainAnswer answer → IsCourse core hub s event came place (same s answer)
-still core hub s event came place answer said plain =
+still : {View Row : Type 0} (core : Core View Row) (is_coordinator : Bool) (s : Station View) (event : Event) (came : ℕ → List Frame) (place : ℕ) (answer : Answer) → frames_of answer ≡ [] → IsPlainAnswer answer → IsCourse core is_coordinator s event came place (same s answer)
+still core is_coordinator s event came place answer answered plain =
     let P : List Outgoing → Type 0 = λ x. (p : ℕ) (side : Side) → slice_get s.ends p ≡ Some side.end → IsSeen side.sent s.ends x p side in
     let Q : List Outgoing → Type 0 = λ x. AllByRecursion (λ (o : Outgoing). o.peer < length s.ends) x in
     record {
       acts = λ p. [];
-      seen = subst P (sym said) (λ p side found. record { end = found; frames = sym (append-nil side.sent) });
-      within = subst Q (sym said) tt;
+      seen = subst P (sym answered) (λ p side found. record { end = found; frames = sym (append-nil side.sent) });
+      within = subst Q (sym answered) tt;
       size = refl;
       kind = quiet refl plain (λ p i found. tt);
     }
@@ -193,9 +193,9 @@ notes_repeated e k n signal l t is =
     let same : t.end.taken ≡ max t.end.taken n = omega arith in
     (refl, ap (λ (x : ℕ). t.sent ++ Ack t.end.incarnation x ∷ []) same)
 
-noted_course : {View Row : Type 0} (core : Core View Row) (hub : Bool) (s : Station View) (came : ℕ → List Frame) (place q : ℕ) (e : Image) (frame : Frame) (arrived : Arrival) → slice_get s.ends q ≡ Some e → slice_get (came q) place ≡ Some frame → answer_of e frame ≡ Ok arrived → Notes e frame arrived → IsCourse core hub s (event.Frame q frame) came place (noted s q e frame)
-noted_course core hub s came place q e frame arrived found at is notes_so =
-    quiet_course core hub s (event.Frame q frame) came place (noted s q e frame) q e (returned (after_frame e frame) frame) (Gets place false ∷ []) found refl (length-set s.ends q (after_frame e frame))
+noted_course : {View Row : Type 0} (core : Core View Row) (is_coordinator : Bool) (s : Station View) (came : ℕ → List Frame) (place q : ℕ) (e : Image) (frame : Frame) (arrived : Arrival) → slice_get s.ends q ≡ Some e → slice_get (came q) place ≡ Some frame → answer_of e frame ≡ Ok arrived → Notes e frame arrived → IsCourse core is_coordinator s (event.Frame q frame) came place (noted s q e frame)
+noted_course core is_coordinator s came place q e frame arrived found at is notes_so =
+    quiet_course core is_coordinator s (event.Frame q frame) came place (noted s q e frame) q e (returned (after_frame e frame) frame) (Gets place false ∷ []) found refl (length-set s.ends q (after_frame e frame))
     (λ p o. get_set_other s.ends q p (after_frame e frame) o)
     (λ t there. (
     let same = some_end s.ends q e t.end found there in
@@ -245,8 +245,8 @@ all_are_posted m (post ∷ posts) =
     record { size = rest.size ∙ first.size; within = λ w. subst P first.size rest.within (first.within w) }
 
 -- the signals of a station's node go out
-spoken : {View Row : Type 0} (core : Core View Row) (hub : Bool) (s : Station View) (e : Event) (came : ℕ → List Frame) (place : ℕ) (o : outcome.Outcome (Made View)) → Speaks core s.node e o → IsCourse core hub s e came place (acts s (ending_of (unsent s) o))
-spoken core hub s e came place (outcome.Refused refusal) speaks =
+spoken : {View Row : Type 0} (core : Core View Row) (is_coordinator : Bool) (s : Station View) (e : Event) (came : ℕ → List Frame) (place : ℕ) (o : outcome.Outcome (Made View)) → Speaks core s.node e o → IsCourse core is_coordinator s e came place (acts s (ending_of (unsent s) o))
+spoken core is_coordinator s e came place (outcome.Refused refusal) speaks =
     record {
       acts = λ p. [];
       seen = λ p side found. record { end = found; frames = sym (append-nil side.sent) };
@@ -254,11 +254,11 @@ spoken core hub s e came place (outcome.Refused refusal) speaks =
       size = refl;
       kind = cannot refusal speaks (λ p. tt);
     }
-spoken core hub s e came place outcome.Nothing speaks = still core hub s e came place Silent refl tt
-spoken core hub s e came place (outcome.Done made) speaks = by_room (lacks_room s.ends made.sent) refl
+spoken core is_coordinator s e came place outcome.Nothing speaks = still core is_coordinator s e came place Silent refl tt
+spoken core is_coordinator s e came place (outcome.Done made) speaks = by_room (lacks_room s.ends made.sent) refl
   where
-    by_room : (b : Bool) → lacks_room s.ends made.sent ≡ b → IsCourse core hub s e came place (acts s (if b then LacksRoom else Moves made.after (all_posted (unsent s) made.sent)))
-    by_room true is = still core hub s e came place (Declines 60 []) refl refl
+    by_room : (b : Bool) → lacks_room s.ends made.sent ≡ b → IsCourse core is_coordinator s e came place (acts s (if b then LacksRoom else Moves made.after (all_posted (unsent s) made.sent)))
+    by_room true is = still core is_coordinator s e came place (Declines 60 []) refl refl
     by_room false is =
         let posts = all_are_posted (unsent s) made.sent in
         record {
@@ -326,9 +326,9 @@ taken_seen s came place q e k n signal posts found at is room p t there = by_num
         }))
 
 -- a signal in its turn
-signal_course : {View Row : Type 0} (core : Core View Row) (hub : Bool) (s : Station View) (came : ℕ → List Frame) (place q : ℕ) (e : Image) (k n : ℕ) (signal : Signal) (o : outcome.Outcome (Made View)) → slice_get s.ends q ≡ Some e → slice_get (came q) place ≡ Some (Data k n signal) → answer_of e (Data k n signal) ≡ Ok arrival.Signal → core.accept s.node q signal ≡ o
-    → IsCourse core hub s (event.Frame q (Data k n signal)) came place (takes s q e (Data k n signal) (acknowledging s q e (Data k n signal)) (ending_of (acknowledging s q e (Data k n signal)) o))
-signal_course core hub s came place q e k n signal (outcome.Refused refusal) found at is does = by_closing (closes refusal)
+signal_course : {View Row : Type 0} (core : Core View Row) (is_coordinator : Bool) (s : Station View) (came : ℕ → List Frame) (place q : ℕ) (e : Image) (k n : ℕ) (signal : Signal) (o : outcome.Outcome (Made View)) → slice_get s.ends q ≡ Some e → slice_get (came q) place ≡ Some (Data k n signal) → answer_of e (Data k n signal) ≡ Ok arrival.Signal → core.accept s.node q signal ≡ o
+    → IsCourse core is_coordinator s (event.Frame q (Data k n signal)) came place (takes s q e (Data k n signal) (acknowledging s q e (Data k n signal)) (ending_of (acknowledging s q e (Data k n signal)) o))
+signal_course core is_coordinator s came place q e k n signal (outcome.Refused refusal) found at is does = by_closing (closes refusal)
   where
     handed : IsHandedOn core s (event.Frame q (Data k n signal)) q (outcome.Refused refusal)
     handed = record { image = e; incarnation = k; number = n; signal = signal; is_event = refl; found = found; in_turn = is; node = does }
@@ -337,7 +337,7 @@ signal_course core hub s came place q e k n signal (outcome.Refused refusal) fou
     closes_only p true number = (tt, tt)
     closes_only p false number = tt
 
-    by_closing : (b : Bool) → IsCourse core hub s (event.Frame q (Data k n signal)) came place (refused s q e (refusals.number_of refusal) b)
+    by_closing : (b : Bool) → IsCourse core is_coordinator s (event.Frame q (Data k n signal)) came place (refused s q e (refusals.number_of refusal) b)
     by_closing true =
         let number = refusals.number_of refusal in
         record {
@@ -360,7 +360,7 @@ signal_course core hub s came place q e k n signal (outcome.Refused refusal) fou
           size = refl;
           kind = declines q refusal handed (λ p. tt);
         }
-signal_course core hub s came place q e k n signal outcome.Nothing found at is does =
+signal_course core is_coordinator s came place q e k n signal outcome.Nothing found at is does =
     let P : Outgoing → Type 0 = λ o. o.peer < length s.ends in
     let none = (λ (p : ℕ) (t : Side) (there : slice_get s.ends p ≡ Some t.end).
     taken_seen s came place q e k n signal [] found at is (no_room s.ends) p t there) in
@@ -374,11 +374,11 @@ signal_course core hub s came place q e k n signal outcome.Nothing found at is d
   where
     no_room : (ends : List Image) → lacks_room ends [] ≡ false
     no_room ends = no_posts 0 ends
-signal_course core hub s came place q e k n signal (outcome.Done made) found at is does = by_room (lacks_room s.ends made.sent) refl
+signal_course core is_coordinator s came place q e k n signal (outcome.Done made) found at is does = by_room (lacks_room s.ends made.sent) refl
   where
     by_room : (b : Bool) → lacks_room s.ends made.sent ≡ b
-        → IsCourse core hub s (event.Frame q (Data k n signal)) came place (takes s q e (Data k n signal) (acknowledging s q e (Data k n signal)) (if b then LacksRoom else Moves made.after (all_posted (acknowledging s q e (Data k n signal)) made.sent)))
-    by_room true room = still core hub s (event.Frame q (Data k n signal)) came place (Declines 60 []) refl refl
+        → IsCourse core is_coordinator s (event.Frame q (Data k n signal)) came place (takes s q e (Data k n signal) (acknowledging s q e (Data k n signal)) (if b then LacksRoom else Moves made.after (all_posted (acknowledging s q e (Data k n signal)) made.sent)))
+    by_room true room = still core is_coordinator s (event.Frame q (Data k n signal)) came place (Declines 60 []) refl refl
     by_room false room =
         let posts = all_are_posted (acknowledging s q e (Data k n signal)) made.sent in
         let mail = all_posted (acknowledging s q e (Data k n signal)) made.sent in
@@ -391,23 +391,23 @@ signal_course core hub s came place q e k n signal (outcome.Done made) found at 
         }
 
 -- a frame that its end refuses
-turned_course : {View Row : Type 0} (core : Core View Row) (hub : Bool) (s : Station View) (came : ℕ → List Frame) (place q : ℕ) (e : Image) (frame : Frame) (fault : LinkFault) → slice_get s.ends q ≡ Some e → IsTrue (is_plain (number_of fault)) → IsCourse core hub s (event.Frame q frame) came place (same s (Declines (number_of fault) (turned_away hub q e frame)))
-turned_course core hub s came place q e (Hello hello) fault found plain = by_stranger (hub && not (nat_eq hello.incarnation e.incarnation)) refl
+turned_course : {View Row : Type 0} (core : Core View Row) (is_coordinator : Bool) (s : Station View) (came : ℕ → List Frame) (place q : ℕ) (e : Image) (frame : Frame) (fault : LinkFault) → slice_get s.ends q ≡ Some e → IsTrue (is_plain (number_of fault)) → IsCourse core is_coordinator s (event.Frame q frame) came place (same s (Declines (number_of fault) (turned_away is_coordinator q e frame)))
+turned_course core is_coordinator s came place q e (Hello hello) fault found plain = by_stranger (is_coordinator && not (nat_eq hello.incarnation e.incarnation)) refl
   where
     both : (a b : Bool) → (a && not b) ≡ true → (a ≡ true) × (b ≡ false)
     both true false h = (refl, refl)
     both true true h = cc
     both false b h = cc
 
-    by_stranger : (b : Bool) → (hub && not (nat_eq hello.incarnation e.incarnation)) ≡ b → IsCourse core hub s (event.Frame q (Hello hello)) came place (same s (Declines (number_of fault) (if b then addressed q (Refuse hello.incarnation 51 ∷ []) else [])))
+    by_stranger : (b : Bool) → (is_coordinator && not (nat_eq hello.incarnation e.incarnation)) ≡ b → IsCourse core is_coordinator s (event.Frame q (Hello hello)) came place (same s (Declines (number_of fault) (if b then addressed q (Refuse hello.incarnation 51 ∷ []) else [])))
     by_stranger true is =
-        let stranger = both hub (nat_eq hello.incarnation e.incarnation) is in
-        same_course core hub s (event.Frame q (Hello hello)) came place (Declines (number_of fault) (addressed q (Refuse hello.incarnation 51 ∷ []))) q e (Refuse hello.incarnation 51 ∷ []) (TurnsAway hello.incarnation 51 ∷ []) found
+        let stranger = both is_coordinator (nat_eq hello.incarnation e.incarnation) is in
+        same_course core is_coordinator s (event.Frame q (Hello hello)) came place (Declines (number_of fault) (addressed q (Refuse hello.incarnation 51 ∷ []))) q e (Refuse hello.incarnation 51 ∷ []) (TurnsAway hello.incarnation 51 ∷ []) found
         (λ t there. (refl, refl)) refl plain ((stranger.0, eqb-false hello.incarnation e.incarnation stranger.1), tt)
-    by_stranger false is = still core hub s (event.Frame q (Hello hello)) came place (Declines (number_of fault) []) refl plain
-turned_course core hub s came place q e (Data k n signal) fault found plain = still core hub s (event.Frame q (Data k n signal)) came place (Declines (number_of fault) []) refl plain
-turned_course core hub s came place q e (Ack k n) fault found plain = still core hub s (event.Frame q (Ack k n)) came place (Declines (number_of fault) []) refl plain
-turned_course core hub s came place q e (Refuse k n) fault found plain = still core hub s (event.Frame q (Refuse k n)) came place (Declines (number_of fault) []) refl plain
+    by_stranger false is = still core is_coordinator s (event.Frame q (Hello hello)) came place (Declines (number_of fault) []) refl plain
+turned_course core is_coordinator s came place q e (Data k n signal) fault found plain = still core is_coordinator s (event.Frame q (Data k n signal)) came place (Declines (number_of fault) []) refl plain
+turned_course core is_coordinator s came place q e (Ack k n) fault found plain = still core is_coordinator s (event.Frame q (Ack k n)) came place (Declines (number_of fault) []) refl plain
+turned_course core is_coordinator s came place q e (Refuse k n) fault found plain = still core is_coordinator s (event.Frame q (Refuse k n)) came place (Declines (number_of fault) []) refl plain
 
 pub data_is : (e : Image) (k n : ℕ) (signal : Signal) (a : Arrival) → answer_of e (Data k n signal) ≡ Ok a → ((a ≡ arrival.Repeated) × (n ≤ e.taken)) ⊎ (a ≡ arrival.Signal)
 data_is e k n signal a is =
@@ -417,45 +417,45 @@ data_is e k n signal a is =
     ]
 
 -- a frame that its end doesn't refuse
-let_in_course : {View Row : Type 0} (core : Core View Row) (hub : Bool) (s : Station View) (came : ℕ → List Frame) (place q : ℕ) (e : Image) (frame : Frame) (arrived : Arrival) → slice_get s.ends q ≡ Some e → slice_get (came q) place ≡ Some frame → answer_of e frame ≡ Ok arrived → IsCourse core hub s (event.Frame q frame) came place (lets_in core s q e frame arrived)
-let_in_course core hub s came place q e (Hello hello) arrived found at is = noted_course core hub s came place q e (Hello hello) arrived found at is (notes_hello e hello arrived)
-let_in_course core hub s came place q e (Ack k n) arrived found at is = noted_course core hub s came place q e (Ack k n) arrived found at is (notes_ack e k n arrived)
-let_in_course core hub s came place q e (Refuse k n) arrived found at is = noted_course core hub s came place q e (Refuse k n) arrived found at is (notes_refuse e k n arrived)
-let_in_course core hub s came place q e (Data k n signal) arrived found at is =
-    let P : Arrival → Type 0 = λ a. IsCourse core hub s (event.Frame q (Data k n signal)) came place (lets_in core s q e (Data k n signal) a) in
+let_in_course : {View Row : Type 0} (core : Core View Row) (is_coordinator : Bool) (s : Station View) (came : ℕ → List Frame) (place q : ℕ) (e : Image) (frame : Frame) (arrived : Arrival) → slice_get s.ends q ≡ Some e → slice_get (came q) place ≡ Some frame → answer_of e frame ≡ Ok arrived → IsCourse core is_coordinator s (event.Frame q frame) came place (lets_in core s q e frame arrived)
+let_in_course core is_coordinator s came place q e (Hello hello) arrived found at is = noted_course core is_coordinator s came place q e (Hello hello) arrived found at is (notes_hello e hello arrived)
+let_in_course core is_coordinator s came place q e (Ack k n) arrived found at is = noted_course core is_coordinator s came place q e (Ack k n) arrived found at is (notes_ack e k n arrived)
+let_in_course core is_coordinator s came place q e (Refuse k n) arrived found at is = noted_course core is_coordinator s came place q e (Refuse k n) arrived found at is (notes_refuse e k n arrived)
+let_in_course core is_coordinator s came place q e (Data k n signal) arrived found at is =
+    let P : Arrival → Type 0 = λ a. IsCourse core is_coordinator s (event.Frame q (Data k n signal)) came place (lets_in core s q e (Data k n signal) a) in
     let Q : Arrival → Type 0 = λ a. answer_of e (Data k n signal) ≡ Ok a in
     elim (data_is e k n signal arrived is) [
-      | inl old ↦ subst P (sym old.0) (noted_course core hub s came place q e (Data k n signal) arrival.Repeated found at (subst Q old.0 is) (notes_repeated e k n signal old.1))
-      | inr next ↦ subst P (sym next) (signal_course core hub s came place q e k n signal (core.accept s.node q signal) found at (subst Q next is) refl)
+      | inl old ↦ subst P (sym old.0) (noted_course core is_coordinator s came place q e (Data k n signal) arrival.Repeated found at (subst Q old.0 is) (notes_repeated e k n signal old.1))
+      | inr next ↦ subst P (sym next) (signal_course core is_coordinator s came place q e k n signal (core.accept s.node q signal) found at (subst Q next is) refl)
     ]
 
-comes_course : {View Row : Type 0} (core : Core View Row) (hub : Bool) (s : Station View) (came : ℕ → List Frame) (place q : ℕ) (e : Image) (frame : Frame) (r : Result Arrival LinkFault) → slice_get s.ends q ≡ Some e → slice_get (came q) place ≡ Some frame → answer_of e frame ≡ r → answer_of e frame ≢ Err LinkFault.AckOfUnsent → IsCourse core hub s (event.Frame q frame) came place (comes core hub s q e frame r)
-comes_course core hub s came place q e frame (Ok arrived) found at is sent = let_in_course core hub s came place q e frame arrived found at is
-comes_course core hub s came place q e frame (Err fault) found at is sent = turned_course core hub s came place q e frame fault found (plain_fault e frame fault is sent)
+comes_course : {View Row : Type 0} (core : Core View Row) (is_coordinator : Bool) (s : Station View) (came : ℕ → List Frame) (place q : ℕ) (e : Image) (frame : Frame) (r : Result Arrival LinkFault) → slice_get s.ends q ≡ Some e → slice_get (came q) place ≡ Some frame → answer_of e frame ≡ r → answer_of e frame ≢ Err LinkFault.AckOfUnsent → IsCourse core is_coordinator s (event.Frame q frame) came place (comes core is_coordinator s q e frame r)
+comes_course core is_coordinator s came place q e frame (Ok arrived) found at is sent = let_in_course core is_coordinator s came place q e frame arrived found at is
+comes_course core is_coordinator s came place q e frame (Err fault) found at is sent = turned_course core is_coordinator s came place q e frame fault found (plain_fault e frame fault is sent)
 
-frame_course : {View Row : Type 0} (core : Core View Row) (hub : Bool) (s : Station View) (came : ℕ → List Frame) (place q : ℕ) (frame : Frame) (o : Option Image) → slice_get s.ends q ≡ o → Comes s came place (event.Frame q frame) → IsCourse core hub s (event.Frame q frame) came place (frame_comes core hub s q frame o)
-frame_course core hub s came place q frame None found h = still core hub s (event.Frame q frame) came place (Declines 51 []) refl refl
-frame_course core hub s came place q frame (Some e) found h = comes_course core hub s came place q e frame (answer_of e frame) found h.0 refl (h.1 e found)
+frame_course : {View Row : Type 0} (core : Core View Row) (is_coordinator : Bool) (s : Station View) (came : ℕ → List Frame) (place q : ℕ) (frame : Frame) (o : Option Image) → slice_get s.ends q ≡ o → Comes s came place (event.Frame q frame) → IsCourse core is_coordinator s (event.Frame q frame) came place (frame_comes core is_coordinator s q frame o)
+frame_course core is_coordinator s came place q frame None found h = still core is_coordinator s (event.Frame q frame) came place (Declines 51 []) refl refl
+frame_course core is_coordinator s came place q frame (Some e) found h = comes_course core is_coordinator s came place q e frame (answer_of e frame) found h.0 refl (h.1 e found)
 
-resends_course : {View Row : Type 0} (core : Core View Row) (hub : Bool) (s : Station View) (came : ℕ → List Frame) (place q : ℕ) (o : Option Image) → slice_get s.ends q ≡ o → IsCourse core hub s (event.Resend q) came place (resends s q o)
-resends_course core hub s came place q None found = still core hub s (event.Resend q) came place (Declines 51 []) refl refl
-resends_course core hub s came place q (Some e) found =
-    same_course core hub s (event.Resend q) came place (answer_with false (addressed q (resent_by e))) q e (resent_by e) (Resends ∷ []) found
+resends_course : {View Row : Type 0} (core : Core View Row) (is_coordinator : Bool) (s : Station View) (came : ℕ → List Frame) (place q : ℕ) (o : Option Image) → slice_get s.ends q ≡ o → IsCourse core is_coordinator s (event.Resend q) came place (resends s q o)
+resends_course core is_coordinator s came place q None found = still core is_coordinator s (event.Resend q) came place (Declines 51 []) refl refl
+resends_course core is_coordinator s came place q (Some e) found =
+    same_course core is_coordinator s (event.Resend q) came place (answer_with false (addressed q (resent_by e))) q e (resent_by e) (Resends ∷ []) found
     (λ t there. (refl, ap (λ (x : Image). t.sent ++ resent_by x) there)) (frames_with false (addressed q (resent_by e))) (plain_with false (addressed q (resent_by e))) (tt, tt)
 
-greets_course : {View Row : Type 0} (core : Core View Row) (hub : Bool) (s : Station View) (came : ℕ → List Frame) (place q : ℕ) (o : Option Image) → slice_get s.ends q ≡ o → IsCourse core hub s (event.Hello q) came place (greets s q o)
-greets_course core hub s came place q None found = still core hub s (event.Hello q) came place (Declines 51 []) refl refl
-greets_course core hub s came place q (Some e) found =
-    same_course core hub s (event.Hello q) came place (answer_with false (greeting q (hello_of e))) q e (link.greeting (hello_of e)) (Greets ∷ []) found
+greets_course : {View Row : Type 0} (core : Core View Row) (is_coordinator : Bool) (s : Station View) (came : ℕ → List Frame) (place q : ℕ) (o : Option Image) → slice_get s.ends q ≡ o → IsCourse core is_coordinator s (event.Hello q) came place (greets s q o)
+greets_course core is_coordinator s came place q None found = still core is_coordinator s (event.Hello q) came place (Declines 51 []) refl refl
+greets_course core is_coordinator s came place q (Some e) found =
+    same_course core is_coordinator s (event.Hello q) came place (answer_with false (greeting q (hello_of e))) q e (link.greeting (hello_of e)) (Greets ∷ []) found
     (λ t there. (refl, ap (λ (x : Image). t.sent ++ link.greeting (hello_of x)) there)) (frames_with false (greeting q (hello_of e)) ∙ as_frames (hello_of e)) (plain_with false (greeting q (hello_of e))) (tt, tt)
   where
     as_frames : (o : Option Frame) → greeting q o ≡ addressed q (link.greeting o)
     as_frames None = refl
     as_frames (Some frame) = refl
 
-pub step_course : {View Row : Type 0} (core : Core View Row) (hub : Bool) (s : Station View) (e : Event) (came : ℕ → List Frame) (place : ℕ) → Comes s came place e → IsCourse core hub s e came place (step_of core hub s e)
-step_course core hub s (event.Frame q frame) came place h = frame_course core hub s came place q frame (slice_get s.ends q) refl h
-step_course core hub s (event.Resend q) came place h = resends_course core hub s came place q (slice_get s.ends q) refl
-step_course core hub s (event.Hello q) came place h = greets_course core hub s came place q (slice_get s.ends q) refl
-step_course core hub s event.Announce came place h = spoken core hub s event.Announce came place (core.announce s.node) (announces refl refl)
-step_course core hub s event.Advance came place h = spoken core hub s event.Advance came place (core.advance s.node) (advances refl refl)
+pub step_course : {View Row : Type 0} (core : Core View Row) (is_coordinator : Bool) (s : Station View) (e : Event) (came : ℕ → List Frame) (place : ℕ) → Comes s came place e → IsCourse core is_coordinator s e came place (step_of core is_coordinator s e)
+step_course core is_coordinator s (event.Frame q frame) came place h = frame_course core is_coordinator s came place q frame (slice_get s.ends q) refl h
+step_course core is_coordinator s (event.Resend q) came place h = resends_course core is_coordinator s came place q (slice_get s.ends q) refl
+step_course core is_coordinator s (event.Hello q) came place h = greets_course core is_coordinator s came place q (slice_get s.ends q) refl
+step_course core is_coordinator s event.Announce came place h = spoken core is_coordinator s event.Announce came place (core.announce s.node) (announces refl refl)
+step_course core is_coordinator s event.Advance came place h = spoken core is_coordinator s event.Advance came place (core.advance s.node) (advances refl refl)

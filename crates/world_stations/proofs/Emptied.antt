@@ -14,10 +14,10 @@ use Rattle.plan.specs.Federation.{federate_count}
 use Rattle.plan.specs.Least.{least_of}
 use Rattle.reactor_program.specs.Behaviour.{Behaviour}
 use Rattle.plan_network.specs.Network.{network_of}
-use Rattle.link_laws.specs.Way.{offered_in, IsSaid}
+use Rattle.link_laws.specs.Way.{offered_in, IsGenuine}
 use Rattle.link_laws.specs.Link.{Side}
 use Rattle.link_laws.proofs.Places.{length_of_rest, get_below}
-use Rattle.link_laws.proofs.Ways.{AreSaid}
+use Rattle.link_laws.proofs.Ways.{AreGenuine}
 use Rattle.link_laws.proofs.Forgotten.{AreOf, IsOf}
 use Rattle.link_laws.proofs.Carried.{IsLinked, linked_back}
 use Rattle.world_stations.specs.declared.dir.Dir.{Dir}
@@ -45,11 +45,11 @@ record IsDirection (w : Federation) (dir : Dir) (s r : Side) : Type 0 where
   own : AreOf 1 s.sent
 
 -- where nothing is kept each frame is settled
-settled_frame : (w : Federation) (dir : Dir) (s r : Side) (frame : Frame) → IsDirection w dir s r → s.end.kept ≡ [] → IsOf 1 frame → IsSaid 1 (offered_in 1 s.sent) s.end.taken frame → IsSettled w dir frame
-settled_frame w dir s r (Hello hello) d e of said = tt
-settled_frame w dir s r (Data k n signal) d e of said =
+settled_frame : (w : Federation) (dir : Dir) (s r : Side) (frame : Frame) → IsDirection w dir s r → s.end.kept ≡ [] → IsOf 1 frame → IsGenuine 1 (offered_in 1 s.sent) s.end.taken frame → IsSettled w dir frame
+settled_frame w dir s r (Hello hello) d e of genuine = tt
+settled_frame w dir s r (Data k n signal) d e of genuine =
     let l = d.linked in
-    let at = said of in
+    let at = genuine of in
     let below = get_below (offered_in 1 s.sent) (n - 1) signal at.1 in
     let a = l.out.acknowledged_taken in
     let b = l.out.taken_offered in
@@ -61,12 +61,12 @@ settled_frame w dir s r (Data k n signal) d e of said =
     let P : ℕ → Type 0 = λ x. (n ≤ number_taken x (receiver w dir)) × (n ≤ number_acknowledged x (sender w dir)) in
     subst P (sym of)
     (subst T (sym (ap (number_taken 1) d.receiving ∙ own_number r.end l.there)) taken, subst T (sym (ap (number_acknowledged 1) d.sending ∙ own_acknowledged s.end l.here)) acknowledged)
-settled_frame w dir s r (Ack k n) d e of said = tt
-settled_frame w dir s r (Refuse k n) d e of said = tt
+settled_frame w dir s r (Ack k n) d e of genuine = tt
+settled_frame w dir s r (Refuse k n) d e of genuine = tt
 
-settled_frames : (w : Federation) (dir : Dir) (s r : Side) (frames : List Frame) → IsDirection w dir s r → s.end.kept ≡ [] → AreOf 1 frames → AreSaid 1 (offered_in 1 s.sent) s.end.taken frames → AllByRecursion (IsSettled w dir) frames
-settled_frames w dir s r [] d e of said = tt
-settled_frames w dir s r (frame ∷ rest) d e of said = (settled_frame w dir s r frame d e of.0 said.0, settled_frames w dir s r rest d e of.1 said.1)
+settled_frames : (w : Federation) (dir : Dir) (s r : Side) (frames : List Frame) → IsDirection w dir s r → s.end.kept ≡ [] → AreOf 1 frames → AreGenuine 1 (offered_in 1 s.sent) s.end.taken frames → AllByRecursion (IsSettled w dir) frames
+settled_frames w dir s r [] d e of genuine = tt
+settled_frames w dir s r (frame ∷ rest) d e of genuine = (settled_frame w dir s r frame d e of.0 genuine.0, settled_frames w dir s r rest d e of.1 genuine.1)
 
 -- where each frame is settled nothing is kept
 acknowledged_below : (w : Federation) (dir : Dir) (most : ℕ) → number_acknowledged 1 (sender w dir) ≡ most → (frames : List Frame) → AllByRecursion (IsSettled w dir) frames → AllByRecursion (Below 1 most) frames
@@ -93,7 +93,7 @@ direction_shows w dir s r d =
           none_left s.end.acknowledged (offered_in 1 s.sent)
           (few_offered 1 s.end.acknowledged [] s.sent (omega arith)
           (acknowledged_below w dir s.end.acknowledged (ap (number_acknowledged 1) d.sending ∙ own_acknowledged s.end d.linked.here) s.sent (subst R d.frames (each (IsSettled w dir) (frames_in w dir) settled)))))),
-      (λ keeps. subst F (sym d.frames) (from_each (IsSettled w dir) s.sent (settled_frames w dir s r s.sent d (subst I d.sending keeps) d.own d.linked.out.said))),
+      (λ keeps. subst F (sym d.frames) (from_each (IsSettled w dir) s.sent (settled_frames w dir s r s.sent d (subst I d.sending keeps) d.own d.linked.out.genuine))),
     )
 
 -- the directions of a federate

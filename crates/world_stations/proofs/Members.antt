@@ -35,7 +35,7 @@ use Rattle.world_stations.proofs.Shown.{shown_at_federate, shown_lost, at_own, a
 use Rattle.world_stations.proofs.Quiet.{offers_at}
 use Rattle.world_stations.proofs.Site.{node_with, IsSite, keeps, loses, kept_linked, in_turn_is, takes_next}
 use Rattle.world_stations.proofs.Moves.{done_of, refused_of, rule_of, sent_up, federate_move}
-use Rattle.world_stations.proofs.Runs.{IsRun, IsMoved, comes_with, federate_run, same_federate_records, same_lost, said_incarnation, kept_does}
+use Rattle.world_stations.proofs.Runs.{IsRun, IsMoved, comes_with, federate_run, same_federate_records, same_lost, spoken_incarnation, kept_does}
 
 -- what is handed on to a federate comes from its one peer, in its turn
 pub record IsHanded (l : Link) (place incarnation number : ℕ) (signal : Signal) (q : ℕ) : Type 0 where
@@ -121,7 +121,7 @@ kept_says d programs inputs w links members j s e place m made move c below ther
       after = with_member members j (stepped (members j) (members j).down made);
       is_made = moves;
       run = kept_does d programs inputs w links members j s e place c (stepped (members j) (members j).down made) made.sent (Offers (sent_to 0 m.sent) ∷ []) below there acts
-          refl not_lost (node ∙ ap (λ (x : Made FederateNode). x.after) m_is) (said_incarnation (links j).second (sent_to 0 m.sent) opened ∙ is) o.0 (tt, tt) (o.3 ∙ ap (λ (x : List Signal). offered_in 1 (links j).second.sent ++ x) sent) refl
+          refl not_lost (node ∙ ap (λ (x : Made FederateNode). x.after) m_is) (spoken_incarnation (links j).second (sent_to 0 m.sent) opened ∙ is) o.0 (tt, tt) (o.3 ∙ ap (λ (x : List Signal). offered_in 1 (links j).second.sent ++ x) sent) refl
           (queue ∙ ap (λ (x : ℕ). drop x (offered_in 1 (links j).first.sent)) (sym o.1)) is frames run;
       lost = same_lost members j (stepped (members j) (members j).down made) refl;
     }

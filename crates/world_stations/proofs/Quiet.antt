@@ -121,21 +121,21 @@ gets_nothing : (s : Side) (o : Option Frame) → TookNothing s (gets false s o)
 gets_nothing s None = as_it_was s
 gets_nothing s (Some frame) = hears_nothing s frame (answer_of s.end frame) refl
 
-pub quiet_takes_nothing : (hub : Bool) (i : ℕ) (s : Side) (coming : List Frame) (act : Act) → IsQuiet hub i act → TookNothing s (side_after s coming act)
-quiet_takes_nothing hub i s coming (Gets place is_taken) q =
+pub quiet_takes_nothing : (is_coordinator : Bool) (i : ℕ) (s : Side) (coming : List Frame) (act : Act) → IsQuiet is_coordinator i act → TookNothing s (side_after s coming act)
+quiet_takes_nothing is_coordinator i s coming (Gets place is_taken) q =
     let P : Bool → Type 0 = λ b. TookNothing s (side_after s coming (Gets place b)) in
     subst P (sym q) (gets_nothing s (slice_get coming place))
-quiet_takes_nothing hub i s coming (Offers signals) q = absurd q
-quiet_takes_nothing hub i s coming Resends q = record { taken = refl; took = refl; incarnation = refl }
-quiet_takes_nothing hub i s coming Greets q = record { taken = refl; took = refl; incarnation = refl }
-quiet_takes_nothing hub i s coming (Closes number) q = absurd q
-quiet_takes_nothing hub i s coming (TurnsAway k number) q = record { taken = refl; took = refl; incarnation = refl }
+quiet_takes_nothing is_coordinator i s coming (Offers signals) q = absurd q
+quiet_takes_nothing is_coordinator i s coming Resends q = record { taken = refl; took = refl; incarnation = refl }
+quiet_takes_nothing is_coordinator i s coming Greets q = record { taken = refl; took = refl; incarnation = refl }
+quiet_takes_nothing is_coordinator i s coming (Closes number) q = absurd q
+quiet_takes_nothing is_coordinator i s coming (TurnsAway k number) q = record { taken = refl; took = refl; incarnation = refl }
 
-pub quiet_acts_take_nothing : (hub : Bool) (i : ℕ) (s : Side) (coming : List Frame) (acts : List Act) → AllByRecursion (IsQuiet hub i) acts → TookNothing s (acted s coming acts)
-quiet_acts_take_nothing hub i s coming [] q = as_it_was s
-quiet_acts_take_nothing hub i s coming (act ∷ rest) q =
-    let first = quiet_takes_nothing hub i s coming act q.0 in
-    let more = quiet_acts_take_nothing hub i (side_after s coming act) coming rest q.1 in
+pub quiet_acts_take_nothing : (is_coordinator : Bool) (i : ℕ) (s : Side) (coming : List Frame) (acts : List Act) → AllByRecursion (IsQuiet is_coordinator i) acts → TookNothing s (acted s coming acts)
+quiet_acts_take_nothing is_coordinator i s coming [] q = as_it_was s
+quiet_acts_take_nothing is_coordinator i s coming (act ∷ rest) q =
+    let first = quiet_takes_nothing is_coordinator i s coming act q.0 in
+    let more = quiet_acts_take_nothing is_coordinator i (side_after s coming act) coming rest q.1 in
     record { taken = more.taken ∙ first.taken; took = more.took ∙ first.took; incarnation = more.incarnation ∙ first.incarnation }
 
 -- nothing was offered or closed
@@ -146,8 +146,8 @@ pub record LeftOpen (i : ℕ) (s after : Side) : Type 0 where
 left : (i : ℕ) (s : Side) → LeftOpen i s s
 left i s = record { closed = refl; offered = refl }
 
-said_old : (i : ℕ) (s : Side) (more : List Frame) → AreOld i (length (offered_in i s.sent)) more → LeftOpen i s (says s more)
-said_old i s more old = record { closed = refl; offered = offers_same i s.sent more old }
+old_left : (i : ℕ) (s : Side) (more : List Frame) → AreOld i (length (offered_in i s.sent)) more → LeftOpen i s (says s more)
+old_left i s more old = record { closed = refl; offered = offers_same i s.sent more old }
 
 old_again : (i : ℕ) (s r : Side) (b : Bool) → IsLinked i s r → AreOld i (length (offered_in i s.sent)) (if b then [] else numbered s.end.incarnation (s.end.acknowledged + 1) s.end.kept)
 old_again i s r true l = tt
@@ -168,8 +168,8 @@ refuse_within false closed arrived is = cc
 
 lets_left : (i : ℕ) (s r : Side) (frame : Frame) (arrived : Arrival) (place : ℕ) → slice_get r.sent place ≡ Some frame → answer_of s.end frame ≡ Ok arrived → IsCalm i frame → IsLinked i s r → LeftOpen i s (lets_in false s frame arrived)
 lets_left i s r (Hello hello) arrived place at is calm l =
-    let said = at_place _ r.sent place (Hello hello) l.back.said at in
-    let within : hello.last_taken ≤ r.end.taken = hello_within i s r hello.federate hello.incarnation hello.last_taken (nat_eq hello.incarnation s.end.incarnation && nat_eq hello.federate s.end.federate) s.end.closed (nat_lt (last_number s.end) hello.last_taken) arrived (λ own. said (own_hello s.end.incarnation hello.incarnation hello.federate s.end.federate own ∙ l.here)) is in
+    let genuine = at_place _ r.sent place (Hello hello) l.back.genuine at in
+    let within : hello.last_taken ≤ r.end.taken = hello_within i s r hello.federate hello.incarnation hello.last_taken (nat_eq hello.incarnation s.end.incarnation && nat_eq hello.federate s.end.federate) s.end.closed (nat_lt (last_number s.end) hello.last_taken) arrived (λ own. genuine (own_hello s.end.incarnation hello.incarnation hello.federate s.end.federate own ∙ l.here)) is in
     let after = linked_acknowledges i s r hello.last_taken within l in
     let old = old_again i (record s { end = acknowledge s.end hello.last_taken }) r s.end.closed after in
     record { closed = refl; offered = offers_same i s.sent (resent_by (after_frame s.end (Hello hello))) old }
@@ -192,26 +192,26 @@ gets_left i s r None place at calm l = left i s
 gets_left i s r (Some frame) place at calm l = hears_left i s r frame (answer_of s.end frame) place at refl (at_place (IsCalm i) r.sent place frame calm at) l
 
 greets_left : (i : ℕ) (s : Side) (b : Bool) → LeftOpen i s (says s (greeting (if b then None else Some (hello_by s.end))))
-greets_left i s true = said_old i s [] tt
-greets_left i s false = said_old i s (hello_by s.end ∷ []) (refl, tt)
+greets_left i s true = old_left i s [] tt
+greets_left i s false = old_left i s (hello_by s.end ∷ []) (refl, tt)
 
-quiet_left : (hub : Bool) (k i : ℕ) (s r : Side) (act : Act) → IsQuiet hub k act → AreCalm i r.sent → IsLinked i s r → LeftOpen i s (side_after s r.sent act)
-quiet_left hub k i s r (Gets place is_taken) q calm l =
+quiet_left : (is_coordinator : Bool) (k i : ℕ) (s r : Side) (act : Act) → IsQuiet is_coordinator k act → AreCalm i r.sent → IsLinked i s r → LeftOpen i s (side_after s r.sent act)
+quiet_left is_coordinator k i s r (Gets place is_taken) q calm l =
     let P : Bool → Type 0 = λ b. LeftOpen i s (side_after s r.sent (Gets place b)) in
     subst P (sym q) (gets_left i s r (slice_get r.sent place) place refl calm l)
-quiet_left hub k i s r (Offers signals) q calm l = absurd q
-quiet_left hub k i s r Resends q calm l = said_old i s (resent_by s.end) (old_again i s r s.end.closed l)
-quiet_left hub k i s r Greets q calm l = greets_left i s s.end.closed
-quiet_left hub k i s r (Closes number) q calm l = absurd q
-quiet_left hub k i s r (TurnsAway m number) q calm l = said_old i s (Refuse m number ∷ []) (refl, tt)
+quiet_left is_coordinator k i s r (Offers signals) q calm l = absurd q
+quiet_left is_coordinator k i s r Resends q calm l = old_left i s (resent_by s.end) (old_again i s r s.end.closed l)
+quiet_left is_coordinator k i s r Greets q calm l = greets_left i s s.end.closed
+quiet_left is_coordinator k i s r (Closes number) q calm l = absurd q
+quiet_left is_coordinator k i s r (TurnsAway m number) q calm l = old_left i s (Refuse m number ∷ []) (refl, tt)
 
-quiet_calm : (hub : Bool) (i : ℕ) (act : Act) → IsQuiet hub i act → IsCalmAct i act
-quiet_calm hub i (Gets place is_taken) q = tt
-quiet_calm hub i (Offers signals) q = absurd q
-quiet_calm hub i Resends q = tt
-quiet_calm hub i Greets q = tt
-quiet_calm hub i (Closes number) q = absurd q
-quiet_calm hub i (TurnsAway k number) q = q.1
+quiet_calm : (is_coordinator : Bool) (i : ℕ) (act : Act) → IsQuiet is_coordinator i act → IsCalmAct i act
+quiet_calm is_coordinator i (Gets place is_taken) q = tt
+quiet_calm is_coordinator i (Offers signals) q = absurd q
+quiet_calm is_coordinator i Resends q = tt
+quiet_calm is_coordinator i Greets q = tt
+quiet_calm is_coordinator i (Closes number) q = absurd q
+quiet_calm is_coordinator i (TurnsAway k number) q = q.1
 
 -- quiet acts at a side that is linked to another
 pub record StaysQuiet (i : ℕ) (s after r : Side) : Type 0 where
@@ -220,18 +220,18 @@ pub record StaysQuiet (i : ℕ) (s after r : Side) : Type 0 where
   pub stays : LeftOpen i s after
   pub calm : AreCalm i s.sent → AreCalm i after.sent
 
-pub quiet_acts : (hub : Bool) (i : ℕ) (s r : Side) (acts : List Act) → AllByRecursion (IsQuiet hub i) acts → AreCalm i r.sent → IsLinked i s r → StaysQuiet i s (acted s r.sent acts) r
-quiet_acts hub i s r [] q calm l = record { linked = l; nothing = as_it_was s; stays = left i s; calm = λ h. h }
-quiet_acts hub i s r (act ∷ rest) q calm l =
+pub quiet_acts : (is_coordinator : Bool) (i : ℕ) (s r : Side) (acts : List Act) → AllByRecursion (IsQuiet is_coordinator i) acts → AreCalm i r.sent → IsLinked i s r → StaysQuiet i s (acted s r.sent acts) r
+quiet_acts is_coordinator i s r [] q calm l = record { linked = l; nothing = as_it_was s; stays = left i s; calm = λ h. h }
+quiet_acts is_coordinator i s r (act ∷ rest) q calm l =
     let next = act_keeps i s r act l in
-    let first = quiet_left hub i i s r act q.0 calm l in
-    let nothing = quiet_takes_nothing hub i s r.sent act q.0 in
-    let more = quiet_acts hub i (side_after s r.sent act) r rest q.1 calm next in
+    let first = quiet_left is_coordinator i i s r act q.0 calm l in
+    let nothing = quiet_takes_nothing is_coordinator i s r.sent act q.0 in
+    let more = quiet_acts is_coordinator i (side_after s r.sent act) r rest q.1 calm next in
     record {
       linked = more.linked;
       nothing = record { taken = more.nothing.taken ∙ nothing.taken; took = more.nothing.took ∙ nothing.took; incarnation = more.nothing.incarnation ∙ nothing.incarnation };
       stays = record { closed = more.stays.closed ∙ first.closed; offered = more.stays.offered ∙ first.offered };
-      calm = λ h. more.calm (act_calm i s r.sent act (quiet_calm hub i act q.0) h);
+      calm = λ h. more.calm (act_calm i s r.sent act (quiet_calm is_coordinator i act q.0) h);
     }
 
 -- signals are offered at an open side

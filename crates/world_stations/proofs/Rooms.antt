@@ -112,15 +112,15 @@ lets_in_ever core s peer p e (Data i n signal) arrival.Signal found =
     (ended_ever (acknowledging s peer e (Data i n signal)) (core.accept s.node peer signal) p)
 lets_in_ever core s peer p e frame arrival found = noted_ever s peer p e frame found
 
-comes_ever : {View Row : Type 0} (core : Core View Row) (hub : Bool) (s : Station View) (peer p : ℕ) (e : Image) (frame : Frame) (r : Result Arrival LinkFault) →
-    slice_get s.ends peer ≡ Some e → ever_at (comes core hub s peer e frame r).station.ends p ≤ ever_at s.ends p
-comes_ever core hub s peer p e frame (Ok arrival) found = lets_in_ever core s peer p e frame arrival found
-comes_ever core hub s peer p e frame (Err fault) found = omega arith
+comes_ever : {View Row : Type 0} (core : Core View Row) (is_coordinator : Bool) (s : Station View) (peer p : ℕ) (e : Image) (frame : Frame) (r : Result Arrival LinkFault) →
+    slice_get s.ends peer ≡ Some e → ever_at (comes core is_coordinator s peer e frame r).station.ends p ≤ ever_at s.ends p
+comes_ever core is_coordinator s peer p e frame (Ok arrival) found = lets_in_ever core s peer p e frame arrival found
+comes_ever core is_coordinator s peer p e frame (Err fault) found = omega arith
 
-frame_comes_ever : {View Row : Type 0} (core : Core View Row) (hub : Bool) (s : Station View) (peer p : ℕ) (frame : Frame) (o : Option Image) → slice_get s.ends peer ≡ o →
-    ever_at (frame_comes core hub s peer frame o).station.ends p ≤ ever_at s.ends p
-frame_comes_ever core hub s peer p frame None is = omega arith
-frame_comes_ever core hub s peer p frame (Some e) is = comes_ever core hub s peer p e frame (answer_of e frame) is
+frame_comes_ever : {View Row : Type 0} (core : Core View Row) (is_coordinator : Bool) (s : Station View) (peer p : ℕ) (frame : Frame) (o : Option Image) → slice_get s.ends peer ≡ o →
+    ever_at (frame_comes core is_coordinator s peer frame o).station.ends p ≤ ever_at s.ends p
+frame_comes_ever core is_coordinator s peer p frame None is = omega arith
+frame_comes_ever core is_coordinator s peer p frame (Some e) is = comes_ever core is_coordinator s peer p e frame (answer_of e frame) is
 
 resends_ever : {View : Type 0} (s : Station View) (peer p : ℕ) (o : Option Image) → ever_at (resends s peer o).station.ends p ≤ ever_at s.ends p
 resends_ever s peer p None = omega arith
@@ -131,10 +131,10 @@ greets_ever s peer p None = omega arith
 greets_ever s peer p (Some e) = omega arith
 
 -- no step lets a peer be sent more in a later one, whatever the core
-pub never_more : {View Row : Type 0} (core : Core View Row) (hub : Bool) (s : Station View) (e : Event) (p : ℕ) →
-    most_ever_to (slice_get (step_of core hub s e).station.ends p) ≤ most_ever_to (slice_get s.ends p)
-never_more core hub s (event.Frame peer frame) p = frame_comes_ever core hub s peer p frame (slice_get s.ends peer) refl
-never_more core hub s (event.Resend peer) p = resends_ever s peer p (slice_get s.ends peer)
-never_more core hub s (event.Hello peer) p = greets_ever s peer p (slice_get s.ends peer)
-never_more core hub s event.Announce p = acts_ever s (ending_of (unsent s) (core.announce s.node)) p (ended_ever (unsent s) (core.announce s.node) p)
-never_more core hub s event.Advance p = acts_ever s (ending_of (unsent s) (core.advance s.node)) p (ended_ever (unsent s) (core.advance s.node) p)
+pub never_more : {View Row : Type 0} (core : Core View Row) (is_coordinator : Bool) (s : Station View) (e : Event) (p : ℕ) →
+    most_ever_to (slice_get (step_of core is_coordinator s e).station.ends p) ≤ most_ever_to (slice_get s.ends p)
+never_more core is_coordinator s (event.Frame peer frame) p = frame_comes_ever core is_coordinator s peer p frame (slice_get s.ends peer) refl
+never_more core is_coordinator s (event.Resend peer) p = resends_ever s peer p (slice_get s.ends peer)
+never_more core is_coordinator s (event.Hello peer) p = greets_ever s peer p (slice_get s.ends peer)
+never_more core is_coordinator s event.Announce p = acts_ever s (ending_of (unsent s) (core.announce s.node)) p (ended_ever (unsent s) (core.announce s.node) p)
+never_more core is_coordinator s event.Advance p = acts_ever s (ending_of (unsent s) (core.advance s.node)) p (ended_ever (unsent s) (core.advance s.node) p)

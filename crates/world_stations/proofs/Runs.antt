@@ -250,8 +250,8 @@ same_lost members j m e k =
     ]
 
 -- a federate's side after it said something
-pub said_incarnation : (s : Side) (signals : List Signal) → s.end.closed ≡ false → (offers s signals).end.incarnation ≡ s.end.incarnation
-said_incarnation s signals o = ap (λ (x : Side). x.end.incarnation) (offers_open s signals o)
+pub spoken_incarnation : (s : Side) (signals : List Signal) → s.end.closed ≡ false → (offers s signals).end.incarnation ≡ s.end.incarnation
+spoken_incarnation s signals o = ap (λ (x : Side). x.end.incarnation) (offers_open s signals o)
 
 -- a kept federate does something, by which its queues go from these to those
 pub kept_does : (d : Draft) (programs : List Behaviour) (inputs : List Input) (w : Federation) (links : ℕ → Link) (members : ℕ → Member) (j : ℕ) (s : Station FederateNode) (e : Event) (place : ℕ) (c : IsCourse federate_core false s e (λ p. (links j).first.sent) place (step_of federate_core false s e)) (m : Member) (signals : List Signal) (acts : List Act)

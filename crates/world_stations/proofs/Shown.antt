@@ -41,7 +41,7 @@ pub record IsAt {OfCoordinator OfFederate : Type 0} (w : World OfCoordinator OfF
   pub up : slice_get w.up j ≡ Some l.second.sent
   pub down : slice_get w.down j ≡ Some l.first.sent
 
--- so many links, as they stand in a world
+-- this many links, as they stand in a world
 pub record IsShown {OfCoordinator OfFederate : Type 0} (w : World OfCoordinator OfFederate) (count : ℕ) (links : ℕ → Link) : Type 0 where
   pub ends : length w.coordinator.ends ≡ count
   pub federates : length w.federates ≡ count

@@ -16,7 +16,7 @@ use Rattle.reactor_program.specs.Behaviour.{Behaviour}
 use Rattle.protocol.specs.Federate.{Federate}
 use Rattle.protocol.specs.Machine.{Member}
 use Rattle.node_cores.specs.FederateCore.{FederateNode}
-use Rattle.link_laws.specs.Way.{offered_in, IsSaid}
+use Rattle.link_laws.specs.Way.{offered_in, IsGenuine}
 use Rattle.link_laws.specs.Link.{Side, Link, side_after, Act, Gets, Offers, Resends, Greets, Closes, TurnsAway, offers, takes}
 use Rattle.link_laws.proofs.Offers.{offers_open}
 use Rattle.link_laws.proofs.Places.{drop_at}
@@ -108,12 +108,12 @@ with_second d programs inputs j l m v s after w more site held calm offers up ow
     }
 
 -- quiet acts of the coordinator
-pub quiet_first : (d : Draft) (programs : List Behaviour) (inputs : List Input) (j : ℕ) (l : Link) (m : Member) (v : FederateNode) (hub : Bool) (acts : List Act) → AllByRecursion (IsQuiet hub l.first.end.incarnation) acts → IsSite d programs inputs j l m v → IsSite d programs inputs j (record { first = acted l.first l.second.sent acts; second = l.second }) m v
-quiet_first d programs inputs j l m v hub acts q site =
+pub quiet_first : (d : Draft) (programs : List Behaviour) (inputs : List Input) (j : ℕ) (l : Link) (m : Member) (v : FederateNode) (is_coordinator : Bool) (acts : List Act) → AllByRecursion (IsQuiet is_coordinator l.first.end.incarnation) acts → IsSite d programs inputs j l m v → IsSite d programs inputs j (record { first = acted l.first l.second.sent acts; second = l.second }) m v
+quiet_first d programs inputs j l m v is_coordinator acts q site =
     let h = site.held in
-    let N : ℕ → Type 0 = λ x. AllByRecursion (IsQuiet hub x) acts in
+    let N : ℕ → Type 0 = λ x. AllByRecursion (IsQuiet is_coordinator x) acts in
     let C : List Frame → Type 0 = λ x. AreCalm 1 x in
-    let quiet = quiet_acts hub 1 l.first h.gone acts (subst N h.linked.here q) (subst C (sym h.sent) site.ups_calm) h.linked in
+    let quiet = quiet_acts is_coordinator 1 l.first h.gone acts (subst N h.linked.here q) (subst C (sym h.sent) site.ups_calm) h.linked in
     let S : List Frame → Type 0 = λ x. IsSite d programs inputs j (record { first = acted l.first x acts; second = l.second }) m v in
     let H : List Frame → Type 0 = λ x. IsHeld 1 (record { first = acted l.first x acts; second = l.second }) in
     subst S h.sent
@@ -191,8 +191,8 @@ takes_next i s r place k n signal signals l at is =
     let own = in_turn_is (nat_eq k s.end.incarnation) s.end.closed (nat_le n s.end.taken) (nat_eq n (s.end.taken + 1)) is in
     let mine : k ≡ i = eqb-true k s.end.incarnation own.0 ∙ l.here in
     let number : n ≡ s.end.taken + 1 = eqb-true n (s.end.taken + 1) own.1 in
-    let said = at_place (IsSaid i (offered_in i r.sent) r.end.taken) r.sent place (Data k n signal) l.back.said at in
-    let there = said mine in
+    let genuine = at_place (IsGenuine i (offered_in i r.sent) r.end.taken) r.sent place (Data k n signal) l.back.genuine at in
+    let there = genuine mine in
     let place_of : n - 1 ≡ s.end.taken = omega arith in
     let P : ℕ → Type 0 = λ x. slice_get (offered_in i r.sent) x ≡ Some signal in
     let stands = subst P place_of there.1 in

@@ -59,14 +59,14 @@ acts_take_nothing s coming (act ∷ rest) q =
     let more = acts_take_nothing (side_after s coming act) coming rest q.1 in
     record { taken = more.taken ∙ first.taken; took = more.took ∙ first.took; incarnation = more.incarnation ∙ first.incarnation }
 
-pub quiet_none : (hub : Bool) (i : ℕ) (acts : List Act) → AllByRecursion (IsQuiet hub i) acts → AllByRecursion TakesNone acts
-quiet_none hub i [] q = tt
-quiet_none hub i (Gets place is_taken ∷ rest) q = (q.0, quiet_none hub i rest q.1)
-quiet_none hub i (Offers signals ∷ rest) q = absurd q.0
-quiet_none hub i (Resends ∷ rest) q = (tt, quiet_none hub i rest q.1)
-quiet_none hub i (Greets ∷ rest) q = (tt, quiet_none hub i rest q.1)
-quiet_none hub i (Closes number ∷ rest) q = absurd q.0
-quiet_none hub i (TurnsAway k number ∷ rest) q = (tt, quiet_none hub i rest q.1)
+pub quiet_none : (is_coordinator : Bool) (i : ℕ) (acts : List Act) → AllByRecursion (IsQuiet is_coordinator i) acts → AllByRecursion TakesNone acts
+quiet_none is_coordinator i [] q = tt
+quiet_none is_coordinator i (Gets place is_taken ∷ rest) q = (q.0, quiet_none is_coordinator i rest q.1)
+quiet_none is_coordinator i (Offers signals ∷ rest) q = absurd q.0
+quiet_none is_coordinator i (Resends ∷ rest) q = (tt, quiet_none is_coordinator i rest q.1)
+quiet_none is_coordinator i (Greets ∷ rest) q = (tt, quiet_none is_coordinator i rest q.1)
+quiet_none is_coordinator i (Closes number ∷ rest) q = absurd q.0
+quiet_none is_coordinator i (TurnsAway k number ∷ rest) q = (tt, quiet_none is_coordinator i rest q.1)
 
 -- a signal in its turn is taken
 gets_took : (s : Side) (coming : List Frame) (place k n : ℕ) (signal : Signal) (signals : List Signal) (brought : List Signal) → slice_get coming place ≡ Some (Data k n signal) → answer_of s.end (Data k n signal) ≡ Ok arrival.Signal → brought ≡ signal ∷ [] → Took s (acted s coming (Gets place true ∷ Offers signals ∷ [])) brought
@@ -105,13 +105,13 @@ handed_took core s e came place q o signals brought handed comes brings p side f
         (brings q (Data handed.incarnation handed.number handed.signal) handed.is_event)
 
 -- a course at one side
-pub course_took : {View Row : Type 0} (core : Core View Row) (hub : Bool) (s : Station View) (e : Event) (came : ℕ → List Frame) (place : ℕ) (made : Stepped View) (c : IsCourse core hub s e came place made) (brought : List Signal) → Comes s came place e → ((q : ℕ) (frame : Frame) → e ≡ event.Frame q frame → brought ≡ carried_by frame) → (p : ℕ) (side : Side) → slice_get s.ends p ≡ Some side.end → Took side (acted side (came p) (c.acts p)) brought
-course_took core hub s e came place made c brought comes brings p side found =
+pub course_took : {View Row : Type 0} (core : Core View Row) (is_coordinator : Bool) (s : Station View) (e : Event) (came : ℕ → List Frame) (place : ℕ) (made : Stepped View) (c : IsCourse core is_coordinator s e came place made) (brought : List Signal) → Comes s came place e → ((q : ℕ) (frame : Frame) → e ≡ event.Frame q frame → brought ≡ carried_by frame) → (p : ℕ) (side : Side) → slice_get s.ends p ≡ Some side.end → Took side (acted side (came p) (c.acts p)) brought
+course_took core is_coordinator s e came place made c brought comes brings p side found =
     let none = (λ (q : AllByRecursion TakesNone (c.acts p)). nothing_took side (acted side (came p) (c.acts p)) brought (acts_take_nothing side (came p) (c.acts p) q)) in
     let T : List Act → Type 0 = λ x. Took side (acted side (came p) x) brought in
     let A : List Act → Type 0 = λ x. AllByRecursion TakesNone x in
     elim c.kind [
-      | quiet node plain acts ↦ none (quiet_none hub side.end.incarnation (c.acts p) (acts p side.end found))
+      | quiet node plain acts ↦ none (quiet_none is_coordinator side.end.incarnation (c.acts p) (acts p side.end found))
       | takes_kind q m handed node plain acts ↦ subst T (sym (acts p)) (handed_took core s e came place q (outcome.Done m) (sent_to p m.sent) brought handed comes brings p side found)
       | notes q handed acts ↦ subst T (sym (acts p)) (handed_took core s e came place q outcome.Nothing [] brought handed comes brings p side found)
       | says_kind m speaks node plain acts ↦ none (subst A (sym (acts p)) (tt, tt))

@@ -10,6 +10,7 @@ abbrev pub KeepsNone : {OfCoordinator OfFederate : Type 0} → World OfCoordinat
 KeepsNone w dir = IfSome (sender w dir) (λ e. e.kept ≡ [])
 
 -- so do both sides of the link of federate j
-pub record IsAcknowledged {OfCoordinator OfFederate : Type 0} (w : World OfCoordinator OfFederate) (j : ℕ) : Type 0 where
+pub record IsAcknowledged {OfCoordinator OfFederate : Type 0} (w : World OfCoordinator OfFederate)
+    (j : ℕ) : Type 0 where
   pub up : KeepsNone w (Up j)
   pub down : KeepsNone w (Down j)

@@ -1,5 +1,6 @@
 -- The world of a federation: its coordinator and its federates, and what is said of its runs.
-use Rattle.std.specs.Prelude.{◌≡◌, ℕ, Bool, true, false, ◌||◌, nat_eq, IsTrue, List, [], ◌∷◌, ◌++◌, All, Option, None, Some, slice_get}
+use Rattle.std.specs.Prelude.{◌≡◌, ℕ, Bool, true, false, ◌||◌, nat_eq, IsTrue, List, [], ◌∷◌, ◌++◌, All, Option, None}
+use Rattle.std.specs.Prelude.{Some, slice_get}
 use Rattle.std.specs.List.{list_any}
 use Rattle.tag.specs.LogicalTime.{is_before}
 use Rattle.network.specs.Undivided.{Row, whole, part}
@@ -34,16 +35,25 @@ Federation = World CoordinatorNode FederateNode
 
 -- the coordinator, as it is made
 abbrev pub initial_coordinator : Draft → CoordinatorNode
-initial_coordinator d = record { draft = d; federate_records = federate_records_listed (federate_count d) (λ j. initial_federate_record) }
+initial_coordinator d =
+    record { draft = d; federate_records = federate_records_listed (federate_count d) (λ j. initial_federate_record) }
 
 -- federate j, as it is made
 abbrev pub initial_member : Draft → List Behaviour → List Input → ℕ → FederateNode
 initial_member d programs inputs j =
-    record { draft = d; programs = programs; inputs = inputs; number = j; federate = initial_federate (network_of d programs inputs) j }
+    record {
+      draft = d;
+      programs = programs;
+      inputs = inputs;
+      number = j;
+      federate = initial_federate
+          (network_of d programs inputs) j;
+    }
 
 -- the world before the first step
 abbrev pub initial_world : Draft → List Behaviour → List Input → Federation
-initial_world d programs inputs = opened (initial_coordinator d) (federate_count d) (initial_member d programs inputs) LINK_ROOM
+initial_world d programs inputs =
+    opened (initial_coordinator d) (federate_count d) (initial_member d programs inputs) LINK_ROOM
 
 -- a step, and the world after it
 abbrev pub step_in : Federation → Step → Applied CoordinatorNode FederateNode
@@ -62,8 +72,8 @@ rows_at (Some s) = s.node.federate.rows
 abbrev pub rows_in : Federation → ℕ → List Row
 rows_in w j = rows_at (slice_get w.federates j)
 
--- a refusal that may come: a frame of another incarnation (51), one that is ahead of its turn (52), one at a closed end (55), and a
--- link without room (60)
+-- a refusal that may come: a frame of another incarnation (51), one that is ahead of its turn (52), one at a closed end
+-- (55), and a link without room (60)
 abbrev pub is_plain : ℕ → Bool
 is_plain number = nat_eq number 51 || nat_eq number 52 || nat_eq number 55 || nat_eq number 60
 
@@ -80,16 +90,19 @@ IsLaterThan rows (Ltc tag) = Unit {0}
 IsLaterThan rows (Tag tag) = Unit {0}
 IsLaterThan rows (Msg connection tag value) = All (λ row. IsTrue (is_before row.tag tag)) rows
 
--- at none of these steps does federate j, in any incarnation, take a message at a tag that it ran before, or at an earlier one
+-- at none of these steps does federate j, in any incarnation, take a message at a tag that it ran before, or at an
+-- earlier one
 abbrev pub TakesNothingLate : Draft → List Behaviour → List Input → List Step → ℕ → Type 0
 TakesNothingLate d programs inputs steps j =
     (before after : List Step) (step : Step) (incarnation : ℕ) → steps ≡ before ++ step ∷ after →
     All (IsLaterThan (rows_in (world_after d programs inputs before) j))
-    (newly_taken (world_after d programs inputs before) (step_in (world_after d programs inputs before) step).world (Down j) incarnation step)
+    (newly_taken (world_after d programs inputs before) (step_in (world_after d programs inputs before) step).world
+    (Down j) incarnation step)
 
 -- federate j's rows are a prefix of its part of what the undivided program computes in some number of turns
 abbrev pub IsPrefix : Draft → List Behaviour → List Input → Federation → ℕ → Type 0
-IsPrefix d programs inputs w j = (turns : ℕ) × order.BeginsWith (part j (whole (network_of d programs inputs) turns)) (rows_in w j)
+IsPrefix d programs inputs w j =
+    (turns : ℕ) × order.BeginsWith (part j (whole (network_of d programs inputs) turns)) (rows_in w j)
 
 -- federate j's rows begin with its part of what the undivided program computes, in however many turns
 abbrev pub IsWhole : Draft → List Behaviour → List Input → Federation → ℕ → Type 0

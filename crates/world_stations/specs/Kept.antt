@@ -41,8 +41,11 @@ IsSettled w dir (Data incarnation number signal) =
 IsSettled w dir (Ack _ _) = Unit {0}
 IsSettled w dir (Refuse _ _) = Unit {0}
 
--- a world is stuck: nobody forgot, every signal sent was taken and acknowledged, and nobody has anything to announce or to run
-pub record IsStuck {OfCoordinator OfFederate CoordinatorRow Row : Type 0} (of_coordinator : Core OfCoordinator CoordinatorRow) (of_federate : Core OfFederate Row) (w : World OfCoordinator OfFederate) : Type 0 where
+-- a world is stuck: nobody forgot, every signal sent was taken and acknowledged, and nobody has anything to announce or
+-- to run
+pub record IsStuck {OfCoordinator OfFederate CoordinatorRow Row : Type 0}
+    (of_coordinator : Core OfCoordinator CoordinatorRow) (of_federate : Core OfFederate Row)
+    (w : World OfCoordinator OfFederate) : Type 0 where
   pub kept : list_any is_forget w.steps ≡ false
   pub settled : (dir : Dir) → All (IsSettled w dir) (frames_in w dir)
   pub announced : (j : ℕ) → (applied of_coordinator of_federate w (Announce j)).outcome ≡ outcome.Nothing

@@ -4,7 +4,9 @@ use Rattle.world_stations.specs.declared.dir.Dir.TheVariants as dir
 use Rattle.world_stations.specs.declared.step.Step.{Step}
 use Rattle.world_stations.specs.declared.step.Step.TheVariants as step
 use Rattle.world_stations.specs.declared.made_steps.SmallStep.{SmallStep}
-use Rattle.world_stations.specs.declared.made_steps.SmallStep.TheVariants.{DeliverUp, DeliverDown, ResendUp, ResendDown, ReconnectUp, ReconnectDown, Announce, Advance, Forget}
+use Rattle.world_stations.specs.declared.made_steps.SmallStep.TheVariants.{DeliverUp, DeliverDown, ResendUp, ResendDown}
+use Rattle.world_stations.specs.declared.made_steps.SmallStep.TheVariants.{ReconnectUp, ReconnectDown, Announce}
+use Rattle.world_stations.specs.declared.made_steps.SmallStep.TheVariants.{Advance, Forget}
 
 -- the step that a small one is
 abbrev pub shown : SmallStep → Step
@@ -18,7 +20,7 @@ shown (Announce j) = step.Announce j
 shown (Advance j) = step.Advance j
 shown (Forget j) = step.Forget j
 
--- how many more are sure to take no memory, where so many are kept in two lists, and so many more have room in each
+-- how many more are sure to take no memory, where this many are kept in two lists, and this many more have room in each
 abbrev pub spare_of : ℕ → ℕ → ℕ → ℕ
 spare_of kept room more = min (min room more) (2 ^ 64 - 1 - kept)
 

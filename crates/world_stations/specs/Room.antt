@@ -1,5 +1,6 @@
 -- How many frames a step of a station sends, and the lists of frames ever sent, with their memory.
-use Rattle.std.specs.Prelude.{ℕ, ◌+◌, ◌<◌, ◌≤◌, if◌then◌else◌, nat_eq, List, [], ◌∷◌, length, map, get_or, slice_get, max, Option, None, Some}
+use Rattle.std.specs.Prelude.{ℕ, ◌+◌, ◌<◌, ◌≤◌, if◌then◌else◌, nat_eq, List, [], ◌∷◌, length, map, get_or, slice_get}
+use Rattle.std.specs.Prelude.{max, Option, None, Some}
 use Rattle.signal.specs.declared.frame.Frame.{Frame}
 use Rattle.link.specs.Image.{Image, room_left}
 use Rattle.node.specs.declared.outgoing.Outgoing.{Outgoing}
@@ -9,7 +10,8 @@ abbrev pub count_to : ℕ → List Outgoing → ℕ
 count_to peer [] = 0
 count_to peer (out ∷ rest) = (if nat_eq out.peer peer then 1 else 0) + count_to peer rest
 
--- at most so many frames go to a peer in one step: what is kept, sent again; or an answer, and new signals in the room that is left
+-- at most this many frames go to a peer in one step: what is kept, sent again; or an answer, and new signals in the
+-- room that is left
 abbrev pub most_of : Image → ℕ
 most_of e = max (room_left e) (length e.kept) + 1
 
@@ -18,7 +20,7 @@ abbrev pub most_to : Option Image → ℕ
 most_to None = 0
 most_to (Some e) = most_of e
 
--- and however many steps come, in each of them at most so many: an end's room stays, and what is kept stays within it
+-- and however many steps come, in each of them at most this many: an end's room stays, and what is kept stays within it
 abbrev pub most_ever_of : Image → ℕ
 most_ever_of e = max e.room (length e.kept) + 1
 
@@ -44,7 +46,7 @@ spare_at sent j = get_or (map (λ s. s.spare) sent) j 0
 abbrev pub HasSpare : List Image → List SentView → Type 0
 HasSpare ends sent = (j : ℕ) → j < length sent → most_to (slice_get ends j) ≤ spare_at sent j
 
--- in each direction that is there, so many more frames take no memory
+-- in each direction that is there, this many more frames take no memory
 abbrev pub AllSpare : ℕ → List SentView → Type 0
 AllSpare count sent = (j : ℕ) → j < length sent → count ≤ spare_at sent j
 
@@ -52,8 +54,8 @@ AllSpare count sent = (j : ℕ) → j < length sent → count ≤ spare_at sent 
 abbrev pub NoneLost : List SentView → List SentView → Type 0
 NoneLost before after = (j : ℕ) → spare_at before j ≤ spare_at after j
 
--- what is known of a station with these ends and of its directions: no step to come sends more frames in one of them than
--- `most`, and so many more as `spare` take no memory in each
+-- what is known of a station with these ends and of its directions: no step to come sends more frames in one of them
+-- than `most`, and this many more as `spare` take no memory in each
 pub record IsReserved (ends : List Image) (sent : List SentView) (most spare : ℕ) : Type 0 where
   pub bounded : (j : ℕ) → j < length sent → most_ever_to (slice_get ends j) ≤ most
   pub memory : AllSpare spare sent

@@ -54,18 +54,24 @@ brought_by w (Advance j) = []
 brought_by w (Forget j) = []
 
 -- what is taken of a direction, in an incarnation, by a step: where the number taken rises, the signal that it delivers
-abbrev pub newly_taken : {OfCoordinator OfFederate : Type 0} → World OfCoordinator OfFederate → World OfCoordinator OfFederate → Dir → (incarnation : ℕ) → Step → List Signal
+abbrev pub newly_taken : {OfCoordinator OfFederate : Type 0} → World OfCoordinator OfFederate
+    → World OfCoordinator OfFederate → Dir → (incarnation : ℕ) → Step → List Signal
 newly_taken before after dir incarnation step =
-    if nat_lt (number_taken incarnation (receiver before dir)) (number_taken incarnation (receiver after dir)) then brought_by before step else []
+    if nat_lt (number_taken incarnation (receiver before dir)) (number_taken incarnation (receiver after dir))
+    then brought_by before step else []
 
 -- what is taken of a direction, in an incarnation, by these steps, in order
-abbrev pub taken_in : {OfCoordinator OfFederate CoordinatorRow Row : Type 0} → Core OfCoordinator CoordinatorRow → Core OfFederate Row → World OfCoordinator OfFederate → Dir → (incarnation : ℕ) → List Step → List Signal
+abbrev pub taken_in : {OfCoordinator OfFederate CoordinatorRow Row : Type 0} → Core OfCoordinator CoordinatorRow
+    → Core OfFederate Row → World OfCoordinator OfFederate → Dir → (incarnation : ℕ) → List Step → List Signal
 taken_in of_coordinator of_federate w dir incarnation [] = []
 taken_in of_coordinator of_federate w dir incarnation (step ∷ steps) =
     newly_taken w (applied of_coordinator of_federate w step).world dir incarnation step ++
     taken_in of_coordinator of_federate (applied of_coordinator of_federate w step).world dir incarnation steps
 
 -- of each direction, in each incarnation, what these steps make taken is a prefix of what was offered
-abbrev pub TakesInOrder : {OfCoordinator OfFederate CoordinatorRow Row : Type 0} → Core OfCoordinator CoordinatorRow → Core OfFederate Row → World OfCoordinator OfFederate → List Step → Type 0
+abbrev pub TakesInOrder : {OfCoordinator OfFederate CoordinatorRow Row : Type 0} → Core OfCoordinator CoordinatorRow
+    → Core OfFederate Row → World OfCoordinator OfFederate → List Step → Type 0
 TakesInOrder of_coordinator of_federate w steps =
-    (dir : Dir) (incarnation : ℕ) → BeginsWith (offered_in incarnation (frames_in (after_steps of_coordinator of_federate w steps) dir)) (taken_in of_coordinator of_federate w dir incarnation steps)
+    (dir : Dir) (incarnation : ℕ) → BeginsWith
+    (offered_in incarnation (frames_in (after_steps of_coordinator of_federate w steps) dir))
+    (taken_in of_coordinator of_federate w dir incarnation steps)

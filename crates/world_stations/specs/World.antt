@@ -1,6 +1,7 @@
--- A world: the coordinator's station, each federate's, all frames ever sent, and the steps made. What each step makes of it.
--- Federate j is peer j of the coordinator; a federate's one peer is 0.
-use Rattle.std.specs.Prelude.{ℕ, zero, suc, ◌+◌, ◌^◌, Bool, true, false, ◌&&◌, if◌then◌else◌, nat_lt, List, [], ◌∷◌, ◌++◌, length, map, set, get_or, slice_get, Option, None, Some}
+-- A world: the coordinator's station, each federate's, all frames ever sent, and the steps made. What each step makes
+-- of it. Federate j is peer j of the coordinator; a federate's one peer is 0.
+use Rattle.std.specs.Prelude.{ℕ, zero, suc, ◌+◌, ◌^◌, Bool, true, false, ◌&&◌, if◌then◌else◌, nat_lt, List, [], ◌∷◌}
+use Rattle.std.specs.Prelude.{◌++◌, length, map, set, get_or, slice_get, Option, None, Some}
 use Rattle.std.specs.List.{range_with_len}
 use Rattle.signal.specs.declared.frame.Frame.{Frame}
 use Rattle.link.specs.Image.{Image, blank}
@@ -18,7 +19,8 @@ use Rattle.world_stations.specs.declared.step.Step.TheVariants.{Deliver, Resend,
 use Rattle.world_stations.specs.declared.outcome.Outcome.{Outcome}
 use Rattle.world_stations.specs.declared.outcome.Outcome.TheVariants as outcome
 
--- all stations; for each federate all frames that it ever sent, and all that were ever sent to it, oldest first; and the steps made
+-- all stations; for each federate all frames that it ever sent, and all that were ever sent to it, oldest first; and
+-- the steps made
 pub record World (OfCoordinator OfFederate : Type 0) : Type 0 where
   pub coordinator : Station OfCoordinator
   pub federates : List (Station OfFederate)
@@ -67,11 +69,13 @@ delivered dir None = None
 delivered dir (Some frame) = Some (comes dir frame)
 
 -- this happens, if there is such a federate
-abbrev pub if_there : {OfCoordinator OfFederate : Type 0} → World OfCoordinator OfFederate → ℕ → Occurrence → Option Occurrence
+abbrev pub if_there : {OfCoordinator OfFederate : Type 0} → World OfCoordinator OfFederate → ℕ → Occurrence
+    → Option Occurrence
 if_there w j occurrence = if nat_lt j (length w.federates) then Some occurrence else None
 
 -- which event a step is, and at which node; none where it doesn't apply. To forget is no event
-abbrev pub occurrence_of : {OfCoordinator OfFederate : Type 0} → World OfCoordinator OfFederate → Step → Option Occurrence
+abbrev pub occurrence_of : {OfCoordinator OfFederate : Type 0} → World OfCoordinator OfFederate → Step
+    → Option Occurrence
 occurrence_of w (Deliver dir k) = delivered dir (frame_at (frames_in w dir) k)
 occurrence_of w (Resend dir) = if_there w (federate_of dir) (sends_again dir)
 occurrence_of w (Reconnect dir) = if_there w (federate_of dir) (greets dir)
@@ -102,11 +106,13 @@ pub record Applied (OfCoordinator OfFederate : Type 0) : Type 0 where
   pub outcome : Outcome
 
 -- nothing happens
-abbrev pub unchanged : {OfCoordinator OfFederate : Type 0} → World OfCoordinator OfFederate → Applied OfCoordinator OfFederate
+abbrev pub unchanged : {OfCoordinator OfFederate : Type 0} → World OfCoordinator OfFederate
+    → Applied OfCoordinator OfFederate
 unchanged w = record { world = w; outcome = outcome.Nothing }
 
 -- the world after a step of the coordinator's station
-abbrev pub after_coordinator : {OfCoordinator OfFederate : Type 0} → World OfCoordinator OfFederate → Stepped OfCoordinator → Applied OfCoordinator OfFederate
+abbrev pub after_coordinator : {OfCoordinator OfFederate : Type 0} → World OfCoordinator OfFederate
+    → Stepped OfCoordinator → Applied OfCoordinator OfFederate
 after_coordinator w stepped =
     record {
       world = record w { coordinator = stepped.station; down = sent_out w.down (frames_of stepped.answer) };
@@ -114,7 +120,8 @@ after_coordinator w stepped =
     }
 
 -- the world after a step of federate j's station
-abbrev pub after_federate : {OfCoordinator OfFederate : Type 0} → World OfCoordinator OfFederate → ℕ → Stepped OfFederate → Applied OfCoordinator OfFederate
+abbrev pub after_federate : {OfCoordinator OfFederate : Type 0} → World OfCoordinator OfFederate → ℕ
+    → Stepped OfFederate → Applied OfCoordinator OfFederate
 after_federate w j stepped =
     record {
       world =
@@ -126,17 +133,20 @@ after_federate w j stepped =
     }
 
 -- an event at federate j's station, if there is one
-abbrev pub at_federate : {OfCoordinator OfFederate Row : Type 0} → Core OfFederate Row → World OfCoordinator OfFederate → ℕ → Event → Option (Station OfFederate) → Applied OfCoordinator OfFederate
+abbrev pub at_federate : {OfCoordinator OfFederate Row : Type 0} → Core OfFederate Row → World OfCoordinator OfFederate
+    → ℕ → Event → Option (Station OfFederate) → Applied OfCoordinator OfFederate
 at_federate of_federate w j e None = unchanged w
 at_federate of_federate w j e (Some s) = after_federate w j (step_of of_federate false s e)
 
 -- an event at a node: one step of its station
-abbrev pub at_node : {OfCoordinator OfFederate CoordinatorRow Row : Type 0} → Core OfCoordinator CoordinatorRow → Core OfFederate Row → World OfCoordinator OfFederate → NodeId → Event → Applied OfCoordinator OfFederate
+abbrev pub at_node : {OfCoordinator OfFederate CoordinatorRow Row : Type 0} → Core OfCoordinator CoordinatorRow
+    → Core OfFederate Row → World OfCoordinator OfFederate → NodeId → Event → Applied OfCoordinator OfFederate
 at_node of_coordinator of_federate w Coordinator e = after_coordinator w (step_of of_coordinator true w.coordinator e)
 at_node of_coordinator of_federate w (Federate j) e = at_federate of_federate w j e (slice_get w.federates j)
 
 -- an event, if there is one
-abbrev pub happens : {OfCoordinator OfFederate CoordinatorRow Row : Type 0} → Core OfCoordinator CoordinatorRow → Core OfFederate Row → World OfCoordinator OfFederate → Option Occurrence → Applied OfCoordinator OfFederate
+abbrev pub happens : {OfCoordinator OfFederate CoordinatorRow Row : Type 0} → Core OfCoordinator CoordinatorRow
+    → Core OfFederate Row → World OfCoordinator OfFederate → Option Occurrence → Applied OfCoordinator OfFederate
 happens of_coordinator of_federate w None = unchanged w
 happens of_coordinator of_federate w (Some o) = at_node of_coordinator of_federate w o.node o.event
 
@@ -154,7 +164,8 @@ has_next [] = true
 has_next (e ∷ ends) = nat_lt (e.incarnation + 1) (2 ^ 32) && has_next ends
 
 -- federate j forgets all, if there is one and there is a next incarnation; the frames sent stay
-abbrev pub forgets : {OfCoordinator OfFederate Row : Type 0} → Core OfFederate Row → World OfCoordinator OfFederate → ℕ → Option (Station OfFederate) → Applied OfCoordinator OfFederate
+abbrev pub forgets : {OfCoordinator OfFederate Row : Type 0} → Core OfFederate Row → World OfCoordinator OfFederate → ℕ
+    → Option (Station OfFederate) → Applied OfCoordinator OfFederate
 forgets of_federate w j None = unchanged w
 forgets of_federate w j (Some s) =
     if has_next s.ends
@@ -162,25 +173,31 @@ forgets of_federate w j (Some s) =
     else unchanged w
 
 -- what a step does, but for the list of steps
-abbrev pub does : {OfCoordinator OfFederate CoordinatorRow Row : Type 0} → Core OfCoordinator CoordinatorRow → Core OfFederate Row → World OfCoordinator OfFederate → Step → Applied OfCoordinator OfFederate
+abbrev pub does : {OfCoordinator OfFederate CoordinatorRow Row : Type 0} → Core OfCoordinator CoordinatorRow
+    → Core OfFederate Row → World OfCoordinator OfFederate → Step → Applied OfCoordinator OfFederate
 does of_coordinator of_federate w (Forget j) = forgets of_federate w j (slice_get w.federates j)
 does of_coordinator of_federate w step = happens of_coordinator of_federate w (occurrence_of w step)
 
 -- every step is listed, also one that is refused or doesn't apply
-abbrev pub listed : {OfCoordinator OfFederate : Type 0} → Step → Applied OfCoordinator OfFederate → Applied OfCoordinator OfFederate
+abbrev pub listed : {OfCoordinator OfFederate : Type 0} → Step → Applied OfCoordinator OfFederate
+    → Applied OfCoordinator OfFederate
 listed step made = record made { world = record made.world { steps = made.world.steps ++ step ∷ [] } }
 
 -- a step
-abbrev pub applied : {OfCoordinator OfFederate CoordinatorRow Row : Type 0} → Core OfCoordinator CoordinatorRow → Core OfFederate Row → World OfCoordinator OfFederate → Step → Applied OfCoordinator OfFederate
+abbrev pub applied : {OfCoordinator OfFederate CoordinatorRow Row : Type 0} → Core OfCoordinator CoordinatorRow
+    → Core OfFederate Row → World OfCoordinator OfFederate → Step → Applied OfCoordinator OfFederate
 applied of_coordinator of_federate w step = listed step (does of_coordinator of_federate w step)
 
 -- the world after steps, made one after the other
-abbrev pub after_steps : {OfCoordinator OfFederate CoordinatorRow Row : Type 0} → Core OfCoordinator CoordinatorRow → Core OfFederate Row → World OfCoordinator OfFederate → List Step → World OfCoordinator OfFederate
+abbrev pub after_steps : {OfCoordinator OfFederate CoordinatorRow Row : Type 0} → Core OfCoordinator CoordinatorRow
+    → Core OfFederate Row → World OfCoordinator OfFederate → List Step → World OfCoordinator OfFederate
 after_steps of_coordinator of_federate w [] = w
-after_steps of_coordinator of_federate w (step ∷ steps) = after_steps of_coordinator of_federate (applied of_coordinator of_federate w step).world steps
+after_steps of_coordinator of_federate w (step ∷ steps) =
+    after_steps of_coordinator of_federate (applied of_coordinator of_federate w step).world steps
 
--- a world of which nothing was asked yet: so many federates, each with this node, and the room of each link end
-abbrev pub opened : {OfCoordinator OfFederate : Type 0} → OfCoordinator → ℕ → (ℕ → OfFederate) → ℕ → World OfCoordinator OfFederate
+-- a world of which nothing was asked yet: this many federates, each with this node, and the room of each link end
+abbrev pub opened : {OfCoordinator OfFederate : Type 0} → OfCoordinator → ℕ → (ℕ → OfFederate) → ℕ
+    → World OfCoordinator OfFederate
 opened of_coordinator count federate_at room =
     record {
       coordinator = record { node = of_coordinator; ends = map (λ j. blank j 1 room) (range_with_len 0 count) };

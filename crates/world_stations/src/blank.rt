@@ -9,7 +9,8 @@ use std::alloc::Global;
 
 // A blank end in the place of this one, with the next incarnation; None where there is none.
 fn next_end(alloc: Global, end: &LinkEnd) -> Option<LinkEnd>
-    ensures { option_map (λ e. e.image) result ≡ (if nat_lt (end.now.image.incarnation + 1) (2 ^ 32) then Some (blank_next end.now.image) else None) }
+    ensures { option_map (λ e. e.image) result
+        ≡ (if nat_lt (end.now.image.incarnation + 1) (2 ^ 32) then Some (blank_next end.now.image) else None) }
 {
     let incarnation = end.incarnation().checked_add(1)?;
     Some(LinkEnd::new(alloc, end.federate(), incarnation, end.room()))
@@ -21,7 +22,8 @@ pub(crate) fn forgotten<M: Blank>(
     station: &Station<M>,
 ) -> Result<Option<Station<M>>, Memory>
     requires { length station.now.ends ≡ 1 }
-    ensures { IfOk result (λ blank. blank ≡ (if has_next station.now.ends then Some (forgotten M.core station.now) else None)) }
+    ensures { IfOk result (λ blank. blank
+        ≡ (if has_next station.now.ends then Some (forgotten M.core station.now) else None)) }
 {
     let Some(end) = station.end(0) else {
         return Ok(None);

@@ -1,7 +1,9 @@
 //! The frames of all directions from or to the coordinator, by federate.
-ghost use Rattle.std.specs.Prelude.{◌≡◌, ℕ, ◌+◌, ◌<◌, ◌≤◌, ◌++◌, ◌∷◌, [], if◌then◌else◌, nat_eq, length, map, set, get_or, slice_get, replicate, OnOk, IfOk};
+ghost use Rattle.std.specs.Prelude.{◌≡◌, ℕ, ◌+◌, ◌<◌, ◌≤◌, ◌++◌, ◌∷◌, [], if◌then◌else◌, nat_eq, length, map, set};
+ghost use Rattle.std.specs.Prelude.{get_or, slice_get, replicate, OnOk, IfOk};
 ghost use Rattle.world_stations.specs.World.{sent_out, frame_at};
-ghost use Rattle.world_stations.specs.Room.{most_to, most_ever_to, frames_of_each, spare_at, AllSpare, IsReserved, NoneLost, Fits};
+ghost use Rattle.world_stations.specs.Room.{most_to, most_ever_to, frames_of_each, spare_at, AllSpare, IsReserved};
+ghost use Rattle.world_stations.specs.Room.{NoneLost, Fits};
 
 use crate::memory::Memory;
 use crate::sent::Sent;
@@ -43,8 +45,8 @@ fn most_ever<N: Node>(station: &Station<N>, peers: usize) -> Result<usize, Memor
     Ok(most)
 }
 
-// Memory for so many frames in each direction. Where there is less, it is taken twice over, so that it is seldom asked
-// for. The answer is for how many there is now.
+// Memory for this many frames in each direction. Where there is less, it is taken twice over, so that it is seldom
+// asked for. The answer is for how many there is now.
 pub(crate) fn reserve_ahead(
     sent: &mut Vec<Sent>,
     most: usize,
@@ -65,7 +67,7 @@ pub(crate) fn reserve_ahead(
     Ok(count)
 }
 
-// Memory for so many frames in each direction.
+// Memory for this many frames in each direction.
 fn reserve_each(sent: &mut Vec<Sent>, count: usize) -> Result<(), Memory>
     ensures memory { OnOk result (AllSpare count sent.new.items) }
     ensures none_lost { NoneLost sent.old.items sent.new.items }
@@ -78,7 +80,7 @@ fn reserve_each(sent: &mut Vec<Sent>, count: usize) -> Result<(), Memory>
     Ok(())
 }
 
-// Memory for so many frames in one direction.
+// Memory for this many frames in one direction.
 pub(crate) fn reserve_at(sent: &mut Vec<Sent>, place: usize, count: usize) -> Result<(), Memory>
     ensures spare { OnOk result (place < length sent.new.items → count ≤ spare_at sent.new.items place) }
     ensures none_lost { NoneLost sent.old.items sent.new.items }
@@ -97,7 +99,8 @@ pub(crate) fn reserve_first<N: Node>(
     place: usize,
     station: &Station<N>,
 ) -> Result<(), Memory>
-    ensures spare { OnOk result (place < length sent.new.items → most_to (slice_get station.now.ends 0) ≤ spare_at sent.new.items place) }
+    ensures spare { OnOk result (place < length sent.new.items
+        → most_to (slice_get station.now.ends 0) ≤ spare_at sent.new.items place) }
     ensures frames { frames_of_each sent.new.items ≡ frames_of_each sent.old.items }
     ensures len { length sent.new.items ≡ length sent.old.items }
 {
@@ -107,8 +110,10 @@ pub(crate) fn reserve_first<N: Node>(
 // A frame in a direction, if that is there.
 fn append(sent: &mut Vec<Sent>, place: usize, frame: Frame)
     requires { place < length sent.old.items → 0 < spare_at sent.old.items place }
-    ensures frames { frames_of_each sent.new.items ≡ set (frames_of_each sent.old.items) place (get_or (frames_of_each sent.old.items) place [] ++ frame ∷ []) }
-    ensures one_used { (j : ℕ) → spare_at sent.old.items j ≤ spare_at sent.new.items j + (if nat_eq place j then 1 else 0) }
+    ensures frames { frames_of_each sent.new.items
+        ≡ set (frames_of_each sent.old.items) place (get_or (frames_of_each sent.old.items) place [] ++ frame ∷ []) }
+    ensures one_used { (j : ℕ) → spare_at sent.old.items j
+        ≤ spare_at sent.new.items j + (if nat_eq place j then 1 else 0) }
     ensures len { length sent.new.items ≡ length sent.old.items }
 {
     if let Some(direction) = sent.get_mut(place) {
@@ -131,7 +136,9 @@ pub(crate) fn append_each(sent: &mut Vec<Sent>, outgoing: &[Outgoing])
 // All frames in one direction.
 pub(crate) fn append_all(sent: &mut Vec<Sent>, place: usize, outgoing: &[Outgoing])
     requires { place < length sent.old.items → length outgoing.now ≤ spare_at sent.old.items place }
-    ensures { frames_of_each sent.new.items ≡ set (frames_of_each sent.old.items) place (get_or (frames_of_each sent.old.items) place [] ++ map (λ out. out.frame) outgoing.now) }
+    ensures { frames_of_each sent.new.items
+        ≡ set (frames_of_each sent.old.items) place
+        (get_or (frames_of_each sent.old.items) place [] ++ map (λ out. out.frame) outgoing.now) }
 {
     for out in outgoing {
         append(sent, place, out.frame);
@@ -147,7 +154,7 @@ pub(crate) struct Directions {
     pub(crate) most: usize,
 }
 
-// No frame in each direction from and to so many federates.
+// No frame in each direction from and to this many federates.
 pub(crate) fn none_used<N: Node>(
     alloc: Global,
     coordinator: &Station<N>,
@@ -155,7 +162,8 @@ pub(crate) fn none_used<N: Node>(
 ) -> Result<Directions, Memory>
     ensures up { IfOk result (λ directions. frames_of_each directions.up.items ≡ replicate count []) }
     ensures down { IfOk result (λ directions. frames_of_each directions.down.items ≡ replicate count []) }
-    ensures reserved { IfOk result (λ directions. IsReserved coordinator.now.ends directions.down.items directions.most 0) }
+    ensures reserved { IfOk result
+        (λ directions. IsReserved coordinator.now.ends directions.down.items directions.most 0) }
 {
     let most = most_ever(coordinator, count)?;
     let up = none_sent(alloc, count)?;
@@ -163,7 +171,7 @@ pub(crate) fn none_used<N: Node>(
     Ok(Directions { up, down, most })
 }
 
-// No frame in each of so many directions.
+// No frame in each of this many directions.
 fn none_sent(alloc: Global, count: usize) -> Result<Vec<Sent>, Memory>
     ensures { IfOk result (λ sent. frames_of_each sent.items ≡ replicate count []) }
 {

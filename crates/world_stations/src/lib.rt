@@ -1,8 +1,9 @@
-//! A world of any nodes: all stations, all frames that they ever sent, and the steps made; and what holds of a federation's.
+//! A world of any nodes: all stations, all frames that they ever sent, and the steps made; and what holds of a
+//! federation's.
 //!
-//! Promise to the layer above: each step is the definition's (`specs/World`), whatever the nodes do, and a step without memory
-//! changes nothing. And laws: whatever frames are lost, repeated or come out of order, and whoever forgets, each federate that
-//! keeps its state computes a prefix of what the undivided program computes.
+//! Promise to the layer above: each step is the definition's (`specs/World`), whatever the nodes do, and a step without
+//! memory changes nothing. And laws: whatever frames are lost, repeated or come out of order, and whoever forgets, each
+//! federate that keeps its state computes a prefix of what the undivided program computes.
 //!
 //!     Step --> Stations::apply --> occurrence     which event is it, and at which station?
 //!                    |
@@ -11,8 +12,8 @@
 //!                    +-----------> append         what it sends, after all that was sent before
 //!     Outcome <------+
 //!
-//! Begin with `specs/World` and `specs/Federation`, then `world_laws` and `stations`; `sent` keeps the frames of one direction,
-//! `made_steps` the steps, and `blank` makes a station that forgot all.
+//! Begin with `specs/World` and `specs/Federation`, then `world_laws` and `stations`; `sent` keeps the frames of one
+//! direction, `made_steps` the steps, and `blank` makes a station that forgot all.
 #![tactic(auto)]
 
 mod blank;

@@ -1,5 +1,7 @@
-//! The steps that were made. A world keeps all of them, so each of them takes little memory while their numbers are small.
-ghost use Rattle.std.specs.Prelude.{◌≡◌, ◌+◌, ◌<◌, ◌++◌, ◌∷◌, [], length, drop, map, slice_get, vec_len, OnOk, OnErr, IfOk, IfSome};
+//! The steps that were made. A world keeps all of them, so each of them takes little memory while their numbers are
+//! small.
+ghost use Rattle.std.specs.Prelude.{◌≡◌, ◌+◌, ◌<◌, ◌++◌, ◌∷◌, [], length, drop, map, slice_get, vec_len, OnOk, OnErr};
+ghost use Rattle.std.specs.Prelude.{IfOk, IfSome};
 ghost use Rattle.std.specs.List.{list_any};
 ghost use Rattle.std.specs.Vec.{vec_capacity};
 ghost use Rattle.world_stations.specs.Kept.{is_kept, is_forget_of};
@@ -70,14 +72,14 @@ impl MadeSteps {
         self.count
     }
 
-    /// The one after so many others; None where there is none.
+    /// The one after this many others; None where there is none.
     pub fn get(&self, place: usize) -> Option<Step>
         ensures { result ≡ slice_get self.now.steps place }
     {
         step_at(self.small.as_slice(), self.rest.as_slice(), place)
     }
 
-    /// Those after so many of the first, in a list of their own.
+    /// Those after this many of the first, in a list of their own.
     pub fn after(&self, before: usize) -> Result<Vec<Step>, Memory>
         ensures { IfOk result (λ steps. steps.items ≡ drop before self.now.steps) }
     {
@@ -112,7 +114,7 @@ impl MadeSteps {
         ensures spare { OnOk result (0 < self.new.spare) }
         ensures steps { self.new.steps ≡ self.old.steps }
     {
-        // No memory has room for so many.
+        // No memory has room for this many.
         if self.count == usize::MAX {
             return Err(Memory);
         }
@@ -131,7 +133,8 @@ impl MadeSteps {
     }
 }
 
-/// The one after so many others, where all from the first one on whose numbers aren't small stand behind the small ones.
+/// The one after this many others, where all from the first one on whose numbers aren't small stand behind the small
+/// ones.
 fn step_at(small: &[SmallStep], rest: &[Step], place: usize) -> Option<Step>
     ensures { result ≡ slice_get (map shown small.now ++ rest.now) place }
 {
@@ -145,7 +148,8 @@ fn step_at(small: &[SmallStep], rest: &[Step], place: usize) -> Option<Step>
 fn put_last(small: &mut Vec<SmallStep>, rest: &mut Vec<Step>, step: Step)
     requires small { vec_len small.old < vec_capacity small.old }
     requires rest { vec_len rest.old < vec_capacity rest.old }
-    ensures steps { map shown small.new.items ++ rest.new.items ≡ (map shown small.old.items ++ rest.old.items) ++ step ∷ [] }
+    ensures steps { map shown small.new.items ++ rest.new.items
+        ≡ (map shown small.old.items ++ rest.old.items) ++ step ∷ [] }
     ensures count { vec_len small.new + vec_len rest.new ≡ vec_len small.old + vec_len rest.old + 1 }
 {
     match small_of(step) {

@@ -1,6 +1,6 @@
 //! What a station's reply says.
 ghost use Rattle.std.specs.Prelude.{◌≡◌};
-ghost use Rattle.node.specs.Step.{said};
+ghost use Rattle.node.specs.Step.{answer_in};
 ghost use Rattle.world_stations.specs.World.{outcome_of, frames_of};
 
 use crate::Outcome;
@@ -8,7 +8,7 @@ use node::{Outgoing, Reply};
 
 // How it is printed.
 pub(crate) fn outcome_of(reply: &Reply) -> Outcome
-    ensures { result ≡ outcome_of (said reply.now) }
+    ensures { result ≡ outcome_of (answer_in reply.now) }
 {
     match reply {
         Reply::Nothing => Outcome::Nothing,
@@ -19,7 +19,7 @@ pub(crate) fn outcome_of(reply: &Reply) -> Outcome
 
 // The frames that go out.
 pub(crate) fn frames_of(reply: &Reply) -> &[Outgoing]
-    ensures { result.now ≡ frames_of (said reply.now) }
+    ensures { result.now ≡ frames_of (answer_in reply.now) }
 {
     match reply {
         Reply::Nothing => &[],

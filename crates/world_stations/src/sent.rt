@@ -50,7 +50,7 @@ impl Sent {
         self.frames.get(before).copied()
     }
 
-    /// Sees that so many frames can be put without memory.
+    /// Sees that this many frames can be put without memory.
     pub(crate) fn reserve(&mut self, count: usize) -> Result<(), Memory>
         ensures spare { OnOk result (count ≤ self.new.spare) }
         ensures none_lost { self.old.spare ≤ self.new.spare }

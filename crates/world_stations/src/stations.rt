@@ -1,7 +1,9 @@
-ghost use Rattle.std.specs.Prelude.{◌≡◌, ◌↔◌, ℕ, take, ◌<◌, ◌≤◌, ◌++◌, ◌∷◌, [], true, false, length, set, slice_get, option_map, IsTrue, IfOk, IfSome, OnOk, OnErr, Some};
+ghost use Rattle.std.specs.Prelude.{◌≡◌, ◌↔◌, ℕ, take, ◌<◌, ◌≤◌, ◌++◌, ◌∷◌, [], true, false, length, set, slice_get};
+ghost use Rattle.std.specs.Prelude.{option_map, IsTrue, IfOk, IfSome, OnOk, OnErr, Some};
 ghost use Rattle.link.specs.Image.{room_left};
-ghost use Rattle.node.specs.Step.{Station as StationOf, said, step_of};
-ghost use Rattle.world_stations.specs.World.{applied, after_steps, occurrence_of, frames_in, frame_at, at_node, happens, forgets, listed, unchanged};
+ghost use Rattle.node.specs.Step.{Station as StationOf, answer_in, step_of};
+ghost use Rattle.world_stations.specs.World.{applied, after_steps, occurrence_of, frames_in, frame_at, at_node};
+ghost use Rattle.world_stations.specs.World.{happens, forgets, listed, unchanged};
 ghost use Rattle.world_stations.specs.Kept.{is_kept};
 ghost use Rattle.world_stations.specs.Taken.{sender};
 ghost use Rattle.node.specs.declared.node_id.NodeId.TheVariants as NodeIds;
@@ -36,7 +38,7 @@ pub struct Stations<H: Node, M: Blank> {
     down: Vec<Sent>,
     // No step of the coordinator sends more frames to one federate.
     most: usize,
-    // So many more frames take no memory in each direction from the coordinator.
+    // This many more frames take no memory in each direction from the coordinator.
     spare: usize,
     steps: MadeSteps,
 }
@@ -56,7 +58,8 @@ impl<H: Node, M: Blank> Model for Stations<H, M> {
       steps = w.steps.steps;
     } };
 
-    ghost invariant = { λ w. IsWorld H.HUB M.HUB w.federates.items × IsReserved w.coordinator.ends w.down.items w.most w.spare };
+    ghost invariant = { λ w. IsWorld H.IS_COORDINATOR M.IS_COORDINATOR w.federates.items
+        × IsReserved w.coordinator.ends w.down.items w.most w.spare };
 }
 
 impl<H: Node, M: Blank> Stations<H, M> {
@@ -66,8 +69,8 @@ impl<H: Node, M: Blank> Stations<H, M> {
         coordinator: Station<H>,
         federates: Vec<Station<M>>,
     ) -> Result<Stations<H, M>, Memory>
-        requires coordinator { H.HUB ≡ true }
-        requires federate { M.HUB ≡ false }
+        requires coordinator { H.IS_COORDINATOR ≡ true }
+        requires federate { M.IS_COORDINATOR ≡ false }
         requires one_peer { HaveOnePeer federates.items }
         ensures { IfOk result (λ w. w ≡ unused coordinator federates.items) }
     {
@@ -150,10 +153,11 @@ impl<H: Node, M: Blank> Stations<H, M> {
         self.keeps_none(Dir::Up(federate)) && self.keeps_none(Dir::Down(federate))
     }
 
-    /// Makes one step. It is listed also where it is refused or doesn't apply; without memory the world is as before, and
-    /// the same step may come again.
+    /// Makes one step. It is listed also where it is refused or doesn't apply; without memory the world is as before,
+    /// and the same step may come again.
     pub fn apply(&mut self, step: Step) -> Result<Outcome, Memory>
-        ensures done { IfOk result (λ outcome. record { world = self.new; outcome = outcome } ≡ applied H.core M.core self.old step) }
+        ensures done { IfOk result (λ outcome. record { world = self.new; outcome = outcome }
+            ≡ applied H.core M.core self.old step) }
         ensures unchanged { OnErr result (self.new ≡ self.old) }
     {
         match step {
@@ -165,7 +169,8 @@ impl<H: Node, M: Blank> Stations<H, M> {
     /// Makes steps, one after the other. Without memory those before the refused one stay made.
     pub fn run(&mut self, steps: &[Step]) -> Result<(), Memory>
         ensures done { OnOk result (self.new ≡ after_steps H.core M.core self.old steps.now) }
-        ensures refused { OnErr result ((n : ℕ) × (n < length steps.now) × (self.new ≡ after_steps H.core M.core self.old (take n steps.now))) }
+        ensures refused { OnErr result
+            ((n : ℕ) × (n < length steps.now) × (self.new ≡ after_steps H.core M.core self.old (take n steps.now))) }
     {
         for step in steps {
             self.apply(*step)?;
@@ -221,7 +226,8 @@ impl<H: Node, M: Blank> Stations<H, M> {
 
     // A step that changes nothing.
     fn pass(&mut self, step: Step) -> Result<Outcome, Memory>
-        ensures done { IfOk result (λ outcome. record { world = self.new; outcome = outcome } ≡ listed step (unchanged self.old)) }
+        ensures done { IfOk result (λ outcome. record { world = self.new; outcome = outcome }
+            ≡ listed step (unchanged self.old)) }
         ensures unchanged { OnErr result (self.new ≡ self.old) }
     {
         self.steps.push(step)?;
@@ -230,7 +236,8 @@ impl<H: Node, M: Blank> Stations<H, M> {
 
     // A step other than Forget.
     fn happen(&mut self, step: Step) -> Result<Outcome, Memory>
-        ensures done { IfOk result (λ outcome. record { world = self.new; outcome = outcome } ≡ listed step (happens H.core M.core self.old (occurrence_of self.old step))) }
+        ensures done { IfOk result (λ outcome. record { world = self.new; outcome = outcome }
+            ≡ listed step (happens H.core M.core self.old (occurrence_of self.old step))) }
         ensures unchanged { OnErr result (self.new ≡ self.old) }
     {
         match self.occurrence(step) {
@@ -252,7 +259,8 @@ impl<H: Node, M: Blank> Stations<H, M> {
 
     // An event at the coordinator.
     fn at_coordinator(&mut self, event: Event, step: Step) -> Result<Outcome, Memory>
-        ensures done { IfOk result (λ outcome. record { world = self.new; outcome = outcome } ≡ listed step (at_node H.core M.core self.old NodeIds.Coordinator event)) }
+        ensures done { IfOk result (λ outcome. record { world = self.new; outcome = outcome }
+            ≡ listed step (at_node H.core M.core self.old NodeIds.Coordinator event)) }
         ensures unchanged { OnErr result (self.new ≡ self.old) }
     {
         self.steps.reserve()?;
@@ -269,7 +277,8 @@ impl<H: Node, M: Blank> Stations<H, M> {
 
     // An event at a federate.
     fn at_federate(&mut self, federate: usize, event: Event, step: Step) -> Result<Outcome, Memory>
-        ensures done { IfOk result (λ outcome. record { world = self.new; outcome = outcome } ≡ listed step (at_node H.core M.core self.old (NodeIds.Federate federate) event)) }
+        ensures done { IfOk result (λ outcome. record { world = self.new; outcome = outcome }
+            ≡ listed step (at_node H.core M.core self.old (NodeIds.Federate federate) event)) }
         ensures unchanged { OnErr result (self.new ≡ self.old) }
     {
         let Some(station) = station_at(&self.federates, federate) else {
@@ -287,7 +296,8 @@ impl<H: Node, M: Blank> Stations<H, M> {
 
     // A federate loses its state.
     fn forget(&mut self, federate: usize, step: Step) -> Result<Outcome, Memory>
-        ensures done { IfOk result (λ outcome. record { world = self.new; outcome = outcome } ≡ listed step (forgets M.core self.old federate (slice_get self.old.federates federate))) }
+        ensures done { IfOk result (λ outcome. record { world = self.new; outcome = outcome }
+            ≡ listed step (forgets M.core self.old federate (slice_get self.old.federates federate))) }
         ensures unchanged { OnErr result (self.new ≡ self.old) }
     {
         let Some(station) = self.federate(federate) else {
@@ -303,7 +313,11 @@ impl<H: Node, M: Blank> Stations<H, M> {
     fn put(&mut self, federate: usize, station: Station<M>, step: Step) -> Result<Outcome, Memory>
         requires there { federate < length self.old.federates }
         requires one_peer { length station.ends ≡ 1 }
-        ensures done { IfOk result (λ outcome. record { world = self.new; outcome = outcome } ≡ listed step (record { world = record self.old { federates = set self.old.federates federate station }; outcome = Outcomes.Done })) }
+        ensures done { IfOk result (λ outcome. record { world = self.new; outcome = outcome }
+            ≡ listed step (record {
+              world = record self.old { federates = set self.old.federates federate station };
+              outcome = Outcomes.Done;
+            })) }
         ensures unchanged { OnErr result (self.new ≡ self.old) }
     {
         self.steps.push(step)?;
@@ -335,8 +349,11 @@ fn step_at<M: Node>(
     event: Event,
 ) -> Result<Reply, node::Memory>
     requires there { federate < length federates.old.items }
-    ensures said { (s : StationOf M) → slice_get federates.old.items federate ≡ Some s → IfOk result (λ reply. said reply ≡ (step_of M.core M.HUB s event).answer) }
-    ensures stepped { (s : StationOf M) → slice_get federates.old.items federate ≡ Some s → OnOk result (federates.new.items ≡ set federates.old.items federate (step_of M.core M.HUB s event).station) }
+    ensures answer { (s : StationOf M) → slice_get federates.old.items federate ≡ Some s
+        → IfOk result (λ reply. answer_in reply ≡ (step_of M.core M.IS_COORDINATOR s event).answer) }
+    ensures stepped { (s : StationOf M) → slice_get federates.old.items federate ≡ Some s
+        → OnOk result (federates.new.items
+        ≡ set federates.old.items federate (step_of M.core M.IS_COORDINATOR s event).station) }
     ensures unchanged { OnErr result (federates.new.items ≡ federates.old.items) }
 {
     federates[federate].step(event)

@@ -13,6 +13,7 @@ pub enum Step {
     Announce(usize),
     /// A federate runs what comes next, if it may.
     Advance(usize),
-    /// A federate loses its state: a blank one with the next incarnation stands in its place. Where there is none, it doesn't.
+    /// A federate loses its state: a blank one with the next incarnation stands in its place. Where there is none, it
+    /// doesn't.
     Forget(usize),
 }

@@ -1,8 +1,8 @@
 use Rattle.std.proofs.Common.{◌+◌, drop}
 use Rattle.network_laws.proofs.Lists.{from_each}
-use Rattle.link_laws.specs.Way.{IsSaid}
+use Rattle.link_laws.specs.Way.{IsGenuine}
 use Rattle.signal.specs.Batch.{numbered}
-use Rattle.link_laws.proofs.Ways.{way_with_more, way_with_old, resent_said}
+use Rattle.link_laws.proofs.Ways.{way_with_more, way_with_old, resent_genuine}
 use Rattle.link_laws.proofs.a_direction_says_what_it_offered.Goals as goal
 
 pub returns-clause-more : goal.returns-clause-more
@@ -12,4 +12,4 @@ pub returns-clause-old : goal.returns-clause-old
 returns-clause-old c = way_with_old
 
 pub returns-clause-resent : goal.returns-clause-resent
-returns-clause-resent c = λ i k most offered l. from_each (IsSaid i offered most) (numbered i (k + 1) (drop k offered)) (resent_said i k most offered l)
+returns-clause-resent c = λ i k most offered l. from_each (IsGenuine i offered most) (numbered i (k + 1) (drop k offered)) (resent_genuine i k most offered l)

@@ -41,7 +41,8 @@ pub(super) fn expression(
 }
 
 fn operator(token: &[u8]) -> Option<Operator>
-    ensures { MatchOption result ((operator : Operator) → token.now ≢ operator_token operator) (λ operator. token.now ≡ operator_token operator) }
+    ensures { MatchOption result ((operator : Operator) → token.now ≢ operator_token operator)
+        (λ operator. token.now ≡ operator_token operator) }
 {
     match token {
         b"+" => Some(Operator::Plus),

@@ -22,7 +22,8 @@ use tag_text::parse_duration;
 /// The statement that begins with `schedule`: an action, a duration, and an operand.
 pub(super) fn schedule(slots: &Slots, states: &[State], text: &[u8]) -> Result<Statement, LineFault>
     requires { IsWithinLimits slots.now }
-    ensures { IsReading (λ w. SpellsStatement w (codes "schedule" ∷ tokens_of text.now)) (statement_of slots.now states.now) result }
+    ensures { IsReading (λ w. SpellsStatement w (codes "schedule" ∷ tokens_of text.now))
+        (statement_of slots.now states.now) result }
 {
     let Some((action, rest)) = next_token(text) else {
         return Err(LineFault::NoForm);
@@ -38,7 +39,8 @@ pub(super) fn schedule(slots: &Slots, states: &[State], text: &[u8]) -> Result<S
 
 /// The duration that a text begins with, in one token or in two, and the one token after it.
 fn timed(text: &[u8]) -> Option<(Time, &[u8])>
-    ensures { MatchOption result ((time : ℕ) (token : List ℕ) → IsTimed text.now time token → ⊥) (λ parts. IsTimed text.now parts.0 parts.1.now) }
+    ensures { MatchOption result ((time : ℕ) (token : List ℕ) → IsTimed text.now time token → ⊥)
+        (λ parts. IsTimed text.now parts.0 parts.1.now) }
 {
     let (first, rest) = next_token(text)?;
     if let Some(value) = only_token(rest) {
@@ -51,7 +53,8 @@ fn timed(text: &[u8]) -> Option<(Time, &[u8])>
 
 /// The time that a text as `10 ms` or `0` spells; None for 2^62 ns or more.
 fn duration(text: &[u8]) -> Option<Time>
-    ensures { MatchOption result ((time : ℕ) → Spells text.now time → time < 2 ^ 62 → ⊥) (λ time. Spells text.now time × (time < 2 ^ 62)) }
+    ensures { MatchOption result ((time : ℕ) → Spells text.now time → time < 2 ^ 62 → ⊥)
+        (λ time. Spells text.now time × (time < 2 ^ 62)) }
 {
     let Ok(text) = str::from_utf8(text) else {
         return None;

@@ -46,7 +46,8 @@ pub(super) fn statement(
 /// The statement that begins with `out.`, this port and `=`.
 fn output(slots: &Slots, states: &[State], port: &[u8], rest: &[u8]) -> Result<Statement, LineFault>
     requires { IsWithinLimits slots.now }
-    ensures { IsReading (λ w. SpellsStatement w ((codes "out." ++ port.now) ∷ codes "=" ∷ tokens_of rest.now)) (statement_of slots.now states.now) result }
+    ensures { IsReading (λ w. SpellsStatement w ((codes "out." ++ port.now) ∷ codes "=" ∷ tokens_of rest.now))
+        (statement_of slots.now states.now) result }
 {
     let Some(value) = only_token(rest) else {
         return Err(LineFault::NoForm);
@@ -66,7 +67,8 @@ fn assignment(
 ) -> Result<Statement, LineFault>
     requires limits { IsWithinLimits slots.now }
     requires no_output { (port : List ℕ) → state.now ≡ codes "out." ++ port → ⊥ }
-    ensures { IsReading (λ w. SpellsStatement w (state.now ∷ codes "=" ∷ tokens_of rest.now)) (statement_of slots.now states.now) result }
+    ensures { IsReading (λ w. SpellsStatement w (state.now ∷ codes "=" ∷ tokens_of rest.now))
+        (statement_of slots.now states.now) result }
 {
     let state = numbered(is_name(state), place_of(states, state));
     let value = expression(slots, states, rest);

@@ -1,5 +1,5 @@
 use Rattle.std.proofs.Common.{◌≡◌, ◌≢◌, ℕ, ◌<◌, List, [], ◌∷◌, ◌++◌, slice_get, Some}
-use Rattle.journal.specs.declared.slip.Slip.{Slip as IsSlip}
+use Rattle.node_journal.specs.declared.slip.Slip.{Slip as IsSlip}
 use Rattle.desk.proofs.matching.take.Given as goal
 
 abbrev pub invariant-loop-position : goal.invariant-loop-position

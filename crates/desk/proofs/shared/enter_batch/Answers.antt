@@ -1,11 +1,11 @@
 use Rattle.std.proofs.Common.{◌≡◌, ◌-◌, ◌∙◌, ◌++◌, ap, length, take, arith}
-use Rattle.journal.specs.Slips.{slips_from}
+use Rattle.node_journal.specs.Slips.{slips_from}
 use Rattle.desk.specs.Replies.{none}
 use Rattle.desk.proofs.Batches.{kept_slips}
 use Rattle.desk.proofs.shared.enter_batch.Goals as goal
 
-pub returns-in_default-clause-said : goal.returns-in_default-clause-said
-returns-in_default-clause-said g c = none
+pub returns-in_default-clause-replies : goal.returns-in_default-clause-replies
+returns-in_default-clause-replies g c = none
 
 pub overflow_sub-len : goal.overflow_sub-len
 overflow_sub-len g c =

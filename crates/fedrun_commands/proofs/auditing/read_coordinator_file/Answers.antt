@@ -1,5 +1,5 @@
 use Rattle.std.proofs.Common.{refl, subst}
-use Rattle.fedrun_reports.specs.Taken.{IsCoordinatorFault}
+use Rattle.files_reports.specs.Taken.{IsCoordinatorFault}
 use Rattle.fedrun_commands.specs.ReportFiles.{coordinator_refused}
 use Rattle.fedrun_files.proofs.KnownFiles.{holds_of_file}
 use Rattle.fedrun_commands.proofs.auditing.read_coordinator_file.Goals as goal

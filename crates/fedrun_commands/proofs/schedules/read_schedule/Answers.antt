@@ -1,5 +1,5 @@
 use Rattle.std.proofs.Common.{refl, subst}
-use Rattle.fedrun_script.specs.Scripts.{IsScriptOf, IsFaultOf}
+use Rattle.files_script.specs.Scripts.{IsScriptOf, IsFaultOf}
 use Rattle.fedrun_commands.specs.Refused.{schedule_refused}
 use Rattle.fedrun_files.proofs.KnownFiles.{holds_of_file}
 use Rattle.fedrun_commands.proofs.schedules.read_schedule.Goals as goal

@@ -1,6 +1,6 @@
 use Rattle.std.proofs.Common.{◌≡◌, List, take, subst}
 use Rattle.std.proofs.lemmas.List.{take_all}
-use Rattle.fedrun_script.specs.declared.script.ScheduleLine.{ScheduleLine}
+use Rattle.files_script.specs.declared.script.ScheduleLine.{ScheduleLine}
 use Rattle.fedrun_frames.specs.Making.{ListsLines}
 use Rattle.fedrun_frames.proofs.Listing.{lines_none, lines_next}
 use Rattle.fedrun_frames.proofs.making.make_lines.Goals as goal

@@ -1,7 +1,7 @@
 use Rattle.std.proofs.Common.{get_or}
 use Rattle.std.specs.Io.KnownBytes.{Appends}
 use Rattle.world.specs.World.{stations_of}
-use Rattle.fedrun_text.specs.PlanText.{printed_each}
+use Rattle.files_text.specs.PlanText.{printed_each}
 use Rattle.fedrun_frames.specs.Accounts.{no_frames, link_text}
 use Rattle.fedrun_frames.proofs.writing.write_sent.Given as goal
 

@@ -1,6 +1,6 @@
 use Rattle.std.proofs.Common.{◌≡◌, true, arith, string_bytes}
 use Rattle.node_cores.specs.CoordinatorCore.{coordinator_core}
-use Rattle.fedrun_reports.specs.Said.{by_coordinator}
+use Rattle.files_reports.specs.Said.{by_coordinator}
 use Rattle.fedrun_commands.proofs.Results.{on_ok_always}
 use Rattle.fedrun_hosts.specs.Ended.{IsFinishedJournal}
 use Rattle.fedrun_hosts.proofs.Saved.{saves_report}

@@ -1,7 +1,7 @@
 use Rattle.std.proofs.Common.{◌≡◌, ◌+◌, ℕ, suc, sym, subst, arith}
 use Rattle.std.specs.Io.KnownBytes.{Appends}
 use Rattle.std.proofs.KnownBytes.{Appends-trans}
-use Rattle.fedrun_text.specs.PlanText.{printed_each}
+use Rattle.files_text.specs.PlanText.{printed_each}
 use Rattle.fedrun_replay.specs.Replayed.{history}
 use Rattle.fedrun_replay.proofs.ending.write_each_history.Goals as goal
 

@@ -1,5 +1,5 @@
 use Rattle.std.specs.Io.KnownBytes.{Appends}
-use Rattle.fedrun_text.specs.PlanText.{printed_each}
+use Rattle.files_text.specs.PlanText.{printed_each}
 use Rattle.fedrun_replay.specs.Replayed.{history}
 use Rattle.fedrun_replay.proofs.ending.write_each_history.Given as goal
 

@@ -3,8 +3,8 @@ use Rattle.std.proofs.lemmas.Result.{on_ok_weaker}
 use Rattle.std.specs.Io.KnownBytes.{Appends}
 use Rattle.plan.specs.Legal.{IsLegal}
 use Rattle.world.specs.Faithful.{IsFaithful}
-use Rattle.fedrun_text.specs.declared.row_format.RowFormat.TheVariants.{Csv}
-use Rattle.fedrun_text.specs.CsvText.{csv_header}
+use Rattle.files_text.specs.declared.row_format.RowFormat.TheVariants.{Csv}
+use Rattle.files_text.specs.CsvText.{csv_header}
 use Rattle.fedrun_replay.specs.Play.{unasked_player}
 use Rattle.fedrun_replay.specs.Closing.{most_rounds}
 use Rattle.fedrun_replay.specs.Replayed.{each_history}

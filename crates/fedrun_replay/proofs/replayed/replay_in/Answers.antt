@@ -1,5 +1,5 @@
 use Rattle.std.proofs.Common.{OnOk, sym, subst}
-use Rattle.fedrun_text.specs.declared.row_format.RowFormat.{RowFormat}
+use Rattle.files_text.specs.declared.row_format.RowFormat.{RowFormat}
 use Rattle.fedrun_replay.specs.AsCsv.{IsReplayedIn}
 use Rattle.fedrun_replay.proofs.replayed.replay_in.Goals as goal
 

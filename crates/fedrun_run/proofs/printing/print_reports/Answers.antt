@@ -1,8 +1,8 @@
 use Rattle.std.proofs.Common.{◌≡◌, ◌+◌, ℕ, suc, sym, subst, arith}
 use Rattle.std.specs.Io.KnownBytes.{Appends}
 use Rattle.std.proofs.KnownBytes.{Appends-trans}
-use Rattle.fedrun_text.specs.Formats.{formatted_rows}
-use Rattle.fedrun_text.specs.PlanText.{printed_each}
+use Rattle.files_text.specs.Formats.{formatted_rows}
+use Rattle.files_text.specs.PlanText.{printed_each}
 use Rattle.recorder_reports.specs.Reports.{reported_rows}
 use Rattle.fedrun_run.proofs.printing.print_reports.Goals as goal
 

@@ -1,6 +1,6 @@
 use Rattle.std.specs.Io.KnownBytes.{Appends}
-use Rattle.fedrun_text.specs.Formats.{formatted_rows}
-use Rattle.fedrun_text.specs.PlanText.{printed_each}
+use Rattle.files_text.specs.Formats.{formatted_rows}
+use Rattle.files_text.specs.PlanText.{printed_each}
 use Rattle.recorder_reports.specs.Reports.{reported_rows}
 use Rattle.fedrun_run.proofs.printing.print_reports.Given as goal
 

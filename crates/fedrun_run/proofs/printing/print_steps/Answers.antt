@@ -2,8 +2,8 @@ use Rattle.std.proofs.Common.{◌≡◌, ◌≤◌, ◌+◌, ◌∙◌, Some, No
 use Rattle.std.specs.Io.KnownBytes.{Appends}
 use Rattle.std.proofs.lemmas.List.{append-nil}
 use Rattle.std.proofs.lemmas.Option.{get_or_from_slice_get, slice_get_cases, slice_get_within}
-use Rattle.fedrun_record.specs.StepText.{printed_step, printed_steps}
-use Rattle.fedrun_record.proofs.Lines.{step_more}
+use Rattle.files_record.specs.StepText.{printed_step, printed_steps}
+use Rattle.files_record.proofs.Lines.{step_more}
 use Rattle.fedrun_run.proofs.printing.print_steps.Goals as goal
 use Rattle.fedrun_run.proofs.printing.print_steps.Goals.{in-Some+in_ok-print_step, in_default}
 

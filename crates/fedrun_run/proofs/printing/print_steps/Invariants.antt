@@ -1,6 +1,6 @@
 use Rattle.std.proofs.Common.{take}
 use Rattle.std.specs.Io.KnownBytes.{Appends}
-use Rattle.fedrun_record.specs.StepText.{printed_steps}
+use Rattle.files_record.specs.StepText.{printed_steps}
 use Rattle.fedrun_run.proofs.printing.print_steps.Given as goal
 
 -- the steps so far are printed

@@ -1,7 +1,7 @@
 use Rattle.std.proofs.Common.{◌≡◌, ◌∙◌, IfSome, ap, refl, rules, subst, sym}
 use Rattle.std.proofs.lemmas.Result.{err_from_is_err_and}
 use Rattle.fedrun_run.specs.Printed.{IsTextOf}
-use Rattle.fedrun_run.proofs.Believed.{of_the_run, same_said, printed_of_some, fault_of_some, text_lent}
+use Rattle.fedrun_run.proofs.Believed.{of_the_run, same_reports_of, printed_of_some, fault_of_some, text_lent}
 use Rattle.fedrun_run.proofs.running.print_audited_run.Goals as goal
 
 pub returns-in_err-node_reports-clause-fault : goal.returns-in_err-node_reports-clause-fault
@@ -25,7 +25,7 @@ returns-clause-ok g c =
     let said = c.in_ok-node_reports.node_reports in
     let reports : c.reports.result.now ≡ said.reports.reports = search rules in
     printed_of_some c.args.output c.args.plan.now c.args.programs.now c.args.inputs.now _ c.reports.result.now said.coordinator _ _ c.print_audited_text.result
-    (same_said reports refl (rw c.in_ok-node_reports.was at c.run_and_ask-audit.ensures.reported))
+    (same_reports_of reports refl (rw c.in_ok-node_reports.was at c.run_and_ask-audit.ensures.reported))
     (c.run_and_ask-audit.ensures.audit ∙ c.in-Ok.ensures.begun) c.print_audited_text.ensures.ok
 
 pub returns-clause-fault : goal.returns-clause-fault
@@ -33,5 +33,5 @@ returns-clause-fault g c =
     let said = c.in_ok-node_reports.node_reports in
     let reports : c.reports.result.now ≡ said.reports.reports = search rules in
     fault_of_some c.args.plan.now c.args.programs.now c.args.inputs.now _ c.reports.result.now said.coordinator c.print_audited_text.result
-    (same_said reports refl (rw c.in_ok-node_reports.was at c.run_and_ask-audit.ensures.reported))
+    (same_reports_of reports refl (rw c.in_ok-node_reports.was at c.run_and_ask-audit.ensures.reported))
     (c.run_and_ask-audit.ensures.audit ∙ c.in-Ok.ensures.begun) c.print_audited_text.ensures.fault

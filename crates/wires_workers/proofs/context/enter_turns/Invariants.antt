@@ -6,6 +6,6 @@ use Rattle.wires_workers.proofs.context.enter_turns.Given as goal
 abbrev pub invariant-loop-made : goal.invariant-loop-made
 invariant-loop-made g l = AreHandedIn l.fn.share (events_of_turns l.made) l.share × (1 ≤ l.made) × (1 ≤ l.most → l.made ≤ l.most)
 
--- so many turns may still be made
+-- this many turns may still be made
 abbrev pub decreases-loop-made : goal.decreases-loop-made
 decreases-loop-made g l = l.most - l.made

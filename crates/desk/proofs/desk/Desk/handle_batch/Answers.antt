@@ -6,8 +6,8 @@ use Rattle.desk.proofs.Batches.{initial_after, kept_some, replays_all}
 use Rattle.desk.proofs.desk.Desk.handle_batch.Given as given
 use Rattle.desk.proofs.desk.Desk.handle_batch.Goals as goal
 
-pub returns-in_default-clause-said : goal.returns-in_default-clause-said
-returns-in_default-clause-said g c = none
+pub returns-in_default-clause-replies : goal.returns-in_default-clause-replies
+returns-in_default-clause-replies g c = none
 
 -- the journal with the events whose steps were made
 journal_with : (g : given.Over) (c : goal.After-truncate g) → c.truncate.new.self ≡ c.self.inside.journal ++ take c.step_all-made.result c.args.batch.now
@@ -21,8 +21,8 @@ journal_with g c =
 
 pub invariant_of-self-2 : goal.invariant_of-self-2
 invariant_of-self-2 g c =
-    let made = c.step_all-made.ensures.station ∙ ap (λ l. after_all g.N.Node.core g.N.Node.HUB c.self.inside.station (take c.step_all-made.result l)) c.events.ensures in
-    replays_all g.N.Node.core g.N.Node.HUB c.initial_stations_stay.ensures c.self.inside.station c.step_all-made.new.station c.self.inside.journal c.truncate.new.self
+    let made = c.step_all-made.ensures.station ∙ ap (λ l. after_all g.N.Node.core g.N.Node.IS_COORDINATOR c.self.inside.station (take c.step_all-made.result l)) c.events.ensures in
+    replays_all g.N.Node.core g.N.Node.IS_COORDINATOR c.initial_stations_stay.ensures c.self.inside.station c.step_all-made.new.station c.self.inside.journal c.truncate.new.self
     (take c.step_all-made.result c.args.batch.now) c.self.invariant made (journal_with g c)
 
 pub returns-clause-journal : goal.returns-clause-journal
@@ -30,5 +30,5 @@ returns-clause-journal g c = journal_with g c ∙ ap (λ d. d.journal ++ take c.
 
 pub returns-clause-initial : goal.returns-clause-initial
 returns-clause-initial g c =
-    initial_after g.N.Node.core g.N.Node.HUB c.initial_stations_stay.ensures c.self.inside.station c.step_all-made.new.station (take c.step_all-made.result c.events.result.now) c.step_all-made.ensures.station
+    initial_after g.N.Node.core g.N.Node.IS_COORDINATOR c.initial_stations_stay.ensures c.self.inside.station c.step_all-made.new.station (take c.step_all-made.result c.events.result.now) c.step_all-made.ensures.station
     ∙ ap (λ d. initial_of g.N.Node.core d.station) c.self.view_is

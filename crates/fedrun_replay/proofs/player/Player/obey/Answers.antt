@@ -1,5 +1,5 @@
 use Rattle.std.proofs.Common.{Ok, sym, subst}
-use Rattle.fedrun_script.specs.declared.command.Command.{Command}
+use Rattle.files_script.specs.declared.command.Command.{Command}
 use Rattle.fedrun_replay.specs.Play.{count_in, tasks_of, HasDone}
 use Rattle.fedrun_replay.proofs.Doing.{skipped}
 use Rattle.fedrun_replay.proofs.player.Player.obey.Goals as goal

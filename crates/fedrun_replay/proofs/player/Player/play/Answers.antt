@@ -1,6 +1,6 @@
 use Rattle.std.proofs.Common.{◌≡◌, List, take, Err, rules, subst}
 use Rattle.std.proofs.lemmas.List.{take_all}
-use Rattle.fedrun_script.specs.declared.script.ScheduleLine.{ScheduleLine}
+use Rattle.files_script.specs.declared.script.ScheduleLine.{ScheduleLine}
 use Rattle.fedrun_replay.specs.Play.{playing_of, count_in, made_by, after_lines}
 use Rattle.fedrun_replay.proofs.Doing.{if_stopped}
 use Rattle.fedrun_replay.proofs.Obeying.{Obeys, obeyed_none, obeyed_next, obeyed_stopped}

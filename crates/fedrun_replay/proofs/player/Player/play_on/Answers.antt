@@ -1,5 +1,5 @@
 use Rattle.std.proofs.Common.{◌≡◌, ◌+◌, ℕ, List, Option, Err, rules, sym, subst}
-use Rattle.fedrun_script.specs.declared.script.ScheduleLine.{ScheduleLine}
+use Rattle.files_script.specs.declared.script.ScheduleLine.{ScheduleLine}
 use Rattle.fedrun_replay.specs.Closing.{PlaysSchedule, IsPlaying}
 use Rattle.fedrun_replay.proofs.Obeying.{Obeys, StopsIn}
 use Rattle.fedrun_replay.proofs.Closed.{played_alone, stopped_in_lines, played_to_end}

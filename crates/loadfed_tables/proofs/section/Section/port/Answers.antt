@@ -4,7 +4,7 @@ use Rattle.std.proofs.lemmas.Str.Pattern.{split_parts, split_after}
 use Rattle.std.proofs.lemmas.Result.{err_from_is_err_and}
 use Rattle.loadfed_tables.specs.Sections.{members_of}
 use Rattle.loadfed_tables.proofs.Refusals.{weaker, told}
-use Rattle.loadfed_tables.proofs.Ports.{text_of_port, no_port, front_told, back_told, port_said}
+use Rattle.loadfed_tables.proofs.Ports.{text_of_port, no_port, front_told, back_told, port_read}
 use Rattle.loadfed_tables.proofs.section.Section.port.Goals as goal
 
 pub returns-in_err-text-clause-refused : goal.returns-in_err-text-clause-refused
@@ -35,5 +35,5 @@ returns-in_default-clause-refused c =
 pub returns-clause-ok : goal.returns-clause-ok
 returns-clause-ok c =
     let parts = rw c.in-Some.is at (split_parts 46 c.in_ok-text.text.now c.split_once.result c.split_once.ensures.cases (lit< tt)) in
-    port_said c.args.key.now (members_of c.args.self.now) c.in_ok-text.text.now c.in-Some.front.now c.in-Some.back.now c.in_ok-federate.federate c.in_ok-port.port
+    port_read c.args.key.now (members_of c.args.self.now) c.in_ok-text.text.now c.in-Some.front.now c.in-Some.back.now c.in_ok-federate.federate c.in_ok-port.port
     c.in_ok-text.ensures.ok parts.0 c.in_ok-federate.ensures.copy c.in_ok-port.ensures.copy c.in_ok-federate.ensures.named c.in_ok-port.ensures.named

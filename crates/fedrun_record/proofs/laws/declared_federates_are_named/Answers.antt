@@ -1,5 +1,0 @@
-use Rattle.fedrun_record.proofs.Declared.{declared_named}
-use Rattle.fedrun_record.proofs.laws.declared_federates_are_named.Goals as goal
-
-pub returns : goal.returns
-returns c = declared_named

@@ -1,7 +1,0 @@
-use Rattle.fedrun_reports.specs.Said.{IsEntry}
-use Rattle.fedrun_reports.specs.Spelling.{entry_bytes}
-use Rattle.fedrun_reports.proofs.Written.{AreWritten}
-use Rattle.fedrun_reports.proofs.appending.append_entries.Given as goal
-
-abbrev pub invariant-loop-entry : goal.invariant-loop-entry
-invariant-loop-entry l = AreWritten entry_bytes IsEntry l.entries l.initial.bytes.items l.entry-index l.bytes.items

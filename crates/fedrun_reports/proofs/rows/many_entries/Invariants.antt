@@ -1,8 +1,0 @@
-use Rattle.fedrun_reports.specs.Said.{IsEntry}
-use Rattle.fedrun_reports.specs.Spelling.{entry_bytes}
-use Rattle.fedrun_reports.specs.Reading.{entry_part}
-use Rattle.fedrun_reports.proofs.Loops.{IsOnItsWay}
-use Rattle.fedrun_reports.proofs.rows.many_entries.Given as goal
-
-abbrev pub invariant-loop : goal.invariant-loop
-invariant-loop l = IsOnItsWay entry_part entry_bytes IsEntry l.count l.bytes l.counter l.entries.items l.rest

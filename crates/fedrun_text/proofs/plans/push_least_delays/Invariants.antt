@@ -1,8 +1,0 @@
-use Rattle.std.proofs.Common.{◌≡◌, ◌++◌, length}
-use Rattle.std.specs.Prelude.{string_bytes}
-use Rattle.fedrun_text.specs.PlanText.{printed_least, printed_each}
-use Rattle.fedrun_text.proofs.plans.push_least_delays.Given as goal
-
-abbrev pub invariant-loop-from : goal.invariant-loop-from
-invariant-loop-from l =
-    string_bytes l.text ≡ string_bytes l.initial.text ++ printed_each (λ i. printed_each (printed_least l.plan i) (length l.plan.federates)) l.from

@@ -1,7 +1,0 @@
-use Rattle.std.proofs.Common.{slice_range}
-use Rattle.std.specs.Io.KnownBytes.{Appends}
-use Rattle.fedrun_text.specs.Formats.{formatted_rows}
-use Rattle.fedrun_text.proofs.rows.write_lines.Given as goal
-
-abbrev pub invariant-loop-place : goal.invariant-loop-place
-invariant-loop-place g l = Appends (g.W.Write.contents l.initial.out) (g.W.Write.contents l.out) (formatted_rows l.format l.federates (slice_range l.rows l.first l.place))

@@ -1,0 +1,50 @@
+ghost use Rattle.std.specs.Prelude.{◌≡◌};
+
+use std::alloc::{AllocError, AllocFailed};
+use std::fmt;
+
+/// There was no memory for a report. It is the machine that lacks it: the same call may succeed later.
+#[derive(Clone, Copy, Debug, PartialEq, Eq)]
+pub struct Memory;
+
+impl Memory {
+    ghost use Rattle.files_reports.specs.Faults.{memory_number};
+
+    /// The number by which it is printed.
+    pub const fn number(self) -> u16
+        ensures { result ≡ memory_number }
+    {
+        109
+    }
+}
+
+impl fmt::Display for Memory {
+    ghost use Rattle.std.specs.Prelude.{Some};
+    ghost use Rattle.files_reports.specs.Faults.{memory_text};
+
+    ghost output = { λ _. Some memory_text };
+
+    fn fmt<W: fmt::Write>(&self, f: &mut fmt::Formatter<W>) -> fmt::Result {
+        write!(f, "{} Memory", self.number())
+    }
+}
+
+impl std::error::Error for Memory {}
+
+impl From<AllocError> for Memory {
+    fn from(_: AllocError) -> Memory {
+        Memory
+    }
+}
+
+impl<T: Drop> From<AllocFailed<T>> for Memory {
+    fn from(_: AllocFailed<T>) -> Memory {
+        Memory
+    }
+}
+
+impl From<signal::Memory> for Memory {
+    fn from(_: signal::Memory) -> Memory {
+        Memory
+    }
+}

@@ -1,0 +1,57 @@
+//! What is printed of a schedule.
+use fedrun_frames::frames;
+use fedrun_replay::ReplayFault;
+use files_script::read_script;
+use std::alloc::Global;
+use std::io::Write;
+use tests_samples::{COUNTER, Federation, loaded};
+
+/// How it ends, into a writer; None where the schedule isn't taken.
+pub(crate) fn ended<W: Write>(
+    alloc: Global,
+    federation: &Federation,
+    schedule: &str,
+    closing: Option<u32>,
+    out: &mut W,
+) -> Option<Result<(), ReplayFault>> {
+    let script = read_script(alloc, schedule.as_bytes(), federation.plan()).ok()?;
+    Some(frames(
+        alloc,
+        out,
+        federation.plan(),
+        federation.programs(),
+        federation.inputs(),
+        &script,
+        closing,
+    ))
+}
+
+/// All of it, over a federation; None where something isn't taken.
+pub(crate) fn printed(
+    alloc: Global,
+    federation: &str,
+    inputs: &str,
+    schedule: &str,
+    closing: Option<u32>,
+) -> Option<String> {
+    let federation = loaded(alloc, federation, inputs)?;
+    let mut out = Vec::new(alloc);
+    match ended(alloc, &federation, schedule, closing, &mut out)? {
+        Ok(()) => String::from_utf8(out).ok(),
+        Err(_) => None,
+    }
+}
+
+/// All of it, over the counter.
+pub(crate) fn printed_of_counter(
+    alloc: Global,
+    schedule: &str,
+    closing: Option<u32>,
+) -> Option<String> {
+    printed(alloc, COUNTER, "", schedule, closing)
+}
+
+/// A text that has to be there.
+pub(crate) fn text(text: &Option<String>) -> Option<&str> {
+    text.as_ref().map(String::as_str)
+}

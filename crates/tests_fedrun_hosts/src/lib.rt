@@ -1,0 +1,21 @@
+//! Tests of nodes on machines of their own: the commands `coordinate`, `join` and `audit`, with files and disks in
+//! memory, each node in a thread of its own in the place of a process, over TCP on loopback. No program uses this
+//! crate.
+//!
+//! Begin with `nodes`, then `worked`; what is read of words alone is in `words`.
+#![tactic(auto)]
+
+#[cfg(test)]
+mod disk;
+#[cfg(test)]
+mod files;
+#[cfg(test)]
+mod nodes;
+#[cfg(test)]
+mod refused;
+#[cfg(test)]
+mod spoken;
+#[cfg(test)]
+mod words;
+#[cfg(test)]
+mod worked;

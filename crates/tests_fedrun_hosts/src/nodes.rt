@@ -1,0 +1,204 @@
+//! All nodes of a run, each as a process of its own would run it, in threads of this one.
+use crate::disk::{MemoryDisk, Operation};
+use crate::files::NamedFiles;
+use crate::spoken::{Spoken, next_line, rest};
+use crossbeam_channel::unbounded;
+use fedrun_hosts::node_command;
+use std::alloc::Global;
+use std::io::Write;
+use std::net::{Net, TcpListener, TcpStream};
+use std::random::RandomSource;
+use std::thread;
+use tests_samples::Machine;
+
+/// The name of each node's report on its own disk.
+pub const REPORT: &str = "r";
+
+/// The temporary name of each.
+pub const PART: &str = "r.part";
+
+/// The first words of each coordinator.
+const COORDINATE: &[&str] = &[
+    "coordinate",
+    "f",
+    "i",
+    "--listen",
+    "127.0.0.1:0",
+    "--report",
+    REPORT,
+];
+
+/// What one node is given.
+#[derive(Clone, Copy)]
+pub struct Given<'a> {
+    /// The federate's name; of the coordinator it isn't looked at.
+    pub name: &'a str,
+    /// Its files.
+    pub files: &'a [(&'a str, &'a str)],
+    /// Words behind those that each node has.
+    pub more: &'a [&'a str],
+    /// What its disk can't do.
+    pub failing: Option<Operation>,
+}
+
+/// What a node left on its disk.
+#[derive(Clone, Copy, Debug, PartialEq, Eq)]
+pub enum Left {
+    /// No file.
+    Nothing,
+    /// Its report alone.
+    Report,
+    /// The temporary file alone.
+    Part,
+    /// Other files.
+    Other,
+}
+
+/// How a node ended.
+#[derive(Drop)]
+pub struct Ended {
+    pub status: u8,
+    /// What it said, of the coordinator without the line that says where it listens.
+    pub out: String,
+    pub err: String,
+    pub disk: MemoryDisk,
+}
+
+impl Ended {
+    // The status, and what is on standard output and on standard error.
+    fn texts(&self) -> (u8, &str, &str) {
+        (self.status, self.out.as_str(), self.err.as_str())
+    }
+
+    /// Its report, if it wrote one.
+    pub fn report(&self) -> Option<&[u8]> {
+        self.disk.file(REPORT)
+    }
+
+    /// Its texts, and what it left on its disk.
+    pub fn shown(&self) -> ((u8, &str, &str), Left) {
+        (self.texts(), self.left())
+    }
+
+    // What it left on its disk.
+    fn left(&self) -> Left {
+        match (self.disk.file(REPORT), self.disk.file(PART)) {
+            (None, None) if self.disk.len() == 0 => Left::Nothing,
+            (Some(_), None) if self.disk.len() == 1 => Left::Report,
+            (None, Some(_)) if self.disk.len() == 1 => Left::Part,
+            _ => Left::Other,
+        }
+    }
+}
+
+/// These words, and more of them, as the program gets them.
+fn words(alloc: Global, first: &[&str], more: &[&str]) -> Option<Vec<String>> {
+    let mut words = Vec::new(alloc);
+    for word in first {
+        words.push(String::from_str(alloc, word).ok()?).ok()?;
+    }
+    for word in more {
+        words.push(String::from_str(alloc, word).ok()?).ok()?;
+    }
+    Some(words)
+}
+
+/// How a node ends; its status and its disk, and what it said on standard error.
+fn run_node<R: Machine + Net<Stream = TcpStream, Listener = TcpListener> + RandomSource, O: Write>(
+    rt: &R,
+    given: &Given<'_>,
+    words: &[String],
+    out: &mut O,
+) -> Option<(u8, MemoryDisk, String)> {
+    let alloc = rt.alloc();
+    let mut files = NamedFiles {
+        alloc,
+        texts: given.files,
+        reports: &[],
+    };
+    let mut disk = MemoryDisk::new(alloc, given.failing);
+    let mut err = Vec::new(alloc);
+    let status = node_command(rt, words, &mut files, &mut disk, out, &mut err);
+    Some((status, disk, String::from_utf8(err).ok()?))
+}
+
+/// How `join` ends.
+pub fn joined<R: Machine + Net<Stream = TcpStream, Listener = TcpListener> + RandomSource>(
+    rt: &R,
+    given: &Given<'_>,
+    address: &str,
+) -> Option<Ended> {
+    let alloc = rt.alloc();
+    let first = [
+        "join",
+        "f",
+        "i",
+        given.name,
+        "--connect",
+        address,
+        "--report",
+        REPORT,
+    ];
+    let words = words(alloc, &first, given.more)?;
+    let mut out = Vec::new(alloc);
+    let (status, disk, err) = run_node(rt, given, &words, &mut out)?;
+    Some(Ended {
+        status,
+        out: String::from_utf8(out).ok()?,
+        err,
+        disk,
+    })
+}
+
+/// How `coordinate` ends, on a port of loopback that the system gives, and how one federate's node or two end that
+/// connect to it.
+pub fn coordinated<R: Machine + Net<Stream = TcpStream, Listener = TcpListener> + RandomSource>(
+    rt: &R,
+    given: &Given<'_>,
+    first: &Given<'_>,
+    second: Option<&Given<'_>>,
+) -> Option<(Ended, Ended, Option<Ended>)> {
+    let alloc = rt.alloc();
+    let words = words(alloc, COORDINATE, given.more)?;
+    let (to, from) = unbounded(alloc).ok()?;
+    let (coordinator, federates) = thread::join(
+        rt,
+        || {
+            let mut out = Spoken { rt, alloc, to };
+            run_node(rt, given, &words, &mut out)
+        },
+        || {
+            let line = next_line(rt, alloc, &from)?;
+            let address = line.as_str().strip_prefix("listening ")?;
+            let ended = all_joined(rt, first, second, address)?;
+            Some((ended, rest(rt, alloc, &from)?))
+        },
+    );
+    let (status, disk, err) = coordinator?;
+    let ((first, second), out) = federates?;
+    let coordinator = Ended {
+        status,
+        out,
+        err,
+        disk,
+    };
+    Some((coordinator, first, second))
+}
+
+/// How one federate's node ends, or how two do that run side by side.
+fn all_joined<R: Machine + Net<Stream = TcpStream, Listener = TcpListener> + RandomSource>(
+    rt: &R,
+    first: &Given<'_>,
+    second: Option<&Given<'_>>,
+    address: &str,
+) -> Option<(Ended, Option<Ended>)> {
+    let Some(second) = second else {
+        return Some((joined(rt, first, address)?, None));
+    };
+    let (first, second) = thread::join(
+        rt,
+        || joined(rt, first, address),
+        || joined(rt, second, address),
+    );
+    Some((first?, Some(second?)))
+}

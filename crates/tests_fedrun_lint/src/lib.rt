@@ -1,0 +1,14 @@
+//! Tests of what is said of two files: each mistake at its line and with what to do, several in one file, what is odd,
+//! and the text. Expected values are those of docs/COMMANDS.md.
+//!
+//! Begin with `mistakes`.
+#![tactic(auto)]
+
+#[cfg(test)]
+mod bounds;
+#[cfg(test)]
+mod mistakes;
+#[cfg(test)]
+mod printed;
+#[cfg(test)]
+mod recorded;

@@ -1,0 +1,252 @@
+//! Two files worked by hand: of a federate that counted to two, and of a coordinator.
+use files_reports::{FileDigests, NodeReport, read_report, write_report};
+use node::Event;
+use node_journal::Journal;
+use reactor::Rows;
+use reactor_program::Entry;
+use recorder_reports::Report;
+use signal::{Frame, Hello, Signal};
+use std::alloc::{AllocError, Global};
+use std::test::Fail;
+use tag::{FiniteTag, Tag, Time};
+
+/// What the run is of; there are no recorded inputs.
+pub(crate) const FEDERATION: &[u8] = b"stop = \"20 ms\"\n";
+
+/// The SHA-256 of `FEDERATION`, by another program.
+const FEDERATION_DIGEST: [u8; 32] = [
+    0x43, 0x83, 0x34, 0x9d, 0x71, 0xdc, 0x67, 0xec, 0xce, 0x6a, 0x3f, 0x0f, 0x05, 0xa2, 0x7c, 0xc8,
+    0xef, 0xd6, 0x23, 0x27, 0xf2, 0x6e, 0x3c, 0xee, 0x24, 0x54, 0x74, 0x67, 0x22, 0xe0, 0xad, 0xe8,
+];
+
+/// The SHA-256 of no bytes.
+const INPUTS_DIGEST: [u8; 32] = [
+    0xe3, 0xb0, 0xc4, 0x42, 0x98, 0xfc, 0x1c, 0x14, 0x9a, 0xfb, 0xf4, 0xc8, 0x99, 0x6f, 0xb9, 0x24,
+    0x27, 0xae, 0x41, 0xe4, 0x64, 0x9b, 0x93, 0x4c, 0xa4, 0x95, 0x99, 0x1b, 0x78, 0x52, 0xb8, 0x55,
+];
+
+/// What federate 0 says: two rows and three events.
+pub(crate) const SAID: [u8; 179] = [
+    0, 0, // federate 0
+    0, 0, 0, 0, 0, 0, 0, 2, // two rows
+    0, 0, 0, 0, 0, 0, 0, 0, 0, 0, 0, 0, // at the first tag
+    0, 0, 0, 0, 0, 0, 0, 1, // one input
+    0, 0, 0, 0, 0, 0, 0, 1, 0, 0, 0, 0, 0, 0, 0, 0, // at slot 1 the value 0
+    0, 0, 0, 0, 0, 0, 0, 1, // one output
+    0, 0, 0, 0, 0, 0, 0, 0, 0, 0, 0, 0, 0, 0, 0, 1, // at port 0 the value 1
+    0, 0, 0, 0, 0, 0x98, 0x96, 0x80, 0, 0, 0, 0, // at 10,000,000 ns
+    0, 0, 0, 0, 0, 0, 0, 1, // one input
+    0, 0, 0, 0, 0, 0, 0, 1, 0, 0, 0, 0, 0, 0, 0, 0, // at slot 1 the value 0
+    0, 0, 0, 0, 0, 0, 0, 1, // one output
+    0, 0, 0, 0, 0, 0, 0, 0, 0, 0, 0, 0, 0, 0, 0, 2, // at port 0 the value 2
+    0, 0, 0, 0, 0, 0, 0, 3, // three events
+    4, // it announced
+    1, 0, 0, 0, 0, 0, 0, 0, 0, // a frame from peer 0
+    0, 0, 0, 26, 2, 0, 0, 0, 1, 0, 0, 0, 0, 0, 0, 0, 1, // a Data, incarnation 1, number 1
+    3, 0, 0, 0, 0, 0, 0, 0, 0, 0, 0, 0, 0, // a TAG of the first tag
+    5, // it advanced
+];
+
+/// The SHA-256 of all that stands before it in its file, by another program.
+const SEAL: [u8; 32] = [
+    0x27, 0x7e, 0x71, 0x56, 0x93, 0xf0, 0xb4, 0xd1, 0x3e, 0x4c, 0xed, 0x5e, 0x0e, 0x10, 0xf4, 0x73,
+    0x24, 0xbc, 0x7b, 0x9c, 0x56, 0x65, 0x5b, 0x91, 0x70, 0x5b, 0x7c, 0xec, 0x27, 0x3b, 0xa5, 0xc8,
+];
+
+/// What the coordinator says: three events.
+pub(crate) const COORDINATOR_SAID: [u8; 57] = [
+    0xff, 0xff, // the coordinator
+    0, 0, 0, 0, 0, 0, 0, 3, // three events
+    3, 0, 0, 0, 0, 0, 0, 0, 1, // federate 1 is to be greeted
+    1, 0, 0, 0, 0, 0, 0, 0, 1, // a frame from federate 1
+    0, 0, 0, 16, 1, 1, 0, 1, 0, 0, 0, 0, 0, 0, 0, 0, 0, 0, 0, 0, // its Hello
+    2, 0, 0, 0, 0, 0, 0, 0x12, 0x34, // to federate 0x1234 all is to be sent again
+];
+
+/// The SHA-256 of all that stands before it in that file.
+const COORDINATOR_SEAL: [u8; 32] = [
+    0x97, 0xea, 0x7c, 0x59, 0x77, 0x14, 0x09, 0x06, 0x72, 0x1a, 0xad, 0xee, 0x69, 0xe2, 0xad, 0x6d,
+    0x7c, 0xe8, 0x2a, 0x60, 0x44, 0xa4, 0x89, 0xfc, 0x9e, 0xba, 0xf2, 0x11, 0x24, 0x6f, 0x19, 0x6d,
+];
+
+/// Of the run.
+pub(crate) fn digests() -> FileDigests {
+    FileDigests::new(FEDERATION, b"")
+}
+
+/// Its file, where this is said, with this behind it.
+pub(crate) fn file(alloc: Global, said: &[u8], seal: &[u8]) -> Result<Vec<u8>, AllocError> {
+    let mut bytes = Vec::new(alloc);
+    bytes.extend_from_slice(b"fedrep 1")?;
+    bytes.extend_from_slice(&FEDERATION_DIGEST)?;
+    bytes.extend_from_slice(&INPUTS_DIGEST)?;
+    bytes.extend_from_slice(said)?;
+    bytes.extend_from_slice(seal)?;
+    Ok(bytes)
+}
+
+/// The file of `src`.
+pub(crate) fn worked(alloc: Global) -> Result<Vec<u8>, AllocError> {
+    file(alloc, &SAID, &SEAL)
+}
+
+/// At that many ns.
+fn at(nanoseconds: u64) -> Tag {
+    match Time::new(nanoseconds) {
+        Some(time) => Tag::new(time, 0),
+        None => Tag::FOREVER,
+    }
+}
+
+/// A row of federate 0, in which the timer was present and the output was set to this.
+fn add_row(rows: &mut Rows, nanoseconds: u64, value: i64) -> bool {
+    rows.push(
+        0,
+        at(nanoseconds),
+        &[Entry::new(1, 0)],
+        &[Entry::new(0, value)],
+    )
+    .is_ok()
+}
+
+/// What `src` says.
+pub(crate) fn counted_twice(alloc: Global) -> Option<NodeReport> {
+    let mut rows = Rows::new(alloc);
+    if !add_row(&mut rows, 0, 1) || !add_row(&mut rows, 10_000_000, 2) {
+        return None;
+    }
+    let grant = Frame::Data {
+        incarnation: 1,
+        number: 1,
+        signal: Signal::Tag(FiniteTag::new(Time::zero(), 0)),
+    };
+    let events = [Event::Announce, Event::Frame(0, grant), Event::Advance];
+    Some(NodeReport::Federate(Report {
+        federate: 0,
+        rows,
+        journal: Journal::of(alloc, &events).ok()?,
+    }))
+}
+
+/// What the coordinator says.
+fn coordinated(alloc: Global) -> Option<NodeReport> {
+    let hello = Frame::Hello(Hello {
+        federate: 1,
+        incarnation: 0,
+        last_taken: 0,
+    });
+    let events = [
+        Event::Hello(1),
+        Event::Frame(1, hello),
+        Event::Resend(0x1234),
+    ];
+    Some(NodeReport::Coordinator(Journal::of(alloc, &events).ok()?))
+}
+
+/// The file of a report of the run.
+pub(crate) fn written(alloc: Global, report: &NodeReport) -> Option<Vec<u8>> {
+    write_report(alloc, &digests(), report).ok()
+}
+
+/// Whether the bytes are the file of the run in which this is said.
+fn is_written(alloc: Global, report: Option<NodeReport>, bytes: &[u8]) -> bool {
+    let Some(report) = report else {
+        return false;
+    };
+    match written(alloc, &report) {
+        Some(file) => file.as_slice() == bytes,
+        None => false,
+    }
+}
+
+#[test]
+fn writes_what_a_federate_says(rt: HostRuntime) -> Result<(), Fail> {
+    let file = worked(rt.alloc())?;
+    assert!(rt; is_written(rt.alloc(), counted_twice(rt.alloc()), &file));
+    Ok(())
+}
+
+#[test]
+fn writes_what_the_coordinator_says(rt: HostRuntime) -> Result<(), Fail> {
+    let file = file(rt.alloc(), &COORDINATOR_SAID, &COORDINATOR_SEAL)?;
+    assert!(rt; is_written(rt.alloc(), coordinated(rt.alloc()), &file));
+    Ok(())
+}
+
+/// Whether two rows are those of `src`, at these times with these values.
+fn are_rows_of_src(rows: &Rows, expected: &[(u64, i64)]) -> bool {
+    if rows.len() != expected.len() {
+        return false;
+    }
+    for place in 0..rows.len() {
+        let row = rows.row(place);
+        let (nanoseconds, value) = expected[place];
+        let is_one = row.federate() == 0
+            && row.tag() == at(nanoseconds)
+            && matches!(row.inputs(), [entry] if entry.place() == 1 && entry.value() == 0)
+            && matches!(row.outputs(), [entry] if entry.place() == 0 && entry.value() == value);
+        if !is_one {
+            return false;
+        }
+    }
+    true
+}
+
+/// The first four events of a journal, as far as it goes.
+fn events_of(journal: &Journal) -> [Option<Event>; 4] {
+    let mut block = 0;
+    [
+        journal.get(0, &mut block),
+        journal.get(1, &mut block),
+        journal.get(2, &mut block),
+        journal.get(3, &mut block),
+    ]
+}
+
+/// Whether the bytes are read as what `src` says.
+fn is_read_as_src(alloc: Global, bytes: &[u8]) -> bool {
+    let Ok(NodeReport::Federate(report)) = read_report(alloc, &digests(), bytes) else {
+        return false;
+    };
+    report.federate == 0
+        && are_rows_of_src(&report.rows, &[(0, 1), (10_000_000, 2)])
+        && matches!(
+            events_of(&report.journal),
+            [
+                Some(Event::Announce),
+                Some(Event::Frame(0, Frame::Data { number: 1, .. })),
+                Some(Event::Advance),
+                None
+            ]
+        )
+}
+
+#[test]
+fn reads_what_a_federate_says(rt: HostRuntime) -> Result<(), Fail> {
+    let file = worked(rt.alloc())?;
+    assert!(rt; is_read_as_src(rt.alloc(), &file));
+    Ok(())
+}
+
+/// Whether the bytes are read as what the coordinator says.
+fn is_read_as_coordinator(alloc: Global, bytes: &[u8]) -> bool {
+    let Ok(NodeReport::Coordinator(journal)) = read_report(alloc, &digests(), bytes) else {
+        return false;
+    };
+    matches!(
+        events_of(&journal),
+        [
+            Some(Event::Hello(1)),
+            Some(Event::Frame(1, Frame::Hello(Hello { federate: 1, .. }))),
+            Some(Event::Resend(0x1234)),
+            None
+        ]
+    )
+}
+
+#[test]
+fn reads_what_the_coordinator_says(rt: HostRuntime) -> Result<(), Fail> {
+    let file = file(rt.alloc(), &COORDINATOR_SAID, &COORDINATOR_SEAL)?;
+    assert!(rt; is_read_as_coordinator(rt.alloc(), &file));
+    Ok(())
+}

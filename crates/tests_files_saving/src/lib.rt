@@ -1,0 +1,16 @@
+//! Tests of names that are reserved, and of files that are saved under them whole or not at all: over a disk in memory
+//! of which each call fails in turn, and over the machine's. No part of the product.
+//!
+//! Begin with `failing`.
+#![tactic(auto)]
+
+#[cfg(test)]
+mod failing;
+#[cfg(test)]
+mod machine;
+#[cfg(test)]
+mod memory_disk;
+#[cfg(test)]
+mod printed;
+#[cfg(test)]
+mod saved;

@@ -1,0 +1,137 @@
+//! What a federate's process makes of a refusal, and what it doesn't believe.
+use crate::entrance::{
+    Entrance, FILES, Host, Machine, Process, SECRET, Visit, host_of, is_empty, key_of, visited,
+};
+use std::io::{Read, Write};
+use std::net::{Net, SocketAddr, TcpListener, TcpStream};
+use std::thread;
+use wires_greeting::CoordinatorSide;
+use wires_hosts::{DialFault, FederateHost, listen_at};
+
+/// Another secret, other files, and a federate that isn't there: nobody is let in, and the run ends only by a refusal
+/// that is proved.
+struct Refused;
+
+impl Visit for Refused {
+    fn visit<R: Host + Net<Stream = TcpStream, Listener = TcpListener>>(
+        rt: &R,
+        entrance: &Entrance<'_>,
+    ) -> Option<bool> {
+        let alloc = entrance.alloc;
+        let right = host_of(entrance.address, 0)?;
+        let other_secret = FederateHost {
+            key: key_of(b"0123456789abcdeF")?,
+            ..right
+        };
+        let other_files = FederateHost {
+            files: [8; 32],
+            ..right
+        };
+        let not_there = host_of(entrance.address, 2)?;
+        for (host, fault, ends) in [
+            (other_secret, DialFault::NotProved, false),
+            (other_files, DialFault::OtherFiles, true),
+            (not_there, DialFault::NoSuchFederate, true),
+        ] {
+            if !Process::new(alloc)?.is_refused(rt, alloc, host, fault, ends) {
+                return Some(false);
+            }
+        }
+        Some(is_empty(rt, entrance))
+    }
+}
+
+#[test]
+fn lets_in_nobody_with_another_secret_other_files_or_another_number(rt: HostRuntime) {
+    assert_eq!(rt; visited::<Refused, _>(&rt), Some(true));
+}
+
+/// What whoever listens at the coordinator's address says to a greeting, before it ends the connection.
+#[derive(Clone, Copy, Debug)]
+enum Says {
+    /// The coordinator's challenge, by this secret, where the federate may take part or not and the run is finished or
+    /// not.
+    Challenge(&'static [u8; 16], bool, bool),
+    /// This many bytes of the challenge.
+    Part(usize),
+    /// Bytes that are no challenge.
+    Garbage,
+}
+
+/// Says it to the greeting of the first that connects.
+fn say(listener: &TcpListener, says: Says) -> Option<()> {
+    let (mut stream, _) = listener.accept().ok()?;
+    let mut greeting = [0; 74];
+    stream.read_exact(&mut greeting).ok()?;
+    match says {
+        Says::Challenge(secret, allowed, finished) => {
+            let mut side = CoordinatorSide::new(key_of(secret)?, FILES);
+            let challenge = side.greeted(&greeting, &[9; 32], &[allowed], finished)?;
+            stream.write_all(&challenge).ok()
+        }
+        Says::Part(count) => {
+            let mut side = CoordinatorSide::new(key_of(SECRET)?, FILES);
+            let challenge = side.greeted(&greeting, &[9; 32], &[true], false)?;
+            stream.write_all(challenge.get(..count)?).ok()
+        }
+        Says::Garbage => stream.write_all(&[0x55; 65]).ok(),
+    }
+}
+
+/// Whether the federate's attempt comes to nothing for this, where that is said to it, and whether its run is to end
+/// then.
+fn is_refused_by<R: Machine + Net<Stream = TcpStream, Listener = TcpListener>>(
+    rt: &R,
+    says: Says,
+    fault: DialFault,
+    ends: bool,
+) -> Option<bool> {
+    let listener = listen_at(rt, SocketAddr::from(([127, 0, 0, 1], 0))).ok()?;
+    listener.set_nonblocking(false).ok()?;
+    let host = host_of(listener.local_addr().ok()?, 0)?;
+    let alloc = rt.alloc();
+    let process = Process::new(alloc)?;
+    let (said, is_refused) = thread::join(
+        rt,
+        || say(&listener, says),
+        || process.is_refused(rt, alloc, host, fault, ends),
+    );
+    said?;
+    Some(is_refused)
+}
+
+#[test]
+fn ends_the_run_by_a_refusal_that_is_proved_alone(rt: HostRuntime) {
+    let other: &'static [u8; 16] = b"fedcba9876543210";
+    for (says, fault, ends) in [
+        (
+            Says::Challenge(SECRET, false, false),
+            DialFault::NotAllowed,
+            true,
+        ),
+        (
+            Says::Challenge(SECRET, true, true),
+            DialFault::Finished,
+            true,
+        ),
+        (
+            Says::Challenge(other, true, true),
+            DialFault::NotProved,
+            false,
+        ),
+        (
+            Says::Challenge(other, false, false),
+            DialFault::NotProved,
+            false,
+        ),
+        (Says::Garbage, DialFault::NotProved, false),
+        (Says::Part(0), DialFault::NoAnswer, false),
+        (Says::Part(64), DialFault::NoAnswer, false),
+    ] {
+        assert_eq!(rt;
+            is_refused_by(&rt, says, fault, ends),
+            Some(true),
+            "{says:?}"
+        );
+    }
+}
