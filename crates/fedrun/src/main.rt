@@ -10,11 +10,10 @@ use fedrun_fault::{Fault, refuse};
 use fedrun_files::MachineFiles;
 use fedrun_hosts::{asks_for_node, node_command};
 use fedrun_progress::{NoProgress, ProgressLine, asks_for_progress};
-use fedrun_whole::OUT_BYTES;
-use fedrun_words::{WordsFault, given_words};
+use fedrun_whole::given;
 use files_saving::MachineDisk;
 use std::fs::File;
-use std::io::{BufWriter, ErrorKind, Stdout};
+use std::io::ErrorKind;
 use std::process::ExitCode;
 use std::{fs, rt, thread};
 
@@ -23,7 +22,7 @@ fn main(rt: HostRuntime) -> ExitCode {
     let _output = stand_in(&rt, "/proc/self/fd/1");
     let _error = stand_in(&rt, "/proc/self/fd/2");
     let mut err = rt.stderr();
-    let status = match given(&rt) {
+    let status = match given(&rt, rt.stdout()) {
         Ok((words, mut out)) => {
             let words = words.as_slice();
             let mut files = MachineFiles::new(&rt);
@@ -49,15 +48,6 @@ fn main(rt: HostRuntime) -> ExitCode {
         }
     };
     ExitCode::from(status)
-}
-
-/// The machine's words, and its output through a buffer.
-fn given(rt: &HostRuntime) -> Result<(Vec<String>, BufWriter<Stdout>), WordsFault> {
-    let words = given_words(rt)?;
-    match BufWriter::with_capacity(rt.alloc(), OUT_BYTES, rt.stdout()) {
-        Ok(out) => Ok((words, out)),
-        Err(_) => Err(WordsFault::Memory),
-    }
 }
 
 /// A file in place of a standard stream that is closed, which can't be written. Else the next file that is opened would

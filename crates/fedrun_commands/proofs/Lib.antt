@@ -1,6 +1,4 @@
 -- Lemmas.
--- results
-pub mod Results
 -- faults of a schedule where other files were asked for before
 pub mod InTurn
 -- what a run printed stays printed

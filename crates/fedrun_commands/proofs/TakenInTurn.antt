@@ -2,7 +2,6 @@
 use Rattle.std.proofs.Common.{◌≡◌, ℕ, ◌+◌, ◌<◌, List, [], ◌∷◌, ◌++◌, length, take, drop, get_or, Option, ap, sym, subst, ◌∙◌, append_assoc}
 use Rattle.std.proofs.lemmas.List.{map-append, take_more, take-append-drop}
 use Rattle.std.specs.Borrow.{Bor}
-use Rattle.sha2.specs.Sha256.{sha256}
 use Rattle.recorder_reports.specs.declared.report.Report.{Report}
 use Rattle.files_reports.specs.declared.file_digests.FileDigests.{FileDigests}
 use Rattle.files_reports.specs.File.{IsReportOf}
@@ -13,16 +12,7 @@ use Rattle.fedrun_files.specs.Contents.{Contents, AreBytesOf}
 use Rattle.fedrun_files.proofs.FaultsInTurn.{unread_after}
 use Rattle.fedrun_files.proofs.InTurn.{answered_in_turn}
 use Rattle.fedrun_commands.specs.declared.fault.NodeFault.{NodeFault}
-use Rattle.fedrun_commands.specs.ReportFiles.{Names, AreDigestsOf, AreFederateFiles, no_file, one_more, all_given, IsFederateFile, IsCoordinatorFileFault, coordinator_unread, coordinator_refused, IsFederateFileFault, federate_unread, federate_refused, IsFirstFileFault}
-
--- digests of the bytes that were read are those of the files
-pub are_digests : (federation inputs : Option (List ℕ)) (digests : FileDigests) (first second read_first read_second : List ℕ) → AreBytesOf federation first →
-    AreBytesOf inputs second → read_first ≡ first → read_second ≡ second → digests.federation ≡ sha256 read_first → digests.inputs ≡ sha256 read_second →
-    AreDigestsOf federation inputs digests
-are_digests federation inputs digests first second read_first read_second are_first are_second same_first same_second of_first of_second = record {
-  of_federation = (first, are_first, of_first ∙ ap sha256 same_first);
-  of_inputs = (second, are_second, of_second ∙ ap sha256 same_second);
-}
+use Rattle.fedrun_commands.specs.ReportFiles.{Names, AreFederateFiles, no_file, one_more, all_given, IsFederateFile, IsCoordinatorFileFault, coordinator_unread, coordinator_refused, IsFederateFileFault, federate_unread, federate_refused, IsFirstFileFault}
 
 -- a name, what stands before it and what stands behind it
 pub around : (names : Names) (i : ℕ) (d : Bor (List ℕ)) → i < length names → names ≡ take i names ++ get_or names i d ∷ drop (i + 1) names

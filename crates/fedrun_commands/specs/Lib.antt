@@ -1,6 +1,8 @@
 -- What the program answers.
 -- exit statuses, and how faults are printed
 pub mod Faults
+-- requests as schedules that are played, and as runs
+pub mod Asked
 -- the schedule in a file
 pub mod Schedules
 -- what is printed of a schedule that is played, and why it isn't

@@ -6,6 +6,8 @@ use Rattle.std.specs.Global.{Vec}
 use Rattle.loadfed.specs.declared.fault.LoadFault.TheVariants.{Memory}
 use Rattle.loadfed.specs.declared.federation.TheConstants.{MOST_BYTES}
 use Rattle.loadfed.specs.declared.recorded.TheConstants.{MOST_INPUT_BYTES}
+use Rattle.fedrun_words.specs.declared.request.Request.{Request}
+use Rattle.fedrun_words.specs.declared.request.Request.TheVariants.{Lint}
 use Rattle.fedrun_fault.specs.declared.fault.Fault.{Fault}
 use Rattle.fedrun_fault.specs.declared.fault.Fault.TheVariants.{CannotWrite, Load, More}
 use Rattle.fedrun_files.specs.declared.named.FileFault.{FileFault}
@@ -51,11 +53,15 @@ pub record PrintsLint (contents : Contents) (federation inputs : List ℕ) (is_w
   pub files : AreFiles contents federation inputs first second
   pub prints : PrintsReport first second is_wrong before after
 
--- what is wrong in some two files was printed
-pub record HasToldWrong (contents : Contents) (before after : Option (List ℕ)) : Type 0 where
-  pub federation : List ℕ
-  pub inputs : List ℕ
-  pub prints : PrintsLint contents federation inputs true before after
+-- this request is to look at two files, and what is wrong in them was printed
+abbrev pub TellsWrong : Contents → Request → Option (List ℕ) → Option (List ℕ) → Type 0
+TellsWrong contents (Lint asked) before after =
+    PrintsLint contents asked.federation.now asked.inputs.now true before after
+TellsWrong contents request before after = ⊥
+
+-- some request is so
+abbrev pub HasToldWrong : Contents → Option (List ℕ) → Option (List ℕ) → Type 0
+HasToldWrong contents before after = (request : Request) × TellsWrong contents request before after
 
 -- the report was begun, and can't be written to its end
 pub record BeginsLint (contents : Contents) (federation inputs : List ℕ) (before after : Option (List ℕ)) : Type 0 where

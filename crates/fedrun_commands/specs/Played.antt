@@ -14,8 +14,8 @@ use Rattle.fedrun_replay.specs.AsCsv.{IsReplayedIn, IsBrokenOffIn}
 use Rattle.fedrun_frames.specs.Shown.{ShowsSchedule, IsBrokenOff}
 use Rattle.fedrun_draw.specs.Drawn.{HasPicture, IsShort, IsFaultOf}
 use Rattle.fedrun_draw.specs.declared.fault.DrawFault.{DrawFault}
-use Rattle.fedrun_commands.specs.declared.play_output.PlayOutput.{PlayOutput}
-use Rattle.fedrun_commands.specs.declared.play_output.PlayOutput.TheVariants.{Rows, Frames, Picture}
+use Rattle.fedrun_commands.specs.declared.play.PlayOutput.{PlayOutput}
+use Rattle.fedrun_commands.specs.declared.play.PlayOutput.TheVariants.{Rows, Frames, Picture}
 use Rattle.fedrun_commands.specs.declared.fault.NodeFault.{NodeFault}
 use Rattle.fedrun_commands.specs.declared.fault.NodeFault.TheVariants.{World, Undrawn}
 

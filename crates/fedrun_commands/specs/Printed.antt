@@ -1,39 +1,37 @@
 -- What the program prints where all went well.
 use Rattle.std.specs.Prelude.{ℕ, false, List, Option}
-use Rattle.std.specs.Borrow.{Bor}
 use Rattle.fedrun_files.specs.Contents.{Contents}
 use Rattle.plan.specs.declared.draft.Draft.{Draft}
 use Rattle.reactor_program.specs.Behaviour.{Behaviour}
 use Rattle.fedrun_files.specs.Loaded.{input_file, IsFederation, HoldsOfSources}
 use Rattle.fedrun_whole.specs.Printed as every
-use Rattle.fedrun_run.specs.declared.output.RunOutput.{RunOutput}
-use Rattle.fedrun_run.specs.declared.output.RunOutput.TheVariants.{Rows, Steps}
+use Rattle.fedrun_whole.specs.Printed.{PrintsWhole, PrintsPlan}
 use Rattle.fedrun_run.specs.Printed.{PrintsAudited}
 use Rattle.fedrun_draw.specs.Drawn.{HasPicture}
-use Rattle.fedrun_commands.specs.declared.play_output.PlayOutput.{PlayOutput}
-use Rattle.fedrun_commands.specs.declared.play_output.PlayOutput.TheVariants as played
+use Rattle.fedrun_commands.specs.declared.play.Play.{Play}
+use Rattle.fedrun_commands.specs.declared.running.Run.{Run}
+use Rattle.fedrun_commands.specs.Asked.{as_replay, as_frames, as_picture, as_rows, as_steps}
 use Rattle.fedrun_commands.specs.Linted.{PrintsLint}
 use Rattle.fedrun_commands.specs.Played.{IsPlayedAs}
 use Rattle.fedrun_commands.specs.Schedules.{HoldsOfSchedule}
 use Rattle.fedrun_words.specs.declared.request.Request.{Request}
-use Rattle.fedrun_words.specs.declared.request.Request.TheVariants.{Replay, Run, Record, Frames, DrawFederation}
-use Rattle.fedrun_words.specs.declared.request.Request.TheVariants.{DrawSchedule, Lint, Audit}
+use Rattle.fedrun_words.specs.declared.request.Request.TheVariants.{Whole, Check, Replay, Run as RunOf, Record}
+use Rattle.fedrun_words.specs.declared.request.Request.TheVariants.{Frames, DrawFederation, DrawSchedule, Audit, Lint}
 use Rattle.fedrun_commands.specs.ReportFiles.{PrintsReportFiles}
 
 -- of a run of the federation in a file, with the recorded inputs in another, this was printed: the rows that an audit
 -- proved, or the steps by which it did, as a schedule
-abbrev pub PrintsRun : RunOutput → Contents → Bor (List ℕ) → Bor (List ℕ) → Option (List ℕ) → Option (List ℕ) → Type 0
-PrintsRun output contents federation inputs before after =
-    HoldsOfSources (contents federation.now) (input_file contents inputs.now)
-    (λ s. PrintsAudited output s.plan s.programs s.inputs before after)
+abbrev pub PrintsRun : Run → Contents → Option (List ℕ) → Option (List ℕ) → Type 0
+PrintsRun run contents before after =
+    HoldsOfSources (contents run.federation.now) (input_file contents run.inputs.now)
+    (λ s. PrintsAudited run.output s.plan s.programs s.inputs before after)
 
 -- of the schedule in a third file, played over that federation's world, and its closing rounds, this was printed
-abbrev pub PrintsPlayed : PlayOutput → Contents → Bor (List ℕ) → Bor (List ℕ) → Bor (List ℕ) → Option ℕ
-    → Option (List ℕ) → Option (List ℕ) → Type 0
-PrintsPlayed output contents federation inputs schedule closing before after =
-    HoldsOfSources (contents federation.now) (input_file contents inputs.now)
-    (λ s. HoldsOfSchedule (contents schedule.now) s.plan
-    (λ script. IsPlayedAs output s.plan s.programs s.inputs script closing before after))
+abbrev pub PrintsPlayed : Play → Contents → Option (List ℕ) → Option (List ℕ) → Type 0
+PrintsPlayed play contents before after =
+    HoldsOfSources (contents play.federation.now) (input_file contents play.inputs.now)
+    (λ s. HoldsOfSchedule (contents play.schedule.now) s.plan
+    (λ script. IsPlayedAs play.output s.plan s.programs s.inputs script play.until_stuck before after))
 
 -- a picture was printed, and the file is a federation
 pub record PrintsPicture (federation before after : Option (List ℕ)) : Type 0 where
@@ -42,27 +40,23 @@ pub record PrintsPicture (federation before after : Option (List ℕ)) : Type 0 
   pub federation_is : IsFederation federation draft programs
   pub picture : HasPicture before after
 
--- what a request that was done printed, of the federation in a file with the recorded inputs in another: of a schedule
--- that is played which steps are refused, and the rows, each step with its frames, or a picture; the rows of a run that
--- an audit proved, or its steps; a picture of the federation; what is odd in files in which nothing is wrong
+-- what this request prints where it is done, of the federation in a file with the recorded inputs in another: the rows
+-- of the undivided program; the plan; of a schedule that is played which steps are refused, and the rows, each step
+-- with its frames, or a picture; the rows of a run that an audit proved, or its steps; a picture of the federation; the
+-- rows that report files prove; what is odd in files in which nothing is wrong
 abbrev pub PrintsFor : Contents → Request → Option (List ℕ) → Option (List ℕ) → Type 0
-PrintsFor contents (Replay federation inputs schedule until_stuck format) before after =
-    PrintsPlayed (played.Rows format) contents federation inputs schedule until_stuck before after
-PrintsFor contents (Frames federation inputs schedule until_stuck) before after =
-    PrintsPlayed played.Frames contents federation inputs schedule until_stuck before after
-PrintsFor contents (DrawSchedule federation inputs schedule until_stuck) before after =
-    PrintsPlayed played.Picture contents federation inputs schedule until_stuck before after
-PrintsFor contents (DrawFederation federation) before after = PrintsPicture (contents federation.now) before after
-PrintsFor contents (Run federation inputs turns frames format) before after =
-    PrintsRun (Rows format) contents federation inputs before after
-PrintsFor contents (Record federation inputs turns frames) before after =
-    PrintsRun Steps contents federation inputs before after
-PrintsFor contents (Audit federation inputs coordinator federates format) before after =
-    PrintsReportFiles format contents federation.now inputs.now coordinator.now federates.items before after
-PrintsFor contents (Lint federation inputs) before after =
-    PrintsLint contents federation.now inputs.now false before after
-PrintsFor contents request before after = ⊥
+PrintsFor contents (Whole asked) before after = PrintsWhole contents asked before after
+PrintsFor contents (Check asked) before after = PrintsPlan (contents asked.federation.now) before after
+PrintsFor contents (Replay asked) before after = PrintsPlayed (as_replay asked) contents before after
+PrintsFor contents (Frames asked) before after = PrintsPlayed (as_frames asked) contents before after
+PrintsFor contents (DrawSchedule asked) before after = PrintsPlayed (as_picture asked) contents before after
+PrintsFor contents (DrawFederation asked) before after = PrintsPicture (contents asked.federation.now) before after
+PrintsFor contents (RunOf asked) before after = PrintsRun (as_rows asked) contents before after
+PrintsFor contents (Record asked) before after = PrintsRun (as_steps asked) contents before after
+PrintsFor contents (Audit asked) before after = PrintsReportFiles contents asked before after
+PrintsFor contents (Lint asked) before after =
+    PrintsLint contents asked.federation.now asked.inputs.now false before after
 
--- what `whole` or `check` prints was printed, or for some request of nodes, what it asks for
+-- what some request asks for was printed
 abbrev pub PrintsAnswer : Contents → Option (List ℕ) → Option (List ℕ) → Type 0
 PrintsAnswer = every.PrintsAnswer PrintsFor

@@ -20,17 +20,20 @@ use Rattle.fedrun_run.specs.Printed.{IsAuditFailure}
 use Rattle.fedrun_run.specs.declared.audit_failure.AuditFailure.{AuditFailure}
 use Rattle.desk.specs.declared.memory.Memory as run
 use Rattle.fedrun_whole.specs.Refused as every
+use Rattle.fedrun_whole.specs.Refused.{IsWholeFault, IsCheckFault}
 use Rattle.fedrun_words.specs.declared.request.Request.{Request}
-use Rattle.fedrun_words.specs.declared.request.Request.TheVariants.{Replay, Run as RunOf, Record, Frames}
-use Rattle.fedrun_words.specs.declared.request.Request.TheVariants.{DrawFederation, DrawSchedule, Lint, Audit}
+use Rattle.fedrun_words.specs.declared.request.Request.TheVariants.{Whole, Check, Replay, Run as RunOf, Record}
+use Rattle.fedrun_words.specs.declared.request.Request.TheVariants.{Frames, DrawFederation, DrawSchedule, Audit, Lint}
+use Rattle.fedrun_commands.specs.Asked.{as_replay, as_frames, as_picture, as_rows, as_steps}
 use Rattle.fedrun_commands.specs.ReportFiles.{IsFaultOfReports}
-use Rattle.fedrun_commands.specs.declared.play_output.PlayOutput.{PlayOutput}
-use Rattle.fedrun_commands.specs.declared.play_output.PlayOutput.TheVariants as played
+use Rattle.fedrun_commands.specs.declared.play.Play.{Play}
 use Rattle.fedrun_commands.specs.Linted.{IsLintFault}
 use Rattle.fedrun_commands.specs.Played.{IsPlayFault}
 use Rattle.fedrun_commands.specs.Schedules.{HoldsOfSchedule}
 use Rattle.fedrun_commands.specs.declared.fault.NodeFault.{NodeFault}
-use Rattle.fedrun_commands.specs.declared.fault.NodeFault.TheVariants.{Schedule, Undrawn, NotFinished, Unproved, Run}
+use Rattle.fedrun_commands.specs.declared.fault.NodeFault.TheVariants as of_nodes
+use Rattle.fedrun_commands.specs.declared.fault.NodeFault.TheVariants.{Schedule, Undrawn, NotFinished, Unproved}
+use Rattle.fedrun_commands.specs.declared.running.Run.{Run}
 
 -- why the schedule file isn't taken, for this federation
 pub data IsScheduleFault (d : Draft) (name : Bor (List ℕ)) (contents : Contents) (answered : List Answer → Type 0)
@@ -46,7 +49,7 @@ IsUnprintedRun s fault =
     (fault ≡ More NotFinished)
     ⊎ (((failure : AuditFailure) × (fault ≡ More (Unproved failure))
     × IsAuditFailure s.plan s.programs s.inputs failure)
-    ⊎ ((memory : run.Memory) × (fault ≡ More (Run memory))))
+    ⊎ ((memory : run.Memory) × (fault ≡ More (of_nodes.Run memory))))
 
 -- why a picture of a federation isn't printed, once it was loaded: it isn't drawn for want of memory, and nothing was
 -- printed; or it can't be written
@@ -61,25 +64,26 @@ IsRunFault s before after fault = (fault ≡ CannotWrite) ⊎ (IsUnprintedRun s 
 
 -- why a run of the federation in a file isn't printed, and what was answered about files till then: the federation
 -- file's fault comes first, then the input file's
-abbrev pub IsFaultOfRun : Contents → (List Answer → Type 0) → Option (List ℕ) → Option (List ℕ) → Bor (List ℕ)
-    → Bor (List ℕ) → Fault NodeFault → Type 0
-IsFaultOfRun contents answered before after federation inputs fault =
-    IsSourcesFault federation inputs contents answered fault
-    ⊎ (answered (asked_sources federation.now inputs.now)
-    × HoldsOfSources (contents federation.now) (input_file contents inputs.now) (λ s. IsRunFault s before after fault))
+abbrev pub IsFaultOfRun : Run → Contents → (List Answer → Type 0) → Option (List ℕ) → Option (List ℕ)
+    → Fault NodeFault → Type 0
+IsFaultOfRun run contents answered before after fault =
+    IsSourcesFault run.federation run.inputs contents answered fault
+    ⊎ (answered (asked_sources run.federation.now run.inputs.now)
+    × HoldsOfSources (contents run.federation.now) (input_file contents run.inputs.now)
+    (λ s. IsRunFault s before after fault))
 
 -- why a schedule isn't played or printed, and what was answered about files till then: the federation file's fault
 -- comes first, then the input file's, then the schedule's
-abbrev pub IsFaultOfPlay : PlayOutput → Contents → (List Answer → Type 0) → Option (List ℕ) → Option (List ℕ)
-    → Bor (List ℕ) → Bor (List ℕ) → Bor (List ℕ) → Option ℕ → Fault NodeFault → Type 0
-IsFaultOfPlay output contents answered before after federation inputs schedule closing fault =
-    IsSourcesFault federation inputs contents answered fault
-    ⊎ HoldsOfSources (contents federation.now) (input_file contents inputs.now)
-    (λ s. IsScheduleFault s.plan schedule contents
-    (λ later. answered (asked_sources federation.now inputs.now ++ later)) fault
-    ⊎ (answered (asked_sources federation.now inputs.now ++ given schedule.now ∷ [])
-    × HoldsOfSchedule (contents schedule.now) s.plan
-    (λ script. IsPlayFault output s script closing before after fault)))
+abbrev pub IsFaultOfPlay : Play → Contents → (List Answer → Type 0) → Option (List ℕ) → Option (List ℕ)
+    → Fault NodeFault → Type 0
+IsFaultOfPlay play contents answered before after fault =
+    IsSourcesFault play.federation play.inputs contents answered fault
+    ⊎ HoldsOfSources (contents play.federation.now) (input_file contents play.inputs.now)
+    (λ s. IsScheduleFault s.plan play.schedule contents
+    (λ later. answered (asked_sources play.federation.now play.inputs.now ++ later)) fault
+    ⊎ (answered (asked_sources play.federation.now play.inputs.now ++ given play.schedule.now ∷ [])
+    × HoldsOfSchedule (contents play.schedule.now) s.plan
+    (λ script. IsPlayFault play.output s script play.until_stuck before after fault)))
 
 -- the federation file is taken, and this fault comes after it
 pub record IsLateDrawFault (federation before after : Option (List ℕ)) (fault : Fault NodeFault) : Type 0 where
@@ -95,26 +99,27 @@ IsDrawFault contents answered before after federation fault =
     IsFederationFault federation contents answered fault
     ⊎ (answered (given federation.now ∷ []) × IsLateDrawFault (contents federation.now) before after fault)
 
--- why a request isn't done, and what was answered about files till then
+-- why this request isn't done, and what was answered about files till then
 abbrev pub IsFaultOf : Contents → (List Answer → Type 0) → Option (List ℕ) → Option (List ℕ) → Request
     → Fault NodeFault → Type 0
-IsFaultOf contents answered before after (Replay federation inputs schedule until_stuck format) fault =
-    IsFaultOfPlay (played.Rows format) contents answered before after federation inputs schedule until_stuck fault
-IsFaultOf contents answered before after (Frames federation inputs schedule until_stuck) fault =
-    IsFaultOfPlay played.Frames contents answered before after federation inputs schedule until_stuck fault
-IsFaultOf contents answered before after (DrawSchedule federation inputs schedule until_stuck) fault =
-    IsFaultOfPlay played.Picture contents answered before after federation inputs schedule until_stuck fault
-IsFaultOf contents answered before after (DrawFederation federation) fault =
-    IsDrawFault contents answered before after federation fault
-IsFaultOf contents answered before after (RunOf federation inputs turns frames format) fault =
-    IsFaultOfRun contents answered before after federation inputs fault
-IsFaultOf contents answered before after (Record federation inputs turns frames) fault =
-    IsFaultOfRun contents answered before after federation inputs fault
-IsFaultOf contents answered before after (Audit federation inputs coordinator federates format) fault =
-    IsFaultOfReports contents answered before after federation inputs coordinator federates.items fault
-IsFaultOf contents answered before after (Lint federation inputs) fault =
-    IsLintFault contents answered before after federation inputs fault
-IsFaultOf contents answered before after request fault = ⊥
+IsFaultOf contents answered before after (Whole asked) fault = IsWholeFault contents answered before after asked fault
+IsFaultOf contents answered before after (Check asked) fault = IsCheckFault contents answered before after asked fault
+IsFaultOf contents answered before after (Replay asked) fault =
+    IsFaultOfPlay (as_replay asked) contents answered before after fault
+IsFaultOf contents answered before after (Frames asked) fault =
+    IsFaultOfPlay (as_frames asked) contents answered before after fault
+IsFaultOf contents answered before after (DrawSchedule asked) fault =
+    IsFaultOfPlay (as_picture asked) contents answered before after fault
+IsFaultOf contents answered before after (DrawFederation asked) fault =
+    IsDrawFault contents answered before after asked.federation fault
+IsFaultOf contents answered before after (RunOf asked) fault =
+    IsFaultOfRun (as_rows asked) contents answered before after fault
+IsFaultOf contents answered before after (Record asked) fault =
+    IsFaultOfRun (as_steps asked) contents answered before after fault
+IsFaultOf contents answered before after (Audit asked) fault =
+    IsFaultOfReports contents answered before after asked fault
+IsFaultOf contents answered before after (Lint asked) fault =
+    IsLintFault contents answered before after asked.federation asked.inputs fault
 
 -- the fault is one of words, and no file was asked for, or it stands against some request
 abbrev pub Stands : Contents → (List Answer → Type 0) → Option (List ℕ) → Option (List ℕ) → Fault NodeFault → Type 0

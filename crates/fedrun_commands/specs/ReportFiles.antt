@@ -2,12 +2,10 @@
 -- are known.
 use Rattle.std.specs.Prelude.{◌≡◌, ℕ, ◌⊎◌, List, [], ◌∷◌, ◌++◌, map, Option, IfSome}
 use Rattle.std.specs.Borrow.{Bor}
-use Rattle.sha2.specs.Sha256.{sha256}
 use Rattle.node.specs.declared.event.Event.{Event}
 use Rattle.plan.specs.Federation.{federate_count}
 use Rattle.recorder_reports.specs.declared.report.Report.{Report}
 use Rattle.desk.specs.declared.memory.Memory as run
-use Rattle.files_text.specs.declared.row_format.RowFormat.{RowFormat}
 use Rattle.files_reports.specs.declared.file_digests.FileDigests.{FileDigests}
 use Rattle.files_reports.specs.declared.layout.TheConstants.{LONGEST_REPORT}
 use Rattle.files_reports.specs.declared.report_file_fault.ReportFileFault.{ReportFileFault}
@@ -17,10 +15,12 @@ use Rattle.files_reports.specs.Taken.{by_report, IsCoordinatorFault, IsFederateF
 use Rattle.fedrun_run.specs.declared.audit_failure.AuditFailure.{AuditFailure}
 use Rattle.fedrun_run.specs.declared.output.RunOutput.TheVariants.{Rows}
 use Rattle.fedrun_run.specs.Printed.{IsAuditFailureOf, IsUnfinished, PrintsReports}
+use Rattle.fedrun_words.specs.declared.request.AuditRequest.{AuditRequest}
 use Rattle.fedrun_fault.specs.declared.fault.Fault.{Fault}
 use Rattle.fedrun_fault.specs.declared.fault.Fault.TheVariants.{CannotWrite, More}
 use Rattle.fedrun_files.specs.Answers.{Answer, given}
 use Rattle.fedrun_files.specs.Contents.{Contents, AreBytesOf}
+use Rattle.fedrun_files.specs.Digests.{AreDigestsOf}
 use Rattle.fedrun_files.specs.declared.reading.Sources.{Sources}
 use Rattle.fedrun_files.specs.Loaded.{input_file, AreSources}
 use Rattle.fedrun_files.specs.Refused.{asked_sources, IsUnread, IsSourcesFault}
@@ -30,15 +30,6 @@ use Rattle.fedrun_commands.specs.declared.fault.NodeFault.TheVariants.{ReportFil
 -- names of files, as they were given
 abbrev pub Names : Type 0
 Names = List (Bor (List ℕ))
-
--- the digest of a file's bytes
-abbrev pub IsDigestOf : Option (List ℕ) → List ℕ → Type 0
-IsDigestOf known digest = (bytes : List ℕ) × AreBytesOf known bytes × (digest ≡ sha256 bytes)
-
--- the digests of the two files of a run
-pub record AreDigestsOf (federation inputs : Option (List ℕ)) (digests : FileDigests) : Type 0 where
-  pub of_federation : IsDigestOf federation digests.federation
-  pub of_inputs : IsDigestOf inputs digests.inputs
 
 -- the file is the coordinator's report of a run of these files, with this journal
 abbrev pub IsCoordinatorFile : FileDigests → Option (List ℕ) → List Event → Type 0
@@ -63,23 +54,25 @@ abbrev pub all_given : Names → List Answer
 all_given names = map (λ name. given name.now) names
 
 -- all that an audit is made of: the federation and recorded inputs, and the reports of a run of them
-pub record AreReported (contents : Contents) (federation inputs coordinator : List ℕ) (federates : Names) (s : Sources)
-    (reports : List Report) (journal : List Event) : Type 0 where
-  pub sources_are : AreSources (contents federation) (input_file contents inputs) s
+pub record AreReported (contents : Contents) (asked : AuditRequest) (s : Sources) (reports : List Report)
+    (journal : List Event) : Type 0 where
+  pub sources_are : AreSources (contents asked.federation.now) (input_file contents asked.inputs.now) s
   pub digests : FileDigests
-  pub digests_are : AreDigestsOf (contents federation) (input_file contents inputs) digests
-  pub coordinator_is : IsCoordinatorFile digests (contents coordinator) journal
-  pub federates_are : AreFederateFiles contents digests federates reports
+  pub digests_are : AreDigestsOf (contents asked.federation.now) (input_file contents asked.inputs.now)
+      digests.federation digests.inputs
+  pub coordinator_is : IsCoordinatorFile digests (contents asked.coordinator.now) journal
+  pub federates_are : AreFederateFiles contents digests asked.federates.items reports
 
 -- the rows of reports that are proved were printed: of each federate its whole part of the undivided program's rows,
 -- and no other
-pub record PrintsReportFiles (format : RowFormat) (contents : Contents) (federation inputs coordinator : List ℕ)
-    (federates : Names) (before after : Option (List ℕ)) : Type 0 where
+pub record PrintsReportFiles (contents : Contents) (asked : AuditRequest)
+    (before after : Option (List ℕ)) : Type 0 where
   pub sources : Sources
   pub reports : List Report
   pub journal : List Event
-  pub reported : AreReported contents federation inputs coordinator federates sources reports journal
-  pub prints : PrintsReports (Rows format) sources.plan sources.programs sources.inputs reports journal before after
+  pub reported : AreReported contents asked sources reports journal
+  pub prints : PrintsReports (Rows asked.format) sources.plan sources.programs sources.inputs reports journal
+      before after
 
 -- why the coordinator's file isn't taken
 pub data IsCoordinatorFileFault (digests : FileDigests) (name : Bor (List ℕ)) (contents : Contents)
@@ -127,21 +120,27 @@ IsUnprinted s reports journal before after fault =
 -- why an audit of report files prints nothing, or not all, and what was answered about files till then: files are read
 -- in the order in which they are named, and the first that isn't taken is told
 pub data IsFaultOfReports (contents : Contents) (answered : List Answer → Type 0) (before after : Option (List ℕ))
-    (federation inputs coordinator : Bor (List ℕ)) (federates : Names) (fault : Fault NodeFault) : Type 0 where
-  of_sources : IsSourcesFault federation inputs contents answered fault
-      → IsFaultOfReports contents answered before after federation inputs coordinator federates fault
-  of_coordinator : (s : Sources) → AreSources (contents federation.now) (input_file contents inputs.now) s
-      → (digests : FileDigests) → AreDigestsOf (contents federation.now) (input_file contents inputs.now) digests
-      → IsCoordinatorFileFault digests coordinator contents
-      (λ later. answered (asked_sources federation.now inputs.now ++ later)) fault
-      → IsFaultOfReports contents answered before after federation inputs coordinator federates fault
-  of_federates : (s : Sources) → AreSources (contents federation.now) (input_file contents inputs.now) s
-      → (digests : FileDigests) → AreDigestsOf (contents federation.now) (input_file contents inputs.now) digests
-      → IsFirstFileFault digests (federate_count s.plan) federates contents
-      (λ later. answered (asked_sources federation.now inputs.now ++ (given coordinator.now ∷ [] ++ later))) fault
-      → IsFaultOfReports contents answered before after federation inputs coordinator federates fault
+    (asked : AuditRequest) (fault : Fault NodeFault) : Type 0 where
+  of_sources : IsSourcesFault asked.federation asked.inputs contents answered fault
+      → IsFaultOfReports contents answered before after asked fault
+  of_coordinator : (s : Sources) → AreSources (contents asked.federation.now) (input_file contents asked.inputs.now) s
+      → (digests : FileDigests)
+      → AreDigestsOf (contents asked.federation.now) (input_file contents asked.inputs.now) digests.federation
+      digests.inputs
+      → IsCoordinatorFileFault digests asked.coordinator contents
+      (λ later. answered (asked_sources asked.federation.now asked.inputs.now ++ later)) fault
+      → IsFaultOfReports contents answered before after asked fault
+  of_federates : (s : Sources) → AreSources (contents asked.federation.now) (input_file contents asked.inputs.now) s
+      → (digests : FileDigests)
+      → AreDigestsOf (contents asked.federation.now) (input_file contents asked.inputs.now) digests.federation
+      digests.inputs
+      → IsFirstFileFault digests (federate_count s.plan) asked.federates.items contents
+      (λ later. answered (asked_sources asked.federation.now asked.inputs.now
+      ++ (given asked.coordinator.now ∷ [] ++ later))) fault
+      → IsFaultOfReports contents answered before after asked fault
   of_audit : (s : Sources) (reports : List Report) (journal : List Event)
-      → AreReported contents federation.now inputs.now coordinator.now federates s reports journal
-      → answered (asked_sources federation.now inputs.now ++ (given coordinator.now ∷ all_given federates))
+      → AreReported contents asked s reports journal
+      → answered (asked_sources asked.federation.now asked.inputs.now
+      ++ (given asked.coordinator.now ∷ all_given asked.federates.items))
       → IsUnprinted s reports journal before after fault
-      → IsFaultOfReports contents answered before after federation inputs coordinator federates fault
+      → IsFaultOfReports contents answered before after asked fault

@@ -8,15 +8,18 @@ ghost use Rattle.fedrun_run.specs.declared.output.RunOutput.TheVariants.{Rows};
 ghost use Rattle.fedrun_run.specs.Printed.{PrintsReports};
 ghost use Rattle.fedrun_files.specs.Answers.{Answers, given};
 ghost use Rattle.fedrun_commands.specs.Faults.{status_of};
-ghost use Rattle.fedrun_commands.specs.ReportFiles.{all_given, AreDigestsOf, AreFederateFiles, IsCoordinatorFile};
+ghost use Rattle.fedrun_commands.specs.Printed.{PrintsFor};
+ghost use Rattle.fedrun_commands.specs.Refused.{IsFaultOf};
+ghost use Rattle.fedrun_commands.specs.ReportFiles.{all_given, AreFederateFiles, IsCoordinatorFile};
 ghost use Rattle.fedrun_commands.specs.ReportFiles.{IsCoordinatorFileFault, IsFederateFile, IsFederateFileFault};
-ghost use Rattle.fedrun_commands.specs.ReportFiles.{IsFirstFileFault, IsFaultOfReports, IsUnprinted, PrintsReportFiles};
+ghost use Rattle.fedrun_commands.specs.ReportFiles.{IsFirstFileFault, IsUnprinted};
 
 use crate::fault::NodeFault;
 use crate::printing::flush;
 use fedrun_fault::Fault;
 use fedrun_files::{Files, Sources, bytes_of, read_sources_and_bytes};
 use fedrun_run::{AuditedFault, RunOutput, print_audited};
+use fedrun_words::{AuditRequest, Request};
 use files_reports::layout::LONGEST_REPORT;
 use files_reports::{FileDigests, read_coordinator, take_report};
 use files_text::RowFormat;
@@ -31,34 +34,43 @@ use std::io::Write;
 #[tactic(auto, using(fedrun_files::proofs::InTurn::answered_in_turn))]
 pub(crate) fn audit<'a, F: Files, O: Write>(
     alloc: Global,
-    federation: &'a str,
-    inputs: &'a str,
-    coordinator: &'a str,
-    federates: &[&'a str],
-    format: RowFormat,
+    request: &AuditRequest<'a>,
     files: &mut F,
     out: &mut O,
 ) -> Result<(), Fault<'a, NodeFault<'a>>>
-    ensures ok { OnOk result (PrintsReportFiles format (F.contents files.old) federation.entry.now inputs.entry.now
-        coordinator.entry.now federates.now (O.contents out.old) (O.contents out.new)) }
-    ensures stands { IfErr result (IsFaultOfReports (F.contents files.old)
-        (Answers (F.answers files.old) (F.answers files.new)) (O.contents out.old) (O.contents out.new) federation.entry
-        inputs.entry coordinator.entry federates.now) }
+    ensures ok { OnOk result (PrintsFor (F.contents files.old) (Request.Audit request.now) (O.contents out.old)
+        (O.contents out.new)) }
+    ensures stands { IfErr result (IsFaultOf (F.contents files.old)
+        (Answers (F.answers files.old) (F.answers files.new)) (O.contents out.old) (O.contents out.new)
+        (Request.Audit request.now)) }
     ensures untouched { IfErr result (λ fault. status_of fault ≢ 3 → out.new ≡ out.old) }
 {
-    let (sources, bytes) = match read_sources_and_bytes(alloc, federation, inputs, files) {
+    let (sources, bytes) = match read_sources_and_bytes(
+        alloc,
+        request.federation,
+        request.inputs,
+        files,
+    ) {
         Ok(read) => read,
         Err(fault) => return Err(fault),
     };
     let digests = FileDigests::new(bytes.federation.as_slice(), bytes.inputs.as_slice());
     drop(bytes);
-    let journal = match read_coordinator_file(alloc, &digests, coordinator, files) {
+    let journal = match read_coordinator_file(alloc, &digests, request.coordinator, files) {
         Ok(journal) => journal,
         Err(fault) => return Err(fault),
     };
     let mut collector = Collector::new(alloc, &sources.plan);
+    let federates = request.federates.as_slice();
     match take_files(alloc, &digests, federates, &mut collector, files) {
-        Ok(()) => print_reports(alloc, &sources, collector.reports(), &journal, format, out),
+        Ok(()) => print_reports(
+            alloc,
+            &sources,
+            collector.reports(),
+            &journal,
+            request.format,
+            out,
+        ),
         Err(fault) => Err(fault),
     }
 }

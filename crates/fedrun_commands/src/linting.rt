@@ -8,13 +8,16 @@ ghost use Rattle.fedrun_files.specs.Loaded.{input_file};
 ghost use Rattle.fedrun_files.specs.declared.named.FileFault.TheVariants.{OverLimit as over_limit};
 ghost use Rattle.fedrun_lint.specs.Answered.{PrintsReport};
 ghost use Rattle.fedrun_commands.specs.Faults.{status_of};
-ghost use Rattle.fedrun_commands.specs.Linted.{AreLookedAt, OneAnswer, known_bytes, file_of, PrintsLint, HasToldWrong};
-ghost use Rattle.fedrun_commands.specs.Linted.{IsReportFault, IsLintFault};
+ghost use Rattle.fedrun_commands.specs.Linted.{AreLookedAt, OneAnswer, known_bytes, file_of, TellsWrong};
+ghost use Rattle.fedrun_commands.specs.Linted.{IsReportFault};
+ghost use Rattle.fedrun_commands.specs.Printed.{PrintsFor};
+ghost use Rattle.fedrun_commands.specs.Refused.{IsFaultOf};
 
 use crate::fault::NodeFault;
 use fedrun_fault::Fault;
 use fedrun_files::{FileFault, Files, fault_of};
 use fedrun_lint::{LintFault, NamedFile, print_report};
+use fedrun_words::{LintRequest, Request};
 use loadfed::{LoadFault, MOST_BYTES, MOST_INPUT_BYTES};
 use std::alloc::Global;
 use std::io::Write;
@@ -23,53 +26,51 @@ use std::io::Write;
 /// fault, once it was printed.
 pub(crate) fn lint<'a, F: Files, O: Write>(
     alloc: Global,
-    federation: &'a str,
-    inputs: &'a str,
+    request: &LintRequest<'a>,
     files: &mut F,
     out: &mut O,
 ) -> Result<(), Fault<'a, NodeFault<'a>>>
-    ensures ok { OnOk result (PrintsLint (F.contents files.old) federation.entry.now inputs.entry.now false
-        (O.contents out.old) (O.contents out.new)) }
-    ensures stands { IfErr result (IsLintFault (F.contents files.old)
-        (Answers (F.answers files.old) (F.answers files.new)) (O.contents out.old) (O.contents out.new) federation.entry
-        inputs.entry) }
+    ensures ok { OnOk result (PrintsFor (F.contents files.old) (Request.Lint request.now) (O.contents out.old)
+        (O.contents out.new)) }
+    ensures stands { IfErr result (IsFaultOf (F.contents files.old)
+        (Answers (F.answers files.old) (F.answers files.new)) (O.contents out.old) (O.contents out.new)
+        (Request.Lint request.now)) }
     ensures untouched { IfErr result
         (λ fault. status_of fault ≡ 1 → (out.new ≡ out.old)
-        ⊎ HasToldWrong (F.contents files.old) (O.contents out.old) (O.contents out.new)) }
+        ⊎ TellsWrong (F.contents files.old) (Request.Lint request.now) (O.contents out.old) (O.contents out.new)) }
     ensures used { IfErr result (λ fault. status_of fault ≢ 2) }
 {
-    let first = match bytes_if_few(federation, files, MOST_BYTES) {
+    let first = match bytes_if_few(request.federation, files, MOST_BYTES) {
         Ok(bytes) => bytes,
-        Err(why) => return Err(fault_of(federation, why)),
+        Err(why) => return Err(fault_of(request.federation, why)),
     };
-    let second = match inputs_if_few(alloc, inputs, files) {
+    let second = match inputs_if_few(alloc, request.inputs, files) {
         Ok(bytes) => bytes,
-        Err(why) => return Err(fault_of(inputs, why)),
+        Err(why) => return Err(fault_of(request.inputs, why)),
     };
-    print_lint(alloc, federation, &first, inputs, &second, out)
+    print_lint(alloc, request, &first, &second, out)
 }
 
 /// Prints the report on two files, of which one that is too long has no bytes here.
 fn print_lint<'a, O: Write>(
     alloc: Global,
-    federation: &'a str,
+    request: &LintRequest<'a>,
     first: &Option<Vec<u8>>,
-    inputs: &'a str,
     second: &Option<Vec<u8>>,
     out: &mut O,
 ) -> Result<(), Fault<'a, NodeFault<'a>>>
-    ensures ok { OnOk result (PrintsReport (file_of federation.now first.now) (file_of inputs.now second.now) false
-        (O.contents out.old) (O.contents out.new)) }
-    ensures stands { IfErr result (IsReportFault (file_of federation.now first.now) (file_of inputs.now second.now)
-        (O.contents out.old) (O.contents out.new)) }
+    ensures ok { OnOk result (PrintsReport (file_of request.now.federation.now first.now)
+        (file_of request.now.inputs.now second.now) false (O.contents out.old) (O.contents out.new)) }
+    ensures stands { IfErr result (IsReportFault (file_of request.now.federation.now first.now)
+        (file_of request.now.inputs.now second.now) (O.contents out.old) (O.contents out.new)) }
     ensures untouched { result ≡ Err (Load Memory) → out.new ≡ out.old }
 {
     let first = NamedFile {
-        name: federation,
+        name: request.federation,
         bytes: bytes_in(first),
     };
     let second = NamedFile {
-        name: inputs,
+        name: request.inputs,
         bytes: bytes_in(second),
     };
     match print_report(alloc, &first, &second, out) {

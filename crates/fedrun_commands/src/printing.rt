@@ -13,15 +13,15 @@ ghost use Rattle.fedrun_commands.specs.Played.{IsDrawn, IsPlayedAs, IsPlayFault}
 ghost use Rattle.fedrun_commands.specs.Refused.{IsPictureFault, IsRunFault};
 
 use crate::fault::NodeFault;
-use crate::play_output::PlayOutput;
+use crate::play::{PlayOutput, Scheduled};
+use crate::running::Run;
 use fedrun_draw::{DrawFault, draw_federation, draw_schedule};
 use fedrun_fault::Fault;
 use fedrun_files::Sources;
 use fedrun_frames::frames;
 use fedrun_progress::Progress;
 use fedrun_replay::{ReplayFault, replay_in};
-use fedrun_run::{AuditedFault, RunOutput, print_audited_run};
-use files_script::Script;
+use fedrun_run::{AuditedFault, print_audited_run};
 use files_text::RowFormat;
 use plan::Plan;
 use std::alloc::Global;
@@ -30,39 +30,30 @@ use std::net::{Net, TcpListener, TcpStream};
 use std::sync::Wait;
 use std::thread::Threads;
 use std::time::Clock;
-use wires::Terms;
 
 /// Plays a schedule and prints what is asked for. Where there is no memory for a step, what is printed of the steps
 /// before it stands.
 pub(crate) fn print_played<O: Write, P: Progress>(
     alloc: Global,
-    sources: &Sources,
-    script: &Script,
-    until_stuck: Option<u32>,
+    scheduled: &Scheduled,
     output: PlayOutput,
     out: &mut O,
     progress: &P,
 ) -> Result<(), Fault<'static, NodeFault<'static>>>
-    requires programs { AreProgramsOf sources.now.plan sources.now.programs }
-    requires inputs { AreInputsOf sources.now.plan sources.now.inputs }
-    ensures ok { OnOk result (IsPlayedAs output sources.now.plan sources.now.programs sources.now.inputs script.now
-        until_stuck (O.contents out.old) (O.contents out.new)) }
-    ensures stands { IfErr result (IsPlayFault output sources.now script.now until_stuck (O.contents out.old)
+    requires programs { AreProgramsOf scheduled.now.sources.plan scheduled.now.sources.programs }
+    requires inputs { AreInputsOf scheduled.now.sources.plan scheduled.now.sources.inputs }
+    ensures ok { OnOk result (IsPlayedAs output scheduled.now.sources.plan scheduled.now.sources.programs
+        scheduled.now.sources.inputs scheduled.now.script
+        scheduled.now.until_stuck (O.contents out.old) (O.contents out.new)) }
+    ensures stands { IfErr result (IsPlayFault output scheduled.now.sources scheduled.now.script
+        scheduled.now.until_stuck (O.contents out.old)
         (O.contents out.new)) }
     ensures untouched { IfErr result (λ fault. status_of fault ≢ 3 → out.new ≡ out.old) }
 {
     match output {
-        PlayOutput::Rows(format) => print_replay(
-            alloc,
-            sources,
-            script,
-            until_stuck,
-            format,
-            out,
-            progress,
-        ),
-        PlayOutput::Frames => print_frames(alloc, sources, script, until_stuck, out),
-        PlayOutput::Picture => print_schedule_picture(alloc, sources, script, until_stuck, out),
+        PlayOutput::Rows(format) => print_replay(alloc, scheduled, format, out, progress),
+        PlayOutput::Frames => print_frames(alloc, scheduled, out),
+        PlayOutput::Picture => print_schedule_picture(alloc, scheduled, out),
     }
 }
 
@@ -70,29 +61,30 @@ pub(crate) fn print_played<O: Write, P: Progress>(
 /// are written, or as comma-separated values nothing.
 fn print_replay<O: Write, P: Progress>(
     alloc: Global,
-    sources: &Sources,
-    script: &Script,
-    until_stuck: Option<u32>,
+    scheduled: &Scheduled,
     format: RowFormat,
     out: &mut O,
     progress: &P,
 ) -> Result<(), Fault<'static, NodeFault<'static>>>
-    requires programs { AreProgramsOf sources.now.plan sources.now.programs }
-    requires inputs { AreInputsOf sources.now.plan sources.now.inputs }
-    ensures ok { OnOk result (IsReplayedIn format sources.now.plan sources.now.programs sources.now.inputs script.now
-        until_stuck (O.contents out.old) (O.contents out.new)) }
-    ensures stands { IfErr result (IsPlayFault (PlayOutput.Rows format) sources.now script.now until_stuck
+    requires programs { AreProgramsOf scheduled.now.sources.plan scheduled.now.sources.programs }
+    requires inputs { AreInputsOf scheduled.now.sources.plan scheduled.now.sources.inputs }
+    ensures ok { OnOk result (IsReplayedIn format scheduled.now.sources.plan scheduled.now.sources.programs
+        scheduled.now.sources.inputs scheduled.now.script
+        scheduled.now.until_stuck (O.contents out.old) (O.contents out.new)) }
+    ensures stands { IfErr result (IsPlayFault (PlayOutput.Rows format) scheduled.now.sources scheduled.now.script
+        scheduled.now.until_stuck
         (O.contents out.old) (O.contents out.new)) }
     ensures late { IfErr result (λ fault. status_of fault ≡ 3) }
 {
+    let sources = &scheduled.sources;
     match replay_in(
         alloc,
         out,
         &sources.plan,
         &sources.programs,
         &sources.inputs,
-        script,
-        until_stuck,
+        &scheduled.script,
+        scheduled.until_stuck,
         format,
         progress,
     ) {
@@ -108,27 +100,28 @@ fn print_replay<O: Write, P: Progress>(
 /// Plays a schedule and prints what `frames` does. Where there is no memory for a step, those before it are written.
 fn print_frames<O: Write>(
     alloc: Global,
-    sources: &Sources,
-    script: &Script,
-    until_stuck: Option<u32>,
+    scheduled: &Scheduled,
     out: &mut O,
 ) -> Result<(), Fault<'static, NodeFault<'static>>>
-    requires programs { AreProgramsOf sources.now.plan sources.now.programs }
-    requires inputs { AreInputsOf sources.now.plan sources.now.inputs }
-    ensures ok { OnOk result (ShowsSchedule sources.now.plan sources.now.programs sources.now.inputs script.now
-        until_stuck (O.contents out.old) (O.contents out.new)) }
-    ensures stands { IfErr result (IsPlayFault PlayOutput.Frames sources.now script.now until_stuck (O.contents out.old)
+    requires programs { AreProgramsOf scheduled.now.sources.plan scheduled.now.sources.programs }
+    requires inputs { AreInputsOf scheduled.now.sources.plan scheduled.now.sources.inputs }
+    ensures ok { OnOk result (ShowsSchedule scheduled.now.sources.plan scheduled.now.sources.programs
+        scheduled.now.sources.inputs scheduled.now.script
+        scheduled.now.until_stuck (O.contents out.old) (O.contents out.new)) }
+    ensures stands { IfErr result (IsPlayFault PlayOutput.Frames scheduled.now.sources scheduled.now.script
+        scheduled.now.until_stuck (O.contents out.old)
         (O.contents out.new)) }
     ensures late { IfErr result (λ fault. status_of fault ≡ 3) }
 {
+    let sources = &scheduled.sources;
     match frames(
         alloc,
         out,
         &sources.plan,
         &sources.programs,
         &sources.inputs,
-        script,
-        until_stuck,
+        &scheduled.script,
+        scheduled.until_stuck,
     ) {
         Ok(()) => flush(out),
         Err(ReplayFault::World(memory)) => {
@@ -142,27 +135,28 @@ fn print_frames<O: Write>(
 /// Plays a schedule and prints a picture of it.
 fn print_schedule_picture<O: Write>(
     alloc: Global,
-    sources: &Sources,
-    script: &Script,
-    until_stuck: Option<u32>,
+    scheduled: &Scheduled,
     out: &mut O,
 ) -> Result<(), Fault<'static, NodeFault<'static>>>
-    requires programs { AreProgramsOf sources.now.plan sources.now.programs }
-    requires inputs { AreInputsOf sources.now.plan sources.now.inputs }
-    ensures ok { OnOk result (IsDrawn sources.now.plan sources.now.programs sources.now.inputs script.now until_stuck
+    requires programs { AreProgramsOf scheduled.now.sources.plan scheduled.now.sources.programs }
+    requires inputs { AreInputsOf scheduled.now.sources.plan scheduled.now.sources.inputs }
+    ensures ok { OnOk result (IsDrawn scheduled.now.sources.plan scheduled.now.sources.programs
+        scheduled.now.sources.inputs scheduled.now.script scheduled.now.until_stuck
         (O.contents out.old) (O.contents out.new)) }
-    ensures stands { IfErr result (IsPlayFault PlayOutput.Picture sources.now script.now until_stuck
+    ensures stands { IfErr result (IsPlayFault PlayOutput.Picture scheduled.now.sources scheduled.now.script
+        scheduled.now.until_stuck
         (O.contents out.old) (O.contents out.new)) }
     ensures untouched { IfErr result (λ fault. status_of fault ≢ 3 → out.new ≡ out.old) }
 {
+    let sources = &scheduled.sources;
     match draw_schedule(
         alloc,
         out,
         &sources.plan,
         &sources.programs,
         &sources.inputs,
-        script,
-        until_stuck,
+        &scheduled.script,
+        scheduled.until_stuck,
     ) {
         Ok(()) => flush(out),
         Err(DrawFault::CannotWrite) => Err(Fault::CannotWrite),
@@ -196,14 +190,13 @@ pub(crate) fn print_run<
     rt: &R,
     alloc: Global,
     sources: &Sources,
-    terms: Terms,
-    output: RunOutput,
+    run: &Run<'_>,
     out: &mut O,
     progress: &P,
 ) -> Result<(), Fault<'static, NodeFault<'static>>>
     requires programs { AreProgramsOf sources.now.plan sources.now.programs }
     requires inputs { AreInputsOf sources.now.plan sources.now.inputs }
-    ensures ok { OnOk result (PrintsAudited output sources.now.plan sources.now.programs sources.now.inputs
+    ensures ok { OnOk result (PrintsAudited run.now.output sources.now.plan sources.now.programs sources.now.inputs
         (O.contents out.old) (O.contents out.new)) }
     ensures stands { IfErr result (IsRunFault sources.now (O.contents out.old) (O.contents out.new)) }
     ensures late { IfErr result (λ fault. status_of fault ≡ 3) }
@@ -214,8 +207,8 @@ pub(crate) fn print_run<
         &sources.plan,
         &sources.programs,
         &sources.inputs,
-        terms,
-        output,
+        run.terms,
+        run.output,
         out,
         progress,
     ) {

@@ -1,7 +1,11 @@
 -- Lemmas.
+-- results
+pub mod Results
 -- answers one after the other
 pub mod InTurn
 -- faults of files whose bytes are known
 pub mod KnownFiles
+-- digests of files
+pub mod Digests
 -- faults where other files were asked for before
 pub mod FaultsInTurn

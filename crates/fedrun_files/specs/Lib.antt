@@ -3,6 +3,8 @@
 pub mod Contents
 -- what was answered about them
 pub mod Answers
+-- the digests of files
+pub mod Digests
 -- the federation and the recorded inputs in files
 pub mod Loaded
 -- which fault stands where a file isn't taken

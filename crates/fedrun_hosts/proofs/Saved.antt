@@ -5,6 +5,7 @@ use Rattle.network.specs.Undivided.{Row}
 use Rattle.plan.specs.Federation.{federate_number}
 use Rattle.fedrun_files.specs.Contents.{Contents}
 use Rattle.fedrun_files.specs.declared.reading.Sources.{Sources}
+use Rattle.fedrun_files.specs.Digests.{AreDigestsOf}
 use Rattle.fedrun_files.specs.Loaded.{input_file, AreSources}
 use Rattle.files_saving.specs.Contents.{Contents as Saved, KnownOf}
 use Rattle.files_saving.specs.Saved.{IsReserved, IsSaved}
@@ -12,12 +13,11 @@ use Rattle.files_saving.proofs.Reserved.{saved_where_reserved}
 use Rattle.files_reports.specs.declared.file_digests.FileDigests.{FileDigests}
 use Rattle.files_reports.specs.Said.{Said, by_federate}
 use Rattle.files_reports.specs.File.{IsReportOf}
-use Rattle.fedrun_commands.specs.ReportFiles.{AreDigestsOf}
 use Rattle.fedrun_hosts.specs.declared.request.NodeRequest.{NodeRequest}
 use Rattle.fedrun_hosts.specs.Ended.{SavesReport, HasJoined}
 
 pub saves_report : (contents : Contents) (n : NodeRequest) (sources : Sources) (digests : FileDigests) (said : Said) (temporary : List ℕ) (before reserved after : Option Saved) →
-    AreSources (contents n.federation.now) (input_file contents n.inputs.now) sources → AreDigestsOf (contents n.federation.now) (input_file contents n.inputs.now) digests → temporary ≢ n.report.now → KnownOf before reserved (IsReserved temporary n.report.now) →
+    AreSources (contents n.federation.now) (input_file contents n.inputs.now) sources → AreDigestsOf (contents n.federation.now) (input_file contents n.inputs.now) digests.federation digests.inputs → temporary ≢ n.report.now → KnownOf before reserved (IsReserved temporary n.report.now) →
     (bytes : List ℕ) × IsReportOf digests said bytes × KnownOf reserved after (IsSaved temporary n.report.now bytes) → SavesReport contents n said before after
 saves_report contents n sources digests said temporary before reserved after sources_are are other is_reserved (bytes, spelled, saved) = record {
   sources = sources;
@@ -31,7 +31,7 @@ saves_report contents n sources digests said temporary before reserved after sou
 
 pub has_joined : (contents : Contents) (n : NodeRequest) (name : List ℕ) (sources : Sources) (digests : FileDigests) (federate : ℕ) (rows : List Row) (journal : List Event)
     (temporary : List ℕ) (before reserved after : Option Saved) → federate_number sources.plan.federates name ≡ Some federate →
-    AreSources (contents n.federation.now) (input_file contents n.inputs.now) sources → AreDigestsOf (contents n.federation.now) (input_file contents n.inputs.now) digests →
+    AreSources (contents n.federation.now) (input_file contents n.inputs.now) sources → AreDigestsOf (contents n.federation.now) (input_file contents n.inputs.now) digests.federation digests.inputs →
     temporary ≢ n.report.now → KnownOf before reserved (IsReserved temporary n.report.now) →
     (bytes : List ℕ) × IsReportOf digests (by_federate federate rows journal) bytes × KnownOf reserved after (IsSaved temporary n.report.now bytes) →
     HasJoined contents n name before after

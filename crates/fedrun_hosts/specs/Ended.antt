@@ -7,13 +7,13 @@ use Rattle.node_cores.specs.CoordinatorCore.{CoordinatorNode, coordinator_core}
 use Rattle.desk.specs.Replay.{Desk, replay}
 use Rattle.fedrun_files.specs.Contents.{Contents}
 use Rattle.fedrun_files.specs.declared.reading.Sources.{Sources}
+use Rattle.fedrun_files.specs.Digests.{AreDigestsOf}
 use Rattle.fedrun_files.specs.Loaded.{input_file, AreSources}
 use Rattle.files_saving.specs.Contents.{Contents as Saved, KnownOf}
 use Rattle.files_saving.specs.Saved.{IsCreated}
 use Rattle.files_reports.specs.declared.file_digests.FileDigests.{FileDigests}
 use Rattle.files_reports.specs.Said.{Said, by_coordinator, by_federate}
 use Rattle.files_reports.specs.File.{IsReportOf}
-use Rattle.fedrun_commands.specs.ReportFiles.{AreDigestsOf}
 use Rattle.fedrun_hosts.specs.declared.request.NodeRequest.{NodeRequest}
 
 -- the node's two files are a federation and recorded inputs of it; and there is one file more, of the report's name: it
@@ -24,7 +24,8 @@ pub record SavesReport (contents : Contents) (n : NodeRequest) (said : Said)
   pub sources : Sources
   pub sources_are : AreSources (contents n.federation.now) (input_file contents n.inputs.now) sources
   pub digests : FileDigests
-  pub digests_are : AreDigestsOf (contents n.federation.now) (input_file contents n.inputs.now) digests
+  pub digests_are : AreDigestsOf (contents n.federation.now) (input_file contents n.inputs.now) digests.federation
+      digests.inputs
   pub bytes : List ℕ
   pub spelled : IsReportOf digests said bytes
   pub saved : KnownOf before after (IsCreated n.report.now bytes)

@@ -1,6 +1,6 @@
 ghost use Rattle.std.specs.Prelude.{IfOk};
+ghost use Rattle.fedrun_files.specs.Digests.{AreDigestsOf};
 ghost use Rattle.fedrun_files.specs.Loaded.{input_file, AreSources};
-ghost use Rattle.fedrun_commands.specs.ReportFiles.{AreDigestsOf};
 
 use crate::fault::HostFault;
 use crate::request::NodeRequest;
@@ -33,7 +33,7 @@ pub(crate) fn load<'a, F: Files>(
         (input_file (F.contents files.old) node.now.inputs.now) loaded.sources) }
     ensures digests { IfOk result (λ loaded.
         AreDigestsOf (F.contents files.old node.now.federation.now)
-        (input_file (F.contents files.old) node.now.inputs.now) loaded.digests) }
+        (input_file (F.contents files.old) node.now.inputs.now) loaded.digests.federation loaded.digests.inputs) }
 {
     let (sources, bytes) = match read_sources_and_bytes(
         alloc,

@@ -1,7 +1,6 @@
 -- Which fault stands where a command prints nothing more: in the words, in the files of the request, or after all was
 -- loaded. What a writer holds before and after is said of faults that come after that.
 use Rattle.std.specs.Prelude.{◌≡◌, ℕ, ◌⊎◌, List, [], ◌∷◌, Option}
-use Rattle.std.specs.Borrow.{Bor}
 use Rattle.plan.specs.declared.draft.Draft.{Draft}
 use Rattle.plan.specs.declared.input.Input.{Input}
 use Rattle.reactor_program.specs.Behaviour.{Behaviour}
@@ -9,7 +8,10 @@ use Rattle.reactor.specs.declared.memory.Memory as turns
 use Rattle.files_text.specs.declared.memory.Memory as text
 use Rattle.files_text.specs.declared.row_format.RowFormat.{RowFormat}
 use Rattle.fedrun_words.specs.declared.reading.WordsFault.{WordsFault}
+use Rattle.fedrun_words.specs.declared.request.CheckRequest.{CheckRequest}
 use Rattle.fedrun_words.specs.declared.request.Request.{Request}
+use Rattle.fedrun_words.specs.declared.request.Request.TheVariants.{Whole, Check}
+use Rattle.fedrun_words.specs.declared.request.WholeRequest.{WholeRequest}
 use Rattle.fedrun_fault.specs.declared.fault.Fault.{Fault}
 use Rattle.fedrun_fault.specs.declared.fault.Fault.TheVariants.{CannotWrite, Turns, Print, More}
 use Rattle.fedrun_fault.specs.declared.more.NoSuchCommand.{NoSuchCommand}
@@ -52,35 +54,34 @@ pub record IsPrintFault {M : Type 0} (federation before after : Option (List ℕ
 -- why `whole` isn't done, and what was answered about files till then: the federation file's fault comes first, then
 -- the input file's
 abbrev pub IsWholeFault : {M : Type 0} → Contents → (List Answer → Type 0) → Option (List ℕ) → Option (List ℕ)
-    → Bor (List ℕ) → Bor (List ℕ) → ℕ → RowFormat → Fault M → Type 0
-IsWholeFault contents answered before after federation inputs turns format fault =
-    IsSourcesFault federation inputs contents answered fault
-    ⊎ (answered (asked_sources federation.now inputs.now)
-    × HoldsOfSources (contents federation.now) (input_file contents inputs.now)
-    (λ s. IsTurnsFault s.plan s.programs s.inputs turns format before after fault))
+    → WholeRequest → Fault M → Type 0
+IsWholeFault contents answered before after asked fault =
+    IsSourcesFault asked.federation asked.inputs contents answered fault
+    ⊎ (answered (asked_sources asked.federation.now asked.inputs.now)
+    × HoldsOfSources (contents asked.federation.now) (input_file contents asked.inputs.now)
+    (λ s. IsTurnsFault s.plan s.programs s.inputs asked.turns asked.format before after fault))
 
 -- why `check` isn't done, and what was answered about files till then
 abbrev pub IsCheckFault : {M : Type 0} → Contents → (List Answer → Type 0) → Option (List ℕ) → Option (List ℕ)
-    → Bor (List ℕ) → Fault M → Type 0
-IsCheckFault contents answered before after federation fault =
-    IsFederationFault federation contents answered fault
-    ⊎ (answered (given federation.now ∷ []) × IsPrintFault (contents federation.now) before after fault)
+    → CheckRequest → Fault M → Type 0
+IsCheckFault contents answered before after asked fault =
+    IsFederationFault asked.federation contents answered fault
+    ⊎ (answered (given asked.federation.now ∷ []) × IsPrintFault (contents asked.federation.now) before after fault)
 
--- the fault is one of words, and no file was asked for, or it stands against some request, of a further command as is
--- said of it
-pub data Stands {M : Type 0} (further : Contents → (List Answer → Type 0) → Option (List ℕ) → Option (List ℕ) → Request
-    → Fault M → Type 0) (contents : Contents) (answered : List Answer → Type 0) (before after : Option (List ℕ))
-    (fault : Fault M) : Type 0 where
-  words : IsWordsFault fault → answered [] → Stands further contents answered before after fault
-  whole : (federation inputs : Bor (List ℕ)) (turns : ℕ) (format : RowFormat)
-      → IsWholeFault contents answered before after federation inputs turns format fault
-      → Stands further contents answered before after fault
-  check : (federation : Bor (List ℕ)) → IsCheckFault contents answered before after federation fault
-      → Stands further contents answered before after fault
-  more : (request : Request) → further contents answered before after request fault
-      → Stands further contents answered before after fault
-
--- the same of a program that has `whole` and `check` alone
-abbrev pub StandsAlone : Contents → (List Answer → Type 0) → Option (List ℕ) → Option (List ℕ)
+-- why this request isn't done by a program that has `whole` and `check` alone, and what was answered about files till
+-- then
+abbrev pub IsFaultAlone : Contents → (List Answer → Type 0) → Option (List ℕ) → Option (List ℕ) → Request
     → Fault NoSuchCommand → Type 0
-StandsAlone = Stands (λ contents answered before after request fault. IsNoSuchCommand answered fault)
+IsFaultAlone contents answered before after (Whole asked) fault =
+    IsWholeFault contents answered before after asked fault
+IsFaultAlone contents answered before after (Check asked) fault =
+    IsCheckFault contents answered before after asked fault
+IsFaultAlone contents answered before after request fault = IsNoSuchCommand answered fault
+
+-- the fault is one of words, and no file was asked for, or it stands against some request
+pub data Stands {M : Type 0} (IsFaultOf : Contents → (List Answer → Type 0) → Option (List ℕ) → Option (List ℕ)
+    → Request → Fault M → Type 0) (contents : Contents) (answered : List Answer → Type 0)
+    (before after : Option (List ℕ)) (fault : Fault M) : Type 0 where
+  words : IsWordsFault fault → answered [] → Stands IsFaultOf contents answered before after fault
+  request : (asked : Request) → IsFaultOf contents answered before after asked fault
+      → Stands IsFaultOf contents answered before after fault

@@ -3,8 +3,8 @@ ghost use Rattle.fedrun_words.specs.Lines.{PrintsFault};
 ghost use Rattle.fedrun_words.specs.Pieces.{AppendsPrefix, AppendsPrinted};
 ghost use Rattle.fedrun_files.specs.Answers.{Answers};
 ghost use Rattle.fedrun_whole.specs.Faults.{status_of, printed_fault};
-ghost use Rattle.fedrun_whole.specs.Printed.{PrintsAlone};
-ghost use Rattle.fedrun_whole.specs.Refused.{StandsAlone};
+ghost use Rattle.fedrun_whole.specs.Printed.{PrintsAlone, PrintsAnswer};
+ghost use Rattle.fedrun_whole.specs.Refused.{IsFaultAlone, Stands};
 
 use crate::requests::perform;
 use fedrun_fault::{Answered, NoSuchCommand, refuse};
@@ -25,11 +25,13 @@ pub fn command<F: Files, O: Write, E: Write, P: Progress>(
     err: &mut E,
     progress: &P,
 ) -> u8
-    ensures done { result ≡ 0 → PrintsAlone (F.contents files.old) (O.contents out.old) (O.contents out.new) }
+    ensures done { result ≡ 0 → PrintsAnswer PrintsAlone (F.contents files.old) (O.contents out.old)
+        (O.contents out.new) }
     ensures quiet { result ≡ 0 → err.new ≡ err.old }
     ensures printed { result ≢ 0 → PrintsFault
-        (StandsAlone (F.contents files.old) (Answers (F.answers files.old) (F.answers files.new)) (O.contents out.old)
-        (O.contents out.new)) status_of printed_fault result (AppendsPrefix (E.contents err.old) (E.contents err.new)) }
+        (Stands IsFaultAlone (F.contents files.old) (Answers (F.answers files.old) (F.answers files.new))
+        (O.contents out.old) (O.contents out.new)) status_of printed_fault result
+        (AppendsPrefix (E.contents err.old) (E.contents err.new)) }
     ensures untouched { result ≡ 1 → out.new ≡ out.old }
     ensures unused { result ≡ 2 → out.new ≡ out.old }
     ensures statuses { result ≤ 3 }
@@ -46,10 +48,11 @@ pub fn answer<F: Files, O: Write, E: Write, P: Progress>(
     err: &mut E,
     progress: &P,
 ) -> Answered
-    ensures done { result.status ≡ 0 → PrintsAlone (F.contents files.old) (O.contents out.old) (O.contents out.new) }
+    ensures done { result.status ≡ 0 → PrintsAnswer PrintsAlone (F.contents files.old) (O.contents out.old)
+        (O.contents out.new) }
     ensures quiet { result.status ≡ 0 → err.new ≡ err.old }
     ensures printed { result.status ≢ 0
-        → PrintsFault (StandsAlone (F.contents files.old) (Answers (F.answers files.old) (F.answers files.new))
+        → PrintsFault (Stands IsFaultAlone (F.contents files.old) (Answers (F.answers files.old) (F.answers files.new))
         (O.contents out.old) (O.contents out.new)) status_of printed_fault result.status
         (AppendsPrinted result.is_printed (E.contents err.old) (E.contents err.new)) }
     ensures untouched { result.status ≡ 1 → out.new ≡ out.old }

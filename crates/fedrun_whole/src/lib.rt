@@ -10,10 +10,12 @@
 pub mod answering;
 mod printing;
 pub mod requests;
+pub mod start;
 pub mod turns;
 
 pub use answering::{answer, command};
 pub use requests::{check, whole};
+pub use start::given;
 pub use turns::print_turns;
 
 /// How many bytes a program gives to standard output at once.

@@ -9,11 +9,11 @@ ghost use Rattle.fedrun_whole.specs.PrintedTurns.{PrintsRows, PrintsFirstRows, I
 ghost use Rattle.fedrun_whole.specs.Refused.{IsTurnsFault};
 
 use fedrun_fault::{Fault, MoreFault};
+use fedrun_files::Sources;
 use fedrun_progress::Progress;
 use files_text::{CannotWrite, RowFormat, write_heading, write_rows};
-use plan::{Inputs, Plan};
+use plan::Plan;
 use reactor::Rows;
-use reactor_programs::Programs;
 use std::alloc::Global;
 use std::io::Write;
 use whole::Whole;
@@ -25,24 +25,24 @@ const TURNS_AT_ONCE: u32 = 1024;
 /// there is no memory for a turn, the rows before it are written.
 pub fn print_turns<M: MoreFault, O: Write, P: Progress>(
     alloc: Global,
-    plan: &Plan,
-    programs: &Programs,
-    inputs: &Inputs,
+    sources: &Sources,
     turns: u32,
     format: RowFormat,
     out: &mut O,
     progress: &P,
 ) -> Result<(), Fault<'static, M>>
-    requires programs { AreProgramsOf plan.now programs.now }
-    requires inputs { AreInputsOf plan.now inputs.now }
-    ensures ok { OnOk result (PrintsRows plan.now programs.now inputs.now turns format (O.contents out.old)
+    requires programs { AreProgramsOf sources.now.plan sources.now.programs }
+    requires inputs { AreInputsOf sources.now.plan sources.now.inputs }
+    ensures ok { OnOk result (PrintsRows sources.now.plan sources.now.programs sources.now.inputs turns format
+        (O.contents out.old)
         (O.contents out.new)) }
-    ensures stands { IfErr result (IsTurnsFault plan.now programs.now inputs.now turns format (O.contents out.old)
+    ensures stands { IfErr result (IsTurnsFault sources.now.plan sources.now.programs sources.now.inputs turns format
+        (O.contents out.old)
         (O.contents out.new)) }
     ensures late { IfErr result (λ fault. status_of M.status_of fault ≡ 3) }
 {
-    progress.until(plan.stop_time());
-    let Ok(turned) = print_all(alloc, plan, programs, inputs, turns, format, out, progress) else {
+    progress.until(sources.plan.stop_time());
+    let Ok(turned) = print_all(alloc, sources, turns, format, out, progress) else {
         return Err(Fault::CannotWrite);
     };
     if out.flush().is_err() {
@@ -57,26 +57,31 @@ pub fn print_turns<M: MoreFault, O: Write, P: Progress>(
 /// Makes at most this many turns, or as many as there is memory for, and prints their rows under their heading.
 fn print_all<O: Write, P: Progress>(
     alloc: Global,
-    plan: &Plan,
-    programs: &Programs,
-    inputs: &Inputs,
+    sources: &Sources,
     turns: u32,
     format: RowFormat,
     out: &mut O,
     progress: &P,
 ) -> Result<Result<(), reactor::Memory>, CannotWrite>
-    requires programs { AreProgramsOf plan.now programs.now }
-    requires inputs { AreInputsOf plan.now inputs.now }
+    requires programs { AreProgramsOf sources.now.plan sources.now.programs }
+    requires inputs { AreInputsOf sources.now.plan sources.now.inputs }
     ensures ok { IfOk result (λ turned.
-        OnOk turned (PrintsRows plan.now programs.now inputs.now turns format (O.contents out.old)
-        (O.contents out.new))) }
+        OnOk turned (PrintsRows sources.now.plan sources.now.programs sources.now.inputs turns format
+        (O.contents out.old) (O.contents out.new))) }
     ensures err { IfOk result (λ turned.
-        OnErr turned (PrintsFirstRows plan.now programs.now inputs.now turns format (O.contents out.old)
-        (O.contents out.new))) }
+        OnErr turned (PrintsFirstRows sources.now.plan sources.now.programs sources.now.inputs turns format
+        (O.contents out.old) (O.contents out.new))) }
 {
     write_heading(out, format)?;
-    match Whole::new(alloc, plan, programs, inputs) {
-        Ok(mut program) => print_in_batches(&mut program, plan, turns, format, out, progress),
+    match Whole::new(alloc, &sources.plan, &sources.programs, &sources.inputs) {
+        Ok(mut program) => print_in_batches(
+            &mut program,
+            &sources.plan,
+            turns,
+            format,
+            out,
+            progress,
+        ),
         Err(memory) => Ok(Err(memory)),
     }
 }

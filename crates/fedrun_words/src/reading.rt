@@ -1,4 +1,7 @@
-use crate::request::Request;
+use crate::request::{
+    AuditRequest, CheckRequest, DrawFederationRequest, DrawScheduleRequest, FramesRequest,
+    LintRequest, RecordRequest, ReplayRequest, Request, RunRequest, WholeRequest,
+};
 use clap::error::{Error, ErrorKind};
 use clap::{Arg, ArgAction, ArgMatches, Command};
 use files_text::RowFormat;
@@ -238,56 +241,56 @@ fn described<'a>(alloc: Global, subcommand: Subcommand) -> Result<Command<'a>, A
 }
 
 fn whole<'a>(given: &ArgMatches<'a>) -> Option<Request<'a>> {
-    Some(Request::Whole {
+    Some(Request::Whole(WholeRequest {
         federation: given.get_str("FED")?,
         inputs: given.get_str("IN")?,
         turns: count(given.get_str("TURNS")?)?,
         format: row_format(given),
-    })
+    }))
 }
 
 fn check<'a>(given: &ArgMatches<'a>) -> Option<Request<'a>> {
-    Some(Request::Check {
+    Some(Request::Check(CheckRequest {
         federation: given.get_str("FED")?,
-    })
+    }))
 }
 
 fn replay<'a>(given: &ArgMatches<'a>) -> Option<Request<'a>> {
-    Some(Request::Replay {
+    Some(Request::Replay(ReplayRequest {
         federation: given.get_str("FED")?,
         inputs: given.get_str("IN")?,
         schedule: given.get_str("SCHEDULE")?,
         until_stuck: until_stuck(given)?,
         format: row_format(given),
-    })
+    }))
 }
 
 fn run<'a>(given: &ArgMatches<'a>) -> Option<Request<'a>> {
-    Some(Request::Run {
+    Some(Request::Run(RunRequest {
         federation: given.get_str("FED")?,
         inputs: given.get_str("IN")?,
         turns: turns(given)?,
         frames: frames(given)?,
         format: row_format(given),
-    })
+    }))
 }
 
 fn record<'a>(given: &ArgMatches<'a>) -> Option<Request<'a>> {
-    Some(Request::Record {
+    Some(Request::Record(RecordRequest {
         federation: given.get_str("FED")?,
         inputs: given.get_str("IN")?,
         turns: turns(given)?,
         frames: frames(given)?,
-    })
+    }))
 }
 
 fn frames_of_schedule<'a>(given: &ArgMatches<'a>) -> Option<Request<'a>> {
-    Some(Request::Frames {
+    Some(Request::Frames(FramesRequest {
         federation: given.get_str("FED")?,
         inputs: given.get_str("IN")?,
         schedule: given.get_str("SCHEDULE")?,
         until_stuck: until_stuck(given)?,
-    })
+    }))
 }
 
 /// The federation alone, or a schedule of it.
@@ -298,22 +301,24 @@ fn draw<'a>(given: &ArgMatches<'a>) -> Option<Request<'a>> {
         given.get_str("SCHEDULE"),
         until_stuck(given)?,
     ) {
-        (None, None, None) => Some(Request::DrawFederation { federation }),
-        (Some(inputs), Some(schedule), until_stuck) => Some(Request::DrawSchedule {
-            federation,
-            inputs,
-            schedule,
-            until_stuck,
-        }),
+        (None, None, None) => Some(Request::DrawFederation(DrawFederationRequest { federation })),
+        (Some(inputs), Some(schedule), until_stuck) => Some(Request::DrawSchedule(
+            DrawScheduleRequest {
+                federation,
+                inputs,
+                schedule,
+                until_stuck,
+            },
+        )),
         _ => None,
     }
 }
 
 fn lint<'a>(given: &ArgMatches<'a>) -> Option<Request<'a>> {
-    Some(Request::Lint {
+    Some(Request::Lint(LintRequest {
         federation: given.get_str("FED")?,
         inputs: given.get_str("IN").unwrap_or("-"),
-    })
+    }))
 }
 
 fn audit<'a>(alloc: Global, given: &ArgMatches<'a>) -> Result<Request<'a>, WordsFault> {
@@ -325,13 +330,13 @@ fn audit<'a>(alloc: Global, given: &ArgMatches<'a>) -> Result<Request<'a>, Words
     ) {
         (Some(federation), Some(inputs), Some(coordinator), Some(federates)) => {
             match Vec::from_slice(alloc, federates) {
-                Ok(federates) => Ok(Request::Audit {
+                Ok(federates) => Ok(Request::Audit(AuditRequest {
                     federation,
                     inputs,
                     coordinator,
                     federates,
                     format: row_format(given),
-                }),
+                })),
                 Err(_) => Err(WordsFault::Memory),
             }
         }

@@ -1,74 +1,123 @@
+//! What the words ask for: a variant for each command, with a struct of what is given to it. Files are given by their
+//! names; an `inputs` of `-` is a file without any.
 use files_text::RowFormat;
 
-/// What the words ask for. Files are given by their names; an `inputs` of `-` is a file without any.
+/// What the words ask for.
 #[derive(Debug, PartialEq, Eq, Drop)]
 pub enum Request<'a> {
-    /// The rows of the undivided program after at most this many turns, in this format.
-    Whole {
-        federation: &'a str,
-        inputs: &'a str,
-        turns: u32,
-        format: RowFormat,
-    },
+    /// The rows of the undivided program.
+    Whole(WholeRequest<'a>),
     /// The plan.
-    Check {
-        federation: &'a str,
-    },
-    /// The steps that a schedule's world refuses, and the rows after it, or in the other format the rows alone; with
-    /// `until_stuck`, after this many closing rounds at most.
-    Replay {
-        federation: &'a str,
-        inputs: &'a str,
-        schedule: &'a str,
-        until_stuck: Option<u32>,
-        format: RowFormat,
-    },
-    /// The rows of the federation in threads, of which each makes this many turns at most, in this format. Federates
-    /// write this version of frames, 1 or 2.
-    Run {
-        federation: &'a str,
-        inputs: &'a str,
-        turns: u32,
-        frames: u8,
-        format: RowFormat,
-    },
+    Check(CheckRequest<'a>),
+    /// The steps that a schedule's world refuses, and the rows after it, or in the other format the rows alone.
+    Replay(ReplayRequest<'a>),
+    /// The rows of the federation in threads.
+    Run(RunRequest<'a>),
     /// The steps of such a run, as a schedule.
-    Record {
-        federation: &'a str,
-        inputs: &'a str,
-        turns: u32,
-        frames: u8,
-    },
-    /// Each step of a schedule, with the frames that it sent; with `until_stuck`, those of this many closing rounds at
-    /// most too.
-    Frames {
-        federation: &'a str,
-        inputs: &'a str,
-        schedule: &'a str,
-        until_stuck: Option<u32>,
-    },
+    Record(RecordRequest<'a>),
+    /// Each step of a schedule, with the frames that it sent.
+    Frames(FramesRequest<'a>),
     /// The picture of the federation.
-    DrawFederation {
-        federation: &'a str,
-    },
-    /// The picture of a schedule; with `until_stuck`, of this many closing rounds at most too.
-    DrawSchedule {
-        federation: &'a str,
-        inputs: &'a str,
-        schedule: &'a str,
-        until_stuck: Option<u32>,
-    },
-    /// The rows that the reports of a run's nodes prove: the coordinator's, and those of federates in any order.
-    Audit {
-        federation: &'a str,
-        inputs: &'a str,
-        coordinator: &'a str,
-        federates: Vec<&'a str>,
-        format: RowFormat,
-    },
+    DrawFederation(DrawFederationRequest<'a>),
+    /// The picture of a schedule.
+    DrawSchedule(DrawScheduleRequest<'a>),
+    /// The rows that the reports of a run's nodes prove.
+    Audit(AuditRequest<'a>),
     /// All that is wrong or odd in the two files.
-    Lint {
-        federation: &'a str,
-        inputs: &'a str,
-    },
+    Lint(LintRequest<'a>),
+}
+
+/// What is given to `whole`.
+#[derive(Clone, Copy, Debug, PartialEq, Eq)]
+pub struct WholeRequest<'a> {
+    pub federation: &'a str,
+    pub inputs: &'a str,
+    /// How many turns are made at most.
+    pub turns: u32,
+    pub format: RowFormat,
+}
+
+/// What is given to `check`.
+#[derive(Clone, Copy, Debug, PartialEq, Eq)]
+pub struct CheckRequest<'a> {
+    pub federation: &'a str,
+}
+
+/// What is given to `replay`.
+#[derive(Clone, Copy, Debug, PartialEq, Eq)]
+pub struct ReplayRequest<'a> {
+    pub federation: &'a str,
+    pub inputs: &'a str,
+    pub schedule: &'a str,
+    /// How many closing rounds there may be after the schedule, where some are asked for.
+    pub until_stuck: Option<u32>,
+    pub format: RowFormat,
+}
+
+/// What is given to `run`.
+#[derive(Clone, Copy, Debug, PartialEq, Eq)]
+pub struct RunRequest<'a> {
+    pub federation: &'a str,
+    pub inputs: &'a str,
+    /// How many turns each thread makes at most.
+    pub turns: u32,
+    /// The version of frames that federates write, 1 or 2.
+    pub frames: u8,
+    pub format: RowFormat,
+}
+
+/// What is given to `record`.
+#[derive(Clone, Copy, Debug, PartialEq, Eq)]
+pub struct RecordRequest<'a> {
+    pub federation: &'a str,
+    pub inputs: &'a str,
+    /// How many turns each thread makes at most.
+    pub turns: u32,
+    /// The version of frames that federates write, 1 or 2.
+    pub frames: u8,
+}
+
+/// What is given to `frames`.
+#[derive(Clone, Copy, Debug, PartialEq, Eq)]
+pub struct FramesRequest<'a> {
+    pub federation: &'a str,
+    pub inputs: &'a str,
+    pub schedule: &'a str,
+    /// How many closing rounds there may be after the schedule, where some are asked for.
+    pub until_stuck: Option<u32>,
+}
+
+/// What is given to `draw`, where it is given no schedule.
+#[derive(Clone, Copy, Debug, PartialEq, Eq)]
+pub struct DrawFederationRequest<'a> {
+    pub federation: &'a str,
+}
+
+/// What is given to `draw`, where it is given a schedule.
+#[derive(Clone, Copy, Debug, PartialEq, Eq)]
+pub struct DrawScheduleRequest<'a> {
+    pub federation: &'a str,
+    pub inputs: &'a str,
+    pub schedule: &'a str,
+    /// How many closing rounds there may be after the schedule, where some are asked for.
+    pub until_stuck: Option<u32>,
+}
+
+/// What is given to `audit`.
+#[derive(Debug, PartialEq, Eq, Drop)]
+pub struct AuditRequest<'a> {
+    pub federation: &'a str,
+    pub inputs: &'a str,
+    /// The coordinator's report.
+    pub coordinator: &'a str,
+    /// The reports of federates, in any order.
+    pub federates: Vec<&'a str>,
+    pub format: RowFormat,
+}
+
+/// What is given to `lint`.
+#[derive(Clone, Copy, Debug, PartialEq, Eq)]
+pub struct LintRequest<'a> {
+    pub federation: &'a str,
+    pub inputs: &'a str,
 }

@@ -8,15 +8,13 @@
 use fedrun_fault::{Fault, NoSuchCommand, refuse};
 use fedrun_files::MachineFiles;
 use fedrun_progress::{NoProgress, ProgressLine, asks_for_progress};
-use fedrun_whole::{OUT_BYTES, command};
-use fedrun_words::{WordsFault, given_words};
-use std::io::{BufWriter, Stdout};
+use fedrun_whole::{command, given};
 use std::process::ExitCode;
 use std::thread;
 
 fn main(rt: HostRuntime) -> ExitCode {
     let mut err = rt.stderr();
-    let status = match given(&rt) {
+    let status = match given(&rt, rt.stdout()) {
         Ok((words, mut out)) => {
             let words = words.as_slice();
             let mut files = MachineFiles::new(&rt);
@@ -46,13 +44,4 @@ fn main(rt: HostRuntime) -> ExitCode {
         }
     };
     ExitCode::from(status)
-}
-
-/// The machine's words, and its output through a buffer.
-fn given(rt: &HostRuntime) -> Result<(Vec<String>, BufWriter<Stdout>), WordsFault> {
-    let words = given_words(rt)?;
-    match BufWriter::with_capacity(rt.alloc(), OUT_BYTES, rt.stdout()) {
-        Ok(out) => Ok((words, out)),
-        Err(_) => Err(WordsFault::Memory),
-    }
 }

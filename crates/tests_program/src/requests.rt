@@ -2,7 +2,7 @@
 use crate::outcome::assert_answers;
 use tests_samples::{CHAIN, CHAIN_INPUT, COUNTER, SENDER};
 
-/// Words that are no command: a few of those that the crate `tests_libraries` tries.
+/// Words that are no command: a few of those that the crate `tests_fedrun_words` tries.
 const REFUSED: &[&[&str]] = &[
     &[],
     &["whole", "fed.toml", "-", "+4"],

@@ -12,7 +12,7 @@ use tests_lines::tags::at;
 use tests_samples::{Machine, loaded};
 use wires::NodeWorkers;
 use wires_transports::{Broken, Cut, Ending, Failures, Transport};
-use wires_workers::{Context, NoGate, Side, WriterQueue};
+use wires_workers::{Context, NoGate, RetryState, Side, WriterQueue};
 
 /// An end on which sends are counted.
 #[derive(Drop)]
@@ -184,7 +184,7 @@ fn sends_of<R: Wait + Clock>(
         if time == 4 {
             context.hand_in(rt, alloc, &mut share, &[Event::Frame(0, ack(700))]);
         }
-        context.take_turns(rt, alloc, &mut share, 64);
+        context.take_turns(rt, alloc, &mut share, &mut RetryState::new(64));
         counts.push(sends.load(Ordering::SeqCst)).ok()?;
     }
     Some(counts)

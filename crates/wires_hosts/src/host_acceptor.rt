@@ -9,12 +9,15 @@ use std::alloc::{AllocError, Global};
 use std::io::ErrorKind;
 use std::net::TcpListener;
 use std::random::RandomSource;
-use std::sync::{Arc, Wait};
+use std::sync::Wait;
 use std::thread;
 use std::time::{Clock, Duration};
 use wires_greeting::{DIGEST_SIZE, Key};
-use wires_transports::times::{CALM_AFTER_MS, CALM_PAUSE_MS, END_MS, PAUSE_MS};
-use wires_transports::{Accepted, Acceptor, Cut, Deadline, Ending, TcpCut, TcpTransport};
+use wires_transports::acceptor::pause;
+use wires_transports::times::{CALM_AFTER_MS, PAUSE_MS};
+use wires_transports::{
+    Accepted, Acceptor, CurrentConnections, Deadline, Ending, TcpCut, TcpTransport,
+};
 
 // Connections that are taken from the listener in a row, at most.
 const AT_ONCE: usize = 64;
@@ -22,6 +25,9 @@ const AT_ONCE: usize = 64;
 /// Connections that aren't let in so far, at most. Of more some are given up, drawn at random: however many strangers
 /// connect, each connection of a federate has its chance to be let in.
 pub const PENDING_MOST: usize = 128;
+
+/// The federates' connections, and their readers.
+type HostConnections<'a> = CurrentConnections<HeardTransport<'a, TcpTransport>, TcpCut>;
 
 /// To a federate's reader.
 pub type HostReader<'a> = Sender<Accepted<HeardTransport<'a, TcpTransport>, TcpCut>>;
@@ -48,9 +54,7 @@ pub struct HostAcceptor<'a, S: RandomSource> {
     random: &'a S,
     entrance: HostEntrance,
     heard: &'a Heard,
-    readers: Vec<HostReader<'a>>,
-    // The connection of each federate, while it has one.
-    current: Vec<Option<Arc<TcpCut>>>,
+    current: HostConnections<'a>,
     // All federates may take part.
     allowed: Vec<bool>,
 }
@@ -64,15 +68,13 @@ impl<'a, S: RandomSource> HostAcceptor<'a, S> {
         heard: &'a Heard,
         readers: Vec<HostReader<'a>>,
     ) -> Result<HostAcceptor<'a, S>, AllocError> {
-        let mut current = Vec::new(alloc);
-        current.resize_with(readers.len(), || None)?;
         let mut allowed = Vec::new(alloc);
         allowed.resize_with(readers.len(), || true)?;
+        let current = CurrentConnections::new(alloc, readers)?;
         Ok(HostAcceptor {
             random,
             entrance,
             heard,
-            readers,
             current,
             allowed,
         })
@@ -85,7 +87,6 @@ impl<'a, S: RandomSource> Acceptor for HostAcceptor<'a, S> {
             random,
             entrance,
             heard,
-            readers,
             mut current,
             allowed,
         } = self;
@@ -94,25 +95,15 @@ impl<'a, S: RandomSource> Acceptor for HostAcceptor<'a, S> {
             allowed: &allowed,
             is_finished: false,
         };
-        let pending = let_in_until(
-            rt,
-            alloc,
-            &entrance,
-            &terms,
-            heard,
-            &readers,
-            &mut current,
-            ending,
-        );
-        drop(readers);
-        end_all(rt, &current);
+        let pending = let_in_until(rt, alloc, &entrance, &terms, heard, &mut current, ending);
+        current.end(rt);
         if heard.is_finished(ending) {
             let terms = Terms {
                 random,
                 allowed: &allowed,
                 is_finished: true,
             };
-            tell_all(rt, alloc, &entrance, &terms, heard, pending);
+            tell_all(rt, alloc, &entrance, &terms, heard, pending, &mut current);
         }
     }
 }
@@ -124,8 +115,7 @@ fn let_in_until<'a, R: Wait + Clock, S: RandomSource>(
     entrance: &HostEntrance,
     terms: &Terms<'_, S>,
     heard: &'a Heard,
-    readers: &[HostReader<'a>],
-    current: &mut [Option<Arc<TcpCut>>],
+    current: &mut HostConnections<'a>,
     ending: &Ending,
 ) -> Vec<PendingHost> {
     let mut pending = Vec::new(alloc);
@@ -135,25 +125,26 @@ fn let_in_until<'a, R: Wait + Clock, S: RandomSource>(
             break;
         }
         let has_come = accept_some(rt, entrance, terms.random, &mut pending);
-        if has_come || !pending.is_empty() || !are_all_there(current) {
+        if has_come || !pending.is_empty() || !current.are_all_there() {
             calm = Deadline::after(rt, CALM_AFTER_MS);
         }
         if !has_come {
             thread::sleep(rt, Duration::from_millis(pause(calm.has_passed(rt))));
         }
-        pending = listen_to(rt, alloc, terms, heard, pending, readers, current);
+        pending = listen_to(rt, alloc, terms, heard, pending, current);
     }
     pending
 }
 
-// Tells whoever asks that the run is finished, until all federates were told or the patience is over.
-fn tell_all<R: Wait + Clock, S: RandomSource>(
+// Tells whoever asks that the run is finished, where no reader gets a connection any more, until all federates were told or the patience is over.
+fn tell_all<'a, R: Wait + Clock, S: RandomSource>(
     rt: &R,
     alloc: Global,
     entrance: &HostEntrance,
     terms: &Terms<'_, S>,
-    heard: &Heard,
+    heard: &'a Heard,
     pending: Vec<PendingHost>,
+    current: &mut HostConnections<'a>,
 ) {
     let mut pending = pending;
     let patience = Deadline::after(rt, millis(entrance.patience));
@@ -164,7 +155,7 @@ fn tell_all<R: Wait + Clock, S: RandomSource>(
         if !accept_some(rt, entrance, terms.random, &mut pending) {
             thread::sleep(rt, Duration::from_millis(PAUSE_MS));
         }
-        pending = listen_to(rt, alloc, terms, heard, pending, &[], &mut []);
+        pending = listen_to(rt, alloc, terms, heard, pending, current);
     }
 }
 
@@ -175,16 +166,6 @@ fn millis(duration: Duration) -> u64 {
         .saturating_mul(1000)
         .saturating_add(u64::from(duration.subsec_millis()))
         .min(LONGEST_PATIENCE_MS)
-}
-
-// Whether every federate has a connection that a worker has.
-fn are_all_there(current: &[Option<Arc<TcpCut>>]) -> bool {
-    current.iter().all(|place| matches!(place, Some(cut) if Arc::strong_count(cut) > 1))
-}
-
-// How long it waits for connections before it looks again, in ms.
-fn pause(is_calm: bool) -> u64 {
-    if is_calm { CALM_PAUSE_MS } else { PAUSE_MS }
 }
 
 // Takes connections that came to those that are pending, and gives some of them up where these are too many; whether
@@ -237,8 +218,7 @@ fn listen_to<'a, R: Wait + Clock, S: RandomSource>(
     terms: &Terms<'_, S>,
     heard: &'a Heard,
     pending: Vec<PendingHost>,
-    readers: &[HostReader<'a>],
-    current: &mut [Option<Arc<TcpCut>>],
+    current: &mut HostConnections<'a>,
 ) -> Vec<PendingHost> {
     let mut left = Vec::new(alloc);
     for mut host in pending {
@@ -247,69 +227,14 @@ fn listen_to<'a, R: Wait + Clock, S: RandomSource>(
                 let _ = left.push(host);
             }
             HostState::Hello(federate) => {
-                hand_on(
-                    rt,
-                    alloc,
-                    heard,
-                    readers,
-                    current,
-                    usize::from(federate),
-                    host,
-                );
+                if let Some(accepted) = host.into_accepted(alloc, heard) {
+                    heard.hear();
+                    current.hand_on(rt, usize::from(federate), accepted);
+                }
             }
             HostState::Told(federate) => heard.note_told(federate),
             HostState::Closed => {}
         }
     }
     left
-}
-
-// Hands a connection to its federate's reader, in place of the older one, which is ended. Where that can't be, it is
-// ended too, so that the federate connects again.
-fn hand_on<'a, R: Wait>(
-    rt: &R,
-    alloc: Global,
-    heard: &'a Heard,
-    readers: &[HostReader<'a>],
-    current: &mut [Option<Arc<TcpCut>>],
-    federate: usize,
-    host: PendingHost,
-) {
-    let Some(reader) = readers.get(federate) else {
-        return;
-    };
-    let Some(place) = current.get_mut(federate) else {
-        return;
-    };
-    let Some(accepted) = host.into_accepted(alloc, heard) else {
-        return;
-    };
-    heard.hear();
-    if let Some(older) = place.take() {
-        older.cut(rt);
-    }
-    if let Ok(cut) = Arc::try_clone(&accepted.connection.cut) {
-        match reader.send(rt, accepted) {
-            Ok(()) => *place = Some(cut),
-            Err(_) => cut.cut(rt),
-        }
-    }
-}
-
-// Ends the connections, once no worker has them any more or the time for that is over.
-fn end_all<R: Wait + Clock>(rt: &R, current: &[Option<Arc<TcpCut>>]) {
-    let deadline = Deadline::after(rt, END_MS);
-    for _ in rt.forever() {
-        let is_read = current
-            .iter()
-            .flatten()
-            .all(|cut| Arc::strong_count(cut) == 1);
-        if is_read || deadline.has_passed(rt) {
-            break;
-        }
-        thread::sleep(rt, Duration::from_millis(PAUSE_MS));
-    }
-    for cut in current.iter().flatten() {
-        cut.cut(rt);
-    }
 }

@@ -2,17 +2,18 @@
 ghost use Rattle.std.specs.Prelude.{◌≡◌};
 
 use crate::connection::Accepted;
+use crate::current_connections::CurrentConnections;
 use crate::cut::Cut;
 use crate::deadline::Deadline;
 use crate::ending::Ending;
 use crate::expected_peers::{ExpectedPeers, Origin};
 use crate::pending_connection::{HandshakeState, PendingConnection};
 use crate::tcp::{TcpCut, TcpTransport, connection};
-use crate::times::{CALM_AFTER_MS, CALM_PAUSE_MS, END_MS, PAUSE_MS};
+use crate::times::{CALM_AFTER_MS, CALM_PAUSE_MS, PAUSE_MS};
 use crossbeam_channel::Sender;
 use std::alloc::{AllocError, Global};
 use std::net::{TcpListener, TcpStream};
-use std::sync::{Arc, Wait};
+use std::sync::Wait;
 use std::thread;
 use std::time::{Clock, Duration};
 
@@ -36,10 +37,7 @@ pub trait Acceptor: Drop {
 pub struct TcpAcceptor<'a> {
     listener: TcpListener,
     expected: &'a ExpectedPeers,
-    // To the reader of each federate, by its number.
-    readers: Vec<Sender<Accepted<TcpTransport, TcpCut>>>,
-    // The connection of each federate, while it has one.
-    current: Vec<Option<Arc<TcpCut>>>,
+    current: CurrentConnections<TcpTransport, TcpCut>,
 }
 
 impl<'a> TcpAcceptor<'a> {
@@ -51,12 +49,10 @@ impl<'a> TcpAcceptor<'a> {
         expected: &'a ExpectedPeers,
         readers: Vec<Sender<Accepted<TcpTransport, TcpCut>>>,
     ) -> Result<TcpAcceptor<'a>, AllocError> {
-        let mut current = Vec::new(alloc);
-        current.resize_with(readers.len(), || None)?;
+        let current = CurrentConnections::new(alloc, readers)?;
         Ok(TcpAcceptor {
             listener,
             expected,
-            readers,
             current,
         })
     }
@@ -67,7 +63,6 @@ impl<'a> Acceptor for TcpAcceptor<'a> {
         let TcpAcceptor {
             listener,
             expected,
-            readers,
             mut current,
         } = self;
         let mut arrived = Vec::new(alloc);
@@ -78,26 +73,21 @@ impl<'a> Acceptor for TcpAcceptor<'a> {
                 break;
             }
             let came = accept_some(&listener, &mut arrived);
-            if came || !arrived.is_empty() || !pending.is_empty() || !are_all_there(&current) {
+            if came || !arrived.is_empty() || !pending.is_empty() || !current.are_all_there() {
                 calm = Deadline::after(rt, CALM_AFTER_MS);
             }
             if !came {
                 thread::sleep(rt, Duration::from_millis(pause(calm.has_passed(rt))));
             }
             arrived = sort_out(rt, alloc, expected, arrived, &mut pending);
-            pending = listen_to(rt, alloc, pending, &readers, &mut current);
+            pending = listen_to(rt, alloc, pending, &mut current);
         }
-        end_all(rt, &current);
+        current.end(rt);
     }
 }
 
-// Whether every federate has a connection.
-fn are_all_there(current: &[Option<Arc<TcpCut>>]) -> bool {
-    current.iter().all(|cut| cut.is_some())
-}
-
-// How long it waits for connections before it looks again, in ms.
-fn pause(is_calm: bool) -> u64 {
+/// How long an acceptor waits for connections before it looks again, in ms.
+pub fn pause(is_calm: bool) -> u64 {
     if is_calm { CALM_PAUSE_MS } else { PAUSE_MS }
 }
 
@@ -147,62 +137,19 @@ fn listen_to<R: Wait + Clock>(
     rt: &R,
     alloc: Global,
     pending: Vec<PendingConnection>,
-    readers: &[Sender<Accepted<TcpTransport, TcpCut>>],
-    current: &mut [Option<Arc<TcpCut>>],
+    current: &mut CurrentConnections<TcpTransport, TcpCut>,
 ) -> Vec<PendingConnection> {
     let mut left = Vec::new(alloc);
     for mut connection in pending {
-        match connection.listen(rt, readers.len()) {
+        match connection.listen(rt, current.federate_count()) {
             HandshakeState::NotYet => {
                 let _ = left.push(connection);
             }
-            HandshakeState::Hello(federate) => hand_on(rt, readers, current, federate, connection),
+            HandshakeState::Hello(federate) => {
+                current.hand_on(rt, federate, connection.into_accepted());
+            }
             HandshakeState::NoHello => connection.cut().cut(rt),
         }
     }
     left
-}
-
-// Hands a connection to its federate's reader, in place of the older one, which is ended. Where there is no memory for
-// it, it is ended too, so that the federate connects again.
-fn hand_on<R: Wait>(
-    rt: &R,
-    readers: &[Sender<Accepted<TcpTransport, TcpCut>>],
-    current: &mut [Option<Arc<TcpCut>>],
-    federate: usize,
-    connection: PendingConnection,
-) {
-    let Some(reader) = readers.get(federate) else {
-        return;
-    };
-    let Some(place) = current.get_mut(federate) else {
-        return;
-    };
-    if let Some(older) = place.take() {
-        older.cut(rt);
-    }
-    if let Ok(cut) = Arc::try_clone(connection.cut()) {
-        match reader.send(rt, connection.into_accepted()) {
-            Ok(()) => *place = Some(cut),
-            Err(_) => cut.cut(rt),
-        }
-    }
-}
-
-// Ends the connections, once no worker has them any more or the time for that is over.
-fn end_all<R: Wait + Clock>(rt: &R, current: &[Option<Arc<TcpCut>>]) {
-    let deadline = Deadline::after(rt, END_MS);
-    for _ in rt.forever() {
-        let is_read = current
-            .iter()
-            .flatten()
-            .all(|cut| Arc::strong_count(cut) == 1);
-        if is_read || deadline.has_passed(rt) {
-            break;
-        }
-        thread::sleep(rt, Duration::from_millis(PAUSE_MS));
-    }
-    for cut in current.iter().flatten() {
-        cut.cut(rt);
-    }
 }

@@ -14,6 +14,7 @@
 pub mod acceptor;
 pub mod broken;
 pub mod connection;
+pub mod current_connections;
 pub mod cut;
 pub mod deadline;
 pub mod dial;
@@ -31,6 +32,7 @@ pub mod transport;
 pub use acceptor::{Acceptor, TcpAcceptor};
 pub use broken::Broken;
 pub use connection::{Accepted, Connection};
+pub use current_connections::CurrentConnections;
 pub use cut::Cut;
 pub use deadline::Deadline;
 pub use dial::{Dial, TcpDial};

@@ -6,6 +6,8 @@ pub mod RetryState
 pub mod HandedIn
 -- The events that a reader makes of what its peer sends.
 pub mod AreRead
+-- Which frames go to which peer.
+pub mod ByPeer
 -- The frames that wait for a writer's next send.
 pub mod Waiting
 -- Which frames may wait until there are others for their peer.

@@ -4,7 +4,7 @@ use Rattle.std.specs.List.{list_all}
 use Rattle.signal.specs.declared.frame.Frame.{Frame}
 use Rattle.signal.specs.declared.frame.Frame.TheVariants.{Hello, Data, Ack, Refuse}
 use Rattle.node.specs.declared.outgoing.Outgoing.{Outgoing}
-use Rattle.wires_workers.specs.declared.writer_queue.TheConstants.{ACKS_AT_ONCE}
+use Rattle.wires_workers.specs.declared.queue_state.TheConstants.{ACKS_AT_ONCE}
 
 -- an Ack
 abbrev pub is_ack : Frame → Bool

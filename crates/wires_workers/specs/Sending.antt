@@ -2,9 +2,9 @@
 use Rattle.std.specs.Prelude.{ℕ, Bool, false, not, ◌&&◌, ◌||◌, if◌then◌else◌, nat_eq, nat_le, List, length, Option}
 use Rattle.std.specs.Prelude.{None, Some}
 use Rattle.node.specs.declared.outgoing.Outgoing.{Outgoing}
-use Rattle.wires_workers.specs.declared.writer_queue.Task.{Task}
-use Rattle.wires_workers.specs.declared.writer_queue.Task.TheVariants.{Leave, Notify, Write}
-use Rattle.wires_workers.specs.declared.context.TheConstants.{SIGNALS_BEHIND}
+use Rattle.wires_workers.specs.declared.queue_state.Task.{Task}
+use Rattle.wires_workers.specs.declared.queue_state.Task.TheVariants.{Leave, Notify, Write}
+use Rattle.wires_workers.specs.declared.behind.TheConstants.{SIGNALS_BEHIND}
 use Rattle.wires_workers.specs.LoneAcks.{are_few_acks}
 
 -- whether a peer is behind that hasn't acknowledged this many signals

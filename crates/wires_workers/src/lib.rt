@@ -3,38 +3,56 @@
 //! Promise to the layer above: what is handed in are the frames that were read, and whole turns, and no more; what a
 //! runner does next is `specs/RetryState`. Nothing is said of when a call returns.
 //!
-//!     federate                                                  coordinator
-//!     dialed::read_dialed -- connects, Hello first ----------> an acceptor --- the connection ---+
-//!         |  reads frames                                                                        v
-//!         +--> Context::take_in: gate, then the node's desk, and turns there                reader::read
-//!                   |            |                                                               |
-//!            WriterQueue       WakeUp::Done                                        Context::take_in <---+
-//!              |         |       v                                               |
-//!            sends   writer::write    runner::run --> Context::take_turns    WriterQueue, one for each federate
+//! The life of each, from left to right; all workers of a node share one `Context`:
 //!
-//! All workers of a node share one `Context`. A run ends where `Ending` is set: runners stop and tell their writers,
-//! writers end what they send, readers come to the end of what was sent. Begin with `gate`, then `context`, then
-//! `reader`.
+//!     reader    greets on a connection -> HandIn, Read, HandIn, .. (`ReaderStep`) -> ends it, and greets on the next
+//!     runner    may begin its turns ----> Turn, Wait, Turn, Repeat, .. (`Next`) ---> its turns are used up
+//!     writer    opens its queue --------> look, send all, wait, .. ----------------> sends the rest, and finishes
+//!
+//! A federate's reader makes its connections itself (`dialed`); the coordinator's are passed them by an acceptor.
+//!
+//! How the events of a reader and a runner become steps, and how what the steps say goes out:
+//!
+//!     Context::take_in, hand_in      a reader: what its peer sent, and turns behind it
+//!     Context::take_turns, repeat    a runner: turns, and what may be lost
+//!        |
+//!        |  gate                     passed before each event; where it is open, not at all
+//!        +-> Session::begin          the desk's lock
+//!        +-> Session::enter_all, enter_turns     steps; the replies are gathered
+//!        +-> Context::leave          frames into each peer's WriterQueue, the lock given up, WriterQueue::send
+//!        +-> Context::wake_up        the runner, where something was done in its absence
+//!
+//! A run ends where `Ending` is set: runners stop and tell their writers, writers end what they send, readers come to
+//! the end of what was sent. Begin with `gate`, then `context`, `session` and `handing_in`, then `reader`.
 #![tactic(auto)]
 
+mod behind;
+mod by_peer;
 pub mod context;
 pub mod dialed;
 pub mod gate;
 mod greeted;
+pub mod handing_in;
+mod leaving;
+mod queue_state;
 pub mod reader;
 pub mod retry_state;
 pub mod runner;
+mod session;
 pub mod side;
+pub mod turns;
 pub mod wake_ups;
 pub mod writer;
 pub mod writer_queue;
 
-pub use context::{Context, TakenIn, Turns};
+pub use context::Context;
 pub use dialed::read_dialed;
 pub use gate::{Gate, NoGate, Point};
+pub use handing_in::TakenIn;
 pub use reader::read;
 pub use retry_state::{Next, RetryState};
 pub use side::Side;
+pub use turns::Turns;
 pub use wake_ups::{Waited, WakeUp, WakeUps};
 pub use writer::write;
 pub use writer_queue::WriterQueue;

@@ -1,13 +1,14 @@
 //! The worker that reads what one peer sends to a node.
-ghost use Rattle.std.specs.Prelude.{◌≡◌, ℕ, List, [], ◌++◌, None, IfSome};
+ghost use Rattle.std.specs.Prelude.{◌≡◌, ◌≢◌, ℕ, List, [], ◌++◌, None};
 ghost use Rattle.signal.specs.Stream.{Stream};
 ghost use Rattle.node.specs.declared.event.Event.{Event as IsEvent};
 ghost use Rattle.wires_workers.specs.AreRead.{AreRead};
 ghost use Rattle.wires_workers.specs.HandedIn.{AreHandedIn, events_of_turns};
 
-use crate::context::{Context, TakenIn};
+use crate::context::Context;
 use crate::gate::Gate;
 use crate::greeted::Greeted;
+use crate::handing_in::TakenIn;
 use crate::side::Side;
 use crossbeam_channel::Receiver;
 use desk::Share;
@@ -25,6 +26,30 @@ const ROOM: usize = 16_384;
 const AT_ONCE: usize = 512;
 // The same, where a peer is far behind that was sent something by the last ones.
 const FEW_AT_ONCE: usize = 64;
+
+// What a reader does next on a connection.
+#[derive(Clone, Copy, Debug, PartialEq, Eq)]
+enum ReaderStep {
+    // It hands in whole frames that may have come.
+    HandIn,
+    // It reads what comes next: no whole frame is left.
+    Read,
+    // It ends the connection: that has ended, what came is no frame, or there is no memory.
+    End,
+}
+
+// What came on a connection, and how much of it is handed in at once.
+#[derive(Drop)]
+struct Received {
+    // Who sent it.
+    peer: usize,
+    // What isn't handed in yet.
+    frames: FrameReader,
+    // The version of the last Hello, as the writer heard of it.
+    heard: u8,
+    // How many events are handed in next, at most.
+    most: usize,
+}
 
 /// Reads a peer's connections one after the other, as they come, until no more come; its share. Each is greeted first.
 pub fn read<R: Wait + Clock, N: Node, G: Gate, T: Transport, C: Cut>(
@@ -96,7 +121,13 @@ pub(crate) fn read_connection<R: Wait + Clock, N: Node, G: Gate, T: Transport, C
             if !context.ending.is_set() {
                 let mut frames = FrameReader::new(alloc);
                 if frames.feed(&first).is_ok() {
-                    read_on(rt, alloc, context, share, peer, &mut incoming, &mut frames);
+                    let mut received = Received {
+                        peer,
+                        heard: frames.version(),
+                        frames,
+                        most: AT_ONCE,
+                    };
+                    read_on(rt, alloc, context, share, &mut incoming, &mut received);
                 }
             }
         }
@@ -111,67 +142,69 @@ fn read_on<R: Wait + Clock, N: Node, G: Gate, T: Transport, C: Cut>(
     alloc: Global,
     context: &Context<'_, N, G, T, C>,
     share: &mut Share,
-    peer: usize,
     incoming: &mut T,
-    frames: &mut FrameReader,
+    received: &mut Received,
 ) {
-    let mut heard = frames.version();
-    let mut most = AT_ONCE;
     let Ok(mut room) = Vec::from_elem(alloc, 0, ROOM) else {
         return;
     };
+    let mut step = ReaderStep::HandIn;
     for _ in rt.forever() {
-        match take_some(
-            rt, alloc, context, share, peer, frames, &mut heard, &mut most,
-        ) {
-            Some(true) => {}
-            Some(false) if has_read(rt, incoming, &mut room, frames) => {}
-            _ => break,
-        }
+        step = match step {
+            ReaderStep::HandIn => take_some(rt, alloc, context, share, received),
+            ReaderStep::Read => read_more(rt, incoming, &mut room, &mut received.frames),
+            ReaderStep::End => break,
+        };
     }
 }
 
-// Reads what comes next. False where the connection has ended, or there was no memory.
-fn has_read<R: Wait, T: Transport>(
+// Reads what comes next.
+fn read_more<R: Wait, T: Transport>(
     rt: &R,
     incoming: &mut T,
     room: &mut [u8],
     frames: &mut FrameReader,
-) -> bool {
+) -> ReaderStep {
     match incoming.recv(rt, room) {
-        Ok(0) | Err(_) => false,
-        Ok(count) => frames.feed(&room[..count]).is_ok(),
+        Ok(0) | Err(_) => ReaderStep::End,
+        Ok(count) => match frames.feed(&room[..count]) {
+            Ok(()) => ReaderStep::HandIn,
+            Err(_) => ReaderStep::End,
+        },
     }
 }
 
-// Hands in whole frames, as many as are handed in at once, and makes turns behind them; whether there may be more
-// frames. What comes after them, and is no frame, is no event: then none. Where a Hello has another version than the
-// last one, the writer hears of it before the node answers.
+// Hands in whole frames, as many as are handed in at once, and makes turns behind them. What comes after them, and is
+// no frame, is no event. Where a Hello has another version than the last one, the writer hears of it before the node
+// answers.
 fn take_some<R: Wait + Clock, N: Node, G: Gate, T: Transport, C: Cut>(
     rt: &R,
     alloc: Global,
     context: &Context<'_, N, G, T, C>,
     share: &mut Share,
-    peer: usize,
-    frames: &mut FrameReader,
-    heard: &mut u8,
-    most: &mut usize,
-) -> Option<bool>
-    ensures events { (events : List IsEvent) × (stream : Stream) × (turns : ℕ) × AreRead peer frames.old events stream
+    received: &mut Received,
+) -> ReaderStep
+    ensures events { (events : List IsEvent) × (stream : Stream) × (turns : ℕ)
+        × AreRead received.old.peer received.old.frames events stream
         × AreHandedIn share.old (events ++ events_of_turns turns) share.new × (context.now.runner ≡ None → turns ≡ 0)
-        × IfSome result (λ _. frames.new ≡ stream) }
-    ensures heard { heard.new ≡ frames.new.version }
+        × (result ≢ ReaderStep.End → received.new.frames ≡ stream) }
+    ensures heard { received.new.heard ≡ received.new.frames.version }
 {
     let mut events = Vec::new(alloc);
-    let next = collect(peer, frames, *most, &mut events);
-    let version = frames.version();
-    if version != *heard {
-        context.hear(rt, peer, version);
-        *heard = version;
+    let step = collect(
+        received.peer,
+        &mut received.frames,
+        received.most,
+        &mut events,
+    );
+    let version = received.frames.version();
+    if version != received.heard {
+        context.hear(rt, received.peer, version);
     }
+    received.heard = version;
     let TakenIn { behind, .. } = context.take_in(rt, alloc, share, &events);
-    *most = pace(rt, context, peer, behind);
-    next
+    received.most = pace(rt, context, received.peer, behind);
+    step
 }
 
 // Waits a little for a peer that is far behind, if that isn't the reader's own: it would have no room for more, and
@@ -191,25 +224,27 @@ fn pace<R: Wait + Clock, N: Node, G: Gate, T: Transport, C: Cut>(
     }
 }
 
-// Makes an event of each of the next whole frames, at most this many; whether there may be more. None where what comes
-// next is no frame, or there is no memory for the event.
+// Makes an event of each of the next whole frames, at most this many. The connection is to end where what comes next is
+// no frame, or there is no memory for the event.
 fn collect(
     peer: usize,
     frames: &mut FrameReader,
     most: usize,
     events: &mut Vec<Event>,
-) -> Option<bool>
+) -> ReaderStep
     requires { events.old.items ≡ [] }
     ensures { (stream : Stream) × AreRead peer frames.old events.new.items stream
-        × IfSome result (λ _. frames.new ≡ stream) }
+        × (result ≢ ReaderStep.End → frames.new ≡ stream) }
 {
     for _ in 0..most {
-        events.reserve(1).ok()?;
+        let Ok(()) = events.reserve(1) else {
+            return ReaderStep::End;
+        };
         match frames.next() {
             Ok(Some(frame)) => events.push_reserved(Event::Frame(peer, frame)),
-            Ok(None) => return Some(false),
-            Err(_) => return None,
+            Ok(None) => return ReaderStep::Read,
+            Err(_) => return ReaderStep::End,
         }
     }
-    Some(true)
+    ReaderStep::HandIn
 }

@@ -1,10 +1,8 @@
 //! The worker that makes a node say and run what comes next.
-ghost use Rattle.std.specs.Prelude.{◌≡◌, ◌+◌};
-ghost use Rattle.wires_workers.specs.HandedIn.{AreHandedIn, events_of_turns};
-
-use crate::context::{Context, TURNS_AT_ONCE, Turns, counted};
+use crate::context::Context;
 use crate::gate::Gate;
 use crate::retry_state::{Next, RetryState};
+use crate::turns::Turns;
 use crate::wake_ups::{Waited, WakeUp, WakeUps};
 use desk::Share;
 use node::Node;
@@ -74,26 +72,6 @@ fn take_turns<R: Wait + Clock, N: Node, G: Gate, T: Transport, C: Cut>(
         state.after_wait(true);
     }
     state.after_turns(failed, true);
-    let Turns { is_idle, .. } = make_turns(rt, alloc, context, &mut state, share);
+    let Turns { is_idle, .. } = context.take_turns(rt, alloc, share, &mut state);
     if is_idle { Next::Wait } else { state.turn() }
-}
-
-// Makes turns that are left, as many as are made at once, and counts them.
-#[tactic(auto, using(crate::proofs::SeveralTurns::no_turn))]
-fn make_turns<R: Wait + Clock, N: Node, G: Gate, T: Transport, C: Cut>(
-    rt: &R,
-    alloc: Global,
-    context: &Context<'_, N, G, T, C>,
-    state: &mut RetryState,
-    share: &mut Share,
-) -> Turns
-    ensures handed_in { AreHandedIn share.old (events_of_turns result.made) share.new }
-    ensures counted { state.new.turns + result.made ≡ state.old.turns }
-{
-    let most = state.turns_left().min(TURNS_AT_ONCE);
-    if most == 0 {
-        return Turns::none(false);
-    }
-    let turns = context.take_turns(rt, alloc, share, most);
-    counted(state, turns)
 }

@@ -31,7 +31,7 @@ pub struct WakeUps {
     sender: Sender<WakeUp>,
     receiver: Receiver<WakeUp>,
     // Whether `Done` was sent since the runner last took what was waiting.
-    is_done_told: AtomicBool,
+    is_done_sent: AtomicBool,
     // Whoever makes turns of the node has it, so that all of them are counted.
     state: Mutex<RetryState>,
 }
@@ -43,14 +43,14 @@ impl WakeUps {
         Ok(WakeUps {
             sender,
             receiver,
-            is_done_told: AtomicBool::new(false),
+            is_done_sent: AtomicBool::new(false),
             state: Mutex::new(RetryState::new(0)),
         })
     }
 
     /// Notifies the runner. Where there is no memory for it, it isn't notified.
     pub fn tell<R: Wait>(&self, rt: &R, wake_up: WakeUp) {
-        if wake_up == WakeUp::NotConnected || !self.is_done_told.swap(true, Ordering::SeqCst) {
+        if wake_up == WakeUp::NotConnected || !self.is_done_sent.swap(true, Ordering::SeqCst) {
             let _ = self.sender.send(rt, wake_up);
         }
     }
@@ -76,7 +76,7 @@ impl WakeUps {
                 Err(_) => break,
             }
         }
-        self.is_done_told.store(false, Ordering::SeqCst);
+        self.is_done_sent.store(false, Ordering::SeqCst);
         waited
     }
 

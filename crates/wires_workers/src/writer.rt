@@ -5,6 +5,7 @@ ghost use Rattle.wires_workers.specs.Waiting.{fresh, emptied, with_frame, covers
 use crate::side::Side;
 use crate::writer_queue::WriterQueue;
 use node::Outgoing;
+use signal::wire::VERSION;
 use signal::{Frame, Memory, write_frames};
 use std::alloc::Global;
 use std::marker::Model;
@@ -20,7 +21,7 @@ pub struct Writer<T: Drop, C: Drop> {
     side: Option<Side<T, C>>,
     // The version that its node writes, 1 or more.
     own: u8,
-    // The version of the peer's last Hello on this connection, 1 before any.
+    // The version of the peer's last Hello on this connection; the first version before any.
     peer: u8,
     frames: Vec<Frame>,
     ack: Option<Frame>,
@@ -48,7 +49,7 @@ impl<T: Transport, C: Cut> Writer<T, C> {
         Writer {
             side: None,
             own,
-            peer: 1,
+            peer: VERSION,
             frames: Vec::new(alloc),
             ack: None,
             bytes: Vec::new(alloc),
@@ -79,7 +80,7 @@ impl<T: Transport, C: Cut> Writer<T, C> {
         ensures { self.new ≡ fresh self.old.own }
     {
         self.side = Some(side);
-        self.peer = 1;
+        self.peer = VERSION;
         self.clear();
     }
 
@@ -190,7 +191,7 @@ pub fn write<R: Wait + Clock, T: Transport, C: Cut>(
     ending: &Ending,
     own: u8,
 ) {
-    queue.open(rt, alloc, own.max(1));
+    queue.open(rt, alloc, own.max(VERSION));
     let mut is_late = false;
     for _ in rt.forever() {
         // Before it sees whether the run is to end: else the notification of the end may be the one that it has had

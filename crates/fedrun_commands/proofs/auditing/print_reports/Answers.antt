@@ -2,7 +2,7 @@ use Rattle.std.proofs.Common.{rules}
 use Rattle.fedrun_run.specs.declared.output.RunOutput.TheVariants.{Rows}
 use Rattle.fedrun_run.specs.Printed.{PrintsReports}
 use Rattle.fedrun_commands.proofs.Runs.{reports_kept}
-use Rattle.fedrun_commands.proofs.Results.{on_ok_always}
+use Rattle.fedrun_files.proofs.Results.{on_ok_always}
 use Rattle.fedrun_commands.proofs.auditing.print_reports.Goals as goal
 
 pub returns-in-Ok-print_audited-clause-ok : goal.returns-in-Ok-print_audited-clause-ok

@@ -1,7 +1,7 @@
 use Rattle.std.proofs.Common.{◌≡◌, true, arith, string_bytes}
 use Rattle.node_cores.specs.CoordinatorCore.{coordinator_core}
 use Rattle.files_reports.specs.Said.{by_coordinator}
-use Rattle.fedrun_commands.proofs.Results.{on_ok_always}
+use Rattle.fedrun_files.proofs.Results.{on_ok_always}
 use Rattle.fedrun_hosts.specs.Ended.{IsFinishedJournal}
 use Rattle.fedrun_hosts.proofs.Saved.{saves_report}
 use Rattle.fedrun_hosts.proofs.coordinate.coordinate.Goals as goal

@@ -1,5 +1,5 @@
 use Rattle.std.proofs.Common.{◌≡◌, ◌∙◌, Some, ap, sym, rules, string_bytes}
-use Rattle.fedrun_commands.proofs.Results.{on_ok_always}
+use Rattle.fedrun_files.proofs.Results.{on_ok_always}
 use Rattle.fedrun_hosts.proofs.Saved.{has_joined}
 use Rattle.fedrun_hosts.proofs.join.join.Goals as goal
 

@@ -1,0 +1,8 @@
+//! Tests of the words of the command line: which request they are, with which arguments and options, and which words
+//! are no command.
+//!
+//! Begin with `ask` in `requests`.
+#![tactic(auto)]
+
+#[cfg(test)]
+mod requests;

@@ -1,0 +1,10 @@
+//! Tests of tags, delays and durations: the order of tags, sums of tags and delays at their limits, how both are
+//! printed, and which texts are durations.
+//!
+//! Begin with `tags`.
+#![tactic(auto)]
+
+#[cfg(test)]
+mod spelled;
+#[cfg(test)]
+mod tags;

@@ -1,0 +1,185 @@
+//! How a worker hands events in at its node's desk, under one lock or behind the gate one by one.
+ghost use Rattle.std.specs.Prelude.{◌≡◌, ◌≤◌, ◌+◌, None, ◌∷◌, ◌++◌, []};
+ghost use Rattle.node.specs.declared.event.Event.TheVariants as Events;
+ghost use Rattle.wires_workers.specs.HandedIn.{AreHandedIn, events_of_turns};
+ghost use Rattle.wires_workers.specs.declared.turns.TheConstants.{TURNS_AT_ONCE};
+
+use crate::context::Context;
+use crate::gate::{Gate, Point};
+use crate::retry_state::RetryState;
+use crate::session::Session;
+use crate::turns::Turns;
+use crate::wake_ups::WakeUp;
+use desk::Share;
+use node::{Event, Node};
+use node_journal::Batch;
+use std::alloc::Global;
+use std::sync::Wait;
+use std::time::Clock;
+use wires_transports::{Cut, Transport};
+
+/// What came of events that were taken in.
+#[derive(Clone, Copy, Debug, PartialEq, Eq)]
+pub struct TakenIn {
+    /// How many turns were made behind them.
+    pub turns: u32,
+    /// A peer that was sent something by them and is far behind, if there is one.
+    pub behind: Option<usize>,
+}
+
+impl<'a, N: Node, G: Gate, T: Transport, C: Cut> Context<'a, N, G, T, C> {
+    /// Makes the events' steps one after the other, and sends the frames of the replies; whether a step did something,
+    /// of which the runner gets a wake-up. Where the gate is open the desk's lock is held over all of them, and else
+    /// the gate is passed before each.
+    pub fn hand_in<R: Wait + Clock>(
+        &self,
+        rt: &R,
+        alloc: Global,
+        share: &mut Share,
+        events: &[Event],
+    ) -> bool
+        ensures { AreHandedIn share.old events.now share.new }
+    {
+        let has_done = if self.gate.is_open() {
+            self.make_all(rt, alloc, share, events)
+        } else {
+            self.make_each(rt, alloc, share, events)
+        };
+        if has_done {
+            self.wake_up(rt, WakeUp::Done);
+        }
+        has_done
+    }
+
+    /// Makes the steps of what a peer sent, as `hand_in` does. Where the gate is open, the turns that they allow are
+    /// made under the same lock, unless the runner makes some at the moment: it gets a wake-up where there may be more
+    /// to do.
+    #[tactic(auto, using(crate::proofs::SeveralTurns::and_no_turn))]
+    pub fn take_in<R: Wait + Clock>(
+        &self,
+        rt: &R,
+        alloc: Global,
+        share: &mut Share,
+        events: &[Event],
+    ) -> TakenIn
+        ensures handed_in { AreHandedIn share.old (events.now ++ events_of_turns result.turns) share.new }
+        ensures no_runner { self.now.runner ≡ None → result.turns ≡ 0 }
+    {
+        if self.gate.is_open() {
+            // Where there is no memory for a batch, each event is kept by itself.
+            let batch = Batch::new(alloc, events).ok();
+            let mut session = Session::begin(rt, alloc, self.shared);
+            session.enter_all(share, events, batch.as_ref());
+            let Turns { made, is_idle } = self.follow(&mut session, share);
+            let behind = self.leave(rt, session);
+            if !is_idle {
+                self.wake_up(rt, WakeUp::Done);
+            }
+            TakenIn {
+                turns: made,
+                behind,
+            }
+        } else {
+            self.hand_in(rt, alloc, share, events);
+            TakenIn {
+                turns: 0,
+                behind: None,
+            }
+        }
+    }
+
+    /// Makes turns that are left, an announcement and then an advance each, up to the first that does nothing, and
+    /// counts them. Where the gate is open the desk's lock is held over as many as are made at once; else one is made,
+    /// and the gate is passed before each of its events. The runner makes them so, and gets no wake-up of them.
+    #[tactic(auto, using(crate::proofs::SeveralTurns::no_turn))]
+    pub fn take_turns<R: Wait + Clock>(
+        &self,
+        rt: &R,
+        alloc: Global,
+        share: &mut Share,
+        state: &mut RetryState,
+    ) -> Turns
+        ensures handed_in { AreHandedIn share.old (events_of_turns result.made) share.new }
+        ensures counted { state.new.turns + result.made ≡ state.old.turns }
+        ensures one { 1 ≤ state.old.turns → 1 ≤ result.made }
+        ensures most { result.made ≤ TURNS_AT_ONCE }
+    {
+        if state.turns_left() == 0 {
+            return Turns::none(false);
+        }
+        if self.gate.is_open() {
+            let mut session = Session::begin(rt, alloc, self.shared);
+            let turns = session.enter_turns(share, state);
+            self.leave(rt, session);
+            turns
+        } else {
+            let has_done = self.make_each(rt, alloc, share, &[Event::Announce, Event::Advance]);
+            let turns = Turns {
+                made: 1,
+                is_idle: !has_done,
+            };
+            turns.counted(state)
+        }
+    }
+
+    /// Greets the node's one peer again, and sends again all that it hasn't acknowledged.
+    pub fn repeat<R: Wait + Clock>(&self, rt: &R, alloc: Global, share: &mut Share)
+        ensures { AreHandedIn share.old (Events.Hello 0 ∷ Events.Resend 0 ∷ []) share.new }
+    {
+        self.hand_in(rt, alloc, share, &[Event::Hello(0), Event::Resend(0)]);
+    }
+
+    // Makes the events' steps, each behind the gate; whether one of them did something.
+    fn make_each<R: Wait + Clock>(
+        &self,
+        rt: &R,
+        alloc: Global,
+        share: &mut Share,
+        events: &[Event],
+    ) -> bool
+        ensures { AreHandedIn share.old events.now share.new }
+    {
+        let mut has_done = false;
+        for event in events {
+            self.gate.pass(rt, self.node, Point::of(event));
+            has_done |= self.make_all(rt, alloc, share, &[*event]);
+        }
+        has_done
+    }
+
+    // Makes the events' steps under one lock; whether one of them did something.
+    fn make_all<R: Wait>(&self, rt: &R, alloc: Global, share: &mut Share, events: &[Event]) -> bool
+        ensures { AreHandedIn share.old events.now share.new }
+    {
+        // Where there is no memory for a batch, each event is kept by itself.
+        let batch = Batch::new(alloc, events).ok();
+        let mut session = Session::begin(rt, alloc, self.shared);
+        session.enter_all(share, events, batch.as_ref());
+        let has_done = session.replies.has_done;
+        self.leave(rt, session);
+        has_done
+    }
+
+    // Makes the turns that are allowed by what was done in this session: none where nothing was done, where the runner
+    // makes some at the moment, and at a node without one. They are idle where the runner needn't go on.
+    #[tactic(auto, using(crate::proofs::SeveralTurns::no_turn))]
+    fn follow(&self, session: &mut Session<'_, N>, share: &mut Share) -> Turns
+        ensures handed_in { AreHandedIn share.old (events_of_turns result.made) share.new }
+        ensures no_runner { self.now.runner ≡ None → result.made ≡ 0 }
+    {
+        let Some(runner) = self.runner else {
+            return Turns::none(true);
+        };
+        if !session.replies.has_done {
+            return Turns::none(true);
+        }
+        match runner.try_state() {
+            Some(mut state) => {
+                // They answer the runner's wake-up in its place.
+                state.after_wait(true);
+                session.enter_turns(share, &mut state)
+            }
+            None => Turns::none(false),
+        }
+    }
+}
