@@ -1,4 +1,4 @@
--- How it is printed that a coordinator can't be made out of memory.
+-- How it is printed that a coordinator can't be made for want of memory.
 use Rattle.std.specs.Prelude.{ℕ, List, codes}
 use Rattle.signal.specs.Fault.{printed_fault}
 

@@ -10,7 +10,8 @@
 //!                                +--> prepare    a TAG to each of them; room and memory for all, or all is taken back
 //!                                +--> send       the TAGs are noted as granted; the signals go out
 //!
-//! Begin with `coordinator`, then `state`.
+//! Begin with `take` in `state`, then `eligible` and `grant` of the table, in the crate `grants`; `coordinator` makes a
+//! node of it.
 #![tactic(auto)]
 
 pub mod coordinator;

@@ -75,7 +75,7 @@ impl State {
         if !is_next_in_time(tag, self.table.stop()) {
             return Err(NodeFault::Refused(Refusal::AfterStop));
         }
-        // Nobody became eligible by a signal of a federate that isn't there.
+        // There is no record of such a federate, so nothing changes. Nobody was eligible before, so nothing is sent.
         if peer >= self.table.federates() {
             return Ok(true);
         }
@@ -112,7 +112,7 @@ impl State {
         if !is_in_time(tag.tag(), self.table.stop()) {
             return Err(NodeFault::Refused(Refusal::AfterStop));
         }
-        // Nobody became eligible by a signal of a federate that isn't there.
+        // There is no record of such a federate, so nothing changes. Nobody was eligible before, so nothing is sent.
         if peer >= self.table.federates() {
             return Ok(true);
         }

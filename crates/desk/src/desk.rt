@@ -85,9 +85,9 @@ impl<N: Node> Desk<N> {
         step(&mut self.station, &mut self.journal, event)
     }
 
-    /// Makes the steps of a batch's events, one after the other; how many: all, or those before the first one for which
-    /// there is no memory. The journal keeps the batch. What the desk says to them is added; frames for which there is
-    /// no memory are lost, as on a line that loses frames.
+    /// Makes the steps of a batch's events, one after the other: all, or those before the first one for which there is
+    /// no memory. Returns how many. The journal keeps the batch. What the desk says to them is added; frames for which
+    /// there is no memory are lost, as on a line that loses frames.
     pub fn handle_batch(&mut self, batch: &Batch, replies: &mut BatchReply) -> usize
         ensures few { result ≤ length batch.now }
         ensures journal { self.new.journal ≡ self.old.journal ++ take result batch.now }
@@ -127,7 +127,7 @@ impl<N: Node> Desk<N> {
     }
 }
 
-// Makes the station's steps, until there is no memory for one; how many.
+// Makes the station's steps, until there is no memory for one. Returns how many.
 fn step_all<N: Node>(station: &mut Station<N>, events: &[Event], replies: &mut BatchReply) -> usize
     ensures few { result ≤ length events.now }
     ensures station { station.new ≡ after_all N.core N.IS_COORDINATOR station.old (take result events.now) }

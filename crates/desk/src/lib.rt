@@ -1,7 +1,7 @@
 //! A station with its journal, which several workers share under one lock.
 //!
-//! Promise to the layer above: a desk's station is the replay of its journal (`specs/Replay`), and a gathered desk's
-//! journal is what its workers were answered that they added (`specs/Shares`).
+//! Promise to the layer above: a desk's station is the replay of its journal (`specs/Replay`). Each event of a gathered
+//! desk's journal was added by one of its workers, and each worker's additions are there, in order (`specs/Shares`).
 //!
 //!     worker --> Shared::handle ---- lock ----> Desk::handle        one event: its station steps, its journal grows
 //!                     |                              |

@@ -4,7 +4,7 @@ use node_journal::Blocks;
 use std::alloc::Global;
 use std::marker::Model;
 
-/// What one worker was answered that it added to a journal: its slips, in the order in which it got them.
+/// The events that one worker added to a journal, in that order. Each is in a slip, with its place in the journal.
 #[derive(Drop)]
 pub struct Share {
     pub(crate) slips: Blocks,

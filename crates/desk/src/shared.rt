@@ -73,7 +73,8 @@ impl<N: Node> Shared<N> {
         result
     }
 
-    /// Waits for the lock, and asks how many signals a peer hasn't acknowledged; none where there is no such peer.
+    /// Waits for the lock, and asks how many signals a peer hasn't acknowledged. Returns None where there is no such
+    /// peer.
     pub fn unacked<R: Wait>(&self, rt: &R, peer: usize) -> Option<usize> {
         let locked = self.lock(rt);
         let unacked = locked.unacked(peer);
@@ -106,8 +107,8 @@ impl<'a, N: Node> Locked<'a, N> {
         enter(&mut self.desk, &mut share.slips, event)
     }
 
-    /// Makes the steps of a batch's events; how many: see `Desk::handle_batch`. The share gains their slips, and keeps
-    /// the batch.
+    /// Makes the steps of a batch's events, as `Desk::handle_batch` does. Returns how many. The share gains their
+    /// slips, and keeps the batch.
     pub fn handle_batch(
         &mut self,
         share: &mut Share,
@@ -130,7 +131,7 @@ impl<'a, N: Node> Locked<'a, N> {
         self.desk.station().node().finished()
     }
 
-    /// How many signals a peer hasn't acknowledged; none where there is no such peer.
+    /// How many signals a peer hasn't acknowledged, or None where there is no such peer.
     pub fn unacked(&self, peer: usize) -> Option<usize> {
         unacked(&self.desk, peer)
     }
@@ -171,8 +172,8 @@ fn unacked<N: Node>(desk: &Desk<N>, peer: usize) -> Option<usize>
     Some(desk.station().end(peer)?.unacked())
 }
 
-// Handles a batch's events at the locked desk; how many. Their slips are added first, and those of events for which
-// there is no memory taken off again.
+// Handles a batch's events at the locked desk. Returns how many. Their slips are added first, and those of events for
+// which there is no memory are taken off again.
 fn enter_batch<N: Node>(
     desk: &mut Desk<N>,
     slips: &mut Blocks,

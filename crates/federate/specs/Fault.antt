@@ -1,4 +1,4 @@
--- How it is printed that a federate can't be made, or a turn be worked out, out of memory.
+-- How it is printed that a federate can't be made, or a turn be worked out, for want of memory.
 use Rattle.std.specs.Prelude.{ℕ, List, codes}
 use Rattle.signal.specs.Fault.{printed_fault}
 

@@ -78,7 +78,7 @@ impl<'a> Federate<'a> {
     ghost use Rattle.node_cores.specs.FederateCore.{network_at, announces, advances};
     ghost use Rattle.federate.specs.Invariant.{IsNode};
 
-    /// The federate of this number, before it has run anything. `Memory` alone is answered.
+    /// The federate of this number, before it has run anything. It fails only for want of memory.
     pub fn new(
         alloc: Global,
         plan: &'a Plan,

@@ -6,15 +6,20 @@
 #![tactic(auto)]
 
 use fedrun_commands::{NodeFault, command};
-use fedrun_fault::{Fault, refuse};
-use fedrun_files::MachineFiles;
+use fedrun_files::{Files, MachineFiles};
 use fedrun_hosts::{asks_for_node, node_command};
-use fedrun_progress::{NoProgress, ProgressLine, asks_for_progress};
+use fedrun_progress::{NoProgress, Progress, ProgressLine, asks_for_progress};
 use fedrun_whole::given;
-use files_saving::MachineDisk;
+use fedrun_words::{Fault, refuse};
+use files_saving::{Disk, MachineDisk};
 use std::fs::File;
-use std::io::ErrorKind;
+use std::io::{ErrorKind, Write};
+use std::net::{Net, TcpListener, TcpStream};
 use std::process::ExitCode;
+use std::random::RandomSource;
+use std::sync::Wait;
+use std::thread::Threads;
+use std::time::Clock;
 use std::{fs, rt, thread};
 
 fn main(rt: HostRuntime) -> ExitCode {
@@ -28,18 +33,18 @@ fn main(rt: HostRuntime) -> ExitCode {
             let mut files = MachineFiles::new(&rt);
             if asks_for_node(words) {
                 let mut disk = MachineDisk::new(&rt);
-                node_command(&rt, words, &mut files, &mut disk, &mut out, &mut err)
+                run_node(&rt, words, &mut files, &mut disk, &mut out, &mut err)
             } else if asks_for_progress(words) {
                 let line = ProgressLine::new(&rt);
                 let mut shown = rt.stderr();
                 let (_, status) = thread::join(
                     &rt,
                     || line.show(rt.alloc(), &mut shown),
-                    || command(&rt, words, &mut files, &mut out, &mut err, &line),
+                    || run_command(&rt, words, &mut files, &mut out, &mut err, &line),
                 );
                 status
             } else {
-                command(&rt, words, &mut files, &mut out, &mut err, &NoProgress)
+                run_command(&rt, words, &mut files, &mut out, &mut err, &NoProgress)
             }
         }
         Err(why) => {
@@ -48,6 +53,39 @@ fn main(rt: HostRuntime) -> ExitCode {
         }
     };
     ExitCode::from(status)
+}
+
+/// `command` over a machine whose connections are TCP's: the prover wants their types named where a machine is handed in.
+fn run_command<
+    R: AllocGlobal
+        + Threads
+        + Wait
+        + Clock
+        + Net<Stream = TcpStream, Listener = TcpListener>
+        + Sync,
+    F: Files,
+    O: Write,
+    E: Write,
+    P: Progress + Sync,
+>(rt: &R, words: &[String], files: &mut F, out: &mut O, err: &mut E, progress: &P) -> u8 {
+    command(rt, words, files, out, err, progress)
+}
+
+/// `node_command`, likewise.
+fn run_node<
+    R: AllocGlobal
+        + Threads
+        + Wait
+        + Clock
+        + Net<Stream = TcpStream, Listener = TcpListener>
+        + RandomSource
+        + Sync,
+    F: Files,
+    D: Disk,
+    O: Write,
+    E: Write,
+>(rt: &R, words: &[String], files: &mut F, disk: &mut D, out: &mut O, err: &mut E) -> u8 {
+    node_command(rt, words, files, disk, out, err)
 }
 
 /// A file in place of a standard stream that is closed, which can't be written. Else the next file that is opened would

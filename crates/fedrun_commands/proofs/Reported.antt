@@ -3,8 +3,8 @@ use Rattle.std.proofs.Common.{◌≡◌, ℕ, List, Option, Result, Ok, Err, ap,
 use Rattle.std.specs.Prelude.{◌≢◌, ◌⊎◌, IfErr, true}
 use Rattle.std.specs.Borrow.{Bor}
 use Rattle.loadfed.specs.declared.fault.LoadFault.TheVariants.{Memory}
-use Rattle.fedrun_fault.specs.declared.fault.Fault.{Fault}
-use Rattle.fedrun_fault.specs.declared.fault.Fault.TheVariants.{Load}
+use Rattle.fedrun_words.specs.declared.fault.Fault.{Fault}
+use Rattle.fedrun_words.specs.declared.fault.Fault.TheVariants.{Load}
 use Rattle.fedrun_files.specs.Contents.{Contents}
 use Rattle.fedrun_lint.specs.Answered.{GivenFile}
 use Rattle.fedrun_commands.specs.Faults.{status_of}

@@ -6,7 +6,7 @@ use Rattle.recorder_reports.specs.declared.report.Report.{Report}
 use Rattle.files_reports.specs.declared.file_digests.FileDigests.{FileDigests}
 use Rattle.files_reports.specs.File.{IsReportOf}
 use Rattle.files_reports.specs.Taken.{by_report}
-use Rattle.fedrun_fault.specs.declared.fault.Fault.{Fault}
+use Rattle.fedrun_words.specs.declared.fault.Fault.{Fault}
 use Rattle.fedrun_files.specs.Answers.{Answer, Answers, given}
 use Rattle.fedrun_files.specs.Contents.{Contents, AreBytesOf}
 use Rattle.fedrun_files.proofs.FaultsInTurn.{unread_after}

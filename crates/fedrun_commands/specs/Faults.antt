@@ -1,7 +1,7 @@
 -- The program's faults: the exit status that goes with each, and how it is printed.
 use Rattle.std.specs.Prelude.{ℕ, List, ◌++◌, codes}
-use Rattle.fedrun_fault.specs.Faults as every
-use Rattle.fedrun_fault.specs.declared.fault.Fault.{Fault}
+use Rattle.fedrun_words.specs.Faults as every
+use Rattle.fedrun_words.specs.declared.fault.Fault.{Fault}
 use Rattle.files_script.specs.Faults as script
 use Rattle.world_stations.specs.Numbers.{out_of_memory_text}
 use Rattle.desk.specs.Fault.{memory_text}

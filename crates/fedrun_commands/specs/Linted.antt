@@ -8,8 +8,8 @@ use Rattle.loadfed.specs.declared.federation.TheConstants.{MOST_BYTES}
 use Rattle.loadfed.specs.declared.recorded.TheConstants.{MOST_INPUT_BYTES}
 use Rattle.fedrun_words.specs.declared.request.Request.{Request}
 use Rattle.fedrun_words.specs.declared.request.Request.TheVariants.{Lint}
-use Rattle.fedrun_fault.specs.declared.fault.Fault.{Fault}
-use Rattle.fedrun_fault.specs.declared.fault.Fault.TheVariants.{CannotWrite, Load, More}
+use Rattle.fedrun_words.specs.declared.fault.Fault.{Fault}
+use Rattle.fedrun_words.specs.declared.fault.Fault.TheVariants.{CannotWrite, Load, More}
 use Rattle.fedrun_files.specs.declared.named.FileFault.{FileFault}
 use Rattle.fedrun_files.specs.declared.named.FileFault.TheVariants.{OverLimit}
 use Rattle.fedrun_files.specs.Answers.{Answer, Answers, refused}

@@ -6,8 +6,8 @@ use Rattle.plan.specs.declared.draft.Draft.{Draft}
 use Rattle.files_script.specs.declared.fault.ScriptFault.{ScriptFault}
 use Rattle.files_script.specs.declared.script.TheConstants.{MOST_BYTES}
 use Rattle.files_script.specs.Scripts.{IsFaultOf as IsScriptFault}
-use Rattle.fedrun_fault.specs.declared.fault.Fault.{Fault}
-use Rattle.fedrun_fault.specs.declared.fault.Fault.TheVariants.{CannotWrite, More}
+use Rattle.fedrun_words.specs.declared.fault.Fault.{Fault}
+use Rattle.fedrun_words.specs.declared.fault.Fault.TheVariants.{CannotWrite, More}
 use Rattle.fedrun_files.specs.Answers.{Answer, given}
 use Rattle.fedrun_files.specs.Contents.{Contents}
 use Rattle.fedrun_files.specs.declared.reading.Sources.{Sources}

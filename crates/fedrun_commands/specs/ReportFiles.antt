@@ -16,8 +16,8 @@ use Rattle.fedrun_run.specs.declared.audit_failure.AuditFailure.{AuditFailure}
 use Rattle.fedrun_run.specs.declared.output.RunOutput.TheVariants.{Rows}
 use Rattle.fedrun_run.specs.Printed.{IsAuditFailureOf, IsUnfinished, PrintsReports}
 use Rattle.fedrun_words.specs.declared.request.AuditRequest.{AuditRequest}
-use Rattle.fedrun_fault.specs.declared.fault.Fault.{Fault}
-use Rattle.fedrun_fault.specs.declared.fault.Fault.TheVariants.{CannotWrite, More}
+use Rattle.fedrun_words.specs.declared.fault.Fault.{Fault}
+use Rattle.fedrun_words.specs.declared.fault.Fault.TheVariants.{CannotWrite, More}
 use Rattle.fedrun_files.specs.Answers.{Answer, given}
 use Rattle.fedrun_files.specs.Contents.{Contents, AreBytesOf}
 use Rattle.fedrun_files.specs.Digests.{AreDigestsOf}

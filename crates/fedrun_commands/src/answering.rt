@@ -8,32 +8,25 @@ ghost use Rattle.fedrun_commands.specs.Printed.{PrintsAnswer};
 ghost use Rattle.fedrun_commands.specs.Refused.{Stands};
 
 use crate::requests::perform;
-use fedrun_fault::{Answered, refuse};
 use fedrun_files::Files;
 use fedrun_progress::Progress;
+use fedrun_words::{Answered, refuse};
 use std::io::Write;
-use std::net::{Net, TcpListener, TcpStream};
-use std::sync::Wait;
-use std::thread::Threads;
-use std::time::Clock;
+use wires::NetRuntime;
 
 /// Does what the words ask for, over these files, and answers the exit status: 0 where it is done, 1 where what it was
 /// given is refused or can't be read, or where `lint` told of something wrong, 2 where the words are no command, 3
 /// where it couldn't finish. What it has to say of a failure is one line to `err`: what `err` gains is a prefix of that
 /// line, and `answer` says whether it is all of it; what `err` refuses changes nothing else. With 0, `run` printed the
 /// rows of reports that the audit proved, and whose coordinator is finished.
-pub fn command<
-    R: AllocGlobal
-        + Threads
-        + Wait
-        + Clock
-        + Net<Stream = TcpStream, Listener = TcpListener>
-        + Sync,
-    F: Files,
-    O: Write,
-    E: Write,
-    P: Progress + Sync,
->(rt: &R, words: &[String], files: &mut F, out: &mut O, err: &mut E, progress: &P) -> u8
+pub fn command<R: AllocGlobal + NetRuntime, F: Files, O: Write, E: Write, P: Progress + Sync>(
+    rt: &R,
+    words: &[String],
+    files: &mut F,
+    out: &mut O,
+    err: &mut E,
+    progress: &P,
+) -> u8
     ensures done { result ≡ 0 → PrintsAnswer (F.contents files.old) (O.contents out.old) (O.contents out.new) }
     ensures quiet { result ≡ 0 → err.new ≡ err.old }
     ensures printed { result ≢ 0 → PrintsFault
@@ -48,18 +41,14 @@ pub fn command<
 }
 
 /// As `command`; the answer says too whether the line of its fault could be written.
-pub fn answer<
-    R: AllocGlobal
-        + Threads
-        + Wait
-        + Clock
-        + Net<Stream = TcpStream, Listener = TcpListener>
-        + Sync,
-    F: Files,
-    O: Write,
-    E: Write,
-    P: Progress + Sync,
->(rt: &R, words: &[String], files: &mut F, out: &mut O, err: &mut E, progress: &P) -> Answered
+pub fn answer<R: AllocGlobal + NetRuntime, F: Files, O: Write, E: Write, P: Progress + Sync>(
+    rt: &R,
+    words: &[String],
+    files: &mut F,
+    out: &mut O,
+    err: &mut E,
+    progress: &P,
+) -> Answered
     ensures done { result.status ≡ 0 → PrintsAnswer (F.contents files.old) (O.contents out.old) (O.contents out.new) }
     ensures quiet { result.status ≡ 0 → err.new ≡ err.old }
     ensures printed { result.status ≢ 0

@@ -16,10 +16,9 @@ ghost use Rattle.fedrun_commands.specs.ReportFiles.{IsFirstFileFault, IsUnprinte
 
 use crate::fault::NodeFault;
 use crate::printing::flush;
-use fedrun_fault::Fault;
 use fedrun_files::{Files, Sources, bytes_of, read_sources_and_bytes};
 use fedrun_run::{AuditedFault, RunOutput, print_audited};
-use fedrun_words::{AuditRequest, Request};
+use fedrun_words::{AuditRequest, Fault, Request};
 use files_reports::layout::LONGEST_REPORT;
 use files_reports::{FileDigests, read_coordinator, take_report};
 use files_text::RowFormat;

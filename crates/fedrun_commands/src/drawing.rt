@@ -7,9 +7,8 @@ ghost use Rattle.fedrun_commands.specs.Refused.{IsFaultOf};
 
 use crate::fault::NodeFault;
 use crate::printing::print_federation_picture;
-use fedrun_fault::Fault;
 use fedrun_files::{Files, read_federation};
-use fedrun_words::{DrawFederationRequest, Request};
+use fedrun_words::{DrawFederationRequest, Fault, Request};
 use std::alloc::Global;
 use std::io::Write;
 

@@ -2,8 +2,8 @@ ghost use Rattle.std.specs.Prelude.{◌≡◌};
 ghost use Rattle.fedrun_commands.specs.Faults.{drawing_status};
 
 use fedrun_draw::DrawFault;
-use fedrun_fault::MoreFault;
 use fedrun_run::AuditFailure;
+use fedrun_words::MoreFault;
 use files_reports::ReportFileFault;
 use files_script::ScriptFault;
 use std::fmt;

@@ -2,7 +2,7 @@
 ghost use Rattle.std.specs.Prelude.{◌≡◌, ◌≢◌, ◌⊎◌, [], ◌∷◌, false, IfErr, IfOk, OnOk, option_copied};
 ghost use Rattle.loadfed.specs.declared.fault.LoadFault.TheVariants.{Memory};
 ghost use Rattle.loadfed.specs.declared.recorded.TheConstants.{MOST_INPUT_BYTES as most_input_bytes};
-ghost use Rattle.fedrun_fault.specs.declared.fault.Fault.TheVariants.{Load};
+ghost use Rattle.fedrun_words.specs.declared.fault.Fault.TheVariants.{Load};
 ghost use Rattle.fedrun_files.specs.Answers.{Answers, refused};
 ghost use Rattle.fedrun_files.specs.Loaded.{input_file};
 ghost use Rattle.fedrun_files.specs.declared.named.FileFault.TheVariants.{OverLimit as over_limit};
@@ -14,10 +14,9 @@ ghost use Rattle.fedrun_commands.specs.Printed.{PrintsFor};
 ghost use Rattle.fedrun_commands.specs.Refused.{IsFaultOf};
 
 use crate::fault::NodeFault;
-use fedrun_fault::Fault;
 use fedrun_files::{FileFault, Files, fault_of};
 use fedrun_lint::{LintFault, NamedFile, print_report};
-use fedrun_words::{LintRequest, Request};
+use fedrun_words::{Fault, LintRequest, Request};
 use loadfed::{LoadFault, MOST_BYTES, MOST_INPUT_BYTES};
 use std::alloc::Global;
 use std::io::Write;

@@ -9,10 +9,9 @@ use crate::fault::NodeFault;
 use crate::play::{Play, PlayOutput, Scheduled};
 use crate::printing::print_played;
 use crate::schedules::read_schedule;
-use fedrun_fault::Fault;
 use fedrun_files::{Files, read_sources};
 use fedrun_progress::Progress;
-use fedrun_words::{DrawScheduleRequest, FramesRequest, ReplayRequest, Request};
+use fedrun_words::{DrawScheduleRequest, Fault, FramesRequest, ReplayRequest, Request};
 use std::alloc::Global;
 use std::io::Write;
 

@@ -5,7 +5,7 @@ ghost use Rattle.plan.specs.External.{AreInputsOf};
 ghost use Rattle.reactor_programs.specs.Programs.{AreProgramsOf};
 ghost use Rattle.fedrun_replay.specs.AsCsv.{IsReplayedIn};
 ghost use Rattle.fedrun_run.specs.Printed.{PrintsAudited};
-ghost use Rattle.fedrun_fault.specs.declared.fault.Fault.TheVariants.{CannotWrite as cannot_write};
+ghost use Rattle.fedrun_words.specs.declared.fault.Fault.TheVariants.{CannotWrite as cannot_write};
 ghost use Rattle.fedrun_commands.specs.Faults.{status_of};
 ghost use Rattle.fedrun_frames.specs.Shown.{ShowsSchedule};
 ghost use Rattle.fedrun_draw.specs.Drawn.{HasPicture};
@@ -16,20 +16,17 @@ use crate::fault::NodeFault;
 use crate::play::{PlayOutput, Scheduled};
 use crate::running::Run;
 use fedrun_draw::{DrawFault, draw_federation, draw_schedule};
-use fedrun_fault::Fault;
 use fedrun_files::Sources;
 use fedrun_frames::frames;
 use fedrun_progress::Progress;
 use fedrun_replay::{ReplayFault, replay_in};
 use fedrun_run::{AuditedFault, print_audited_run};
+use fedrun_words::Fault;
 use files_text::RowFormat;
 use plan::Plan;
 use std::alloc::Global;
 use std::io::Write;
-use std::net::{Net, TcpListener, TcpStream};
-use std::sync::Wait;
-use std::thread::Threads;
-use std::time::Clock;
+use wires::NetRuntime;
 
 /// Plays a schedule and prints what is asked for. Where there is no memory for a step, what is printed of the steps
 /// before it stands.
@@ -182,11 +179,7 @@ pub(crate) fn print_federation_picture<O: Write>(
 }
 
 /// Runs the federation in threads, audits the run, and prints the rows, or the steps of the audit.
-pub(crate) fn print_run<
-    R: Threads + Wait + Clock + Net<Stream = TcpStream, Listener = TcpListener> + Sync,
-    O: Write,
-    P: Progress + Sync,
->(
+pub(crate) fn print_run<R: NetRuntime, O: Write, P: Progress + Sync>(
     rt: &R,
     alloc: Global,
     sources: &Sources,

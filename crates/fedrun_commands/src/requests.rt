@@ -12,27 +12,17 @@ use crate::fault::NodeFault;
 use crate::linting::lint;
 use crate::playing::{draw_schedule, replay, show_frames};
 use crate::running::{record_run, run_federation};
-use fedrun_fault::Fault;
 use fedrun_files::Files;
 use fedrun_progress::Progress;
 use fedrun_whole::{check, whole};
-use fedrun_words::{Request, read_words};
+use fedrun_words::{Fault, Request, read_words};
 use std::alloc::Global;
 use std::io::Write;
-use std::net::{Net, TcpListener, TcpStream};
-use std::sync::Wait;
-use std::thread::Threads;
-use std::time::Clock;
+use wires::NetRuntime;
 
 /// Does what the words ask for.
 #[tactic(auto, using(fedrun_files::proofs::InTurn::none_answered))]
-pub(crate) fn perform<
-    'a,
-    R: Threads + Wait + Clock + Net<Stream = TcpStream, Listener = TcpListener> + Sync,
-    F: Files,
-    O: Write,
-    P: Progress + Sync,
->(
+pub(crate) fn perform<'a, R: NetRuntime, F: Files, O: Write, P: Progress + Sync>(
     rt: &R,
     alloc: Global,
     words: &'a [String],
@@ -56,13 +46,7 @@ pub(crate) fn perform<
 
 /// Does what this request asks for.
 #[tactic(auto, using(crate::proofs::Reported::kept_early))]
-fn fulfil<
-    'a,
-    R: Threads + Wait + Clock + Net<Stream = TcpStream, Listener = TcpListener> + Sync,
-    F: Files,
-    O: Write,
-    P: Progress + Sync,
->(
+fn fulfil<'a, R: NetRuntime, F: Files, O: Write, P: Progress + Sync>(
     rt: &R,
     alloc: Global,
     request: &Request<'a>,

@@ -7,18 +7,13 @@ ghost use Rattle.fedrun_commands.specs.Refused.{IsFaultOfRun, IsFaultOf};
 
 use crate::fault::NodeFault;
 use crate::printing::print_run;
-use fedrun_fault::Fault;
 use fedrun_files::{Files, read_sources};
 use fedrun_progress::Progress;
 use fedrun_run::RunOutput;
-use fedrun_words::{RecordRequest, Request, RunRequest};
+use fedrun_words::{Fault, RecordRequest, Request, RunRequest};
 use std::alloc::Global;
 use std::io::Write;
-use std::net::{Net, TcpListener, TcpStream};
-use std::sync::Wait;
-use std::thread::Threads;
-use std::time::Clock;
-use wires::Terms;
+use wires::{NetRuntime, Terms};
 
 /// A federation that is to be run, and what is to be printed of the run. Files are given by their names; an `inputs` of
 /// `-` is a file without any.
@@ -31,13 +26,7 @@ pub struct Run<'a> {
 }
 
 /// Runs the federation in threads, and prints the rows that the audit proved.
-pub(crate) fn run_federation<
-    'a,
-    R: Threads + Wait + Clock + Net<Stream = TcpStream, Listener = TcpListener> + Sync,
-    F: Files,
-    O: Write,
-    P: Progress + Sync,
->(
+pub(crate) fn run_federation<'a, R: NetRuntime, F: Files, O: Write, P: Progress + Sync>(
     rt: &R,
     alloc: Global,
     request: &RunRequest<'a>,
@@ -65,13 +54,7 @@ pub(crate) fn run_federation<
 }
 
 /// Runs the federation in threads, and prints the steps by which the audit proved its rows.
-pub(crate) fn record_run<
-    'a,
-    R: Threads + Wait + Clock + Net<Stream = TcpStream, Listener = TcpListener> + Sync,
-    F: Files,
-    O: Write,
-    P: Progress + Sync,
->(
+pub(crate) fn record_run<'a, R: NetRuntime, F: Files, O: Write, P: Progress + Sync>(
     rt: &R,
     alloc: Global,
     request: &RecordRequest<'a>,
@@ -99,13 +82,7 @@ pub(crate) fn record_run<
 }
 
 /// Runs the federation in threads, and prints what is asked for of the run.
-fn run_and_print<
-    'a,
-    R: Threads + Wait + Clock + Net<Stream = TcpStream, Listener = TcpListener> + Sync,
-    F: Files,
-    O: Write,
-    P: Progress + Sync,
->(
+fn run_and_print<'a, R: NetRuntime, F: Files, O: Write, P: Progress + Sync>(
     rt: &R,
     alloc: Global,
     run: &Run<'a>,

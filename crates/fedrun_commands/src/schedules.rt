@@ -5,8 +5,8 @@ ghost use Rattle.fedrun_commands.specs.Refused.{IsScheduleFault};
 ghost use Rattle.fedrun_commands.specs.Schedules.{IsSchedule};
 
 use crate::fault::NodeFault;
-use fedrun_fault::Fault;
 use fedrun_files::{Files, bytes_of};
+use fedrun_words::Fault;
 use files_script::{MOST_BYTES, Script, read_script};
 use plan::Plan;
 use std::alloc::Global;

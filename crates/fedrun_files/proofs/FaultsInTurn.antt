@@ -2,7 +2,7 @@
 use Rattle.std.proofs.Common.{ℕ, List, Option}
 use Rattle.std.specs.Borrow.{Bor}
 use Rattle.plan.specs.declared.draft.Draft.{Draft}
-use Rattle.fedrun_fault.specs.declared.fault.Fault.{Fault}
+use Rattle.fedrun_words.specs.declared.fault.Fault.{Fault}
 use Rattle.fedrun_files.specs.Answers.{Answer}
 use Rattle.fedrun_files.specs.Contents.{Contents}
 use Rattle.fedrun_files.specs.Refused.{IsUnread, IsInputFault, input_unread, input_unloaded}

@@ -1,7 +1,7 @@
 -- What holds of the bytes that were read holds of the file, where its bytes are known.
 use Rattle.std.proofs.Common.{◌≡◌, ℕ, List, Option, None, Some, IfSome, refl, subst}
 use Rattle.loadfed.specs.declared.fault.LoadFault.{LoadFault}
-use Rattle.fedrun_fault.specs.declared.fault.Fault.TheVariants.{Load}
+use Rattle.fedrun_words.specs.declared.fault.Fault.TheVariants.{Load}
 use Rattle.fedrun_files.specs.Contents.{AreBytesOf}
 use Rattle.fedrun_files.specs.Refused.{IsUnloaded}
 

@@ -10,8 +10,8 @@ use Rattle.loadfed.specs.declared.federation.TheConstants.{MOST_BYTES as MOST_FE
 use Rattle.loadfed.specs.declared.recorded.TheConstants.{MOST_INPUT_BYTES}
 use Rattle.loadfed.specs.Loaded.{HasLoadFault}
 use Rattle.loadfed.specs.InputShape.{HasInputFileFault}
-use Rattle.fedrun_fault.specs.declared.fault.Fault.{Fault}
-use Rattle.fedrun_fault.specs.declared.fault.Fault.TheVariants.{CannotRead, Load}
+use Rattle.fedrun_words.specs.declared.fault.Fault.{Fault}
+use Rattle.fedrun_words.specs.declared.fault.Fault.TheVariants.{CannotRead, Load}
 use Rattle.fedrun_files.specs.declared.named.FileFault.{FileFault}
 use Rattle.fedrun_files.specs.declared.named.FileFault.TheVariants as file_fault
 use Rattle.fedrun_files.specs.Answers.{Answer, given, refused}

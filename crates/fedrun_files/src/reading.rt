@@ -6,7 +6,7 @@ ghost use Rattle.fedrun_files.specs.Refused.{asked_inputs, asked_sources, IsUnre
 ghost use Rattle.fedrun_files.specs.Refused.{IsSourcesFault, fault_of_file};
 
 use crate::{FileFault, Files};
-use fedrun_fault::Fault;
+use fedrun_words::Fault;
 use loadfed::{LoadFault, MOST_BYTES, MOST_INPUT_BYTES, load, load_inputs};
 use plan::{Inputs, Plan};
 use reactor_programs::Programs;

@@ -58,12 +58,12 @@ HasShown (Ok done) d w asked before after = Appends before after (frames_text d 
 HasShown (Err (World memory)) d w asked before after = ShowsSome d w asked before after
 HasShown (Err CannotWrite) d w asked before after = Unit {0}
 
--- out of memory for a step, nothing is written of it
+-- for want of memory for a step: nothing is written of it
 abbrev pub IsUntouched : ReplayFault → Option (List ℕ) → Option (List ℕ) → Type 0
 IsUntouched (World memory) before after = after ≡ before
 IsUntouched CannotWrite before after = Unit {0}
 
--- out of memory a writer's bytes grew by what is written of some first steps of the schedule, and no more; what a
+-- for want of memory: a writer's bytes grew by what is written of some first steps of the schedule, and no more. What a
 -- writer holds after it refused isn't known
 abbrev pub IsBrokenOff : Draft → List Behaviour → List Input → Script → Option ℕ → Option (List ℕ) → Option (List ℕ)
     → ReplayFault → Type 0

@@ -81,7 +81,7 @@ fn back(dir: Dir) -> Dir
     }
 }
 
-/// The number that a direction's frames acknowledge last in an incarnation; 0 where none does. Mostly it stands near
+/// The number that a direction's frames acknowledge last in an incarnation, or 0 where none does. Mostly it stands near
 /// the end: an acknowledgement is sent for each signal that comes.
 fn acknowledged_last(world: &World<'_>, dir: Dir, incarnation: u32) -> u64
     ensures { result ≡ acknowledged_last incarnation 0 (frames_in (stations_of world.now) dir) }

@@ -8,13 +8,13 @@
 //!     Script --> making ---> (line, step) ..     all steps of the schedule, as the player makes them
 //!                   |
 //!                   v
-//!                showing --> Account             one step: what it brought, how it ended, the row, and what had been sent before
-//!                   |
+//!                showing --> Account             one step: what it brought, how it ended, the row, and
+//!                   |                            what had been sent before
 //!                   v
 //!                writing --> text                the step, and the frames that are new in each direction
 //!
 //! A signal counts as taken before where its receiver acknowledged it: what is acknowledged was taken (`laws`). Begin
-//! with `specs/Accounts`, then `frames`.
+//! with `specs/Accounts`, then `frames` in `shown`.
 #![tactic(auto)]
 
 mod account;

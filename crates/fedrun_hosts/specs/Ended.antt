@@ -1,9 +1,10 @@
 -- What a node on a machine of its own leaves. What a file holds is said where its bytes are known.
-use Rattle.std.specs.Prelude.{◌≡◌, ◌⊎◌, ℕ, true, List, Option, Some}
+use Rattle.std.specs.Prelude.{◌≡◌, ◌⊎◌, ℕ, true, false, List, Option, Some}
 use Rattle.plan.specs.Federation.{federate_number}
 use Rattle.node.specs.declared.event.Event.{Event}
 use Rattle.network.specs.Undivided.{Row}
 use Rattle.node_cores.specs.CoordinatorCore.{CoordinatorNode, coordinator_core}
+use Rattle.node_cores.specs.FederateCore.{FederateNode, federate_core}
 use Rattle.desk.specs.Replay.{Desk, replay}
 use Rattle.fedrun_files.specs.Contents.{Contents}
 use Rattle.fedrun_files.specs.declared.reading.Sources.{Sources}
@@ -42,12 +43,20 @@ abbrev pub HasCoordinated : Contents → NodeRequest → Option Saved → Option
 HasCoordinated contents n before after =
     (journal : List Event) × IsFinishedJournal journal × SavesReport contents n (by_coordinator journal) before after
 
+-- a desk with this journal whose node, a federate, has made these rows
+pub record AreOfDesk (rows : List Row) (journal : List Event) : Type 0 where
+  pub desk : Desk FederateNode
+  pub replayed : desk.station ≡ replay federate_core false desk.station desk.journal
+  pub rows_are : rows ≡ desk.station.node.federate.rows
+  pub journal_is : journal ≡ desk.journal
+
 -- the report of the federate of this name is saved
 pub record HasJoined (contents : Contents) (n : NodeRequest) (name : List ℕ)
     (before after : Option Saved) : Type 0 where
   pub federate : ℕ
   pub rows : List Row
   pub journal : List Event
+  pub of_desk : AreOfDesk rows journal
   pub saves : SavesReport contents n (by_federate federate rows journal) before after
   pub named : federate_number saves.sources.plan.federates name ≡ Some federate
 

@@ -1,5 +1,7 @@
--- What a node on a machine of its own leaves, and why it doesn't end well.
+-- What a node on a machine of its own begins with and leaves, and why it doesn't end well.
 -- the exit status that goes with each fault, and how it is printed
 pub mod Faults
+-- by what it greets others
+pub mod Begun
 -- its report
 pub mod Ended

@@ -6,30 +6,20 @@ use crate::fault::HostFault;
 use crate::join::join;
 use crate::request::HostRequest;
 use crate::words::read_node_words;
-use fedrun_fault::{Fault, refuse};
 use fedrun_files::Files;
+use fedrun_words::{Fault, refuse};
 use files_saving::Disk;
 use std::alloc::Global;
 use std::io::Write;
-use std::net::{Net, TcpListener, TcpStream};
 use std::random::RandomSource;
-use std::sync::Wait;
-use std::thread::Threads;
-use std::time::Clock;
-use wires::Terms;
+use wires::{NetRuntime, Terms};
 
 /// Runs the node for which the words ask, and answers the exit status: 0 where the run is finished and the node's
 /// report is written; 1 where what it was given is refused, by itself or by the coordinator; 2 where the words are no
 /// command, or an address needs a secret; 3 where it couldn't finish. What it has to say of a failure is one line to
 /// `err`.
 pub fn node_command<
-    R: AllocGlobal
-        + Threads
-        + Wait
-        + Clock
-        + Net<Stream = TcpStream, Listener = TcpListener>
-        + RandomSource
-        + Sync,
+    R: AllocGlobal + NetRuntime + RandomSource,
     F: Files,
     D: Disk,
     O: Write,
@@ -46,18 +36,7 @@ pub fn node_command<
 }
 
 // Does what the words ask for.
-fn perform<
-    'a,
-    R: Threads
-        + Wait
-        + Clock
-        + Net<Stream = TcpStream, Listener = TcpListener>
-        + RandomSource
-        + Sync,
-    F: Files,
-    D: Disk,
-    O: Write,
->(
+fn perform<'a, R: NetRuntime + RandomSource, F: Files, D: Disk, O: Write>(
     rt: &R,
     alloc: Global,
     words: &'a [String],

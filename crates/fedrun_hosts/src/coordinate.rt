@@ -9,9 +9,9 @@ use crate::request::NodeRequest;
 use crate::saying::{say_finished, say_listening};
 use coordinator::Coordinator;
 use desk::Desk;
-use fedrun_fault::Fault;
 use fedrun_files::Files;
 use fedrun_run::coordinator_desk;
+use fedrun_words::Fault;
 use files_reports::NodeReport;
 use files_saving::Disk;
 use node::Node;
@@ -20,31 +20,20 @@ use std::io::Write;
 use std::net::{Net, SocketAddr, TcpListener, TcpStream};
 use std::random::RandomSource;
 use std::sync::Wait;
-use std::thread::Threads;
 use std::time::{Clock, Duration};
-use wires::{RunFault, channels};
+use wires::{CoordinatorLines, NetRuntime, RunFault, channels, run_coordinator};
 use wires_hosts::{Heard, HostAcceptor, HostEntrance, Patience, listen_at};
-use wires_node::run_coordinator;
-use wires_transports::Ending;
+use wires_transports::{Acceptor, Ending};
 use wires_workers::NoGate;
 
-/// So long whoever asks is told that the run is finished, where no patience is given.
+/// For this many seconds whoever asks is told that the run is finished, where no patience is given.
 const PATIENCE_SECONDS: u32 = 10;
 
 /// Runs the coordinator until it is finished, or until nobody was heard for its patience, and writes its report in
-/// either case. Its report's name is reserved before anybody can connect, and stays so where it ends in the midst.
-pub fn coordinate<
-    'a,
-    R: Threads
-        + Wait
-        + Clock
-        + Net<Stream = TcpStream, Listener = TcpListener>
-        + RandomSource
-        + Sync,
-    F: Files,
-    D: Disk,
-    O: Write,
->(
+/// either case. Federates are told that the run is finished once the report is saved, and not before: where it is lost,
+/// none of them has ended as if all were well. Its report's name is reserved before anybody can connect, and stays so
+/// where it ends in the midst.
+pub fn coordinate<'a, R: NetRuntime + RandomSource, F: Files, D: Disk, O: Write>(
     rt: &R,
     alloc: Global,
     node: &NodeRequest<'a>,
@@ -62,15 +51,15 @@ pub fn coordinate<
         Ok(temporary) => temporary,
         Err(fault) => return Err(fault),
     };
-    let listener = match listen(rt, node.address, out) {
-        Ok(listener) => listener,
+    let listeners = match listen(rt, node.address, out) {
+        Ok(listeners) => listeners,
         Err(fault) => {
             // Nothing was begun: the name is free again.
             disk.remove(temporary.as_str());
             return Err(fault);
         }
     };
-    let desk = match run_listening(rt, alloc, node, &loaded, listener) {
+    let desk = match run_listening(rt, alloc, node, &loaded, listeners.for_run) {
         Ok(desk) => desk,
         Err(why) => return Err(fault_of_run(why)),
     };
@@ -85,37 +74,50 @@ pub fn coordinate<
         node.report,
         disk,
     ) {
-        Ok(()) if is_finished => say_finished(out),
+        Ok(()) if is_finished => {
+            // Where there is no memory for that, nobody is told; the report stands.
+            let _ = tell_finished(rt, alloc, node, &loaded, listeners.for_telling);
+            say_finished(out)
+        }
         Ok(()) => Err(Fault::More(HostFault::NotFinished)),
         Err(fault) => Err(fault),
     }
 }
 
-// A listener at the node's address, once it is said where that is.
+// One place where federates connect. Both listen there, so that it stays the coordinator's own from the run's
+// beginning until all is told; who connects in between waits.
+#[derive(Drop)]
+struct Listeners {
+    // While the run goes on.
+    for_run: TcpListener,
+    // Once the report is saved.
+    for_telling: TcpListener,
+}
+
+// Listens at the node's address, once it is said where that is.
 fn listen<'a, R: Net<Stream = TcpStream, Listener = TcpListener>, O: Write>(
     rt: &R,
     address: SocketAddr,
     out: &mut O,
-) -> Result<TcpListener, Fault<'a, HostFault<'a>>> {
-    let Ok(listener) = listen_at(rt, address) else {
+) -> Result<Listeners, Fault<'a, HostFault<'a>>> {
+    let Ok(for_run) = listen_at(rt, address) else {
         return Err(Fault::More(HostFault::CannotListen));
     };
-    match say_listening(&listener, out) {
-        Ok(()) => Ok(listener),
+    let Ok(for_telling) = for_run.try_clone() else {
+        return Err(Fault::More(HostFault::CannotListen));
+    };
+    match say_listening(&for_run, out) {
+        Ok(()) => Ok(Listeners {
+            for_run,
+            for_telling,
+        }),
         Err(fault) => Err(fault),
     }
 }
 
-// Runs the coordinator, to which federates connect by this listener; its desk then.
-fn run_listening<
-    'n,
-    R: Threads
-        + Wait
-        + Clock
-        + Net<Stream = TcpStream, Listener = TcpListener>
-        + RandomSource
-        + Sync,
->(
+// Runs the coordinator, to which federates connect by this listener; its desk then. Nobody is told that the run is
+// finished.
+fn run_listening<'n, R: NetRuntime + RandomSource>(
     rt: &R,
     alloc: Global,
     node: &NodeRequest<'_>,
@@ -129,21 +131,58 @@ fn run_listening<
     let heard = Heard::new(alloc, count)?;
     let ending = Ending::new();
     let (readers, arrivals) = channels(alloc, count)?;
-    let entrance = HostEntrance {
-        listener,
-        key: loaded.key,
-        files: loaded.files,
-        patience: seconds(node.patience.unwrap_or(PATIENCE_SECONDS)),
-    };
+    // The acceptor tells nobody that the run is finished: the report isn't saved yet.
+    let entrance = entrance(loaded, listener, seconds(0));
     let acceptor = HostAcceptor::new(alloc, rt, entrance, &heard, readers)?;
-    let patience = Patience {
+    let watcher = Patience {
         heard: &heard,
         ending: &ending,
         most: node.patience.map(seconds),
+        last: None,
     };
-    run_coordinator(
-        rt, alloc, desk, arrivals, acceptor, &NoGate, patience, &ending,
-    )
+    let lines = CoordinatorLines { arrivals, acceptor };
+    run_coordinator(rt, alloc, desk, lines, watcher, &NoGate, &ending)
+}
+
+// Tells whoever asks by this listener that the run is finished, until each federate has heard so, or the patience for
+// that is over.
+fn tell_finished<R: Wait + Clock + RandomSource>(
+    rt: &R,
+    alloc: Global,
+    node: &NodeRequest<'_>,
+    loaded: &Loaded,
+    listener: TcpListener,
+) -> Result<(), RunFault> {
+    let count = loaded.sources.plan.federate_count();
+    let heard = Heard::new(alloc, count)?;
+    // Nobody is let in any more, so nobody reads.
+    let (readers, _) = channels(alloc, count)?;
+    let patience = seconds(node.patience.unwrap_or(PATIENCE_SECONDS));
+    let acceptor = HostAcceptor::new(
+        alloc,
+        rt,
+        entrance(loaded, listener, patience),
+        &heard,
+        readers,
+    )?;
+    let ending = Ending::new();
+    ending.set();
+    acceptor.let_in(rt, alloc, &ending);
+    Ok(())
+}
+
+// Where federates connect, and by what they are let in: by the key and the files that were read.
+fn entrance(loaded: &Loaded, listener: TcpListener, patience: Duration) -> HostEntrance
+    ensures key { result.key ≡ loaded.now.key }
+    ensures files { result.files ≡ loaded.now.files }
+    ensures patience { result.patience ≡ patience }
+{
+    HostEntrance {
+        listener,
+        key: loaded.key,
+        files: loaded.files,
+        patience,
+    }
 }
 
 /// This many seconds.

@@ -1,7 +1,7 @@
 ghost use Rattle.std.specs.Prelude.{◌≡◌};
 ghost use Rattle.fedrun_hosts.specs.Faults.{refusal_name};
 
-use fedrun_fault::MoreFault;
+use fedrun_words::MoreFault;
 use files_reports::WriteFault;
 use files_saving::SaveFault;
 use std::fmt;

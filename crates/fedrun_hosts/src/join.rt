@@ -1,7 +1,7 @@
 //! One federate, in a process of its own.
-ghost use Rattle.std.specs.Prelude.{◌≡◌, Some, IfSome, OnOk};
+ghost use Rattle.std.specs.Prelude.{◌≡◌, ◌<◌, Some, IfSome, OnOk};
 ghost use Rattle.plan.specs.External.{AreInputsOf};
-ghost use Rattle.plan.specs.Federation.{federate_number};
+ghost use Rattle.plan.specs.Federation.{federate_count, federate_number};
 ghost use Rattle.reactor_programs.specs.Programs.{AreProgramsOf};
 ghost use Rattle.fedrun_hosts.specs.Ended.{HasJoined};
 
@@ -13,9 +13,9 @@ use crate::request::NodeRequest;
 use crate::saying::say_finished;
 use desk::Desk;
 use federate::Federate;
-use fedrun_fault::Fault;
 use fedrun_files::Files;
-use fedrun_run::federate_desks;
+use fedrun_run::federate_desk;
+use fedrun_words::Fault;
 use files_reports::NodeReport;
 use files_saving::Disk;
 use plan::Plan;
@@ -23,14 +23,9 @@ use plan_names::place_of;
 use recorder_reports::Report;
 use std::alloc::Global;
 use std::io::Write;
-use std::net::{Net, TcpListener, TcpStream};
 use std::random::RandomSource;
-use std::sync::Wait;
-use std::thread::Threads;
-use std::time::Clock;
-use wires::{RunFault, Terms};
-use wires_hosts::{DialFault, FederateHost, Heard, HostDial, Patience};
-use wires_node::run_federate;
+use wires::{FederateLines, NetRuntime, RunFault, Terms, run_federate};
+use wires_hosts::{DialFault, FederateHost, Heard, HostDial, LastConnection, Patience};
 use wires_transports::Ending;
 use wires_workers::NoGate;
 
@@ -38,18 +33,7 @@ use wires_workers::NoGate;
 /// coordinator refuses it, or nobody was heard for its patience; its report is written in each case. Its report's name
 /// is reserved before it connects, and stays so where it ends in the midst: so it isn't begun anew by the same words,
 /// without what it knew.
-pub fn join<
-    'a,
-    R: Threads
-        + Wait
-        + Clock
-        + Net<Stream = TcpStream, Listener = TcpListener>
-        + RandomSource
-        + Sync,
-    F: Files,
-    D: Disk,
-    O: Write,
->(
+pub fn join<'a, R: NetRuntime + RandomSource, F: Files, D: Disk, O: Write>(
     rt: &R,
     alloc: Global,
     node: &NodeRequest<'a>,
@@ -104,22 +88,15 @@ pub fn join<
 
 // The number of the federate of this name.
 fn number_of(plan: &Plan, name: &str) -> Option<u16>
-    ensures { IfSome result (λ number. federate_number plan.now.federates name.now ≡ Some number) }
+    ensures named { IfSome result (λ number. federate_number plan.now.federates name.now ≡ Some number) }
+    ensures there { IfSome result (λ number. number < federate_count plan.now) }
 {
     let place = place_of(plan.federates(), name.as_bytes())?;
     u16::try_from(place).ok()
 }
 
 // Runs a federate, which connects to the node's address; its desk then.
-fn run_joined<
-    'n,
-    R: Threads
-        + Wait
-        + Clock
-        + Net<Stream = TcpStream, Listener = TcpListener>
-        + RandomSource
-        + Sync,
->(
+fn run_joined<'n, R: NetRuntime + RandomSource>(
     rt: &R,
     alloc: Global,
     node: &NodeRequest<'_>,
@@ -130,40 +107,54 @@ fn run_joined<
 ) -> Result<Desk<Federate<'n>>, RunFault>
     requires programs { AreProgramsOf loaded.now.sources.plan loaded.now.sources.programs }
     requires inputs { AreInputsOf loaded.now.sources.plan loaded.now.sources.inputs }
+    requires there { number < federate_count loaded.now.sources.plan }
 {
     let sources = &loaded.sources;
-    let desks = federate_desks(alloc, &sources.plan, &sources.programs, &sources.inputs);
-    let desk = match desks {
-        Ok(desks) => desks.into_iter().nth(usize::from(number)),
-        Err(_) => None,
-    };
-    let Some(desk) = desk else {
+    let own = usize::from(number);
+    let desk = federate_desk(
+        alloc,
+        &sources.plan,
+        &sources.programs,
+        &sources.inputs,
+        own,
+    );
+    let Ok(desk) = desk else {
         return Err(RunFault::Memory);
     };
     let ending = Ending::new();
-    let host = FederateHost {
+    let host = host(node, loaded, number);
+    let last = LastConnection::new();
+    let dial = HostDial::new(rt, host, heard, &last, &ending);
+    let watcher = Patience {
+        heard,
+        ending: &ending,
+        most: node.patience.map(seconds),
+        last: Some(&last),
+    };
+    let lines = FederateLines {
+        number: own,
+        dial,
+        terms,
+    };
+    run_federate(rt, alloc, desk, lines, watcher, &NoGate, &ending)
+}
+
+// Whom the node connects, and where to: the federate of this number, to the node's address, with the key and the files
+// that were read.
+fn host(node: &NodeRequest<'_>, loaded: &Loaded, number: u16) -> FederateHost
+    ensures { result ≡ record {
+      address = node.now.address;
+      key = loaded.now.key;
+      files = loaded.now.files;
+      federate = number;
+    } }
+{
+    FederateHost {
         address: node.address,
         key: loaded.key,
         files: loaded.files,
         federate: number,
-    };
-    let dial = HostDial::new(rt, host, heard, &ending);
-    let patience = Patience {
-        heard,
-        ending: &ending,
-        most: node.patience.map(seconds),
-    };
-    run_federate(
-        rt,
-        alloc,
-        usize::from(number),
-        desk,
-        dial,
-        &NoGate,
-        terms,
-        patience,
-        &ending,
-    )
+    }
 }
 
 // Why the run isn't finished, as the last attempt to connect was answered; None where it is.

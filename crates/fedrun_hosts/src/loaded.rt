@@ -1,12 +1,14 @@
 ghost use Rattle.std.specs.Prelude.{IfOk};
+ghost use Rattle.std.specs.Net.Socket.{socket_ip};
 ghost use Rattle.fedrun_files.specs.Digests.{AreDigestsOf};
 ghost use Rattle.fedrun_files.specs.Loaded.{input_file, AreSources};
+ghost use Rattle.fedrun_hosts.specs.Begun.{IsDigestOfBoth, IsKeyOf};
 
 use crate::fault::HostFault;
 use crate::request::NodeRequest;
 use crate::secret::read_key;
-use fedrun_fault::Fault;
 use fedrun_files::{Files, Sources, read_sources_and_bytes};
+use fedrun_words::Fault;
 use files_reports::FileDigests;
 use std::alloc::Global;
 use wires_greeting::{DIGEST_SIZE, Key, files_digest};
@@ -34,6 +36,11 @@ pub(crate) fn load<'a, F: Files>(
     ensures digests { IfOk result (λ loaded.
         AreDigestsOf (F.contents files.old node.now.federation.now)
         (input_file (F.contents files.old) node.now.inputs.now) loaded.digests.federation loaded.digests.inputs) }
+    ensures files { IfOk result (λ loaded.
+        IsDigestOfBoth (F.contents files.old node.now.federation.now)
+        (input_file (F.contents files.old) node.now.inputs.now) loaded.files) }
+    ensures key { IfOk result (λ loaded.
+        IsKeyOf (F.contents files.old) (socket_ip node.now.address) node.now.secret loaded.key) }
 {
     let (sources, bytes) = match read_sources_and_bytes(
         alloc,
@@ -47,7 +54,7 @@ pub(crate) fn load<'a, F: Files>(
     let digests = FileDigests::new(bytes.federation.as_slice(), bytes.inputs.as_slice());
     let both = files_digest(bytes.federation.as_slice(), bytes.inputs.as_slice());
     drop(bytes);
-    let key = match read_key(node, files) {
+    let key = match read_key(node.secret, &node.address, files) {
         Ok(key) => key,
         Err(fault) => return Err(fault),
     };

@@ -5,7 +5,7 @@ ghost use Rattle.files_reports.specs.Said.{said_in};
 ghost use Rattle.files_reports.specs.File.{IsReportOf};
 
 use crate::fault::HostFault;
-use fedrun_fault::Fault;
+use fedrun_words::Fault;
 use files_reports::{FileDigests, NodeReport, write_report};
 use files_saving::{Disk, ReserveFault, reserve, save, temporary_name};
 use std::alloc::Global;

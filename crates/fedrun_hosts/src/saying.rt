@@ -1,5 +1,5 @@
 use crate::fault::HostFault;
-use fedrun_fault::Fault;
+use fedrun_words::Fault;
 use std::io::Write;
 use std::net::TcpListener;
 

@@ -2,15 +2,13 @@ use crate::request::{HostRequest, NodeRequest};
 use clap::error::ErrorKind;
 use clap::{Arg, ArgAction, ArgMatches, Command};
 use fedrun_words::WordsFault;
+use signal::wire::BATCHING;
 use std::alloc::{AllocError, Global};
 use std::net::SocketAddr;
 
 /// The turns of a federate for which no number is given. One that hears nothing makes a turn some 100 times a second,
 /// and so gives up after some three hours.
 const JOIN_TURNS: u32 = 1_000_000;
-
-/// The version of frames of a federate for which none is given.
-const JOIN_FRAMES: u8 = 2;
 
 const COORDINATE: &str = "coordinate";
 
@@ -128,9 +126,9 @@ fn name(text: &str) -> Option<&str> {
     if text.is_empty() { None } else { Some(text) }
 }
 
-/// The version of frames that a federate writes.
+/// The version of frames that a federate writes; where none is given, one that has Batches.
 fn frames(given: &ArgMatches<'_>) -> Option<u8> {
-    match number(given, "frames", u32::from(JOIN_FRAMES))? {
+    match number(given, "frames", u32::from(BATCHING))? {
         1 => Some(1),
         2 => Some(2),
         _ => None,

@@ -63,7 +63,7 @@ impl<'a, R: Wait + Clock> ProgressLine<'a, R> {
         }
     }
 
-    // What is shown next, after a while; none once the command is at its end.
+    // What is shown next, after a while, or None once the command is at its end.
     fn next(&self) -> Option<Count> {
         let state = self.state.lock(self.rt);
         let pause = Duration::from_millis(RENEWAL_MS);

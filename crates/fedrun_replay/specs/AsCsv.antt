@@ -39,7 +39,7 @@ abbrev pub IsReplayedIn : RowFormat → Draft → List Behaviour → List Input 
 IsReplayedIn Text d programs inputs s closing before after = IsReplayed d programs inputs s closing before after
 IsReplayedIn Csv d programs inputs s closing before after = IsReplayedAsCsv d programs inputs s closing before after
 
--- out of memory nothing is printed as comma-separated values
+-- for want of memory: nothing is printed as comma-separated values
 abbrev pub IsUnprinted : Option (List ℕ) → Option (List ℕ) → ReplayFault → Type 0
 IsUnprinted before after (World memory) = Keeps before after
 IsUnprinted before after CannotWrite = Unit {0}

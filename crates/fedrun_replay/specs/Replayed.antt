@@ -68,7 +68,7 @@ pub record IsReplayed (d : Draft) (programs : List Behaviour) (inputs : List Inp
   pub faithful : IsFaithful last
   pub enough : AsksForEnough d programs inputs s closing → EndsWithEveryRow d programs inputs last played after
 
--- out of memory a writer's bytes grew by what is printed of the first of these steps, and no more
+-- for want of memory: a writer's bytes grew by what is printed of the first of these steps, and no more
 abbrev pub IsBrokenOff : Draft → List Behaviour → List Input → Script → Option ℕ → Option (List ℕ) → Option (List ℕ)
     → ReplayFault → Type 0
 IsBrokenOff d programs inputs s closing before after (World memory) =

@@ -5,7 +5,7 @@
 //! its line's number, and what `specs/Replayed` says of the world after them. So all that is known of worlds holds of
 //! it: the rows of a federate are a prefix of its part of the undivided program's rows, and all of it where closing
 //! rounds were enough (`specs/Enough`). As comma-separated values the rows alone are printed (`specs/AsCsv`). Begin
-//! with `replay`, then `Player`.
+//! with `replay` in `replayed`, then `Player`.
 #![tactic(auto)]
 
 mod cursors;

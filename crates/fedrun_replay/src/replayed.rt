@@ -48,7 +48,7 @@ pub fn replay<W: Write, P: Progress>(
 }
 
 /// As `replay`; as comma-separated values the rows alone are printed, under their header: no refused step, how closing
-/// rounds ended neither, nor who forgot. Out of memory for a step nothing is then printed.
+/// rounds ended neither, nor who forgot. Where there is no memory for a step, nothing is printed.
 pub fn replay_in<W: Write, P: Progress>(
     alloc: Global,
     out: &mut W,

@@ -11,7 +11,7 @@ use Rattle.recorder.specs.Placing.{initial_of}
 use Rattle.recorder.specs.declared.audited_run.AuditedRun.{AuditedRun}
 use Rattle.recorder_reports.specs.declared.report.Report.{Report}
 use Rattle.recorder.specs.Audited.{HasEnded}
-use Rattle.wires.specs.declared.job.WorkerResult.{WorkerResult}
+use Rattle.wires.specs.declared.threads.RunResults.{RunResults}
 use Rattle.wires.specs.declared.run_fault.Cause.TheVariants.{TurnsUsedUp}
 use Rattle.wires.specs.declared.run_fault.RunFault.{RunFault}
 use Rattle.wires.specs.declared.run_fault.RunFault.TheVariants as run
@@ -37,7 +37,7 @@ module _ (d : Draft) (programs : List Behaviour) (inputs : List Input) (reports 
       }
 
   -- a fault of these reports and this journal, where a run's nodes gave them
-  pub of_some : (left : List (Option WorkerResult)) → AreReportedBy left reports coordinator → (told : AuditedFault) → IsAuditedFaultOf d programs inputs reports coordinator told →
+  pub of_some : (left : RunResults) → AreReportedBy left reports coordinator → (told : AuditedFault) → IsAuditedFaultOf d programs inputs reports coordinator told →
       IsAuditedFault d programs inputs told
   of_some left reported (NotFinished cause) is = tt
   of_some left reported (Unproved failure) is = record { left = left; reports = reports; coordinator = coordinator; reported = reported; fails = is }
@@ -61,7 +61,7 @@ no_desks (Err run.Memory) told P unfinished fault = inr fault
 
 -- what is passed on of a run's nodes is what they gave
 pub same_reports_of : {reports others : List Report} {coordinator journal : List Event} → reports ≡ others → coordinator ≡ journal →
-    (left : List (Option WorkerResult)) × AreReportedBy left others journal → (left : List (Option WorkerResult)) × AreReportedBy left reports coordinator
+    (left : RunResults) × AreReportedBy left others journal → (left : RunResults) × AreReportedBy left reports coordinator
 same_reports_of {reports} {others} {coordinator} {journal} same_reports same_journal run = (
   run.0,
   subst (λ (rs : List Report). AreReportedBy run.0 rs coordinator) (sym same_reports)
@@ -70,7 +70,7 @@ same_reports_of {reports} {others} {coordinator} {journal} same_reports same_jou
 
 -- the federation of an audit is the one that it was begun for
 pub printed_of_some : (output : RunOutput) (d : Draft) (programs : List Behaviour) (inputs : List Input) (w : WorldView) (reports : List Report) (coordinator : List Event) (before after : Option (List ℕ))
-    (result : Result (Unit {0}) AuditedFault) → (left : List (Option WorkerResult)) × AreReportedBy left reports coordinator → w ≡ initial_of d programs inputs →
+    (result : Result (Unit {0}) AuditedFault) → (left : RunResults) × AreReportedBy left reports coordinator → w ≡ initial_of d programs inputs →
     OnOk result (PrintsReports output d w.programs w.inputs reports coordinator before after) → OnOk result (PrintsAudited output d programs inputs before after)
 printed_of_some output d programs inputs w reports coordinator before after result run is =
     on_ok_weaker {P = PrintsReports output d w.programs w.inputs reports coordinator before after} {Q = PrintsAudited output d programs inputs before after} result (λ prints. record {
@@ -82,7 +82,7 @@ printed_of_some output d programs inputs w reports coordinator before after resu
     })
 
 pub fault_of_some : (d : Draft) (programs : List Behaviour) (inputs : List Input) (w : WorldView) (reports : List Report) (coordinator : List Event)
-    (result : Result (Unit {0}) AuditedFault) → (left : List (Option WorkerResult)) × AreReportedBy left reports coordinator → w ≡ initial_of d programs inputs →
+    (result : Result (Unit {0}) AuditedFault) → (left : RunResults) × AreReportedBy left reports coordinator → w ≡ initial_of d programs inputs →
     IfErr result (IsAuditedFaultOf d w.programs w.inputs reports coordinator) → IfErr result (IsAuditedFault d programs inputs)
 fault_of_some d programs inputs w reports coordinator result run is =
     IfErr-weaker result (IsAuditedFaultOf d w.programs w.inputs reports coordinator) (IsAuditedFault d programs inputs)

@@ -6,7 +6,7 @@ use Rattle.node.specs.declared.event.Event.{Event}
 use Rattle.node.specs.Core.{Core}
 use Rattle.desk.specs.Replay.{Desk}
 use Rattle.recorder_reports.specs.declared.report.Report.{Report}
-use Rattle.wires.specs.declared.job.WorkerResult.{WorkerResult}
+use Rattle.wires.specs.declared.threads.RunResults.{RunResults}
 use Rattle.wires.specs.Gathered.{AreGathered}
 use Rattle.wires.proofs.Pushed.{get_pushed}
 use Rattle.fedrun_run.specs.Reported.{StationIsReplay, IsReportOf, AreReportsOf, AreReported}
@@ -40,14 +40,14 @@ ok_and (Ok x) P Q follows p = follows x p
 ok_and (Err e) P Q follows p = p
 
 -- what the desks of a finished run say, of which it is known from what they were gathered
-pub reported_so : {OfCoordinator CoordinatorRow OfFederate FederateRow T E : Type 0} (core : Core OfCoordinator CoordinatorRow) (is_coordinator : Bool) (of_federates : Core OfFederate FederateRow) (federates_coordinate : Bool)
-    (Tells : OfFederate → Report → Type 0) (items : T → List (Option WorkerResult)) (results : Result T E)
+pub reported_so : {OfCoordinator CoordinatorRow OfFederate FederateRow E : Type 0} (core : Core OfCoordinator CoordinatorRow) (is_coordinator : Bool) (of_federates : Core OfFederate FederateRow) (federates_coordinate : Bool)
+    (Tells : OfFederate → Report → Type 0) (results : Result RunResults E)
     (coordinator : Desk OfCoordinator) (federates : List (Desk OfFederate)) (reports : List Report) (journal : List Event) →
-    IsOkAnd results (λ left. AreGathered coordinator federates (items left)) → StationIsReplay core is_coordinator coordinator → core.finished coordinator.station.node ≡ true →
+    IsOkAnd results (λ left. AreGathered coordinator federates left) → StationIsReplay core is_coordinator coordinator → core.finished coordinator.station.node ≡ true →
     journal ≡ coordinator.journal → AreReportsOf of_federates federates_coordinate Tells federates reports →
-    IsOkAnd results (λ left. AreReported core is_coordinator of_federates federates_coordinate Tells (items left) reports journal)
-reported_so core is_coordinator of_federates federates_coordinate Tells items results coordinator federates reports journal gathered replayed finished from are =
-    ok_and results (λ left. AreGathered coordinator federates (items left)) (λ left. AreReported core is_coordinator of_federates federates_coordinate Tells (items left) reports journal)
+    IsOkAnd results (λ left. AreReported core is_coordinator of_federates federates_coordinate Tells left reports journal)
+reported_so core is_coordinator of_federates federates_coordinate Tells results coordinator federates reports journal gathered replayed finished from are =
+    ok_and results (λ left. AreGathered coordinator federates left) (λ left. AreReported core is_coordinator of_federates federates_coordinate Tells left reports journal)
     (λ left p. record {
       coordinator = coordinator;
       federates = federates;
@@ -59,8 +59,8 @@ reported_so core is_coordinator of_federates federates_coordinate Tells items re
     })
     gathered
 
--- what is said of what a run's workers left is said of some
-pub of_some_left : {T E : Type 0} (items : T → List (Option WorkerResult)) (results : Result T E) (P : List (Option WorkerResult) → Type 0) →
-    IsOkAnd results (λ left. P (items left)) → (left : List (Option WorkerResult)) × P left
-of_some_left items (Ok left) P said = (items left, said)
-of_some_left items (Err fault) P said = absurd said
+-- what holds of what a run's workers left holds of something that they left
+pub of_some_left : {E : Type 0} (results : Result RunResults E) (P : RunResults → Type 0) →
+    IsOkAnd results (λ left. P left) → (left : RunResults) × P left
+of_some_left (Ok left) P holds = (left, holds)
+of_some_left (Err fault) P holds = absurd holds

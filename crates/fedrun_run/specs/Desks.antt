@@ -13,6 +13,6 @@ use Rattle.world_stations.specs.Initial.{new_federate}
 abbrev pub unused : {View : Type 0} → Station View → Desk View
 unused station = record { station = station; journal = [] }
 
--- the desks of the first this many federates
+-- the desks of the first federates, this many
 abbrev pub unused_federates : Draft → List Behaviour → List Input → ℕ → List (Desk FederateNode)
 unused_federates d programs inputs count = map (λ j. unused (new_federate d programs inputs j)) (range_with_len 0 count)

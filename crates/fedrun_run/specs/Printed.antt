@@ -15,7 +15,7 @@ use Rattle.files_text.specs.declared.row_format.RowFormat.{RowFormat}
 use Rattle.files_text.specs.Formats.{heading, formatted_rows}
 use Rattle.files_text.specs.PlanText.{printed_each}
 use Rattle.files_record.specs.StepText.{printed_steps}
-use Rattle.wires.specs.declared.job.WorkerResult.{WorkerResult}
+use Rattle.wires.specs.declared.threads.RunResults.{RunResults}
 use Rattle.wires.specs.declared.run_fault.Cause.{Cause}
 use Rattle.wires.specs.declared.run_fault.Cause.TheVariants.{TurnsUsedUp}
 use Rattle.wires.specs.declared.run_fault.RunFault.{RunFault}
@@ -75,7 +75,7 @@ pub record PrintsReports (output : RunOutput) (d : Draft) (programs : List Behav
 -- the same of the reports and the coordinator's journal that a run's nodes gave, from what all its workers left
 pub record PrintsAudited (output : RunOutput) (d : Draft) (programs : List Behaviour) (inputs : List Input)
     (before after : Option (List ℕ)) : Type 0 where
-  pub left : List (Option WorkerResult)
+  pub left : RunResults
   pub reports : List Report
   pub coordinator : List Event
   pub reported : AreReportedBy left reports coordinator
@@ -91,7 +91,7 @@ pub record IsAuditFailureOf (d : Draft) (programs : List Behaviour) (inputs : Li
 -- the same of the reports and the coordinator's journal that a run's nodes gave, from what all its workers left
 pub record IsAuditFailure (d : Draft) (programs : List Behaviour) (inputs : List Input)
     (failure : AuditFailure) : Type 0 where
-  pub left : List (Option WorkerResult)
+  pub left : RunResults
   pub reports : List Report
   pub coordinator : List Event
   pub reported : AreReportedBy left reports coordinator
@@ -105,7 +105,7 @@ pub record IsUnfinished (d : Draft) (programs : List Behaviour) (inputs : List I
   pub unfinished : ¬ IsFinishedBy (claim d programs inputs reports coordinator)
 
 -- why nothing is printed of these reports, with this journal of the coordinator, or not all of it. Of the output
--- nothing is said; an audit that is out of memory is among its failures
+-- nothing is asked; an audit that is out of memory is among its failures
 abbrev pub IsAuditedFaultOf : Draft → List Behaviour → List Input → List Report → List Event → AuditedFault → Type 0
 IsAuditedFaultOf d programs inputs reports coordinator (fault.Unproved failure) =
     IsAuditFailureOf d programs inputs reports coordinator failure
@@ -114,7 +114,7 @@ IsAuditedFaultOf d programs inputs reports coordinator (fault.NotFinished cause)
 IsAuditedFaultOf d programs inputs reports coordinator fault.Memory = ⊥
 IsAuditedFaultOf d programs inputs reports coordinator fault.CannotWrite = Unit {0}
 
--- why nothing is printed of a run, or not all of it. Of the machine, its memory and how far a run came nothing is said
+-- why nothing is printed of a run, or not all of it. Of the machine, its memory and how far a run came nothing is asked
 abbrev pub IsAuditedFault : Draft → List Behaviour → List Input → AuditedFault → Type 0
 IsAuditedFault d programs inputs (fault.Unproved failure) = IsAuditFailure d programs inputs failure
 IsAuditedFault d programs inputs (fault.NotFinished cause) = Unit {0}

@@ -6,7 +6,7 @@ use Rattle.node_cores.specs.FederateCore.{FederateNode, federate_core}
 use Rattle.node_cores.specs.CoordinatorCore.{coordinator_core}
 use Rattle.desk.specs.Replay.{Desk, replay}
 use Rattle.recorder_reports.specs.declared.report.Report.{Report}
-use Rattle.wires.specs.declared.job.WorkerResult.{WorkerResult}
+use Rattle.wires.specs.declared.threads.RunResults.{RunResults}
 use Rattle.wires.specs.Gathered.{AreGathered}
 
 -- a desk's station is the replay of its journal
@@ -36,7 +36,7 @@ pub record AreReportsOf {View Row : Type 0} (core : Core View Row) (is_coordinat
 pub record AreReported {OfCoordinator CoordinatorRow OfFederate FederateRow : Type 0}
     (of_coordinator : Core OfCoordinator CoordinatorRow) (is_coordinator : Bool)
     (of_federates : Core OfFederate FederateRow)
-    (federates_coordinate : Bool) (Tells : OfFederate → Report → Type 0) (left : List (Option WorkerResult))
+    (federates_coordinate : Bool) (Tells : OfFederate → Report → Type 0) (left : RunResults)
     (reports : List Report) (journal : List Event) : Type 0 where
   pub coordinator : Desk OfCoordinator
   pub federates : List (Desk OfFederate)
@@ -52,6 +52,6 @@ ReportsRows node report = report.rows ≡ node.federate.rows
 
 -- the same of a federation's own nodes, where the others are linked to the coordinator, and each federate reports its
 -- node's rows
-abbrev pub AreReportedBy : (left : List (Option WorkerResult)) → List Report → (journal : List Event) → Type 0
+abbrev pub AreReportedBy : (left : RunResults) → List Report → (journal : List Event) → Type 0
 AreReportedBy left reports journal =
     AreReported coordinator_core true federate_core false ReportsRows left reports journal

@@ -20,8 +20,7 @@ pub enum AuditFailure {
     /// The federate of this name has no report.
     Missing(Text),
     /// No further event of any journal can be placed: this node's journal isn't used up, and this is its next event,
-    /// counted from
-    /// 1. The node is `coordinator`, or a federate by its name.
+    /// counted from 1. The node is `coordinator`, or a federate by its name.
     Stuck { node: Text, event: usize },
     /// The journals agree, but the rows of the federate of this name aren't what it computed: the first place, counted
     /// from 1, at which they differ.
@@ -116,7 +115,7 @@ fn node_name(alloc: Global, plan: &Plan, node: NodeId) -> Result<Text, AllocErro
     }
 }
 
-// A federate's name; empty where there is none.
+// A federate's name, or an empty text where there is none.
 fn federate_name(alloc: Global, plan: &Plan, federate: usize) -> Result<Text, AllocError>
     ensures { IfOk result (λ name. name ≡ federate_name plan.now federate) }
 {

@@ -47,9 +47,9 @@ pub fn federate_desks<'a>(
     Ok(desks)
 }
 
-// A federate's desk.
+/// A federate's desk: its station is that of the world before the first step.
 #[tactic(auto, using(crate::proofs::Unused::federate_unused))]
-fn federate_desk<'a>(
+pub fn federate_desk<'a>(
     alloc: Global,
     plan: &'a Plan,
     programs: &'a Programs,

@@ -26,7 +26,7 @@ pub mod running;
 mod watching;
 
 pub use audit_failure::AuditFailure;
-pub use desks::{coordinator_desk, federate_desks};
+pub use desks::{coordinator_desk, federate_desk, federate_desks};
 pub use fault::AuditedFault;
 pub use output::RunOutput;
 pub use printing::print_audited;

@@ -16,7 +16,7 @@ use node_journal::Journal;
 use plan::Plan;
 use recorder_reports::{Collector, Report, ReportFault};
 use std::alloc::Global;
-use wires::{Cause, Gathered, Nodes, RunFault, WorkerResult};
+use wires::{Cause, Gathered, Nodes, RunFault, RunResults};
 
 /// What the nodes of a finished run say.
 #[derive(Drop)]
@@ -35,16 +35,16 @@ pub(crate) fn reports_by<'a, H: Node, M: Reporting>(
     alloc: Global,
     plan: &'a Plan,
     nodes: Nodes<H, M>,
-    results: Result<Vec<Option<WorkerResult>>, RunFault>,
+    results: Result<RunResults, RunFault>,
     output: RunOutput,
 ) -> Result<NodeReports<'a>, AuditedFault>
     requires each { length nodes.federates.items ≡ federate_count plan.now }
-    ensures ok { IfOk result (λ said.
-        IsOkAnd results (λ left. AreReported H.core H.IS_COORDINATOR M.core M.IS_COORDINATOR M.tells left.items
-        said.reports.reports
-        said.coordinator)) }
-    ensures text { IfOk result (λ said.
-        IfSome said.text (λ text. IsTextOf output plan.now said.reports.reports text.items)) }
+    ensures ok { IfOk result (λ asked.
+        IsOkAnd results (λ left. AreReported H.core H.IS_COORDINATOR M.core M.IS_COORDINATOR M.tells left
+        asked.reports.reports
+        asked.coordinator)) }
+    ensures text { IfOk result (λ asked.
+        IfSome asked.text (λ text. IsTextOf output plan.now asked.reports.reports text.items)) }
     ensures fault { IfErr result IsOfTheRun }
 {
     let gathered = finished(gathered(alloc, nodes, results))?;
@@ -64,11 +64,11 @@ pub(crate) fn reports_by<'a, H: Node, M: Reporting>(
 fn gathered<H: Node, M: Node>(
     alloc: Global,
     nodes: Nodes<H, M>,
-    results: Result<Vec<Option<WorkerResult>>, RunFault>,
+    results: Result<RunResults, RunFault>,
 ) -> Result<Gathered<H, M>, RunFault>
     ensures each { IfOk result (λ gathered. length gathered.federates.items ≡ length nodes.federates.items) }
     ensures shares { IfOk result (λ gathered.
-        IsOkAnd results (λ left. AreGathered gathered.coordinator gathered.federates.items left.items)) }
+        IsOkAnd results (λ left. AreGathered gathered.coordinator gathered.federates.items left)) }
     ensures run { IfErr results (λ why. result ≡ Err why) }
 {
     match results {

@@ -2,7 +2,7 @@ ghost use Rattle.std.specs.Prelude.{◌≡◌, ◌≢◌, length, List, Option, 
 ghost use Rattle.plan.specs.Federation.{federate_count};
 ghost use Rattle.plan.specs.External.{AreInputsOf};
 ghost use Rattle.reactor_programs.specs.Programs.{AreProgramsOf};
-ghost use Rattle.wires.specs.declared.job.WorkerResult.{WorkerResult as IsLeft};
+ghost use Rattle.wires.specs.declared.threads.RunResults.{RunResults as IsLeft};
 ghost use Rattle.fedrun_run.specs.Reported.{AreReported};
 ghost use Rattle.fedrun_run.specs.Printed.{PrintsAudited, IsAuditedFault, IsOfTheRun, IsTextOf};
 
@@ -20,22 +20,15 @@ use reactor_programs::Programs;
 use recorder::IncrementalAudit;
 use std::alloc::Global;
 use std::io::Write;
-use std::net::{Net, TcpListener, TcpStream};
-use std::sync::Wait;
 use std::thread;
 use std::thread::Threads;
-use std::time::Clock;
-use wires::{Nodes, RunFault, Terms, WorkerResult, run_over_tcp};
+use wires::{NetRuntime, Nodes, RunFault, RunResults, Terms, run_over_tcp};
 use wires_workers::NoGate;
 
 /// Runs the federation in threads over TCP on loopback until the coordinator is finished or a federate's turns are
 /// made, audits what its nodes wrote down, and prints each federate's rows, federate by federate, or the steps that
 /// prove them. The caller flushes. That a run isn't finished comes before any failure of the audit.
-pub fn print_audited_run<
-    R: Threads + Wait + Clock + Net<Stream = TcpStream, Listener = TcpListener> + Sync,
-    O: Write,
-    P: Progress + Sync,
->(
+pub fn print_audited_run<R: NetRuntime, O: Write, P: Progress + Sync>(
     rt: &R,
     alloc: Global,
     plan: &Plan,
@@ -77,13 +70,7 @@ pub fn print_audited_run<
 }
 
 // Runs the nodes, and asks them what they say, with the audit beside both.
-fn run_and_ask<
-    'a,
-    R: Threads + Wait + Clock + Net<Stream = TcpStream, Listener = TcpListener> + Sync,
-    H: Node + Send,
-    M: Reporting + Send,
-    P: Progress + Sync,
->(
+fn run_and_ask<'a, R: NetRuntime, H: Node + Send, M: Reporting + Send, P: Progress + Sync>(
     rt: &R,
     alloc: Global,
     plan: &'a Plan,
@@ -96,34 +83,25 @@ fn run_and_ask<
     requires each { length nodes.federates.items ≡ federate_count plan.now }
     ensures audit { result.0 ≡ audit.entry }
     ensures reported { IfOk result.1
-        (λ said. (left : List (Option IsLeft))
-        × AreReported H.core H.IS_COORDINATOR M.core M.IS_COORDINATOR M.tells left said.reports.reports said.coordinator) }
-    ensures text { IfOk result.1 (λ said.
-        IfSome said.text (λ text. IsTextOf output plan.now said.reports.reports text.items)) }
+        (λ asked. (left : IsLeft)
+        × AreReported H.core H.IS_COORDINATOR M.core M.IS_COORDINATOR M.tells left asked.reports.reports asked.coordinator) }
+    ensures text { IfOk result.1 (λ asked.
+        IfSome asked.text (λ text. IsTextOf output plan.now asked.reports.reports text.items)) }
     ensures fault { IfErr result.1 IsOfTheRun }
 {
     let (audit, results) = run_watched(rt, alloc, &nodes, audit, terms, progress);
     take_apart(rt, alloc, plan, nodes, results, audit, output)
 }
 
-// Runs the nodes, and makes steps of the audit beside the run; where there is no thread for that, after it.
-fn run_watched<
-    'a,
-    R: Threads + Wait + Clock + Net<Stream = TcpStream, Listener = TcpListener> + Sync,
-    H: Node + Send,
-    M: Node + Send,
-    P: Progress + Sync,
->(
+// Runs the nodes, and makes steps of the audit beside the run, or after it where there is no thread for that.
+fn run_watched<'a, R: NetRuntime, H: Node + Send, M: Node + Send, P: Progress + Sync>(
     rt: &R,
     alloc: Global,
     nodes: &Nodes<H, M>,
     audit: IncrementalAudit<'a>,
     terms: Terms,
     progress: &P,
-) -> (
-    IncrementalAudit<'a>,
-    Result<Vec<Option<WorkerResult>>, RunFault>,
-)
+) -> (IncrementalAudit<'a>, Result<RunResults, RunFault>)
     ensures { result.0 ≡ audit.entry }
 {
     thread::join(
@@ -141,17 +119,17 @@ fn take_apart<'a, R: Threads + Sync, H: Node + Send, M: Reporting + Send>(
     alloc: Global,
     plan: &'a Plan,
     nodes: Nodes<H, M>,
-    results: Result<Vec<Option<WorkerResult>>, RunFault>,
+    results: Result<RunResults, RunFault>,
     mut audit: IncrementalAudit<'a>,
     output: RunOutput,
 ) -> (IncrementalAudit<'a>, Result<NodeReports<'a>, AuditedFault>)
     requires each { length nodes.federates.items ≡ federate_count plan.now }
     ensures audit { result.0 ≡ audit.entry }
     ensures reported { IfOk result.1
-        (λ said. IsOkAnd results (λ left.
-        AreReported H.core H.IS_COORDINATOR M.core M.IS_COORDINATOR M.tells left.items said.reports.reports said.coordinator)) }
-    ensures text { IfOk result.1 (λ said.
-        IfSome said.text (λ text. IsTextOf output plan.now said.reports.reports text.items)) }
+        (λ asked. IsOkAnd results (λ left.
+        AreReported H.core H.IS_COORDINATOR M.core M.IS_COORDINATOR M.tells left asked.reports.reports asked.coordinator)) }
+    ensures text { IfOk result.1 (λ asked.
+        IfSome asked.text (λ text. IsTextOf output plan.now asked.reports.reports text.items)) }
     ensures fault { IfErr result.1 IsOfTheRun }
 {
     thread::join(
@@ -165,10 +143,10 @@ fn take_apart<'a, R: Threads + Sync, H: Node + Send, M: Reporting + Send>(
         ||
             requires { length nodes.federates.items ≡ federate_count plan.now }
             ensures reported { IfOk result
-                (λ said. IsOkAnd results (λ left.
-                AreReported H.core H.IS_COORDINATOR M.core M.IS_COORDINATOR M.tells left.items said.reports.reports said.coordinator)) }
-            ensures text { IfOk result (λ said.
-                IfSome said.text (λ text. IsTextOf output plan.entry.now said.reports.reports text.items)) }
+                (λ asked. IsOkAnd results (λ left.
+                AreReported H.core H.IS_COORDINATOR M.core M.IS_COORDINATOR M.tells left asked.reports.reports asked.coordinator)) }
+            ensures text { IfOk result (λ asked.
+                IfSome asked.text (λ text. IsTextOf output plan.entry.now asked.reports.reports text.items)) }
             ensures fault { IfErr result IsOfTheRun }
         { reports_by(alloc, plan, nodes, results, output) },
     )

@@ -48,7 +48,7 @@ pub(crate) fn watch<'a, R: Wait + Clock, H: Node, M: Node, P: Progress>(
     audit
 }
 
-// Takes in what the nodes wrote down since; whether that is anything.
+// Takes in what the nodes wrote down since. Returns whether that is anything.
 fn look<R: Wait, H: Node, M: Node, P: Progress>(
     rt: &R,
     nodes: &Nodes<H, M>,
@@ -70,7 +70,7 @@ fn look<R: Wait, H: Node, M: Node, P: Progress>(
     is_new
 }
 
-// Takes in what a node wrote down since; whether that is anything.
+// Takes in what a node wrote down since. Returns whether that is anything.
 fn take<N: Node, R: Wait>(
     rt: &R,
     shared: &Shared<N>,

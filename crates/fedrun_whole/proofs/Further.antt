@@ -4,8 +4,8 @@ use Rattle.fedrun_words.specs.declared.request.CheckRequest.{CheckRequest}
 use Rattle.fedrun_words.specs.declared.request.Request.{Request}
 use Rattle.fedrun_words.specs.declared.request.Request.TheVariants.{Whole, Check, Replay, Run, Record, Frames, DrawFederation, DrawSchedule, Audit, Lint}
 use Rattle.fedrun_words.specs.declared.request.WholeRequest.{WholeRequest}
-use Rattle.fedrun_fault.specs.declared.fault.Fault.{Fault}
-use Rattle.fedrun_fault.specs.declared.more.NoSuchCommand.{NoSuchCommand}
+use Rattle.fedrun_words.specs.declared.fault.Fault.{Fault}
+use Rattle.fedrun_words.specs.declared.more.NoSuchCommand.{NoSuchCommand}
 use Rattle.fedrun_files.specs.Answers.{Answer}
 use Rattle.fedrun_files.specs.Contents.{Contents}
 use Rattle.fedrun_whole.specs.Refused.{IsNoSuchCommand, IsFaultAlone}

@@ -1,10 +1,10 @@
 -- The faults of a program that has `whole` and `check` alone: the exit status that goes with each, and how it is
 -- printed.
 use Rattle.std.specs.Prelude.{ℕ, List}
-use Rattle.fedrun_fault.specs.Faults as every
-use Rattle.fedrun_fault.specs.Usage.{usage_status, usage_text}
-use Rattle.fedrun_fault.specs.declared.fault.Fault.{Fault}
-use Rattle.fedrun_fault.specs.declared.more.NoSuchCommand.{NoSuchCommand}
+use Rattle.fedrun_words.specs.Faults as every
+use Rattle.fedrun_words.specs.Usage.{usage_status, usage_text}
+use Rattle.fedrun_words.specs.declared.fault.Fault.{Fault}
+use Rattle.fedrun_words.specs.declared.more.NoSuchCommand.{NoSuchCommand}
 
 -- the exit status of a fault
 abbrev pub status_of : Fault NoSuchCommand → ℕ

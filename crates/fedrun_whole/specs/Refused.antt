@@ -12,10 +12,10 @@ use Rattle.fedrun_words.specs.declared.request.CheckRequest.{CheckRequest}
 use Rattle.fedrun_words.specs.declared.request.Request.{Request}
 use Rattle.fedrun_words.specs.declared.request.Request.TheVariants.{Whole, Check}
 use Rattle.fedrun_words.specs.declared.request.WholeRequest.{WholeRequest}
-use Rattle.fedrun_fault.specs.declared.fault.Fault.{Fault}
-use Rattle.fedrun_fault.specs.declared.fault.Fault.TheVariants.{CannotWrite, Turns, Print, More}
-use Rattle.fedrun_fault.specs.declared.more.NoSuchCommand.{NoSuchCommand}
-use Rattle.fedrun_fault.specs.Faults.{fault_of_words}
+use Rattle.fedrun_words.specs.declared.fault.Fault.{Fault}
+use Rattle.fedrun_words.specs.declared.fault.Fault.TheVariants.{CannotWrite, Turns, Print, More}
+use Rattle.fedrun_words.specs.declared.more.NoSuchCommand.{NoSuchCommand}
+use Rattle.fedrun_words.specs.Faults.{fault_of_words}
 use Rattle.fedrun_files.specs.Answers.{Answer, given}
 use Rattle.fedrun_files.specs.Contents.{Contents}
 use Rattle.fedrun_files.specs.Loaded.{input_file, IsFederation, HoldsOfSources}

@@ -7,9 +7,9 @@ ghost use Rattle.fedrun_whole.specs.Printed.{PrintsAlone, PrintsAnswer};
 ghost use Rattle.fedrun_whole.specs.Refused.{IsFaultAlone, Stands};
 
 use crate::requests::perform;
-use fedrun_fault::{Answered, NoSuchCommand, refuse};
 use fedrun_files::Files;
 use fedrun_progress::Progress;
+use fedrun_words::{Answered, NoSuchCommand, refuse};
 use std::alloc::Global;
 use std::io::Write;
 

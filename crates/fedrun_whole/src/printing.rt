@@ -1,11 +1,11 @@
 ghost use Rattle.std.specs.Prelude.{◌≡◌, IfErr, OnOk, string_bytes};
 ghost use Rattle.std.specs.Io.KnownBytes.{Appends};
 ghost use Rattle.files_text.specs.PlanText.{printed_plan};
-ghost use Rattle.fedrun_fault.specs.Faults.{status_of};
-ghost use Rattle.fedrun_fault.specs.declared.fault.Fault.TheVariants.{CannotWrite as cannot_write};
+ghost use Rattle.fedrun_words.specs.Faults.{status_of};
+ghost use Rattle.fedrun_words.specs.declared.fault.Fault.TheVariants.{CannotWrite as cannot_write};
 ghost use Rattle.fedrun_whole.specs.Refused.{IsPlanFault};
 
-use fedrun_fault::{Fault, MoreFault};
+use fedrun_words::{Fault, MoreFault};
 use files_text::plan_text;
 use plan::Plan;
 use std::alloc::Global;

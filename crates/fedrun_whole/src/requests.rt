@@ -1,6 +1,6 @@
 //! Each request: its files are read first, and then it prints.
 ghost use Rattle.std.specs.Prelude.{◌≡◌, ◌≢◌, IfErr, OnOk};
-ghost use Rattle.fedrun_fault.specs.Faults.{status_of};
+ghost use Rattle.fedrun_words.specs.Faults.{status_of};
 ghost use Rattle.fedrun_files.specs.Answers.{Answers};
 ghost use Rattle.fedrun_whole.specs.Faults as alone;
 ghost use Rattle.fedrun_whole.specs.Printed.{PrintsWhole, PrintsPlan, PrintsAlone, PrintsAnswer};
@@ -8,10 +8,11 @@ ghost use Rattle.fedrun_whole.specs.Refused.{IsWholeFault, IsCheckFault, IsFault
 
 use crate::printing::print_plan;
 use crate::turns::print_turns;
-use fedrun_fault::{Fault, MoreFault, NoSuchCommand};
 use fedrun_files::{Files, read_federation, read_sources};
 use fedrun_progress::Progress;
-use fedrun_words::{CheckRequest, Request, WholeRequest, read_words};
+use fedrun_words::{
+    CheckRequest, Fault, MoreFault, NoSuchCommand, Request, WholeRequest, read_words,
+};
 use std::alloc::Global;
 use std::io::Write;
 

@@ -4,13 +4,13 @@ ghost use Rattle.plan.specs.External.{AreInputsOf};
 ghost use Rattle.reactor_programs.specs.Programs.{AreProgramsOf};
 ghost use Rattle.whole.specs.Progress.{pending_in};
 ghost use Rattle.files_text.specs.Formats.{heading};
-ghost use Rattle.fedrun_fault.specs.Faults.{status_of};
+ghost use Rattle.fedrun_words.specs.Faults.{status_of};
 ghost use Rattle.fedrun_whole.specs.PrintedTurns.{PrintsRows, PrintsFirstRows, IsPrinted, let_go_after};
 ghost use Rattle.fedrun_whole.specs.Refused.{IsTurnsFault};
 
-use fedrun_fault::{Fault, MoreFault};
 use fedrun_files::Sources;
 use fedrun_progress::Progress;
+use fedrun_words::{Fault, MoreFault};
 use files_text::{CannotWrite, RowFormat, write_heading, write_rows};
 use plan::Plan;
 use reactor::Rows;

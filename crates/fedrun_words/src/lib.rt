@@ -1,25 +1,33 @@
-//! The command line: its words, and the line of its faults.
+//! The command line: its words, and why a command gives up: its exit status and its line.
 //!
 //! The words are those that the machine gives, and which command they are, with its arguments and options, as `clap`
-//! reads them. A text is written to a writer a piece at a time, with no memory, since out of memory has to be printed
-//! too.
+//! reads them. Why a command gives up is a fault, with the exit status that goes with it. A program with more commands
+//! than `whole` and `check` has more faults: they are a type of its own, of the trait `MoreFault`. A fault's line is
+//! written to a writer a piece at a time, with no memory, since out of memory has to be printed too.
 //!
 //! Promise to the layer above: every request is one of `Request`, and every other list of words is a fault. That a
-//! request is the words' is shown by tests, in the crate `tests_fedrun_words`. Whatever a writer refuses, what it gains
-//! is a prefix of the text, and all of it where that is said (`specs/Pieces`); the same of the program's line with that
-//! text (`specs/Lines`). Begin with `request.rt`, then `read_words` in `reading.rt`, and with `print_line`, then
-//! `print_text`.
+//! request is the words' is shown by tests, in the crate `tests_fedrun_words`. The status and the text of each fault
+//! are those of `specs/Faults`. Whatever a writer refuses, what it gains is a prefix of the text, and all of it where
+//! that is said (`specs/Pieces`); the same of the program's line with that text (`specs/Lines`), and so of a fault's
+//! line (`refuse`). Begin with `request.rt`, then `read_words` in `reading.rt`; for faults with `Fault`, then `refuse`;
+//! for texts with `print_line`, then `print_text`.
 #![tactic(auto)]
 
+pub mod fault;
 mod given;
 mod line;
+pub mod more;
 mod piece;
 mod reading;
+pub mod refusing;
 mod request;
 pub mod text;
 
+pub use fault::Fault;
 pub use given::given_words;
+pub use more::{MoreFault, NoSuchCommand};
 pub use reading::{WordsFault, read_words};
+pub use refusing::{Answered, refuse};
 pub use request::{
     AuditRequest, CheckRequest, DrawFederationRequest, DrawScheduleRequest, FramesRequest,
     LintRequest, RecordRequest, ReplayRequest, Request, RunRequest, WholeRequest,

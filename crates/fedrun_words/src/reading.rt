@@ -5,13 +5,11 @@ use crate::request::{
 use clap::error::{Error, ErrorKind};
 use clap::{Arg, ArgAction, ArgMatches, Command};
 use files_text::RowFormat;
+use signal::wire::BATCHING;
 use std::alloc::{AllocError, Global};
 
 /// The turns of a run for which no number is given.
 const RUN_TURNS: u32 = 1_000_000;
-
-/// The version of frames of a run for which none is given.
-const RUN_FRAMES: u8 = 2;
 
 /// Which subcommand it is.
 #[derive(Clone, Copy)]
@@ -369,7 +367,7 @@ fn turns(given: &ArgMatches<'_>) -> Option<u32> {
     }
 }
 
-/// The version of frames that a run's federates write, in ASCII digits.
+/// The version of frames that a run's federates write, in ASCII digits; where none is given, one that has Batches.
 fn frames(given: &ArgMatches<'_>) -> Option<u8> {
     match given.get_str("frames") {
         Some(version) => match count(version)? {
@@ -377,7 +375,7 @@ fn frames(given: &ArgMatches<'_>) -> Option<u8> {
             2 => Some(2),
             _ => None,
         },
-        None => Some(RUN_FRAMES),
+        None => Some(BATCHING),
     }
 }
 

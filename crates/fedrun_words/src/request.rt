@@ -59,7 +59,7 @@ pub struct ReplayRequest<'a> {
 pub struct RunRequest<'a> {
     pub federation: &'a str,
     pub inputs: &'a str,
-    /// How many turns each thread makes at most.
+    /// How many turns each federate makes at most.
     pub turns: u32,
     /// The version of frames that federates write, 1 or 2.
     pub frames: u8,
@@ -71,7 +71,7 @@ pub struct RunRequest<'a> {
 pub struct RecordRequest<'a> {
     pub federation: &'a str,
     pub inputs: &'a str,
-    /// How many turns each thread makes at most.
+    /// How many turns each federate makes at most.
     pub turns: u32,
     /// The version of frames that federates write, 1 or 2.
     pub frames: u8,

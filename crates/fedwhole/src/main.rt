@@ -5,10 +5,10 @@
 //! shows beside it how far it is, where that is asked for.
 #![tactic(auto)]
 
-use fedrun_fault::{Fault, NoSuchCommand, refuse};
 use fedrun_files::MachineFiles;
 use fedrun_progress::{NoProgress, ProgressLine, asks_for_progress};
 use fedrun_whole::{command, given};
+use fedrun_words::{Fault, NoSuchCommand, refuse};
 use std::process::ExitCode;
 use std::thread;
 

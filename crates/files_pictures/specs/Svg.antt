@@ -183,7 +183,7 @@ point_text bends points place =
     if place == 0 then start_text (point_at points place)
     else leg_text bends (point_at points (place - 1)) (point_at points place)
 
--- the first this many of these texts
+-- the first ones of these texts, this many
 abbrev pub first_texts : (ℕ → List ℕ) → ℕ → List ℕ
 first_texts text zero = []
 first_texts text (suc count) = first_texts text count ++ text count

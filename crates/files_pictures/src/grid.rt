@@ -206,7 +206,7 @@ impl<'a> Grid<'a> {
         }
     }
 
-    /// Where the top of a box has to be, on average, for the lines to it to go straight; 0 where there are none.
+    /// Where the top of a box has to be, on average, for the lines to it to go straight, or 0 where there are none.
     fn wanted_top(&self, figure: usize) -> usize {
         let mut sum = 0usize;
         let mut count = 0usize;

@@ -2,9 +2,9 @@
 //! and numbers.
 //!
 //! Promise to the layer above: what is written of a picture is its text (`specs/Svg`), in which no text is read as part
-//! of the file's form (`specs/Escaped`). Laying out is safe, and ends: no number overflows, and out of memory is
-//! answered. How a picture looks no contract says. It is laid out as plain data first (`shapes`), so that tests see
-//! where things stand:
+//! of the file's form (`specs/Escaped`). Laying out is safe, and ends: no number overflows, and it fails only for
+//! want of memory. How a picture looks no contract says. It is laid out as plain data first (`shapes`), so that tests
+//! see where things stand:
 //!
 //!     Figures --> federation (columns, returns, grid) --+--> Picture --> svg (lines, labels, looks) --> a writer
 //!     History --> lifelines (times) --------------------+

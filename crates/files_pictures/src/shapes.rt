@@ -238,7 +238,7 @@ pub fn text_width(text: &str) -> usize
     text.len().saturating_mul(29) / 4
 }
 
-/// The number at a place; 0 where there is none.
+/// The number at a place, or 0 where there is none.
 pub fn number_at(numbers: &[usize], place: usize) -> usize
     ensures { result ≡ slice_index numbers.now place }
 {

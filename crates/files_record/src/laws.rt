@@ -13,7 +13,7 @@ ghost use Rattle.files_record.specs.StepText.{printed_steps};
 ghost use Rattle.files_record.specs.ReadAgain.{IsNamed, AreRecorded, SaysSteps};
 
 /// Whatever steps are written: the schedule that is read from their text says these steps and nothing else, the n-th on
-/// line n. Where the text isn't longer than a schedule file may be, only out of memory is answered in its place.
+/// line n. Where the text isn't longer than a schedule file may be, reading fails only for want of memory.
 #[tactic(none)]
 pub fn written_steps_are_read_again()
     ensures says { (d : Draft) (steps : List Step) (s : Script) → AreRecorded d steps

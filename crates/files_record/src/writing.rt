@@ -63,7 +63,7 @@ fn way_of(dir: Dir) -> &'static str
     }
 }
 
-/// The name of a direction's federate; empty where there is none.
+/// The name of a direction's federate, or an empty text where there is none.
 fn name_of(plan: &Plan, dir: Dir) -> &str
     ensures { result.now ≡ federate_name plan.now (federate_of dir) }
 {

@@ -13,7 +13,7 @@ use Rattle.files_reports.proofs.Loops.{each_and_one}
 pub both_written : (old middle new first second : List ℕ) → middle ≡ old ++ first → new ≡ middle ++ second → new ≡ old ++ (first ++ second)
 both_written old middle new first second a b = b ∙ ap (λ (l : List ℕ). l ++ second) a ∙ append_assoc old first second
 
--- the first this many are written behind what was there
+-- the first ones, this many, are written behind what was there
 pub record AreWritten {X : Type 0} (spelling : X → List ℕ) (Is : X → Type 0) (xs : List X) (before : List ℕ) (so_far : ℕ) (bytes : List ℕ) : Type 0 where
   pub written : bytes ≡ before ++ flat_map spelling (take so_far xs)
   pub each : AllByRecursion Is (take so_far xs)

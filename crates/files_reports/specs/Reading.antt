@@ -82,7 +82,7 @@ row_part federate bytes = do
 abbrev pub is_plain : List ℕ → Bool
 is_plain body =
     let kind = slice_index body 0 in
-    not (kind == wire.BATCH_KIND) && (not (kind == wire.HELLO_KIND) || slice_index body 1 == wire.VERSION)
+    not (kind == wire.BATCH_KIND) && (not (kind == wire.HELLO_KIND) || slice_index body 1 == wire.FIRST_VERSION)
 
 -- a whole body of one frame, as it is written
 abbrev pub is_alone : List ℕ → Bool

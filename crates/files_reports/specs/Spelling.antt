@@ -34,7 +34,7 @@ event_bytes (Hello peer) = HELLO_KIND ∷ big_bytes 8 peer
 event_bytes Announce = ANNOUNCE_KIND ∷ []
 event_bytes Advance = ADVANCE_KIND ∷ []
 
--- who says it, in two bytes; of a federate its rows; its journal
+-- who says it, in two bytes; then its rows, if it is a federate; then its journal
 abbrev pub said_bytes : Said → List ℕ
 said_bytes (by_coordinator journal) = big_bytes 2 COORDINATOR ++ counted event_bytes journal
 said_bytes (by_federate federate rows journal) =

@@ -17,7 +17,7 @@ use crate::read_fault::ReadFault;
 use byteorder::{BigEndian, ByteOrder};
 use node::Event;
 use node_journal::Journal;
-use signal::wire::{BATCH_KIND, LENGTH_SIZE, VERSION};
+use signal::wire::{BATCH_KIND, FIRST_VERSION, LENGTH_SIZE};
 use signal::{Frame, FrameReader};
 use std::alloc::Global;
 
@@ -130,7 +130,7 @@ fn frame_in(alloc: Global, body: &[u8]) -> Result<Frame, ReadFault>
     feed_framed(&mut reader, body)?;
     match reader.next() {
         Ok(Some(frame)) => {
-            if reader.version() == VERSION {
+            if reader.version() == FIRST_VERSION {
                 Ok(frame)
             } else {
                 Err(BAD_FRAME)

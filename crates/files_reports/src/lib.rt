@@ -7,7 +7,7 @@
 //!
 //!     NodeReport --> write_report --> bytes          what a node did, sealed with a digest
 //!     bytes --> read_report --> NodeReport           name, digest, files, and then what is said
-//!     bytes --> read_coordinator, take_report        what an audit takes: the coordinator's journal, a federate's report
+//!     bytes --> read_coordinator, take_report        for an audit: the coordinator's journal, a federate's report
 //!
 //! Begin with `specs/Said` and `specs/Spelling`, then `node_report`, `read` and `write`.
 #![tactic(auto)]

@@ -1,7 +1,7 @@
 -- What files hold, by name. It is said where that is known.
 use Rattle.std.specs.Prelude.{◌≡◌, ◌≢◌, ℕ, List, Option, None, Some, ⊤}
 
--- the bytes of each file by its name; none where there is no file
+-- the bytes of each file by its name. None where there is no file
 abbrev pub Contents : Type 0
 Contents = List ℕ → Option (List ℕ)
 

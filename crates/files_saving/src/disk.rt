@@ -4,6 +4,7 @@ ghost use Rattle.files_saving.specs.Contents.{KnownOf, SameBut};
 ghost use Rattle.files_saving.specs.Saved.{IsCreated, IsWritten, IsRenamed};
 ghost use Rattle.files_saving.specs.Fault.{is_of_writing};
 ghost use Rattle.files_saving.specs.declared.save_fault.SaveFault.TheVariants.{Exists as exists_already, CannotLook};
+ghost use Rattle.files_saving.specs.declared.save_fault.SaveFault.TheVariants.{CannotCreate, CannotWrite};
 ghost use Rattle.files_saving.specs.declared.save_fault.SaveFault.TheVariants.{CannotRename};
 
 use crate::save_fault::SaveFault;
@@ -22,14 +23,16 @@ pub trait Disk {
         ensures fault { IfErr result (λ fault. fault ≡ CannotLook) }
         ensures same { contents self.new ≡ contents self.old };
 
-    /// Makes a file of this name, without any bytes, which the disk keeps then. Where there is one already, nothing has
-    /// changed; else it may be there.
+    /// Makes a file of this name, without any bytes, which the disk keeps then. Where it fails, nothing has changed, but
+    /// where the disk doesn't say that it keeps the file: that one is removed, if that can be done.
     fn create(&mut self, name: &str) -> Result<(), SaveFault>
         ensures created { OnOk result (KnownOf (contents self.old) (contents self.new) (IsCreated name.now [])) }
         ensures others { OnErr result (KnownOf (contents self.old) (contents self.new) (SameBut name.now)) }
-        ensures fault { IfErr result (λ fault. (fault ≢ CannotLook) × (fault ≢ CannotRename)) }
+        ensures fault { IfErr result
+            (λ fault. (fault ≢ CannotLook) × (fault ≢ CannotWrite) × (fault ≢ CannotRename)) }
         ensures there { result ≡ Err exists_already → IfSome (contents self.old) (λ files. IsSome (files name.now)) }
-        ensures same { result ≡ Err exists_already → contents self.new ≡ contents self.old };
+        ensures same { result ≡ Err exists_already → contents self.new ≡ contents self.old }
+        ensures nothing_made { result ≡ Err CannotCreate → contents self.new ≡ contents self.old };
 
     /// Gives the file of this name these bytes, in place of those that it has, which the disk keeps then. Where it
     /// fails, it may have any bytes.

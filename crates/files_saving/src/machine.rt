@@ -1,7 +1,9 @@
-ghost use Rattle.std.specs.Prelude.{◌≡◌, ◌≢◌};
+ghost use Rattle.std.specs.Prelude.{◌≡◌, ◌≢◌, IfErr, OnOk};
+ghost use Rattle.std.specs.Io.KnownBytes.{Appends};
 ghost use Rattle.std.specs.IoError.{error_kind};
 ghost use Rattle.files_saving.specs.declared.save_fault.SaveFault.TheVariants.{Exists as exists_already};
 ghost use Rattle.files_saving.specs.declared.save_fault.SaveFault.TheVariants.{CannotCreate as cannot_create};
+ghost use Rattle.files_saving.specs.declared.save_fault.SaveFault.TheVariants.{CannotWrite as cannot_write};
 ghost use Rattle.files_saving.specs.declared.save_fault.SaveFault.TheVariants.{CannotRename as cannot_rename};
 
 use crate::disk::Disk;
@@ -37,7 +39,10 @@ impl<R: rt::Files> Disk for MachineDisk<'_, R> {
     // The folder keeps its name too, where it can, so that a machine that stops finds it there.
     fn create(&mut self, name: &str) -> Result<(), SaveFault> {
         let file = File::create_new(self.rt, name).map_err(|error| fault_of(&error))?;
-        file.sync_all().map_err(|_| SaveFault::CannotSync)?;
+        if file.sync_all().is_err() {
+            self.remove(name);
+            return Err(SaveFault::CannotSync);
+        }
         let _ = sync_folder(self.rt, folder_of(name));
         self.made = Some(file);
         Ok(())
@@ -47,7 +52,10 @@ impl<R: rt::Files> Disk for MachineDisk<'_, R> {
         let Some(file) = &mut self.made else {
             return Err(SaveFault::CannotWrite);
         };
-        file.write_all(bytes).map_err(|_| SaveFault::CannotWrite)?;
+        match write_whole(file, bytes) {
+            Ok(()) => {}
+            Err(why) => return Err(why),
+        }
         file.sync_all().map_err(|_| SaveFault::CannotSync)
     }
 
@@ -63,6 +71,17 @@ impl<R: rt::Files> Disk for MachineDisk<'_, R> {
 
     fn remove(&mut self, name: &str) {
         let _ = fs::remove_file(self.rt, name);
+    }
+}
+
+// Writes all bytes, also where the disk takes a few of them at once.
+fn write_whole<W: Write>(file: &mut W, bytes: &[u8]) -> Result<(), SaveFault>
+    ensures written { OnOk result (Appends (W.contents file.old) (W.contents file.new) bytes.now) }
+    ensures fault { IfErr result (λ fault. fault ≡ cannot_write) }
+{
+    match file.write_all(bytes) {
+        Ok(()) => Ok(()),
+        Err(_) => Err(SaveFault::CannotWrite),
     }
 }
 

@@ -9,8 +9,8 @@ use crate::save_fault::SaveFault;
 use std::alloc::{AllocError, Global};
 
 /// Reserves a name for a file that is to be saved: by a temporary file in the same folder, without any bytes. Of
-/// several who reserve the same name one gets it. Where it fails, the temporary file is removed, if that can be done,
-/// but for one that was there before.
+/// several who reserve the same name one gets it. Where it fails, the temporary file is removed that this call made, if
+/// that can be done, and no other: one that was there before is somebody else's.
 pub fn reserve<D: Disk>(disk: &mut D, temporary: &str, name: &str) -> Result<(), ReserveFault>
     requires { temporary.now ≢ name.now }
     ensures reserved { OnOk result
@@ -21,20 +21,19 @@ pub fn reserve<D: Disk>(disk: &mut D, temporary: &str, name: &str) -> Result<(),
     ensures temporary_there { result ≡ Err ReserveFault.TemporaryTaken
         → IfSome (D.contents disk.old) (λ files. IsSome (files temporary.now)) }
     ensures untouched { result ≡ Err ReserveFault.TemporaryTaken → D.contents disk.new ≡ D.contents disk.old }
+    ensures nothing_made { result ≡ Err (ReserveFault.Failed SaveFault.CannotCreate)
+        → D.contents disk.new ≡ D.contents disk.old }
 {
     match disk.create(temporary) {
         Ok(()) => {}
         Err(SaveFault::Exists) => return Err(ReserveFault::TemporaryTaken),
-        Err(why) => {
-            disk.remove(temporary);
-            return Err(ReserveFault::Failed(why));
-        }
+        Err(why) => return Err(ReserveFault::Failed(why)),
     }
     // The temporary file is made before it is looked for the name: whoever had it before has the name by now.
     let fault = match disk.exists(name) {
         Ok(false) => return Ok(()),
         Ok(true) => ReserveFault::NameTaken,
-        Err(why) => ReserveFault::Failed(why),
+        Err(_) => ReserveFault::Failed(SaveFault::CannotLook),
     };
     disk.remove(temporary);
     Err(fault)

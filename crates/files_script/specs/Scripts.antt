@@ -41,7 +41,7 @@ abbrev pub asking : ℕ → List (List ℕ) → List ℕ
 asking number [] = []
 asking number (line ∷ rest) = if is_idle line then asking (number + 1) rest else number ∷ asking (number + 1) rest
 
--- the command of a line of this number, listed with it; none where the line has no form
+-- the command of a line of this number, listed with it: nothing where the line has no form
 abbrev pub listed : ℕ → Option Command → List ScheduleLine
 listed number None = []
 listed number (Some command) = record { number = number; command = command } ∷ []

@@ -24,7 +24,7 @@ pub fn is_idle(line: &[u8]) -> bool
     }
 }
 
-/// What any other line asks for; None where it has no form that there is, or names no federate.
+/// What any other line asks for, or None where it has no form that there is, or names no federate.
 #[tactic(auto, using(crate::proofs::Forms::too_many))]
 pub fn read_command(plan: &Plan, line: &[u8]) -> Option<Command>
     ensures value { result ≡ forms.command_of plan.now (forms.words_of line.now) }

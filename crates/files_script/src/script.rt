@@ -48,7 +48,7 @@ impl Script {
         self.lines.as_slice()
     }
 
-    /// The number of the file's last line, whatever it says; 0 of an empty file.
+    /// The number of the file's last line, whatever it says, or 0 of an empty file.
     pub fn last_line(&self) -> usize
         ensures { result ≡ self.now.last_line }
     {
@@ -63,8 +63,8 @@ impl Script {
     }
 }
 
-/// The commands that the lines of a schedule file spell, for a plan. Of a file that is too long nothing else is
-/// answered; of others the first line that spells none, or out of memory.
+/// The commands that the lines of a schedule file spell, for a plan. A file that is too long is refused as that. In any
+/// other the first line that spells no command is refused, unless it fails for want of memory.
 pub fn read_script(alloc: Global, bytes: &[u8], plan: &Plan) -> Result<Script, ScriptFault>
     ensures ok { IfOk result (IsScriptOf plan.now bytes.now) }
     ensures over { (result ≡ Err ScriptFault.OverLimit) ↔ (MOST_BYTES < length bytes.now) }
@@ -97,7 +97,7 @@ fn read_lines(alloc: Global, bytes: &[u8], plan: &Plan) -> Result<Script, Script
     Ok(Script { lines, last })
 }
 
-/// The first of some lines, and what follows it; None where there is no line.
+/// The first of some lines, and what follows it. None where there is no line.
 fn next_line(lines: &[u8]) -> Option<(&[u8], &[u8])>
     ensures lines { MatchOption result (lines_of lines.now ≡ [])
         (λ parts. lines_of lines.now ≡ parts.0.now ∷ lines_of parts.1.now) }

@@ -13,7 +13,7 @@ pub(crate) enum Words<'a> {
     Four(&'a [u8], &'a [u8], &'a [u8], &'a [u8]),
 }
 
-/// The words of a line; None where there are more than four.
+/// The words of a line, or None where there are more than four.
 pub(crate) fn words_of(line: &[u8]) -> Option<Words<'_>>
     ensures { MatchOption result (4 < length (words_of line.now)) (λ words. words_of line.now ≡ listed words) }
 {
@@ -36,7 +36,7 @@ pub(crate) fn words_of(line: &[u8]) -> Option<Words<'_>>
     }
 }
 
-/// The first word of a text, and what follows the space after it; None where there is no space.
+/// The first word of a text, and what follows the space after it: None where there is no space.
 fn next_word(text: &[u8]) -> (&[u8], Option<&[u8]>)
     ensures { MatchOption result.1 (words_of text.now ≡ result.0.now ∷ [])
         (λ rest. words_of text.now ≡ result.0.now ∷ words_of rest.now) }

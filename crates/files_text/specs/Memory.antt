@@ -1,8 +1,8 @@
--- How out of memory for printed text is printed.
+-- How it is printed that there is no memory for text.
 use Rattle.std.specs.Prelude.{ℕ, List, ◌++◌, codes}
 use Rattle.std.specs.Fmt.{decimal}
 
--- its number: that of every out of memory after loading which has none of its own
+-- its number: that of every want of memory after loading that has no number of its own
 abbrev pub memory_number : ℕ
 memory_number = 91
 

@@ -7,7 +7,7 @@ ghost use Rattle.files_text.specs.RowText.{name_at};
 use plan::{Slots, Timer};
 use plan_names::Text;
 
-/// The name of a slot; empty where there is none.
+/// The name of a slot, or an empty text where there is none.
 pub(crate) fn slot_name(slots: &Slots, slot: usize) -> &str
     ensures { result.now ≡ name_at (slot_names slots.now) slot }
 {
@@ -32,7 +32,7 @@ pub(crate) fn slot_name(slots: &Slots, slot: usize) -> &str
     name_of(slots.physical.as_slice(), place - actions.len())
 }
 
-/// The name at a place; empty where there is none.
+/// The name at a place, or an empty text where there is none.
 pub(crate) fn name_of(names: &[Text], place: usize) -> &str
     ensures { result.now ≡ name_at names.now place }
 {
@@ -42,7 +42,7 @@ pub(crate) fn name_of(names: &[Text], place: usize) -> &str
     }
 }
 
-/// The name of the timer at a place; empty where there is none.
+/// The name of the timer at a place, or an empty text where there is none.
 fn timer_name(timers: &[Timer], place: usize) -> &str
     ensures { result.now ≡ name_at (timer_names timers.now) place }
 {

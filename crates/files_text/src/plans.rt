@@ -97,7 +97,7 @@ fn push_least_delay(
     }
 }
 
-/// The name of a federate; empty where there is none.
+/// The name of a federate, or an empty text where there is none.
 pub fn federate_name(plan: &Plan, federate: usize) -> &str
     ensures { result.now ≡ federate_name plan.now federate }
 {

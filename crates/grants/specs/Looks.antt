@@ -1,4 +1,5 @@
--- How often federates are looked at: each test whether one is eligible counts.
+-- How often federates are looked at: each test whether one is eligible counts. A flag changes only by a counted test.
+-- So the count is no less than what changed, and a bound of the count is a bound of the work.
 use Rattle.std.specs.Prelude.{ℕ, zero, suc, ◌+◌, ◌-◌, ◌^◌, min, Bool, not, is_some, if◌then◌else◌}
 use Rattle.grants.specs.Wires.{Wires, least_by}
 use Rattle.grants.specs.Records.{Records, is_eligible_in}

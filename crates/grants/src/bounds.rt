@@ -9,7 +9,7 @@ use crate::routes::Upstream;
 use plan_paths::Connection;
 use tag::{FiniteTag, Tag, lesser, plus, succ};
 
-/// The least tag at which anything of these federates' next turns can arrive; FOREVER where there are none.
+/// The least tag at which anything of these federates' next turns can arrive, or FOREVER where there are none.
 pub fn first_upstream(upstream: &[Upstream], federate_records: &[FederateRecord]) -> Tag
     requires { All (λ u. u.federate < length federate_records.now) upstream.now }
     ensures { result ≡ first_upstream (federate_record_at federate_records.now) upstream.now }
@@ -21,8 +21,8 @@ pub fn first_upstream(upstream: &[Upstream], federate_records: &[FederateRecord]
     first
 }
 
-/// The least tag at which anything can arrive over these connections that comes after their senders' last LTC; FOREVER
-/// where there are none.
+/// The least tag at which anything can arrive over these connections that comes after their senders' last LTC, or
+/// FOREVER where there are none.
 pub fn first_incoming(incoming: &[Connection], federate_records: &[FederateRecord]) -> Tag
     requires { All (λ c. c.source < length federate_records.now) incoming.now }
     ensures { result ≡ first_incoming (federate_record_at federate_records.now) incoming.now }

@@ -189,7 +189,7 @@ impl LinkEnd {
         }
     }
 
-    /// The frame that asks the other side to send again; None where the end is closed.
+    /// The frame that asks the other side to send again, or None where the end is closed.
     pub fn hello(&self) -> Option<Frame>
         ensures { result ≡ hello_of self.now.image }
     {
@@ -203,7 +203,7 @@ impl LinkEnd {
         }))
     }
 
-    /// All that is kept, as the frames that it was sent in; nothing where the end is closed.
+    /// All that is kept, as the frames that it was sent in, or nothing where the end is closed.
     #[tactic(auto, using(signal::proofs::Numbered::lengths))]
     pub fn resend(&self) -> Result<Vec<Frame>, Memory>
         ensures frames { IfOk result (λ frames. frames.items ≡ resent_by self.now.image) }

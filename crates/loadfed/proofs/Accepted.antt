@@ -1,4 +1,4 @@
--- A file is one federation at most, and meets no refusal but out of memory.
+-- A file is one federation at most, and is then refused only for want of memory.
 use Rattle.std.proofs.Common.{◌≡◌, ℕ, zero, suc, Result, Ok, Err, List, [], ◌∷◌, Some, refl, sym, ap, ◌∙◌, subst, arith}
 use Rattle.std.specs.Prelude.{slice_get, IfErr}
 use Rattle.toml.specs.Data.{Members}
@@ -73,7 +73,7 @@ none_among fs ps bs fault h k =
     let z = spelled_at fs ps bs k.place k.federate k.program h k.federate_is k.program_is in
     k.refused.unspelled z.0 z.1
 
--- what stands against a federation file is out of memory
+-- what stands against a federation file is want of memory
 only_memory : (bytes : List ℕ) (d : Draft) (bs : List Behaviour) (fault : LoadFault) → IsFederationFile bytes d bs → HasLoadFault bytes fault → fault ≡ Memory
 only_memory bytes d bs fault file (out_of_memory memory few) = memory
 only_memory bytes d bs fault file (too_long h) =

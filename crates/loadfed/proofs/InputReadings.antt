@@ -55,7 +55,7 @@ none_of_inputs d is fault a (unknown_action told unknown) = unknown a.known
 none_of_inputs d is fault a (repeated_input told known repeated) = repeated a.apart
 none_of_inputs d is fault a (too_many told known apart many) = many a.few
 
--- what stands against an input file of the federation is out of memory
+-- what stands against an input file of the federation is want of memory
 only_memory : (d : Draft) (bytes : List ℕ) (is : List Input) (fault : LoadFault) → SaysInputFile bytes is → AreInputsOf d is → HasInputFileFault d bytes fault → fault ≡ Memory
 only_memory d bytes is fault file all (out_of_memory memory few) = memory
 only_memory d bytes is fault file all (too_long h) =
@@ -75,7 +75,7 @@ pub inputs_accepted : (d : Draft) (bytes : List ℕ) (r : Result (List Input) Lo
 inputs_accepted d bytes (Ok x) h is file all = tt
 inputs_accepted d bytes (Err fault) h is file all = only_memory d bytes is fault file all h
 
--- a fault of recorded inputs, which isn't out of memory, stands against them
+-- a fault of recorded inputs, which isn't want of memory, stands against them
 pub inputs_told : (d : Draft) (is : List Input) (reason : InputFault) → (reason ≡ input_fault.UnknownAction → ¬ (AreKnown d is))
     → (reason ≡ input_fault.RepeatedInput → AreKnown d is × ¬ (AllPairs AreApart is))
     → (reason ≡ input_fault.OverLimit → AreKnown d is × AllPairs AreApart is × ¬ (length is ≤ MOST_INPUTS))

@@ -28,7 +28,7 @@ use Rattle.loadfed.specs.ShapeFaults.{HasShapeFault}
 stands : (d : Draft) (reason : PlanFault) → StandsIn d reason → reason ≢ plan_fault.Memory → (IsLegal d → reason ≡ plan_fault.Memory) → IsPlanFault d (Plan reason)
 stands d reason there other only = record { reason = reason; told = refl; not_memory = other; stands = there; illegal = λ h. other (only h) }
 
--- a fault of the plan, which isn't out of memory, stands against a plan
+-- a fault of the plan, which isn't want of memory, stands against a plan
 pub plan_told : (d : Draft) (reason : PlanFault) → StandsIn d reason → (IsLegal d → reason ≡ plan_fault.Memory)
     → (fault_of_plan reason ≡ Memory) ⊎ IsPlanFault d (fault_of_plan reason)
 plan_told d plan_fault.NoFederate there only = inr (stands d plan_fault.NoFederate there (λ e. cc) only)
@@ -45,7 +45,7 @@ fails : (f : Federate) (p : ProgramDraft) (reason : ProgramFault) (fault : LoadF
     → ((b : Behaviour) → SpellsProgram f.slots p.states p.reactions b → reason ≡ program_fault.Memory) → IsProgramFault f p fault
 fails f p reason fault other told there only = record { reason = reason; told = told; not_memory = other; stands = there; unspelled = λ b says. other (only b says) }
 
--- a fault of a program, which isn't out of memory
+-- a fault of a program, which isn't want of memory
 pub program_told : (f : Federate) (p : ProgramDraft) (reason : ProgramFault) (fault : LoadFault) → IsFaultOf f.slots p.states p.reactions reason
     → ((b : Behaviour) → SpellsProgram f.slots p.states p.reactions b → reason ≡ program_fault.Memory)
     → (fault ≡ Memory) ⊎ (fault ≡ Program f.name reason) → (reason ≡ program_fault.Memory → fault ≡ Memory)

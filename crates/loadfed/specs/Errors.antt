@@ -16,7 +16,7 @@ fault_of_table (table_fault.WrongShape key) = WrongShape key
 fault_of_table table_fault.OverLimit = OverLimit
 fault_of_table table_fault.Memory = Memory
 
--- a fault of a plan; out of memory has one form
+-- a fault of a plan. Want of memory has one form
 abbrev pub fault_of_plan : PlanFault → LoadFault
 fault_of_plan plan_fault.Memory = Memory
 fault_of_plan fault = Plan fault

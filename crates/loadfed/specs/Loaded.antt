@@ -63,7 +63,7 @@ pub record HasFileFault (Has : Members → TableFault → Type 0) (most : ℕ) (
   pub told : fault ≡ fault_of_table wrong
   pub stands : Has file wrong
 
--- the draft isn't legal, for this reason, which isn't out of memory
+-- the draft isn't legal, for this reason, which isn't want of memory
 pub record IsPlanFault (d : Draft) (fault : LoadFault) : Type 0 where
   pub reason : PlanFault
   pub told : fault ≡ Plan reason
@@ -78,7 +78,7 @@ pub record HasPlanFault (bytes : List ℕ) (fault : LoadFault) : Type 0 where
   pub declared : SaysDraft bytes draft drafts
   pub refused : IsPlanFault draft fault
 
--- a federate's states and reactions spell no program, for this reason, which isn't out of memory
+-- a federate's states and reactions spell no program, for this reason, which isn't want of memory
 pub record IsProgramFault (f : Federate) (p : ProgramDraft) (fault : LoadFault) : Type 0 where
   pub reason : ProgramFault
   pub told : fault ≡ Program f.name reason

@@ -1,4 +1,4 @@
--- The refusals: their numbers, how they are printed, and what faults of the layers below are here.
+-- The refusals: their numbers, and how they are printed.
 use Rattle.std.specs.Prelude.{ℕ, List, ◌++◌, codes}
 use Rattle.std.specs.Fmt.{decimal}
 use Rattle.plan.specs.declared.input_fault.InputFault.TheVariants as input_fault

@@ -26,7 +26,7 @@ pub const MOST_BYTES: usize = 1_048_576;
 pub fn load(alloc: Global, bytes: &[u8]) -> Result<(Plan, Programs), LoadFault>
     ensures outcome { IsLoading bytes.now result }
 
-    // Of a file that is a federation out of memory alone is answered.
+    // A file that is a federation is refused only for want of memory.
     ensures accepts { (d : Draft) (programs : List Behaviour) → IsFederationFile bytes.now d programs
         → IfErr result (λ fault. fault ≡ LoadFault.Memory) }
 {

@@ -21,7 +21,7 @@ pub const MOST_INPUT_BYTES: usize = 8_388_608;
 pub fn load_inputs(alloc: Global, bytes: &[u8], plan: &Plan) -> Result<Inputs, LoadFault>
     ensures outcome { IsInputLoading plan.now bytes.now result }
 
-    // Of a file that records inputs of the plan out of memory alone is answered.
+    // A file that records inputs of the plan is refused only for want of memory.
     ensures accepts { (inputs : List Input) → SaysInputFile bytes.now inputs → AreInputsOf plan.now inputs
         → IfErr result (λ fault. fault ≡ LoadFault.Memory) }
 {

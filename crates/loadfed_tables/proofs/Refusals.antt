@@ -29,7 +29,7 @@ pub second_of : {M P Q : Type 0} → M ⊎ Q → M ⊎ (P ⊎ Q)
 second_of (inl memory) = inl memory
 second_of (inr h) = inr (inr h)
 
--- out of memory alone
+-- want of memory alone
 pub memory_alone : {A : Type 0} (Has : TableFault → Type 0) (r : Result A TableFault) → IfErr r (λ fault. fault ≡ Memory) → IfErr r (λ fault. (fault ≡ Memory) ⊎ Has fault)
 memory_alone Has (Ok a) h = h
 memory_alone Has (Err fault) h = inl h

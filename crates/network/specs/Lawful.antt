@@ -8,7 +8,7 @@ use Rattle.network.specs.Connection.{Connection}
 use Rattle.network.specs.Event.{Event}
 use Rattle.network.specs.Network.{Network, Scheduling}
 
--- both ends of a connection are there
+-- both ends of a connection are there, and its delay is none or that of an `after`
 pub record IsConnected (n : Network) (c : Connection) : Type 0 where
   pub source : c.source < n.reactors
   pub port : c.port < n.ports c.source
@@ -31,7 +31,8 @@ pub record IsExternal (n : Network) (e : Event) : Type 0 where
 abbrev pub FallApart : Event → Event → Type 0
 FallApart d e = d.tag ≡ e.tag → d.reactor ≡ e.reactor → d.slot ≡ e.slot → ⊥
 
--- a scheduling of a reactor is later than its turn, at a slot that no connection and no external event reaches
+-- a scheduling of a reactor is later than its turn, at a slot that no connection and no external event reaches. Its
+-- delay is that of an `after`, which `delay` and `later` say together
 pub record IsOwn (n : Network) (reactor : ℕ) (s : Scheduling) : Type 0 where
   pub slot : s.slot < n.slots reactor
   pub delay : IsPlainDelay s.delay
@@ -44,7 +45,7 @@ pub record IsLawful (n : Network) : Type 0 where
   pub few_reactors : n.reactors ≤ MOST_REACTORS
   pub stop : IsFinite n.stop
   pub connected : All (IsConnected n) n.connections
-  -- each port has one source, and no external events
+  -- each input slot is the end of one connection at most, and has no external events
   pub one_source : AllPairs EndApart n.connections
   pub ports_apart : All (λ c. All (λ e. e.reactor ≡ c.target → e.slot ≢ c.slot) n.external) n.connections
   pub external : All (IsExternal n) n.external

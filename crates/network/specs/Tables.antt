@@ -25,14 +25,16 @@ abbrev pub IsWithin : Option LogicalTime → LogicalTime → Type 0
 IsWithin None bound = ⊥
 IsWithin (Some delay) bound = IsTrue (is_at_most delay bound)
 
--- two facts: over one connection the least delay is at most its own; and where a connection leads to a path, the least
--- delay from its beginning is at most its own delay and then the path's least
+-- two facts, which say by single connections that no entry is more than the total of a path. Over one connection the
+-- entry is at most its delay. Where a connection leads to a path, the entry from its beginning is at most its delay and
+-- then the entry of the path
 pub record IsTable (n : Network) (table : Table) : Type 0 where
   pub direct : All (λ c. IsWithin (table c.source c.target) c.delay) n.connections
   pub onward : (j : ℕ) → All (λ c.
       IfSome (table c.target j) (λ rest. IsWithin (table c.source j) (sum_of c.delay rest))) n.connections
 
--- a lawful network with a table of its least delays, which keeps the two facts
+-- a lawful network with a table of its least delays. That `facts` follows from `least`, the law `least_delays_suffice`
+-- says. It is kept here since most laws go by it alone
 pub record IsLawfulWith (n : Network) (table : Table) : Type 0 where
   pub lawful : IsLawful n
   pub least : IsLeastTable n table

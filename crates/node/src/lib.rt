@@ -11,8 +11,8 @@
 //!                    +------------> LinkEnd::receive    the frame is taken
 //!     Reply <--------+                                  the acknowledgement first, then the node's frames
 //!
-//! Begin with `specs/Core`, what a node says of itself, and `specs/Step`; then `node` and `station`. `blank` is for
-//! nodes that can be made again.
+//! Begin with `Station::step` in `station`, and with `specs/Step`, which it computes. What a node says of itself is in
+//! `specs/Core`, and its trait in `node`. `blank` is for nodes that can be made again.
 #![tactic(auto)]
 
 pub mod blank;

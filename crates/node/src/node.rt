@@ -52,7 +52,7 @@ pub trait Node: Drop {
             → (self.new ≡ self.old) × (outbox.new.mail ≡ outbox.old.mail) × Allows (core.advance self.old) }
         ensures lawful { SendsOnly (core.may_send self.old) (core.advance self.old) };
 
-    /// Whether the others are linked to this one: it answers a stranger so.
+    /// Whether it is the coordinator, which alone answers a Hello of another incarnation: by a Refuse.
     fn is_coordinator(&self) -> bool
         ensures { result ≡ IS_COORDINATOR };
 

@@ -31,7 +31,7 @@ pub(crate) fn note(outbox: &mut Outbox, peer: usize, frame: &Frame) -> Result<Re
     }
 }
 
-// Takes in the frame; whether that changes the end, other than by a signal.
+// Takes in the frame. Returns whether that changes the end, other than by a signal.
 fn take_in(outbox: &mut Outbox, peer: usize, frame: &Frame) -> bool
     requires there { peer < length outbox.old.mail.ends }
     requires ok { (e : Image) → slice_get outbox.old.mail.ends peer ≡ Some e → IsOk (answer_of e frame.now) }

@@ -68,7 +68,8 @@ impl Block {
         })
     }
 
-    // Whether both keep as many of a batch, and turns: then they are the same where the batches are.
+    // Whether both have the same events, as many of them from their batches. It is false also where one has as turns
+    // what the other has in its batch.
     pub(crate) fn is_same(&self, other: &Block) -> bool
         ensures { result ≡ true → self.now ≡ other.now }
     {
@@ -107,7 +108,8 @@ impl Block {
         }
     }
 
-    /// Takes in one event more, if it is the batch's next one, or goes on with the turns; whether it is.
+    /// Takes in one event more, if it is the batch's next one, or goes on with the turns. Returns whether it is taken
+    /// in.
     #[tactic(auto, using(crate::proofs::BlockEvents::one_used, crate::proofs::BlockEvents::one_turn))]
     pub fn extend(&mut self, event: &Event) -> bool
         ensures extended { result ≡ true → self.new ≡ self.old ++ event.now ∷ [] }

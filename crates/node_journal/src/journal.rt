@@ -163,7 +163,7 @@ impl Journal {
     }
 
     // Adds the block of another journal that begins at a place, if it has no more than this many events, and else the
-    // one event that is there; how many.
+    // one event that is there. Returns how many events it added.
     fn append_next(
         &mut self,
         other: &Journal,
@@ -193,8 +193,8 @@ impl Journal {
         }
     }
 
-    /// How many events from a place on are surely those of another journal; none where the first isn't. They are looked
-    /// for near blocks, as in `get`: whole blocks are compared where both begin at the place.
+    /// How many events from a place on are surely those of another journal, or None where the first isn't. They are
+    /// looked for near blocks, as in `get`: whole blocks are compared where both begin at the place.
     pub fn same_from(
         &self,
         other: &Journal,

@@ -32,7 +32,7 @@ impl Placed {
         self.place <= place && place - self.place < self.block.len()
     }
 
-    // Takes in the event of a place, if that is the next one and the block goes on with it; whether it is.
+    // Takes in the event of a place, if that is the next one and the block goes on with it. Returns whether it does.
     #[tactic(auto, using(crate::proofs::SlipLists::one_more, crate::proofs::SlipLists::filled_more))]
     pub(crate) fn extend(&mut self, place: usize, event: &Event) -> bool
         ensures extended { result ≡ true

@@ -82,7 +82,7 @@ planned_from d cs es rs n legal cs_is es_is n_is len ranks fs ls fs_is delays = 
   delays = subst (λ m. IsLeastTable (connections_of d) m ls) n_is (subst (λ gs. IsLeastTable gs n ls) fs_is delays);
 }
 
--- ---- no fault but out of memory is in a legal draft
+-- ---- no fault but want of memory is in a legal draft
 
 unmapped : {X Y : Type 0} (f : X → Y) (xs : List X) (k : ℕ) (y : Y) → slice_get (map f xs) k ≡ Some y
     → (x : X) × (slice_get xs k ≡ Some x) × (f x ≡ y)

@@ -57,7 +57,7 @@ pub record IsNamedCycle (d : Draft) (names : List (List ℕ)) : Type 0 where
   pub none_lower : (lower : ℕ) → lower < start → HasNoCycleAt (connections_of d) lower
   pub named : map (λ name. Some name) names ≡ map (λ c. slice_get (federate_names d.federates) c.source) path
 
--- the fault is in the draft; of out of memory no draft says anything
+-- the fault is in the draft. Memory may be wanting for any draft
 abbrev pub StandsIn : Draft → PlanFault → Type 0
 StandsIn d NoFederate = d.federates ≡ []
 StandsIn d (UnknownName p) = IsUnknown d p
@@ -68,7 +68,7 @@ StandsIn d BadTimer = ¬ AreTimersInRange d
 StandsIn d Memory = Unit {0}
 StandsIn d (RepeatedName name) = IsRepeated d name
 
--- a cycle without any delay that is in the draft, or out of memory
+-- a cycle without any delay that is in the draft, or want of memory
 abbrev pub IsCycleRefusal : Draft → PlanFault → Type 0
 IsCycleRefusal d (ZeroDelayCycle names) = IsNamedCycle d names
 IsCycleRefusal d Memory = Unit {0}

@@ -53,7 +53,7 @@ impl Inputs {
         ensures ok { IfOk result (λ checked. checked ≡ inputs.items) }
         ensures known { OnOk result (AreInputsOf plan.now inputs.items) }
 
-        // Of inputs that are all right out of memory alone is answered.
+        // Inputs that are all right are refused only for want of memory.
         ensures accepts { AreInputsOf plan.now inputs.items → IfErr result (λ e. e ≡ InputFault.Memory) }
         ensures unknown { result ≡ Err InputFault.UnknownAction
             → ¬ (All (λ i. IsSome (found_action plan.now.federates i)) inputs.items) }

@@ -13,7 +13,7 @@ use crate::sources::refuse_two_sources;
 use plan_paths::Connection;
 use std::alloc::Global;
 
-/// The connections of a legal draft, by number; of the faults of any other it answers one.
+/// The connections of a legal draft, by number. For any other draft it answers one of its faults.
 pub(crate) fn legal_connections(alloc: Global, draft: &Draft) -> Result<Vec<Connection>, PlanFault>
     ensures value { IfOk result (λ connections. connections.items ≡ connections_of draft.now) }
     ensures legal { OnOk result (IsLegal draft.now) }

@@ -2,7 +2,7 @@
 //!
 //! Promise to the layer above: a `Plan` is a legal draft (`specs/Legal`), and each refusal of a draft or of recorded
 //! inputs is printed as its number, its name and what it is about (`specs/PlanFaults`, `specs/InputFaults`). Begin with
-//! `draft`, then `plan`.
+//! `specs/Legal`, then `Plan::check` in `plan`.
 #![tactic(auto)]
 
 mod connect;

@@ -43,16 +43,16 @@ impl Plan {
     ghost use Rattle.plan.specs.Legal.{IsLegal};
     ghost use Rattle.plan.specs.Faults.{StandsIn};
 
-    /// Plans a legal draft; of the faults of any other it answers one.
+    /// Plans a legal draft. For any other draft it answers one of its faults.
     pub fn check(alloc: Global, draft: Draft) -> Result<Plan, PlanFault>
         ensures ok { IfOk result (λ plan. plan ≡ draft) }
         ensures legal { OnOk result (IsLegal draft) }
 
-        // Of a legal draft out of memory alone is answered.
+        // A legal draft is refused only for want of memory.
         ensures accepts { IsLegal draft → IfErr result (λ e. e ≡ PlanFault.Memory) }
         ensures fault { IfErr result (StandsIn draft) }
 
-        // Of a draft over a limit, or with a timer out of range, it is never answered.
+        // A draft over a limit, or with a timer out of range, is never refused for want of memory.
         ensures memory { IfErr result (λ e. e ≡ PlanFault.Memory
             → (0 < length draft.federates) × IsWithinAllLimits draft × AreTimersInRange draft) }
     {
@@ -108,7 +108,7 @@ impl Plan {
         self.ranks[federate]
     }
 
-    /// The least total of a path of connections from one federate to another, or to itself; None where there is no
+    /// The least total of a path of connections from one federate to another, or to itself. None where there is no
     /// path.
     pub fn least(&self, from: usize, to: usize) -> Option<Delay>
         requires from { from < federate_count self.now }

@@ -53,7 +53,7 @@ impl LeastDelays {
         Ok(LeastDelays { rows })
     }
 
-    /// The least delay from one federate to another, or to itself; None where no path leads.
+    /// The least delay from one federate to another, or to itself. None where no path leads.
     pub fn delay(&self, from: usize, to: usize) -> Option<Delay>
         requires from { from < length self.now }
         requires to { to < length (slice_index_or self.now from []) }

@@ -66,7 +66,7 @@ federate_accepts n j f (Ltc tag) = Refused WrongSignal
 federate_accepts n j f (Tag tag) = accept_grant n f tag
 federate_accepts n j f (Msg connection tag value) = accept_message n j f (slice_get n.connections connection) tag value
 
--- the next event's tag; FOREVER where nothing is undone
+-- the next event's tag, or FOREVER where nothing is undone
 abbrev pub next_event : Federate → LogicalTime
 next_event f = unwrap_or (first_tag f.undone) forever
 

@@ -1,4 +1,5 @@
--- Which federate may be granted which tag: so that no message can still come to it at or below that tag.
+-- Which federate may be granted which tag: so that no message can still come to it at or below that tag. Three rules
+-- stand here. The coordinator goes by `grant_widest`; `grant_next` and `grant_chosen` are for laws and examples alone.
 use Rattle.std.specs.Prelude.{◌≡◌, ℕ, zero, suc, ◌^◌, ◌⊎◌, Bool, true, ◌&&◌, ◌||◌, nat_eq, nat_lt, IsTrue}
 use Rattle.std.specs.Prelude.{if◌then◌else◌, List, [], ◌∷◌, Contains, Option, None, Some}
 use Rattle.std.specs.List.{list_all}
@@ -30,8 +31,8 @@ ByConnections n federate_records j tag =
     (c : Connection) → Contains n.connections c → c.target ≡ j
     → IsTrue (is_before tag (sum_of (after_completed (federate_records c.source).completed) c.delay))
 
--- a federate that gets TAG(next): it has announced, its next tag isn't granted yet and isn't later than stop, and is
--- safe
+-- a federate that gets a TAG: it has announced, its next tag isn't granted yet and isn't later than stop, and is safe.
+-- How far the TAG reaches, the rule says
 pub record Eligible (n : Network) (federate_records : ℕ → FederateRecord) (j : ℕ) : Type 0 where
   pub announced : IsTrue (federate_records j).announced
   pub not_granted : IsTrue (is_past (federate_records j).granted (federate_records j).next)
@@ -65,7 +66,7 @@ passes_connection federate_records j tag c =
 abbrev pub passes_connections : Network → (ℕ → FederateRecord) → ℕ → LogicalTime → Bool
 passes_connections n federate_records j tag = list_all (passes_connection federate_records j tag) n.connections
 
--- a federate that gets TAG(next), by the table
+-- a federate that gets a TAG, by the table
 abbrev pub is_eligible : Network → Table → (ℕ → FederateRecord) → ℕ → Bool
 is_eligible n table federate_records j =
     (federate_records j).announced && is_past (federate_records j).granted (federate_records j).next
@@ -73,7 +74,7 @@ is_eligible n table federate_records j =
     (passes_paths n table federate_records j (federate_records j).next
     || passes_connections n federate_records j (federate_records j).next)
 
--- each eligible federate gets its next tag
+-- each eligible federate gets its next tag. This rule is for laws and examples alone
 abbrev pub grant_next : Network → Table → Rule
 grant_next n table federate_records j =
     if is_eligible n table federate_records j then Some (federate_records j).next else None
@@ -83,13 +84,13 @@ abbrev pub lesser_arrival : LogicalTime → Option LogicalTime → LogicalTime �
 lesser_arrival next None other = other
 lesser_arrival next (Some delay) other = lesser (sum_of next delay) other
 
--- the least arrival over any path, from the first `count` federates; FOREVER where there is none
+-- the least arrival over any path, from the first `count` federates, or FOREVER where there is none
 abbrev pub bound_by_paths : Table → (ℕ → FederateRecord) → ℕ → ℕ → LogicalTime
 bound_by_paths table federate_records j zero = forever
 bound_by_paths table federate_records j (suc count) =
     lesser_arrival (federate_records count).next (table count j) (bound_by_paths table federate_records j count)
 
--- the least arrival over direct connections, as far as LTCs tell; FOREVER where there is none
+-- the least arrival over direct connections, as far as LTCs tell, or FOREVER where there is none
 abbrev pub bound_by_connections : (ℕ → FederateRecord) → ℕ → List Connection → LogicalTime
 bound_by_connections federate_records j [] = forever
 bound_by_connections federate_records j (c ∷ rest) =
@@ -103,7 +104,7 @@ abbrev pub bound_of : Network → Table → (ℕ → FederateRecord) → ℕ →
 bound_of n table federate_records j =
     greater (bound_by_paths table federate_records j n.reactors) (bound_by_connections federate_records j n.connections)
 
--- the wider grant: each eligible federate gets as much as is safe
+-- the rule of the coordinator: each eligible federate gets as much as is safe
 abbrev pub grant_widest : Network → Table → Rule
 grant_widest n table federate_records j =
     if is_eligible n table federate_records j
@@ -136,6 +137,6 @@ abbrev pub if_safe : Network → Table → (ℕ → FederateRecord) → ℕ → 
 if_safe n table federate_records j None = None
 if_safe n table federate_records j (Some tag) = if is_safe n table federate_records j tag then Some tag else None
 
--- a free choice: for each federate any tag, which it gets if that is safe
+-- a free choice: for each federate any tag, which it gets if that is safe. This rule is for laws alone
 abbrev pub grant_chosen : Network → Table → (ℕ → Option LogicalTime) → Rule
 grant_chosen n table choice federate_records j = if_safe n table federate_records j (choice j)

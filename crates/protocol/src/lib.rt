@@ -18,8 +18,10 @@ ghost use Rattle.protocol.specs.Examples.{counter, counter_table, announced, rou
 pub use post::Post;
 pub use refusal::Refusal;
 
-/// The first grant of a federate without upstream, its message and its LTC; the TAG to the next federate goes out once
-/// the LTC has come, by its direct connection alone: over paths it wouldn't.
+/// A short run by the plain rule `grant_next`, which grants each eligible federate its next tag. (The coordinator goes
+/// by the wider rule `grant_widest`: its first TAG here would be stop.) A federate without upstream gets a TAG, and
+/// sends a message and an LTC. The TAG to the other federate goes out once the LTC has come: `ByConnections` allows it,
+/// `ByPaths` wouldn't yet.
 pub fn first_grants()
     ensures first_tag { (announced 0).down ≡ Signal.Tag (at 0 0) ∷ [] }
     ensures not_yet { (announced 1).down ≡ [] }

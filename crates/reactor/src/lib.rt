@@ -1,9 +1,9 @@
 //! What a reactor does at a tag: one turn of its program.
 //!
-//! Promise to the layer above: `Reactor::run` is the effect of `specs/Effect`. Begin with `reactor`, then
-//! `specs/Effect`. A reactor runs a program's lines as steps on numbers that lie side by side: `step` and `specs/Steps`
-//! say what these do, `resolve` makes them of lines, and a `turn_room` keeps what a turn needs for the next one.
-//! Programs and how they are read stand in the crate `reactor_program`.
+//! Promise to the layer above: `Reactor::run` is the effect of `specs/Effect`. Begin with `specs/Effect`, then `run_in`
+//! in `reactor`, and `running`, which computes that. A reactor runs a program's lines as steps on numbers that lie side
+//! by side: `step` and `specs/Steps` say what these do, `resolve` makes them of lines, and a `turn_room` keeps its
+//! memory for the next turn. Programs and how they are read stand in the crate `reactor_program`.
 #![tactic(auto)]
 
 pub mod memory;

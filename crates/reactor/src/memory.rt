@@ -6,8 +6,8 @@ use reactor_program::ProgramFault;
 use std::alloc::{AllocError, AllocFailed};
 use std::fmt;
 
-/// An allocation failed, for a turn or for what is made before the first. The machine caused it; what was passed in is
-/// as it was, and the same call may be made again.
+/// There is no memory for a turn or for what is made before the first, or a program has more registers than memory can
+/// hold. Rows and states are as they were. Room that was passed in holds any turn. The same call may be made again.
 #[derive(Clone, Copy, Debug, PartialEq, Eq)]
 pub struct Memory;
 

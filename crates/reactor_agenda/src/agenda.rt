@@ -32,7 +32,7 @@ pub struct Agenda {
     stop: FiniteTag,
     puts: Puts,
     timers: Vec<Firings>,
-    /// Of the least firing that is left; FOREVER where there is none.
+    /// The tag of the least firing that is left, or FOREVER where there is none.
     next_firing: Tag,
     /// What takes back the last `put_all`.
     undos: Vec<Undo>,
@@ -112,7 +112,7 @@ impl Agenda {
         undo_each(&mut self.puts, &mut self.undos);
     }
 
-    /// The tag of the next event; FOREVER where nothing is left.
+    /// The tag of the next event, or FOREVER where nothing is left.
     pub fn least(&self) -> Tag
         ensures { result ≡ least_in self.now.undone }
     {

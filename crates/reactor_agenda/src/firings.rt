@@ -16,7 +16,7 @@ pub struct Firings {
     pub left: u64,
 }
 
-/// The tag of the next firing; FOREVER where none is left.
+/// The tag of the next firing, or FOREVER where none is left.
 pub fn next_tag(timer: Firings) -> Tag
     requires { IsTimer timer }
     ensures { result ≡ least_in (firings_of timer) }

@@ -4,7 +4,7 @@ use reactor_program::ProgramFault;
 use std::alloc::{AllocError, AllocFailed};
 use std::fmt;
 
-/// No memory was to be had for what is pending. It is printed as out of memory for a turn.
+/// No memory was to be had for what is pending. It is printed as want of memory for a turn is.
 #[derive(Clone, Copy, Debug, PartialEq, Eq)]
 pub struct Memory;
 

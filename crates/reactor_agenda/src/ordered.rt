@@ -105,7 +105,7 @@ impl Puts {
         }
     }
 
-    /// The tag of the first; FOREVER where nothing was put.
+    /// The tag of the first, or FOREVER where nothing was put.
     pub fn first_tag(&self) -> Tag
         ensures { result ≡ least_in self.now }
     {
@@ -123,7 +123,7 @@ impl Puts {
     }
 }
 
-/// How a key stands to the first; `Less` where there is none.
+/// How a key stands to the first, or `Less` where there is none.
 fn first_cmp(front: &VecDeque<(Key, i64), Global>, key: &Key) -> Ordering
     ensures { result ≡ to_first key.now front.now.items }
 {
@@ -133,7 +133,7 @@ fn first_cmp(front: &VecDeque<(Key, i64), Global>, key: &Key) -> Ordering
     }
 }
 
-/// How a key stands to the last; `Greater` where there is none.
+/// How a key stands to the last, or `Greater` where there is none.
 fn last_cmp(front: &VecDeque<(Key, i64), Global>, key: &Key) -> Ordering
     ensures { result ≡ to_last key.now front.now.items }
 {

@@ -13,7 +13,7 @@ use crate::pending_event::PendingEvent;
 use crate::undo::Undo;
 use tag::{FiniteTag, Tag};
 
-/// Puts events up to stop, all or none; `undos` is what takes them back.
+/// Puts events up to stop, all or none. Afterwards `undos` is what takes them back.
 #[inline(always)]
 pub fn put_in_time(
     puts: &mut Puts,

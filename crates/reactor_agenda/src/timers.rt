@@ -44,7 +44,7 @@ fn firing_count(stop: u64, timer: &Timer) -> u64
     }
 }
 
-/// The tag of the least firing that is left; FOREVER where there is none.
+/// The tag of the least firing that is left, or FOREVER where there is none.
 pub fn first_firing(timers: &[Firings]) -> Tag
     requires { AllByRecursion IsTimer timers.now }
     ensures { result ≡ first_firing timers.now }

@@ -1,4 +1,4 @@
--- A text has at most one reading, so what is spelled is refused out of memory alone.
+-- A text has at most one reading, so what is spelled is refused only for want of memory.
 use Rattle.std.proofs.Common.{◌≡◌, ℕ, zero, suc, ◌+◌, false, if◌then◌else◌, List, [], ◌∷◌, ◌++◌, IsTrue, Option, Some, None, codes, get_or, refl, sym, ap, ◌∙◌, subst, arith, inl, inr, ◌⊎◌}
 use Rattle.std.specs.Prelude.{slice_get}
 use Rattle.std.specs.List.{AllZip}

@@ -28,6 +28,6 @@ fault_text_of federate RepeatedState = codes " RepeatedState " ++ federate
 abbrev pub printed_fault_of : List ℕ → ProgramFault → List ℕ
 printed_fault_of federate fault = decimal (fault_number fault) ++ fault_text_of federate fault
 
--- how out of memory for a turn is printed
+-- how want of memory for a turn is printed
 abbrev pub printed_memory : List ℕ
 printed_memory = decimal (fault_number Memory) ++ codes " Memory"

@@ -1,5 +1,5 @@
--- The machine of an audit: a federation's world, by what it was made from and its steps. And which step an event at a
--- node can be.
+-- Which step an event at a node can be; and a federation's world as what a search moves: what it was made from, and its
+-- steps.
 use Rattle.std.specs.Prelude.{ℕ, zero, suc, nat_lt, if◌then◌else◌, List, [], Option, None, Some}
 use Rattle.plan.specs.declared.draft.Draft.{Draft}
 use Rattle.plan.specs.declared.input.Input.{Input}

@@ -61,7 +61,7 @@ abbrev pub journal_of : Option Report → List Event
 journal_of None = []
 journal_of (Some report) = report.journal
 
--- the rows that federate j reports; none where it has no report
+-- the rows that federate j reports: no row where it has no report
 abbrev pub reported_rows : List Report → ℕ → List Row
 reported_rows reports j = rows_of (report_of reports j)
 

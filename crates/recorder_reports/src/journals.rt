@@ -28,7 +28,7 @@ pub fn all_journals<'r>(
     Ok(journals)
 }
 
-// The journal that a federate reports; an empty one where it has no report.
+// The journal that a federate reports, or an empty one where it has no report.
 fn journal_at<'r>(reports: &'r [Report], federate: usize, empty: &'r Journal) -> &'r Journal
     requires { empty.now ≡ [] }
     ensures { result.now ≡ journal_of (report_of reports.now federate) }

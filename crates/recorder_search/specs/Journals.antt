@@ -23,7 +23,7 @@ abbrev pub node_at : ℕ → NodeId
 node_at zero = Coordinator
 node_at (suc j) = Federate j
 
--- a node's journal; an empty one where there is none
+-- a node's journal, or an empty one where there is none
 abbrev pub journal_of : List (List Event) → NodeId → List Event
 journal_of journals node = get_or journals (place_of node) []
 

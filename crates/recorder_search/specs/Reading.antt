@@ -51,7 +51,7 @@ pub record GoesOn {State : Type 0} (motion : Motion State) (journals : List (Lis
   pub further : moved ≡ true → unread journals after.read < unread journals before.read
   pub still : moved ≡ false → after ≡ before
 
--- the first node whose journal isn't read to its end, and its next event, counted from 1; none where all are
+-- the first node whose journal isn't read to its end, and its next event, counted from 1. None where all are read
 abbrev pub IsFirstUnread : List (List Event) → List ℕ → Option (NodeId × ℕ) → Type 0
 IsFirstUnread journals read None = (place : ℕ) → length (get_or journals place []) ≤ get_or read place 0
 IsFirstUnread journals read (Some next) =

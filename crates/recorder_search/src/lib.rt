@@ -5,7 +5,7 @@
 //! list of them. The journals may grow while a `Reading` reads ahead: what is said at the end is said of the whole
 //! journals (`growing`).
 //!
-//!     Reading::new --> read_ahead ...   rounds by guesses alone, until one moves nothing: while the journals still grow
+//!     Reading::new --> read_ahead ...   rounds by guesses alone, until one moves nothing: while journals still grow
 //!          |
 //!          +---------> finish           rounds by guesses; after one that moved nothing, exactly: when they are whole
 //!                        |
@@ -13,7 +13,7 @@
 //!                               |
 //!                               +--> read_on            one journal, as far as it goes
 //!                                       |
-//!                                       +--> Machine::place   makes the step that is the next event, or says that it finds none
+//!                                       +--> Machine::place   makes the step that is the next event, or finds none
 //!
 //! `search` is a `Reading` that is finished at once. Begin with `machine`, then `searching`.
 #![tactic(auto)]

@@ -1,7 +1,8 @@
 -- Frames as bytes: four bytes of length, and then that many bytes of body.
 use Rattle.std.specs.Prelude.{◌≡◌, ℕ, ◌^◌, ◌<◌, List, [], ◌++◌, ◌∷◌, length}
 use Rattle.byteorder.specs.Endian.{big_bytes}
-use Rattle.signal.specs.declared.wire.TheConstants.{LENGTH_SIZE, VERSION, HELLO_KIND, DATA_KIND, ACK_KIND, REFUSE_KIND}
+use Rattle.signal.specs.declared.wire.TheConstants.{LENGTH_SIZE, FIRST_VERSION, HELLO_KIND, DATA_KIND, ACK_KIND}
+use Rattle.signal.specs.declared.wire.TheConstants.{REFUSE_KIND}
 use Rattle.signal.specs.declared.frame.Frame.{Frame}
 use Rattle.signal.specs.declared.frame.Frame.TheVariants.{Hello, Data, Ack, Refuse}
 use Rattle.signal.specs.Signal.{signal_bytes, IsSignal}
@@ -26,7 +27,7 @@ frame_bytes_by version frame = framed (body_of version frame)
 
 -- the same with the first version
 abbrev pub frame_bytes : Frame → List ℕ
-frame_bytes frame = frame_bytes_by VERSION frame
+frame_bytes frame = frame_bytes_by FIRST_VERSION frame
 
 -- what has a spelling: every frame of the program
 abbrev pub IsFrame : Frame → Type 0

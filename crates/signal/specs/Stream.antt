@@ -1,7 +1,7 @@
 -- A stream of bytes that is read frame by frame.
 use Rattle.std.specs.Prelude.{◌≡◌, List, [], ◌∷◌, ◌++◌, ℕ, slice_index, IsTrue, IsSome, IfSome, ◌==◌, ◌⊎◌, Option, Some}
 use Rattle.std.specs.Prelude.{None, Result, Ok, Err, is_some, if◌then◌else◌}
-use Rattle.signal.specs.declared.wire.TheConstants.{VERSION, HELLO_KIND}
+use Rattle.signal.specs.declared.wire.TheConstants.{FIRST_VERSION, HELLO_KIND}
 use Rattle.signal.specs.declared.frame.Frame.{Frame}
 use Rattle.signal.specs.declared.fault.FrameFault.{FrameFault}
 use Rattle.signal.specs.Frame.{Spells}
@@ -20,7 +20,7 @@ abbrev pub IsStream : Stream → Type 0
 IsStream s = IfSome s.fault (λ fault. (s.begun ≡ []) × (fault_at s.rest ≡ Some fault))
 
 abbrev pub start : Stream
-start = record { fault = None; begun = []; rest = []; version = VERSION }
+start = record { fault = None; begun = []; rest = []; version = FIRST_VERSION }
 
 -- more bytes come; where a fault stands they change nothing
 abbrev pub fed : Stream → List ℕ → Stream

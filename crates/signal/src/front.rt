@@ -23,7 +23,7 @@ pub struct Front {
     pub version: u8,
 }
 
-/// What stands at the front; None where the bytes end inside it. `version` is that of the last Hello before.
+/// What stands at the front, or None where the bytes end inside it. `version` is that of the last Hello before.
 pub fn front_of(bytes: &[u8], version: u8) -> Result<Option<Front>, FrameFault>
     ensures ok { IfOk result (λ front. MatchOption front (is_partial bytes.now ≡ true) (IsFront version bytes.now)) }
     ensures fault { IfErr result (λ e. fault_at bytes.now ≡ Some e) }

@@ -3,7 +3,7 @@ use crate::fault::FrameFault;
 use crate::frame::Frame;
 use crate::front::front_of;
 use crate::memory::Memory;
-use crate::wire::VERSION;
+use crate::wire::FIRST_VERSION;
 use std::alloc::Global;
 use std::marker::Model;
 
@@ -47,7 +47,7 @@ impl FrameReader {
             position: 0,
             begun: Begun::none(),
             fault: None,
-            version: VERSION,
+            version: FIRST_VERSION,
         }
     }
 

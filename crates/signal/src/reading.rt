@@ -16,7 +16,7 @@ use crate::wire::{
 };
 use tag::{FiniteTag, Time};
 
-/// The tag at the front; a fault for a time that isn't before FOREVER's.
+/// The tag at the front, or a fault for a time that isn't before FOREVER's.
 fn finite_tag_of(bytes: &[u8]) -> Result<FiniteTag, FrameFault>
     requires { 12 ≤ length bytes.now }
     ensures found { IfOk result (λ g. IsFinite g × (take 12 bytes.now ≡ tag_bytes g)) }

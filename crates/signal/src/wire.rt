@@ -6,8 +6,9 @@ pub const LENGTH_SIZE: usize = 4;
 /// The longest body of a frame, in bytes: that of a Batch of 64 MSGs.
 pub const LONGEST_BODY: usize = 1486;
 
-/// The version that `write_frame` writes into a Hello. A Hello of any version from 1 on is read.
-pub const VERSION: u8 = 1;
+/// The first version of frames. A peer is taken to read no more before its Hello came. A Hello of any
+/// version from this one on is read.
+pub const FIRST_VERSION: u8 = 1;
 
 /// From this version on a peer may be sent a Batch.
 pub const BATCHING: u8 = 2;

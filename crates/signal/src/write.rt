@@ -9,7 +9,7 @@ ghost use Rattle.signal.specs.Cut.{written, Extends};
 use crate::frame::Frame;
 use crate::memory::Memory;
 use crate::pieces::piece_size;
-use crate::wire::{BATCHING, MOST_SIGNALS, VERSION};
+use crate::wire::{BATCHING, FIRST_VERSION, MOST_SIGNALS};
 use crate::writing::{write_by, write_piece};
 
 /// Appends the frame's bytes. Where there is no memory for them, the bytes are as they were.
@@ -19,7 +19,7 @@ pub fn write_frame(frame: &Frame, bytes: &mut Vec<u8>) -> Result<(), Memory>
     ensures readable { Spells (frame_bytes frame.now) (frame.now ∷ []) }
 {
     let before = bytes.len();
-    let result = write_by(VERSION, frame, bytes);
+    let result = write_by(FIRST_VERSION, frame, bytes);
     or_as_before(result, before, bytes)
 }
 

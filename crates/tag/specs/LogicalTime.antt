@@ -33,12 +33,12 @@ is_before g h = nat_lt g.time h.time || (nat_eq g.time h.time && nat_lt g.micros
 abbrev pub is_at_most : LogicalTime → LogicalTime → Bool
 is_at_most g h = nat_lt g.time h.time || (nat_eq g.time h.time && nat_lt g.microstep (h.microstep + 1))
 
--- the tag is later than that one; none is before all
+-- `tag` is later than `other`. None is before every tag
 abbrev pub is_past : Option LogicalTime → LogicalTime → Bool
 is_past None tag = true
 is_past (Some other) tag = is_before other tag
 
--- the tag is at or below that one
+-- `tag` is at or below `other`. Nothing is at or below None
 abbrev pub is_reached : Option LogicalTime → LogicalTime → Bool
 is_reached None tag = false
 is_reached (Some other) tag = is_at_most tag other

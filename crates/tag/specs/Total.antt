@@ -13,7 +13,7 @@ total_of (d ∷ ds) = fold sum_of d ds
 abbrev pub IsAfterDelay : LogicalTime → Type 0
 IsAfterDelay delay = (time : ℕ) × (time < 2 ^ 62) × (delay ≡ delay_of time)
 
--- a delay that a connection or a scheduling may have: none, or that of an `after`
+-- a delay that a connection may have: none, or that of an `after`. A scheduling has the latter alone
 pub data IsPlainDelay : LogicalTime → Type 0 where
   no_delay : IsPlainDelay origin
   some_delay : {delay : LogicalTime} → IsAfterDelay delay → IsPlainDelay delay

@@ -81,7 +81,7 @@ impl fmt::Display for FiniteTag {
     }
 }
 
-/// Whether a tag is later than one before it; none is before all.
+/// Whether `tag` is later than `last`. None is before every tag.
 pub fn is_past(last: Option<FiniteTag>, tag: Tag) -> bool
     ensures { result ≡ is_past last tag }
 {

@@ -36,7 +36,7 @@ pub fn succ(tag: Tag) -> Tag
     plus(tag, Delay::after(Time::zero()))
 }
 
-/// The greatest earlier tag; None for the first tag.
+/// The greatest earlier tag, or None for the first tag.
 pub fn pred(tag: Tag) -> Option<Tag>
     ensures { result ≡ tag_before tag }
 {

@@ -3,7 +3,7 @@ ghost use Rattle.std.specs.Prelude.{◌≡◌, ◌<◌, ◌^◌, IsTrue, SomeIff
 ghost use Rattle.std.specs.Str.{all_ascii_digits};
 ghost use Rattle.std.specs.Str.Parse.{digits_value};
 
-/// The number that digits spell, 0 where there are none; None for 2^64 or more.
+/// The number that digits spell: 0 where there are none, and None for 2^64 or more.
 #[tactic(auto, using(crate::proofs::Numerals::digit_in_range, crate::proofs::Numerals::next_digit, crate::proofs::Numerals::front_at_most))]
 pub fn digits_value(digits: &[u8]) -> Option<u64>
     requires { IsTrue (all_ascii_digits digits.now) }

@@ -8,7 +8,7 @@ use std::sync::atomic::{AtomicBool, AtomicU64, Ordering};
 use std::thread;
 use std::time::{Clock, Duration};
 use tests_lines::journals::count_of;
-use tests_lines::lines::ran_in_memory;
+use tests_lines::lines::{EACH_WAY, Nodes, Setting, ran_in_memory};
 use tests_lines::nodes::is_finished;
 use tests_lines::tap::{End, Tap};
 use tests_samples::{Machine, SENDER, loaded};
@@ -72,18 +72,22 @@ fn turns_made(gathered: &Gathered<Coordinator<'_>, Federate<'_>>) -> Option<usiz
 }
 
 /// How many turns a federate makes before these and its attempts to connect are as many as it has.
-fn turns_beside_attempts<R: Machine>(rt: &R, connects: bool) -> Option<usize> {
+fn turns_beside_attempts<R: Machine>(rt: &R, nodes: Nodes, connects: bool) -> Option<usize> {
     let federation = loaded(rt.alloc(), SENDER, "")?;
     let in_vain = InVain {
         connects,
         attempts: AtomicU64::new(0),
         has_waited_in_vain: AtomicBool::new(false),
     };
-    let terms = Terms {
-        turns: TURNS,
-        frames: 2,
+    let setting = Setting {
+        nodes,
+        gate: &in_vain,
+        terms: Terms {
+            turns: TURNS,
+            frames: 2,
+        },
     };
-    let gathered = ran_in_memory(rt, rt.alloc(), &federation, &in_vain, &in_vain, terms)?;
+    let gathered = ran_in_memory(rt, rt.alloc(), &federation, setting, &in_vain)?;
     if in_vain.has_waited_in_vain.load(Ordering::SeqCst) {
         return None;
     }
@@ -94,8 +98,13 @@ fn turns_beside_attempts<R: Machine>(rt: &R, connects: bool) -> Option<usize> {
 /// attempts came.
 #[test]
 fn counts_attempts_that_come_to_nothing_as_turns(rt: HostRuntime) {
-    for connects in [false, true] {
-        let turns = turns_beside_attempts(&rt, connects);
-        assert!(rt; matches!(turns, Some(1..=2)), "{connects}: {turns:?}");
+    for nodes in EACH_WAY {
+        for connects in [false, true] {
+            let turns = turns_beside_attempts(&rt, nodes, connects);
+            assert!(rt;
+                matches!(turns, Some(1..=2)),
+                "{nodes:?}, {connects}: {turns:?}"
+            );
+        }
     }
 }

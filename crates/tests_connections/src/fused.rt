@@ -8,7 +8,7 @@ use std::sync::Wait;
 use std::sync::atomic::{AtomicU64, Ordering};
 use std::thread::Threads;
 use std::time::Clock;
-use tests_lines::lines::{AMPLE, ran_in_memory, ran_over_tcp};
+use tests_lines::lines::{EACH_WAY, Nodes, Setting, ran_in_memory, ran_over_tcp};
 use tests_lines::reported::is_right;
 use tests_lines::tap::{End, Fate, Tap};
 use tests_samples::{COUNTER, Federation, Machine, loaded};
@@ -97,10 +97,12 @@ impl<'a> Tap for Fuses<'a> {
 fn mends<R: Threads + Wait + Clock + Sync>(
     rt: &R,
     alloc: Global,
+    nodes: Nodes,
     federation: &Federation,
     fuses: &Fuses<'_>,
 ) -> bool {
-    let gathered = ran_in_memory(rt, alloc, federation, &NoGate, fuses, AMPLE);
+    let setting = Setting::ample(nodes, &NoGate);
+    let gathered = ran_in_memory(rt, alloc, federation, setting, fuses);
     is_right(alloc, federation, gathered)
 }
 
@@ -109,6 +111,7 @@ fn mends<R: Threads + Wait + Clock + Sync>(
 fn mends_each<R: Threads + Wait + Clock + Sync>(
     rt: &R,
     alloc: Global,
+    nodes: Nodes,
     federation: &Federation,
     over: Over,
 ) -> Result<u64, u64> {
@@ -118,7 +121,7 @@ fn mends_each<R: Threads + Wait + Clock + Sync>(
             first: &fuse,
             second: &fuse,
         };
-        if !mends(rt, alloc, federation, &fuses) {
+        if !mends(rt, alloc, nodes, federation, &fuses) {
             return Err(passing);
         }
         if !fuse.has_blown() {
@@ -129,20 +132,22 @@ fn mends_each<R: Threads + Wait + Clock + Sync>(
 }
 
 /// The same of the counter; none where it isn't loaded.
-fn mends_counter<R: Machine>(rt: &R, over: Over) -> Option<Result<u64, u64>> {
+fn mends_counter<R: Machine>(rt: &R, nodes: Nodes, over: Over) -> Option<Result<u64, u64>> {
     let federation = loaded(rt.alloc(), COUNTER, "")?;
-    Some(mends_each(rt, rt.alloc(), &federation, over))
+    Some(mends_each(rt, rt.alloc(), nodes, &federation, over))
 }
 
 /// Each of the four ends sends twice at least, and reads twice.
 const FEWEST_CALLS: u64 = 16;
 
 fn assert_mends<R: Machine>(rt: &R, over: Over) {
-    let mended = mends_counter(rt, over);
-    assert!(rt;
-        matches!(mended, Some(Ok(calls)) if calls >= FEWEST_CALLS),
-        "{over:?}: {mended:?}"
-    );
+    for nodes in EACH_WAY {
+        let mended = mends_counter(rt, nodes, over);
+        assert!(rt;
+            matches!(mended, Some(Ok(calls)) if calls >= FEWEST_CALLS),
+            "{nodes:?}, {over:?}: {mended:?}"
+        );
+    }
 }
 
 #[test]
@@ -161,7 +166,7 @@ fn mends_each_failure_before_the_last_byte(rt: HostRuntime) {
 }
 
 /// Whether each federate's connection breaks once, and a run is right.
-fn mends_both<R: Machine>(rt: &R) -> Option<bool> {
+fn mends_both<R: Machine>(rt: &R, nodes: Nodes) -> Option<bool> {
     let federation = loaded(rt.alloc(), COUNTER, "")?;
     let first = Fuse::new(6, Over::One);
     let second = Fuse::new(6, Over::One);
@@ -169,18 +174,21 @@ fn mends_both<R: Machine>(rt: &R) -> Option<bool> {
         first: &first,
         second: &second,
     };
-    let is_mended = mends(rt, rt.alloc(), &federation, &fuses);
+    let is_mended = mends(rt, rt.alloc(), nodes, &federation, &fuses);
     Some(is_mended && first.has_blown() && second.has_blown())
 }
 
 #[test]
 fn mends_a_failure_of_each_connection(rt: HostRuntime) {
-    assert_eq!(rt; mends_both(&rt), Some(true));
+    for nodes in EACH_WAY {
+        assert_eq!(rt; mends_both(&rt, nodes), Some(true), "{nodes:?}");
+    }
 }
 
 /// Whether a run over TCP is right though this call fails; none where it didn't fail.
 fn mends_over_tcp<R: Machine + Net<Stream = TcpStream, Listener = TcpListener>>(
     rt: &R,
+    nodes: Nodes,
     passing: u64,
     over: Over,
 ) -> Option<bool> {
@@ -190,7 +198,8 @@ fn mends_over_tcp<R: Machine + Net<Stream = TcpStream, Listener = TcpListener>>(
         first: &fuse,
         second: &fuse,
     };
-    let gathered = ran_over_tcp(rt, rt.alloc(), &federation, &NoGate, &fuses, AMPLE);
+    let setting = Setting::ample(nodes, &NoGate);
+    let gathered = ran_over_tcp(rt, rt.alloc(), &federation, setting, &fuses);
     let is_mended = is_right(rt.alloc(), &federation, gathered);
     if fuse.has_blown() {
         Some(is_mended)
@@ -203,11 +212,13 @@ fn mends_over_tcp<R: Machine + Net<Stream = TcpStream, Listener = TcpListener>>(
 fn mends_failures_over_tcp(rt: HostRuntime) {
     for passing in [0, 3, 5, 8, 10, 13, 15] {
         for over in [Over::Nothing, Over::One, Over::AllButOne] {
-            assert_eq!(rt;
-                mends_over_tcp(&rt, passing, over),
-                Some(true),
-                "{over:?} of call {passing}"
-            );
+            for nodes in EACH_WAY {
+                assert_eq!(rt;
+                    mends_over_tcp(&rt, nodes, passing, over),
+                    Some(true),
+                    "{nodes:?}: {over:?} of call {passing}"
+                );
+            }
         }
     }
 }

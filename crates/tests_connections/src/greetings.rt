@@ -3,7 +3,7 @@ use signal::Frame;
 use std::alloc::Global;
 use std::sync::atomic::{AtomicU64, Ordering};
 use tests_lines::federations::BY_TURNS;
-use tests_lines::lines::{AMPLE, ran_in_memory};
+use tests_lines::lines::{EACH_WAY, Nodes, Setting, ran_in_memory};
 use tests_lines::reported::is_right;
 use tests_lines::tap::{End, Fate, Tap, frames_of};
 use tests_samples::{Machine, loaded};
@@ -48,7 +48,7 @@ impl Tap for Beginnings {
 }
 
 /// How many ends of connections begin with a Hello, and how many don't; none where the run isn't right.
-fn begun<R: Machine>(rt: &R) -> Option<(u64, u64)> {
+fn begun<R: Machine>(rt: &R, nodes: Nodes) -> Option<(u64, u64)> {
     let federation = loaded(rt.alloc(), BY_TURNS, "")?;
     let beginnings = Beginnings {
         alloc: rt.alloc(),
@@ -56,7 +56,8 @@ fn begun<R: Machine>(rt: &R) -> Option<(u64, u64)> {
         greeted: AtomicU64::new(0),
         others: AtomicU64::new(0),
     };
-    let gathered = ran_in_memory(rt, rt.alloc(), &federation, &NoGate, &beginnings, AMPLE);
+    let setting = Setting::ample(nodes, &NoGate);
+    let gathered = ran_in_memory(rt, rt.alloc(), &federation, setting, &beginnings);
     if is_right(rt.alloc(), &federation, gathered) {
         let greeted = beginnings.greeted.load(Ordering::SeqCst);
         let others = beginnings.others.load(Ordering::SeqCst);
@@ -69,9 +70,11 @@ fn begun<R: Machine>(rt: &R) -> Option<(u64, u64)> {
 /// The two first connections have two ends each, and each of three failures makes a new connection.
 #[test]
 fn begins_each_connection_with_a_greeting(rt: HostRuntime) {
-    let begun = begun(&rt);
-    assert!(rt;
-        matches!(begun, Some((greeted, 0)) if greeted >= 7),
-        "{begun:?}"
-    );
+    for nodes in EACH_WAY {
+        let begun = begun(&rt, nodes);
+        assert!(rt;
+            matches!(begun, Some((greeted, 0)) if greeted >= 7),
+            "{nodes:?}: {begun:?}"
+        );
+    }
 }

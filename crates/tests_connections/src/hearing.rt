@@ -5,7 +5,7 @@ use federate::Federate;
 use node::Event;
 use tests_lines::federations::BY_TURNS;
 use tests_lines::journals::count_of;
-use tests_lines::lines::{AMPLE, ran_in_memory};
+use tests_lines::lines::{EACH_WAY, Nodes, Setting, ran_in_memory};
 use tests_lines::reported::is_right;
 use tests_lines::tap::Untouched;
 use tests_samples::{Federation, Machine, loaded};
@@ -23,8 +23,9 @@ fn has_resent(gathered: &Gathered<Coordinator<'_>, Federate<'_>>) -> bool {
 }
 
 /// Whether a run sent something again; none where it isn't right.
-fn resends<R: Machine>(rt: &R, federation: &Federation) -> Option<bool> {
-    let gathered = ran_in_memory(rt, rt.alloc(), federation, &NoGate, &Untouched, AMPLE)?;
+fn resends<R: Machine>(rt: &R, nodes: Nodes, federation: &Federation) -> Option<bool> {
+    let setting = Setting::ample(nodes, &NoGate);
+    let gathered = ran_in_memory(rt, rt.alloc(), federation, setting, &Untouched)?;
     let has_resent = has_resent(&gathered);
     if is_right(rt.alloc(), federation, Some(gathered)) {
         Some(has_resent)
@@ -35,10 +36,10 @@ fn resends<R: Machine>(rt: &R, federation: &Federation) -> Option<bool> {
 
 /// Whether one of this many runs sends nothing again. A machine with much else to do may keep a federate waiting in
 /// some of them.
-fn hears<R: Machine>(rt: &R, runs: u32) -> Option<bool> {
+fn hears<R: Machine>(rt: &R, nodes: Nodes, runs: u32) -> Option<bool> {
     let federation = loaded(rt.alloc(), BY_TURNS, "")?;
     for _ in 0..runs {
-        if !resends(rt, &federation)? {
+        if !resends(rt, nodes, &federation)? {
             return Some(true);
         }
     }
@@ -49,5 +50,7 @@ fn hears<R: Machine>(rt: &R, runs: u32) -> Option<bool> {
 /// in each run.
 #[test]
 fn is_woken_by_each_thing_that_it_waits_for(rt: HostRuntime) {
-    assert_eq!(rt; hears(&rt, 30), Some(true));
+    for nodes in EACH_WAY {
+        assert_eq!(rt; hears(&rt, nodes, 30), Some(true), "{nodes:?}");
+    }
 }

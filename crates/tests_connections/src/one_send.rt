@@ -5,7 +5,7 @@ use signal::FrameReader;
 use std::alloc::Global;
 use std::sync::atomic::{AtomicU64, Ordering};
 use tests_lines::federations::BY_TURNS;
-use tests_lines::lines::ran_in_memory;
+use tests_lines::lines::{EACH_WAY, Nodes, Setting, ran_in_memory};
 use tests_lines::reported::is_right;
 use tests_lines::tap::{End, Fate, Tap};
 use tests_samples::{Machine, loaded};
@@ -77,9 +77,14 @@ impl Tap for Once {
 }
 
 /// How often src and snk connect in a run in which this befalls one send; none where the run isn't right.
-fn connections<R: Machine>(rt: &R, once: &Once) -> Option<[u64; 2]> {
+fn connections<R: Machine>(rt: &R, nodes: Nodes, once: &Once) -> Option<[u64; 2]> {
     let federation = loaded(rt.alloc(), BY_TURNS, "")?;
-    let gathered = ran_in_memory(rt, rt.alloc(), &federation, &NoGate, once, TERMS);
+    let setting = Setting {
+        nodes,
+        gate: &NoGate,
+        terms: TERMS,
+    };
+    let gathered = ran_in_memory(rt, rt.alloc(), &federation, setting, once);
     if is_right(rt.alloc(), &federation, gathered) {
         Some(once.connections())
     } else {
@@ -114,11 +119,11 @@ fn fault(alloc: Global, bytes: &[u8]) -> Option<u16> {
 
 /// Whether bytes that are no frame end their connection, and no other, wherever they come behind one of src's first
 /// sends.
-fn ends_one_connection<R: Machine>(rt: &R, bytes: &'static [u8]) -> bool {
+fn ends_one_connection<R: Machine>(rt: &R, nodes: Nodes, bytes: &'static [u8]) -> bool {
     for end in SRC {
         for nth in 0..3 {
             let once = Once::new(*end, nth, Fate::followed(bytes));
-            if connections(rt, &once) != Some([2, 1]) {
+            if connections(rt, nodes, &once) != Some([2, 1]) {
                 return false;
             }
         }
@@ -130,22 +135,29 @@ fn ends_one_connection<R: Machine>(rt: &R, bytes: &'static [u8]) -> bool {
 fn ends_a_connection_on_which_something_is_no_frame(rt: HostRuntime) {
     for (number, bytes) in MALICIOUS {
         assert_eq!(rt; fault(rt.alloc(), *bytes), Some(*number));
-        assert!(rt; ends_one_connection(&rt, *bytes), "{number}");
+        for nodes in EACH_WAY {
+            assert!(rt;
+                ends_one_connection(&rt, nodes, *bytes),
+                "{nodes:?}: {number}"
+            );
+        }
     }
 }
 
 /// How often src and snk connect where this much of a send goes, and it fails.
 #[test]
 fn ends_a_connection_on_which_a_send_failed(rt: HostRuntime) {
-    for end in SRC {
-        for nth in 0..3 {
-            for goes in [0, 1, 19] {
-                let once = Once::new(*end, nth, Fate::broken(goes));
-                assert_eq!(rt;
-                    connections(&rt, &once),
-                    Some([2, 1]),
-                    "{goes} bytes of send {nth} of {end:?}"
-                );
+    for nodes in EACH_WAY {
+        for end in SRC {
+            for nth in 0..3 {
+                for goes in [0, 1, 19] {
+                    let once = Once::new(*end, nth, Fate::broken(goes));
+                    assert_eq!(rt;
+                        connections(&rt, nodes, &once),
+                        Some([2, 1]),
+                        "{nodes:?}: {goes} bytes of send {nth} of {end:?}"
+                    );
+                }
             }
         }
     }
@@ -154,14 +166,16 @@ fn ends_a_connection_on_which_a_send_failed(rt: HostRuntime) {
 /// What is lost without breaking a connection is sent again, at either end.
 #[test]
 fn sends_again_what_was_lost(rt: HostRuntime) {
-    for end in SRC {
-        for nth in 0..4 {
-            let once = Once::new(*end, nth, Fate::lost());
-            assert_eq!(rt;
-                connections(&rt, &once),
-                Some([1, 1]),
-                "send {nth} of {end:?}"
-            );
+    for nodes in EACH_WAY {
+        for end in SRC {
+            for nth in 0..4 {
+                let once = Once::new(*end, nth, Fate::lost());
+                assert_eq!(rt;
+                    connections(&rt, nodes, &once),
+                    Some([1, 1]),
+                    "{nodes:?}: send {nth} of {end:?}"
+                );
+            }
         }
     }
 }

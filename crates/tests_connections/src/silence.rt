@@ -4,7 +4,7 @@
 use node::Event;
 use std::alloc::Global;
 use tests_lines::journals::events_of;
-use tests_lines::lines::ran_in_memory;
+use tests_lines::lines::{EACH_WAY, Nodes, Setting, ran_in_memory};
 use tests_lines::tap::{End, Fate, Tap};
 use tests_samples::{Machine, SENDER, loaded};
 use wires::Terms;
@@ -55,19 +55,25 @@ fn turns_between(alloc: Global, journal: &[Event]) -> Option<usize> {
 }
 
 /// The same of a federate to which nothing comes. It has connected long before the last resendings.
-fn turns_between_resendings<R: Machine>(rt: &R) -> Option<usize> {
+fn turns_between_resendings<R: Machine>(rt: &R, nodes: Nodes) -> Option<usize> {
     let federation = loaded(rt.alloc(), SENDER, "")?;
-    let terms = Terms {
-        turns: 205,
-        frames: 2,
+    let setting = Setting {
+        nodes,
+        gate: &NoGate,
+        terms: Terms {
+            turns: 205,
+            frames: 2,
+        },
     };
-    let gathered = ran_in_memory(rt, rt.alloc(), &federation, &NoGate, &Losing, terms)?;
+    let gathered = ran_in_memory(rt, rt.alloc(), &federation, setting, &Losing)?;
     let events = events_of(rt.alloc(), gathered.federates.first()?.journal())?;
     turns_between(rt.alloc(), &events)
 }
 
 #[test]
 fn sends_again_after_ten_waits(rt: HostRuntime) {
-    assert_eq!(rt; turns_between_resendings(&rt), Some(10));
+    for nodes in EACH_WAY {
+        assert_eq!(rt; turns_between_resendings(&rt, nodes), Some(10), "{nodes:?}");
+    }
     assert_eq!(rt; (RUNNER_WAIT_MS, WAITS_BEFORE_RESEND), (10, 10));
 }

@@ -1,6 +1,6 @@
 //! What `audit` answers and prints of report files: those of worked federations, and some that aren't taken or aren't
 //! believed.
-use crate::files::{Outcome, outcome_over};
+use crate::files::outcome_of_files;
 use crate::report_files::{
     ALL_ROUNDS, ReportFiles, empty_report, reports_of, with_other_peer, with_other_value,
 };
@@ -9,6 +9,7 @@ use sha2::{Digest, Sha256};
 use std::alloc::Global;
 use std::net::{Net, TcpListener, TcpStream};
 use std::test::Fail;
+use tests_outcomes::Outcome;
 use tests_samples::worked_rows::{
     CARRIED_ROWS, CHAIN_ROWS, COUNTER_ROWS, LOOP_ROWS, REPLACED_ROWS,
 };
@@ -82,7 +83,7 @@ fn outcome_of_reports<'x, R: Machine + Net<Stream = TcpStream, Listener = TcpLis
         ("1", federate_file(reports, 1)),
         ("2", federate_file(reports, 2)),
     ];
-    outcome_over(rt, words, &files, &NoProgress)
+    outcome_of_files(rt, words, &files, &NoProgress)
 }
 
 #[test]
@@ -319,7 +320,7 @@ impl CounterFiles {
             ("02", self.early.federates.first()?.as_slice()),
             ("12", self.early.federates.get(1)?.as_slice()),
         ];
-        outcome_over(rt, words, &files, &NoProgress)
+        outcome_of_files(rt, words, &files, &NoProgress)
     }
 }
 
@@ -388,7 +389,7 @@ fn outcome_of_three<'x, R: Machine + Net<Stream = TcpStream, Listener = TcpListe
         ("0", first),
         ("1", second),
     ];
-    outcome_over(rt, TWO, &files, &NoProgress)
+    outcome_of_files(rt, TWO, &files, &NoProgress)
 }
 
 /// What comes of each change of a byte in each of the counter's three files; and how many changes there are.

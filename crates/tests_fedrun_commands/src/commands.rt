@@ -1,5 +1,6 @@
 //! What the commands print with `--csv`. The lines are reckoned by hand.
-use crate::files::{Outcome, Texts, outcome_of};
+use crate::files::{Texts, outcome_of};
+use tests_outcomes::shown;
 use tests_samples::{CARRIED, CARRIED_INPUTS, CHAIN, CHAIN_INPUT, COUNTER, REPLACED};
 
 const COUNTER_ALONE: Texts = Texts {
@@ -240,11 +241,6 @@ const REFUSED: &[(&[&str], Texts, u8, &str)] = &[
         "fedrun: usage\n",
     ),
 ];
-
-/// The status, and what is on standard output and on standard error; None where there is no outcome.
-fn shown(outcome: &Option<Outcome>) -> Option<(u8, &str, &str)> {
-    outcome.as_ref().map(Outcome::texts)
-}
 
 #[test]
 fn whole_prints_comma_separated_values(rt: HostRuntime) {

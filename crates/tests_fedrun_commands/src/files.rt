@@ -1,10 +1,11 @@
-//! What a command answers and writes, over files in memory.
+//! Files in memory by their names, and what a command answers and writes over them.
 use fedrun_commands::command;
 use fedrun_files::{FileFault, Files};
 use fedrun_progress::{NoProgress, Progress};
 use std::alloc::Global;
 use std::io::Write;
 use std::net::{Net, TcpListener, TcpStream};
+use tests_outcomes::{Outcome, given, outcome_told};
 use tests_samples::Machine;
 
 /// The texts of the files `f`, `i` and `s`: a federation, its inputs, and a schedule.
@@ -36,32 +37,17 @@ impl Files for NamedFiles<'_> {
     }
 }
 
-/// What a command answered and wrote.
-#[derive(Drop)]
-pub struct Outcome {
-    status: u8,
-    out: String,
-    err: String,
-}
-
-impl Outcome {
-    /// The status, and what is on standard output and on standard error.
-    pub fn texts(&self) -> (u8, &str, &str) {
-        (self.status, self.out.as_str(), self.err.as_str())
-    }
-}
-
 /// What the words give over these files; None where there is no memory.
 pub fn outcome_of<R: Machine + Net<Stream = TcpStream, Listener = TcpListener>>(
     rt: &R,
     words: &[&str],
     texts: Texts,
 ) -> Option<Outcome> {
-    outcome_told(rt, words, texts, &NoProgress)
+    outcome_of_told(rt, words, texts, &NoProgress)
 }
 
-/// What the words give over these files, told how far they are; None where there is no memory.
-pub fn outcome_told<
+/// The same, where the command tells how far it is.
+pub fn outcome_of_told<
     R: Machine + Net<Stream = TcpStream, Listener = TcpListener>,
     P: Progress + Sync,
 >(rt: &R, words: &[&str], texts: Texts, progress: &P) -> Option<Outcome> {
@@ -70,23 +56,19 @@ pub fn outcome_told<
         ("i", texts.inputs.as_bytes()),
         ("s", texts.schedule.as_bytes()),
     ];
-    outcome_over(rt, words, &files, progress)
+    outcome_of_files(rt, words, &files, progress)
 }
 
 /// What the words give over files of these names and bytes; None where there is no memory.
-pub fn outcome_over<
+pub fn outcome_of_files<
     R: Machine + Net<Stream = TcpStream, Listener = TcpListener>,
     P: Progress + Sync,
 >(rt: &R, words: &[&str], files: &[(&str, &[u8])], progress: &P) -> Option<Outcome> {
-    let alloc = rt.alloc();
-    let mut out = Vec::new(alloc);
-    let mut err = Vec::new(alloc);
-    let status = answer_into(rt, words, files, &mut out, &mut err, progress)?;
-    Some(Outcome {
-        status,
-        out: String::from_utf8(out).ok()?,
-        err: String::from_utf8(err).ok()?,
-    })
+    let mut files = NamedFiles {
+        alloc: rt.alloc(),
+        files,
+    };
+    outcome_told(rt, words, &mut files, progress)
 }
 
 /// The status and what is on standard error, where standard output is this writer; None where there is no memory.
@@ -96,29 +78,10 @@ pub fn refusal_into<R: Machine + Net<Stream = TcpStream, Listener = TcpListener>
     files: &[(&str, &[u8])],
     out: &mut O,
 ) -> Option<(u8, String)> {
-    let mut err = Vec::new(rt.alloc());
-    let status = answer_into(rt, words, files, out, &mut err, &NoProgress)?;
-    Some((status, String::from_utf8(err).ok()?))
-}
-
-/// The status that the words give over files of these names and bytes.
-fn answer_into<
-    R: Machine + Net<Stream = TcpStream, Listener = TcpListener>,
-    O: Write,
-    P: Progress + Sync,
->(
-    rt: &R,
-    words: &[&str],
-    files: &[(&str, &[u8])],
-    out: &mut O,
-    err: &mut Vec<u8>,
-    progress: &P,
-) -> Option<u8> {
     let alloc = rt.alloc();
-    let mut given = Vec::new(alloc);
-    for word in words {
-        given.push(String::from_str(alloc, word).ok()?).ok()?;
-    }
+    let words = given(alloc, words)?;
     let mut files = NamedFiles { alloc, files };
-    Some(command(rt, given.as_slice(), &mut files, out, err, progress))
+    let mut err = Vec::new(alloc);
+    let status = command(rt, words.as_slice(), &mut files, out, &mut err, &NoProgress);
+    Some((status, String::from_utf8(err).ok()?))
 }

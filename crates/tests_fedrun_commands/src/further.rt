@@ -1,6 +1,7 @@
 //! What `frames`, `draw` and `lint` answer and write. The lines are reckoned by hand; of a picture the beginning and
 //! the end are looked at.
-use crate::files::{Outcome, Texts, outcome_of};
+use crate::files::{Texts, outcome_of};
+use tests_outcomes::{Outcome, shown};
 use tests_samples::COUNTER;
 
 /// The counter announces its first tag, and the coordinator grants it all.
@@ -124,10 +125,6 @@ const BEGUN: &[(&[&str], Texts, u8, &str, &str, &str)] = &[
         "fedrun: not taken\n",
     ),
 ];
-
-fn shown(outcome: &Option<Outcome>) -> Option<(u8, &str, &str)> {
-    outcome.as_ref().map(Outcome::texts)
-}
 
 #[test]
 fn answers_frames_draw_and_lint(rt: HostRuntime) {

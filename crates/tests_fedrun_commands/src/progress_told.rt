@@ -1,5 +1,5 @@
 //! What commands tell of how far they are.
-use crate::files::{Texts, outcome_told};
+use crate::files::{Texts, outcome_of_told};
 use fedrun_progress::Progress;
 use std::sync::atomic::{AtomicU64, Ordering};
 use tag::{Tag, Time};
@@ -66,7 +66,7 @@ deliver up src 1
 fn whole_tells_its_rows(rt: HostRuntime) {
     let told = Told::new();
     let words = &["whole", "f", "-", "100", "--progress"];
-    let outcome = outcome_told(&rt, words, COUNTER_AND_SCHEDULE, &told);
+    let outcome = outcome_of_told(&rt, words, COUNTER_AND_SCHEDULE, &told);
     assert!(rt; outcome.is_some_and(|outcome| outcome.texts().0 == 0));
     assert_eq!(rt; told.rows.load(Ordering::SeqCst), 6);
     assert_eq!(rt; told.latest_of_stop(), (20_000_000, 20_000_000));
@@ -78,7 +78,7 @@ fn whole_tells_its_rows(rt: HostRuntime) {
 fn run_tells_its_rows(rt: HostRuntime) {
     let told = Told::new();
     let words = &["run", "f", "-", "--progress"];
-    let outcome = outcome_told(&rt, words, COUNTER_AND_SCHEDULE, &told);
+    let outcome = outcome_of_told(&rt, words, COUNTER_AND_SCHEDULE, &told);
     assert!(rt; outcome.is_some_and(|outcome| outcome.texts().0 == 0));
     assert!(rt; told.rows.load(Ordering::SeqCst) >= 6);
     assert_eq!(rt; told.stop.load(Ordering::SeqCst), 20_000_000);
@@ -89,7 +89,7 @@ fn run_tells_its_rows(rt: HostRuntime) {
 fn replay_tells_its_steps(rt: HostRuntime) {
     let told = Told::new();
     let words = &["replay", "f", "-", "s", "--progress"];
-    let outcome = outcome_told(&rt, words, COUNTER_AND_SCHEDULE, &told);
+    let outcome = outcome_of_told(&rt, words, COUNTER_AND_SCHEDULE, &told);
     assert!(rt; outcome.is_some_and(|outcome| outcome.texts().0 == 0));
     assert_eq!(rt; told.steps.load(Ordering::SeqCst), 2);
     assert_eq!(rt; told.rows.load(Ordering::SeqCst), 0);

@@ -1,45 +1,10 @@
 //! Audits whose rows can't be written.
 use crate::files::refusal_into;
 use crate::report_files::{ALL_ROUNDS, ReportFiles, reports_of};
-use std::io;
+use crate::writers::{Narrow, Unflushed};
 use std::io::Write;
 use std::net::{Net, TcpListener, TcpStream};
 use tests_samples::{COUNTER, Machine};
-
-/// A writer that takes this many bytes, and then refuses.
-#[derive(Drop)]
-struct Narrow {
-    room: usize,
-}
-
-impl Write for Narrow {
-    fn write(&mut self, buf: &[u8]) -> io::Result<usize> {
-        if self.room == 0 {
-            return Err(io::Error::other("no room"));
-        }
-        let count = buf.len().min(self.room);
-        self.room -= count;
-        Ok(count)
-    }
-
-    fn flush(&mut self) -> io::Result<()> {
-        Ok(())
-    }
-}
-
-/// A writer that takes all, and then can't send it on.
-#[derive(Drop)]
-struct Unflushed;
-
-impl Write for Unflushed {
-    fn write(&mut self, buf: &[u8]) -> io::Result<usize> {
-        Ok(buf.len())
-    }
-
-    fn flush(&mut self) -> io::Result<()> {
-        Err(io::Error::other("no way out"))
-    }
-}
 
 /// What an audit of the counter's reports says whose rows go to this writer.
 fn refusal<R: Machine + Net<Stream = TcpStream, Listener = TcpListener>, O: Write>(

@@ -164,7 +164,7 @@ pub fn coordinated<R: Machine + Net<Stream = TcpStream, Listener = TcpListener> 
     let (coordinator, federates) = thread::join(
         rt,
         || {
-            let mut out = Spoken { rt, alloc, to };
+            let mut out = Spoken::new(rt, alloc, to);
             run_node(rt, given, &words, &mut out)
         },
         || {

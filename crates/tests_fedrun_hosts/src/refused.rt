@@ -8,25 +8,28 @@ use std::io;
 use std::net::{Net, TcpListener, TcpStream};
 use std::random::RandomSource;
 use std::test::Fail;
-use tests_samples::{COUNTER, Machine};
+use tests_samples::{COUNTER, Machine, REPLACED};
 use wires_transports::listen;
 
-/// The counter's files, with a secret, another one, one that is too short and another input file.
+/// The secret of all nodes.
+const SECRET: &str = "0123456789abcdef0123456789abcdef";
+
+/// The counter's files, with the secret, one that differs in its last byte, one that is too short, and one with a line
+/// feed at its end.
 const FILES: &[(&str, &str)] = &[
     ("f", COUNTER),
     ("i", ""),
-    ("secret", "0123456789abcdef"),
-    ("other", "0123456789abcdeg"),
+    ("secret", SECRET),
+    ("other", "0123456789abcdef0123456789abcdeg"),
     ("short", "0123456789abcde"),
-    ("line", "0123456789abcdef\n"),
+    ("line", "0123456789abcdef0123456789abcdef\n"),
 ];
 
 /// The same with another input file.
-const OTHER_FILES: &[(&str, &str)] = &[
-    ("f", COUNTER),
-    ("i", "# no input\n"),
-    ("secret", "0123456789abcdef"),
-];
+const OTHER_INPUTS: &[(&str, &str)] = &[("f", COUNTER), ("i", "# no input\n"), ("secret", SECRET)];
+
+/// The same with another federation file, which has a federate of the same name.
+const OTHER_FEDERATION: &[(&str, &str)] = &[("f", REPLACED), ("i", ""), ("secret", SECRET)];
 
 /// A coordinator that gives up after a second.
 const COORDINATOR: Given<'static> = Given {
@@ -62,9 +65,28 @@ const REFUSED: &[(Given<'static>, u8, &str, Left)] = &[
         "fedrun: 119 NotProved\n",
         Left::Report,
     ),
+    // Its turns are made: it has no patience.
     (
         Given {
-            files: OTHER_FILES,
+            more: &["--secret", "other", "--turns", "50"],
+            ..SRC
+        },
+        1,
+        "fedrun: 119 NotProved\n",
+        Left::Report,
+    ),
+    (
+        Given {
+            files: OTHER_INPUTS,
+            ..SRC
+        },
+        1,
+        "fedrun: 118 OtherFiles\n",
+        Left::Report,
+    ),
+    (
+        Given {
+            files: OTHER_FEDERATION,
             ..SRC
         },
         1,
@@ -189,6 +211,7 @@ const UNSAVED: &[(Operation, &str)] = &[
     (Operation::Rename, "fedrun: 120 Unsaved r: cannot rename\n"),
 ];
 
+/// Neither does it say so itself, nor does it tell federates, who would end with status 0 then.
 #[test]
 fn does_not_say_finished_where_its_report_is_not_saved(rt: HostRuntime) {
     for (failing, err) in UNSAVED {
@@ -206,10 +229,10 @@ fn does_not_say_finished_where_its_report_is_not_saved(rt: HostRuntime) {
             first.shown(),
             second.as_ref().map(Ended::shown),
         ));
-        let finished = ((0, "finished\n", ""), Left::Report);
+        let untold = ((3, "", "fedrun: not finished\n"), Left::Report);
         assert_eq!(rt;
             told,
-            Some((((3, "", *err), Left::Part), finished, Some(finished))),
+            Some((((3, "", *err), Left::Part), untold, Some(untold))),
             "{err}"
         );
     }

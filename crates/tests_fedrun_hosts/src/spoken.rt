@@ -1,31 +1,46 @@
 //! What a node says on standard output, as it says it.
 use crossbeam_channel::{Receiver, Sender};
 use std::alloc::Global;
-use std::io;
 use std::io::Write;
 use std::sync::Wait;
+use std::{io, mem};
 
-/// A writer whose bytes another thread hears.
+/// A writer whose bytes another thread hears, once they are flushed and not before, as those of a pipe.
 #[derive(Drop)]
 pub struct Spoken<'a, R> {
-    pub rt: &'a R,
-    pub alloc: Global,
-    pub to: Sender<Vec<u8>>,
+    rt: &'a R,
+    alloc: Global,
+    to: Sender<Vec<u8>>,
+    // What isn't flushed so far.
+    kept: Vec<u8>,
+}
+
+impl<'a, R> Spoken<'a, R> {
+    /// To the thread that has the other end.
+    pub fn new(rt: &'a R, alloc: Global, to: Sender<Vec<u8>>) -> Spoken<'a, R> {
+        Spoken {
+            rt,
+            alloc,
+            to,
+            kept: Vec::new(alloc),
+        }
+    }
 }
 
 impl<R: Wait> Write for Spoken<'_, R> {
     fn write(&mut self, buf: &[u8]) -> io::Result<usize> {
-        let Ok(bytes) = Vec::from_slice(self.alloc, buf) else {
-            return Err(io::Error::other("no memory"));
-        };
-        match self.to.send(self.rt, bytes) {
+        match self.kept.extend_from_slice(buf) {
             Ok(()) => Ok(buf.len()),
-            Err(_) => Err(io::Error::other("nobody hears")),
+            Err(_) => Err(io::Error::other("no memory")),
         }
     }
 
     fn flush(&mut self) -> io::Result<()> {
-        Ok(())
+        let kept = mem::replace(&mut self.kept, Vec::new(self.alloc));
+        match self.to.send(self.rt, kept) {
+            Ok(()) => Ok(()),
+            Err(_) => Err(io::Error::other("nobody hears")),
+        }
     }
 }
 

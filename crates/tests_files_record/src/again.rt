@@ -1,9 +1,8 @@
 //! A run is recorded, and its record is played again, by the program's commands over files in memory.
-use fedrun_commands::command;
 use fedrun_files::{FileFault, Files};
-use fedrun_progress::NoProgress;
 use std::alloc::Global;
 use std::net::{Net, TcpListener, TcpStream};
+use tests_outcomes::{Outcome, outcome_over, shown};
 use tests_samples::worked_rows::{
     CARRIED_ROWS, CHAIN_ROWS, COUNTER_ROWS, LOOP_ROWS, REPLACED_ROWS,
 };
@@ -35,48 +34,6 @@ impl Files for ThreeFiles<'_> {
     }
 }
 
-/// What a command answered and wrote.
-#[derive(Drop)]
-struct Outcome {
-    status: u8,
-    out: String,
-    err: String,
-}
-
-impl Outcome {
-    /// The status, and what is on standard output and on standard error.
-    fn texts(&self) -> (u8, &str, &str) {
-        (self.status, self.out.as_str(), self.err.as_str())
-    }
-}
-
-/// The words, as the program gets them.
-fn given(alloc: Global, words: &[&str]) -> Option<Vec<String>> {
-    let mut given = Vec::new(alloc);
-    for word in words {
-        given.push(String::from_str(alloc, word).ok()?).ok()?;
-    }
-    Some(given)
-}
-
-/// What the words give over these files.
-fn outcome_of<R: Machine + Net<Stream = TcpStream, Listener = TcpListener>>(
-    rt: &R,
-    words: &[&str],
-    files: &mut ThreeFiles<'_>,
-) -> Option<Outcome> {
-    let alloc = rt.alloc();
-    let words = given(alloc, words)?;
-    let mut out = Vec::new(alloc);
-    let mut err = Vec::new(alloc);
-    let status = command(rt, words.as_slice(), files, &mut out, &mut err, &NoProgress);
-    Some(Outcome {
-        status,
-        out: String::from_utf8(out).ok()?,
-        err: String::from_utf8(err).ok()?,
-    })
-}
-
 /// What a replay prints of the record of a run; None where the run isn't recorded.
 fn played_again<R: Machine + Net<Stream = TcpStream, Listener = TcpListener>>(
     rt: &R,
@@ -89,7 +46,7 @@ fn played_again<R: Machine + Net<Stream = TcpStream, Listener = TcpListener>>(
         inputs,
         schedule: "",
     };
-    let recorded = outcome_of(rt, &["record", "fed.toml", "in.toml"], &mut files)?;
+    let recorded = outcome_over(rt, &["record", "fed.toml", "in.toml"], &mut files)?;
     if recorded.status != 0 || !recorded.err.as_str().is_empty() {
         return None;
     }
@@ -99,7 +56,7 @@ fn played_again<R: Machine + Net<Stream = TcpStream, Listener = TcpListener>>(
         inputs,
         schedule: recorded.out.as_str(),
     };
-    outcome_of(
+    outcome_over(
         rt,
         &["replay", "fed.toml", "in.toml", "run.schedule"],
         &mut files,
@@ -128,11 +85,6 @@ fn text(text: &Option<String>) -> &str {
         Some(text) => text.as_str(),
         None => "no memory",
     }
-}
-
-/// The status, and what is on standard output and on standard error; None where there is no outcome.
-fn shown(outcome: &Option<Outcome>) -> Option<(u8, &str, &str)> {
-    outcome.as_ref().map(Outcome::texts)
 }
 
 #[test]
@@ -179,7 +131,7 @@ fn records_nothing_of_a_run_that_prints_nothing(rt: HostRuntime) {
             inputs: "",
             schedule: "",
         };
-        let outcome = outcome_of(&rt, words, &mut files);
+        let outcome = outcome_over(&rt, words, &mut files);
         assert_eq!(rt; shown(&outcome), Some((*status, "", *line)));
     }
 }

@@ -85,6 +85,12 @@ const UNRESERVED: &[(
     ),
     (
         None,
+        Some(PART),
+        Some(SaveFault::CannotCreate),
+        ReserveFault::Failed(SaveFault::CannotCreate),
+    ),
+    (
+        None,
         None,
         Some(SaveFault::CannotSync),
         ReserveFault::Failed(SaveFault::CannotSync),

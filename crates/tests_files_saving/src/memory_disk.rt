@@ -89,13 +89,18 @@ impl Disk for MemoryDisk {
     }
 
     fn create(&mut self, name: &str) -> Result<(), SaveFault> {
+        // As a machine on which no more files may be open: it says so before it looks for the name.
+        if self.fails == Some(SaveFault::CannotCreate) {
+            return Err(SaveFault::CannotCreate);
+        }
         if self.place_of(name).is_some() {
             return Err(SaveFault::Exists);
         }
-        if self.fails == Some(SaveFault::CannotCreate) || self.put(name, b"").is_none() {
+        if self.put(name, b"").is_none() {
             return Err(SaveFault::CannotCreate);
         }
         if self.fails == Some(SaveFault::CannotSync) {
+            self.take(name);
             return Err(SaveFault::CannotSync);
         }
         Ok(())

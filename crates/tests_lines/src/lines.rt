@@ -7,14 +7,12 @@ use federate::Federate;
 use std::alloc::Global;
 use std::net::{Net, SocketAddr, TcpListener, TcpStream};
 use std::sync::Wait;
-use std::thread::Threads;
-use std::time::Clock;
 use tests_samples::Federation;
-use wires::{Endpoint, Gathered, Terms, run};
+use wires::{Endpoint, FederationLines, Gathered, NetRuntime, NoAcceptor, Runtime, Terms, run};
 use wires_transports::tcp::connection;
 use wires_transports::{
-    Accepted, Acceptor, Connection, Cut, Dial, Ending, MemoryCut, MemoryTransport, TcpCut,
-    TcpTransport, Transport, pair,
+    Accepted, Connection, Cut, Dial, MemoryCut, MemoryTransport, TcpCut, TcpTransport, Transport,
+    pair,
 };
 use wires_workers::Gate;
 
@@ -23,6 +21,36 @@ pub const AMPLE: Terms = Terms {
     turns: 100_000,
     frames: 2,
 };
+
+/// How the nodes of a federation run. Nodes that run by themselves, as `coordinate` and `join` start them, are in
+/// `tests_fedrun_hosts`.
+#[derive(Clone, Copy, Debug, PartialEq, Eq)]
+pub enum Nodes {
+    /// Their workers are started together, as `run` starts them.
+    Together,
+}
+
+/// Each way to run nodes.
+pub const EACH_WAY: [Nodes; 1] = [Nodes::Together];
+
+/// How a federation runs.
+#[derive(Drop)]
+pub struct Setting<'g, G: Gate> {
+    pub nodes: Nodes,
+    pub gate: &'g G,
+    pub terms: Terms,
+}
+
+impl<'g, G: Gate> Setting<'g, G> {
+    /// With as many turns as each run needs that comes to its end.
+    pub fn ample(nodes: Nodes, gate: &'g G) -> Setting<'g, G> {
+        Setting {
+            nodes,
+            gate,
+            terms: AMPLE,
+        }
+    }
+}
 
 /// The two ends of a federate's connection: its own, and the coordinator's.
 #[derive(Drop)]
@@ -138,14 +166,6 @@ impl<'p, L: Pairing<T, C>, T: Drop, C: Drop> Dial<T, C> for PairDial<'p, L, T, C
     }
 }
 
-/// No connections come from outside.
-#[derive(Drop)]
-pub struct NoAcceptor;
-
-impl Acceptor for NoAcceptor {
-    fn let_in<R: Wait + Clock>(self, _rt: &R, _alloc: Global, _ending: &Ending) {}
-}
-
 /// The ways of this many federates to the coordinator.
 fn lines<'p, L: Pairing<T, C>, T: Drop, C: Drop>(
     alloc: Global,
@@ -168,7 +188,7 @@ fn lines<'p, L: Pairing<T, C>, T: Drop, C: Drop>(
 /// The desks after a run over connections that are made so; None where there are none.
 fn ran<
     'a,
-    R: Threads + Wait + Clock + Sync,
+    R: Runtime,
     G: Gate + Sync,
     T: Transport + Send,
     C: Cut + Send + Sync,
@@ -177,48 +197,57 @@ fn ran<
     rt: &R,
     alloc: Global,
     federation: &'a Federation,
-    gate: &G,
+    setting: Setting<'_, G>,
     pairing: &L,
-    terms: Terms,
 ) -> Option<Gathered<Coordinator<'a>, Federate<'a>>> {
-    let nodes = nodes_of(alloc, federation)?;
-    let lines = lines(alloc, nodes.federates.len(), pairing)?;
-    let left = run(rt, alloc, &nodes, lines, NoAcceptor, gate, terms).ok()?;
-    nodes.gather(alloc, left).ok()
+    match setting.nodes {
+        Nodes::Together => ran_together(rt, alloc, federation, setting, pairing),
+    }
 }
 
-/// The desks after a run over memory; None where there are none.
-pub fn ran_in_memory<'a, R: Threads + Wait + Clock + Sync, G: Gate + Sync, P: Tap + Sync>(
-    rt: &R,
-    alloc: Global,
-    federation: &'a Federation,
-    gate: &G,
-    tap: &P,
-    terms: Terms,
-) -> Option<Gathered<Coordinator<'a>, Federate<'a>>> {
-    ran(rt, alloc, federation, gate, &InMemory { tap }, terms)
-}
-
-/// The same over TCP.
-pub fn ran_over_tcp<
+/// The same where the nodes' workers are started together.
+fn ran_together<
     'a,
-    R: Threads + Wait + Clock + Net<Stream = TcpStream, Listener = TcpListener> + Sync,
+    R: Runtime,
     G: Gate + Sync,
-    P: Tap + Sync,
+    T: Transport + Send,
+    C: Cut + Send + Sync,
+    L: Pairing<T, C> + Sync,
 >(
     rt: &R,
     alloc: Global,
     federation: &'a Federation,
-    gate: &G,
-    tap: &P,
-    terms: Terms,
+    setting: Setting<'_, G>,
+    pairing: &L,
 ) -> Option<Gathered<Coordinator<'a>, Federate<'a>>> {
-    ran(
-        rt,
-        alloc,
-        federation,
-        gate,
-        &OverTcp { net: rt, tap },
-        terms,
-    )
+    let nodes = nodes_of(alloc, federation)?;
+    let lines = FederationLines {
+        federates: lines(alloc, nodes.federates.len(), pairing)?,
+        acceptor: NoAcceptor,
+    };
+    let Setting { gate, terms, .. } = setting;
+    let left = run(rt, alloc, &nodes, lines, gate, terms).ok()?;
+    nodes.gather(alloc, left).ok()
+}
+
+/// The desks after a run over memory; None where there are none.
+pub fn ran_in_memory<'a, R: Runtime, G: Gate + Sync, P: Tap + Sync>(
+    rt: &R,
+    alloc: Global,
+    federation: &'a Federation,
+    setting: Setting<'_, G>,
+    tap: &P,
+) -> Option<Gathered<Coordinator<'a>, Federate<'a>>> {
+    ran(rt, alloc, federation, setting, &InMemory { tap })
+}
+
+/// The same over TCP.
+pub fn ran_over_tcp<'a, R: NetRuntime, G: Gate + Sync, P: Tap + Sync>(
+    rt: &R,
+    alloc: Global,
+    federation: &'a Federation,
+    setting: Setting<'_, G>,
+    tap: &P,
+) -> Option<Gathered<Coordinator<'a>, Federate<'a>>> {
+    ran(rt, alloc, federation, setting, &OverTcp { net: rt, tap })
 }

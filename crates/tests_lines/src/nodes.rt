@@ -1,5 +1,6 @@
 //! The nodes of a federation, before a run and after it.
 use coordinator::Coordinator;
+use desk::Desk;
 use federate::Federate;
 use fedrun_run::{coordinator_desk, federate_desks};
 use node::Node;
@@ -8,12 +9,12 @@ use std::alloc::Global;
 use tests_samples::{Federation, are_rows_of, undivided};
 use wires::{Gathered, Nodes};
 
-/// The nodes of a federation, before their workers begin.
-pub fn nodes_of<'a>(
+/// The coordinator's desk and the federates', by number, before any event.
+pub fn desks_of<'a>(
     alloc: Global,
     federation: &'a Federation,
-) -> Option<Nodes<Coordinator<'a>, Federate<'a>>> {
-    let desks = federate_desks(
+) -> Option<(Desk<Coordinator<'a>>, Vec<Desk<Federate<'a>>>)> {
+    let federates = federate_desks(
         alloc,
         federation.plan(),
         federation.programs(),
@@ -21,7 +22,16 @@ pub fn nodes_of<'a>(
     )
     .ok()?;
     let coordinator = coordinator_desk(alloc, federation.plan()).ok()?;
-    Nodes::new(alloc, coordinator, desks).ok()
+    Some((coordinator, federates))
+}
+
+/// The nodes of a federation, before their workers begin.
+pub fn nodes_of<'a>(
+    alloc: Global,
+    federation: &'a Federation,
+) -> Option<Nodes<Coordinator<'a>, Federate<'a>>> {
+    let (coordinator, federates) = desks_of(alloc, federation)?;
+    Nodes::new(alloc, coordinator, federates).ok()
 }
 
 /// Whether the coordinator is finished.

@@ -13,7 +13,7 @@ use std::sync::atomic::{AtomicBool, AtomicU64, Ordering};
 use std::thread;
 use std::time::{Clock, Duration};
 use tests_lines::journals::count_of;
-use tests_lines::lines::ran_in_memory;
+use tests_lines::lines::{Nodes, Setting, ran_in_memory};
 use tests_lines::nodes::is_finished;
 use tests_lines::reported::reports;
 use tests_lines::tags::at;
@@ -248,7 +248,12 @@ fn told_of_run(
 fn told<R: Machine>(rt: &R) -> Option<(After, usize, u64)> {
     let federation = loaded(rt.alloc(), LATE, "")?;
     let lie = Lie::new(rt.alloc());
-    let gathered = ran_in_memory(rt, rt.alloc(), &federation, &lie, &lie, TERMS)?;
+    let setting = Setting {
+        nodes: Nodes::Together,
+        gate: &lie,
+        terms: TERMS,
+    };
+    let gathered = ran_in_memory(rt, rt.alloc(), &federation, setting, &lie)?;
     let connections = lie.connections()?;
     let (after, printed) = told_of_run(rt.alloc(), &federation, gathered)?;
     Some((after, printed, connections))

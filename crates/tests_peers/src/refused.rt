@@ -8,7 +8,7 @@ use signal::Frame;
 use std::alloc::Global;
 use std::sync::atomic::{AtomicBool, AtomicU64, Ordering};
 use tests_lines::journals::count_of;
-use tests_lines::lines::ran_in_memory;
+use tests_lines::lines::{Nodes, Setting, ran_in_memory};
 use tests_lines::nodes::is_finished;
 use tests_lines::tap::{End, Fate, Tap, frames_of};
 use tests_samples::{COUNTER, Machine, loaded};
@@ -127,7 +127,12 @@ fn after_run(gathered: &Gathered<Coordinator<'_>, Federate<'_>>) -> Option<After
 fn after_forging<R: Machine>(rt: &R, loses_refuse: bool) -> Option<(After, u64)> {
     let federation = loaded(rt.alloc(), COUNTER, "")?;
     let forging = Forging::new(rt.alloc(), loses_refuse);
-    let gathered = ran_in_memory(rt, rt.alloc(), &federation, &NoGate, &forging, TERMS)?;
+    let setting = Setting {
+        nodes: Nodes::Together,
+        gate: &NoGate,
+        terms: TERMS,
+    };
+    let gathered = ran_in_memory(rt, rt.alloc(), &federation, setting, &forging)?;
     let connections = forging.connections.load(Ordering::SeqCst);
     Some((after_run(&gathered)?, connections))
 }

@@ -17,11 +17,10 @@ use std::net::{Net, SocketAddr, TcpListener, TcpStream};
 use std::sync::Wait;
 use std::sync::atomic::{AtomicBool, Ordering};
 use std::thread;
-use std::thread::Threads;
 use std::time::{Clock, Duration};
 use tests_lines::journals::events_of;
 use tests_samples::Federation;
-use wires::{Endpoint, Nodes, Terms, WorkerResult, channels, run};
+use wires::{Endpoint, FederationLines, NetRuntime, Nodes, RunResults, Terms, channels, run};
 use wires_transports::{
     Accepted, Connection, Dial, ExpectedPeers, TcpAcceptor, TcpCut, TcpDial, TcpTransport, listen,
 };
@@ -219,11 +218,12 @@ pub(crate) fn with_blank<'f>(
 }
 
 /// How the federates connect, the blank one last, and what lets their connections in.
-#[derive(Drop)]
-struct Entrance<'r, 'a, 'f, 'm, M: Net<Stream = TcpStream, Listener = TcpListener>> {
-    lines: Vec<Endpoint<RelayDial<'r, 'a, 'f, 'm, M>, TcpTransport, TcpCut>>,
-    acceptor: TcpAcceptor<'m>,
-}
+type Entrance<'r, 'a, 'f, 'm, M> = FederationLines<
+    RelayDial<'r, 'a, 'f, 'm, M>,
+    TcpAcceptor<'m>,
+    TcpTransport,
+    TcpCut,
+>;
 
 /// On a port that the system gives. No connection comes by the number of the blank federate, which the coordinator
 /// doesn't know.
@@ -237,9 +237,12 @@ fn open<'r, 'a, 'f, 'm, M: Net<Stream = TcpStream, Listener = TcpListener>>(
     let address = listener.local_addr().ok()?;
     let (mut readers, arrivals) = channels(alloc, FEDERATES + 1).ok()?;
     readers.pop()?;
-    let lines = lines(net, alloc, relay, expected, address, arrivals)?;
+    let federates = lines(net, alloc, relay, expected, address, arrivals)?;
     let acceptor = TcpAcceptor::new(alloc, listener, expected, readers).ok()?;
-    Some(Entrance { lines, acceptor })
+    Some(FederationLines {
+        federates,
+        acceptor,
+    })
 }
 
 /// Each federate's way to that address.
@@ -266,14 +269,11 @@ fn lines<'r, 'a, 'f, 'm, M: Net<Stream = TcpStream, Listener = TcpListener>>(
 }
 
 /// Runs the nodes over TCP; what their workers leave.
-pub(crate) fn results<
-    'f,
-    R: Threads + Wait + Clock + Net<Stream = TcpStream, Listener = TcpListener> + Sync,
->(
+pub(crate) fn results<'f, R: NetRuntime>(
     rt: &R,
     alloc: Global,
     nodes: &Nodes<Coordinator<'f>, Federate<'f>>,
-) -> Option<Vec<Option<WorkerResult>>> {
+) -> Option<RunResults> {
     let relay = Relay {
         alloc,
         coordinator: &nodes.coordinator,
@@ -285,16 +285,13 @@ pub(crate) fn results<
 }
 
 /// The same, where the relay goes so, and connections are expected there.
-fn results_of<
-    'f,
-    R: Threads + Wait + Clock + Net<Stream = TcpStream, Listener = TcpListener> + Sync,
->(
+fn results_of<'f, R: NetRuntime>(
     rt: &R,
     alloc: Global,
     nodes: &Nodes<Coordinator<'f>, Federate<'f>>,
     relay: &Relay<'_, 'f>,
     expected: &ExpectedPeers,
-) -> Option<Vec<Option<WorkerResult>>> {
-    let Entrance { lines, acceptor } = open(rt, alloc, relay, expected)?;
-    run(rt, alloc, nodes, lines, acceptor, relay, TERMS).ok()
+) -> Option<RunResults> {
+    let lines = open(rt, alloc, relay, expected)?;
+    run(rt, alloc, nodes, lines, relay, TERMS).ok()
 }

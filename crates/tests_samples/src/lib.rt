@@ -6,11 +6,13 @@
 
 pub mod federation;
 pub mod machine;
+pub mod texts;
 pub mod undivided_rows;
 pub mod worked_rows;
 
 pub use federation::{Federation, load_both, loaded};
 pub use machine::Machine;
+pub use texts::joined;
 pub use undivided_rows::{are_rows_of, is_same, undivided};
 
 /// The counter's sender, with the stop time, and what follows it.
@@ -234,4 +236,17 @@ federate = "g"
 action = "p"
 time = "1 ns"
 value = 2
+"#;
+
+/// Two federates with a connection each way; how each is delayed comes after.
+pub const BOTH_WAYS: &str = r#"stop = "10 ms"
+federate = [
+    { name = "a", inputs = ["x"], outputs = ["y"] },
+    { name = "b", inputs = ["x"], outputs = ["y"] },
+]
+"#;
+
+/// Two federates to which nothing happens.
+pub const IDLE: &str = r#"stop = "20 ms"
+federate = [{ name = "a" }, { name = "b" }]
 "#;

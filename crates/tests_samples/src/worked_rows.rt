@@ -1,4 +1,4 @@
-//! The rows of worked federations, federate by federate.
+//! The rows of worked federations, federate by federate unless it is said.
 
 pub const COUNTER_ROWS: &str = "src (0, 0) [t] -> [y=1]
 src (10 ms, 0) [t] -> [y=2]
@@ -26,6 +26,16 @@ b (15 ms, 0) [act=7] -> [z=7]
 b (100 ms, 0) [p=9] -> [z=9]
 c (15 ms, 0) [w=7] -> [o=7]
 c (50 ms, 0) [t] -> [o=-1]
+c (100 ms, 0) [w=9] -> [o=9]
+";
+
+/// The chain's rows in the order of tags, as the undivided program prints them.
+pub const CHAIN_ROWS_BY_TAG: &str = "a (10 ms, 0) [t] -> [y=1]
+b (10 ms, 0) [x=1] -> []
+b (15 ms, 0) [act=7] -> [z=7]
+c (15 ms, 0) [w=7] -> [o=7]
+c (50 ms, 0) [t] -> [o=-1]
+b (100 ms, 0) [p=9] -> [z=9]
 c (100 ms, 0) [w=9] -> [o=9]
 ";
 

@@ -1,7 +1,7 @@
 //! Where both ends have version 2 and many signals wait, Batches go over a connection; where one has version 1, none
 //! does.
 use std::sync::atomic::{AtomicU64, Ordering};
-use tests_lines::lines::{AMPLE, ran_in_memory};
+use tests_lines::lines::{AMPLE, Nodes, Setting, ran_in_memory};
 use tests_lines::nodes::has_all_rows;
 use tests_lines::tap::{End, Fate, Tap};
 use tests_samples::{Machine, loaded};
@@ -69,7 +69,12 @@ fn batches_sent<R: Machine>(rt: &R, frames: u8) -> Option<u64> {
         sent: AtomicU64::new(0),
     };
     let terms = Terms { frames, ..AMPLE };
-    let gathered = ran_in_memory(rt, rt.alloc(), &federation, &NoGate, &counting, terms)?;
+    let setting = Setting {
+        nodes: Nodes::Together,
+        gate: &NoGate,
+        terms,
+    };
+    let gathered = ran_in_memory(rt, rt.alloc(), &federation, setting, &counting)?;
     if has_all_rows(rt.alloc(), &federation, &gathered) {
         Some(counting.sent.load(Ordering::SeqCst))
     } else {

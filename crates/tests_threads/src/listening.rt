@@ -1,4 +1,5 @@
 //! Where a run listens, and that one which can't listen anywhere ends.
+use std::alloc::Global;
 use std::io;
 use std::io::ErrorKind;
 use std::net::{Net, SocketAddr, TcpListener, TcpStream};
@@ -49,16 +50,24 @@ impl<'a, R> Net for Offline<'a, R> {
     }
 }
 
-/// Why a run gives no desks without a network, and whether whoever looks on sees its end.
-fn ends_offline<R: Machine>(rt: &R) -> Option<(Option<RunFault>, bool)> {
-    let federation = loaded(rt.alloc(), COUNTER, "")?;
-    let nodes = nodes_of(rt.alloc(), &federation)?;
+/// Why a run over this machine gives no desks, and whether whoever looks on sees its end.
+fn ended<R: Threads + Wait + Clock + Net<Stream = TcpStream, Listener = TcpListener> + Sync>(
+    rt: &R,
+    alloc: Global,
+) -> Option<(Option<RunFault>, bool)> {
+    let federation = loaded(alloc, COUNTER, "")?;
+    let nodes = nodes_of(alloc, &federation)?;
     let terms = Terms {
         turns: 100,
         frames: 2,
     };
-    let results = run_over_tcp(&Offline { rt }, rt.alloc(), &nodes, &NoGate, terms);
+    let results = run_over_tcp(rt, alloc, &nodes, &NoGate, terms);
     Some((results.err(), nodes.ending.is_set()))
+}
+
+/// The same without a network.
+fn ends_offline<R: Machine>(rt: &R) -> Option<(Option<RunFault>, bool)> {
+    ended(&Offline { rt }, rt.alloc())
 }
 
 #[test]

@@ -25,7 +25,7 @@ enum Part<'a> {
 }
 
 impl<'a> Work for Part<'a> {
-    fn work<R: Wait + Clock>(self, rt: &R, alloc: Global) -> Option<WorkerResult> {
+    fn work<R: Wait + Clock>(self, rt: &R, alloc: Global) -> WorkerResult {
         match self {
             Part::Write(queue, ending) => write(rt, alloc, queue, ending, 2),
             Part::OneByOne(queue, ending, mut incoming, came) => {
@@ -44,7 +44,7 @@ impl<'a> Work for Part<'a> {
                 }
             }
         }
-        None
+        WorkerResult::none()
     }
 }
 

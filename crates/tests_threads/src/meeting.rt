@@ -6,7 +6,7 @@ use std::sync::atomic::{AtomicBool, Ordering};
 use std::thread;
 use std::thread::Threads;
 use std::time::{Clock, Duration};
-use tests_lines::lines::{AMPLE, ran_in_memory};
+use tests_lines::lines::{Nodes, Setting, ran_in_memory};
 use tests_lines::nodes::is_finished;
 use tests_lines::tap::Untouched;
 use tests_samples::{APART, Federation, loaded};
@@ -70,7 +70,8 @@ fn meets<R: Threads + Wait + Clock + Sync>(
     federation: &Federation,
     meeting: &Meeting,
 ) -> bool {
-    match ran_in_memory(rt, alloc, federation, meeting, &Untouched, AMPLE) {
+    let setting = Setting::ample(Nodes::Together, meeting);
+    match ran_in_memory(rt, alloc, federation, setting, &Untouched) {
         Some(gathered) => is_finished(&gathered) && meeting.is_held(),
         None => false,
     }

@@ -1,5 +1,6 @@
 //! How long attempts to connect wait.
 use crate::entrance::{Entrance, Host, LONG_MS, Machine, Process, Visit, host_of, visited};
+use crate::simulated::{Counting, Nothing, Simulated};
 use std::alloc::Global;
 use std::io::Read;
 use std::net::{Net, SocketAddr, TcpListener, TcpStream};
@@ -42,42 +43,43 @@ fn nowhere<R: Host + Net<Stream = TcpStream, Listener = TcpListener>>(
     listener.local_addr().ok()
 }
 
-/// Whether eight attempts that come to nothing take their pauses, and the ninth none, behind something that was heard.
-fn keeps_pauses<R: Host + Net<Stream = TcpStream, Listener = TcpListener>>(
+/// When each of some attempts that come to nothing was over, in ms: eight in a row, and three behind something that was
+/// heard. An attempt itself takes no time, for nobody is there.
+fn attempted_at<R: Host + Net<Stream = TcpStream, Listener = TcpListener>>(
     rt: &R,
     alloc: Global,
-) -> Option<bool> {
+) -> Option<[u64; 11]> {
     let process = Process::new(alloc)?;
+    let source = Counting::new();
+    let machine = Simulated::new(rt, &source, Nothing);
     let dial = HostDial::new(
-        rt,
+        &machine,
         host_of(nowhere(rt)?, 0)?,
         &process.heard,
+        &process.last,
         &process.ending,
     );
-    let begin = Instant::now(rt).ok()?;
-    for _ in 0..8 {
-        if dial.dial(rt, alloc).is_some() {
+    let mut times = [0; 11];
+    for (number, time) in times.iter_mut().enumerate() {
+        if number == 8 {
+            process.heard.hear();
+        }
+        let is_in_vain = dial.dial(rt, alloc).is_none();
+        if !is_in_vain || process.heard.last_fault() != Some(DialFault::NotConnected) {
             return None;
         }
+        *time = machine.time();
     }
-    let pauses = begin.elapsed(rt).ok()?;
-    process.heard.hear();
-    let begin = Instant::now(rt).ok()?;
-    let is_in_vain = dial.dial(rt, alloc).is_none();
-    let pause = begin.elapsed(rt).ok()?;
-    let is_noted = process.heard.last_fault() == Some(DialFault::NotConnected)
-        && !process.ending.is_set();
-    Some(
-        pauses >= Duration::from_millis(1270)
-            && is_in_vain
-            && pause < Duration::from_millis(1000)
-            && is_noted,
-    )
+    if process.ending.is_set() {
+        return None;
+    }
+    Some(times)
 }
 
 #[test]
 fn keeps_the_pauses_between_attempts_that_fail(rt: HostRuntime) {
-    assert_eq!(rt; keeps_pauses(&rt, rt.alloc()), Some(true));
+    let times = [0, 10, 30, 70, 150, 310, 630, 1270, 1270, 1280, 1300];
+    assert_eq!(rt; attempted_at(&rt, rt.alloc()), Some(times));
 }
 
 /// Whether no attempt is made once the run is to end.

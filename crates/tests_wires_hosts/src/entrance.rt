@@ -1,4 +1,4 @@
-//! Where a coordinator of two federates lets processes in, and what a test does there.
+//! Where a coordinator of three federates lets processes in, and what a test does there.
 use crossbeam_channel::{Receiver, unbounded};
 use std::alloc::Global;
 use std::io::{ErrorKind, Read, Write};
@@ -11,7 +11,8 @@ use std::time::{Clock, Duration};
 use std::{io, thread};
 use wires_greeting::{FederateSide, Greeting, Key};
 use wires_hosts::{
-    DialFault, FederateHost, Heard, HeardTransport, HostAcceptor, HostDial, HostEntrance, listen_at,
+    DialFault, FederateHost, Heard, HeardTransport, HostAcceptor, HostDial, HostEntrance,
+    LastConnection, listen_at,
 };
 use wires_transports::{
     Accepted, Acceptor, Connection, Dial, Ending, TcpCut, TcpTransport, Transport,
@@ -39,6 +40,12 @@ pub const HELLO: [u8; 20] = [0, 0, 0, 16, 1, 1, 0, 0, 0, 0, 0, 1, 0, 0, 0, 0, 0,
 /// The Hello of federate 1.
 pub const OTHER_HELLO: [u8; 20] = [0, 0, 0, 16, 1, 1, 0, 1, 0, 0, 0, 1, 0, 0, 0, 0, 0, 0, 0, 0];
 
+/// The Hello of federate 2.
+pub const THIRD_HELLO: [u8; 20] = [0, 0, 0, 16, 1, 1, 0, 2, 0, 0, 0, 1, 0, 0, 0, 0, 0, 0, 0, 0];
+
+/// An acknowledgement.
+pub const ACKNOWLEDGEMENT: [u8; 20] = [0, 0, 0, 13, 3, 0, 0, 0, 1, 0, 0, 0, 0, 0, 0, 0, 2, 0, 0, 0];
+
 /// Longer than anything here takes.
 pub const LONG_MS: u64 = 20_000;
 
@@ -48,7 +55,7 @@ pub type Arrivals<'a> = Receiver<Accepted<HeardTransport<'a, TcpTransport>, TcpC
 /// A federate's connection.
 pub type Own<'a> = Connection<HeardTransport<'a, TcpTransport>, TcpCut>;
 
-/// Where a coordinator of two federates lets processes in.
+/// Where a coordinator of three federates lets processes in.
 #[derive(Drop)]
 pub struct Entrance<'a> {
     pub alloc: Global,
@@ -57,6 +64,7 @@ pub struct Entrance<'a> {
     pub ending: &'a Ending,
     pub first: Arrivals<'a>,
     pub second: Arrivals<'a>,
+    pub third: Arrivals<'a>,
 }
 
 /// What a test does at an entrance.
@@ -105,19 +113,16 @@ pub fn visited_by<
     let alloc = rt.alloc();
     let listener = listen_at(rt, SocketAddr::from(([127, 0, 0, 1], 0))).ok()?;
     let address = listener.local_addr().ok()?;
-    let heard = Heard::new(alloc, 2).ok()?;
+    let heard = Heard::new(alloc, 3).ok()?;
     let ending = Ending::new();
     let (first_reader, first) = unbounded(alloc).ok()?;
     let (second_reader, second) = unbounded(alloc).ok()?;
+    let (third_reader, third) = unbounded(alloc).ok()?;
     let mut readers = Vec::new(alloc);
     readers.push(first_reader).ok()?;
     readers.push(second_reader).ok()?;
-    let host = HostEntrance {
-        listener,
-        key: key_of(SECRET)?,
-        files: FILES,
-        patience: Duration::from_millis(V::PATIENCE_MS),
-    };
+    readers.push(third_reader).ok()?;
+    let host = host_at(listener, V::PATIENCE_MS)?;
     let acceptor = HostAcceptor::new(alloc, random, host, &heard, readers).ok()?;
     let entrance = Entrance {
         alloc,
@@ -126,6 +131,7 @@ pub fn visited_by<
         ending: &ending,
         first,
         second,
+        third,
     };
     let ((), seen) = thread::join(
         rt,
@@ -142,6 +148,31 @@ pub fn visited_by<
     Some(seen? && V::is_right(&heard))
 }
 
+/// What a coordinator that listens there has, and how long it tells whoever asks that the run is finished, in ms.
+fn host_at(listener: TcpListener, patience_ms: u64) -> Option<HostEntrance> {
+    Some(HostEntrance {
+        listener,
+        key: key_of(SECRET)?,
+        files: FILES,
+        patience: Duration::from_millis(patience_ms),
+    })
+}
+
+/// The acceptor of a coordinator of one federate that listens there, and what comes to its reader.
+pub fn acceptor_at<'a, S: RandomSource>(
+    alloc: Global,
+    random: &'a S,
+    listener: TcpListener,
+    heard: &'a Heard,
+) -> Option<(HostAcceptor<'a, S>, Arrivals<'a>)> {
+    let (reader, arrivals) = unbounded(alloc).ok()?;
+    let mut readers = Vec::new(alloc);
+    readers.push(reader).ok()?;
+    let host = host_at(listener, LONG_MS)?;
+    let acceptor = HostAcceptor::new(alloc, random, host, heard, readers).ok()?;
+    Some((acceptor, arrivals))
+}
+
 /// The key of a secret.
 pub fn key_of(secret: &[u8]) -> Option<Key> {
     Key::of_secret(secret).ok()
@@ -151,6 +182,7 @@ pub fn key_of(secret: &[u8]) -> Option<Key> {
 #[derive(Drop)]
 pub struct Process {
     pub heard: Heard,
+    pub last: LastConnection,
     pub ending: Ending,
 }
 
@@ -159,6 +191,7 @@ impl Process {
     pub fn new(alloc: Global) -> Option<Process> {
         Some(Process {
             heard: Heard::new(alloc, 0).ok()?,
+            last: LastConnection::new(),
             ending: Ending::new(),
         })
     }
@@ -170,7 +203,7 @@ impl Process {
         alloc: Global,
         host: FederateHost,
     ) -> Option<Own<'a>> {
-        HostDial::new(rt, host, &self.heard, &self.ending).dial(rt, alloc)
+        HostDial::new(rt, host, &self.heard, &self.last, &self.ending).dial(rt, alloc)
     }
 
     /// Whether the first attempt came to nothing for this, and whether the run is to end by it.
@@ -213,7 +246,9 @@ pub fn is_empty<R: Host + Net<Stream = TcpStream, Listener = TcpListener>>(
     rt: &R,
     entrance: &Entrance<'_>,
 ) -> bool {
-    entrance.first.try_recv(rt).is_err() && entrance.second.try_recv(rt).is_err()
+    entrance.first.try_recv(rt).is_err()
+        && entrance.second.try_recv(rt).is_err()
+        && entrance.third.try_recv(rt).is_err()
 }
 
 /// Whether what is sent at one end comes out at the other.
@@ -233,14 +268,15 @@ pub fn is_ended<R: Wait, T: Transport>(rt: &R, incoming: &mut T) -> bool {
 }
 
 /// Whether a connection is closed by the other end, behind at most this many bytes.
-pub fn is_closed(stream: &mut TcpStream, most: usize) -> bool {
+pub fn is_closed(stream: &TcpStream, most: usize) -> bool {
     let limit = Some(Duration::from_millis(LONG_MS));
     if stream.set_read_timeout(limit).is_err() {
         return false;
     }
+    let mut reader = stream;
     let mut room = [0; 1];
     for _ in 0..=most {
-        match stream.read(&mut room) {
+        match reader.read(&mut room) {
             Ok(0) => return true,
             Ok(_) => {}
             Err(error) => return error.kind() != ErrorKind::WouldBlock,
@@ -257,7 +293,7 @@ pub fn is_open(stream: &mut TcpStream) -> bool {
     }
 }
 
-/// A connection on which a federate greeted by hand, and all that it said.
+/// A connection on which a federate greeted by hand, and all that it said, but for its Hello.
 #[derive(Drop)]
 pub struct ByHand {
     pub stream: TcpStream,
@@ -271,8 +307,18 @@ pub fn greeted_by_hand<R: Host + Net<Stream = TcpStream, Listener = TcpListener>
     address: SocketAddr,
     random: [u8; 32],
 ) -> Option<ByHand> {
+    greeted_by_hand_as(rt, address, 0, random)
+}
+
+/// A federate greets by hand, up to its proof, which isn't sent.
+pub fn greeted_by_hand_as<R: Host + Net<Stream = TcpStream, Listener = TcpListener>>(
+    rt: &R,
+    address: SocketAddr,
+    federate: u16,
+    random: [u8; 32],
+) -> Option<ByHand> {
     let greeting = Greeting {
-        federate: 0,
+        federate,
         files: FILES,
         random,
     };

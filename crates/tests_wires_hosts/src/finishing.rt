@@ -9,7 +9,7 @@ use std::time::{Duration, Instant};
 use wires_greeting::Greeting;
 use wires_hosts::{DialFault, Heard};
 
-/// The run is finished: both federates' processes hear it, and end by it.
+/// The run is finished: all federates' processes hear it, and end by it.
 struct Told;
 
 impl Visit for Told {
@@ -19,7 +19,7 @@ impl Visit for Told {
     ) -> Option<bool> {
         entrance.ending.set();
         let no_more = entrance.first.recv(rt).is_err();
-        for federate in [0, 1] {
+        for federate in [0, 1, 2] {
             let process = Process::new(entrance.alloc)?;
             let host = host_of(entrance.address, federate)?;
             if !process.is_refused(rt, entrance.alloc, host, DialFault::Finished, true) {
@@ -30,7 +30,7 @@ impl Visit for Told {
     }
 
     fn is_right(heard: &Heard) -> bool {
-        heard.is_told(0) && heard.is_told(1) && heard.are_all_told()
+        heard.is_told(0) && heard.is_told(1) && heard.is_told(2) && heard.are_all_told()
     }
 }
 
@@ -71,7 +71,7 @@ fn answered<R: Host + Net<Stream = TcpStream, Listener = TcpListener>>(
 }
 
 /// Somebody without the secret greets as each federate and closes its side, or proves something else. Nobody is told by
-/// that: both federates' processes hear it still.
+/// that: all federates' processes hear it still.
 struct ByStrangers;
 
 impl Visit for ByStrangers {
@@ -81,17 +81,17 @@ impl Visit for ByStrangers {
     ) -> Option<bool> {
         entrance.ending.set();
         let no_more = entrance.first.recv(rt).is_err();
-        for federate in [0, 1] {
+        for federate in [0, 1, 2] {
             drop(answered(rt, entrance, federate)?);
             for proof in [[0; 32], [6; 32]] {
                 let mut stream = answered(rt, entrance, federate)?;
                 stream.write_all(&proof).ok()?;
-                if !is_closed(&mut stream, 0) || entrance.heard.is_told(usize::from(federate)) {
+                if !is_closed(&stream, 0) || entrance.heard.is_told(usize::from(federate)) {
                     return Some(false);
                 }
             }
         }
-        for federate in [0, 1] {
+        for federate in [0, 1, 2] {
             let process = Process::new(entrance.alloc)?;
             let host = host_of(entrance.address, federate)?;
             if !process.is_refused(rt, entrance.alloc, host, DialFault::Finished, true) {
@@ -125,7 +125,7 @@ impl Visit for NotProved {
         entrance.ending.set();
         let no_more = entrance.first.recv(rt).is_err();
         let mut stream = answered(rt, entrance, 0)?;
-        Some(no_more && is_closed(&mut stream, 0))
+        Some(no_more && is_closed(&stream, 0))
     }
 
     fn is_right(heard: &Heard) -> bool {

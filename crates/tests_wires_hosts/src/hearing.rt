@@ -39,6 +39,7 @@ fn is_given_up_behind<R: Machine>(rt: &R) -> Option<bool> {
         heard: &heard,
         ending: &ending,
         most: Some(Duration::from_millis(1000)),
+        last: None,
     };
     let (_, went_on) = thread::join(
         rt,
@@ -68,6 +69,7 @@ fn is_kept<R: Host>(rt: &R, alloc: Global, most: Option<Duration>) -> Option<boo
         heard: &heard,
         ending: &ending,
         most,
+        last: None,
     };
     let _ = patience.work(rt, alloc);
     Some(!heard.has_given_up() && heard.is_finished(&ending))

@@ -109,7 +109,7 @@ impl Visit for AmongSilent {
         own.outgoing.send(rt, &HELLO).ok()?;
         let mut let_in = next(rt, &entrance.first)?;
         let is_own = are_joined(rt, &mut let_in.connection.outgoing, &mut own.incoming);
-        let is_given_up = is_closed(silent.last_mut()?, 0);
+        let is_given_up = is_closed(silent.last()?, 0);
         Some(is_own && is_given_up && is_empty(rt, entrance))
     }
 }

@@ -1,7 +1,7 @@
 //! Tests of connections between machines, over TCP on loopback: who is let in, who isn't and what comes of it, and who
 //! hears that the run is finished. No program uses this crate.
 //!
-//! Begin with `entrance`, then `letting_in`.
+//! Begin with `entrance`, then `letting_in`; where time is the subject, with `simulated`, then `silences`.
 #![tactic(auto)]
 
 #[cfg(test)]
@@ -17,4 +17,12 @@ mod letting_in;
 #[cfg(test)]
 mod refusals;
 #[cfg(test)]
+mod silences;
+#[cfg(test)]
+mod simulated;
+#[cfg(test)]
+mod sources;
+#[cfg(test)]
 mod strangers;
+#[cfg(test)]
+mod watching;

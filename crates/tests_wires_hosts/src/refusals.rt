@@ -2,10 +2,12 @@
 use crate::entrance::{
     Entrance, FILES, Host, Machine, Process, SECRET, Visit, host_of, is_empty, key_of, visited,
 };
+use crate::simulated::{Counting, Meanwhile, Simulated, counted};
+use std::alloc::Global;
 use std::io::{Read, Write};
 use std::net::{Net, SocketAddr, TcpListener, TcpStream};
 use std::thread;
-use wires_greeting::CoordinatorSide;
+use wires_greeting::{CoordinatorSide, Greeting};
 use wires_hosts::{DialFault, FederateHost, listen_at};
 
 /// Another secret, other files, and a federate that isn't there: nobody is let in, and the run ends only by a refusal
@@ -27,7 +29,7 @@ impl Visit for Refused {
             files: [8; 32],
             ..right
         };
-        let not_there = host_of(entrance.address, 2)?;
+        let not_there = host_of(entrance.address, 3)?;
         for (host, fault, ends) in [
             (other_secret, DialFault::NotProved, false),
             (other_files, DialFault::OtherFiles, true),
@@ -134,4 +136,53 @@ fn ends_the_run_by_a_refusal_that_is_proved_alone(rt: HostRuntime) {
             "{says:?}"
         );
     }
+}
+
+/// A coordinator that says to whoever connects that the run is finished, and breaks the connection off without having
+/// read what came: nothing can be sent behind that.
+#[derive(Drop)]
+struct BrokenOff<'a> {
+    listener: &'a TcpListener,
+}
+
+impl<'a> Meanwhile for BrokenOff<'a> {
+    fn at(&self, _ms: u64) {
+        if let Ok((stream, _)) = self.listener.accept() {
+            let _ = say_finished(stream);
+        }
+    }
+}
+
+/// Says it to federate 0, whose random bytes are known.
+fn say_finished(stream: TcpStream) -> Option<()> {
+    let greeting = Greeting {
+        federate: 0,
+        files: FILES,
+        random: counted(0),
+    };
+    let mut side = CoordinatorSide::new(key_of(SECRET)?, FILES);
+    let challenge = side.greeted(&greeting.bytes(), &[9; 32], &[true], true)?;
+    let mut stream = stream;
+    stream.write_all(&challenge).ok()
+}
+
+/// Whether the federate's process believes it though it can't say that it heard so.
+fn believes_it<R: Host + Net<Stream = TcpStream, Listener = TcpListener>>(
+    rt: &R,
+    alloc: Global,
+) -> Option<bool> {
+    let listener = listen_at(rt, SocketAddr::from(([127, 0, 0, 1], 0))).ok()?;
+    let host = host_of(listener.local_addr().ok()?, 0)?;
+    let process = Process::new(alloc)?;
+    let source = Counting::new();
+    let meanwhile = BrokenOff {
+        listener: &listener,
+    };
+    let machine = Simulated::new(rt, &source, meanwhile);
+    Some(process.is_refused(&machine, alloc, host, DialFault::Finished, true))
+}
+
+#[test]
+fn believes_that_the_run_is_finished_though_its_proof_cannot_be_sent(rt: HostRuntime) {
+    assert_eq!(rt; believes_it(&rt, rt.alloc()), Some(true));
 }

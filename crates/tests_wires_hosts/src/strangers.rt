@@ -1,7 +1,7 @@
 //! Who isn't let in: no event comes of it, and a federate's process is let in behind it.
 use crate::entrance::{
-    ByHand, Entrance, HELLO, Host, OTHER_HELLO, Process, Visit, greeted_by_hand, host_of,
-    is_closed, is_empty, next, visited,
+    ACKNOWLEDGEMENT, ByHand, Entrance, HELLO, Host, OTHER_HELLO, Process, THIRD_HELLO, Visit,
+    greeted_by_hand, greeted_by_hand_as, host_of, is_closed, is_empty, next, visited,
 };
 use std::io::Write;
 use std::net::{Net, TcpListener, TcpStream};
@@ -40,7 +40,7 @@ impl Visit for PlayedAgain {
         again.write_all(&greeting).ok()?;
         again.write_all(&proof).ok()?;
         again.write_all(&HELLO).ok()?;
-        Some(is_closed(&mut again, 65) && is_empty(rt, entrance))
+        Some(is_closed(&again, 65) && is_empty(rt, entrance))
     }
 }
 
@@ -57,8 +57,7 @@ impl Visit for OtherFirst {
         rt: &R,
         entrance: &Entrance<'_>,
     ) -> Option<bool> {
-        let acknowledgement = [0, 0, 0, 13, 3, 0, 0, 0, 1, 0, 0, 0, 0, 0, 0, 0, 2, 0, 0, 0];
-        for first in [OTHER_HELLO, acknowledgement, [0xff; 20]] {
+        for first in [OTHER_HELLO, ACKNOWLEDGEMENT, [0xff; 20]] {
             let ByHand {
                 mut stream,
                 proof,
@@ -66,7 +65,7 @@ impl Visit for OtherFirst {
             } = greeted_by_hand(rt, entrance.address, [2; 32])?;
             stream.write_all(&proof).ok()?;
             stream.write_all(&first).ok()?;
-            if !is_closed(&mut stream, 0) {
+            if !is_closed(&stream, 0) {
                 return Some(false);
             }
         }
@@ -77,6 +76,48 @@ impl Visit for OtherFirst {
 #[test]
 fn closes_a_connection_that_begins_with_another_hello(rt: HostRuntime) {
     assert_eq!(rt; visited::<OtherFirst, _>(&rt), Some(true));
+}
+
+/// Behind its proof federate 2 says first that it is another one, or something else. Then it says what it should.
+struct ThirdFirst;
+
+impl Visit for ThirdFirst {
+    fn visit<R: Host + Net<Stream = TcpStream, Listener = TcpListener>>(
+        rt: &R,
+        entrance: &Entrance<'_>,
+    ) -> Option<bool> {
+        for first in [HELLO, OTHER_HELLO, ACKNOWLEDGEMENT, [0xff; 20]] {
+            let ByHand {
+                mut stream,
+                proof,
+                ..
+            } = greeted_by_hand_as(rt, entrance.address, 2, [9; 32])?;
+            stream.write_all(&proof).ok()?;
+            stream.write_all(&first).ok()?;
+            if !is_closed(&stream, 0) {
+                return Some(false);
+            }
+        }
+        let was_empty = is_empty(rt, entrance);
+        let ByHand {
+            mut stream,
+            proof,
+            ..
+        } = greeted_by_hand_as(rt, entrance.address, 2, [9; 32])?;
+        stream.write_all(&proof).ok()?;
+        stream.write_all(&THIRD_HELLO).ok()?;
+        let let_in = next(rt, &entrance.third)?;
+        Some(
+            was_empty
+                && let_in.first.as_slice() == THIRD_HELLO.as_slice()
+                && is_empty(rt, entrance),
+        )
+    }
+}
+
+#[test]
+fn closes_a_connection_of_a_third_federate_that_begins_with_another_hello(rt: HostRuntime) {
+    assert_eq!(rt; visited::<ThirdFirst, _>(&rt), Some(true));
 }
 
 /// What is no greeting is closed, and nothing is said on it.
@@ -90,7 +131,7 @@ impl Visit for Garbage {
         for byte in [0, 0x66, 0xff] {
             let mut stream = TcpStream::connect(rt, entrance.address).ok()?;
             stream.write_all(&[byte; 200]).ok()?;
-            if !is_closed(&mut stream, 0) {
+            if !is_closed(&stream, 0) {
                 return Some(false);
             }
         }

@@ -48,7 +48,7 @@ pub record IsAfterTurns (d : Draft) (inputs : List Input) (reactors : List React
       ≡ discard ++ rows
   pub pending : HoldsPending d schedule
       (undivided_after (network_of d (programs_in reactors) inputs) (discarded + length rows))
-  -- there is one turn for each federate and tag at most
+  -- at most 2^6 federates and 2^94 tags, and one turn for each: so the count fits in u128
   pub few : discarded + length rows ≤ 2 ^ 100
 
 -- the reactor's slots are those of the federate of this number

@@ -1,4 +1,5 @@
--- Of each federate the tag of its next event, and which of them comes first.
+-- Of each federate the tag of its next event, and which of them comes first. `renewed` and what stands below it are for
+-- proofs about `nexts`: how it keeps the first of each block.
 use Rattle.std.specs.Prelude.{◌≡◌, ℕ, ◌<◌, ◌≤◌, ◌+◌, ◌*◌, Bool, false, ◌&&◌, ◌||◌, nat_lt, if◌then◌else◌, List, length}
 use Rattle.std.specs.Prelude.{slice_get, Some}
 use Rattle.tag.specs.LogicalTime.{is_before, is_same}
@@ -16,7 +17,7 @@ pub record IsFirstAt (nexts : List Next) (count place : ℕ) : Type 0 where
   pub first : (other : ℕ) (a b : Next) → other < count → slice_get nexts other ≡ Some a → slice_get nexts place ≡ Some b
       → is_earlier a b ≡ false
 
--- with the least tag of the federate's agenda, if the test passes
+-- for the loops of `nexts`: with the least tag of the federate's agenda, if the test passes
 abbrev pub renewed : List Agenda → Bool → ℕ → Next → Next
 renewed agendas test federate next =
     if test then record {
@@ -34,7 +35,7 @@ pub record IsFirstAmong (nexts : List Next) (low high : ℕ) (next : Next) : Typ
   pub first : (other : ℕ) (a : Next) → low ≤ other → other < high → slice_get nexts other ≡ Some a
       → is_earlier a next ≡ false
 
--- the first one of each block of eight, of all of them
+-- the first one of each block, of all of them. The 8 is `BLOCK` of `nexts`
 pub record AreFirsts (nexts firsts : List Next) : Type 0 where
   pub cover : length nexts ≤ length firsts * 8
   pub each : (block : ℕ) (first : Next) → slice_get firsts block ≡ Some first

@@ -49,7 +49,8 @@ abbrev pub IsFirstDue : Schedule → Option Next → Type 0
 IsFirstDue s None = IsDone s
 IsFirstDue s (Some next) = IsDueFirst s next.federate next.tag
 
--- after a turn: of its federate nothing is undone up to its tag; elsewhere what was put counts, or else what was undone
+-- what is found after a turn. Its own federate has nothing left up to its tag. Elsewhere an event that the turn made
+-- replaces an older one
 abbrev pub found_after : TurnMade → Draft → List PendingEvent → ℕ → LogicalTime → ℕ → Option ℤ
 found_after t d undone federate tag slot =
     if nat_eq federate t.federate && not (is_before t.tag tag) then None

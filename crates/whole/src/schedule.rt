@@ -74,7 +74,7 @@ impl<'p> Schedule<'p> {
         })
     }
 
-    /// The turn of the least (tag, rank); None where nothing is pending.
+    /// The turn of the least (tag, rank), or None where nothing is pending.
     pub fn first(&self) -> Option<Next>
         ensures { IsFirstDue self.now result }
     {

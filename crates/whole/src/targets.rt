@@ -9,7 +9,8 @@ use plan_paths::Connection;
 use reactor::Memory;
 use std::alloc::Global;
 
-/// A federate to which a turn of another can put events, or a turn of its own, and the connections from there to it.
+/// A federate on whose agenda a turn of some federate (itself included) can put events, and the connections from that
+/// one to it.
 #[derive(Drop)]
 pub struct Target {
     pub federate: usize,

@@ -1,5 +1,5 @@
 -- Lemmas.
 -- lists with one element more
 pub mod Pushed
--- the shares of one node's workers, among what all workers leave
-mod Shares
+-- the shares that the workers of one node left
+pub mod Left

@@ -11,6 +11,7 @@ abbrev pub text_of : RunFault → List ℕ
 text_of (NotFinished cause) = codes "not finished"
 text_of Memory = memory_text
 
--- why desks aren't gathered: a node's workers don't agree with its journal, or there is no memory
+-- why desks aren't gathered: a node's workers don't agree with its journal, there are workers of another count of
+-- federates, or there is no memory
 abbrev pub IsFaultOfGathering : RunFault → Type 0
 IsFaultOfGathering fault = (fault ≡ NotFinished SharesDisagree) ⊎ (fault ≡ Memory)

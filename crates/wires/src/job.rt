@@ -1,114 +1,98 @@
-//! What each thread of a run does.
-use crate::run_fault::{Cause, RunFault};
+//! What each thread of a node does, and what it leaves.
 use crossbeam_channel::Receiver;
 use desk::Share;
-use node::{Node, NodeId};
+use node::Node;
 use std::alloc::Global;
 use std::sync::Wait;
-use std::thread;
-use std::thread::Threads;
 use std::time::Clock;
 use wires_transports::{Accepted, Acceptor, Cut, Dial, Ending, Transport};
 use wires_workers::{Context, Gate, WakeUps, WriterQueue, read, read_dialed, runner, write};
 
-/// What one thread does.
+/// What one thread of a node does.
 #[derive(Drop)]
-pub enum Job<'a, H: Node, M: Node, G: Gate, T: Drop, C: Drop, D: Drop, E: Drop> {
-    /// Writes what a node sends to one peer, by this version of frames.
+pub enum Job<'a, N: Node, G: Gate, T: Drop, C: Drop, D: Drop, E: Drop, W: Drop> {
+    /// Writes what the node sends to one peer, by this version of frames.
     Write(&'a WriterQueue<T, C>, &'a Ending, u8),
     /// Runs a federate for this many turns.
-    Run(Context<'a, M, G, T, C>, &'a WakeUps, u32),
+    Run(Context<'a, N, G, T, C>, &'a WakeUps, u32),
+    /// What the caller wants done beside the run.
+    Watch(W),
+    /// Reads a federate's connections, for the coordinator.
+    Read(Context<'a, N, G, T, C>, usize, &'a Receiver<Accepted<T, C>>),
+    /// Makes a federate's connections, and reads them.
+    Connect(Context<'a, N, G, T, C>, D),
+    /// The same in a process of its own: when the federate's end is closed nothing more can come, and the run is to
+    /// end.
+    ConnectAlone(Context<'a, N, G, T, C>, D),
     /// Lets connections in.
     LetIn(E, &'a Ending),
-    /// Reads a federate's connections, for the coordinator.
-    Read(Context<'a, H, G, T, C>, usize, &'a Receiver<Accepted<T, C>>),
-    /// Makes a federate's connections, and reads them.
-    Connect(Context<'a, M, G, T, C>, D),
 }
 
 /// What a thread is started for.
 pub trait Work: Drop {
-    /// Does it to its end; what it leaves.
-    fn work<R: Wait + Clock>(self, rt: &R, alloc: Global) -> Option<WorkerResult>;
+    /// Does it to its end, and returns what it leaves.
+    fn work<R: Wait + Clock>(self, rt: &R, alloc: Global) -> WorkerResult;
 }
 
-/// What a worker leaves: its share, and whose it is.
+/// What a worker leaves.
 #[derive(Drop)]
 pub struct WorkerResult {
-    pub node: NodeId,
-    pub share: Share,
+    /// Which events it handed in; None where it hands in none.
+    pub share: Option<Share>,
 }
 
-impl<'a, H: Node, M: Node, G: Gate, T: Transport, C: Cut, D: Dial<T, C> + Drop, E: Acceptor> Work
-    for Job<'a, H, M, G, T, C, D, E> {
-    fn work<R: Wait + Clock>(self, rt: &R, alloc: Global) -> Option<WorkerResult> {
-        match self {
-            Job::Write(queue, ending, frames) => {
-                write(rt, alloc, queue, ending, frames);
-                None
-            }
-            Job::LetIn(acceptor, ending) => {
-                acceptor.let_in(rt, alloc, ending);
-                None
-            }
-            Job::Run(context, wake_ups, turns) => {
-                let share = runner::run(rt, alloc, &context, wake_ups, turns);
-                Some(WorkerResult {
-                    node: context.node,
-                    share,
-                })
-            }
-            Job::Read(context, peer, arrivals) => {
-                let share = read(rt, alloc, &context, peer, arrivals);
-                Some(WorkerResult {
-                    node: context.node,
-                    share,
-                })
-            }
-            Job::Connect(context, dial) => {
-                let share = read_dialed(rt, alloc, &context, &dial);
-                Some(WorkerResult {
-                    node: context.node,
-                    share,
-                })
-            }
-        }
+impl WorkerResult {
+    /// Of a worker that hands in no events.
+    pub fn none() -> WorkerResult {
+        WorkerResult { share: None }
+    }
+
+    fn of(share: Share) -> WorkerResult {
+        WorkerResult { share: Some(share) }
     }
 }
 
-/// Starts each job in a thread of its own, in this order, and waits for all of them; what they leave. Where a thread
-/// can't be started, no more are, and the run is to end: a job that waits for what comes stands behind those that end
-/// it then.
-pub fn start<'a, R: Threads + Wait + Clock + Sync, J: Work + Send + 'a>(
-    rt: &R,
-    alloc: Global,
-    jobs: Vec<J>,
-    ending: &Ending,
-) -> Result<Vec<Option<WorkerResult>>, RunFault> {
-    thread::scope(
-        thread::scope_env(),
-        rt,
-        move |scope| -> Result<Vec<Option<WorkerResult>>, RunFault> {
-            let mut threads = Vec::with_capacity(alloc, jobs.len())?;
-            let mut results = Vec::with_capacity(alloc, jobs.len())?;
-            for job in jobs {
-                match scope.spawn(move || job.work(rt, alloc)) {
-                    Ok(thread) => {
-                        if threads.push(thread).is_err() {
-                            ending.set();
-                            return Err(RunFault::Memory);
-                        }
-                    }
-                    Err(_) => {
-                        ending.set();
-                        return Err(RunFault::NotFinished(Cause::NoThread));
-                    }
-                }
+/// The caller wants nothing done beside the run.
+#[derive(Drop)]
+pub struct NoWatcher;
+
+impl Work for NoWatcher {
+    fn work<R: Wait + Clock>(self, _rt: &R, _alloc: Global) -> WorkerResult {
+        WorkerResult::none()
+    }
+}
+
+impl<'a, N: Node, G: Gate, T: Transport, C: Cut, D: Dial<T, C> + Drop, E: Acceptor, W: Work> Work
+    for Job<'a, N, G, T, C, D, E, W> {
+    fn work<R: Wait + Clock>(self, rt: &R, alloc: Global) -> WorkerResult {
+        match self {
+            Job::Write(queue, ending, frames) => {
+                write(rt, alloc, queue, ending, frames);
+                WorkerResult::none()
             }
-            for thread in threads {
-                results.push(thread.join(rt))?;
+            Job::Run(context, wake_ups, turns) => {
+                WorkerResult::of(runner::run(rt, alloc, &context, wake_ups, turns))
             }
-            Ok(results)
-        },
-    )
+            Job::Watch(watcher) => {
+                // It is no worker of the node: what it leaves isn't the node's.
+                let _ = watcher.work(rt, alloc);
+                WorkerResult::none()
+            }
+            Job::Read(context, peer, arrivals) => {
+                WorkerResult::of(read(rt, alloc, &context, peer, arrivals))
+            }
+            Job::Connect(context, dial) => {
+                WorkerResult::of(read_dialed(rt, alloc, &context, &dial))
+            }
+            Job::ConnectAlone(context, dial) => {
+                let share = read_dialed(rt, alloc, &context, &dial);
+                context.end(rt);
+                WorkerResult::of(share)
+            }
+            Job::LetIn(acceptor, ending) => {
+                acceptor.let_in(rt, alloc, ending);
+                WorkerResult::none()
+            }
+        }
+    }
 }

@@ -1,26 +1,45 @@
-//! A federation in threads: all workers of all its nodes, each in a thread of its own, until the run is to end; and the
-//! nodes' desks, for one run.
+//! Nodes in threads: all workers of a federation's nodes, or of one node that has a process of its own, each in a
+//! thread of its own, until the run is to end; and the nodes' desks, for one run.
+//!
+//!     run, run_over_tcp: n + 1 nodes     run_coordinator, run_federate: one
+//!         |                                 |
+//!         +---- jobs: a node's own list ----+---- threads: starts them in order, and waits for all
+//!                                                    |
+//!         gather: each node's desk, from what its own workers left
 //!
 //! Promise to the layer above: as many desks are gathered as were shared; each keeps what every desk keeps, that its
 //! station is the replay of its journal; and each one's journal is what the shares of its node's workers say
-//! (`specs/Gathered`). Nothing is said of when a run ends.
+//! (`specs/Gathered`). Nothing is promised of when a run ends.
 //!
-//! What workers do is said by `wires_workers`, what connections are by `wires_transports`. Begin with `running`, then
-//! `nodes` and `job`; `node_workers` is what a node's workers are passed.
+//! What workers do stands in `wires_workers`, what connections are in `wires_transports`. Begin with `jobs` and `job`,
+//! then `running` and `one_node`; `lines` and `runtime` are what a run takes of connections and of the machine.
 #![tactic(auto)]
 
+pub mod gathering;
 pub mod job;
+mod jobs;
+pub mod lines;
+pub mod nobody;
 pub mod node_workers;
 pub mod nodes;
+pub mod one_node;
 pub mod run_fault;
 pub mod running;
+pub mod runtime;
 pub mod terms;
+pub mod threads;
 
-pub use job::{Job, Work, WorkerResult, start};
+pub use gathering::gather_desk;
+pub use job::{Job, NoWatcher, Work, WorkerResult};
+pub use lines::{CoordinatorLines, Endpoint, FederateLines, FederationLines};
+pub use nobody::{NoAcceptor, NoDial};
 pub use node_workers::{NodeWorkers, channels};
 pub use nodes::{Gathered, Nodes};
+pub use one_node::{run_coordinator, run_federate};
 pub use run_fault::{Cause, RunFault};
-pub use running::{Endpoint, run, run_over_tcp};
+pub use running::{run, run_over_tcp};
+pub use runtime::{NetRuntime, Runtime};
 pub use terms::Terms;
+pub use threads::{RunResults, start};
 pub use wires_transports::Transport;
 pub use wires_workers::{Gate, Point};

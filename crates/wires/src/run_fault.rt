@@ -11,7 +11,7 @@ pub enum Cause {
     NoListener,
     /// A thread couldn't be started.
     NoThread,
-    /// A node's workers don't agree with its journal.
+    /// A node's workers don't agree with its journal, or there are workers of another count of federates.
     SharesDisagree,
     /// The coordinator isn't finished: a federate's turns were made before. More turns may finish the run.
     TurnsUsedUp,

@@ -34,7 +34,7 @@ impl Challenge {
         bytes
     }
 
-    /// The challenge that these bytes are; None where their first byte is no answer.
+    /// The challenge that these bytes are, or None where their first byte is no answer.
     pub fn read(bytes: &[u8; CHALLENGE_SIZE]) -> Option<Challenge>
         ensures { result ≡ challenge_of bytes.now }
     {

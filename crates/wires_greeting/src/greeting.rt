@@ -41,7 +41,7 @@ impl Greeting {
         bytes
     }
 
-    /// The greeting that these bytes are; None where they are of another protocol or another version.
+    /// The greeting that these bytes are, or None where they are of another protocol or another version.
     pub fn read(bytes: &[u8; GREETING_SIZE]) -> Option<Greeting>
         ensures { result ≡ greeting_of bytes.now }
     {

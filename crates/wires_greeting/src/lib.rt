@@ -1,6 +1,6 @@
 //! Who is let in between machines: the greeting that a federate and the coordinator exchange before any frame.
 //!
-//!     FederateSide::message ---- greeting ----> CoordinatorSide::greeted: Waiting, then Challenged, or Refused with an answer
+//!     FederateSide::message ---- greeting ----> CoordinatorSide::greeted: Waiting, then Challenged, or Refused
 //!     FederateSide::challenged <-- challenge --      its answer, proved by the secret
 //!         Greeted, then Proved  --- proof ----> CoordinatorSide::proved: Challenged, then LetIn; frames begin
 //!         or Refused: finished  --- proof ----> CoordinatorSide::proved: Finishing, then Told

@@ -1,12 +1,16 @@
 -- Why an attempt to connect came to nothing, and whether another one makes sense.
 pub mod DialFault
+-- What an attempt to connect comes to, by the federate's side of its greeting.
+pub mod Attempt
 -- How long to wait before an attempt to connect.
 pub mod BackOff
+-- Random bytes from a call that fills some.
+pub mod Source
 -- What is to come next on a connection that came to the coordinator.
 pub mod Next
 -- What is drawn at random.
 pub mod Draw
--- Whose Hello a frame is.
+-- Whose Hello a frame is, and what begins with one.
 pub mod Hello
 -- How long nothing was heard.
 pub mod Silence

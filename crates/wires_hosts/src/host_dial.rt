@@ -1,15 +1,21 @@
 //! How a federate's process connects to the coordinator's.
+ghost use Rattle.std.specs.Prelude.{◌≡◌, ◌⊎◌, None, IsOk, IfErr};
+ghost use Rattle.wires_hosts.specs.Attempt as definition;
+ghost use Rattle.wires_hosts.specs.DialFault.{by_state};
+
 use crate::back_off::BackOff;
 use crate::dial_fault::DialFault;
 use crate::heard::Heard;
 use crate::heard_transport::HeardTransport;
 use crate::incoming::Incoming;
+use crate::last_connection::LastConnection;
+use crate::source::random_bytes;
 use crate::times::ENDING_LOOK_MS;
 use std::alloc::Global;
 use std::io::Write;
 use std::net::{Net, SocketAddr, TcpListener, TcpStream};
 use std::random::RandomSource;
-use std::sync::Wait;
+use std::sync::{Arc, Wait};
 use std::time::{Clock, Duration};
 use std::{io, thread};
 use wires_greeting::{
@@ -17,7 +23,7 @@ use wires_greeting::{
 };
 use wires_transports::tcp::connection;
 use wires_transports::times::{CONNECT_MS, PAUSE_MS, SILENCE_MS};
-use wires_transports::{Connection, Deadline, Dial, Ending, TcpCut, TcpTransport};
+use wires_transports::{Connection, Cut, Deadline, Dial, Ending, TcpCut, TcpTransport};
 
 /// Whom a federate's process connects, and where to.
 #[derive(Clone, Copy)]
@@ -32,12 +38,14 @@ pub struct FederateHost {
 }
 
 /// Makes a federate's connections to the coordinator's process. What an attempt came to is noted; where the coordinator
-/// refused, the run is to end. Before an attempt it waits as `BackOff` says, and not past the end of the run.
+/// refused, the run is to end. Each connection is noted as the last one. Before an attempt it waits as `BackOff` says,
+/// and not past the end of the run.
 #[derive(Drop)]
 pub struct HostDial<'a, M: Net<Stream = TcpStream, Listener = TcpListener> + Clock + RandomSource> {
     machine: &'a M,
     host: FederateHost,
     heard: &'a Heard,
+    last: &'a LastConnection,
     ending: &'a Ending,
     back_off: BackOff,
 }
@@ -51,29 +59,52 @@ impl<'a, M: Net<Stream = TcpStream, Listener = TcpListener> + Clock + RandomSour
         machine: &'a M,
         host: FederateHost,
         heard: &'a Heard,
+        last: &'a LastConnection,
         ending: &'a Ending,
     ) -> HostDial<'a, M> {
         HostDial {
             machine,
             host,
             heard,
+            last,
             ending,
             back_off: BackOff::new(),
         }
     }
 
-    // A connection on which frames begin, or why there is none.
+    // A connection on which frames begin, or why there is none; what the coordinator answered is with this side.
     fn attempt<R: Wait>(
         &self,
         rt: &R,
         alloc: Global,
-    ) -> Result<Connection<HeardTransport<'a, TcpTransport>, TcpCut>, DialFault> {
-        let greeting = greeting(self.machine, &self.host)?;
+        side: &mut FederateSide,
+    ) -> Result<Connection<HeardTransport<'a, TcpTransport>, TcpCut>, DialFault>
+        ensures proved { IsOk result → by_state side.new.state ≡ None }
+        ensures failed { IfErr result (λ fault. definition.FailedBy side.old side.new fault) }
+        ensures heard { definition.Heard side.old side.new }
+    {
         let mut stream = connected(self.machine, &self.host.address)?;
-        let key = self.host.key;
-        greet(rt, self.machine, &mut stream, key, greeting, self.ending)?;
+        greet(rt, self.machine, &mut stream, side, self.ending)?;
         let connection = begun(alloc, stream)?;
         Ok(HeardTransport::around(connection, self.heard))
+    }
+
+    // The same connection, noted as the last one. One that can't be noted is ended, since nobody else would end it.
+    fn noted<R: Wait>(
+        &self,
+        rt: &R,
+        connection: Connection<HeardTransport<'a, TcpTransport>, TcpCut>,
+    ) -> Option<Connection<HeardTransport<'a, TcpTransport>, TcpCut>> {
+        match Arc::try_clone(&connection.cut) {
+            Ok(cut) => {
+                self.last.set(rt, cut);
+                Some(connection)
+            }
+            Err(_) => {
+                connection.cut.cut(rt);
+                None
+            }
+        }
     }
 }
 
@@ -90,10 +121,15 @@ impl<'a, M: Net<Stream = TcpStream, Listener = TcpListener> + Clock + RandomSour
         if !has_paused(self.machine, pause, self.ending) {
             return None;
         }
-        match self.attempt(rt, alloc) {
+        let random = random_bytes(|room| self.machine.fill_bytes(room));
+        let attempt = match side_by(&self.host, random) {
+            Ok(mut side) => self.attempt(rt, alloc, &mut side),
+            Err(fault) => Err(fault),
+        };
+        match attempt {
             Ok(connection) => {
                 self.heard.note_attempt(None);
-                Some(connection)
+                self.noted(rt, connection)
             }
             Err(fault) => {
                 self.heard.note_attempt(Some(fault));
@@ -117,24 +153,31 @@ fn has_paused<M: Clock>(clock: &M, pause: u64, ending: &Ending) -> bool {
     !ending.is_set()
 }
 
-// What a federate's process says first, with random bytes that are new.
-fn greeting<S: RandomSource>(source: &S, host: &FederateHost) -> Result<Greeting, DialFault> {
-    let mut random = [0; RANDOM_SIZE];
-    match source.fill_bytes(&mut random) {
-        Ok(()) => Ok(Greeting {
-            federate: host.federate,
-            files: host.files,
-            random,
-        }),
-        Err(_) => Err(DialFault::NoRandom),
-    }
+// The side of a federate's process that greets with these random bytes, if there are some.
+fn side_by(
+    host: &FederateHost,
+    random: Option<[u8; RANDOM_SIZE]>,
+) -> Result<FederateSide, DialFault>
+    ensures { result ≡ definition.side_by host.now random }
+{
+    let Some(random) = random else {
+        return Err(DialFault::NoRandom);
+    };
+    let greeting = Greeting {
+        federate: host.federate,
+        files: host.files,
+        random,
+    };
+    Ok(FederateSide::new(host.key, greeting))
 }
 
 // A new connection to an address, which doesn't wait.
 fn connected<M: Net<Stream = TcpStream>>(
     net: &M,
     address: &SocketAddr,
-) -> Result<TcpStream, DialFault> {
+) -> Result<TcpStream, DialFault>
+    ensures { IfErr result (λ fault. fault ≡ DialFault.NotConnected) }
+{
     match connect(net, address) {
         Ok(stream) => Ok(stream),
         Err(_) => Err(DialFault::NotConnected),
@@ -152,12 +195,14 @@ fn greet<R: Wait, M: Clock>(
     rt: &R,
     clock: &M,
     stream: &mut TcpStream,
-    key: Key,
-    greeting: Greeting,
+    side: &mut FederateSide,
     ending: &Ending,
-) -> Result<(), DialFault> {
-    let mut side = FederateSide::new(key, greeting);
-    if exchange(rt, clock, stream, &mut side, ending).is_none() {
+) -> Result<(), DialFault>
+    ensures proved { IsOk result → by_state side.new.state ≡ None }
+    ensures failed { IfErr result (λ fault. definition.FailedBy side.old side.new fault) }
+    ensures heard { definition.Heard side.old side.new }
+{
+    if exchange(rt, clock, stream, side, ending).is_none() {
         return Err(DialFault::NoAnswer);
     }
     match DialFault::by_state(&side.state()) {
@@ -174,7 +219,10 @@ fn exchange<R: Wait, M: Clock>(
     stream: &mut TcpStream,
     side: &mut FederateSide,
     ending: &Ending,
-) -> Option<()> {
+) -> Option<()>
+    ensures lost { result ≡ None → (side.new ≡ side.old) ⊎ (by_state side.new.state ≡ None) }
+    ensures heard { definition.Heard side.old side.new }
+{
     stream.write_all(&side.message()).ok()?;
     let challenge = answer(rt, clock, stream, ending)?;
     if let Some(proof) = side.challenged(&challenge) {
@@ -209,7 +257,9 @@ fn answer<R: Wait, M: Clock>(
 }
 
 // A stream on which frames begin, as a connection for its two workers, who wait.
-fn begun(alloc: Global, stream: TcpStream) -> Result<Connection<TcpTransport, TcpCut>, DialFault> {
+fn begun(alloc: Global, stream: TcpStream) -> Result<Connection<TcpTransport, TcpCut>, DialFault>
+    ensures { IfErr result (λ fault. fault ≡ DialFault.NotConnected) }
+{
     if stream.set_nonblocking(false).is_err() {
         return Err(DialFault::NotConnected);
     }

@@ -1,12 +1,15 @@
 //! A connection that came to the coordinator, and isn't let in so far.
-ghost use Rattle.std.specs.Prelude.{◌≡◌, ℕ, Some};
+ghost use Rattle.std.specs.Prelude.{◌≡◌, ℕ, Some, IfSome, IsTrue, take};
 ghost use Rattle.wires_greeting.specs.Coordinator.{let_in, told};
+ghost use Rattle.wires_hosts.specs.Hello.{BeginsWithHello};
+ghost use Rattle.wires_hosts.specs.Source.{challenge_by};
 
 use crate::heard::Heard;
 use crate::heard_transport::HeardTransport;
 use crate::hello::is_hello_of;
 use crate::incoming::{HELLO_SIZE, Incoming};
 use crate::next::Next;
+use crate::source::random_bytes;
 use signal::FrameReader;
 use std::alloc::Global;
 use std::io;
@@ -14,7 +17,9 @@ use std::io::Write;
 use std::net::TcpStream;
 use std::random::RandomSource;
 use std::time::Clock;
-use wires_greeting::{CoordinatorSide, DIGEST_SIZE, GREETING_SIZE, Key, PROOF_SIZE, RANDOM_SIZE};
+use wires_greeting::{
+    CHALLENGE_SIZE, CoordinatorSide, DIGEST_SIZE, GREETING_SIZE, Key, PROOF_SIZE, RANDOM_SIZE,
+};
 use wires_transports::tcp::connection;
 use wires_transports::times::SILENCE_MS;
 use wires_transports::{Accepted, Deadline, TcpCut, TcpTransport};
@@ -80,6 +85,8 @@ impl PendingHost {
     ) -> HostState
         ensures let_in { (federate : ℕ) → result ≡ HostState.Hello federate
             → let_in self.new.side.state ≡ Some federate }
+        ensures hello { (federate : ℕ) → result ≡ HostState.Hello federate
+            → BeginsWithHello federate (take 20 self.new.incoming.bytes) }
         ensures told { (federate : ℕ) → result ≡ HostState.Told federate → told self.new.side.state ≡ Some federate }
     {
         match self.take(alloc, terms) {
@@ -94,7 +101,9 @@ impl PendingHost {
         self,
         alloc: Global,
         heard: &'a Heard,
-    ) -> Option<Accepted<HeardTransport<'a, TcpTransport>, TcpCut>> {
+    ) -> Option<Accepted<HeardTransport<'a, TcpTransport>, TcpCut>>
+        ensures { IfSome result (λ accepted. accepted.first.items ≡ take 20 self.incoming.bytes) }
+    {
         let PendingHost {
             stream,
             incoming,
@@ -114,6 +123,8 @@ impl PendingHost {
     fn take<S: RandomSource>(&mut self, alloc: Global, terms: &Terms<'_, S>) -> Option<HostState>
         ensures let_in { (federate : ℕ) → result ≡ Some (HostState.Hello federate)
             → let_in self.new.side.state ≡ Some federate }
+        ensures hello { (federate : ℕ) → result ≡ Some (HostState.Hello federate)
+            → BeginsWithHello federate (take 20 self.new.incoming.bytes) }
         ensures told { (federate : ℕ) → result ≡ Some (HostState.Told federate)
             → told self.new.side.state ≡ Some federate }
     {
@@ -130,12 +141,8 @@ impl PendingHost {
     // Once the greeting is whole, the challenge is sent.
     fn take_greeting<S: RandomSource>(&mut self, terms: &Terms<'_, S>) -> Option<()> {
         if self.incoming.read(&mut self.stream, GREETING_SIZE)? {
-            let mut random = [0; RANDOM_SIZE];
-            terms.random.fill_bytes(&mut random).ok()?;
-            let message = self.incoming.greeting();
-            let challenge = self
-                .side
-                .greeted(message, &random, terms.allowed, terms.is_finished)?;
+            let random = random_bytes(|room| terms.random.fill_bytes(room));
+            let challenge = self.challenge(random, terms.allowed, terms.is_finished)?;
             self.stream.write_all(&challenge).ok()?;
             self.next = Next::by_state(&self.side.state())?;
             self.incoming = Incoming::new();
@@ -143,10 +150,26 @@ impl PendingHost {
         Some(())
     }
 
+    // The challenge to the greeting that came, with these random bytes; none without them.
+    fn challenge(
+        &mut self,
+        random: Option<[u8; RANDOM_SIZE]>,
+        allowed: &[bool],
+        is_finished: bool,
+    ) -> Option<[u8; CHALLENGE_SIZE]>
+        ensures sent { result ≡ challenge_by self.old.side self.old.incoming.bytes random allowed.now is_finished }
+    {
+        let random = random?;
+        let message = self.incoming.greeting();
+        self.side.greeted(message, &random, allowed, is_finished)
+    }
+
     // Once the proof is whole, the federate is let in or was told that the run is finished, or neither.
     fn take_proof(&mut self) -> Option<HostState>
         ensures let_in { (federate : ℕ) → result ≡ Some (HostState.Hello federate)
             → let_in self.new.side.state ≡ Some federate }
+        ensures hello { (federate : ℕ) → result ≡ Some (HostState.Hello federate)
+            → BeginsWithHello federate (take 20 self.new.incoming.bytes) }
         ensures told { (federate : ℕ) → result ≡ Some (HostState.Told federate)
             → told self.new.side.state ≡ Some federate }
     {
@@ -166,6 +189,8 @@ impl PendingHost {
     fn take_hello(&mut self, alloc: Global) -> Option<HostState>
         ensures let_in { (federate : ℕ) → result ≡ Some (HostState.Hello federate)
             → let_in self.new.side.state ≡ Some federate }
+        ensures hello { (federate : ℕ) → result ≡ Some (HostState.Hello federate)
+            → BeginsWithHello federate (take 20 self.new.incoming.bytes) }
         ensures told { (federate : ℕ) → result ≡ Some (HostState.Told federate)
             → told self.new.side.state ≡ Some federate }
     {
@@ -182,7 +207,10 @@ impl PendingHost {
 }
 
 // Whether these bytes are a frame, or begin with one, that is a Hello of this federate.
-fn begins_with_hello(alloc: Global, bytes: &[u8], federate: u16) -> bool {
+#[tactic(auto, using(crate::proofs::Beginning::begins_by))]
+fn begins_with_hello(alloc: Global, bytes: &[u8], federate: u16) -> bool
+    ensures { IsTrue result → BeginsWithHello federate bytes.now }
+{
     let mut frames = FrameReader::new(alloc);
     if frames.feed(bytes).is_err() {
         return false;

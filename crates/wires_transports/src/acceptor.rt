@@ -91,7 +91,7 @@ pub fn pause(is_calm: bool) -> u64 {
     if is_calm { CALM_PAUSE_MS } else { PAUSE_MS }
 }
 
-// Takes connections that came, this many at most; whether one came. One for which there is no memory is closed.
+// Takes connections that came, `AT_ONCE` at most. Returns whether one came. One for which there is no memory is closed.
 fn accept_some(listener: &TcpListener, arrived: &mut Vec<TcpStream>) -> bool {
     for count in 0..AT_ONCE {
         match listener.accept() {
@@ -104,7 +104,7 @@ fn accept_some(listener: &TcpListener, arrived: &mut Vec<TcpStream>) -> bool {
     true
 }
 
-// Puts federates' connections to those that are pending, and closes strangers'; those that aren't clear yet.
+// Puts federates' connections to those that are pending, and closes strangers'. Returns those that aren't clear yet.
 fn sort_out<R: Wait + Clock>(
     rt: &R,
     alloc: Global,
@@ -131,8 +131,8 @@ fn sort_out<R: Wait + Clock>(
     unclear
 }
 
-// Listens to all pending; those that are pending still. One that says whose it is goes to its reader, one that can't
-// say it any more is closed, and so is one that there is no memory to keep.
+// Listens to all pending. Returns those that are pending still. One that says whose it is goes to its reader, one that
+// can't say it any more is closed, and so is one that there is no memory to keep.
 fn listen_to<R: Wait + Clock>(
     rt: &R,
     alloc: Global,

@@ -8,7 +8,7 @@ use std::sync::Wait;
 
 /// Makes connections to a node.
 pub trait Dial<T: Drop, C: Drop> {
-    /// A new connection; none where the attempt failed.
+    /// A new connection, or None where the attempt failed.
     fn dial<R: Wait>(&self, rt: &R, alloc: Global) -> Option<Connection<T, C>>;
 }
 

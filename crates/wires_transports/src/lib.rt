@@ -5,7 +5,13 @@
 //! memory are taken in the order in which they were sent, and a connection that is let in over TCP was made by a
 //! federate of the run and began with a Hello. Nothing is said of when a call returns.
 //!
-//!     Dial::dial ---- connects ----> Acceptor::let_in: ExpectedPeers, whose it is ----> PendingConnection, its Hello ----> its federate's reader
+//!     Dial::dial ---- connects ----> Acceptor::let_in     whose it is, by ExpectedPeers
+//!                                        |
+//!                                        v
+//!                                    PendingConnection    until its Hello came
+//!                                        |
+//!                                        v
+//!                                    its federate's reader
 //!
 //! Begin with `transport`, then `connection`, then `tcp` and `in_memory`, then `expected_peers`; `specs/Pipe`,
 //! `specs/Greeter`, `specs/ExpectedPeers` and `specs/Fault` are its definitions.

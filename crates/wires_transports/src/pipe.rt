@@ -59,7 +59,7 @@ impl Pipe {
         self.bytes.extend_from_slice(bytes)
     }
 
-    /// Takes bytes that came, as many as there is room for; how many.
+    /// Takes bytes that came, as many as there is room for. Returns how many.
     pub fn take(&mut self, room: &mut [u8]) -> usize
         ensures count { result ≡ min (length self.old.bytes) (length room.old) }
         ensures room { room.new ≡ take result self.old.bytes ++ drop result room.old }

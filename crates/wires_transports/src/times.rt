@@ -1,4 +1,4 @@
-//! How long whoever has threads waits: one place for all such times, each in ms.
+//! How long the threads of a run wait, each in ms. Those between machines alone: `wires_hosts::times`.
 //!
 //! A runner that hears nothing has waited `WAITS_BEFORE_RESEND` times `RUNNER_WAIT_MS`, which is 100 ms, before it
 //! sends again what may be lost.

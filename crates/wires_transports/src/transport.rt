@@ -13,7 +13,7 @@ pub trait Transport: Drop {
         ensures sent { OnOk result (failures self.new ≡ failures self.old) }
         ensures broken { OnErr result (failures self.old < failures self.new) };
 
-    /// Waits for bytes, and puts them at the front of the room; how many, and 0 at the end of what comes.
+    /// Waits for bytes, and puts them at the front of the room. Returns how many: 0 at the end of what comes.
     fn recv<R: Wait>(&mut self, rt: &R, room: &mut [u8]) -> Result<usize, Broken>
         ensures came { IfOk result (λ count. count ≤ length room.new) }
         ensures room { length room.new ≡ length room.old }

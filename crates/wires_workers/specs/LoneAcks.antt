@@ -21,6 +21,6 @@ are_acks frames = list_all (λ outgoing. is_ack outgoing.frame) frames
 abbrev pub are_few_acks : List Outgoing → Bool
 are_few_acks frames = nat_lt (length frames) ACKS_AT_ONCE && are_acks frames
 
--- whether what waits is left: it isn't late, there is no new connection, and of frames few Acks alone wait
+-- whether what waits stays in the queue: a few Acks or nothing, without a new connection, and it isn't late
 abbrev pub is_left : (is_late is_new : Bool) → List Outgoing → Bool
 is_left is_late is_new frames = not is_late && (not is_new && are_few_acks frames)

@@ -16,8 +16,9 @@ is_behind (Some unacked) = nat_le SIGNALS_BEHIND unacked
 abbrev pub waits : (is_new : Bool) → List Outgoing → Bool
 waits is_new frames = is_new || not (nat_eq (length frames) 0)
 
--- on the same connection few Acks alone are left where the writer looks soon, and else it is to; of all else the writer
--- begins a new connection and writes to a peer that is behind, and who made the steps writes the rest
+-- what to do about what waits. A few Acks and nothing else: leave them, if the writer looks soon anyway; else notify
+-- it. Where nothing waits: leave it so. With a new connection, or a peer that is behind: notify the writer. All else is
+-- written by whoever made the steps
 abbrev pub task_of : (is_new is_behind looks_soon : Bool) → List Outgoing → Task
 task_of is_new is_behind looks_soon frames =
     if not is_new && are_few_acks frames

@@ -3,7 +3,7 @@ use Rattle.std.specs.Prelude.{ℕ, Bool, false, ◌&&◌, if◌then◌else◌, n
 use Rattle.std.specs.Prelude.{Some}
 use Rattle.signal.specs.declared.frame.Frame.{Frame}
 use Rattle.signal.specs.declared.frame.Frame.TheVariants.{Hello, Data, Ack, Refuse}
-use Rattle.signal.specs.declared.wire.TheConstants.{VERSION}
+use Rattle.signal.specs.declared.wire.TheConstants.{FIRST_VERSION}
 use Rattle.signal.specs.Cut.{written}
 
 -- the node's own version, that of the peer's last Hello on this connection, the frames that wait, and behind them the
@@ -16,7 +16,7 @@ pub record Waiting : Type 0 where
 
 -- nothing waits on a new connection: no Hello has come on it, so its peer is taken to read the first version alone
 abbrev pub fresh : ℕ → Waiting
-fresh own = record { own = own; peer = VERSION; frames = []; ack = None }
+fresh own = record { own = own; peer = FIRST_VERSION; frames = []; ack = None }
 
 -- nothing waits any more
 abbrev pub emptied : Waiting → Waiting

@@ -16,8 +16,8 @@ use wires_transports::times::PAUSE_MS;
 use wires_transports::{Accepted, Cut, Dial, Transport};
 
 /// Connects a federate to its one peer, and reads. Where a connection breaks or ends, it makes a new one at once, until
-/// the run is to end or the federate's end is closed; its share. An attempt that fails counts as a turn of the runner,
-/// and so does a connection on which no frame came.
+/// the run is to end or the federate's end is closed. An attempt that fails counts as a turn of the runner, and so does
+/// a connection on which no frame came. Returns the reader's share of the journal.
 pub fn read_dialed<R: Wait + Clock, N: Node, G: Gate, T: Transport, C: Cut, D: Dial<T, C>>(
     rt: &R,
     alloc: Global,
@@ -43,7 +43,7 @@ pub fn read_dialed<R: Wait + Clock, N: Node, G: Gate, T: Transport, C: Cut, D: D
     share
 }
 
-// Makes a connection, and reads it to its end; whether a frame came on it.
+// Makes a connection, and reads it to its end. Returns whether a frame came on it.
 fn has_read<R: Wait + Clock, N: Node, G: Gate, T: Transport, C: Cut, D: Dial<T, C>>(
     rt: &R,
     alloc: Global,

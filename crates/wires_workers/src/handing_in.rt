@@ -28,9 +28,9 @@ pub struct TakenIn {
 }
 
 impl<'a, N: Node, G: Gate, T: Transport, C: Cut> Context<'a, N, G, T, C> {
-    /// Makes the events' steps one after the other, and sends the frames of the replies; whether a step did something,
-    /// of which the runner gets a wake-up. Where the gate is open the desk's lock is held over all of them, and else
-    /// the gate is passed before each.
+    /// Makes the events' steps one after the other, and sends the frames of the replies. Returns whether a step did
+    /// something: then the runner gets a wake-up. Where the gate is open the desk's lock is held over all of them, and
+    /// else the gate is passed before each.
     pub fn hand_in<R: Wait + Clock>(
         &self,
         rt: &R,
@@ -129,7 +129,7 @@ impl<'a, N: Node, G: Gate, T: Transport, C: Cut> Context<'a, N, G, T, C> {
         self.hand_in(rt, alloc, share, &[Event::Hello(0), Event::Resend(0)]);
     }
 
-    // Makes the events' steps, each behind the gate; whether one of them did something.
+    // Makes the events' steps, each behind the gate. Returns whether one of them did something.
     fn make_each<R: Wait + Clock>(
         &self,
         rt: &R,
@@ -147,7 +147,7 @@ impl<'a, N: Node, G: Gate, T: Transport, C: Cut> Context<'a, N, G, T, C> {
         has_done
     }
 
-    // Makes the events' steps under one lock; whether one of them did something.
+    // Makes the events' steps under one lock. Returns whether one of them did something.
     fn make_all<R: Wait>(&self, rt: &R, alloc: Global, share: &mut Share, events: &[Event]) -> bool
         ensures { AreHandedIn share.old events.now share.new }
     {
@@ -175,7 +175,7 @@ impl<'a, N: Node, G: Gate, T: Transport, C: Cut> Context<'a, N, G, T, C> {
         }
         match runner.try_state() {
             Some(mut state) => {
-                // They answer the runner's wake-up in its place.
+                // These turns do what the runner would do when woken: its count of waits begins again.
                 state.after_wait(true);
                 session.enter_turns(share, &mut state)
             }

@@ -23,7 +23,8 @@
 //!        +-> Context::wake_up        the runner, where something was done in its absence
 //!
 //! A run ends where `Ending` is set: runners stop and tell their writers, writers end what they send, readers come to
-//! the end of what was sent. Begin with `gate`, then `context`, `session` and `handing_in`, then `reader`.
+//! the end of what was sent. Begin with `Context::take_in` in `handing_in`, then `retry_state`. What they rest on is in
+//! `gate`, `context` and `session`; the workers themselves are `reader`, `runner` and `writer`.
 #![tactic(auto)]
 
 mod behind;

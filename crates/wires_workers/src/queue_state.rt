@@ -5,7 +5,7 @@
 //! sends the rest is `specs/Sending`.
 ghost use Rattle.std.specs.Prelude.{◌≡◌, ◌↔◌, ◌+◌, ◌≤◌, length, IsTrue, None, Some, [], ◌++◌, ◌&&◌, not, is_some};
 ghost use Rattle.std.specs.Prelude.{if◌then◌else◌, OnOk, OnErr, IfOk, IfErr};
-ghost use Rattle.signal.specs.declared.wire.TheConstants.{VERSION};
+ghost use Rattle.signal.specs.declared.wire.TheConstants.{FIRST_VERSION};
 ghost use Rattle.wires_workers.specs.LoneAcks.{is_ack, are_acks, are_few_acks, is_left};
 ghost use Rattle.wires_workers.specs.Sending.{task_of, waits};
 ghost use Rattle.wires_workers.specs.declared.queue_state.TheConstants.{WAITING_MOST};
@@ -13,7 +13,7 @@ ghost use Rattle.wires_workers.specs.declared.queue_state.TheConstants.{WAITING_
 use crate::side::Side;
 use node::Outgoing;
 use signal::Frame;
-use signal::wire::VERSION;
+use signal::wire::FIRST_VERSION;
 use std::alloc::{AllocError, Global};
 use std::mem;
 
@@ -29,7 +29,7 @@ pub(crate) const WAITING_MOST: usize = 16_384;
 pub(crate) struct QueueState<T: Drop, C: Drop> {
     // The connection on which it writes from now on, if that is a new one.
     side: Option<Side<T, C>>,
-    // The version of the last Hello that came on the connection; the first version before any.
+    // The version of the last Hello that came on the connection, or the first version before one came.
     peer: u8,
     // What is to be written, oldest first.
     frames: Vec<Outgoing>,
@@ -55,7 +55,7 @@ pub(crate) enum Task {
 pub(crate) struct Asked<T: Drop, C: Drop> {
     /// The connection on which it writes from now on, if that is a new one.
     pub side: Option<Side<T, C>>,
-    /// The version of the last Hello that came on the connection; the first version before any.
+    /// The version of the last Hello that came on the connection, or the first version before one came.
     pub peer: u8,
 }
 
@@ -63,12 +63,12 @@ impl<T: Drop, C: Drop> QueueState<T, C> {
     /// Nothing waits, and no Hello has come.
     pub fn new(alloc: Global) -> QueueState<T, C>
         ensures side { result.side ≡ None }
-        ensures peer { result.peer ≡ VERSION }
+        ensures peer { result.peer ≡ FIRST_VERSION }
         ensures frames { result.frames.items ≡ [] }
     {
         QueueState {
             side: None,
-            peer: VERSION,
+            peer: FIRST_VERSION,
             frames: Vec::new(alloc),
             looks_soon: false,
             is_behind: false,
@@ -79,11 +79,11 @@ impl<T: Drop, C: Drop> QueueState<T, C> {
     /// they are greeted.
     pub fn begin(&mut self, side: Side<T, C>, greeting: Vec<Outgoing>)
         ensures side { self.new.side ≡ Some side }
-        ensures peer { self.new.peer ≡ VERSION }
+        ensures peer { self.new.peer ≡ FIRST_VERSION }
         ensures frames { self.new.frames.items ≡ greeting.items }
     {
         self.side = Some(side);
-        self.peer = VERSION;
+        self.peer = FIRST_VERSION;
         self.frames = greeting;
     }
 
@@ -142,7 +142,7 @@ impl<T: Drop, C: Drop> QueueState<T, C> {
         }
     }
 
-    /// The writer looks: whether it is to look again soon, as something waits. `task` goes by the same.
+    /// The writer looks. Returns whether it is to look again soon, as something waits. `task` goes by the same.
     pub fn look(&mut self) -> bool
         ensures side { self.new.side ≡ self.old.side }
         ensures peer { self.new.peer ≡ self.old.peer }

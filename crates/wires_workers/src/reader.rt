@@ -51,7 +51,8 @@ struct Received {
     most: usize,
 }
 
-/// Reads a peer's connections one after the other, as they come, until no more come; its share. Each is greeted first.
+/// Reads a peer's connections one after the other, as they come, until no more come. Each is greeted first. Returns the
+/// reader's share of the journal.
 pub fn read<R: Wait + Clock, N: Node, G: Gate, T: Transport, C: Cut>(
     rt: &R,
     alloc: Global,
@@ -189,6 +190,7 @@ fn take_some<R: Wait + Clock, N: Node, G: Gate, T: Transport, C: Cut>(
         × AreHandedIn share.old (events ++ events_of_turns turns) share.new × (context.now.runner ≡ None → turns ≡ 0)
         × (result ≢ ReaderStep.End → received.new.frames ≡ stream) }
     ensures heard { received.new.heard ≡ received.new.frames.version }
+    ensures peer { received.new.peer ≡ received.old.peer }
 {
     let mut events = Vec::new(alloc);
     let step = collect(
@@ -208,7 +210,7 @@ fn take_some<R: Wait + Clock, N: Node, G: Gate, T: Transport, C: Cut>(
 }
 
 // Waits a little for a peer that is far behind, if that isn't the reader's own: it would have no room for more, and
-// what it has no room for has to be sent again. How many events are handed in next, at most.
+// what it has no room for has to be sent again. Returns how many events are handed in next, at most.
 fn pace<R: Wait + Clock, N: Node, G: Gate, T: Transport, C: Cut>(
     rt: &R,
     context: &Context<'_, N, G, T, C>,

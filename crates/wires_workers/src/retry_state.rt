@@ -62,8 +62,8 @@ impl RetryState {
         }
     }
 
-    /// This many turns were made, the last of them idle where it did nothing. An attempt to connect that failed is one
-    /// too.
+    /// This many turns were made; `idle` says whether the last of them did nothing. A failed attempt to connect counts
+    /// as a turn that did nothing.
     pub fn after_turns(&mut self, made: u32, idle: bool) -> Next
         ensures state { self.new ≡ turned self.old made }
         ensures next { result ≡ after_turn self.new idle }

@@ -11,8 +11,8 @@ use std::sync::Wait;
 use std::time::Clock;
 use wires_transports::{Cut, Transport};
 
-/// Runs a node for this many turns, those that its reader makes among them, or until the run is to end; its share.
-/// Where the turns are used up, the run is to end.
+/// Runs a node for this many turns, those that its reader makes among them, or until the run is to end. Where the turns
+/// are used up, the run is to end. Returns the runner's share of the journal.
 pub fn run<R: Wait + Clock, N: Node, G: Gate, T: Transport, C: Cut>(
     rt: &R,
     alloc: Global,
@@ -47,7 +47,7 @@ fn begin<R: Wait>(rt: &R, wake_ups: &WakeUps, turns: u32) -> Next {
     state.turn()
 }
 
-// Waits for a wake-up; what comes then.
+// Waits for a wake-up. Returns what comes then.
 fn wait<R: Wait + Clock>(rt: &R, wake_ups: &WakeUps) -> Next {
     let wake_up = wake_ups.wait(rt);
     let mut state = wake_ups.state(rt);
@@ -58,7 +58,7 @@ fn wait<R: Wait + Clock>(rt: &R, wake_ups: &WakeUps) -> Next {
     }
 }
 
-// Makes turns, which answer the wake-ups that are waiting, where one is left; what comes then.
+// Makes turns, where one is left: they answer the wake-ups that are waiting. Returns what comes then.
 fn take_turns<R: Wait + Clock, N: Node, G: Gate, T: Transport, C: Cut>(
     rt: &R,
     alloc: Global,

@@ -77,7 +77,7 @@ impl<'d, N: Node> Session<'d, N> {
         Turns { made, is_idle }
     }
 
-    // Makes a turn; whether it did nothing.
+    // Makes a turn. Returns whether it did nothing.
     fn turn_is_idle(&mut self, share: &mut Share) -> bool
         ensures { (between : List Slip) × HandedIn share.old Events.Announce between
             × HandedIn between Events.Advance share.new }
@@ -96,7 +96,7 @@ impl<'d, N: Node> Session<'d, N> {
         }
     }
 
-    // Makes an event's step; whether it did something.
+    // Makes an event's step. Returns whether it did something.
     fn enter(&mut self, share: &mut Share, event: Event) -> bool
         ensures { HandedIn share.old event share.new }
     {

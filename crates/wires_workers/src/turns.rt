@@ -11,19 +11,19 @@ pub(crate) const TURNS_AT_ONCE: u32 = 256;
 pub struct Turns {
     /// How many.
     pub made: u32,
-    /// Whether nothing is left to do until something comes: the last of them did nothing, and more may be made.
+    /// Whether the runner waits after them: the last of them did nothing, though more turns are left.
     pub is_idle: bool,
 }
 
 impl Turns {
-    /// No turn, behind which nothing or something is left to do.
+    /// No turn was made. Whoever asks for it says whether the runner waits then.
     pub(crate) fn none(is_idle: bool) -> Turns
         ensures { result.made ≡ 0 }
     {
         Turns { made: 0, is_idle }
     }
 
-    /// Counts them: they are fewer of those that are left, and not idle where they were the last.
+    /// Takes them off the turns that are left. They aren't idle where none is left: the runner is at its end.
     pub(crate) fn counted(self, state: &mut RetryState) -> Turns
         ensures made { result.made ≡ self.made }
         ensures state { state.new ≡ turned state.old self.made }

@@ -55,7 +55,7 @@ impl WakeUps {
         }
     }
 
-    /// Waits for a wake-up; none where none came for too long.
+    /// Waits for a wake-up. Returns None where none came for too long.
     pub fn wait<R: Wait + Clock>(&self, rt: &R) -> Option<WakeUp> {
         self.receiver
             .recv_timeout(rt, Duration::from_millis(RUNNER_WAIT_MS))
@@ -80,7 +80,7 @@ impl WakeUps {
         waited
     }
 
-    /// Waits until nobody else makes turns; how many are left.
+    /// Waits until nobody else makes turns. Returns how many are left.
     pub(crate) fn state<R: Wait>(&self, rt: &R) -> MutexGuard<'_, RetryState> {
         self.state.lock(rt)
     }

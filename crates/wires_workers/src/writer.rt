@@ -5,7 +5,7 @@ ghost use Rattle.wires_workers.specs.Waiting.{fresh, emptied, with_frame, covers
 use crate::side::Side;
 use crate::writer_queue::WriterQueue;
 use node::Outgoing;
-use signal::wire::VERSION;
+use signal::wire::FIRST_VERSION;
 use signal::{Frame, Memory, write_frames};
 use std::alloc::Global;
 use std::marker::Model;
@@ -21,7 +21,7 @@ pub struct Writer<T: Drop, C: Drop> {
     side: Option<Side<T, C>>,
     // The version that its node writes, 1 or more.
     own: u8,
-    // The version of the peer's last Hello on this connection; the first version before any.
+    // The version of the peer's last Hello on this connection, or the first version before one came.
     peer: u8,
     frames: Vec<Frame>,
     ack: Option<Frame>,
@@ -49,14 +49,14 @@ impl<T: Transport, C: Cut> Writer<T, C> {
         Writer {
             side: None,
             own,
-            peer: VERSION,
+            peer: FIRST_VERSION,
             frames: Vec::new(alloc),
             ack: None,
             bytes: Vec::new(alloc),
         }
     }
 
-    /// Puts a frame behind what is written next; an Ack in place of one that it covers.
+    /// Puts a frame behind what is written next. An Ack takes the place of one that it covers.
     pub fn add(&mut self, frame: &Frame) -> Result<(), Memory>
         ensures waits { OnOk result (self.new ≡ with_frame self.old frame.now) }
         ensures unchanged { OnErr result (self.new ≡ self.old) }
@@ -80,7 +80,7 @@ impl<T: Transport, C: Cut> Writer<T, C> {
         ensures { self.new ≡ fresh self.old.own }
     {
         self.side = Some(side);
-        self.peer = VERSION;
+        self.peer = FIRST_VERSION;
         self.clear();
     }
 
@@ -191,7 +191,7 @@ pub fn write<R: Wait + Clock, T: Transport, C: Cut>(
     ending: &Ending,
     own: u8,
 ) {
-    queue.open(rt, alloc, own.max(VERSION));
+    queue.open(rt, alloc, own.max(FIRST_VERSION));
     let mut is_late = false;
     for _ in rt.forever() {
         // Before it sees whether the run is to end: else the notification of the end may be the one that it has had

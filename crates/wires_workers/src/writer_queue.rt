@@ -95,7 +95,7 @@ impl<T: Drop, C: Drop> WriterQueue<T, C> {
         self.is_notified.store(false, Ordering::SeqCst);
     }
 
-    /// Waits to be notified, but not too long, and only a little where it is to look soon. Whether it was notified.
+    /// Waits to be notified, but not too long, and only a little where it is to look soon. Returns whether it was.
     pub(crate) fn wait<R: Wait + Clock>(&self, rt: &R, looks_soon: bool) -> bool {
         let millis = if looks_soon {
             ACK_WAIT_MS
@@ -139,8 +139,8 @@ impl<T: Transport, C: Cut> WriterQueue<T, C> {
         waiting.task()
     }
 
-    // Writes what waits, where who asks is to; whether something is left to the writer. All is before it begins, and
-    // after its end.
+    // Writes what waits, if whoever asks is to write it. Returns whether something is left to the writer. All is left
+    // to it before it begins, and after its end.
     fn leaves_some<R: Wait>(&self, rt: &R, place: &mut Option<Pen<T, C>>) -> bool {
         match place {
             Some(pen) => {
@@ -157,7 +157,7 @@ impl<T: Transport, C: Cut> WriterQueue<T, C> {
         }
     }
 
-    // All that waits, in exchange for room without frames, where who asks is to write it; else what is to be done.
+    // All that waits, in exchange for room without frames, if whoever asks is to write it. Else what is to be done.
     fn take_to_write<R: Wait>(
         &self,
         rt: &R,
@@ -169,8 +169,8 @@ impl<T: Transport, C: Cut> WriterQueue<T, C> {
         waiting.take_to_write(frames)
     }
 
-    /// The writer looks, and sends all that waits, once nobody else does; Acks alone, while they are few, where it is
-    /// late. Whether it is to look again soon.
+    /// The writer looks, and sends all that waits, once nobody else does. A few Acks alone stay until it is late,
+    /// unless the connection is new. Returns whether the writer is to look again soon.
     pub fn send_all<R: Wait>(&self, rt: &R, is_late: bool) -> bool {
         let mut pen = self.pen.lock(rt);
         match &mut *pen {

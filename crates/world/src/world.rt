@@ -141,7 +141,7 @@ impl<'a> World<'a> {
         self.plan.federate_count()
     }
 
-    /// A federate's rows; None where there is no such federate.
+    /// A federate's rows, or None where there is no such federate.
     pub fn rows(&self, federate: usize) -> Option<&Rows>
         ensures { option_map (λ r. r.now) result
             ≡ option_map (λ s. s.node.federate.rows) (slice_get (stations_of self.now).federates federate) }
@@ -181,14 +181,14 @@ impl<'a> World<'a> {
         self.stations.frame(dir, k)
     }
 
-    /// How many signals the sender of a direction keeps; None where there is no such federate.
+    /// How many signals the sender of a direction keeps, or None where there is no such federate.
     pub fn unacked(&self, dir: Dir) -> Option<usize>
         ensures { result ≡ option_map (λ e. length e.kept) (sender (stations_of self.now) dir) }
     {
         self.stations.unacked(dir)
     }
 
-    /// How many signals the sender of a direction may still offer; None where there is no such federate.
+    /// How many signals the sender of a direction may still offer, or None where there is no such federate.
     pub fn room_left(&self, dir: Dir) -> Option<usize>
         ensures { result ≡ option_map room_left (sender (stations_of self.now) dir) }
     {

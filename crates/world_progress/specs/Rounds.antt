@@ -15,7 +15,7 @@ pub record Cursors : Type 0 where
   pub up : List ℕ
   pub down : List ℕ
 
--- the cursor of a direction; 0 where there is no such federate
+-- the cursor of a direction, or 0 where there is no such federate
 abbrev pub cursor_in : Cursors → Dir → ℕ
 cursor_in c (Up j) = get_or c.up j 0
 cursor_in c (Down j) = get_or c.down j 0

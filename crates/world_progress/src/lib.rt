@@ -2,9 +2,9 @@
 //!
 //! Promise to the layer above: where nobody is lost, by rules that grant what is safe and only to who asked for it, the
 //! moves that do something, and the signals that are sent, are at most as many as a number that goes by the rows of the
-//! undivided program; and after twice as many closing rounds a federation's world was stuck. Begin with `specs/Fuel`,
-//! which is that number, and `few_moves_do_anything`; `specs/Worth` is what is left of it. Then `specs/Rounds` and
-//! `closing_rounds_end_stuck`.
+//! undivided program; and at the latest after twice as many closing rounds a federation's world is stuck. Begin with
+//! `specs/Fuel`, which is that number, and `few_moves_do_anything`; `specs/Worth` is what is left of it. Then
+//! `specs/Rounds` and `closing_rounds_end_stuck`.
 #![tactic(auto)]
 
 ghost use Rattle.std.specs.Prelude.{◌≡◌, ℕ, ◌+◌, ◌*◌, ◌^◌, ◌<◌, ◌≤◌, true, false, List, ◌++◌, length};

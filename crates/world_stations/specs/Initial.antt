@@ -24,6 +24,6 @@ new_coordinator d = record { node = initial_coordinator d; ends = map new_end (r
 abbrev pub new_federate : Draft → List Behaviour → List Input → ℕ → Station FederateNode
 new_federate d programs inputs j = record { node = initial_member d programs inputs j; ends = new_end j ∷ [] }
 
--- those of the first this many federates
+-- those of the first federates, this many
 abbrev pub new_federates : Draft → List Behaviour → List Input → ℕ → List (Station FederateNode)
 new_federates d programs inputs count = map (new_federate d programs inputs) (range_with_len 0 count)

@@ -1,4 +1,4 @@
--- How out of memory is printed.
+-- How it is printed that there is no memory for a step.
 use Rattle.std.specs.Prelude.{ℕ, List, codes}
 use Rattle.signal.specs.Fault.{printed_fault}
 

@@ -15,16 +15,17 @@ count_to peer (out ∷ rest) = (if nat_eq out.peer peer then 1 else 0) + count_t
 abbrev pub most_of : Image → ℕ
 most_of e = max (room_left e) (length e.kept) + 1
 
--- and none to a peer that isn't there
+-- at most this many frames go to a peer in one step: none where there is no such peer
 abbrev pub most_to : Option Image → ℕ
 most_to None = 0
 most_to (Some e) = most_of e
 
--- and however many steps come, in each of them at most this many: an end's room stays, and what is kept stays within it
+-- at most this many frames go to a peer in any step to come, however many come before it: an end's room stays, and what
+-- is kept stays within it
 abbrev pub most_ever_of : Image → ℕ
 most_ever_of e = max e.room (length e.kept) + 1
 
--- and none to a peer that isn't there
+-- at most this many frames go to a peer in any step to come: none where there is no such peer
 abbrev pub most_ever_to : Option Image → ℕ
 most_ever_to None = 0
 most_ever_to (Some e) = most_ever_of e

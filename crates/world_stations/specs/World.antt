@@ -28,7 +28,7 @@ pub record World (OfCoordinator OfFederate : Type 0) : Type 0 where
   pub down : List (List Frame)
   pub steps : List Step
 
--- all frames ever sent in a direction; none where there is no such federate
+-- all frames ever sent in a direction: no frame where there is no such federate
 abbrev pub frames_in : {OfCoordinator OfFederate : Type 0} → World OfCoordinator OfFederate → Dir → List Frame
 frames_in w (Up j) = get_or w.up j []
 frames_in w (Down j) = get_or w.down j []
@@ -73,7 +73,7 @@ abbrev pub if_there : {OfCoordinator OfFederate : Type 0} → World OfCoordinato
     → Option Occurrence
 if_there w j occurrence = if nat_lt j (length w.federates) then Some occurrence else None
 
--- which event a step is, and at which node; none where it doesn't apply. To forget is no event
+-- which event a step is, and at which node. It is None where the step doesn't apply. To forget is no event
 abbrev pub occurrence_of : {OfCoordinator OfFederate : Type 0} → World OfCoordinator OfFederate → Step
     → Option Occurrence
 occurrence_of w (Deliver dir k) = delivered dir (frame_at (frames_in w dir) k)
@@ -83,7 +83,7 @@ occurrence_of w (Announce j) = if_there w j (record { node = Federate j; event =
 occurrence_of w (Advance j) = if_there w j (record { node = Federate j; event = event.Advance })
 occurrence_of w (Forget j) = None
 
--- how a station's answer is printed
+-- how a step ended, by the station's answer
 abbrev pub outcome_of : Answer → Outcome
 outcome_of Silent = outcome.Nothing
 outcome_of (Says frames) = outcome.Done

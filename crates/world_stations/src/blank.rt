@@ -7,7 +7,7 @@ use link::LinkEnd;
 use node::{Blank, Station};
 use std::alloc::Global;
 
-// A blank end in the place of this one, with the next incarnation; None where there is none.
+// A blank end in the place of this one, with the next incarnation, or None where there is no next one.
 fn next_end(alloc: Global, end: &LinkEnd) -> Option<LinkEnd>
     ensures { option_map (λ e. e.image) result
         ≡ (if nat_lt (end.now.image.incarnation + 1) (2 ^ 32) then Some (blank_next end.now.image) else None) }
@@ -16,7 +16,7 @@ fn next_end(alloc: Global, end: &LinkEnd) -> Option<LinkEnd>
     Some(LinkEnd::new(alloc, end.federate(), incarnation, end.room()))
 }
 
-// A blank station in the place of a federate's, with the next incarnation; None where there is none.
+// A blank station in the place of a federate's, with the next incarnation, or None where there is no next one.
 pub(crate) fn forgotten<M: Blank>(
     alloc: Global,
     station: &Station<M>,

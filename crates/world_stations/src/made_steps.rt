@@ -72,7 +72,7 @@ impl MadeSteps {
         self.count
     }
 
-    /// The one after this many others; None where there is none.
+    /// The step after this many others, or None where there is none.
     pub fn get(&self, place: usize) -> Option<Step>
         ensures { result ≡ slice_get self.now.steps place }
     {

@@ -132,14 +132,14 @@ impl<H: Node, M: Blank> Stations<H, M> {
         }
     }
 
-    /// How many signals the sender of a direction keeps; None where there is no such federate.
+    /// How many signals the sender of a direction keeps, or None where there is no such federate.
     pub fn unacked(&self, dir: Dir) -> Option<usize>
         ensures { result ≡ option_map (λ e. length e.kept) (sender self.now dir) }
     {
         Some(self.sender(dir)?.unacked())
     }
 
-    /// How many signals the sender of a direction may still offer; None where there is no such federate.
+    /// How many signals the sender of a direction may still offer, or None where there is no such federate.
     pub fn room_left(&self, dir: Dir) -> Option<usize>
         ensures { result ≡ option_map room_left (sender self.now dir) }
     {
@@ -205,7 +205,7 @@ impl<H: Node, M: Blank> Stations<H, M> {
         }
     }
 
-    // Which event a step is, and at which node; None where it doesn't apply, and where a federate forgets.
+    // Which event a step is, and at which node. None where it doesn't apply, and where a federate forgets.
     fn occurrence(&self, step: Step) -> Option<Occurrence>
         ensures { option_map (λ o. record { node = o.node; event = o.event }) result ≡ occurrence_of self.now step }
     {

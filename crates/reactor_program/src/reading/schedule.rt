@@ -51,7 +51,7 @@ fn timed(text: &[u8]) -> Option<(Time, &[u8])>
     Some((duration(both)?, value))
 }
 
-/// The time that a text as `10 ms` or `0` spells; None for 2^62 ns or more.
+/// The time that a text as `10 ms` or `0` spells, or None for 2^62 ns or more.
 fn duration(text: &[u8]) -> Option<Time>
     ensures { MatchOption result ((time : ℕ) → Spells text.now time → time < 2 ^ 62 → ⊥)
         (λ time. Spells text.now time × (time < 2 ^ 62)) }

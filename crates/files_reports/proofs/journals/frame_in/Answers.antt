@@ -13,26 +13,26 @@ returns-then-is_empty-clause-given c =
 pub returns-then-body-eq-BATCH_KIND-clause-given : goal.returns-then-body-eq-BATCH_KIND-clause-given
 returns-then-body-eq-BATCH_KIND-clause-given c = part_of_batch c.args.body.now c.if-body-eq-BATCH_KIND.true
 
-pub returns-then-version-eq-VERSION-clause-given : goal.returns-then-version-eq-VERSION-clause-given
-returns-then-version-eq-VERSION-clause-given c =
+pub returns-then-version-eq-FIRST_VERSION-clause-given : goal.returns-then-version-eq-FIRST_VERSION-clause-given
+returns-then-version-eq-FIRST_VERSION-clause-given c =
     let body = c.args.body.now in
     let all = c.in_ok-feed_framed.ensures ∙ ap (λ (s : Stream). fed s (framed body)) c.new-reader.ensures in
     let gave = gave_frame body c.in-Ok-Some.frame c.feed_framed.new.reader c.next.new.self c.requires all c.if-body-eq-BATCH_KIND.false (rw c.in-Ok-Some.field-0-is at c.in-Ok-Some.ensures.gives) in
-    part_of_came (framed body) c.in-Ok-Some.frame c.next.new.self.version gave (sym c.version.ensures ∙ c.if-version-eq-VERSION.true)
+    part_of_came (framed body) c.in-Ok-Some.frame c.next.new.self.version gave (sym c.version.ensures ∙ c.if-version-eq-FIRST_VERSION.true)
 
-pub returns-then-version-eq-VERSION-clause-taken : goal.returns-then-version-eq-VERSION-clause-taken
-returns-then-version-eq-VERSION-clause-taken c =
+pub returns-then-version-eq-FIRST_VERSION-clause-taken : goal.returns-then-version-eq-FIRST_VERSION-clause-taken
+returns-then-version-eq-FIRST_VERSION-clause-taken c =
     let body = c.args.body.now in
     let all = c.in_ok-feed_framed.ensures ∙ ap (λ (s : Stream). fed s (framed body)) c.new-reader.ensures in
     let gave = gave_frame body c.in-Ok-Some.frame c.feed_framed.new.reader c.next.new.self c.requires all c.if-body-eq-BATCH_KIND.false (rw c.in-Ok-Some.field-0-is at c.in-Ok-Some.ensures.gives) in
-    came_as_written (framed body) c.in-Ok-Some.frame c.next.new.self.version gave (sym c.version.ensures ∙ c.if-version-eq-VERSION.true)
+    came_as_written (framed body) c.in-Ok-Some.frame c.next.new.self.version gave (sym c.version.ensures ∙ c.if-version-eq-FIRST_VERSION.true)
 
 pub returns-in-Ok-Some-clause-given : goal.returns-in-Ok-Some-clause-given
 returns-in-Ok-Some-clause-given c =
     let body = c.args.body.now in
     let all = c.in_ok-feed_framed.ensures ∙ ap (λ (s : Stream). fed s (framed body)) c.new-reader.ensures in
     let gave = gave_frame body c.in-Ok-Some.frame c.feed_framed.new.reader c.next.new.self c.requires all c.if-body-eq-BATCH_KIND.false (rw c.in-Ok-Some.field-0-is at c.in-Ok-Some.ensures.gives) in
-    part_of_other_version (framed body) c.in-Ok-Some.frame c.next.new.self.version gave (λ one. c.if-version-eq-VERSION.false (c.version.ensures ∙ one))
+    part_of_other_version (framed body) c.in-Ok-Some.frame c.next.new.self.version gave (λ one. c.if-version-eq-FIRST_VERSION.false (c.version.ensures ∙ one))
 
 pub returns-clause-given : goal.returns-clause-given
 returns-clause-given c =

@@ -1,24 +1,37 @@
-use Rattle.std.proofs.Common.{◌≡◌, ◌≢◌, ◌∙◌, ℕ, length, ap, arith}
+use Rattle.std.proofs.Common.{◌≡◌, ◌∙◌, suc, length, drop, ap, arith, sym, inl, inr}
 use Rattle.std.proofs.lemmas.List.{length_push}
-use Rattle.node.specs.declared.node_id.NodeId.TheVariants.{Federate}
-use Rattle.wires.proofs.Shares.{one_federate_more, another_federate}
+use Rattle.std.specs.Vec.Iter.{into_iter_items}
+use Rattle.desk.specs.Shares.{Agree}
+use Rattle.wires.specs.Gathered.{shares_left}
+use Rattle.wires.proofs.Pushed.{first_left, one_pair_more}
 use Rattle.wires.proofs.nodes.desks_of.Goals as goal
 
 pub loop-federate-preserved : goal.loop-federate-preserved
 loop-federate-preserved g c =
     let at = c.loop-federate in
+    let steps = c.in-Some.ensures.steps in
     let desks = at.desks.items in
-    let desk = c.in_ok-desk_of.field-0 in
-    let number = c.len-in-loop-federate.result in
-    let pushed = c.in_ok-push.ensures.items in
-    let counted : number ≡ length desks = omega (arith, at.desks.ok.0, c.len-in-loop-federate.ensures) in
-    let more = length_push desks desk in
-    let count = ap length pushed in
+    let results = c.args.results.items in
+    let desk = c.in_ok-gather_desk.field-0 in
+    let made = c.in_ok-push.ensures.items in
+    let counted = ap length made ∙ length_push desks desk in
+    let grown : length c.push.new.self.items ≡ suc (length desks) = omega (arith, counted) in
+    let begins = sym at.invariant.rest ∙ steps.1.0 in
+    let after = into_iter_items c.next.new.self.b in
+    let behind = (first_left results (length desks) c.in-Some.left after begins).1 in
     record {
-      each = omega (arith, count, more, length_push at.yielded c.in-Some.federate, at.invariant.each);
-      agree = one_federate_more desks c.push.new.self.items desk number c.args.results.now at.results pushed counted
-          (at.invariant.left (length desks) (omega arith)) at.invariant.agree c.in_ok-desk_of.ensures.shares;
-      left = λ k after.
-          let other : k ≢ number = omega (arith, count, more) in
-          c.in_ok-desk_of.ensures.others (Federate k) (another_federate k number other) ∙ at.invariant.left k (omega (arith, count, more));
+      federates = omega (arith, counted, at.invariant.federates, steps.0.1);
+      results = omega (arith, counted, at.invariant.results, steps.1.1);
+      rest = sym (ap (λ n. drop n results) grown ∙ behind);
+      agree = one_pair_more (λ d l. Agree d.journal (shares_left l.items)) desks c.push.new.self.items desk results c.in-Some.left after made
+          begins c.in_ok-gather_desk.ensures.shares at.invariant.agree;
     }
+
+pub returns-clause-each : goal.returns-clause-each
+returns-clause-each g c = elim c.in-None.ensures.steps [
+  | inl first ↦ omega (arith, first.1.0, c.loop-federate.invariant.federates)
+  | inr second ↦ omega (arith, second.1.0, c.loop-federate.invariant.federates, c.loop-federate.invariant.results, c.requires.count)
+]
+
+pub returns-clause-shares : goal.returns-clause-shares
+returns-clause-shares g c = record { each = returns-clause-each g c ∙ c.requires.count; agree = c.loop-federate.invariant.agree }

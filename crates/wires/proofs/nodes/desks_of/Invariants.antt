@@ -1,12 +1,17 @@
-use Rattle.std.proofs.Common.{◌≡◌, ℕ, ◌≤◌, length}
-use Rattle.node.specs.declared.node_id.NodeId.TheVariants.{Federate}
-use Rattle.wires.specs.Gathered.{shares_of, FederatesAgree}
+use Rattle.std.proofs.Common.{◌≡◌, ℕ, ◌+◌, Vec, Global, length, drop, slice_get, Some}
+use Rattle.std.specs.Vec.Iter.{into_iter_items, into_iter_len}
+use Rattle.desk.specs.Replay.{Desk}
+use Rattle.desk.specs.Shares.{Agree}
+use Rattle.wires.specs.declared.job.WorkerResult.{WorkerResult}
+use Rattle.wires.specs.Gathered.{shares_left}
 use Rattle.wires.proofs.nodes.desks_of.Given as goal
 
--- the desks of the federates so far agree with their workers, and nothing is taken of what the later ones' workers leave
+-- the desks of the federates so far agree with what their own workers left, and both lists have gone on by as many
 abbrev pub invariant-loop-federate : goal.invariant-loop-federate
 invariant-loop-federate g l = record {
-  each : length l.desks.items ≡ length l.yielded;
-  agree : FederatesAgree l.desks.items l.fn.results;
-  left : (k : ℕ) → length l.desks.items ≤ k → shares_of (Federate k) l.results ≡ shares_of (Federate k) l.fn.results;
+  federates : length l.desks.items + into_iter_len l.federate-iterator.a ≡ length l.fn.federates.items;
+  results : length l.desks.items + into_iter_len l.federate-iterator.b ≡ length l.fn.results.items;
+  rest : into_iter_items l.federate-iterator.b ≡ drop (length l.desks.items) l.fn.results.items;
+  agree : (k : ℕ) (desk : Desk g.row.M.Denot) (left : Vec WorkerResult Global) → slice_get l.desks.items k ≡ Some desk →
+      slice_get l.fn.results.items k ≡ Some left → Agree desk.journal (shares_left left.items);
 }

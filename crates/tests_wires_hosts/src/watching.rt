@@ -1,0 +1,284 @@
+//! Who ends a federate's last connection, and when. No time goes by in these tests: their clocks are simulated.
+use crate::entrance::{FILES, Machine, Own, Process, SECRET, host_of, is_closed, key_of};
+use crate::simulated::{Broken, EndsAt, Meanwhile, Simulated, is_over};
+use std::alloc::Global;
+use std::io::{Read, Write};
+use std::net::{Net, SocketAddr, TcpListener, TcpStream};
+use std::sync::Wait;
+use std::sync::atomic::{AtomicBool, Ordering};
+use std::thread;
+use std::time::Duration;
+use wires::Work;
+use wires_greeting::CoordinatorSide;
+use wires_hosts::{Heard, Patience, listen_at};
+use wires_transports::Ending;
+
+/// The coordinator's end of the next connection, which is let in by hand.
+fn let_in_by_hand(listener: &TcpListener) -> Option<TcpStream> {
+    let (mut stream, _) = listener.accept().ok()?;
+    let mut greeting = [0; 74];
+    stream.read_exact(&mut greeting).ok()?;
+    let mut side = CoordinatorSide::new(key_of(SECRET)?, FILES);
+    let challenge = side.greeted(&greeting, &[9; 32], &[true], false)?;
+    stream.write_all(&challenge).ok()?;
+    let mut proof = [0; 32];
+    stream.read_exact(&mut proof).ok()?;
+    Some(stream)
+}
+
+/// Both ends of a connection of this process.
+fn connected<'a, R: Machine + Net<Stream = TcpStream, Listener = TcpListener>>(
+    rt: &'a R,
+    process: &'a Process,
+) -> Option<(Own<'a>, TcpStream)> {
+    let listener = listen_at(rt, SocketAddr::from(([127, 0, 0, 1], 0))).ok()?;
+    listener.set_nonblocking(false).ok()?;
+    let host = host_of(listener.local_addr().ok()?, 0)?;
+    let (other, own) = thread::join(
+        rt,
+        || let_in_by_hand(&listener),
+        || process.dial(rt, rt.alloc(), host),
+    );
+    Some((own?, other?))
+}
+
+/// A run that is to end at one time; at another one somebody looks whether its last connection is open.
+#[derive(Drop)]
+struct Course<'a> {
+    ending: &'a Ending,
+    end_ms: u64,
+    other: &'a TcpStream,
+    look_ms: u64,
+    was_open: AtomicBool,
+}
+
+impl<'a> Meanwhile for &Course<'a> {
+    fn at(&self, ms: u64) {
+        if ms == self.look_ms {
+            self.was_open.store(!is_over(self.other), Ordering::SeqCst);
+        }
+        if ms == self.end_ms {
+            self.ending.set();
+        }
+    }
+}
+
+/// How a process's last connection is watched.
+#[derive(Clone, Copy, Debug)]
+struct Case {
+    /// How long nothing has to be heard until the run is given up, in ms.
+    patience: Option<u64>,
+    /// When the run is to end, if it isn't given up.
+    end_ms: u64,
+    /// Whether a worker has the connection still.
+    is_held: bool,
+    /// When the connection is ended.
+    ended_ms: u64,
+}
+
+/// A connection that a worker has still, or not.
+fn held_if<'a>(is_held: bool, own: Own<'a>) -> Option<Own<'a>> {
+    if is_held { Some(own) } else { None }
+}
+
+/// Whether the last connection is ended then, and is open 100 ms before.
+fn is_ended_then<R: Machine + Net<Stream = TcpStream, Listener = TcpListener>>(
+    rt: &R,
+    case: Case,
+) -> Option<bool> {
+    let process = Process::new(rt.alloc())?;
+    let (own, other) = connected(rt, &process)?;
+    let held = held_if(case.is_held, own);
+    let course = Course {
+        ending: &process.ending,
+        end_ms: case.end_ms,
+        other: &other,
+        look_ms: case.ended_ms.saturating_sub(100),
+        was_open: AtomicBool::new(false),
+    };
+    let machine = Simulated::new(rt, &Broken, &course);
+    let watcher = Patience {
+        heard: &process.heard,
+        ending: &process.ending,
+        most: case.patience.map(Duration::from_millis),
+        last: Some(&process.last),
+    };
+    let _ = watcher.work(&machine, rt.alloc());
+    let is_then = machine.time() == case.ended_ms && course.was_open.load(Ordering::SeqCst);
+    let is_ended = is_closed(&other, 0);
+    drop(held);
+    Some(is_then && is_ended)
+}
+
+#[test]
+fn ends_the_last_connection_1_s_behind_the_run(rt: HostRuntime) {
+    for case in [
+        Case {
+            patience: None,
+            end_ms: 5000,
+            is_held: true,
+            ended_ms: 6000,
+        },
+        Case {
+            patience: Some(60_000),
+            end_ms: 5000,
+            is_held: true,
+            ended_ms: 6000,
+        },
+        Case {
+            patience: Some(3000),
+            end_ms: 60_000,
+            is_held: true,
+            ended_ms: 4000,
+        },
+    ] {
+        assert_eq!(rt; is_ended_then(&rt, case), Some(true), "{case:?}");
+    }
+}
+
+#[test]
+fn ends_the_last_connection_with_the_run_where_no_worker_has_it(rt: HostRuntime) {
+    for case in [
+        Case {
+            patience: None,
+            end_ms: 5000,
+            is_held: false,
+            ended_ms: 5000,
+        },
+        Case {
+            patience: Some(3000),
+            end_ms: 60_000,
+            is_held: false,
+            ended_ms: 3000,
+        },
+    ] {
+        assert_eq!(rt; is_ended_then(&rt, case), Some(true), "{case:?}");
+    }
+}
+
+/// How long a process is watched that never had a connection, and whose run is to end at this time, in ms.
+fn watched_for<R: Machine>(rt: &R, end_ms: u64) -> Option<u64> {
+    let process = Process::new(rt.alloc())?;
+    if end_ms == 0 {
+        process.ending.set();
+    }
+    let ends = EndsAt {
+        ending: &process.ending,
+        ms: end_ms,
+    };
+    let machine = Simulated::new(rt, &Broken, ends);
+    let watcher = Patience {
+        heard: &process.heard,
+        ending: &process.ending,
+        most: Some(Duration::from_millis(60_000)),
+        last: Some(&process.last),
+    };
+    let _ = watcher.work(&machine, rt.alloc());
+    Some(machine.time())
+}
+
+#[test]
+fn watches_no_longer_than_the_run_where_there_is_no_connection(rt: HostRuntime) {
+    for end_ms in [0, 5000] {
+        assert_eq!(rt; watched_for(&rt, end_ms), Some(end_ms));
+    }
+}
+
+/// A run that is given up, and whether somebody looks on.
+#[derive(Drop)]
+struct Watched {
+    heard: Heard,
+    ending: Ending,
+    is_watched: AtomicBool,
+}
+
+/// Time goes by only where somebody looks on.
+#[derive(Drop)]
+struct OnceWatched<'a, R> {
+    rt: &'a R,
+    run: &'a Watched,
+}
+
+impl<'a, R: Wait> Meanwhile for OnceWatched<'a, R> {
+    fn at(&self, _ms: u64) {
+        for _ in self.rt.forever() {
+            if self.run.is_watched.load(Ordering::SeqCst) {
+                break;
+            }
+        }
+    }
+}
+
+/// Gives a run up in which nothing is heard.
+fn give_up<R: Machine>(rt: &R, run: &Watched) {
+    let machine = Simulated::new(rt, &Broken, OnceWatched { rt, run });
+    let patience = Patience {
+        heard: &run.heard,
+        ending: &run.ending,
+        most: Some(Duration::from_millis(50)),
+        last: None,
+    };
+    let _ = patience.work(&machine, rt.alloc());
+}
+
+/// Looks on until the run is to end; whether it never looked finished.
+fn never_looks_finished<R: Machine>(rt: &R, run: &Watched) -> bool {
+    run.is_watched.store(true, Ordering::SeqCst);
+    for _ in rt.forever() {
+        if run.heard.is_finished(&run.ending) {
+            return false;
+        }
+        if run.ending.is_set() {
+            break;
+        }
+    }
+    true
+}
+
+/// Many runs that are given up, one after the other.
+fn runs(alloc: Global) -> Option<Vec<Watched>> {
+    let mut runs = Vec::new(alloc);
+    for _ in 0..500 {
+        let run = Watched {
+            heard: Heard::new(alloc, 0).ok()?,
+            ending: Ending::new(),
+            is_watched: AtomicBool::new(false),
+        };
+        runs.push(run).ok()?;
+    }
+    Some(runs)
+}
+
+/// Gives all of them up.
+fn give_all_up<R: Machine>(rt: &R, runs: &[Watched]) {
+    for run in runs {
+        give_up(rt, run);
+    }
+}
+
+/// Looks on at all of them; whether none ever looked finished.
+fn none_looks_finished<R: Machine>(rt: &R, runs: &[Watched]) -> bool {
+    let mut is_right = true;
+    for run in runs {
+        if !never_looks_finished(rt, run) {
+            is_right = false;
+        }
+    }
+    is_right
+}
+
+/// Whether none of many runs looks finished to another thread, even for a moment.
+fn are_given_up_first<R: Machine>(rt: &R) -> Option<bool> {
+    let runs = runs(rt.alloc())?;
+    let ((), is_right) = thread::join(
+        rt,
+        || give_all_up(rt, &runs),
+        || none_looks_finished(rt, &runs),
+    );
+    Some(is_right)
+}
+
+#[test]
+fn says_that_it_gives_up_before_the_run_is_to_end(rt: HostRuntime) {
+    assert_eq!(rt; are_given_up_first(&rt), Some(true));
+}

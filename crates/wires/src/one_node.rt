@@ -1,0 +1,156 @@
+//! One node's run, where each node has a process of its own.
+use crate::gathering::gather_desk;
+use crate::job::{Job, Work, WorkerResult};
+use crate::jobs::{Connector, jobs_of_coordinator, jobs_of_federate};
+use crate::lines::{CoordinatorLines, FederateLines};
+use crate::nobody::{NoAcceptor, NoDial};
+use crate::node_workers::NodeWorkers;
+use crate::run_fault::RunFault;
+use crate::runtime::Runtime;
+use crate::threads::start;
+use desk::{Desk, Shared};
+use node::{Node, NodeId};
+use std::alloc::Global;
+use wires_transports::{Acceptor, Cut, Dial, Ending, Transport};
+use wires_workers::Gate;
+
+/// Runs the coordinator in threads until `ending` is set: a worker sets it once the coordinator is finished, and
+/// acceptor and watcher may before. Returns its desk then, which says whether it is finished. All workers have ended
+/// when it returns, and `ending` is set.
+///
+/// Acceptor and watcher end once `ending` is set, and the acceptor ends then what connections are left. Where a thread
+/// can't be started, the others end: `NoThread`. Where the workers' shares don't agree with the desk's journal:
+/// `SharesDisagree`.
+pub fn run_coordinator<
+    R: Runtime,
+    H: Node + Send,
+    G: Gate + Sync,
+    T: Transport + Send,
+    C: Cut + Send + Sync,
+    E: Acceptor + Send,
+    W: Work + Send,
+>(
+    rt: &R,
+    alloc: Global,
+    desk: Desk<H>,
+    lines: CoordinatorLines<E, T, C>,
+    watcher: W,
+    gate: &G,
+    ending: &Ending,
+) -> Result<Desk<H>, RunFault> {
+    let shared = Shared::new(desk);
+    let results = coordinator_results(rt, alloc, &shared, lines, watcher, gate, ending);
+    ending.set();
+    gather_desk(alloc, shared, results?)
+}
+
+// Runs the coordinator's workers, and returns what they leave.
+fn coordinator_results<
+    R: Runtime,
+    H: Node + Send,
+    G: Gate + Sync,
+    T: Transport + Send,
+    C: Cut + Send + Sync,
+    E: Acceptor + Send,
+    W: Work + Send,
+>(
+    rt: &R,
+    alloc: Global,
+    shared: &Shared<H>,
+    lines: CoordinatorLines<E, T, C>,
+    watcher: W,
+    gate: &G,
+    ending: &Ending,
+) -> Result<Vec<WorkerResult>, RunFault> {
+    let CoordinatorLines { arrivals, acceptor } = lines;
+    let count = arrivals.len();
+    if arrivals.is_empty() {
+        ending.set();
+    }
+    let workers: NodeWorkers<'_, H, T, C> = NodeWorkers::new(
+        alloc,
+        NodeId::Coordinator,
+        shared,
+        count,
+        false,
+    )?;
+    let jobs: Vec<Job<'_, H, G, T, C, NoDial, E, W>> = jobs_of_coordinator(
+        alloc,
+        &workers,
+        &arrivals,
+        acceptor,
+        Some(watcher),
+        gate,
+        ending,
+    )?;
+    start(rt, alloc, jobs, ending)
+}
+
+/// Runs a federate in threads until `ending` is set: a worker sets it once the turns are made or the federate's end is
+/// closed, and dial and watcher may before. Returns its desk then. All workers have ended when it returns, and `ending`
+/// is set.
+///
+/// The thread that makes the connections owns the dial and lets it go at its end. Once `ending` is set the watcher ends
+/// the connection on which the coordinator says nothing more, since nobody else is there to, and then itself. Where a
+/// thread can't be started, the others end: `NoThread`.
+pub fn run_federate<
+    R: Runtime,
+    M: Node + Send,
+    G: Gate + Sync,
+    T: Transport + Send,
+    C: Cut + Send + Sync,
+    D: Dial<T, C> + Drop + Send,
+    W: Work + Send,
+>(
+    rt: &R,
+    alloc: Global,
+    desk: Desk<M>,
+    lines: FederateLines<D>,
+    watcher: W,
+    gate: &G,
+    ending: &Ending,
+) -> Result<Desk<M>, RunFault> {
+    let shared = Shared::new(desk);
+    let results = federate_results::<R, M, G, T, C, D, W>(
+        rt, alloc, &shared, lines, watcher, gate, ending,
+    );
+    ending.set();
+    gather_desk(alloc, shared, results?)
+}
+
+// Runs a federate's workers, and returns what they leave.
+fn federate_results<
+    R: Runtime,
+    M: Node + Send,
+    G: Gate + Sync,
+    T: Transport + Send,
+    C: Cut + Send + Sync,
+    D: Dial<T, C> + Drop + Send,
+    W: Work + Send,
+>(
+    rt: &R,
+    alloc: Global,
+    shared: &Shared<M>,
+    lines: FederateLines<D>,
+    watcher: W,
+    gate: &G,
+    ending: &Ending,
+) -> Result<Vec<WorkerResult>, RunFault> {
+    let FederateLines {
+        number,
+        dial,
+        terms,
+    } = lines;
+    let workers: NodeWorkers<'_, M, T, C> = NodeWorkers::new(
+        alloc,
+        NodeId::Federate(number),
+        shared,
+        1,
+        true,
+    )?;
+    let connector = Connector::Alone(dial, watcher);
+    let jobs: Vec<Job<'_, M, G, T, C, D, NoAcceptor, W>> = jobs_of_federate(
+        alloc, &workers, connector, terms, gate, ending,
+    )?;
+    start(rt, alloc, jobs, ending)
+}

@@ -1,0 +1,149 @@
+//! Threads of nodes: started in order, and waited for.
+use crate::job::{Work, WorkerResult};
+use crate::run_fault::{Cause, RunFault};
+use crate::runtime::Runtime;
+use std::alloc::Global;
+use std::thread;
+use std::thread::{JoinHandle, Scope};
+use wires_transports::Ending;
+
+/// What the workers of a federation's nodes leave, the federates' by number.
+#[derive(Drop)]
+pub struct RunResults {
+    pub coordinator: Vec<WorkerResult>,
+    pub federates: Vec<Vec<WorkerResult>>,
+}
+
+impl RunResults {
+    // None yet, with room for those of this many jobs of the coordinator and of each federate.
+    fn with_room(
+        alloc: Global,
+        coordinator: usize,
+        federates: &[usize],
+    ) -> Result<RunResults, RunFault> {
+        let mut lists = Vec::with_capacity(alloc, federates.len())?;
+        for count in federates {
+            lists.push(Vec::with_capacity(alloc, *count)?)?;
+        }
+        Ok(RunResults {
+            coordinator: Vec::with_capacity(alloc, coordinator)?,
+            federates: lists,
+        })
+    }
+}
+
+/// The jobs of all federates: each one's own list, one behind the other.
+#[derive(Drop)]
+pub struct ListedJobs<J: Drop> {
+    pub jobs: Vec<J>,
+    /// How many jobs each federate has.
+    pub counts: Vec<usize>,
+}
+
+/// Starts each of a node's jobs in a thread of its own, in this order, waits for all of them, and returns what they
+/// leave. Room for that is asked for first, so that it isn't lost where memory runs out. Where a thread can't be
+/// started, no more are, and the run is to end: a job that waits for what comes stands behind those that end it then,
+/// or ends once the jobs behind it are let go.
+pub fn start<'a, R: Runtime, J: Work + Send + 'a>(
+    rt: &R,
+    alloc: Global,
+    jobs: Vec<J>,
+    ending: &Ending,
+) -> Result<Vec<WorkerResult>, RunFault> {
+    let room = Vec::with_capacity(alloc, jobs.len())?;
+    thread::scope(
+        thread::scope_env(),
+        rt,
+        move |scope| -> Result<Vec<WorkerResult>, RunFault> {
+            let threads = spawn(rt, alloc, scope, jobs, ending)?;
+            let mut results = room;
+            wait(rt, threads, &mut results)?;
+            Ok(results)
+        },
+    )
+}
+
+/// The same of all nodes of a federation: the coordinator's jobs, then each federate's.
+pub fn start_all<'a, R: Runtime, J: Work + Send + 'a, K: Work + Send + 'a>(
+    rt: &R,
+    alloc: Global,
+    coordinator: Vec<J>,
+    federates: ListedJobs<K>,
+    ending: &Ending,
+) -> Result<RunResults, RunFault> {
+    let ListedJobs { jobs, counts } = federates;
+    let room = RunResults::with_room(alloc, coordinator.len(), &counts)?;
+    thread::scope(
+        thread::scope_env(),
+        rt,
+        move |scope| -> Result<RunResults, RunFault> {
+            let coordinator_threads = spawn(rt, alloc, scope, coordinator, ending)?;
+            let federate_threads = spawn(rt, alloc, scope, jobs, ending)?;
+            let mut results = room;
+            wait(rt, coordinator_threads, &mut results.coordinator)?;
+            wait_for_each(rt, federate_threads, &counts, &mut results.federates)?;
+            Ok(results)
+        },
+    )
+}
+
+// Starts each job in a thread of its own, in this order. Where one can't be started, the run is to end.
+fn spawn<'s, E, R: Runtime, J: Work + Send + 's>(
+    rt: &'s R,
+    alloc: Global,
+    scope: &Scope<'s, E>,
+    jobs: Vec<J>,
+    ending: &Ending,
+) -> Result<Vec<JoinHandle<WorkerResult>>, RunFault> {
+    let started = spawn_each(rt, alloc, scope, jobs);
+    if started.is_err() {
+        ending.set();
+    }
+    started
+}
+
+fn spawn_each<'s, E, R: Runtime, J: Work + Send + 's>(
+    rt: &'s R,
+    alloc: Global,
+    scope: &Scope<'s, E>,
+    jobs: Vec<J>,
+) -> Result<Vec<JoinHandle<WorkerResult>>, RunFault> {
+    let mut threads = Vec::with_capacity(alloc, jobs.len())?;
+    for job in jobs {
+        match scope.spawn(move || job.work(rt, alloc)) {
+            Ok(thread) => threads.push(thread)?,
+            Err(_) => return Err(RunFault::NotFinished(Cause::NoThread)),
+        }
+    }
+    Ok(threads)
+}
+
+// Waits for threads to end, and adds what they leave.
+fn wait<R: Runtime>(
+    rt: &R,
+    threads: Vec<JoinHandle<WorkerResult>>,
+    results: &mut Vec<WorkerResult>,
+) -> Result<(), RunFault> {
+    for thread in threads {
+        results.push(thread.join(rt))?;
+    }
+    Ok(())
+}
+
+// The same of the federates' threads, of which each federate has this many: what its own leave goes to its own list.
+fn wait_for_each<R: Runtime>(
+    rt: &R,
+    threads: Vec<JoinHandle<WorkerResult>>,
+    counts: &[usize],
+    results: &mut [Vec<WorkerResult>],
+) -> Result<(), RunFault> {
+    let mut threads = threads.into_iter();
+    for (count, own) in counts.iter().zip(results) {
+        for _ in 0..*count {
+            if let Some(thread) = threads.next() {
+                own.push(thread.join(rt))?;
+            }
+        }
+    }
+    Ok(())
+}

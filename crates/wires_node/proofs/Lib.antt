@@ -1,3 +1,0 @@
--- Lemmas.
--- the shares that the workers of one node left
-pub mod Left
