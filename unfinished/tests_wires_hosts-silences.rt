@@ -1,0 +1,310 @@
+//! How long a greeting may take. No time goes by in these tests: their clocks are simulated.
+use crate::entrance::{
+    Arrivals, FILES, Host, Known, Process, SECRET, acceptor_at, host_of, is_closed, key_of,
+};
+use crate::simulated::{Counting, EndsAt, Meanwhile, Simulated, over_count};
+use std::alloc::Global;
+use std::io::{Read, Write};
+use std::net::{Net, Shutdown, SocketAddr, TcpListener, TcpStream};
+use std::os::fd::OwnedFd;
+use std::sync::atomic::{AtomicU64, Ordering};
+use std::sync::{Mutex, Wait};
+use wires_greeting::{FederateSide, Greeting};
+use wires_hosts::{DialFault, Heard, listen_at};
+use wires_transports::{Acceptor, Ending};
+
+/// A listener on loopback, which doesn't wait.
+fn listener_of<R: Net<Stream = TcpStream, Listener = TcpListener>>(rt: &R) -> Option<TcpListener> {
+    listen_at(rt, SocketAddr::from(([127, 0, 0, 1], 0))).ok()
+}
+
+/// How long an attempt takes that nobody answers, in ms.
+fn unanswered_for<R: Host + Net<Stream = TcpStream, Listener = TcpListener>>(
+    rt: &R,
+    alloc: Global,
+) -> Option<u64> {
+    let listener = listener_of(rt)?;
+    let process = Process::new(alloc)?;
+    let source = Counting::new();
+    let meanwhile = EndsAt {
+        ending: &process.ending,
+        ms: 6000,
+    };
+    let machine = Simulated::new(rt, &source, meanwhile);
+    let host = host_of(listener.local_addr().ok()?, 0)?;
+    if process.is_refused(&machine, alloc, host, DialFault::NoAnswer, false) {
+        Some(machine.time())
+    } else {
+        None
+    }
+}
+
+#[test]
+fn ends_an_attempt_that_nobody_answers_for_5_s(rt: HostRuntime) {
+    assert_eq!(rt; unanswered_for(&rt, rt.alloc()), Some(5000));
+}
+
+/// A coordinator that says a byte of its challenge each 100 ms, which takes 6.5 s. The run is to end after 6 s.
+#[derive(Drop)]
+struct SlowCoordinator<'a, R> {
+    rt: &'a R,
+    listener: &'a TcpListener,
+    ending: &'a Ending,
+    stream: Mutex<Option<TcpStream>>,
+}
+
+impl<'a, R: Wait> SlowCoordinator<'a, R> {
+    // Says one byte more.
+    fn go_on(&self) {
+        let mut stream = self.stream.lock(self.rt);
+        if stream.is_none() {
+            if let Ok((accepted, _)) = self.listener.accept() {
+                *stream = Some(accepted);
+            }
+        }
+        if let Some(stream) = &mut *stream {
+            let _ = stream.write_all(&[1]);
+        }
+    }
+}
+
+impl<'a, R: Wait> Meanwhile for SlowCoordinator<'a, R> {
+    fn at(&self, ms: u64) {
+        if ms % 100 == 0 {
+            self.go_on();
+        }
+        if ms == 6000 {
+            self.ending.set();
+        }
+    }
+}
+
+/// How long an attempt takes that such a coordinator answers, in ms.
+fn slowly_answered_for<R: Host + Net<Stream = TcpStream, Listener = TcpListener>>(
+    rt: &R,
+    alloc: Global,
+) -> Option<u64> {
+    let listener = listener_of(rt)?;
+    let process = Process::new(alloc)?;
+    let source = Counting::new();
+    let meanwhile = SlowCoordinator {
+        rt,
+        listener: &listener,
+        ending: &process.ending,
+        stream: Mutex::new(None),
+    };
+    let machine = Simulated::new(rt, &source, meanwhile);
+    let host = host_of(listener.local_addr().ok()?, 0)?;
+    if process.is_refused(&machine, alloc, host, DialFault::NoAnswer, false) {
+        Some(machine.time())
+    } else {
+        None
+    }
+}
+
+#[test]
+fn ends_an_attempt_whose_challenge_takes_longer_than_5_s(rt: HostRuntime) {
+    assert_eq!(rt; slowly_answered_for(&rt, rt.alloc()), Some(5000));
+}
+
+/// What federate 0 says first, by hand.
+fn greeting() -> Greeting {
+    Greeting {
+        federate: 0,
+        files: FILES,
+        random: [8; 32],
+    }
+}
+
+/// Strangers at a coordinator's listener, the last two of which go on later: one says a byte of a greeting each 100 ms,
+/// and one proves that it has the secret after 1 s, and says no Hello. Meanwhile somebody counts how many were closed.
+#[derive(Drop)]
+struct Strangers<'a> {
+    heard: &'a Heard,
+    ending: &'a Ending,
+    streams: &'a [TcpStream],
+    slow: &'a TcpStream,
+    proving: &'a TcpStream,
+    // Before 5 s are over, and behind them.
+    early: AtomicU64,
+    late: AtomicU64,
+}
+
+impl<'a> Strangers<'a> {
+    // Says the next byte of a greeting.
+    fn go_on(&self, place: u64) {
+        let bytes = greeting().bytes();
+        let Ok(place) = usize::try_from(place) else {
+            return;
+        };
+        if let Some(byte) = bytes.get(place) {
+            let mut stream = self.slow;
+            let _ = stream.write_all(&[*byte]);
+        }
+    }
+
+    // Answers the challenge.
+    fn prove(&self) -> Option<()> {
+        let mut side = FederateSide::new(key_of(SECRET)?, greeting());
+        let mut stream = self.proving;
+        let mut challenge = [0; 65];
+        stream.read_exact(&mut challenge).ok()?;
+        stream.write_all(&side.challenged(&challenge)?).ok()
+    }
+}
+
+impl<'a> Meanwhile for &Strangers<'a> {
+    fn at(&self, ms: u64) {
+        if ms % 100 == 0 {
+            self.go_on(ms / 100);
+        }
+        match ms {
+            1000 => {
+                let _ = self.prove();
+            }
+            4900 => self.early.store(over_count(self.streams), Ordering::SeqCst),
+            5100 => self
+                .late
+                .store(closed_count(self.streams), Ordering::SeqCst),
+            5200 => {
+                self.heard.give_up();
+                self.ending.set();
+            }
+            _ => {}
+        }
+    }
+}
+
+/// How many of these connections are closed by the other end, up to the first that isn't.
+fn closed_count(streams: &[TcpStream]) -> u64 {
+    let mut count = 0_u64;
+    for stream in streams {
+        if !is_closed(stream, 128) {
+            break;
+        }
+        count = count.saturating_add(1);
+    }
+    count
+}
+
+/// Connections to an address: nothing is said on the first one, a part of a greeting on the second and third, and a
+/// greeting on the fourth and fifth.
+fn connections<R: Net<Stream = TcpStream, Listener = TcpListener>>(
+    rt: &R,
+    alloc: Global,
+    address: SocketAddr,
+) -> Option<Vec<TcpStream>> {
+    let bytes = greeting().bytes();
+    let mut streams = Vec::new(alloc);
+    for size in [0, 30, 1, 74, 74] {
+        let mut stream = TcpStream::connect(rt, address).ok()?;
+        stream.write_all(bytes.get(..size)?).ok()?;
+        streams.push(stream).ok()?;
+    }
+    Some(streams)
+}
+
+/// How many of such connections were closed early, and how many late. None of them comes to a reader.
+fn closed_early_and_late<R: Host + Net<Stream = TcpStream, Listener = TcpListener>>(
+    rt: &R,
+    alloc: Global,
+) -> Option<(u64, u64)> {
+    let listener = listener_of(rt)?;
+    let address = listener.local_addr().ok()?;
+    let streams = connections(rt, alloc, address)?;
+    let heard = Heard::new(alloc, 1).ok()?;
+    let ending = Ending::new();
+    let source = Counting::new();
+    let (acceptor, arrivals) = acceptor_at(alloc, &source, listener, &heard)?;
+    let strangers = Strangers {
+        heard: &heard,
+        ending: &ending,
+        streams: &streams,
+        slow: streams.get(2)?,
+        proving: streams.get(4)?,
+        early: AtomicU64::new(0),
+        late: AtomicU64::new(0),
+    };
+    let machine = Simulated::new(rt, &source, &strangers);
+    acceptor.let_in(&machine, alloc, &ending);
+    let has_arrived = arrivals.try_recv(rt).is_ok();
+    if has_arrived {
+        return None;
+    }
+    let early = strangers.early.load(Ordering::SeqCst);
+    let late = strangers.late.load(Ordering::SeqCst);
+    Some((early, late))
+}
+
+#[test]
+fn closes_whoever_is_not_let_in_after_5_s(rt: HostRuntime) {
+    assert_eq!(rt; closed_early_and_late(&rt, rt.alloc()), Some((0, 5)));
+}
+
+/// A listener that takes no more connections after 1 s. Meanwhile somebody counts how many of those that came were
+/// closed.
+#[derive(Drop)]
+struct Full<'a> {
+    heard: &'a Heard,
+    ending: &'a Ending,
+    streams: &'a [TcpStream],
+    listener: TcpStream,
+    // Before that, and behind it.
+    early: AtomicU64,
+    late: AtomicU64,
+}
+
+impl<'a> Meanwhile for &Full<'a> {
+    fn at(&self, ms: u64) {
+        match ms {
+            900 => self.early.store(over_count(self.streams), Ordering::SeqCst),
+            1000 => {
+                let _ = self.listener.shutdown(Shutdown::Both);
+            }
+            1100 => self
+                .late
+                .store(closed_count(self.streams), Ordering::SeqCst),
+            1200 => {
+                self.heard.give_up();
+                self.ending.set();
+            }
+            _ => {}
+        }
+    }
+}
+
+/// How many of three silent connections were closed before none can be taken any more, and how many behind that.
+fn given_up<R: Host + Net<Stream = TcpStream, Listener = TcpListener>>(
+    rt: &R,
+    alloc: Global,
+) -> Option<(u64, u64)> {
+    let listener = listener_of(rt)?;
+    let address = listener.local_addr().ok()?;
+    let other = OwnedFd::from(listener.try_clone().ok()?);
+    let mut streams = Vec::new(alloc);
+    for _ in 0..3 {
+        streams.push(TcpStream::connect(rt, address).ok()?).ok()?;
+    }
+    let heard = Heard::new(alloc, 1).ok()?;
+    let ending = Ending::new();
+    let source = Known { byte: 0 };
+    let (acceptor, _arrivals) = acceptor_at(alloc, &source, listener, &heard)?;
+    let full = Full {
+        heard: &heard,
+        ending: &ending,
+        streams: &streams,
+        listener: TcpStream::from(other),
+        early: AtomicU64::new(0),
+        late: AtomicU64::new(0),
+    };
+    let machine = Simulated::new(rt, &source, &full);
+    acceptor.let_in(&machine, alloc, &ending);
+    let early = full.early.load(Ordering::SeqCst);
+    let late = full.late.load(Ordering::SeqCst);
+    Some((early, late))
+}
+
+#[test]
+fn gives_up_who_is_not_let_in_where_no_connection_can_be_taken(rt: HostRuntime) {
+    assert_eq!(rt; given_up(&rt, rt.alloc()), Some((0, 3)));
+}

@@ -1,0 +1,202 @@
+//! A machine whose time and random bytes are in a test's hands.
+use std::io;
+use std::io::{ErrorKind, Read};
+use std::net::{Net, SocketAddr, TcpListener, TcpStream};
+use std::random::RandomSource;
+use std::sync::Wait;
+use std::sync::atomic::{AtomicU64, Ordering};
+use std::time::{Clock, Duration};
+use wires_transports::Ending;
+
+/// What else happens as time goes by.
+pub trait Meanwhile: Drop {
+    /// What happens at this time, in ms since the machine began.
+    fn at(&self, ms: u64);
+}
+
+/// Nothing.
+#[derive(Drop)]
+pub struct Nothing;
+
+impl Meanwhile for Nothing {
+    fn at(&self, _ms: u64) {}
+}
+
+/// The run is to end at this time, in ms since the machine began.
+#[derive(Drop)]
+pub struct EndsAt<'a> {
+    pub ending: &'a Ending,
+    pub ms: u64,
+}
+
+impl<'a> Meanwhile for EndsAt<'a> {
+    fn at(&self, ms: u64) {
+        if ms == self.ms {
+            self.ending.set();
+        }
+    }
+}
+
+/// A machine on which a sleep takes no time: its clock goes on by as much, from ms to ms, and meanwhile happens what a
+/// test wants. Its random bytes come from a test too, and its connections from the real machine.
+#[derive(Drop)]
+pub struct Simulated<'a, R, S, M: Drop> {
+    rt: &'a R,
+    random: &'a S,
+    meanwhile: M,
+    // In ms.
+    time: AtomicU64,
+}
+
+impl<'a, R, S, M: Drop> Simulated<'a, R, S, M> {
+    /// Its time begins.
+    pub fn new(rt: &'a R, random: &'a S, meanwhile: M) -> Simulated<'a, R, S, M> {
+        Simulated {
+            rt,
+            random,
+            meanwhile,
+            time: AtomicU64::new(0),
+        }
+    }
+
+    /// What time it is, in ms since it began.
+    pub fn time(&self) -> u64 {
+        self.time.load(Ordering::SeqCst)
+    }
+}
+
+impl<'a, R: Wait, S, M: Drop> Wait for Simulated<'a, R, S, M> {}
+
+impl<'a, R, S, M: Meanwhile> Clock for Simulated<'a, R, S, M> {
+    fn monotonic(&self) -> io::Result<Duration> {
+        Ok(Duration::from_millis(self.time()))
+    }
+
+    fn since_1970(&self) -> io::Result<Duration> {
+        Ok(Duration::from_millis(self.time()))
+    }
+
+    fn sleep(&self, duration: Duration) {
+        for _ in 0..duration.as_secs() {
+            for _ in 0..1000_u32 {
+                self.go_on();
+            }
+        }
+        for _ in 0..duration.subsec_millis() {
+            self.go_on();
+        }
+    }
+}
+
+impl<'a, R, S, M: Meanwhile> Simulated<'a, R, S, M> {
+    // A millisecond goes by.
+    fn go_on(&self) {
+        let before = self.time.fetch_add(1, Ordering::SeqCst);
+        self.meanwhile.at(before.saturating_add(1));
+    }
+}
+
+impl<'a, R, S: RandomSource, M: Drop> RandomSource for Simulated<'a, R, S, M> {
+    fn fill_bytes(&self, buf: &mut [u8]) -> io::Result<()> {
+        self.random.fill_bytes(buf)
+    }
+}
+
+impl<'a, R: Net<Stream = TcpStream, Listener = TcpListener>, S, M: Drop> Net
+    for Simulated<'a, R, S, M> {
+    type Stream = TcpStream;
+
+    type Listener = TcpListener;
+
+    fn bind(&self, addr: SocketAddr) -> io::Result<TcpListener> {
+        self.rt.bind(addr)
+    }
+
+    fn connect(&self, addr: SocketAddr) -> io::Result<TcpStream> {
+        self.rt.connect(addr)
+    }
+
+    fn connect_timeout(&self, addr: SocketAddr, timeout: Duration) -> io::Result<TcpStream> {
+        self.rt.connect_timeout(addr, timeout)
+    }
+}
+
+/// Random bytes of which none is as the one before: 1, 2, 3 and so on.
+#[derive(Drop)]
+pub struct Counting {
+    given: AtomicU64,
+}
+
+impl Counting {
+    /// The first is 1.
+    pub fn new() -> Counting {
+        Counting {
+            given: AtomicU64::new(0),
+        }
+    }
+}
+
+impl RandomSource for Counting {
+    fn fill_bytes(&self, buf: &mut [u8]) -> io::Result<()> {
+        for byte in buf.iter_mut() {
+            let given = self.given.fetch_add(1, Ordering::SeqCst);
+            *byte = u8::try_from(given % 255).unwrap_or(0).saturating_add(1);
+        }
+        Ok(())
+    }
+}
+
+/// As many random bytes as a greeting has, of those that `Counting` gives, behind this many others.
+pub fn counted(before: u8) -> [u8; 32] {
+    let mut bytes = [0; 32];
+    let mut last = before;
+    for byte in bytes.iter_mut() {
+        last = last.saturating_add(1);
+        *byte = last;
+    }
+    bytes
+}
+
+/// A source that always fails, though it leaves bytes.
+#[derive(Drop)]
+pub struct Broken;
+
+impl RandomSource for Broken {
+    fn fill_bytes(&self, buf: &mut [u8]) -> io::Result<()> {
+        buf.fill(7);
+        Err(io::Error::from(ErrorKind::Other))
+    }
+}
+
+/// Whether a connection is closed by the other end so far, behind 128 bytes at most. They are taken from it.
+pub fn is_over(stream: &TcpStream) -> bool {
+    if stream.set_nonblocking(true).is_err() {
+        return false;
+    }
+    let is_over = reads_end(stream);
+    stream.set_nonblocking(false).is_ok() && is_over
+}
+
+// Whether the end comes behind 128 bytes at most.
+fn reads_end(stream: &TcpStream) -> bool {
+    let mut reader = stream;
+    for _ in 0..=128 {
+        match reader.read(&mut [0]) {
+            Ok(0) => return true,
+            Ok(_) => {}
+            Err(error) => return error.kind() != ErrorKind::WouldBlock,
+        }
+    }
+    false
+}
+
+/// How many of these connections are closed by the other end so far.
+pub fn over_count(streams: &[TcpStream]) -> u64 {
+    let mut count = 0_u64;
+    for stream in streams {
+        if is_over(stream) {
+            count = count.saturating_add(1);
+        }
+    }
+    count
+}
