@@ -11,7 +11,7 @@ use Rattle.node.specs.Step.{Station, Stepped, answer_in, step_of, initial_of}
 use Rattle.std.specs.declared.alloc.AllocError.{AllocError}
 use Rattle.desk.specs.declared.batch_reply.BatchReply.{BatchReply}
 use Rattle.desk.specs.Replay.{after_all, replay}
-use Rattle.desk.specs.Replies.{AreAdded, IsAdded, one_more, answers_of, frames_of, is_done}
+use Rattle.desk.specs.Replies.{AreAdded, IsAdded, one_more, answers_of, frames_of, is_done, shows_other_history}
 use Rattle.desk.proofs.Replays.{after_push}
 
 -- one event of a list more
@@ -49,9 +49,10 @@ module _ {View Row : Type 0} (core : Core View Row) (is_coordinator : Bool) (s n
 
 -- what was said grew by an answer, or its frames found no memory
 pub is_added : (reply : Reply) (before after : BatchReply) (result : Result (Unit {0}) AllocError) → after.has_done ≡ (before.has_done || is_done (answer_in reply)) →
+    after.shows_other_history ≡ (before.shows_other_history || shows_other_history (answer_in reply)) →
     OnOk result (after.frames.items ≡ before.frames.items ++ frames_of (answer_in reply)) → OnErr result (after.frames.items ≡ before.frames.items) → IsAdded (answer_in reply) before after
-is_added reply before after (Ok _) done frames unchanged = record { done = done; frames = inl frames }
-is_added reply before after (Err _) done frames unchanged = record { done = done; frames = inr unchanged }
+is_added reply before after (Ok _) done history frames unchanged = record { done = done; history = history; frames = inl frames }
+is_added reply before after (Err _) done history frames unchanged = record { done = done; history = history; frames = inr unchanged }
 
 -- all events
 pub all_first : (events : List Event) (place : ℕ) → length events ≤ place → take place events ≡ take (length events) events

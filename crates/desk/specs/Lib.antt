@@ -4,5 +4,5 @@ pub mod Fault
 pub mod Replay
 -- When the slips of several workers are a journal.
 pub mod Shares
--- What a desk answers to several events, and what of it is to be sent.
+-- What a desk answers to several events, what of it is to be sent, and what it answers of a peer's end.
 pub mod Replies

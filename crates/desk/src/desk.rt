@@ -45,6 +45,22 @@ impl<N: Node> Desk<N> {
         }
     }
 
+    /// This desk, to which nothing came, after all events of a journal: it makes their steps, one after the other. So a
+    /// node is looked at again by what is known of it. Where there is no memory for a step there is none.
+    pub fn with_journal(self, journal: Journal) -> Result<Desk<N>, Memory>
+        requires { self.journal ≡ [] }
+        ensures { IfOk result (λ desk. desk ≡ record {
+          station = after_all N.core N.IS_COORDINATOR self.station journal;
+          journal = journal;
+        }) }
+    {
+        // For the prover: what the station was made from stays.
+        initial_stations_stay::<N>();
+        let mut station = self.station;
+        replay(&mut station, &journal)?;
+        Ok(Desk { station, journal })
+    }
+
     /// The station.
     pub fn station(&self) -> &Station<N>
         ensures { result.now ≡ self.now.station }
@@ -125,6 +141,21 @@ impl<N: Node> Desk<N> {
             Err(SharesDisagree)
         }
     }
+}
+
+// Makes the station's steps for all events of a journal.
+fn replay<N: Node>(station: &mut Station<N>, journal: &Journal) -> Result<(), Memory>
+    ensures { OnOk result (station.new ≡ after_all N.core N.IS_COORDINATOR station.old journal.now) }
+{
+    let mut near = 0;
+    for place in 0..journal.len() {
+        let next = journal.event(place, &mut near);
+        match station.step(next) {
+            Ok(reply) => station.reuse(reply),
+            Err(_) => return Err(Memory),
+        }
+    }
+    Ok(())
 }
 
 // Makes the station's steps, until there is no memory for one. Returns how many.

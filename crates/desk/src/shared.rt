@@ -3,7 +3,7 @@ ghost use Rattle.std.specs.Prelude.{OnOk, OnErr};
 ghost use Rattle.node.specs.declared.event.Event.{Event as IsEvent};
 ghost use Rattle.node.specs.Step.{answer_in, step_of, initial_of};
 ghost use Rattle.node_journal.specs.Slips.{slips_from};
-ghost use Rattle.desk.specs.Replies.{AreAdded, answers_of};
+ghost use Rattle.desk.specs.Replies.{AreAdded, answers_of, is_closed};
 ghost use Rattle.desk.specs.Shares.{Agree};
 
 use crate::batch_reply::BatchReply;
@@ -20,7 +20,7 @@ use std::sync::{Mutex, MutexGuard, Wait};
 ///
 /// A contract can't name what lies under a lock. That `handle` answers as the desk does, and that its slip has the
 /// event's place in the journal, is said by `enter`, which is passed the locked desk; what `unacked` answers, by the
-/// function of that name. That `finished` answers as the node does isn't said.
+/// function of that name, and so what `is_closed` answers. That `finished` answers as the node does isn't said.
 #[derive(Drop)]
 pub struct Shared<N: Node> {
     desk: Mutex<Desk<N>>,
@@ -80,6 +80,15 @@ impl<N: Node> Shared<N> {
         let unacked = locked.unacked(peer);
         locked.release();
         unacked
+    }
+
+    /// Waits for the lock, and asks whether the end for a peer is closed, so that nothing is said to it any more. Also
+    /// where there is no such peer.
+    pub fn is_closed<R: Wait>(&self, rt: &R, peer: usize) -> bool {
+        let locked = self.lock(rt);
+        let is_closed = is_closed(&locked.desk, peer);
+        locked.release();
+        is_closed
     }
 
     /// Waits for the lock, and asks the node whether nothing is left to do, as far as it knows.
@@ -170,6 +179,16 @@ fn unacked<N: Node>(desk: &Desk<N>, peer: usize) -> Option<usize>
     ensures { result ≡ option_map (λ e. length e.kept) (slice_get desk.now.station.ends peer) }
 {
     Some(desk.station().end(peer)?.unacked())
+}
+
+// Whether the end for a peer is closed, or there is none.
+fn is_closed<N: Node>(desk: &Desk<N>, peer: usize) -> bool
+    ensures { result ≡ is_closed (slice_get desk.now.station.ends peer) }
+{
+    match desk.station().end(peer) {
+        Some(end) => end.is_closed(),
+        None => true,
+    }
 }
 
 // Handles a batch's events at the locked desk. Returns how many. Their slips are added first, and those of events for

@@ -1,11 +1,13 @@
 -- What a node on a machine of its own leaves. What a file holds is said where its bytes are known.
 use Rattle.std.specs.Prelude.{◌≡◌, ◌⊎◌, ℕ, true, false, List, Option, Some}
+use Rattle.plan.specs.declared.draft.Draft.{Draft}
 use Rattle.plan.specs.Federation.{federate_number}
 use Rattle.node.specs.declared.event.Event.{Event}
 use Rattle.network.specs.Undivided.{Row}
 use Rattle.node_cores.specs.CoordinatorCore.{CoordinatorNode, coordinator_core}
 use Rattle.node_cores.specs.FederateCore.{FederateNode, federate_core}
-use Rattle.desk.specs.Replay.{Desk, replay}
+use Rattle.world_stations.specs.Initial.{new_coordinator, new_federate}
+use Rattle.desk.specs.Replay.{after_all}
 use Rattle.fedrun_files.specs.Contents.{Contents}
 use Rattle.fedrun_files.specs.declared.reading.Sources.{Sources}
 use Rattle.fedrun_files.specs.Digests.{AreDigestsOf}
@@ -31,34 +33,31 @@ pub record SavesReport (contents : Contents) (n : NodeRequest) (said : Said)
   pub spelled : IsReportOf digests said bytes
   pub saved : KnownOf before after (IsCreated n.report.now bytes)
 
--- a desk with this journal whose node, the coordinator, says that all is finished
-pub record IsFinishedJournal (journal : List Event) : Type 0 where
-  pub desk : Desk CoordinatorNode
-  pub replayed : desk.station ≡ replay coordinator_core true desk.station desk.journal
-  pub finished : coordinator_core.finished desk.station.node ≡ true
-  pub journal_is : journal ≡ desk.journal
+-- the coordinator of a plan, after this journal
+abbrev pub coordinator_after : Draft → List Event → CoordinatorNode
+coordinator_after plan journal = (after_all coordinator_core true (new_coordinator plan) journal).node
 
--- the coordinator is finished, and its report is saved
-abbrev pub HasCoordinated : Contents → NodeRequest → Option Saved → Option Saved → Type 0
-HasCoordinated contents n before after =
-    (journal : List Event) × IsFinishedJournal journal × SavesReport contents n (by_coordinator journal) before after
+-- the federate of this number, after this journal
+abbrev pub federate_after : Sources → ℕ → List Event → FederateNode
+federate_after sources j journal =
+    (after_all federate_core false (new_federate sources.plan sources.programs sources.inputs j) journal).node
 
--- a desk with this journal whose node, a federate, has made these rows
-pub record AreOfDesk (rows : List Row) (journal : List Event) : Type 0 where
-  pub desk : Desk FederateNode
-  pub replayed : desk.station ≡ replay federate_core false desk.station desk.journal
-  pub rows_are : rows ≡ desk.station.node.federate.rows
-  pub journal_is : journal ≡ desk.journal
+-- the coordinator of the node's own federation is finished after this journal, which is saved as its report
+pub record HasCoordinated (contents : Contents) (n : NodeRequest) (before after : Option Saved) : Type 0 where
+  pub journal : List Event
+  pub saves : SavesReport contents n (by_coordinator journal) before after
+  pub finished : coordinator_core.finished (coordinator_after saves.sources.plan journal) ≡ true
 
--- the report of the federate of this name is saved
+-- a journal of the federate of this name, in the node's own federation, is saved as its report, with the rows that this
+-- federate makes by it
 pub record HasJoined (contents : Contents) (n : NodeRequest) (name : List ℕ)
     (before after : Option Saved) : Type 0 where
   pub federate : ℕ
   pub rows : List Row
   pub journal : List Event
-  pub of_desk : AreOfDesk rows journal
   pub saves : SavesReport contents n (by_federate federate rows journal) before after
   pub named : federate_number saves.sources.plan.federates name ≡ Some federate
+  pub rows_are : rows ≡ (federate_after saves.sources federate journal).federate.rows
 
 -- for some node it is so, the coordinator or a federate of some name
 abbrev pub HasEnded : Contents → Option Saved → Option Saved → Type 0

@@ -1,6 +1,6 @@
 -- Why a node on a machine of its own doesn't end well: the exit status that goes with each fault, and how it is
 -- printed.
-use Rattle.std.specs.Prelude.{ℕ, List, ◌++◌, codes}
+use Rattle.std.specs.Prelude.{ℕ, Bool, if◌then◌else◌, List, ◌++◌, codes, Option, None, Some}
 use Rattle.desk.specs.Fault.{memory_text}
 use Rattle.wires_greeting.specs.declared.key.SecretFault.{SecretFault}
 use Rattle.wires_greeting.specs.declared.key.SecretFault.TheVariants.{TooShort, TooLong, Missing}
@@ -12,6 +12,7 @@ use Rattle.files_saving.specs.Saved.{temporary_name}
 use Rattle.fedrun_hosts.specs.declared.fault.HostFault.{HostFault}
 use Rattle.fedrun_hosts.specs.declared.fault.HostFault.TheVariants.{Secret, NoSuchFederate, ReportExists, PartExists}
 use Rattle.fedrun_hosts.specs.declared.fault.HostFault.TheVariants.{CannotListen, Refused, NotProved, NotFinished}
+use Rattle.fedrun_hosts.specs.declared.fault.HostFault.TheVariants.{OtherHistory}
 use Rattle.fedrun_hosts.specs.declared.fault.HostFault.TheVariants.{Unwritten, Unsaved, Memory}
 
 -- the exit status where there is no key: 2 where words lack a secret
@@ -30,6 +31,7 @@ host_status (PartExists name) = 1
 host_status CannotListen = 3
 host_status (Refused fault) = 1
 host_status NotProved = 1
+host_status OtherHistory = 1
 host_status NotFinished = 3
 host_status (Unwritten fault) = 3
 host_status (Unsaved name fault) = 3
@@ -51,6 +53,23 @@ refusal_name dial.NoSuchFederate = codes "NoSuchFederate"
 refusal_name dial.Finished = codes "Refused"
 refusal_name dial.NotAllowed = codes "NotAllowed"
 
+-- why a federate's run isn't finished, as its last attempt to connect was answered; none where that told it that the
+-- run is finished
+abbrev pub fault_of_attempt : Option DialFault → Option HostFault
+fault_of_attempt None = Some NotFinished
+fault_of_attempt (Some dial.NotConnected) = Some NotFinished
+fault_of_attempt (Some dial.NoRandom) = Some NotFinished
+fault_of_attempt (Some dial.NoAnswer) = Some NotFinished
+fault_of_attempt (Some dial.NotProved) = Some NotProved
+fault_of_attempt (Some dial.OtherFiles) = Some (Refused dial.OtherFiles)
+fault_of_attempt (Some dial.NoSuchFederate) = Some (Refused dial.NoSuchFederate)
+fault_of_attempt (Some dial.Finished) = None
+fault_of_attempt (Some dial.NotAllowed) = Some (Refused dial.NotAllowed)
+
+-- the same, where it is known besides whether the coordinator spoke of another history
+abbrev pub fault_by : Bool → Option DialFault → Option HostFault
+fault_by shows_other_history last = if shows_other_history then Some OtherHistory else fault_of_attempt last
+
 -- how a fault is printed; what a library answered is printed as the library has it
 abbrev pub printed_host_fault : HostFault → List ℕ
 printed_host_fault (Secret fault) = secret_text fault
@@ -60,6 +79,7 @@ printed_host_fault (PartExists name) = codes "116 ReportExists " ++ temporary_na
 printed_host_fault CannotListen = codes "117 CannotListen"
 printed_host_fault (Refused fault) = codes "118 " ++ refusal_name fault
 printed_host_fault NotProved = codes "119 NotProved"
+printed_host_fault OtherHistory = codes "123 OtherHistory"
 printed_host_fault NotFinished = codes "not finished"
 printed_host_fault (Unwritten fault) = write_text fault
 printed_host_fault (Unsaved name fault) = codes "120 Unsaved " ++ name.now ++ codes ": " ++ text_of fault

@@ -4,6 +4,7 @@ ghost use Rattle.fedrun_hosts.specs.Ended.{HasCoordinated};
 
 use crate::fault::HostFault;
 use crate::loaded::{Loaded, load};
+use crate::replayed::replayed_coordinator;
 use crate::report::{reserve_report, save_report};
 use crate::request::NodeRequest;
 use crate::saying::{say_finished, say_listening};
@@ -62,6 +63,11 @@ pub fn coordinate<'a, R: NetRuntime + RandomSource, F: Files, D: Disk, O: Write>
     let desk = match run_listening(rt, alloc, node, &loaded, listeners.for_run) {
         Ok(desk) => desk,
         Err(why) => return Err(fault_of_run(why)),
+    };
+    let (_, events) = desk.into_parts();
+    let desk = match replayed_coordinator(alloc, &loaded.sources.plan, events) {
+        Ok(desk) => desk,
+        Err(memory) => return Err(Fault::More(HostFault::Memory(memory))),
     };
     let is_finished = desk.station().node().finished();
     let (_, journal) = desk.into_parts();

@@ -30,6 +30,9 @@ pub enum HostFault<'a> {
     /// Whoever answered at the address hasn't the secret, or the greeting was changed on its way. The report was
     /// written.
     NotProved,
+    /// The coordinator acknowledged a signal that this federate never offered to it: one of the two was begun anew
+    /// without what it knew, or from an older copy of that. The report was written.
+    OtherHistory,
     /// The run isn't finished: nobody was heard for so long, or the federate's turns were made before, or a thread
     /// couldn't be started. The report was written, where there was a node.
     NotFinished,
@@ -59,7 +62,8 @@ impl MoreFault for HostFault<'_> {
             | HostFault::ReportExists(_)
             | HostFault::PartExists(_)
             | HostFault::Refused(_)
-            | HostFault::NotProved => 1,
+            | HostFault::NotProved
+            | HostFault::OtherHistory => 1,
             HostFault::CannotListen
             | HostFault::NotFinished
             | HostFault::Unwritten(_)
@@ -88,6 +92,7 @@ impl fmt::Display for HostFault<'_> {
             HostFault::CannotListen => write!(f, "117 CannotListen"),
             HostFault::Refused(fault) => write!(f, "118 {}", refusal_name(*fault)),
             HostFault::NotProved => write!(f, "119 NotProved"),
+            HostFault::OtherHistory => write!(f, "123 OtherHistory"),
             HostFault::NotFinished => write!(f, "not finished"),
             HostFault::Unwritten(fault) => write!(f, "{fault}"),
             HostFault::Unsaved(name, fault) => write!(f, "120 Unsaved {name}: {fault}"),

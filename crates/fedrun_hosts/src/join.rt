@@ -4,14 +4,15 @@ ghost use Rattle.plan.specs.External.{AreInputsOf};
 ghost use Rattle.plan.specs.Federation.{federate_count, federate_number};
 ghost use Rattle.reactor_programs.specs.Programs.{AreProgramsOf};
 ghost use Rattle.fedrun_hosts.specs.Ended.{HasJoined};
+ghost use Rattle.fedrun_hosts.specs.Faults as definition;
 
 use crate::coordinate::{fault_of_run, seconds};
 use crate::fault::HostFault;
 use crate::loaded::{Loaded, load};
+use crate::replayed::replayed_federate;
 use crate::report::{reserve_report, save_report};
 use crate::request::NodeRequest;
 use crate::saying::say_finished;
-use desk::Desk;
 use federate::Federate;
 use fedrun_files::Files;
 use fedrun_run::federate_desk;
@@ -24,13 +25,14 @@ use recorder_reports::Report;
 use std::alloc::Global;
 use std::io::Write;
 use std::random::RandomSource;
-use wires::{FederateLines, NetRuntime, RunFault, Terms, run_federate};
+use wires::{FederateLines, FederateRun, NetRuntime, RunFault, Terms, run_federate};
 use wires_hosts::{DialFault, FederateHost, Heard, HostDial, LastConnection, Patience};
 use wires_transports::Ending;
 use wires_workers::NoGate;
 
 /// Runs the federate of this name until it hears that the run is finished, its end is closed, its turns are made, the
-/// coordinator refuses it, or nobody was heard for its patience; its report is written in each case. Its report's name
+/// coordinator refuses it or speaks of another history, or nobody was heard for its patience; its report is written in
+/// each case. Its report's name
 /// is reserved before it connects, and stays so where it ends in the midst: so it isn't begun anew by the same words,
 /// without what it knew.
 pub fn join<'a, R: NetRuntime + RandomSource, F: Files, D: Disk, O: Write>(
@@ -60,13 +62,22 @@ pub fn join<'a, R: NetRuntime + RandomSource, F: Files, D: Disk, O: Write>(
         Ok(temporary) => temporary,
         Err(fault) => return Err(fault),
     };
-    let desk = match run_joined(rt, alloc, node, &loaded, number, terms, &heard) {
-        Ok(desk) => desk,
+    let FederateRun {
+        desk,
+        shows_other_history,
+    } = match run_joined(rt, alloc, node, &loaded, number, terms, &heard) {
+        Ok(run) => run,
         Err(why) => return Err(fault_of_run(why)),
+    };
+    let (_, events) = desk.into_parts();
+    let own = usize::from(number);
+    let desk = match replayed_federate(alloc, &loaded.sources, own, events) {
+        Ok(desk) => desk,
+        Err(memory) => return Err(Fault::More(HostFault::Memory(memory))),
     };
     let (station, journal) = desk.into_parts();
     let report = NodeReport::Federate(Report {
-        federate: usize::from(number),
+        federate: own,
         rows: station.into_node().into_rows(),
         journal,
     });
@@ -78,7 +89,7 @@ pub fn join<'a, R: NetRuntime + RandomSource, F: Files, D: Disk, O: Write>(
         node.report,
         disk,
     ) {
-        Ok(()) => match fault_by(heard.last_fault()) {
+        Ok(()) => match fault_by(shows_other_history, heard.last_fault()) {
             None => say_finished(out),
             Some(fault) => Err(Fault::More(fault)),
         },
@@ -95,7 +106,7 @@ fn number_of(plan: &Plan, name: &str) -> Option<u16>
     u16::try_from(place).ok()
 }
 
-// Runs a federate, which connects to the node's address; its desk then.
+// Runs a federate, which connects to the node's address.
 fn run_joined<'n, R: NetRuntime + RandomSource>(
     rt: &R,
     alloc: Global,
@@ -104,7 +115,7 @@ fn run_joined<'n, R: NetRuntime + RandomSource>(
     number: u16,
     terms: Terms,
     heard: &Heard,
-) -> Result<Desk<Federate<'n>>, RunFault>
+) -> Result<FederateRun<Federate<'n>>, RunFault>
     requires programs { AreProgramsOf loaded.now.sources.plan loaded.now.sources.programs }
     requires inputs { AreInputsOf loaded.now.sources.plan loaded.now.sources.inputs }
     requires there { number < federate_count loaded.now.sources.plan }
@@ -157,8 +168,14 @@ fn host(node: &NodeRequest<'_>, loaded: &Loaded, number: u16) -> FederateHost
     }
 }
 
-// Why the run isn't finished, as the last attempt to connect was answered; None where it is.
-fn fault_by(last: Option<DialFault>) -> Option<HostFault<'static>> {
+// Why the run isn't finished: the coordinator speaks of another history, or the last attempt to connect was answered
+// so. None where it is finished.
+fn fault_by(shows_other_history: bool, last: Option<DialFault>) -> Option<HostFault<'static>>
+    ensures { result ≡ definition.fault_by shows_other_history last }
+{
+    if shows_other_history {
+        return Some(HostFault::OtherHistory);
+    }
     match last {
         Some(DialFault::Finished) => None,
         Some(fault @ (DialFault::OtherFiles | DialFault::NoSuchFederate | DialFault::NotAllowed)) =>

@@ -6,6 +6,9 @@
 //! one line (`specs/Faults`). What other nodes say is never believed: rows are printed by an audit of all reports
 //! alone.
 //!
+//! What is saved is looked at again before (`replayed`): what the journal makes of the node that the node's own files
+//! give, so that nothing which is said of it rests on what threads left.
+//!
 //! A node reserves its report's name before it listens or connects, and keeps it where it ends in the midst. So a node
 //! that has lost what it knew isn't begun anew by the same words.
 //!
@@ -17,6 +20,7 @@ pub mod coordinate;
 pub mod fault;
 pub mod join;
 mod loaded;
+mod replayed;
 mod report;
 pub mod request;
 mod saying;

@@ -54,6 +54,7 @@ fn written<R: Wait + Clock>(
         cut,
     };
     queue.begin(rt, side, Vec::new(alloc));
+    queue.catch_up(rt);
     queue.put(rt, &frames(alloc, first, 70)?, true);
     queue.put(rt, &frames(alloc, second, 71)?, true);
     let ending = Ending::new();

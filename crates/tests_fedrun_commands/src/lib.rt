@@ -14,11 +14,15 @@ mod audits;
 #[cfg(test)]
 mod bare_rows;
 #[cfg(test)]
+mod changed_reports;
+#[cfg(test)]
 mod commands;
 #[cfg(test)]
 mod files;
 #[cfg(test)]
 mod further;
+#[cfg(test)]
+mod progress_ended;
 #[cfg(test)]
 mod progress_line;
 #[cfg(test)]

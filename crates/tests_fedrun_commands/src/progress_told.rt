@@ -5,14 +5,15 @@ use std::sync::atomic::{AtomicU64, Ordering};
 use tag::{Tag, Time};
 use tests_samples::COUNTER;
 
-/// What was told: all rows, the time of the last one, the time until which the command goes on, the steps, and how
-/// often the end.
+/// What was told: all rows, the time of the last one, the time until which the command goes on, the steps, how often
+/// these, and how often the end.
 #[derive(Drop)]
 struct Told {
     rows: AtomicU64,
     latest: AtomicU64,
     stop: AtomicU64,
     steps: AtomicU64,
+    step_counts: AtomicU64,
     ends: AtomicU64,
 }
 
@@ -23,6 +24,7 @@ impl Told {
             latest: AtomicU64::new(0),
             stop: AtomicU64::new(0),
             steps: AtomicU64::new(0),
+            step_counts: AtomicU64::new(0),
             ends: AtomicU64::new(0),
         }
     }
@@ -47,6 +49,7 @@ impl Progress for Told {
 
     fn steps(&self, made: usize) {
         self.steps.store(made as u64, Ordering::SeqCst);
+        self.step_counts.fetch_add(1, Ordering::SeqCst);
     }
 
     fn end(&self) {
@@ -92,6 +95,19 @@ fn replay_tells_its_steps(rt: HostRuntime) {
     let outcome = outcome_of_told(&rt, words, COUNTER_AND_SCHEDULE, &told);
     assert!(rt; outcome.is_some_and(|outcome| outcome.texts().0 == 0));
     assert_eq!(rt; told.steps.load(Ordering::SeqCst), 2);
+    assert_eq!(rt; told.step_counts.load(Ordering::SeqCst), 2);
     assert_eq!(rt; told.rows.load(Ordering::SeqCst), 0);
     assert_eq!(rt; told.ends.load(Ordering::SeqCst), 1);
+}
+
+/// Once for each line, and once for each of the two closing rounds that it may make and needs: of both links each end
+/// sends again, each of the two federates announces and advances, and what was sent comes.
+#[test]
+fn replay_tells_its_steps_after_each_closing_round(rt: HostRuntime) {
+    let told = Told::new();
+    let words = &["replay", "f", "-", "s", "--until-stuck", "2", "--progress"];
+    let outcome = outcome_of_told(&rt, words, COUNTER_AND_SCHEDULE, &told);
+    assert!(rt; outcome.is_some_and(|outcome| outcome.texts().0 == 0));
+    assert_eq!(rt; told.step_counts.load(Ordering::SeqCst), 4);
+    assert!(rt; told.steps.load(Ordering::SeqCst) >= 18);
 }

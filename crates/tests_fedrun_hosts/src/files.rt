@@ -1,6 +1,21 @@
 //! A machine's files that a node or an audit reads, in memory.
 use fedrun_files::{FileFault, Files};
 use std::alloc::Global;
+use tests_samples::COUNTER;
+
+/// The secret of all nodes.
+pub const SECRET: &str = "0123456789abcdef0123456789abcdef";
+
+/// The counter's files, with the secret, one that differs in its last byte, one that is too short, and one with a line
+/// feed at its end.
+pub const FILES: &[(&str, &str)] = &[
+    ("f", COUNTER),
+    ("i", ""),
+    ("secret", SECRET),
+    ("other", "0123456789abcdef0123456789abcdeg"),
+    ("short", "0123456789abcde"),
+    ("line", "0123456789abcdef0123456789abcdef\n"),
+];
 
 /// Files in memory, by name: texts, and reports.
 #[derive(Drop)]

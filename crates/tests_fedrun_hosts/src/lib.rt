@@ -12,6 +12,8 @@ mod files;
 #[cfg(test)]
 mod nodes;
 #[cfg(test)]
+mod not_begun;
+#[cfg(test)]
 mod refused;
 #[cfg(test)]
 mod spoken;

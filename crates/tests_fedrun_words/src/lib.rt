@@ -1,8 +1,10 @@
 //! Tests of the words of the command line: which request they are, with which arguments and options, and which words
-//! are no command.
+//! are no command; and of how a text is written.
 //!
 //! Begin with `ask` in `requests`.
 #![tactic(auto)]
 
 #[cfg(test)]
 mod requests;
+#[cfg(test)]
+mod texts;

@@ -145,6 +145,28 @@ fn takes_the_tags_of_the_wire_alone(rt: HostRuntime) {
     assert_eq!(rt; row_fault(rt.alloc(), &almost), bad);
 }
 
+/// What is wrong where federate 0 has one row, at the first tag, which goes on so.
+fn entries_fault(alloc: Global, entries: &[u8]) -> Option<ContentFault> {
+    let mut said = Vec::from_slice(alloc, &[0, 0, 0, 0, 0, 0, 0, 0, 0, 1]).ok()?;
+    said.extend_from_slice(&[0; 12]).ok()?;
+    said.extend_from_slice(entries).ok()?;
+    content_fault(alloc, &said)
+}
+
+/// The count of more entries than there is memory for.
+const ALL: [u8; 8] = [255; 8];
+
+/// No room is taken for entries that a row says it has, before they are read.
+#[test]
+fn refuses_a_count_of_entries_that_is_too_great(rt: HostRuntime) {
+    let short = Some(ContentFault::Short);
+    assert_eq!(rt; entries_fault(rt.alloc(), &ALL), short);
+    let outputs = [
+        0, 0, 0, 0, 0, 0, 0, 0, 255, 255, 255, 255, 255, 255, 255, 255,
+    ];
+    assert_eq!(rt; entries_fault(rt.alloc(), &outputs), short);
+}
+
 /// A count that no file has bytes for is refused as soon as they end, and takes no memory of its own.
 #[test]
 fn refuses_a_count_that_is_too_great(rt: HostRuntime) {

@@ -1,7 +1,7 @@
 //! What stands after a name is reserved and a file is saved, whether that succeeds or a call of the disk fails.
 use crate::memory_disk::MemoryDisk;
 use crate::saved::{reserved, saved};
-use files_saving::{ReserveFault, SaveFault};
+use files_saving::{Disk, ReserveFault, SaveFault};
 use std::alloc::Global;
 
 const NAME: &str = "run/snk.report";
@@ -159,4 +159,51 @@ fn leaves_another(alloc: Global) -> Option<bool> {
 #[test]
 fn replaces_no_file_that_got_the_name_meanwhile(rt: HostRuntime) {
     assert_eq!(rt; leaves_another(rt.alloc()), Some(true));
+}
+
+/// A disk on which somebody else, who had reserved the name, saves his file just before the temporary file is made.
+#[derive(Drop)]
+struct Overtaken {
+    disk: MemoryDisk,
+}
+
+impl Disk for Overtaken {
+    fn exists(&mut self, name: &str) -> Result<bool, SaveFault> {
+        self.disk.exists(name)
+    }
+
+    fn create(&mut self, name: &str) -> Result<(), SaveFault> {
+        self.disk.remove(name);
+        if self.disk.put(NAME, OLD).is_none() {
+            return Err(SaveFault::CannotCreate);
+        }
+        self.disk.create(name)
+    }
+
+    fn write(&mut self, name: &str, bytes: &[u8]) -> Result<(), SaveFault> {
+        self.disk.write(name, bytes)
+    }
+
+    fn rename(&mut self, from: &str, to: &str) -> Result<(), SaveFault> {
+        self.disk.rename(from, to)
+    }
+
+    fn remove(&mut self, name: &str) {
+        self.disk.remove(name);
+    }
+}
+
+/// Whether the name isn't reserved then, and what he saved is left.
+fn is_overtaken(alloc: Global) -> Option<bool> {
+    let mut disk = Overtaken {
+        disk: disk_with(alloc, None, Some(OLD), None)?,
+    };
+    let answer = reserved(alloc, &mut disk, NAME)?;
+    Some(answer == Err(ReserveFault::NameTaken) && stand(&disk.disk, Some(OLD), None))
+}
+
+/// Whoever looked for the name before he makes the temporary file would find neither.
+#[test]
+fn reserves_no_name_that_another_file_gets_meanwhile(rt: HostRuntime) {
+    assert_eq!(rt; is_overtaken(rt.alloc()), Some(true));
 }

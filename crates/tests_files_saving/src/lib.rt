@@ -14,3 +14,5 @@ mod memory_disk;
 mod printed;
 #[cfg(test)]
 mod saved;
+#[cfg(test)]
+mod unsynced;

@@ -308,6 +308,34 @@ fn takes_a_megabyte_at_once(rt: HostRuntime) {
     assert_eq!(rt; first.or(again), Some(true));
 }
 
+/// The rest of an acknowledgement, and the first byte of the next one.
+const ACK_AND_NEXT: [u8; 17] = [0, 0, 0x0d, 0x03, 0, 0, 0, 1, 0, 0, 0, 0, 0, 0, 0, 2, 0];
+
+/// How long the text is that a reader is displayed as, with all bytes that it holds, once it read this many
+/// acknowledgements, of which each piece had the rest of one and the beginning of the next.
+fn displayed_length(alloc: Global, count: usize) -> Option<usize> {
+    let mut reader = FrameReader::new(alloc);
+    reader.feed(&ACK[..1]).ok()?;
+    for _ in 0..count {
+        reader.feed(&ACK_AND_NEXT).ok()?;
+        if acknowledgements(&mut reader, 2) != 1 {
+            return None;
+        }
+    }
+    let text = format!(in alloc; "{reader:?}").ok()?;
+    Some(text.len())
+}
+
+/// Else a stream on which there is always something on its way would fill the memory. Where an allocation is refused
+/// the first time, there is memory the next time.
+#[test]
+fn holds_no_bytes_that_were_read_long_ago(rt: HostRuntime) {
+    let first = displayed_length(rt.alloc(), 2_000);
+    let again = displayed_length(rt.alloc(), 2_000);
+    let length = first.or(again);
+    assert!(rt; length.is_some_and(|length| length < 1_000), "{length:?}");
+}
+
 /// Whether a Hello of this version is read.
 fn is_hello(alloc: Global, version: u8) -> bool {
     let mut bytes = HELLO;

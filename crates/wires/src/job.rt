@@ -6,7 +6,9 @@ use std::alloc::Global;
 use std::sync::Wait;
 use std::time::Clock;
 use wires_transports::{Accepted, Acceptor, Cut, Dial, Ending, Transport};
-use wires_workers::{Context, Gate, WakeUps, WriterQueue, read, read_dialed, runner, write};
+use wires_workers::{
+    Context, Dialed, Gate, WakeUps, WriterQueue, read, read_dialed, runner, write,
+};
 
 /// What one thread of a node does.
 #[derive(Drop)]
@@ -21,8 +23,8 @@ pub enum Job<'a, N: Node, G: Gate, T: Drop, C: Drop, D: Drop, E: Drop, W: Drop> 
     Read(Context<'a, N, G, T, C>, usize, &'a Receiver<Accepted<T, C>>),
     /// Makes a federate's connections, and reads them.
     Connect(Context<'a, N, G, T, C>, D),
-    /// The same in a process of its own: when the federate's end is closed nothing more can come, and the run is to
-    /// end.
+    /// The same in a process of its own: when the federate's end is closed, or the coordinator speaks of another
+    /// history, nothing more can come, and the run is to end.
     ConnectAlone(Context<'a, N, G, T, C>, D),
     /// Lets connections in.
     LetIn(E, &'a Ending),
@@ -39,16 +41,32 @@ pub trait Work: Drop {
 pub struct WorkerResult {
     /// Which events it handed in; None where it hands in none.
     pub share: Option<Share>,
+    /// Whether it ended since the node's peer speaks of another history.
+    pub shows_other_history: bool,
 }
 
 impl WorkerResult {
     /// Of a worker that hands in no events.
     pub fn none() -> WorkerResult {
-        WorkerResult { share: None }
+        WorkerResult {
+            share: None,
+            shows_other_history: false,
+        }
     }
 
     fn of(share: Share) -> WorkerResult {
-        WorkerResult { share: Some(share) }
+        WorkerResult {
+            share: Some(share),
+            shows_other_history: false,
+        }
+    }
+
+    // Of a federate's reader.
+    fn of_dialed(dialed: Dialed) -> WorkerResult {
+        WorkerResult {
+            share: Some(dialed.share),
+            shows_other_history: dialed.shows_other_history,
+        }
     }
 }
 
@@ -82,12 +100,12 @@ impl<'a, N: Node, G: Gate, T: Transport, C: Cut, D: Dial<T, C> + Drop, E: Accept
                 WorkerResult::of(read(rt, alloc, &context, peer, arrivals))
             }
             Job::Connect(context, dial) => {
-                WorkerResult::of(read_dialed(rt, alloc, &context, &dial))
+                WorkerResult::of_dialed(read_dialed(rt, alloc, &context, &dial))
             }
             Job::ConnectAlone(context, dial) => {
-                let share = read_dialed(rt, alloc, &context, &dial);
+                let dialed = read_dialed(rt, alloc, &context, &dial);
                 context.end(rt);
-                WorkerResult::of(share)
+                WorkerResult::of_dialed(dialed)
             }
             Job::LetIn(acceptor, ending) => {
                 acceptor.let_in(rt, alloc, ending);

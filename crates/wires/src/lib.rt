@@ -35,7 +35,7 @@ pub use lines::{CoordinatorLines, Endpoint, FederateLines, FederationLines};
 pub use nobody::{NoAcceptor, NoDial};
 pub use node_workers::{NodeWorkers, channels};
 pub use nodes::{Gathered, Nodes};
-pub use one_node::{run_coordinator, run_federate};
+pub use one_node::{FederateRun, run_coordinator, run_federate};
 pub use run_fault::{Cause, RunFault};
 pub use running::{run, run_over_tcp};
 pub use runtime::{NetRuntime, Runtime};

@@ -1,4 +1,7 @@
 //! One node's run, where each node has a process of its own.
+ghost use Rattle.std.specs.List.{list_any};
+ghost use Rattle.std.specs.Prelude.{◌≡◌};
+
 use crate::gathering::gather_desk;
 use crate::job::{Job, Work, WorkerResult};
 use crate::jobs::{Connector, jobs_of_coordinator, jobs_of_federate};
@@ -86,9 +89,17 @@ fn coordinator_results<
     start(rt, alloc, jobs, ending)
 }
 
-/// Runs a federate in threads until `ending` is set: a worker sets it once the turns are made or the federate's end is
-/// closed, and dial and watcher may before. Returns its desk then. All workers have ended when it returns, and `ending`
-/// is set.
+/// A federate that ran by itself.
+#[derive(Drop)]
+pub struct FederateRun<M: Node> {
+    pub desk: Desk<M>,
+    /// Whether it ended since the coordinator acknowledged a signal that was never offered to it.
+    pub shows_other_history: bool,
+}
+
+/// Runs a federate in threads until `ending` is set: a worker sets it once the turns are made, the federate's end is
+/// closed, or the coordinator speaks of another history, and dial and watcher may before. Returns its desk then, and
+/// whether the last of these was so. All workers have ended when it returns, and `ending` is set.
 ///
 /// The thread that makes the connections owns the dial and lets it go at its end. Once `ending` is set the watcher ends
 /// the connection on which the coordinator says nothing more, since nobody else is there to, and then itself. Where a
@@ -109,13 +120,25 @@ pub fn run_federate<
     watcher: W,
     gate: &G,
     ending: &Ending,
-) -> Result<Desk<M>, RunFault> {
+) -> Result<FederateRun<M>, RunFault> {
     let shared = Shared::new(desk);
     let results = federate_results::<R, M, G, T, C, D, W>(
         rt, alloc, &shared, lines, watcher, gate, ending,
     );
     ending.set();
-    gather_desk(alloc, shared, results?)
+    let results = results?;
+    let shows_other_history = shows_other_history(&results);
+    Ok(FederateRun {
+        desk: gather_desk(alloc, shared, results)?,
+        shows_other_history,
+    })
+}
+
+// Whether one of the workers that left these ended since the coordinator speaks of another history.
+fn shows_other_history(results: &[WorkerResult]) -> bool
+    ensures { result ≡ list_any (λ left. left.shows_other_history) results.now }
+{
+    results.iter().any(|left| left.shows_other_history)
 }
 
 // Runs a federate's workers, and returns what they leave.

@@ -10,7 +10,7 @@ pub mod AreRead
 pub mod ByPeer
 -- The frames that wait for a writer's next send.
 pub mod Waiting
--- Which frames may wait until there are others for their peer.
+-- Which frames are Acks, and may wait until there are others for their peer; and which are signals.
 pub mod LoneAcks
 -- Who sends what waits for a peer.
 pub mod Sending

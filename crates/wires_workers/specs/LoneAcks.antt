@@ -1,4 +1,4 @@
--- Which frames may wait until there are others for their peer.
+-- Which frames are Acks, and may wait until there are others for their peer; and which are signals.
 use Rattle.std.specs.Prelude.{Bool, true, false, not, ◌&&◌, nat_lt, List, length}
 use Rattle.std.specs.List.{list_all}
 use Rattle.signal.specs.declared.frame.Frame.{Frame}
@@ -12,6 +12,13 @@ is_ack (Ack incarnation last_taken) = true
 is_ack (Hello hello) = false
 is_ack (Data incarnation number signal) = false
 is_ack (Refuse incarnation refusal) = false
+
+-- a signal
+abbrev pub is_data : Frame → Bool
+is_data (Data incarnation number signal) = true
+is_data (Hello hello) = false
+is_data (Ack incarnation last_taken) = false
+is_data (Refuse incarnation refusal) = false
 
 -- Acks alone
 abbrev pub are_acks : List Outgoing → Bool

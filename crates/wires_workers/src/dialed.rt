@@ -1,13 +1,10 @@
 //! The reader of a federate, which makes its connections itself.
-ghost use Rattle.std.specs.Prelude.{◌≡◌};
-
 use crate::context::Context;
 use crate::gate::Gate;
-use crate::greeted::Greeted;
-use crate::reader::{greet, read_connection};
+use crate::reader::{ConnectionEnd, read_connection};
 use crate::wake_ups::WakeUp;
 use desk::Share;
-use node::{Node, Outgoing, Reply};
+use node::Node;
 use std::alloc::Global;
 use std::sync::Wait;
 use std::thread;
@@ -15,57 +12,66 @@ use std::time::{Clock, Duration};
 use wires_transports::times::PAUSE_MS;
 use wires_transports::{Accepted, Cut, Dial, Transport};
 
+/// What a federate's reader leaves.
+#[derive(Drop)]
+pub struct Dialed {
+    /// Its share of the journal.
+    pub share: Share,
+    /// Whether the coordinator acknowledged a signal that was never offered to it. No coordinator of this federate's
+    /// run does: one of the two was begun anew without what it knew.
+    pub shows_other_history: bool,
+}
+
 /// Connects a federate to its one peer, and reads. Where a connection breaks or ends, it makes a new one at once, until
-/// the run is to end or the federate's end is closed. An attempt that fails counts as a turn of the runner, and so does
-/// a connection on which no frame came. Returns the reader's share of the journal.
+/// the run is to end, the federate's end is closed, or the peer speaks of another history. An attempt that fails counts
+/// as a turn of the runner, and so does a connection on which no frame came.
 pub fn read_dialed<R: Wait + Clock, N: Node, G: Gate, T: Transport, C: Cut, D: Dial<T, C>>(
     rt: &R,
     alloc: Global,
     context: &Context<'_, N, G, T, C>,
     dial: &D,
-) -> Share {
+) -> Dialed {
     let mut share = Share::new(alloc);
+    let mut shows_other_history = false;
     for _ in rt.forever() {
-        if context.ending.is_set() {
+        if context.ending.is_set() || context.shared.is_closed(rt, 0) {
             break;
         }
-        match greet(rt, context, &mut share, 0) {
-            Some(Reply::Done(greeting)) => {
-                if !has_read(rt, alloc, context, &mut share, dial, greeting) {
-                    tell_failure(rt, context);
-                }
+        match connect(rt, alloc, context, &mut share, dial) {
+            ConnectionEnd::Heard => {}
+            ConnectionEnd::Silent => tell_failure(rt, context),
+            ConnectionEnd::Closed => break,
+            ConnectionEnd::OtherHistory => {
+                shows_other_history = true;
+                break;
             }
-            // Its end is closed.
-            Some(_) => break,
-            None => tell_failure(rt, context),
         }
     }
-    share
+    Dialed {
+        share,
+        shows_other_history,
+    }
 }
 
-// Makes a connection, and reads it to its end. Returns whether a frame came on it.
-fn has_read<R: Wait + Clock, N: Node, G: Gate, T: Transport, C: Cut, D: Dial<T, C>>(
+// Makes a connection, and reads it to its end. The peer is greeted once there is one: an attempt that fails is no event
+// of the node.
+fn connect<R: Wait + Clock, N: Node, G: Gate, T: Transport, C: Cut, D: Dial<T, C>>(
     rt: &R,
     alloc: Global,
     context: &Context<'_, N, G, T, C>,
     share: &mut Share,
     dial: &D,
-    greeting: Vec<Outgoing>,
-) -> bool {
-    let Some(connection) = dial.dial(rt, alloc) else {
-        return false;
-    };
-    let greeted = Greeted {
-        peer: 0,
-        arrived: Accepted {
-            connection,
-            first: Vec::new(alloc),
-        },
-        greeting,
-    };
-    let before = share.slips().len();
-    read_connection(rt, alloc, context, share, greeted);
-    share.slips().len() > before
+) -> ConnectionEnd {
+    match dial.dial(rt, alloc) {
+        Some(connection) => {
+            let arrived = Accepted {
+                connection,
+                first: Vec::new(alloc),
+            };
+            read_connection(rt, alloc, context, share, 0, arrived)
+        }
+        None => ConnectionEnd::Silent,
+    }
 }
 
 // Tells the runner that an attempt failed, and waits a little before the next one.

@@ -18,6 +18,15 @@ use std::sync::Wait;
 use std::time::Clock;
 use wires_transports::{Cut, Transport};
 
+/// What came of events that were handed in.
+#[derive(Clone, Copy, Debug, PartialEq, Eq)]
+pub struct Outcome {
+    /// Whether a step did something.
+    pub has_done: bool,
+    /// Whether a peer acknowledged a signal that was never offered to it: it speaks of another history.
+    pub shows_other_history: bool,
+}
+
 /// What came of events that were taken in.
 #[derive(Clone, Copy, Debug, PartialEq, Eq)]
 pub struct TakenIn {
@@ -25,30 +34,32 @@ pub struct TakenIn {
     pub turns: u32,
     /// A peer that was sent something by them and is far behind, if there is one.
     pub behind: Option<usize>,
+    /// Whether a peer acknowledged a signal that was never offered to it: it speaks of another history.
+    pub shows_other_history: bool,
 }
 
 impl<'a, N: Node, G: Gate, T: Transport, C: Cut> Context<'a, N, G, T, C> {
-    /// Makes the events' steps one after the other, and sends the frames of the replies. Returns whether a step did
-    /// something: then the runner gets a wake-up. Where the gate is open the desk's lock is held over all of them, and
-    /// else the gate is passed before each.
+    /// Makes the events' steps one after the other, and sends the frames of the replies. Where a step did something the
+    /// runner gets a wake-up. Where the gate is open the desk's lock is held over all of them, and else the gate is
+    /// passed before each.
     pub fn hand_in<R: Wait + Clock>(
         &self,
         rt: &R,
         alloc: Global,
         share: &mut Share,
         events: &[Event],
-    ) -> bool
+    ) -> Outcome
         ensures { AreHandedIn share.old events.now share.new }
     {
-        let has_done = if self.gate.is_open() {
+        let outcome = if self.gate.is_open() {
             self.make_all(rt, alloc, share, events)
         } else {
             self.make_each(rt, alloc, share, events)
         };
-        if has_done {
+        if outcome.has_done {
             self.wake_up(rt, WakeUp::Done);
         }
-        has_done
+        outcome
     }
 
     /// Makes the steps of what a peer sent, as `hand_in` does. Where the gate is open, the turns that they allow are
@@ -71,19 +82,22 @@ impl<'a, N: Node, G: Gate, T: Transport, C: Cut> Context<'a, N, G, T, C> {
             let mut session = Session::begin(rt, alloc, self.shared);
             session.enter_all(share, events, batch.as_ref());
             let Turns { made, is_idle } = self.follow(&mut session, share);
-            let behind = self.leave(rt, session);
+            let shows_other_history = session.replies.shows_other_history;
+            let behind = self.leave(rt, session, events);
             if !is_idle {
                 self.wake_up(rt, WakeUp::Done);
             }
             TakenIn {
                 turns: made,
                 behind,
+                shows_other_history,
             }
         } else {
-            self.hand_in(rt, alloc, share, events);
+            let outcome = self.hand_in(rt, alloc, share, events);
             TakenIn {
                 turns: 0,
                 behind: None,
+                shows_other_history: outcome.shows_other_history,
             }
         }
     }
@@ -110,13 +124,13 @@ impl<'a, N: Node, G: Gate, T: Transport, C: Cut> Context<'a, N, G, T, C> {
         if self.gate.is_open() {
             let mut session = Session::begin(rt, alloc, self.shared);
             let turns = session.enter_turns(share, state);
-            self.leave(rt, session);
+            self.leave(rt, session, &[]);
             turns
         } else {
-            let has_done = self.make_each(rt, alloc, share, &[Event::Announce, Event::Advance]);
+            let outcome = self.make_each(rt, alloc, share, &[Event::Announce, Event::Advance]);
             let turns = Turns {
                 made: 1,
-                is_idle: !has_done,
+                is_idle: !outcome.has_done,
             };
             turns.counted(state)
         }
@@ -129,35 +143,50 @@ impl<'a, N: Node, G: Gate, T: Transport, C: Cut> Context<'a, N, G, T, C> {
         self.hand_in(rt, alloc, share, &[Event::Hello(0), Event::Resend(0)]);
     }
 
-    // Makes the events' steps, each behind the gate. Returns whether one of them did something.
+    // Makes the events' steps, each behind the gate.
     fn make_each<R: Wait + Clock>(
         &self,
         rt: &R,
         alloc: Global,
         share: &mut Share,
         events: &[Event],
-    ) -> bool
+    ) -> Outcome
         ensures { AreHandedIn share.old events.now share.new }
     {
         let mut has_done = false;
+        let mut shows_other_history = false;
         for event in events {
             self.gate.pass(rt, self.node, Point::of(event));
-            has_done |= self.make_all(rt, alloc, share, &[*event]);
+            let outcome = self.make_all(rt, alloc, share, &[*event]);
+            has_done |= outcome.has_done;
+            shows_other_history |= outcome.shows_other_history;
         }
-        has_done
+        Outcome {
+            has_done,
+            shows_other_history,
+        }
     }
 
-    // Makes the events' steps under one lock. Returns whether one of them did something.
-    fn make_all<R: Wait>(&self, rt: &R, alloc: Global, share: &mut Share, events: &[Event]) -> bool
+    // Makes the events' steps under one lock.
+    fn make_all<R: Wait>(
+        &self,
+        rt: &R,
+        alloc: Global,
+        share: &mut Share,
+        events: &[Event],
+    ) -> Outcome
         ensures { AreHandedIn share.old events.now share.new }
     {
         // Where there is no memory for a batch, each event is kept by itself.
         let batch = Batch::new(alloc, events).ok();
         let mut session = Session::begin(rt, alloc, self.shared);
         session.enter_all(share, events, batch.as_ref());
-        let has_done = session.replies.has_done;
-        self.leave(rt, session);
-        has_done
+        let outcome = Outcome {
+            has_done: session.replies.has_done,
+            shows_other_history: session.replies.shows_other_history,
+        };
+        self.leave(rt, session, events);
+        outcome
     }
 
     // Makes the turns that are allowed by what was done in this session: none where nothing was done, where the runner

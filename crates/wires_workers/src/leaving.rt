@@ -5,16 +5,24 @@ use crate::context::Context;
 use crate::gate::Gate;
 use crate::session::Session;
 use desk::{BatchReply, Locked};
-use node::{Node, Outgoing};
+use node::{Event, Node, Outgoing};
+use signal::Frame;
 use std::sync::Wait;
 use wires_transports::{Cut, Transport};
 
 impl<'a, N: Node, G: Gate, T: Transport, C: Cut> Context<'a, N, G, T, C> {
-    /// Ends a session: puts the frames of the replies into their peers' queues, gives the lock up, and then sends what
-    /// waits there. Where the node is finished, the run is to end before that: a send may wait for a peer that reads
-    /// nothing. A peer that was sent something and is far behind, if there is one.
-    pub(crate) fn leave<R: Wait>(&self, rt: &R, session: Session<'_, N>) -> Option<usize> {
+    /// Ends a session in which these events of peers were handed in: puts the frames of the replies into their peers'
+    /// queues, gives the lock up, and then sends what waits there. Where the node is finished, the run is to end before
+    /// that: a send may wait for a peer that reads nothing. A peer that was sent something and is far behind, if there
+    /// is one.
+    pub(crate) fn leave<R: Wait>(
+        &self,
+        rt: &R,
+        session: Session<'_, N>,
+        events: &[Event],
+    ) -> Option<usize> {
         let Session { desk, replies } = session;
+        self.catch_up(rt, events);
         let is_finished = !self.ending.is_set() && desk.finished();
         let BatchReply { mut frames, .. } = replies;
         if self.writers.len() > 1 {
@@ -27,6 +35,21 @@ impl<'a, N: Node, G: Gate, T: Transport, C: Cut> Context<'a, N, G, T, C> {
         }
         self.send(rt, &frames);
         behind
+    }
+
+    // Tells the queues of peers that what is put next has all signals which these haven't acknowledged: so it is where
+    // a peer's Hello is among the events, or a Resend. The desk's lock is held, so nothing is put in between.
+    fn catch_up<R: Wait>(&self, rt: &R, events: &[Event]) {
+        for event in events {
+            match event {
+                Event::Frame(peer, Frame::Hello(_)) | Event::Resend(peer) => {
+                    if let Some(writer) = self.writers.get(*peer) {
+                        writer.catch_up(rt);
+                    }
+                }
+                _ => {}
+            }
+        }
     }
 
     // Puts frames into their peers' queues. Only who holds the desk's lock may, so frames for one peer stand there in

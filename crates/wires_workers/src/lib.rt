@@ -47,9 +47,9 @@ pub mod writer;
 pub mod writer_queue;
 
 pub use context::Context;
-pub use dialed::read_dialed;
+pub use dialed::{Dialed, read_dialed};
 pub use gate::{Gate, NoGate, Point};
-pub use handing_in::TakenIn;
+pub use handing_in::{Outcome, TakenIn};
 pub use reader::read;
 pub use retry_state::{Next, RetryState};
 pub use side::Side;

@@ -3,10 +3,10 @@
 //! An Ack says nothing that its peer waits for. So Acks alone, while they are few, are left until other frames are put
 //! for the same peer or the writer has waited a little; and they don't wake a writer that looks soon by itself. Who
 //! sends the rest is `specs/Sending`.
-ghost use Rattle.std.specs.Prelude.{◌≡◌, ◌↔◌, ◌+◌, ◌≤◌, length, IsTrue, None, Some, [], ◌++◌, ◌&&◌, not, is_some};
+ghost use Rattle.std.specs.Prelude.{◌≡◌, ◌↔◌, ◌+◌, ◌≤◌, length, IsTrue, None, Some, [], ◌++◌, ◌&&◌, not, is_some, true, false};
 ghost use Rattle.std.specs.Prelude.{if◌then◌else◌, OnOk, OnErr, IfOk, IfErr};
 ghost use Rattle.signal.specs.declared.wire.TheConstants.{FIRST_VERSION};
-ghost use Rattle.wires_workers.specs.LoneAcks.{is_ack, are_acks, are_few_acks, is_left};
+ghost use Rattle.wires_workers.specs.LoneAcks.{is_ack, is_data, are_acks, are_few_acks, is_left};
 ghost use Rattle.wires_workers.specs.Sending.{task_of, waits};
 ghost use Rattle.wires_workers.specs.declared.queue_state.TheConstants.{WAITING_MOST};
 
@@ -31,6 +31,8 @@ pub(crate) struct QueueState<T: Drop, C: Drop> {
     side: Option<Side<T, C>>,
     // The version of the last Hello that came on the connection, or the first version before one came.
     peer: u8,
+    // Whether all signals that the peer hasn't acknowledged were put since the connection began.
+    is_caught_up: bool,
     // What is to be written, oldest first.
     frames: Vec<Outgoing>,
     // Whether the writer looks soon by itself: something waited when it looked last.
@@ -65,10 +67,12 @@ impl<T: Drop, C: Drop> QueueState<T, C> {
         ensures side { result.side ≡ None }
         ensures peer { result.peer ≡ FIRST_VERSION }
         ensures frames { result.frames.items ≡ [] }
+        ensures caught_up { result.is_caught_up ≡ false }
     {
         QueueState {
             side: None,
             peer: FIRST_VERSION,
+            is_caught_up: false,
             frames: Vec::new(alloc),
             looks_soon: false,
             is_behind: false,
@@ -81,10 +85,30 @@ impl<T: Drop, C: Drop> QueueState<T, C> {
         ensures side { self.new.side ≡ Some side }
         ensures peer { self.new.peer ≡ FIRST_VERSION }
         ensures frames { self.new.frames.items ≡ greeting.items }
+        ensures caught_up { self.new.is_caught_up ≡ false }
     {
         self.side = Some(side);
         self.peer = FIRST_VERSION;
+        self.is_caught_up = false;
         self.frames = greeting;
+    }
+
+    /// What is put next has all signals that the peer hasn't acknowledged.
+    pub fn catch_up(&mut self)
+        ensures side { self.new.side ≡ self.old.side }
+        ensures peer { self.new.peer ≡ self.old.peer }
+        ensures frames { self.new.frames.items ≡ self.old.frames.items }
+        ensures caught_up { self.new.is_caught_up ≡ true }
+    {
+        self.is_caught_up = true;
+    }
+
+    /// Whether all signals that the peer hasn't acknowledged were put since the connection began. One that went before
+    /// would come ahead of its turn, where an earlier one was lost with an earlier connection.
+    pub fn is_caught_up(&self) -> bool
+        ensures { result ≡ self.now.is_caught_up }
+    {
+        self.is_caught_up
     }
 
     /// The peer's last Hello has this version.
@@ -112,6 +136,7 @@ impl<T: Drop, C: Drop> QueueState<T, C> {
         ensures unchanged { OnErr result (self.new.frames.items ≡ self.old.frames.items) }
         ensures behind { self.new.is_behind ≡ is_behind }
         ensures soon { self.new.looks_soon ≡ self.old.looks_soon }
+        ensures caught_up { self.new.is_caught_up ≡ self.old.is_caught_up }
     {
         self.is_behind = is_behind;
         self.frames.extend_from_slice(frames)
@@ -215,4 +240,11 @@ fn is_ack(frame: &Frame) -> bool
     ensures { result ≡ is_ack frame.now }
 {
     matches!(frame, Frame::Ack { .. })
+}
+
+/// Whether it is a signal.
+pub(crate) fn is_data(frame: &Frame) -> bool
+    ensures { result ≡ is_data frame.now }
+{
+    matches!(frame, Frame::Data { .. })
 }

@@ -38,6 +38,19 @@ enum ReaderStep {
     End,
 }
 
+/// How a connection ended.
+#[derive(Clone, Copy, Debug, PartialEq, Eq)]
+pub(crate) enum ConnectionEnd {
+    /// A frame came on it.
+    Heard,
+    /// No frame came on it, or there was no memory for it.
+    Silent,
+    /// The node's end for the peer is closed.
+    Closed,
+    /// At a federate: the peer acknowledged a signal that was never offered to it, so it speaks of another history.
+    OtherHistory,
+}
+
 // What came on a connection, and how much of it is handed in at once.
 #[derive(Drop)]
 struct Received {
@@ -49,6 +62,8 @@ struct Received {
     heard: u8,
     // How many events are handed in next, at most.
     most: usize,
+    // Whether the peer acknowledged a signal that was never offered to it.
+    shows_other_history: bool,
 }
 
 /// Reads a peer's connections one after the other, as they come, until no more come. Each is greeted first. Returns the
@@ -65,24 +80,43 @@ pub fn read<R: Wait + Clock, N: Node, G: Gate, T: Transport, C: Cut>(
         let Ok(arrived) = arrivals.recv(rt) else {
             break;
         };
-        match greet(rt, context, &mut share, peer) {
-            Some(Reply::Done(greeting)) => {
-                let greeted = Greeted {
-                    peer,
-                    arrived,
-                    greeting,
-                };
-                read_connection(rt, alloc, context, &mut share, greeted);
-            }
-            _ => arrived.connection.cut.cut(rt),
-        }
+        read_connection(rt, alloc, context, &mut share, peer, arrived);
     }
     share
 }
 
+// Greets the peer on a new connection, and reads that to its end.
+pub(crate) fn read_connection<R: Wait + Clock, N: Node, G: Gate, T: Transport, C: Cut>(
+    rt: &R,
+    alloc: Global,
+    context: &Context<'_, N, G, T, C>,
+    share: &mut Share,
+    peer: usize,
+    arrived: Accepted<T, C>,
+) -> ConnectionEnd {
+    match greet(rt, context, share, peer) {
+        Some(Reply::Done(greeting)) => {
+            let greeted = Greeted {
+                peer,
+                arrived,
+                greeting,
+            };
+            read_greeted(rt, alloc, context, share, greeted)
+        }
+        Some(_) => {
+            arrived.connection.cut.cut(rt);
+            ConnectionEnd::Closed
+        }
+        None => {
+            arrived.connection.cut.cut(rt);
+            ConnectionEnd::Silent
+        }
+    }
+}
+
 // Greets the peer on a new connection. The reply has the frame that is sent first; it is nothing where the end is
 // closed.
-pub(crate) fn greet<R: Wait + Clock, N: Node, G: Gate, T: Transport, C: Cut>(
+fn greet<R: Wait + Clock, N: Node, G: Gate, T: Transport, C: Cut>(
     rt: &R,
     context: &Context<'_, N, G, T, C>,
     share: &mut Share,
@@ -95,13 +129,13 @@ pub(crate) fn greet<R: Wait + Clock, N: Node, G: Gate, T: Transport, C: Cut>(
 
 // Reads a connection to its end. The writer is asked to begin with the greeting. At the end, and where what came is no
 // frame, both directions are ended. Where the run is to end, the writer may have ended before: then nothing is read.
-pub(crate) fn read_connection<R: Wait + Clock, N: Node, G: Gate, T: Transport, C: Cut>(
+fn read_greeted<R: Wait + Clock, N: Node, G: Gate, T: Transport, C: Cut>(
     rt: &R,
     alloc: Global,
     context: &Context<'_, N, G, T, C>,
     share: &mut Share,
     greeted: Greeted<T, C>,
-) {
+) -> ConnectionEnd {
     let Greeted {
         peer,
         arrived: Accepted { connection, first },
@@ -112,6 +146,7 @@ pub(crate) fn read_connection<R: Wait + Clock, N: Node, G: Gate, T: Transport, C
         outgoing,
         cut,
     } = connection;
+    let mut end = ConnectionEnd::Silent;
     if let Ok(other) = Arc::try_clone(&cut) {
         if let Some(writer) = context.writers.get(peer) {
             let side = Side {
@@ -120,20 +155,44 @@ pub(crate) fn read_connection<R: Wait + Clock, N: Node, G: Gate, T: Transport, C
             };
             writer.begin(rt, side, greeting);
             if !context.ending.is_set() {
-                let mut frames = FrameReader::new(alloc);
-                if frames.feed(&first).is_ok() {
-                    let mut received = Received {
-                        peer,
-                        heard: frames.version(),
-                        frames,
-                        most: AT_ONCE,
-                    };
-                    read_on(rt, alloc, context, share, &mut incoming, &mut received);
-                }
+                end = read_begun(rt, alloc, context, share, peer, &mut incoming, &first);
             }
         }
     }
     cut.cut(rt);
+    end
+}
+
+// Reads a connection on which the writer begins to its end. These bytes were read of it before.
+fn read_begun<R: Wait + Clock, N: Node, G: Gate, T: Transport, C: Cut>(
+    rt: &R,
+    alloc: Global,
+    context: &Context<'_, N, G, T, C>,
+    share: &mut Share,
+    peer: usize,
+    incoming: &mut T,
+    first: &[u8],
+) -> ConnectionEnd {
+    let mut frames = FrameReader::new(alloc);
+    if frames.feed(first).is_err() {
+        return ConnectionEnd::Silent;
+    }
+    let mut received = Received {
+        peer,
+        heard: frames.version(),
+        frames,
+        most: AT_ONCE,
+        shows_other_history: false,
+    };
+    let before = share.slips().len();
+    read_on(rt, alloc, context, share, incoming, &mut received);
+    if received.shows_other_history {
+        ConnectionEnd::OtherHistory
+    } else if share.slips().len() > before {
+        ConnectionEnd::Heard
+    } else {
+        ConnectionEnd::Silent
+    }
 }
 
 // Hands in all whole frames that are there, and reads what comes next, to the end of the connection or what is no
@@ -177,7 +236,8 @@ fn read_more<R: Wait, T: Transport>(
 
 // Hands in whole frames, as many as are handed in at once, and makes turns behind them. What comes after them, and is
 // no frame, is no event. Where a Hello has another version than the last one, the writer hears of it before the node
-// answers.
+// answers. A federate, whose only peer is the coordinator, ends the connection where that speaks of another history;
+// the coordinator goes on with its other peers, and refuses such frames.
 fn take_some<R: Wait + Clock, N: Node, G: Gate, T: Transport, C: Cut>(
     rt: &R,
     alloc: Global,
@@ -204,9 +264,18 @@ fn take_some<R: Wait + Clock, N: Node, G: Gate, T: Transport, C: Cut>(
         context.hear(rt, received.peer, version);
     }
     received.heard = version;
-    let TakenIn { behind, .. } = context.take_in(rt, alloc, share, &events);
+    let TakenIn {
+        behind,
+        shows_other_history,
+        ..
+    } = context.take_in(rt, alloc, share, &events);
     received.most = pace(rt, context, received.peer, behind);
-    step
+    received.shows_other_history = shows_other_history && context.runner.is_some();
+    if received.shows_other_history {
+        ReaderStep::End
+    } else {
+        step
+    }
 }
 
 // Waits a little for a peer that is far behind, if that isn't the reader's own: it would have no room for more, and

@@ -12,7 +12,7 @@
 //! nobody looks at.
 ghost use Rattle.std.specs.Prelude.{◌≡◌, ◌<◌, []};
 
-use crate::queue_state::{Asked, QueueState, Task};
+use crate::queue_state::{Asked, QueueState, Task, is_data};
 use crate::side::Side;
 use crate::writer::Writer;
 use crossbeam_channel::{Receiver, Sender, unbounded};
@@ -73,13 +73,27 @@ impl<T: Drop, C: Drop> WriterQueue<T, C> {
         waiting.hear(version);
     }
 
+    /// What is put next has all signals that the peer hasn't acknowledged, as what a node says to a Hello or to a
+    /// Resend. Called under the desk's lock, right before that is put.
+    pub fn catch_up<R: Wait>(&self, rt: &R) {
+        let mut waiting = self.waiting.lock(rt);
+        waiting.catch_up();
+    }
+
     /// Puts frames behind those that wait. Where there is no memory for them, or too many wait, they are lost, as on a
-    /// line that loses frames. Whether the peer is behind is said of the frames that it hasn't acknowledged. They wait
-    /// until `send` or the writer sends them.
+    /// line that loses frames. So are signals before it caught up on this connection: then they are all put again.
+    /// Whether the peer is behind is said of the frames that it hasn't acknowledged. They wait until `send` or the
+    /// writer sends them.
     pub fn put<R: Wait>(&self, rt: &R, frames: &[Outgoing], is_behind: bool) {
         let mut waiting = self.waiting.lock(rt);
-        if waiting.has_room(frames.len()) {
-            let _ = waiting.add(frames, is_behind);
+        if waiting.is_caught_up() {
+            put_all(&mut waiting, frames, is_behind);
+        } else {
+            for outgoing in frames {
+                if !is_data(&outgoing.frame) {
+                    put_all(&mut waiting, &[*outgoing], is_behind);
+                }
+            }
         }
     }
 
@@ -217,5 +231,12 @@ impl<T: Transport, C: Cut> Pen<T, C> {
         self.writer.hear(peer);
         self.writer.add_all(&self.frames);
         self.writer.flush(rt);
+    }
+}
+
+// Puts frames behind those that wait, where there is room for all of them.
+fn put_all<T: Drop, C: Drop>(waiting: &mut QueueState<T, C>, frames: &[Outgoing], is_behind: bool) {
+    if waiting.has_room(frames.len()) {
+        let _ = waiting.add(frames, is_behind);
     }
 }

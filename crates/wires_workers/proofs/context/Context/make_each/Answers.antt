@@ -8,8 +8,8 @@ loop-event-init g c = none
 
 pub loop-event-preserved : goal.loop-event-preserved
 loop-event-preserved g c =
-    next_listed c.args.share.now c.loop-event.share c.make_all-has_done.new.share c.args.events.now c.loop-event.event-index c.event-item.result c.loop-event-test.true c.event-item.is
-    c.loop-event.invariant c.make_all-has_done.ensures
+    next_listed c.args.share.now c.loop-event.share c.make_all-outcome.new.share c.args.events.now c.loop-event.event-index c.event-item.result c.loop-event-test.true c.event-item.is
+    c.loop-event.invariant c.make_all-outcome.ensures
 
 pub returns : goal.returns
 returns g c =

@@ -64,6 +64,7 @@ fn begin<'s, R: Wait>(
     let cut = Arc::new(alloc, NoCut).ok()?;
     queue.open(rt, alloc, 2);
     queue.begin(rt, Side { transport, cut }, Vec::new(alloc));
+    queue.catch_up(rt);
     queue.send_all(rt, false);
     Some(())
 }

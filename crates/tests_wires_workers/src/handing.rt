@@ -13,7 +13,7 @@ use wires::NodeWorkers;
 use wires_transports::{Connection, Ending, MemoryCut, MemoryTransport, Transport, pair};
 use wires_workers::{NoGate, Side, WriterQueue, write};
 
-/// A writer to which a connection was given, without a greeting.
+/// A writer to which a connection was given, without a greeting, as if the peer's Hello had come.
 fn begin<R: Wait>(
     rt: &R,
     alloc: Global,
@@ -26,6 +26,7 @@ fn begin<R: Wait>(
         cut,
     };
     writer.begin(rt, side, Vec::new(alloc));
+    writer.catch_up(rt);
 }
 
 /// Hands these events in at once.
