@@ -1,19 +1,22 @@
 -- A report agrees with the loader.
 use Rattle.std.proofs.Common.{◌≡◌, ℕ, List, Option, None, Some, Result, Ok, Err, refl, subst, sym, inl, inr}
-use Rattle.std.specs.Prelude.{◌≢◌, ◌⊎◌, IfOk, IfSome, IsSome, MatchOption}
+use Rattle.std.specs.Prelude.{◌≢◌, ◌⊎◌, IfOk, IsSome, MatchOption}
 use Rattle.plan.specs.declared.draft.Draft.{Draft}
 use Rattle.plan.specs.declared.input.Input.{Input}
 use Rattle.plan.specs.External.{AreInputsOf}
 use Rattle.reactor_program.specs.Behaviour.{Behaviour}
 use Rattle.loadfed.specs.declared.fault.LoadFault.{LoadFault}
 use Rattle.loadfed.specs.declared.fault.LoadFault.TheVariants.{UnknownAction, RepeatedInput, OverLimit, Memory}
+use Rattle.loadfed_tables.specs.declared.fault.TableFault.{TableFault}
+use Rattle.loadfed_tables.specs.declared.fault.TableFault.TheVariants as table_fault
+use Rattle.loadfed.specs.Errors.{fault_of_table}
 use Rattle.loadfed.specs.Loaded.{IsFederationFile, HasLoadFault}
 use Rattle.loadfed.specs.InputShape.{SaysInputFile, HasInputFileFault, IsFaultOfInputs, out_of_memory, too_long, no_document, wrong_shape, no_inputs, unknown_action, repeated_input, too_many}
 use Rattle.loadfed.proofs.Accepted.{one_federation_draft}
 use Rattle.loadfed.proofs.InputReadings.{same_inputs, inputs_accepted}
 use Rattle.fedrun_lint.specs.declared.report.Refusal.{Refusal}
 use Rattle.fedrun_lint.specs.declared.report.Report.{Report}
-use Rattle.fedrun_lint.specs.Reports.{IsTaken, IsFirst, IsRefused, AreRecorded, AreRefused, RecordsNone, AgreesOnInputs, IsReportOfTaken, IsReportOfRefused, IsReport}
+use Rattle.fedrun_lint.specs.Reports.{IsTaken, IsFirst, IsRefused, AreRecorded, AreRefused, RecordsNone, AgreesOnInputs, RecordsSome, HasShapeFault, of_length, of_text, of_tables, of_count, IsRefusedForShape, AgreesOnShape, IsReportOfTaken, IsReportOfRefused, IsReport}
 use Rattle.fedrun_lint.specs.Answered.{IsReportOn, AreTaken, AreRight}
 
 taken_alone : (federation inputs : List ℕ) (d : Draft) (programs : List Behaviour) (refused more : Option Refusal) → refused ≡ None
@@ -38,7 +41,7 @@ federation_refused federation fault refusal first stands other only =
     }
 
 refused_alone : (federation inputs : List ℕ) (fault : LoadFault) (refused more : Option Refusal) → IsFirst fault refused → HasLoadFault federation fault → fault ≢ Memory
-    → ((d : Draft) (programs : List Behaviour) → IsFederationFile federation d programs → fault ≡ Memory) → IfSome more (λ other. RecordsNone inputs)
+    → ((d : Draft) (programs : List Behaviour) → IsFederationFile federation d programs → fault ≡ Memory) → AgreesOnShape inputs more
     → MatchOption refused (IsReportOfTaken federation inputs more) (IsReportOfRefused federation inputs more)
 refused_alone federation inputs fault None more first stands other only agrees = absurd first
 refused_alone federation inputs fault (Some r) more first stands other only agrees =
@@ -47,7 +50,7 @@ refused_alone federation inputs fault (Some r) more first stands other only agre
 -- the report of a file that is refused as a federation
 pub of_refused : {E : Type 0} (federation inputs : List ℕ) (fault : LoadFault) (r : Result Report E) → HasLoadFault federation fault → fault ≢ Memory
     → ((d : Draft) (programs : List Behaviour) → IsFederationFile federation d programs → fault ≡ Memory)
-    → IfOk r (λ report. IsFirst fault report.federation) → IfOk r (λ report. IfSome report.inputs (λ other. RecordsNone inputs)) → IfOk r (IsReport federation inputs)
+    → IfOk r (λ report. IsFirst fault report.federation) → IfOk r (λ report. AgreesOnShape inputs report.inputs) → IfOk r (IsReport federation inputs)
 of_refused federation inputs fault (Ok report) stands other only first agrees =
     refused_alone federation inputs fault report.federation report.inputs first stands other only agrees
 of_refused federation inputs fault (Err e) stands other only first agrees = tt
@@ -77,9 +80,55 @@ fault_stands_everywhere d e bytes fault inputs (no_inputs h) known apart says ar
     ]
 
 -- a file of recorded inputs with a fault that isn't of its federation records inputs of none
-pub records_none : (d : Draft) (bytes : List ℕ) (fault : LoadFault) → HasInputFileFault d bytes fault → fault ≢ Memory → fault ≢ UnknownAction → fault ≢ RepeatedInput → RecordsNone bytes
+records_none : (d : Draft) (bytes : List ℕ) (fault : LoadFault) → HasInputFileFault d bytes fault → fault ≢ Memory → fault ≢ UnknownAction → fault ≢ RepeatedInput → RecordsNone bytes
 records_none d bytes fault stands other known apart =
     λ e inputs says are. other (fault_stands_everywhere d e bytes fault inputs stands known apart says are)
+
+-- what is answered of inputs whose actions aren't there, or have two at one tag, isn't answered of tables
+no_table_fault : (wrong : TableFault) (fault : LoadFault) → fault ≡ fault_of_table wrong → (fault ≡ UnknownAction) ⊎ (fault ≡ RepeatedInput) → ⊥
+no_table_fault table_fault.NotToml fault told (inl unknown) = cc
+no_table_fault table_fault.NotToml fault told (inr repeated) = cc
+no_table_fault (table_fault.WrongShape key) fault told (inl unknown) = cc
+no_table_fault (table_fault.WrongShape key) fault told (inr repeated) = cc
+no_table_fault table_fault.OverLimit fault told (inl unknown) = cc
+no_table_fault table_fault.OverLimit fault told (inr repeated) = cc
+no_table_fault table_fault.Memory fault told (inl unknown) = cc
+no_table_fault table_fault.Memory fault told (inr repeated) = cc
+
+-- a file of which that is answered records inputs
+pub records_some : (d : Draft) (bytes : List ℕ) (fault : LoadFault) → HasInputFileFault d bytes fault → (fault ≡ UnknownAction) ⊎ (fault ≡ RepeatedInput) → RecordsSome bytes
+records_some d bytes fault (out_of_memory memory few) is = absurd (no_table_fault table_fault.Memory fault memory is)
+records_some d bytes fault (too_long h) is = absurd (no_table_fault table_fault.OverLimit fault h.told is)
+records_some d bytes fault (no_document h) is = absurd (no_table_fault table_fault.NotToml fault h.told is)
+records_some d bytes fault (wrong_shape h) is = absurd (no_table_fault h.wrong fault h.told is)
+records_some d bytes fault (no_inputs h) is = record { inputs = h.inputs; says = h.declared }
+
+-- and so does one whose inputs are taken
+pub taken_are_some : (d : Draft) (bytes : List ℕ) (inputs : List Input) → SaysInputFile bytes inputs × AreInputsOf d inputs → RecordsSome bytes
+taken_are_some d bytes inputs is = record { inputs = inputs; says = is.0 }
+
+-- any other fault is one of the shape
+shape_fault : (d : Draft) (bytes : List ℕ) (fault : LoadFault) → HasInputFileFault d bytes fault → fault ≢ Memory → fault ≢ UnknownAction → fault ≢ RepeatedInput → HasShapeFault bytes fault
+shape_fault d bytes fault (out_of_memory memory few) other known apart = absurd (other memory)
+shape_fault d bytes fault (too_long h) other known apart = of_length h
+shape_fault d bytes fault (no_document h) other known apart = of_text h
+shape_fault d bytes fault (wrong_shape h) other known apart = of_tables h
+shape_fault d bytes fault (no_inputs h) other known apart =
+    elim h.refused [
+      | unknown_action told unknown ↦ absurd (known told)
+      | repeated_input told all repeated ↦ absurd (apart told)
+      | too_many told all single many ↦ of_count told h.inputs h.declared many
+    ]
+
+-- a refusal of recorded inputs for their shape, whose first fault is this one
+pub shape_refused : (d : Draft) (bytes : List ℕ) (fault : LoadFault) (refusal : Refusal) → refusal.first.fault ≡ fault → HasInputFileFault d bytes fault → fault ≢ Memory → fault ≢ UnknownAction
+    → fault ≢ RepeatedInput → IsRefusedForShape bytes refusal
+shape_refused d bytes fault refusal first stands other known apart =
+    record {
+      first = subst (HasShapeFault bytes) (sym first) (shape_fault d bytes fault stands other known apart);
+      not_memory = subst (λ x. x ≢ Memory) (sym first) other;
+      none = records_none d bytes fault stands other known apart;
+    }
 
 -- what is refused isn't right, of two files that aren't too long
 wrong_of_both : (federation inputs : List ℕ) (refused more : Option Refusal) → MatchOption refused (IsReportOfTaken federation inputs more) (IsReportOfRefused federation inputs more)
@@ -104,11 +153,6 @@ refused_first : (fault : LoadFault) (refused : Option Refusal) → IsFirst fault
 refused_first fault None first = absurd first
 refused_first fault (Some r) first = refl
 
-refused_of_one : (federation : List ℕ) (refused more : Option Refusal) → MatchOption refused (IsTaken federation × IsFirst OverLimit more) (IsRefused federation)
-    → IsSome refused ⊎ IsSome more
-refused_of_one federation (Some r) more is = inl refl
-refused_of_one federation None more is = inr (refused_first OverLimit more is.1)
-
 -- what is refused isn't right
 pub wrong_where_refused : (federation inputs : Option (List ℕ)) (report : Report) → IsReportOn federation inputs report
     → IsSome report.federation ⊎ IsSome report.inputs → AreRight federation inputs → ⊥
@@ -119,6 +163,6 @@ wrong_where_refused (Some federation) (Some inputs) report is some right = wrong
 -- and what isn't right is refused
 pub refused_where_wrong : (federation inputs : Option (List ℕ)) (report : Report) → IsReportOn federation inputs report
     → (AreRight federation inputs → ⊥) → IsSome report.federation ⊎ IsSome report.inputs
-refused_where_wrong None inputs report is wrong = inl (refused_first OverLimit report.federation is)
-refused_where_wrong (Some federation) None report is wrong = refused_of_one federation report.federation report.inputs is
+refused_where_wrong None inputs report is wrong = inl (refused_first OverLimit report.federation is.0)
+refused_where_wrong (Some federation) None report is wrong = inr (refused_first OverLimit report.inputs is.1)
 refused_where_wrong (Some federation) (Some inputs) report is wrong = refused_of_both federation inputs report.federation report.inputs is wrong

@@ -6,20 +6,27 @@ use Rattle.reactor_program.specs.Behaviour.{Behaviour}
 use Rattle.loadfed.specs.declared.fault.LoadFault.TheVariants.{OverLimit}
 use Rattle.loadfed.specs.Loaded.{IsFederationFile}
 use Rattle.fedrun_words.specs.Pieces.{AppendsPrefix}
-use Rattle.fedrun_lint.specs.Reports.{IsTaken, IsFirst, IsRefused, AreRecorded, IsReport}
+use Rattle.fedrun_lint.specs.Reports.{IsTaken, IsFirst, IsRefused, AreRecorded, AgreesOnShape, IsReport}
 use Rattle.fedrun_lint.specs.Printed.{printed_report}
 use Rattle.fedrun_lint.specs.declared.printing.NamedFile.{NamedFile}
+use Rattle.fedrun_lint.specs.declared.report.Refusal.{Refusal}
 use Rattle.fedrun_lint.specs.declared.report.Report.{Report}
 
 -- a federation file is refused exactly where it is no federation; the file of recorded inputs is too long, which is its
 -- fault
 abbrev pub IsReportOnOne : List ℕ → Report → Type 0
 IsReportOnOne federation report =
-    MatchOption report.federation (IsTaken federation × IsFirst OverLimit report.inputs) (IsRefused federation)
+    MatchOption report.federation (IsTaken federation) (IsRefused federation) × IsFirst OverLimit report.inputs
+
+-- of recorded inputs whose federation file is too long the shape is looked at; where they are too long too, that is
+-- their fault
+abbrev pub IsReportOnInputs : Option (List ℕ) → Option Refusal → Type 0
+IsReportOnInputs None refused = IsFirst OverLimit refused
+IsReportOnInputs (Some inputs) refused = AgreesOnShape inputs refused
 
 -- a report on two files, of which one that is too long has no bytes here
 abbrev pub IsReportOn : Option (List ℕ) → Option (List ℕ) → Report → Type 0
-IsReportOn None inputs report = IsFirst OverLimit report.federation
+IsReportOn None inputs report = IsFirst OverLimit report.federation × IsReportOnInputs inputs report.inputs
 IsReportOn (Some federation) None report = IsReportOnOne federation report
 IsReportOn (Some federation) (Some inputs) report = IsReport federation inputs report
 

@@ -1,7 +1,7 @@
-ghost use Rattle.std.specs.Prelude.{◌≡◌, None, IfOk, IfSome, MatchOption, option_copied};
-ghost use Rattle.loadfed.specs.declared.fault.LoadFault.TheVariants.{OverLimit};
-ghost use Rattle.fedrun_lint.specs.Reports.{IsReport, IsTaken, IsFirst, IsRefused, RecordsNone, AgreesOnInputs};
-ghost use Rattle.fedrun_lint.specs.Answered.{IsReportOn, IsReportOnOne};
+ghost use Rattle.std.specs.Prelude.{◌≡◌, ◌≢◌, ◌⊎◌, true, false, None, IfOk, MatchOption, option_copied};
+ghost use Rattle.loadfed.specs.declared.fault.LoadFault.TheVariants.{UnknownAction, RepeatedInput};
+ghost use Rattle.fedrun_lint.specs.Reports.{IsReport, IsTaken, IsFirst, IsRefused, AgreesOnInputs, AgreesOnShape};
+ghost use Rattle.fedrun_lint.specs.Answered.{IsReportOn, IsReportOnOne, IsReportOnInputs};
 
 use crate::draft::Draft;
 use crate::federates::look_at_federation;
@@ -46,17 +46,25 @@ pub(crate) fn report_on(
 
 /// The report where the federation file is too long.
 fn of_long_federation(alloc: Global, inputs: Option<&[u8]>) -> Result<Report, AllocError>
-    ensures { IfOk result (λ report. IsFirst OverLimit report.federation) }
+    ensures { IfOk result (IsReportOn None (option_copied inputs.entry)) }
 {
-    let inputs = match inputs {
-        Some(bytes) => refusal_of_shapes(alloc, bytes)?,
-        None => Some(Refusal::too_long(alloc)),
-    };
+    let inputs = refusal_if_few(alloc, inputs)?;
     Ok(Report {
         federation: Some(Refusal::too_long(alloc)),
         inputs,
         odd: Vec::new(alloc),
     })
+}
+
+/// Why a file of recorded inputs of a refused federation is refused, if it is: for its length, where it has no bytes
+/// here, and else for its shape.
+fn refusal_if_few(alloc: Global, inputs: Option<&[u8]>) -> Result<Option<Refusal>, AllocError>
+    ensures { IfOk result (IsReportOnInputs (option_copied inputs.entry)) }
+{
+    match inputs {
+        Some(bytes) => refusal_of_shapes(alloc, bytes),
+        None => Ok(Some(Refusal::too_long(alloc))),
+    }
 }
 
 /// The report where the file of recorded inputs is too long.
@@ -103,7 +111,7 @@ fn of_refused(
     fault: LoadFault,
 ) -> Result<Report, AllocError>
     ensures federation { IfOk result (λ report. IsFirst fault report.federation) }
-    ensures inputs { IfOk result (λ report. IfSome report.inputs (λ refusal. RecordsNone inputs.now)) }
+    ensures inputs { IfOk result (λ report. AgreesOnShape inputs.now report.inputs) }
 {
     let refusal = refusal_of_federation(alloc, federation, fault)?;
     let inputs = refusal_of_shapes(alloc, inputs)?;
@@ -144,7 +152,7 @@ fn of_taken(
         }
         Err(LoadFault::Memory) => Err(AllocError),
         Err(fault) => {
-            let refusal = refusal_of_inputs(alloc, inputs, plan, fault)?;
+            let refusal = refusal_of_inputs(alloc, inputs, plan, true, fault)?;
             Ok(Report {
                 federation: None,
                 inputs: Some(refusal),
@@ -209,11 +217,13 @@ fn up_to(bytes: &[u8], most: usize) -> &[u8] {
     if bytes.len() > most { &[] } else { bytes }
 }
 
-/// Why a file of recorded inputs of a plan is refused that has this fault.
+/// Why a file of recorded inputs is refused that has this fault as one of this plan: whether they are its own, or only
+/// their shape is looked at.
 fn refusal_of_inputs(
     alloc: Global,
     inputs: &[u8],
     plan: &Plan,
+    is_theirs: bool,
     fault: LoadFault,
 ) -> Result<Refusal, AllocError>
     ensures { IfOk result (λ refusal. refusal.first.fault ≡ fault) }
@@ -221,26 +231,40 @@ fn refusal_of_inputs(
     if let LoadFault::NotToml = fault {
         return refusal_of_text(alloc, inputs, fault);
     }
-    let found = faults(alloc, up_to(inputs, MOST_INPUT_BYTES), Some(plan), true)?;
+    let found = faults(
+        alloc,
+        up_to(inputs, MOST_INPUT_BYTES),
+        Some(plan),
+        is_theirs,
+    )?;
     refusal(alloc, fault, found)
 }
 
 /// Why a file of recorded inputs of a refused federation is refused, for its shape.
+#[tactic(auto, using(crate::proofs::Agreement::records_some, crate::proofs::Agreement::taken_are_some, crate::proofs::Agreement::shape_refused))]
 fn refusal_of_shapes(alloc: Global, inputs: &[u8]) -> Result<Option<Refusal>, AllocError>
-    ensures { IfOk result (λ refused. IfSome refused (λ refusal. RecordsNone inputs.now)) }
+    ensures { IfOk result (AgreesOnShape inputs.now) }
 {
     let Ok((plan, _programs)) = load(alloc, ANY_FEDERATION.as_bytes()) else {
         return Err(AllocError);
     };
-    match load_inputs(alloc, inputs, &plan) {
-        Ok(_) | Err(LoadFault::UnknownAction | LoadFault::RepeatedInput) => Ok(None),
-        Err(LoadFault::Memory) => Err(AllocError),
-        Err(LoadFault::NotToml) => { Ok(Some(refusal_of_text(alloc, inputs, LoadFault::NotToml)?)) }
-        Err(fault) => {
-            let found = faults(alloc, up_to(inputs, MOST_INPUT_BYTES), Some(&plan), false)?;
-            Ok(Some(refusal(alloc, fault, found)?))
-        }
+    let fault = match load_inputs(alloc, inputs, &plan) {
+        Ok(_) => return Ok(None),
+        Err(LoadFault::Memory) => return Err(AllocError),
+        Err(fault) => fault,
+    };
+    if is_about_actions(&fault) {
+        return Ok(None);
     }
+    Ok(Some(refusal_of_inputs(alloc, inputs, &plan, false, fault)?))
+}
+
+/// Whether a fault of recorded inputs is about the actions that they are for, and so not about their shape.
+fn is_about_actions(fault: &LoadFault) -> bool
+    ensures about { result ≡ true → (fault.now ≡ UnknownAction) ⊎ (fault.now ≡ RepeatedInput) }
+    ensures other { result ≡ false → (fault.now ≢ UnknownAction) × (fault.now ≢ RepeatedInput) }
+{
+    matches!(fault, LoadFault::UnknownAction | LoadFault::RepeatedInput)
 }
 
 /// Finds what is wrong with recorded inputs.

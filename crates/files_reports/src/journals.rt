@@ -51,7 +51,8 @@ fn many_events(alloc: Global, count: u64, bytes: &[u8]) -> Result<(Journal, &[u8
     Ok((events, rest))
 }
 
-fn event_of(alloc: Global, bytes: &[u8]) -> Result<(Event, &[u8]), ReadFault>
+/// An event at the front of some bytes, and the bytes behind it. Logs read theirs by it too.
+pub fn event_of(alloc: Global, bytes: &[u8]) -> Result<(Event, &[u8]), ReadFault>
     ensures given { Gives (λ x. (x.0, x.1.now)) result (event_part bytes.now) }
     ensures taken { IfOk result (λ x. IsTaken event_bytes IsEvent bytes.now x.0 x.1.now) }
 {

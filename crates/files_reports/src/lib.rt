@@ -12,10 +12,10 @@
 //! Begin with `specs/Said` and `specs/Spelling`, then `node_report`, `read` and `write`.
 #![tactic(auto)]
 
-mod appending;
+pub mod appending;
 pub mod content_fault;
 pub mod file_digests;
-mod journals;
+pub mod journals;
 pub mod laws;
 pub mod layout;
 pub mod memory;
@@ -30,7 +30,7 @@ mod sealing;
 pub mod taking;
 pub mod write;
 pub mod write_fault;
-mod writing;
+pub mod writing;
 
 pub use content_fault::ContentFault;
 pub use file_digests::FileDigests;

@@ -48,7 +48,8 @@ pub fn append_journal(bytes: &mut Vec<u8>, journal: &Journal) -> Result<(), Memo
     Ok(())
 }
 
-fn append_event(bytes: &mut Vec<u8>, event: Event) -> Result<(), Memory>
+/// Appends an event. Logs write theirs by it too.
+pub fn append_event(bytes: &mut Vec<u8>, event: Event) -> Result<(), Memory>
     ensures written { OnOk result (bytes.new.items ≡ bytes.old.items ++ event_bytes event) }
     ensures is_event { OnOk result (IsEvent event) }
 {

@@ -18,6 +18,8 @@ mod refused;
 #[cfg(test)]
 mod spoken;
 #[cfg(test)]
+mod versions;
+#[cfg(test)]
 mod words;
 #[cfg(test)]
 mod worked;

@@ -7,6 +7,8 @@
 #[cfg(test)]
 mod bounds;
 #[cfg(test)]
+mod lengths;
+#[cfg(test)]
 mod mistakes;
 #[cfg(test)]
 mod printed;

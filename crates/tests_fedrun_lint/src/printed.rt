@@ -104,7 +104,7 @@ fn printed(alloc: Global, federation: &str, inputs: &str) -> String {
 }
 
 /// The first of these that isn't there.
-fn first_missing<'a>(text: &str, pieces: &[&'a str]) -> Option<&'a str> {
+pub(crate) fn first_missing<'a>(text: &str, pieces: &[&'a str]) -> Option<&'a str> {
     for piece in pieces {
         if !text.contains(*piece) {
             return Some(piece);
@@ -113,7 +113,7 @@ fn first_missing<'a>(text: &str, pieces: &[&'a str]) -> Option<&'a str> {
     None
 }
 
-fn line_count(text: &str) -> usize {
+pub(crate) fn line_count(text: &str) -> usize {
     text.as_bytes()
         .iter()
         .filter(|byte| **byte == b'\n')

@@ -1,13 +1,15 @@
 //! Tests of replays: what schedules print over worked federations, and that a replay says that it can't write; and of
 //! steps made one by one in the world of a replay: made-up lists of them, whose rows are compared with the undivided
-//! program's, how many signals a link has room for, and that steps, schedulings, messages and events may be many. No
-//! program uses this crate.
+//! program's, how many signals a link has room for, that steps, schedulings, messages and events may be many, and in how
+//! little memory steps are kept. No program uses this crate.
 //!
 //! Begin with `played`, then `schedules`; with `worlds`, then `lists`.
 #![tactic(auto)]
 
 #[cfg(test)]
 mod lists;
+#[cfg(test)]
+mod little;
 #[cfg(test)]
 mod many;
 #[cfg(test)]

@@ -1,6 +1,6 @@
 //! Reports of desks are collected and audited. A report that is refused is handed back, an audit that is out of memory
 //! may be made again, and one that is begun while journals grow goes on.
-use crate::desks::{Run, played};
+use crate::desks::{Run, played, played_with_repeat};
 use crate::loading::loaded;
 use desk::Desk;
 use federate::Federate;
@@ -11,7 +11,7 @@ use recorder::{
 };
 use std::alloc::Global;
 use tests_samples::Federation;
-use world_stations::Step;
+use world_stations::{Dir, Step};
 
 // ---- reports
 
@@ -213,10 +213,42 @@ fn concludes(alloc: Global, federation: &Federation, said: Said<'_>) -> Option<b
     Some(audited.is_finished && audited.steps.len() == event_count(said))
 }
 
+/// Whether an audit that goes on after each half of the journals has lost no step; None where a half isn't known.
+fn goes_on(alloc: Global, federation: &Federation, said: Said<'_>) -> Option<bool> {
+    let mut audit = match IncrementalAudit::new(
+        alloc,
+        federation.plan(),
+        federation.programs(),
+        federation.inputs(),
+    ) {
+        Ok(audit) => audit,
+        Err(_) => return None,
+    };
+    for is_first in [true, false] {
+        if !learns_half(alloc, &mut audit, said, is_first)? {
+            return None;
+        }
+        audit.go_on(alloc);
+    }
+    Some(!audit.is_given_up())
+}
+
+/// The same of one of two audits at least: one request at most is refused, and only where steps were lost by that
+/// nothing more is of use.
+fn goes_on_once(alloc: Global, federation: &Federation, said: Said<'_>) -> bool {
+    let first = goes_on(alloc, federation, said);
+    let second = goes_on(alloc, federation, said);
+    first == Some(true) || second == Some(true)
+}
+
 // ---- all of it
 
 fn is_believed(alloc: Global, federation: &Federation, said: Said<'_>) -> Option<bool> {
-    Some(audits_twice(alloc, federation, said)? && concludes(alloc, federation, said)?)
+    Some(
+        audits_twice(alloc, federation, said)?
+            && concludes(alloc, federation, said)?
+            && goes_on_once(alloc, federation, said),
+    )
 }
 
 /// Whether the reports of a run are taken and believed.
@@ -241,4 +273,46 @@ fn collects_and_audits(alloc: Global) -> Option<bool> {
 #[test]
 fn believes_the_same_reports_after_a_refusal(rt: HostRuntime) {
     assert_eq!(rt; collects_and_audits(rt.alloc()), Some(true));
+}
+
+/// The places of the first two frames from federate 0 that these steps deliver; 0 where there are fewer.
+fn first_places(steps: &[Step]) -> [usize; 2] {
+    let mut places = [0; 2];
+    for step in steps {
+        if let Step::Deliver(Dir::Up(0), place) = step {
+            if places[0] == 0 {
+                places[0] = *place;
+            } else if places[1] == 0 {
+                places[1] = *place;
+            }
+        }
+    }
+    places
+}
+
+/// The same of a run in which the first frame was sent again before it came.
+fn repeated_places(alloc: Global) -> Option<[usize; 2]> {
+    let federation = loaded(alloc)?;
+    let Run {
+        coordinator,
+        federates,
+        ..
+    } = played_with_repeat(alloc, &federation)?;
+    let mut collector = Collector::new(alloc, federation.plan());
+    if !takes_all(&mut collector, federates) {
+        return None;
+    }
+    let said = Said {
+        reports: collector.reports(),
+        coordinator: coordinator.journal(),
+    };
+    let steps = audited(alloc, &federation, said)?;
+    Some(first_places(steps.as_slice()))
+}
+
+/// Frames are looked for behind the last one that was found, guessed or not: so one that comes again is its next copy,
+/// and no audit looks through all frames time after time.
+#[test]
+fn places_a_frame_that_was_sent_again_at_its_next_copy(rt: HostRuntime) {
+    assert_eq!(rt; repeated_places(rt.alloc()), Some([1, 2]));
 }

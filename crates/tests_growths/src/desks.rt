@@ -227,7 +227,21 @@ fn opened(alloc: Global, federation: &Federation) -> Option<Run<'_>> {
 
 /// A run after ten rounds; None where it hasn't ended by them.
 pub(crate) fn played(alloc: Global, federation: &Federation) -> Option<Run<'_>> {
+    let run = opened(alloc, federation)?;
+    played_on(run)
+}
+
+/// The same where what federate 0 says first is sent again before it comes.
+pub(crate) fn played_with_repeat(alloc: Global, federation: &Federation) -> Option<Run<'_>> {
     let mut run = opened(alloc, federation)?;
+    run.federate_gets(0, Event::Announce)?;
+    run.federate_gets(0, Event::Resend(0))?;
+    played_on(run)
+}
+
+/// A run after ten rounds more.
+fn played_on<'a>(run: Run<'a>) -> Option<Run<'a>> {
+    let mut run = run;
     for _ in 0..10 {
         run.round()?;
     }

@@ -2,9 +2,11 @@
 //! runs, and what an audit answers after it. No part of the product.
 //!
 //! Begin with `tap`, by which a test sees and changes what goes over connections, then `lines`, which runs a federation
-//! over them; `nodes` and `reported` are what a run begins with and what stands after it.
+//! over them, its nodes together or, by `apart`, each by itself; `nodes` and `reported` are what a run begins with and
+//! what stands after it.
 #![tactic(auto)]
 
+mod apart;
 pub mod federations;
 pub mod journals;
 pub mod lines;

@@ -1,5 +1,6 @@
 //! Federations in threads over connections that a test has its hands on.
-use crate::nodes::nodes_of;
+use crate::apart::run_apart;
+use crate::nodes::{desks_of, nodes_of};
 use crate::tap::{End, Tap, Tapped, between};
 use coordinator::Coordinator;
 use crossbeam_channel::{Sender, unbounded};
@@ -22,16 +23,17 @@ pub const AMPLE: Terms = Terms {
     frames: 2,
 };
 
-/// How the nodes of a federation run. Nodes that run by themselves, as `coordinate` and `join` start them, are in
-/// `tests_fedrun_hosts`.
+/// How the nodes of a federation run.
 #[derive(Clone, Copy, Debug, PartialEq, Eq)]
 pub enum Nodes {
     /// Their workers are started together, as `run` starts them.
     Together,
+    /// Each node's are started by themselves, as `coordinate` and `join` start them: see `apart`.
+    Apart,
 }
 
 /// Each way to run nodes.
-pub const EACH_WAY: [Nodes; 1] = [Nodes::Together];
+pub const EACH_WAY: [Nodes; 2] = [Nodes::Together, Nodes::Apart];
 
 /// How a federation runs.
 #[derive(Drop)]
@@ -202,6 +204,7 @@ fn ran<
 ) -> Option<Gathered<Coordinator<'a>, Federate<'a>>> {
     match setting.nodes {
         Nodes::Together => ran_together(rt, alloc, federation, setting, pairing),
+        Nodes::Apart => ran_apart(rt, alloc, federation, setting, pairing),
     }
 }
 
@@ -228,6 +231,27 @@ fn ran_together<
     let Setting { gate, terms, .. } = setting;
     let left = run(rt, alloc, &nodes, lines, gate, terms).ok()?;
     nodes.gather(alloc, left).ok()
+}
+
+/// The same where each node's workers are started by themselves.
+fn ran_apart<
+    'a,
+    R: Runtime,
+    G: Gate + Sync,
+    T: Transport + Send,
+    C: Cut + Send + Sync,
+    L: Pairing<T, C> + Sync,
+>(
+    rt: &R,
+    alloc: Global,
+    federation: &'a Federation,
+    setting: Setting<'_, G>,
+    pairing: &L,
+) -> Option<Gathered<Coordinator<'a>, Federate<'a>>> {
+    let (coordinator, federates) = desks_of(alloc, federation)?;
+    let endpoints = lines(alloc, federates.len(), pairing)?;
+    let Setting { gate, terms, .. } = setting;
+    run_apart(rt, alloc, coordinator, federates, endpoints, gate, terms)
 }
 
 /// The desks after a run over memory; None where there are none.

@@ -1,6 +1,6 @@
 //! A federate that the coordinator refuses, since a signal that it never sent came in its name: it hears of that and
-//! connects no more. Where the Refuse is lost with its connection, it isn't sent again: the federate goes on until its
-//! turns are used up.
+//! connects no more. Its run is at its end then where it runs by itself, and no other's is. Where the Refuse is lost
+//! with its connection, it isn't sent again: the federate goes on until its turns are used up.
 use coordinator::Coordinator;
 use federate::Federate;
 use node::Event;
@@ -8,16 +8,18 @@ use signal::Frame;
 use std::alloc::Global;
 use std::sync::atomic::{AtomicBool, AtomicU64, Ordering};
 use tests_lines::journals::count_of;
-use tests_lines::lines::{Nodes, Setting, ran_in_memory};
+use tests_lines::lines::{EACH_WAY, Nodes, Setting, ran_in_memory};
 use tests_lines::nodes::is_finished;
 use tests_lines::tap::{End, Fate, Tap, frames_of};
 use tests_samples::{COUNTER, Machine, loaded};
 use wires::{Gathered, Terms};
 use wires_workers::NoGate;
 
-/// Ample for what is asked, and used up within 3 s of idle turns.
+/// How many turns each federate has: ample for what is asked, and used up within 3 s of idle turns.
+const TURNS: u32 = 300;
+
 const TERMS: Terms = Terms {
-    turns: 300,
+    turns: TURNS,
     frames: 2,
 };
 
@@ -123,21 +125,39 @@ fn after_run(gathered: &Gathered<Coordinator<'_>, Federate<'_>>) -> Option<After
     })
 }
 
-/// What stands after a run in which a signal was forged, and how often src connected.
-fn after_forging<R: Machine>(rt: &R, loses_refuse: bool) -> Option<(After, u64)> {
+/// Whether a run in which src was refused has ended as it has to: of nodes together by the turns of one of them; else
+/// src's before its turns were made, and snk's by its turns.
+fn has_ended_so(nodes: Nodes, gathered: &Gathered<Coordinator<'_>, Federate<'_>>) -> Option<bool> {
+    let src = count_of(gathered.federates.first()?.journal(), &Event::Announce);
+    let snk = count_of(gathered.federates.get(1)?.journal(), &Event::Announce);
+    let all = TURNS as usize;
+    match nodes {
+        Nodes::Together => Some(src == all || snk == all),
+        Nodes::Apart => Some(src < all && snk == all),
+    }
+}
+
+/// What stands after a run in which a signal was forged, whether it ended as where src is told so, and how often src
+/// connected.
+fn after_forging<R: Machine>(
+    rt: &R,
+    nodes: Nodes,
+    loses_refuse: bool,
+) -> Option<(After, bool, u64)> {
     let federation = loaded(rt.alloc(), COUNTER, "")?;
     let forging = Forging::new(rt.alloc(), loses_refuse);
     let setting = Setting {
-        nodes: Nodes::Together,
+        nodes,
         gate: &NoGate,
         terms: TERMS,
     };
     let gathered = ran_in_memory(rt, rt.alloc(), &federation, setting, &forging)?;
     let connections = forging.connections.load(Ordering::SeqCst);
-    Some((after_run(&gathered)?, connections))
+    let is_so = has_ended_so(nodes, &gathered)?;
+    Some((after_run(&gathered)?, is_so, connections))
 }
 
-/// Though the connection breaks, src makes no other. The run ends by its turns.
+/// Though the connection breaks, src makes no other.
 #[test]
 fn connects_no_more_once_it_is_refused(rt: HostRuntime) {
     let refused = After {
@@ -145,7 +165,13 @@ fn connects_no_more_once_it_is_refused(rt: HostRuntime) {
         closed: [true, true, false],
         is_finished: false,
     };
-    assert_eq!(rt; after_forging(&rt, false), Some((refused, 1)));
+    for nodes in EACH_WAY {
+        assert_eq!(rt;
+            after_forging(&rt, nodes, false),
+            Some((refused, true, 1)),
+            "{nodes:?}"
+        );
+    }
 }
 
 /// The coordinator ends each of its later connections at once.
@@ -156,9 +182,11 @@ fn goes_on_where_the_refuse_is_lost(rt: HostRuntime) {
         closed: [false, true, false],
         is_finished: false,
     };
-    let after = after_forging(&rt, true);
-    assert!(rt;
-        matches!(after, Some((found, connections)) if found == unaware && connections >= 5),
-        "{after:?}"
-    );
+    for nodes in EACH_WAY {
+        let after = after_forging(&rt, nodes, true);
+        assert!(rt;
+            matches!(after, Some((found, _, connections)) if found == unaware && connections >= 5),
+            "{nodes:?}: {after:?}"
+        );
+    }
 }

@@ -1,7 +1,7 @@
 //! Where both ends have version 2 and many signals wait, Batches go over a connection; where one has version 1, none
 //! does.
 use std::sync::atomic::{AtomicU64, Ordering};
-use tests_lines::lines::{AMPLE, Nodes, Setting, ran_in_memory};
+use tests_lines::lines::{AMPLE, EACH_WAY, Nodes, Setting, ran_in_memory};
 use tests_lines::nodes::has_all_rows;
 use tests_lines::tap::{End, Fate, Tap};
 use tests_samples::{Machine, loaded};
@@ -63,14 +63,14 @@ impl Tap for Counting {
 
 /// How many Batches are sent in a run of many ticks, where federates write this version of frames; None where it hasn't
 /// its rows.
-fn batches_sent<R: Machine>(rt: &R, frames: u8) -> Option<u64> {
+fn batches_sent<R: Machine>(rt: &R, nodes: Nodes, frames: u8) -> Option<u64> {
     let federation = loaded(rt.alloc(), MANY_TICKS, "")?;
     let counting = Counting {
         sent: AtomicU64::new(0),
     };
     let terms = Terms { frames, ..AMPLE };
     let setting = Setting {
-        nodes: Nodes::Together,
+        nodes,
         gate: &NoGate,
         terms,
     };
@@ -84,11 +84,15 @@ fn batches_sent<R: Machine>(rt: &R, frames: u8) -> Option<u64> {
 
 #[test]
 fn sends_no_batch_where_one_end_has_version_1(rt: HostRuntime) {
-    assert_eq!(rt; batches_sent(&rt, 1), Some(0));
+    for nodes in EACH_WAY {
+        assert_eq!(rt; batches_sent(&rt, nodes, 1), Some(0), "{nodes:?}");
+    }
 }
 
 #[test]
 fn sends_batches_where_both_ends_have_version_2(rt: HostRuntime) {
-    let sent = batches_sent(&rt, 2).unwrap_or(0);
-    assert!(rt; sent > 0, "{sent}");
+    for nodes in EACH_WAY {
+        let sent = batches_sent(&rt, nodes, 2).unwrap_or(0);
+        assert!(rt; sent > 0, "{nodes:?}: {sent}");
+    }
 }

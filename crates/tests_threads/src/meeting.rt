@@ -6,7 +6,7 @@ use std::sync::atomic::{AtomicBool, Ordering};
 use std::thread;
 use std::thread::Threads;
 use std::time::{Clock, Duration};
-use tests_lines::lines::{Nodes, Setting, ran_in_memory};
+use tests_lines::lines::{EACH_WAY, Nodes, Setting, ran_in_memory};
 use tests_lines::nodes::is_finished;
 use tests_lines::tap::Untouched;
 use tests_samples::{APART, Federation, loaded};
@@ -67,10 +67,11 @@ impl Gate for Meeting {
 fn meets<R: Threads + Wait + Clock + Sync>(
     rt: &R,
     alloc: Global,
+    nodes: Nodes,
     federation: &Federation,
     meeting: &Meeting,
 ) -> bool {
-    let setting = Setting::ample(Nodes::Together, meeting);
+    let setting = Setting::ample(nodes, meeting);
     match ran_in_memory(rt, alloc, federation, setting, &Untouched) {
         Some(gathered) => is_finished(&gathered) && meeting.is_held(),
         None => false,
@@ -79,10 +80,12 @@ fn meets<R: Threads + Wait + Clock + Sync>(
 
 #[test]
 fn advances_two_unconnected_federates_at_once(rt: HostRuntime) {
-    let meeting = Meeting::new();
-    let met = match loaded(rt.alloc(), APART, "") {
-        Some(federation) => meets(&rt, rt.alloc(), &federation, &meeting),
-        None => false,
-    };
-    assert!(rt; met);
+    for nodes in EACH_WAY {
+        let meeting = Meeting::new();
+        let met = match loaded(rt.alloc(), APART, "") {
+            Some(federation) => meets(&rt, rt.alloc(), nodes, &federation, &meeting),
+            None => false,
+        };
+        assert!(rt; met, "{nodes:?}");
+    }
 }

@@ -5,6 +5,8 @@
 #![tactic(auto)]
 
 #[cfg(test)]
+mod ending;
+#[cfg(test)]
 mod handing;
 #[cfg(test)]
 mod lone_acks;

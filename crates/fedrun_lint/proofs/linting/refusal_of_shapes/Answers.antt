@@ -1,11 +1,10 @@
 use Rattle.std.proofs.Common.{◌≡◌, rules, arith}
-use Rattle.loadfed.specs.declared.fault.LoadFault.TheVariants.{UnknownAction, RepeatedInput, Memory}
-use Rattle.fedrun_lint.proofs.Agreement.{records_none}
+use Rattle.loadfed.specs.declared.fault.LoadFault.TheVariants.{Memory}
+use Rattle.fedrun_lint.proofs.Agreement.{shape_refused}
 use Rattle.fedrun_lint.proofs.linting.refusal_of_shapes.Goals as goal
 
 pub returns : goal.returns
 returns c =
     let other : c.in-Err.fault ≡ Memory → ⊥ = first_of (search rules, grind arith) in
-    let known : c.in-Err.fault ≡ UnknownAction → ⊥ = first_of (search rules, grind arith) in
-    let apart : c.in-Err.fault ≡ RepeatedInput → ⊥ = first_of (search rules, grind arith) in
-    records_none _ c.args.inputs.now c.in-Err.fault c.in-Err.ensures.outcome other known apart
+    let apart = c.is_about_actions.ensures.other c.if-is_about_actions.false in
+    shape_refused _ c.args.inputs.now c.in-Err.fault c.in_ok-refusal_of_inputs.field-0 c.in_ok-refusal_of_inputs.ensures c.in-Err.ensures.outcome other apart.0 apart.1
