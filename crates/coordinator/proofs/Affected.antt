@@ -14,7 +14,7 @@ use Rattle.protocol.specs.Grant.{after_completed, all_below, is_before_arrival, 
 use Rattle.protocol.specs.Coordinator.{with_federate_record}
 use Rattle.protocol_laws.proofs.Eligibility.{contains_at, path_begins}
 use Rattle.protocol_laws.proofs.Settled.{eligible_so}
-use Rattle.grants.specs.Wires.{Wires, AreWires, network_by, least_by}
+use Rattle.grants.specs.Wiring.{Wiring, IsWiring, network_by, least_by}
 use Rattle.grants.specs.Looks.{has_path}
 use Rattle.grants.specs.Routes.{may_change}
 
@@ -65,34 +65,34 @@ eligible_same n table f i s j apart other none =
     ap (λ x. eligible_so n (f j) x) passes
 
 -- where no path leads from one federate to another, no connection does
-apart_where_none : (w : Wires) (i j : ℕ) (o : Option LogicalTime) → MatchOption o (IsUnreachable w.connections i j) (IsLeastDelay w.connections i j) → o ≡ None → (k : ℕ) (c : Connection) → slice_get w.connections k ≡ Some c → IsApart i j c
+apart_where_none : (w : Wiring) (i j : ℕ) (o : Option LogicalTime) → MatchOption o (IsUnreachable w.connections i j) (IsLeastDelay w.connections i j) → o ≡ None → (k : ℕ) (c : Connection) → slice_get w.connections k ≡ Some c → IsApart i j c
 apart_where_none w i j None unreachable none k c is p q = unreachable (c ∷ []) (contains_at w.connections k c is, p, q)
 apart_where_none w i j (Some d) least none k c is p q = let bad : ⊥ = cc in absurd bad
 
-pub eligible_stays : (w : Wires) (f : ℕ → FederateRecord) (i : ℕ) (s : FederateRecord) (j : ℕ) → AreWires w → j ≢ i → least_by w i j ≡ None →
+pub eligible_stays : (w : Wiring) (f : ℕ → FederateRecord) (i : ℕ) (s : FederateRecord) (j : ℕ) → IsWiring w → j ≢ i → least_by w i j ≡ None →
     is_eligible (network_by w) (least_by w) (with_federate_record f i s) j ≡ is_eligible (network_by w) (least_by w) f j
-eligible_stays w f i s j wires other none =
-    eligible_same (network_by w) (least_by w) f i s j (apart_where_none w i j (least_by w i j) (wires.least i j) none) other none
+eligible_stays w f i s j wiring other none =
+    eligible_same (network_by w) (least_by w) f i s j (apart_where_none w i j (least_by w i j) (wiring.least i j) none) other none
 
 none_of : (o : Option LogicalTime) → is_some o ≡ false → o ≡ None
 none_of None e = refl
 none_of (Some d) e = cc
 
 -- whoever a change doesn't concern stays as eligible as before
-pub unconcerned : (w : Wires) (f : ℕ → FederateRecord) (i : ℕ) (s : FederateRecord) (j : ℕ) → AreWires w → may_change w i j ≡ false →
+pub unconcerned : (w : Wiring) (f : ℕ → FederateRecord) (i : ℕ) (s : FederateRecord) (j : ℕ) → IsWiring w → may_change w i j ≡ false →
     is_eligible (network_by w) (least_by w) (with_federate_record f i s) j ≡ is_eligible (network_by w) (least_by w) f j
-unconcerned w f i s j wires e =
+unconcerned w f i s j wiring e =
     let neither = or_parts (nat_eq j i) (has_path w i j) e in
-    eligible_stays w f i s j wires (eqb-false j i neither.0) (none_of (least_by w i j) neither.1)
+    eligible_stays w f i s j wiring (eqb-false j i neither.0) (none_of (least_by w i j) neither.1)
 
-no_path_from : (w : Wires) (i j : ℕ) (o : Option LogicalTime) → AreWires w → w.federates ≤ i → MatchOption o (IsUnreachable w.connections i j) (IsLeastDelay w.connections i j) → o ≡ None
-no_path_from w i j None wires l least = refl
-no_path_from w i j (Some d) wires l least =
-    let begins = path_begins (network_by w) i j least.attained.0 wires.wired least.attained.1 in absurd (omega arith)
+no_path_from : (w : Wiring) (i j : ℕ) (o : Option LogicalTime) → IsWiring w → w.federates ≤ i → MatchOption o (IsUnreachable w.connections i j) (IsLeastDelay w.connections i j) → o ≡ None
+no_path_from w i j None wiring l least = refl
+no_path_from w i j (Some d) wiring l least =
+    let begins = path_begins (network_by w) i j least.attained.0 wiring.wired least.attained.1 in absurd (omega arith)
 
 -- a change of a federate that isn't there concerns nobody
-pub stranger_concerns_nobody : (w : Wires) (f : ℕ → FederateRecord) (i : ℕ) (s : FederateRecord) (j : ℕ) → AreWires w → w.federates ≤ i → j < w.federates →
+pub stranger_concerns_nobody : (w : Wiring) (f : ℕ → FederateRecord) (i : ℕ) (s : FederateRecord) (j : ℕ) → IsWiring w → w.federates ≤ i → j < w.federates →
     is_eligible (network_by w) (least_by w) (with_federate_record f i s) j ≡ is_eligible (network_by w) (least_by w) f j
-stranger_concerns_nobody w f i s j wires l m =
+stranger_concerns_nobody w f i s j wiring l m =
     let other : j ≢ i = omega arith in
-    eligible_stays w f i s j wires other (no_path_from w i j (least_by w i j) wires l (wires.least i j))
+    eligible_stays w f i s j wiring other (no_path_from w i j (least_by w i j) wiring l (wiring.least i j))

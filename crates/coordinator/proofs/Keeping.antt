@@ -17,7 +17,7 @@ use Rattle.protocol.specs.FederateRecord.{FederateRecord, initial_federate_recor
 use Rattle.protocol.specs.FederateRecords.{Listed, federate_record_at, federate_records_listed, listed_after, coordinator_accepts_in}
 use Rattle.protocol.specs.Grant.{Rule, IsSafeRule, is_eligible, all_below}
 use Rattle.protocol.specs.Machine.{sent_to}
-use Rattle.protocol.specs.Alone.{IsFederateRecord, is_of_step, is_sent_past, granted_by}
+use Rattle.protocol.specs.KeptAlone.{IsFederateRecord, is_of_step, may_go_down, granted_by_tags}
 use Rattle.protocol.specs.Coordinator.{Coordinated, noted, route, coordinator_takes, with_grants, grant_to, coordinator_accepts}
 use Rattle.node.specs.declared.fault.NodeFault.{NodeFault}
 use Rattle.node.specs.declared.fault.NodeFault.TheVariants as fault
@@ -31,7 +31,7 @@ use Rattle.protocol_laws.proofs.ListedFederateRecords.{accepts_listed, initial_r
 use Rattle.protocol_laws.proofs.Eligibility.{contains_at, between_is, all_below_from}
 use Rattle.protocol_laws.proofs.Tests.{both_hold}
 use Rattle.plan.specs.declared.draft.Draft.{Draft}
-use Rattle.grants.specs.Wires.{Wires, network_by, least_by, wires_of}
+use Rattle.grants.specs.Wiring.{Wiring, network_by, least_by, federation_wiring}
 use Rattle.plan.specs.Federation.{federate_count}
 use Rattle.grants.specs.Records.{Records, AreRecords, initial_records}
 use Rattle.node_cores.specs.CoordinatorCore.{CoordinatorNode, made_by, accepts, coordinator_may_send}
@@ -56,29 +56,29 @@ nobody_then n table rule (Done made) safe full stand =
 abbrev with_federate_records : Records → List FederateRecord → Records
 with_federate_records r xs = record r { federate_records = xs }
 
-settled_then : (r : Records) (o : Outcome Coordinated) (made : Made (List FederateRecord)) → IfDone o (λ m. federate_record_at (federate_records_listed r.wires.federates m.after) ≡ m.after) → IfDone o (λ m. (j : ℕ) → IsFederateRecord (m.after j)) →
-    IfDone o (λ m. NobodyIsEligible (network_by r.wires) (least_by r.wires) m.after) → with_made made_listed (with_made (listed_after r.wires.federates) o) ≡ Done made → IsSettled (with_federate_records r made.after)
+settled_then : (r : Records) (o : Outcome Coordinated) (made : Made (List FederateRecord)) → IfDone o (λ m. federate_record_at (federate_records_listed r.wiring.federates m.after) ≡ m.after) → IfDone o (λ m. (j : ℕ) → IsFederateRecord (m.after j)) →
+    IfDone o (λ m. NobodyIsEligible (network_by r.wiring) (least_by r.wiring) m.after) → with_made made_listed (with_made (listed_after r.wiring.federates) o) ≡ Done made → IsSettled (with_federate_records r made.after)
 settled_then r (Refused refusal) made read stand nobody is = let bad : ⊥ = cc in absurd bad
 settled_then r Nothing made read stand nobody is = let bad : ⊥ = cc in absurd bad
 settled_then r (Done m) made read stand nobody is =
-    let same : federate_records_listed r.wires.federates m.after ≡ made.after = cc in
+    let same : federate_records_listed r.wiring.federates m.after ≡ made.after = cc in
     let f : federate_record_at made.after ≡ m.after = ap federate_record_at (sym same) ∙ read in
     record {
       federate_records = λ j. (let P : (ℕ → FederateRecord) → Type 0 = λ g. IsFederateRecord (g j) in subst P (sym f) (stand j));
-      nobody = λ j l. (let P : (ℕ → FederateRecord) → Type 0 = λ g. is_eligible (network_by r.wires) (least_by r.wires) g j ≡ false in subst P (sym f) (nobody j l));
+      nobody = λ j l. (let P : (ℕ → FederateRecord) → Type 0 = λ g. is_eligible (network_by r.wiring) (least_by r.wiring) g j ≡ false in subst P (sym f) (nobody j l));
     }
 
 -- a step for a federate that is there
-settled_there : (r : Records) (i : ℕ) (signal : Signal) (made : Made (List FederateRecord)) → AreRecords r → IsSettled r → IsSignal signal → i < r.wires.federates → taken_by r i signal ≡ Done made → IsSettled (with_federate_records r made.after)
+settled_there : (r : Records) (i : ℕ) (signal : Signal) (made : Made (List FederateRecord)) → AreRecords r → IsSettled r → IsSignal signal → i < r.wiring.federates → taken_by r i signal ≡ Done made → IsSettled (with_federate_records r made.after)
 settled_there r i signal made are settled good l is =
-    let n = network_by r.wires in
-    let t = least_by r.wires in
-    let safe = widest_rule_is_safe (network_by r.wires) (least_by r.wires) are.wires.wired in
-    let full = widest_rule_is_full (network_by r.wires) (least_by r.wires) are.wires.wired in
-    let stand = accepts_stand n t (rule_by r.wires) (federate_record_at r.federate_records) i signal safe good settled.federate_records in
-    settled_then r (coordinator_accepts n (rule_by r.wires) (federate_record_at r.federate_records) i signal) made
-    (accepts_listed n (rule_by r.wires) r.federate_records i signal are.wires.wired l are.count) stand
-    (nobody_then n t (rule_by r.wires) (coordinator_takes n (federate_record_at r.federate_records) i signal) safe full stand) is
+    let n = network_by r.wiring in
+    let t = least_by r.wiring in
+    let safe = widest_rule_is_safe (network_by r.wiring) (least_by r.wiring) are.wiring.wired in
+    let full = widest_rule_is_full (network_by r.wiring) (least_by r.wiring) are.wiring.wired in
+    let stand = accepts_stand n t (rule_by r.wiring) (federate_record_at r.federate_records) i signal safe good settled.federate_records in
+    settled_then r (coordinator_accepts n (rule_by r.wiring) (federate_record_at r.federate_records) i signal) made
+    (accepts_listed n (rule_by r.wiring) r.federate_records i signal are.wiring.wired l are.count) stand
+    (nobody_then n t (rule_by r.wiring) (coordinator_takes n (federate_record_at r.federate_records) i signal) safe full stand) is
 
 -- what a stranger's signal comes to
 abbrev IsRefusedOrNoted : (ℕ → FederateRecord) → ℕ → Outcome Coordinated → Type 0
@@ -89,25 +89,25 @@ by_two f i true true x y s = inr (s, refl)
 by_two f i true false x y s = inl (y, refl)
 by_two f i false c x y s = inl (x, refl)
 
-route_stranger : (r : Records) (i k : ℕ) (message : Signal) (o : Option Connection) (tag : LogicalTime) → AreRecords r → r.wires.federates ≤ i → slice_get r.wires.connections k ≡ o →
-    IsRefusedOrNoted (federate_record_at r.federate_records) i (route (network_by r.wires) (federate_record_at r.federate_records) i message o tag)
+route_stranger : (r : Records) (i k : ℕ) (message : Signal) (o : Option Connection) (tag : LogicalTime) → AreRecords r → r.wiring.federates ≤ i → slice_get r.wiring.connections k ≡ o →
+    IsRefusedOrNoted (federate_record_at r.federate_records) i (route (network_by r.wiring) (federate_record_at r.federate_records) i message o tag)
 route_stranger r i k message None tag are l at = inl (NotYours, refl)
 route_stranger r i k message (Some c) tag are l at =
-    let source : c.source < r.wires.federates = (between_is (network_by r.wires) c are.wires.wired (contains_at r.wires.connections k c at)).source in
+    let source : c.source < r.wiring.federates = (between_is (network_by r.wiring) c are.wiring.wired (contains_at r.wiring.connections k c at)).source in
     let other : nat_eq c.source i ≡ false = grind (arith, nat_tests) in
     inl (NotYours, rw other refl)
 
-stranger_takes : (r : Records) (i : ℕ) (signal : Signal) → AreRecords r → r.wires.federates ≤ i → IsRefusedOrNoted (federate_record_at r.federate_records) i (coordinator_takes (network_by r.wires) (federate_record_at r.federate_records) i signal)
-stranger_takes r i (Net tag) are l = by_two (federate_record_at r.federate_records) i (is_at_most tag r.wires.stop || is_same tag forever) (is_past (federate_record_at r.federate_records i).completed tag) _ _ (after_net (federate_record_at r.federate_records i) tag)
-stranger_takes r i (Ltc tag) are l = by_two (federate_record_at r.federate_records) i (is_at_most tag r.wires.stop) (is_past (federate_record_at r.federate_records i).completed tag) _ _ (after_ltc (federate_record_at r.federate_records i) tag)
+stranger_takes : (r : Records) (i : ℕ) (signal : Signal) → AreRecords r → r.wiring.federates ≤ i → IsRefusedOrNoted (federate_record_at r.federate_records) i (coordinator_takes (network_by r.wiring) (federate_record_at r.federate_records) i signal)
+stranger_takes r i (Net tag) are l = by_two (federate_record_at r.federate_records) i (is_at_most tag r.wiring.stop || is_same tag forever) (is_past (federate_record_at r.federate_records i).completed tag) _ _ (after_net (federate_record_at r.federate_records i) tag)
+stranger_takes r i (Ltc tag) are l = by_two (federate_record_at r.federate_records) i (is_at_most tag r.wiring.stop) (is_past (federate_record_at r.federate_records i).completed tag) _ _ (after_ltc (federate_record_at r.federate_records i) tag)
 stranger_takes r i (Tag tag) are l = inl (NotForCoordinator, refl)
-stranger_takes r i (Msg k tag value) are l = route_stranger r i k (Msg k tag value) (slice_get r.wires.connections k) tag are l refl
+stranger_takes r i (Msg k tag value) are l = route_stranger r i k (Msg k tag value) (slice_get r.wiring.connections k) tag are l refl
 
-refused_then : (r : Records) (i : ℕ) (signal : Signal) (refusal : Refusal) → coordinator_takes (network_by r.wires) (federate_record_at r.federate_records) i signal ≡ Refused refusal → taken_by r i signal ≡ Refused refusal
+refused_then : (r : Records) (i : ℕ) (signal : Signal) (refusal : Refusal) → coordinator_takes (network_by r.wiring) (federate_record_at r.federate_records) i signal ≡ Refused refusal → taken_by r i signal ≡ Refused refusal
 refused_then r i signal refusal is =
-    ap (λ o. with_made made_listed (with_made (listed_after r.wires.federates) (with_made (with_grants (network_by r.wires) (rule_by r.wires)) o))) is
+    ap (λ o. with_made made_listed (with_made (listed_after r.wiring.federates) (with_made (with_grants (network_by r.wiring) (rule_by r.wiring)) o))) is
 
-settled_stranger : (r : Records) (i : ℕ) (signal : Signal) (made : Made (List FederateRecord)) → AreRecords r → IsSettled r → r.wires.federates ≤ i → taken_by r i signal ≡ Done made → IsSettled (with_federate_records r made.after)
+settled_stranger : (r : Records) (i : ℕ) (signal : Signal) (made : Made (List FederateRecord)) → AreRecords r → IsSettled r → r.wiring.federates ≤ i → taken_by r i signal ≡ Done made → IsSettled (with_federate_records r made.after)
 settled_stranger r i signal made are settled l is =
     elim (stranger_takes r i signal are l) [
       | inl x ↦ (let e : taken_by r i signal ≡ Refused x.0 = refused_then r i signal x.0 x.1 in let bad : ⊥ = cc in absurd bad)
@@ -123,7 +123,7 @@ settled_stranger r i signal made are settled l is =
 
 settled_by : (r : Records) (i : ℕ) (signal : Signal) (made : Made (List FederateRecord)) → AreRecords r → IsSettled r → IsSignal signal → taken_by r i signal ≡ Done made → IsSettled (with_federate_records r made.after)
 settled_by r i signal made are settled good is =
-    elim (cases_lt i r.wires.federates) [
+    elim (cases_lt i r.wiring.federates) [
       | inl l ↦ settled_there r i signal made are settled good l is
       | inr l ↦ settled_stranger r i signal made are settled l is
     ]
@@ -146,17 +146,17 @@ is_memory (Err (fault.Refused refusal)) = inr (λ e. (let bad : ⊥ = cc in bad)
 is_memory (Err fault.NoRoom) = inr (λ e. (let bad : ⊥ = cc in bad))
 is_memory (Err fault.Memory) = inl refl
 
-settled_as : (r after : Records) → after.wires ≡ r.wires → IsSettled (with_federate_records r after.federate_records) → IsSettled after
-settled_as r after wires settled =
-    let P : Wires → Type 0 = λ w. IsSettled (record { wires = w; federate_records = after.federate_records; looks = after.looks }) in
-    subst P (sym wires) (record { federate_records = settled.federate_records; nobody = settled.nobody })
+settled_as : (r after : Records) → after.wiring ≡ r.wiring → IsSettled (with_federate_records r after.federate_records) → IsSettled after
+settled_as r after wiring settled =
+    let P : Wiring → Type 0 = λ w. IsSettled (record { wiring = w; federate_records = after.federate_records; looks = after.looks }) in
+    subst P (sym wiring) (record { federate_records = settled.federate_records; nobody = settled.nobody })
 
 -- what is kept stays kept
 pub stays_kept : (d : Draft) (r after : Records) (m mail_then : Mail) (answer : Result Bool NodeFault) (i : ℕ) (signal : Signal) → IsKept d r → AreRecords r → IsSignal signal → IsStep r after m mail_then answer i signal → IsKept d after
 stays_kept d r after m mail_then answer i signal kept are good step =
     record {
-      wires = step.wires ∙ kept.wires;
-      settled = settled_as r after step.wires (elim (is_memory answer) [
+      wiring = step.wiring ∙ kept.wiring;
+      settled = settled_as r after step.wiring (elim (is_memory answer) [
         | inl e ↦ (let P : List FederateRecord → Type 0 = λ x. IsSettled (with_federate_records r x) in subst P (sym (step.memory e).0) kept.settled)
         | inr unless ↦ call_leaves r after.federate_records m mail_then answer (taken_by r i signal) kept.settled (λ made is. settled_by r i signal made are kept.settled good is) (step.call unless)
       ]);
@@ -186,39 +186,39 @@ allowed d xs (Refused refusal) a = a
 allowed d xs Nothing a = tt
 allowed d xs (Done made) a = tt
 
-abbrev listed_by : List FederateRecord → ℕ → Signal → Wires → Outcome Listed
+abbrev listed_by : List FederateRecord → ℕ → Signal → Wiring → Outcome Listed
 listed_by xs i signal w = coordinator_accepts_in (network_by w) (rule_by w) xs i signal
 
-pub call_lifts : (d : Draft) (r after : Records) (m mail_then : Mail) (answer : Result Bool NodeFault) (i : ℕ) (signal : Signal) → r.wires ≡ wires_of d → IsStep r after m mail_then answer i signal → answer ≢ Err fault.Memory →
+pub call_lifts : (d : Draft) (r after : Records) (m mail_then : Mail) (answer : Result Bool NodeFault) (i : ℕ) (signal : Signal) → r.wiring ≡ federation_wiring d → IsStep r after m mail_then answer i signal → answer ≢ Err fault.Memory →
     IsCall (node_with d r.federate_records) (node_with d after.federate_records) m mail_then answer (accepts (node_with d r.federate_records) i signal)
-call_lifts d r after m mail_then answer i signal wires step unless =
-    let P : Wires → Type 0 = λ w. IsCall (node_with d r.federate_records) (node_with d after.federate_records) m mail_then answer (with_made (made_by (node_with d r.federate_records)) (listed_by r.federate_records i signal w)) in
-    subst P wires (lift d r.federate_records after.federate_records m mail_then answer (listed_by r.federate_records i signal r.wires) (step.call unless))
+call_lifts d r after m mail_then answer i signal wiring step unless =
+    let P : Wiring → Type 0 = λ w. IsCall (node_with d r.federate_records) (node_with d after.federate_records) m mail_then answer (with_made (made_by (node_with d r.federate_records)) (listed_by r.federate_records i signal w)) in
+    subst P wiring (lift d r.federate_records after.federate_records m mail_then answer (listed_by r.federate_records i signal r.wiring) (step.call unless))
 
-pub memory_lifts : (d : Draft) (r after : Records) (m mail_then : Mail) (answer : Result Bool NodeFault) (i : ℕ) (signal : Signal) → r.wires ≡ wires_of d → IsStep r after m mail_then answer i signal → answer ≡ Err fault.Memory →
+pub memory_lifts : (d : Draft) (r after : Records) (m mail_then : Mail) (answer : Result Bool NodeFault) (i : ℕ) (signal : Signal) → r.wiring ≡ federation_wiring d → IsStep r after m mail_then answer i signal → answer ≡ Err fault.Memory →
     (node_with d after.federate_records ≡ node_with d r.federate_records) × (mail_then ≡ m) × Allows (accepts (node_with d r.federate_records) i signal)
-memory_lifts d r after m mail_then answer i signal wires step is =
+memory_lifts d r after m mail_then answer i signal wiring step is =
     let parts = step.memory is in
-    let P : Wires → Type 0 = λ w. Allows (with_made (made_by (node_with d r.federate_records)) (listed_by r.federate_records i signal w)) in
-    (ap (node_with d) parts.0, parts.1, subst P wires (allowed d r.federate_records (listed_by r.federate_records i signal r.wires) parts.2))
+    let P : Wiring → Type 0 = λ w. Allows (with_made (made_by (node_with d r.federate_records)) (listed_by r.federate_records i signal w)) in
+    (ap (node_with d) parts.0, parts.1, subst P wiring (allowed d r.federate_records (listed_by r.federate_records i signal r.wiring) parts.2))
 
 in_order : (d : Draft) (xs : List FederateRecord) (count : ℕ) (o : Outcome Coordinated) →
-    IfDone o (λ made. (j : ℕ) → IsTrue (is_of_step (sent_to j made.sent)) × IsTrue (is_sent_past (federate_record_at xs j).granted (sent_to j made.sent)) × ((made.after j).granted ≡ granted_by (federate_record_at xs j).granted (sent_to j made.sent))) →
+    IfDone o (λ made. (j : ℕ) → IsTrue (is_of_step (sent_to j made.sent)) × IsTrue (may_go_down (federate_record_at xs j).granted (sent_to j made.sent)) × ((made.after j).granted ≡ granted_by_tags (federate_record_at xs j).granted (sent_to j made.sent))) →
     SendsOnly (coordinator_may_send (node_with d xs)) (with_made (made_by (node_with d xs)) (with_made (listed_after count) o))
 in_order d xs count (Refused refusal) h = tt
 in_order d xs count Nothing h = tt
 in_order d xs count (Done made) h =
-    all_below_from _ (λ j. is_of_step (sent_to j made.sent) && is_sent_past (federate_record_at xs j).granted (sent_to j made.sent))
-    (λ j l. both_hold (is_of_step (sent_to j made.sent)) (is_sent_past (federate_record_at xs j).granted (sent_to j made.sent)) (h j).0 (h j).1)
+    all_below_from _ (λ j. is_of_step (sent_to j made.sent) && may_go_down (federate_record_at xs j).granted (sent_to j made.sent))
+    (λ j l. both_hold (is_of_step (sent_to j made.sent)) (may_go_down (federate_record_at xs j).granted (sent_to j made.sent)) (h j).0 (h j).1)
 
 -- what it sends may be sent
 pub sends_in_order : (d : Draft) (r : Records) (i : ℕ) (signal : Signal) → IsKept d r → AreRecords r → IsSignal signal → SendsOnly (coordinator_may_send (node_with d r.federate_records)) (accepts (node_with d r.federate_records) i signal)
 sends_in_order d r i signal kept are good =
-    let n = network_by r.wires in
-    let safe = widest_rule_is_safe (network_by r.wires) (least_by r.wires) are.wires.wired in
-    let P : Wires → Type 0 = λ w. SendsOnly (coordinator_may_send (node_with d r.federate_records)) (with_made (made_by (node_with d r.federate_records)) (listed_by r.federate_records i signal w)) in
-    subst P kept.wires (in_order d r.federate_records r.wires.federates (coordinator_accepts n (rule_by r.wires) (federate_record_at r.federate_records) i signal)
-    (accepts_in_order n (least_by r.wires) (rule_by r.wires) (federate_record_at r.federate_records) i signal safe good kept.settled.federate_records))
+    let n = network_by r.wiring in
+    let safe = widest_rule_is_safe (network_by r.wiring) (least_by r.wiring) are.wiring.wired in
+    let P : Wiring → Type 0 = λ w. SendsOnly (coordinator_may_send (node_with d r.federate_records)) (with_made (made_by (node_with d r.federate_records)) (listed_by r.federate_records i signal w)) in
+    subst P kept.wiring (in_order d r.federate_records r.wiring.federates (coordinator_accepts n (rule_by r.wiring) (federate_record_at r.federate_records) i signal)
+    (accepts_in_order n (least_by r.wiring) (rule_by r.wiring) (federate_record_at r.federate_records) i signal safe good kept.settled.federate_records))
 
 -- one that fails is enough
 pub below_fails : (count j : ℕ) (test : ℕ → Bool) → j < count → test j ≡ false → all_below count test ≡ false
@@ -238,7 +238,7 @@ pub initial_is_kept : (d : Draft) → IsKept d (initial_records d)
 initial_is_kept d =
     let f = federate_record_at (federate_records_listed (federate_count d) (λ k. initial_federate_record)) in
     record {
-      wires = refl;
+      wiring = refl;
       settled = record {
         federate_records = λ j. (let P : FederateRecord → Type 0 = λ s. IsFederateRecord s in subst P (sym (initial_read (federate_count d) j)) initial_is_federate_record);
         nobody = λ j l. not_announced (f j).announced _ _ _ (ap (λ s. s.announced) (initial_read (federate_count d) j));

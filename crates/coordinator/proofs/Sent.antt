@@ -14,8 +14,8 @@ use Rattle.protocol.specs.Grant.{Rule, bound_of}
 use Rattle.protocol.specs.Coordinator.{grant_to, grant_post, grants_over}
 use Rattle.network_laws.proofs.Lists.{each_append, from_each}
 use Rattle.std.specs.List.{AllByRecursion}
-use Rattle.grants.specs.Wires.{Wires, network_by, least_by}
-use Rattle.grants.specs.Routes.{listed_below, may_change, looked_at}
+use Rattle.grants.specs.Wiring.{Wiring, network_by, least_by}
+use Rattle.grants.specs.Routes.{listed_below, may_change, affected_by}
 use Rattle.grants.specs.Records.{Records, is_eligible_in, with_looks, with_federate_record}
 use Rattle.coordinator.specs.Sending.{rule_by, grants_in, granted_with, all_granted}
 
@@ -36,11 +36,11 @@ granted_push federate_records [] post = refl
 granted_push federate_records (first ∷ rest) post = granted_push (granted_with federate_records first.peer first.signal) rest post
 
 -- no other signal than a TAG grants anything
-granted_by_none : (federate_records : List FederateRecord) (j : ℕ) (signal : Signal) → ((tag : LogicalTime) → signal ≡ Tag tag → ⊥) → granted_with federate_records j signal ≡ federate_records
-granted_by_none federate_records j (Net tag) other = refl
-granted_by_none federate_records j (Ltc tag) other = refl
-granted_by_none federate_records j (Tag tag) other = absurd (other tag refl)
-granted_by_none federate_records j (Msg connection tag value) other = refl
+granted_by_no_tag : (federate_records : List FederateRecord) (j : ℕ) (signal : Signal) → ((tag : LogicalTime) → signal ≡ Tag tag → ⊥) → granted_with federate_records j signal ≡ federate_records
+granted_by_no_tag federate_records j (Net tag) other = refl
+granted_by_no_tag federate_records j (Ltc tag) other = refl
+granted_by_no_tag federate_records j (Tag tag) other = absurd (other tag refl)
+granted_by_no_tag federate_records j (Msg connection tag value) other = refl
 
 pub noted_tag : (first : List FederateRecord) (t after : Records) (posts : List Post) (k looks : ℕ) (post : Post) (tag : LogicalTime) → t.federate_records ≡ all_granted first (take k posts) → take (k + 1) posts ≡ take k posts ++ post ∷ [] →
     post.signal ≡ Tag tag → after ≡ with_looks (with_federate_record t post.peer (record (federate_record_at t.federate_records post.peer) { granted = Some tag })) looks → after.federate_records ≡ all_granted first (take (k + 1) posts)
@@ -52,7 +52,7 @@ noted_tag first t after posts k looks post tag so more is_tag is =
 pub noted_other : (first : List FederateRecord) (t : Records) (posts : List Post) (k : ℕ) (post : Post) → t.federate_records ≡ all_granted first (take k posts) → take (k + 1) posts ≡ take k posts ++ post ∷ [] →
     ((tag : LogicalTime) → post.signal ≡ Tag tag → ⊥) → t.federate_records ≡ all_granted first (take (k + 1) posts)
 noted_other first t posts k post so more other =
-    sym (granted_by_none t.federate_records post.peer post.signal other) ∙
+    sym (granted_by_no_tag t.federate_records post.peer post.signal other) ∙
     (ap (λ s. granted_with s post.peer post.signal) so ∙ (sym (granted_push first (take k posts) post) ∙ ap (all_granted first) (sym more)))
 
 none_if : (b : Bool) (o : Option LogicalTime) → o ≡ None → (if b then o else None) ≡ None
@@ -60,35 +60,35 @@ none_if true o is = is
 none_if false o is = refl
 
 -- who isn't eligible gets nothing
-pub no_grant : (r : Records) (j : ℕ) → is_eligible_in r j ≡ false → grant_to (network_by r.wires) (rule_by r.wires) (federate_record_at r.federate_records) j ≡ None
+pub no_grant : (r : Records) (j : ℕ) → is_eligible_in r j ≡ false → grant_to (network_by r.wiring) (rule_by r.wiring) (federate_record_at r.federate_records) j ≡ None
 no_grant r j not_so =
-    none_if (nat_lt j r.wires.federates) (rule_by r.wires (federate_record_at r.federate_records) j)
-    (ap (λ b. if b then Some (lesser (predecessor_of (bound_of (network_by r.wires) (least_by r.wires) (federate_record_at r.federate_records) j)) r.wires.stop) else None) not_so)
+    none_if (nat_lt j r.wiring.federates) (rule_by r.wiring (federate_record_at r.federate_records) j)
+    (ap (λ b. if b then Some (lesser (predecessor_of (bound_of (network_by r.wiring) (least_by r.wiring) (federate_record_at r.federate_records) j)) r.wiring.stop) else None) not_so)
 
 -- where nobody is eligible, nobody is granted
-none_granted : (r : Records) (federates : List ℕ) → ((j : ℕ) → j < r.wires.federates → is_eligible_in r j ≡ false) →
-    All (λ j. j < r.wires.federates) federates → grants_in r federates ≡ []
+none_granted : (r : Records) (federates : List ℕ) → ((j : ℕ) → j < r.wiring.federates → is_eligible_in r j ≡ false) →
+    All (λ j. j < r.wiring.federates) federates → grants_in r federates ≡ []
 none_granted r [] nobody there = refl
 none_granted r (j ∷ rest) nobody there =
     ap (λ o. grant_post j o ++ grants_in r rest) (no_grant r j (nobody j (there 0 0 (omega arith)))) ∙ none_granted r rest nobody (λ k d l. there (suc k) d (omega arith))
 
-pub nothing_pushed : (r : Records) (posts : List Post) (federates : List ℕ) → ((j : ℕ) → j < r.wires.federates → is_eligible_in r j ≡ false) →
-    All (λ j. j < r.wires.federates) federates → posts ≡ posts ++ grants_in r federates
+pub nothing_pushed : (r : Records) (posts : List Post) (federates : List ℕ) → ((j : ℕ) → j < r.wiring.federates → is_eligible_in r j ≡ false) →
+    All (λ j. j < r.wiring.federates) federates → posts ≡ posts ++ grants_in r federates
 nothing_pushed r posts federates nobody there =
     sym (ap (λ xs. posts ++ xs) (none_granted r federates nobody there) ∙ append-nil posts)
 
-pub one_grant : (r : Records) (j : ℕ) (tag : LogicalTime) → j < r.wires.federates → rule_by r.wires (federate_record_at r.federate_records) j ≡ Some tag →
-    grant_to (network_by r.wires) (rule_by r.wires) (federate_record_at r.federate_records) j ≡ Some tag
+pub one_grant : (r : Records) (j : ℕ) (tag : LogicalTime) → j < r.wiring.federates → rule_by r.wiring (federate_record_at r.federate_records) j ≡ Some tag →
+    grant_to (network_by r.wiring) (rule_by r.wiring) (federate_record_at r.federate_records) j ≡ Some tag
 one_grant r j tag l is =
-    let e : nat_lt j r.wires.federates ≡ true = grind (arith, nat_tests) in
-    ap (λ (b : Bool). if b then rule_by r.wires (federate_record_at r.federate_records) j else None) e ∙ is
+    let e : nat_lt j r.wiring.federates ≡ true = grind (arith, nat_tests) in
+    ap (λ (b : Bool). if b then rule_by r.wiring (federate_record_at r.federate_records) j else None) e ∙ is
 
 pub pushed : (r : Records) (first now after : List Post) (federates : List ℕ) (k j : ℕ) (o : Option LogicalTime) → now ≡ first ++ grants_in r (take k federates) → take (k + 1) federates ≡ take k federates ++ j ∷ [] →
-    grant_to (network_by r.wires) (rule_by r.wires) (federate_record_at r.federate_records) j ≡ o → after ≡ now ++ grant_post j o → after ≡ first ++ grants_in r (take (k + 1) federates)
+    grant_to (network_by r.wiring) (rule_by r.wiring) (federate_record_at r.federate_records) j ≡ o → after ≡ now ++ grant_post j o → after ≡ first ++ grants_in r (take (k + 1) federates)
 pushed r first now after federates k j o so more is put =
     put ∙ (ap (λ xs. xs ++ grant_post j o) so ∙ (append_assoc first (grants_in r (take k federates)) (grant_post j o) ∙
     ap (λ xs. first ++ xs) (ap (λ x. grants_in r (take k federates) ++ grant_post j x) (sym is) ∙
-    (sym (over_push (network_by r.wires) (rule_by r.wires) (federate_record_at r.federate_records) (take k federates) j) ∙ ap (grants_in r) (sym more)))))
+    (sym (over_push (network_by r.wiring) (rule_by r.wiring) (federate_record_at r.federate_records) (take k federates) j) ∙ ap (grants_in r) (sym more)))))
 
 below_each : (count most : ℕ) (test : ℕ → Bool) → count ≤ most → AllByRecursion (λ j. j < most) (listed_below count test)
 below_each zero most test l = tt
@@ -100,5 +100,5 @@ below_each (suc count) most test l =
     one_below false = tt
 
 -- whom a change may make eligible is there
-pub looked_at_are_there : (w : Wires) (i : ℕ) → All (λ j. j < w.federates) (looked_at w i)
-looked_at_are_there w i = from_each (λ j. j < w.federates) (looked_at w i) (below_each w.federates w.federates (may_change w i) (omega arith))
+pub affected_are_there : (w : Wiring) (i : ℕ) → All (λ j. j < w.federates) (affected_by w i)
+affected_are_there w i = from_each (λ j. j < w.federates) (affected_by w i) (below_each w.federates w.federates (may_change w i) (omega arith))

@@ -7,17 +7,17 @@ use Rattle.protocol.specs.FederateRecord.{FederateRecord}
 use Rattle.protocol.specs.FederateRecords.{federate_record_at}
 use Rattle.protocol.specs.Grant.{Rule, grant_widest}
 use Rattle.protocol.specs.Coordinator.{grants_over}
-use Rattle.grants.specs.Wires.{Wires, network_by, least_by}
+use Rattle.grants.specs.Wiring.{Wiring, network_by, least_by}
 use Rattle.grants.specs.Records.{Records}
 
 -- each eligible federate is granted as much as is safe
-abbrev pub rule_by : Wires → Rule
+abbrev pub rule_by : Wiring → Rule
 rule_by w = grant_widest (network_by w) (least_by w)
 
 -- the TAGs that a table has for these federates
 abbrev pub grants_in : Records → List ℕ → List Post
 grants_in r federates =
-    grants_over (network_by r.wires) (rule_by r.wires) (federate_record_at r.federate_records) federates
+    grants_over (network_by r.wiring) (rule_by r.wiring) (federate_record_at r.federate_records) federates
 
 -- a TAG is what the federate is granted then; other signals grant nothing
 abbrev pub granted_with : List FederateRecord → ℕ → Signal → List FederateRecord

@@ -105,7 +105,7 @@ impl<'a> Node for Coordinator<'a> {
     ghost goes_on = { coordinators_go_on };
 }
 
-/// What every signal keeps.
+// What every signal keeps.
 fn signal_invariant(signal: &Signal)
     ensures { IsSignal signal.now }
 {

@@ -3,7 +3,7 @@ ghost use Rattle.std.specs.Prelude.{◌≡◌, ◌≢◌, ◌<◌, ◌++◌, All
 ghost use Rattle.node.specs.declared.fault.NodeFault.TheVariants as Faults;
 ghost use Rattle.node.specs.Mail.{all_posted, lacks_room};
 ghost use Rattle.node.specs.Box.{IsReady};
-ghost use Rattle.grants.specs.Routes.{looked_at};
+ghost use Rattle.grants.specs.Routes.{affected_by};
 ghost use Rattle.coordinator.specs.Sending.{grants_in, all_granted};
 
 use grants::Table;
@@ -19,13 +19,13 @@ pub(crate) fn prepare(
     changed: usize,
     outbox: &mut Outbox,
 ) -> Result<(), NodeFault>
-    requires { changed < table.now.wires.federates }
+    requires { changed < table.now.wiring.federates }
     ensures answer { result ≢ Err Faults.Memory
         → result ≡ (if lacks_room outbox.old.mail.ends
-        (posts.old.items ++ grants_in table.now (looked_at table.now.wires changed))
+        (posts.old.items ++ grants_in table.now (affected_by table.now.wiring changed))
         then Err Faults.NoRoom else Ok tt) }
     ensures posts { OnOk result (posts.new.items ≡ posts.old.items
-        ++ grants_in table.now (looked_at table.now.wires changed)) }
+        ++ grants_in table.now (affected_by table.now.wiring changed)) }
     ensures ready { OnOk result (IsReady outbox.new posts.new.items) }
     ensures mail { outbox.new.mail ≡ outbox.old.mail }
 {
@@ -33,9 +33,9 @@ pub(crate) fn prepare(
     outbox.reserve_all(posts.as_slice())
 }
 
-/// Adds a TAG to each of these federates that is eligible.
+// Adds a TAG to each of these federates that is eligible.
 fn push_grants(posts: &mut Vec<Post>, table: &Table, federates: &[usize]) -> Result<(), NodeFault>
-    requires { All (λ j. j < table.now.wires.federates) federates.now }
+    requires { All (λ j. j < table.now.wiring.federates) federates.now }
     ensures posts { OnOk result (posts.new.items ≡ posts.old.items ++ grants_in table.now federates.now) }
     ensures memory { result ≢ Err Faults.Memory → result ≡ Ok tt }
 {
@@ -56,8 +56,8 @@ fn push_grants(posts: &mut Vec<Post>, table: &Table, federates: &[usize]) -> Res
 /// Sends these, for which room and memory were reserved, and notes the TAGs among them.
 pub(crate) fn send(table: &mut Table, posts: &[Post], outbox: &mut Outbox)
     requires ready { IsReady outbox.old posts.now }
-    requires peers { All (λ p. p.peer < table.old.wires.federates) posts.now }
-    ensures wires { table.new.wires ≡ table.old.wires }
+    requires peers { All (λ p. p.peer < table.old.wiring.federates) posts.now }
+    ensures wiring { table.new.wiring ≡ table.old.wiring }
     ensures federate_records { table.new.federate_records ≡ all_granted table.old.federate_records posts.now }
     ensures mail { outbox.new.mail ≡ all_posted outbox.old.mail posts.now }
 {
@@ -65,10 +65,10 @@ pub(crate) fn send(table: &mut Table, posts: &[Post], outbox: &mut Outbox)
     outbox.put_all(posts);
 }
 
-/// Notes the TAGs among these.
+// Notes the TAGs among these.
 fn note_grants(table: &mut Table, posts: &[Post])
-    requires { All (λ p. p.peer < table.old.wires.federates) posts.now }
-    ensures wires { table.new.wires ≡ table.old.wires }
+    requires { All (λ p. p.peer < table.old.wiring.federates) posts.now }
+    ensures wiring { table.new.wiring ≡ table.old.wiring }
     ensures federate_records { table.new.federate_records ≡ all_granted table.old.federate_records posts.now }
 {
     for post in posts {

@@ -3,7 +3,7 @@ ghost use Rattle.tag.specs.LogicalTime.{forever, is_same};
 ghost use Rattle.signal.specs.declared.signal.Signal.TheVariants as signals;
 ghost use Rattle.protocol.specs.FederateRecords.{federate_record_at, is_finished};
 ghost use Rattle.plan.specs.Federation.{connections_of};
-ghost use Rattle.grants.specs.Wires.{network_by};
+ghost use Rattle.grants.specs.Wiring.{network_by};
 ghost use Rattle.grants.specs.Records.{changed_at, with_looks};
 ghost use Rattle.coordinator.specs.Steps.{IsSettled, IsStep};
 
@@ -34,7 +34,7 @@ impl State {
         outbox: &mut Outbox,
     ) -> Result<bool, NodeFault>
         requires settled { IsSettled self.old.table }
-        requires connections { self.old.table.wires.connections ≡ connections_of plan.now }
+        requires connections { self.old.table.wiring.connections ≡ connections_of plan.now }
         ensures { IsStep self.old.table self.new.table outbox.old.mail outbox.new.mail result peer signal.now }
     {
         match *signal {
@@ -54,7 +54,7 @@ impl State {
 
     /// Whether every federate has announced, and has FOREVER as its next tag.
     pub(crate) fn is_finished(&self) -> bool
-        ensures { result ≡ is_finished (network_by self.now.table.wires)
+        ensures { result ≡ is_finished (network_by self.now.table.wiring)
             (federate_record_at self.now.table.federate_records) }
     {
         for federate in 0..self.table.federates() {
@@ -65,7 +65,7 @@ impl State {
         true
     }
 
-    /// A NET: the federate's next tag is the lesser of it and of the messages on their way to it.
+    // A NET: the federate's next tag is the lesser of it and of the messages on their way to it.
     fn take_net(&mut self, peer: usize, tag: Tag, outbox: &mut Outbox) -> Result<bool, NodeFault>
         requires settled { IsSettled self.old.table }
         ensures { IsStep self.old.table self.new.table outbox.old.mail outbox.new.mail result peer (signals.Net tag) }
@@ -97,7 +97,7 @@ impl State {
         Ok(true)
     }
 
-    /// An LTC: the federate completed this tag, so no message up to it is on its way to it any more.
+    // An LTC: the federate completed this tag, so no message up to it is on its way to it any more.
     fn take_ltc(
         &mut self,
         peer: usize,
@@ -131,7 +131,7 @@ impl State {
         Ok(true)
     }
 
-    /// A message over a connection, if there is one of this number: it goes on to the connection's end.
+    // A message over a connection, if there is one of this number: it goes on to the connection's end.
     fn route(
         &mut self,
         peer: usize,
@@ -142,7 +142,7 @@ impl State {
         outbox: &mut Outbox,
     ) -> Result<bool, NodeFault>
         requires settled { IsSettled self.old.table }
-        requires over { over ≡ slice_get self.old.table.wires.connections number }
+        requires over { over ≡ slice_get self.old.table.wiring.connections number }
         ensures { IsStep self.old.table self.new.table outbox.old.mail outbox.new.mail result peer
             (signals.Msg number tag value) }
     {
@@ -186,18 +186,18 @@ impl State {
     }
 }
 
-/// Whether a federate has announced, and has FOREVER as its next tag.
+// Whether a federate has announced, and has FOREVER as its next tag.
 fn has_finished(table: &Table, federate: usize) -> bool
-    requires { federate < table.now.wires.federates }
+    requires { federate < table.now.wiring.federates }
     ensures { result ≡ ((federate_record_at table.now.federate_records federate).announced
         && is_same (federate_record_at table.now.federate_records federate).next forever) }
 {
     table.announced(federate) && table.next(federate).is_forever()
 }
 
-/// Notes a federate's next tag. Where that stays, nobody is looked at.
+// Notes a federate's next tag. Where that stays, nobody is looked at.
 fn note_next(table: &mut Table, federate: usize, next: Tag)
-    requires { federate < table.old.wires.federates }
+    requires { federate < table.old.wiring.federates }
     ensures { table.new ≡ with_looks (changed_at table.old federate (λ s. record s { next = next })) table.new.looks }
 {
     if table.next(federate) != next {
@@ -205,9 +205,9 @@ fn note_next(table: &mut Table, federate: usize, next: Tag)
     }
 }
 
-/// Notes that a NET of a federate came. After its first there is nothing to note, and nobody is looked at.
+// Notes that a NET of a federate came. After its first there is nothing to note, and nobody is looked at.
 fn note_announced(table: &mut Table, federate: usize)
-    requires { federate < table.old.wires.federates }
+    requires { federate < table.old.wiring.federates }
     ensures { table.new ≡ with_looks (changed_at table.old federate (λ s. record s { announced = true }))
         table.new.looks }
 {

@@ -1,4 +1,4 @@
--- How a desk's refusals are printed.
+-- How a desk's faults are printed.
 use Rattle.std.specs.Prelude.{ℕ, List, codes}
 use Rattle.signal.specs.Fault.{printed_fault}
 

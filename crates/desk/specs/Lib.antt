@@ -1,4 +1,4 @@
--- How a desk's refusals are printed.
+-- How a desk's faults are printed.
 pub mod Fault
 -- A station with the journal of its events, and the station that a journal gives.
 pub mod Replay

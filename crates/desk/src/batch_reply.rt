@@ -32,6 +32,22 @@ impl BatchReply {
         }
     }
 
+    /// Nothing, with room for this many frames, if there is memory for it.
+    pub fn with_room(alloc: Global, count: usize) -> BatchReply
+        ensures frames { result.frames.items ≡ [] }
+        ensures has_done { result.has_done ≡ false }
+        ensures history { result.shows_other_history ≡ false }
+    {
+        match Vec::with_capacity(alloc, count) {
+            Ok(frames) => BatchReply {
+                frames,
+                has_done: false,
+                shows_other_history: false,
+            },
+            Err(_) => BatchReply::new(alloc),
+        }
+    }
+
     /// Adds what a reply says. Without memory its frames aren't added.
     pub fn add(&mut self, reply: &Reply) -> Result<(), AllocError>
         ensures has_done { self.new.has_done ≡ self.old.has_done || is_done (answer_in reply.now) }

@@ -25,5 +25,5 @@ pub use desk::Desk;
 pub use memory::Memory;
 pub use node_journal::Slip;
 pub use share::Share;
-pub use shared::{Locked, Shared, gather};
+pub use shared::{DeskGuard, Shared, gather};
 pub use shares_disagree::SharesDisagree;

@@ -10,7 +10,7 @@ ghost use Rattle.desk.specs.Shares.{Agree};
 use crate::share::Share;
 use node_journal::{Blocks, Journal, Slip};
 
-// Whether the shares are the journal. They are used up.
+/// Whether the shares are the journal. They are used up.
 pub(crate) fn agree(journal: &Journal, shares: &mut [Share]) -> bool
     ensures { (result ≡ true) ↔ Agree journal.now shares.old }
 {

@@ -49,8 +49,8 @@ impl<N: Node> Shared<N> {
 
     /// Waits for the lock, and holds it, so that what the replies say can be handed on in the order of the station's
     /// steps.
-    pub fn lock<R: Wait>(&self, rt: &R) -> Locked<'_, N> {
-        Locked {
+    pub fn lock<R: Wait>(&self, rt: &R) -> DeskGuard<'_, N> {
+        DeskGuard {
             desk: self.desk.lock(rt),
         }
     }
@@ -101,11 +101,11 @@ impl<N: Node> Shared<N> {
 }
 
 /// A desk whose lock is held, until it is released.
-pub struct Locked<'a, N: Node> {
+pub struct DeskGuard<'a, N: Node> {
     desk: MutexGuard<'a, Desk<N>>,
 }
 
-impl<'a, N: Node> Locked<'a, N> {
+impl<'a, N: Node> DeskGuard<'a, N> {
     /// Handles the event. The share gains the event's slip. Without memory neither share nor desk has changed, and the
     /// same event may come again.
     pub fn handle(&mut self, share: &mut Share, event: Event) -> Result<Reply, Memory>
@@ -147,7 +147,7 @@ impl<'a, N: Node> Locked<'a, N> {
 
     /// Gives the lock up.
     pub fn release(self) {
-        let Locked { desk } = self;
+        let DeskGuard { desk } = self;
         drop(desk);
     }
 }

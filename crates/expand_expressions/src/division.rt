@@ -51,7 +51,7 @@ pub(crate) fn divided(
     ))
 }
 
-/// How many scratch states a division takes.
+// How many scratch states a division takes.
 fn states_needed(size: u64, is_quotient: bool) -> usize
     ensures some { 0 < result }
     ensures few { result ≤ 4 }
@@ -65,7 +65,7 @@ fn states_needed(size: u64, is_quotient: bool) -> usize
     }
 }
 
-/// By what a number is multiplied that is divided by -1, 0 or 1.
+// By what a number is multiplied that is divided by -1, 0 or 1.
 fn factor(divisor: i64, is_quotient: bool) -> i64
     ensures { result ≡ factor divisor is_quotient }
 {
@@ -78,7 +78,7 @@ fn factor(divisor: i64, is_quotient: bool) -> i64
     }
 }
 
-/// Where the quotient or the remainder is in the end.
+// Where the quotient or the remainder is in the end.
 fn answer_state(free: usize, is_quotient: bool) -> usize
     requires { free < MOST_STATES }
     ensures { result ≡ answer_state free is_quotient }
@@ -86,7 +86,7 @@ fn answer_state(free: usize, is_quotient: bool) -> usize
     if is_quotient { free + 3 } else { free + 1 }
 }
 
-/// All of the number is left, made negative; nothing is in the quotient.
+// All of the number is left, made negative; nothing is in the quotient.
 fn begin(lines: &mut Vec<Line>, free: usize, is_quotient: bool) -> Result<(), ExpressionFault>
     requires { free < MOST_STATES }
     ensures { OnOk result (lines.new.items ≡ lines.old.items ++ begun free is_quotient) }
@@ -104,7 +104,7 @@ fn begin(lines: &mut Vec<Line>, free: usize, is_quotient: bool) -> Result<(), Ex
     Ok(())
 }
 
-/// Takes the multiples off, from the greatest of 64 bits on.
+// Takes the multiples off, from the greatest of 64 bits on.
 fn take_all_off(
     lines: &mut Vec<Line>,
     free: usize,
@@ -120,7 +120,7 @@ fn take_all_off(
     Ok(())
 }
 
-/// Takes the multiple by a power of two off, if it has 64 bits.
+// Takes the multiple by a power of two off, if it has 64 bits.
 fn take_bit_off(
     lines: &mut Vec<Line>,
     free: usize,
@@ -138,7 +138,7 @@ fn take_bit_off(
     }
 }
 
-/// A power of two.
+// A power of two.
 fn weight(bit: u32) -> i64
     requires { bit < 63 }
     ensures { result ≡ pos (2 ^ bit) }
@@ -146,7 +146,7 @@ fn weight(bit: u32) -> i64
     1i64 << bit
 }
 
-/// The multiple by a power of two, made negative; None where it has more than 64 bits.
+// The multiple by a power of two, made negative; None where it has more than 64 bits.
 fn part_of(size: u64, bit: u32) -> Option<i64>
     requires { bit < 63 }
     ensures { MatchOption result (nat_le (size * 2 ^ bit) (2 ^ 63) ≡ false)
@@ -156,7 +156,7 @@ fn part_of(size: u64, bit: u32) -> Option<i64>
     0i64.checked_sub_unsigned(size.checked_mul(1u64 << bit)?)
 }
 
-/// Takes one multiple off, where it is there.
+// Takes one multiple off, where it is there.
 fn take_off(
     lines: &mut Vec<Line>,
     free: usize,
@@ -181,7 +181,7 @@ fn take_off(
     Ok(())
 }
 
-/// Sets the sign right: a remainder has that of the number; a quotient too, unless the divisor is below 0.
+// Sets the sign right: a remainder has that of the number; a quotient too, unless the divisor is below 0.
 fn turn(
     lines: &mut Vec<Line>,
     free: usize,
@@ -204,7 +204,7 @@ fn turn(
     put(lines, assignment_where(free + 2, answer, opposite))
 }
 
-/// A state gets a value where another state isn't 0.
+// A state gets a value where another state isn't 0.
 fn assignment_where(condition: usize, state: usize, value: Expression) -> Line
     ensures { result ≡ assigned_where condition state value }
 {

@@ -68,8 +68,8 @@ struct Reader<'a> {
 }
 
 impl Reader<'_> {
-    /// The longest expression that stands here, of operators of this level or tighter ones. Each call within another
-    /// may go one less deep.
+    // The longest expression that stands here, of operators of this level or tighter ones. Each call within another may
+    // go one less deep.
     #[cycle(reading)]
     fn formula(&mut self, loosest: u8, depth: usize) -> Result<Formula, ExpressionFault>
         requires { loosest ≤ 7 }
@@ -92,7 +92,7 @@ impl Reader<'_> {
         Ok(formula)
     }
 
-    /// What stands in front of the first operator: an operand, or all behind a `not`, where it may stand.
+    // What stands in front of the first operator: an operand, or all behind a `not`, where it may stand.
     #[cycle(reading)]
     fn part(&mut self, loosest: u8, depth: usize) -> Result<Part, ExpressionFault>
         requires { loosest ≤ 7 }
@@ -112,7 +112,7 @@ impl Reader<'_> {
         })
     }
 
-    /// What has no operator in it but in front or within parentheses.
+    // What has no operator in it but in front or within parentheses.
     #[cycle(reading)]
     fn operand(&mut self, depth: usize) -> Result<Formula, ExpressionFault>
         ensures { IfOk result (λ formula. Spells 7 self.old.rest.now formula self.new.rest.now) }
@@ -128,7 +128,7 @@ impl Reader<'_> {
         }
     }
 
-    /// What stands behind a `-` in front: the least number of 64 bits has no form without it.
+    // What stands behind a `-` in front: the least number of 64 bits has no form without it.
     #[cycle(reading)]
     fn negative(&mut self, depth: usize) -> Result<Formula, ExpressionFault>
         ensures { IfOk result (λ formula. Spells 7 (Operator Minus ∷ self.old.rest.now) formula self.new.rest.now) }
@@ -142,7 +142,7 @@ impl Reader<'_> {
         }
     }
 
-    /// Two arguments in parentheses.
+    // Two arguments in parentheses.
     #[cycle(reading)]
     fn call(&mut self, combination: Combination, depth: usize) -> Result<Formula, ExpressionFault>
         ensures { IfOk result (λ formula. Spells 7 (Call combination ∷ self.old.rest.now) formula self.new.rest.now) }
@@ -155,7 +155,7 @@ impl Reader<'_> {
         combined(self.alloc, left, combination, right)
     }
 
-    /// What stands behind an opening parenthesis, and the closing one.
+    // What stands behind an opening parenthesis, and the closing one.
     #[cycle(reading)]
     fn enclosed(&mut self, depth: usize) -> Result<Formula, ExpressionFault>
         ensures { IfOk result (λ formula. Spells 7 (Open ∷ self.old.rest.now) formula self.new.rest.now) }
@@ -177,7 +177,7 @@ impl Reader<'_> {
         }
     }
 
-    /// The number that stands next, if one does.
+    // The number that stands next, if one does.
     fn take_digits(&mut self) -> Option<u64>
         ensures { MatchOption result (self.new.rest.now ≡ self.old.rest.now)
             (λ magnitude. self.old.rest.now ≡ Digits magnitude ∷ self.new.rest.now) }
@@ -191,7 +191,7 @@ impl Reader<'_> {
         }
     }
 
-    /// Whether a `not` stands next where one may, which is taken.
+    // Whether a `not` stands next where one may, which is taken.
     fn take_not(&mut self, loosest: u8) -> bool
         ensures { MatchBool result ((loosest ≤ 3) × (self.old.rest.now ≡ Not ∷ self.new.rest.now))
             (self.new.rest.now ≡ self.old.rest.now) }
@@ -205,7 +205,7 @@ impl Reader<'_> {
         }
     }
 
-    /// The operator that stands next, if it binds so tightly, and what is to the left of it does.
+    // The operator that stands next, if it binds so tightly, and what is to the left of it does.
     fn take_sign(&mut self, loosest: u8, level: u8) -> Option<Sign>
         ensures { MatchOption result (self.new.rest.now ≡ self.old.rest.now)
             (λ sign. (self.old.rest.now ≡ Operator sign ∷ self.new.rest.now) × (loosest ≤ level_of sign)
@@ -258,7 +258,7 @@ impl Reader<'_> {
     }
 }
 
-/// Two formulas with an operator between them.
+// Two formulas with an operator between them.
 fn joined(
     alloc: Global,
     left: Formula,
@@ -293,14 +293,14 @@ fn combined(
     Ok(Formula::Combined(left, combination, right))
 }
 
-/// A divisor is known before the run.
+// A divisor is known before the run.
 fn divisor(formula: &Formula) -> Result<i64, ExpressionFault>
     ensures { IfOk result (λ n. IsKnown formula.now n) }
 {
     formula.constant().ok_or(ExpressionFault::NotConstant)
 }
 
-/// One less; an expression goes no deeper than it has tokens.
+// One less; an expression goes no deeper than it has tokens.
 fn deeper(depth: usize) -> Result<usize, ExpressionFault>
     ensures { IfOk result (λ within. within < depth) }
 {

@@ -127,7 +127,7 @@ pub(crate) fn tokens(
     Ok(tokens)
 }
 
-/// The token that stands in front, and what follows it.
+// The token that stands in front, and what follows it.
 fn next_token<'a>(known: Known<'_>, text: &'a [u8]) -> Result<(Token, &'a [u8]), ExpressionFault>
     ensures { IfOk result (λ parts. length parts.1.now < length text.now) }
 {
@@ -138,7 +138,7 @@ fn next_token<'a>(known: Known<'_>, text: &'a [u8]) -> Result<(Token, &'a [u8]),
     Ok((word_token(known, word)?, rest))
 }
 
-/// What a word is: a number, an operator, or a name.
+// What a word is: a number, an operator, or a name.
 fn word_token(known: Known<'_>, word: &[u8]) -> Result<Token, ExpressionFault> {
     match word {
         b"or" => Ok(Token::Operator(Sign::Or)),
@@ -154,7 +154,7 @@ fn word_token(known: Known<'_>, word: &[u8]) -> Result<Token, ExpressionFault> {
     }
 }
 
-/// The sign that stands in front, and what follows it.
+// The sign that stands in front, and what follows it.
 fn next_sign(text: &[u8]) -> Result<(Token, &[u8]), ExpressionFault>
     ensures { IfOk result (λ parts. length parts.1.now < length text.now) }
 {
@@ -165,7 +165,7 @@ fn next_sign(text: &[u8]) -> Result<(Token, &[u8]), ExpressionFault>
     Ok((token, rest))
 }
 
-/// The longest sign that stands in front, and how many characters it has.
+// The longest sign that stands in front, and how many characters it has.
 fn sign_of(text: &[u8]) -> Option<(Token, usize)>
     ensures { IfSome result (λ found. (0 < found.1) × (found.1 ≤ length text.now)) }
 {
@@ -179,7 +179,7 @@ fn sign_of(text: &[u8]) -> Option<(Token, usize)>
     }
 }
 
-/// The sign of one character.
+// The sign of one character.
 fn short_sign(character: u8) -> Option<Token> {
     match character {
         b'<' => Some(Token::Operator(Sign::Less)),
@@ -196,7 +196,7 @@ fn short_sign(character: u8) -> Option<Token> {
     }
 }
 
-/// Digits alone, for a number below 2^64.
+// Digits alone, for a number below 2^64.
 #[tactic(auto, using(reactor_program::proofs::Numerals::digits_listed))]
 fn magnitude(word: &[u8]) -> Result<u64, ExpressionFault> {
     if !are_digits(word) {

@@ -57,7 +57,7 @@ pub fn work_out(
     }
 }
 
-/// One side of a combination, as it reads it.
+// One side of a combination, as it reads it.
 #[cycle(working)]
 fn side(
     lines: &mut Vec<Line>,
@@ -133,7 +133,7 @@ pub fn store(
     }
 }
 
-/// What two operands are combined to.
+// What two operands are combined to.
 fn combined(
     lines: &mut Vec<Line>,
     left: Operand,

@@ -6,7 +6,7 @@ use Rattle.protocol.specs.declared.post.Post.{Post}
 use Rattle.protocol.specs.declared.refusal.Refusal.{Refusal}
 use Rattle.protocol.specs.Outcome.{Outcome, Refused, Nothing, Done, with_made, IfDone}
 use Rattle.protocol.specs.Federate.{Federate, Stepped, federate_accepts, federate_advances}
-use Rattle.protocol.specs.Alone.{IsFederate, is_of_turn, is_sent_after, completed_by}
+use Rattle.protocol.specs.KeptAlone.{IsFederate, is_of_turn, may_go_up, completed_by_ltcs}
 use Rattle.protocol_laws.proofs.FederateAlone.{accept_leaves, advance_sends}
 use Rattle.node.specs.declared.fault.NodeFault.{NodeFault}
 use Rattle.node.specs.declared.fault.NodeFault.TheVariants as fault
@@ -38,13 +38,13 @@ signals_back : (xs : List Signal) → signals_of (map to_coordinator xs) ≡ xs
 signals_back [] = refl
 signals_back (x ∷ xs) = ap (λ rest. x ∷ rest) (signals_back xs)
 
-in_order : (v : FederateNode) (o : Outcome Stepped) → IfDone o (λ made. IsTrue (is_sent_after v.federate.completed made.sent)) → SendsOnly (federate_may_send v) (with_made (made_by v) o)
+in_order : (v : FederateNode) (o : Outcome Stepped) → IfDone o (λ made. IsTrue (may_go_up v.federate.completed made.sent)) → SendsOnly (federate_may_send v) (with_made (made_by v) o)
 in_order v (Refused r) h = tt
 in_order v Nothing h = tt
-in_order v (Done made) h = subst (λ xs. IsTrue (is_sent_after v.federate.completed xs)) (sym (signals_back made.sent)) h
+in_order v (Done made) h = subst (λ xs. IsTrue (may_go_up v.federate.completed xs)) (sym (signals_back made.sent)) h
 
-sent_by_turn : (f : Federate) (o : Outcome Stepped) → IfDone o (λ made. IsTrue (is_of_turn made.sent) × IsTrue (is_sent_after f.completed made.sent) × (made.after.completed ≡ completed_by f.completed made.sent)) →
-    IfDone o (λ made. IsTrue (is_sent_after f.completed made.sent))
+sent_by_turn : (f : Federate) (o : Outcome Stepped) → IfDone o (λ made. IsTrue (is_of_turn made.sent) × IsTrue (may_go_up f.completed made.sent) × (made.after.completed ≡ completed_by_ltcs f.completed made.sent)) →
+    IfDone o (λ made. IsTrue (may_go_up f.completed made.sent))
 sent_by_turn f (Refused r) h = tt
 sent_by_turn f Nothing h = tt
 sent_by_turn f (Done made) h = h.1

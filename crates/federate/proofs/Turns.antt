@@ -16,7 +16,7 @@ use Rattle.network_laws.proofs.Lists.{each, each_more, each_append}
 use Rattle.signal.specs.declared.signal.Signal.TheVariants.{Ltc}
 use Rattle.protocol.specs.Outcome.{Nothing, Done, IfDone}
 use Rattle.protocol.specs.Federate.{Federate, effect_of, scheduled_at, scheduled_by, message_over, messages_from, turn_at, advance_to, federate_advances}
-use Rattle.protocol.specs.Alone.{IsFederate, IsStillToRun}
+use Rattle.protocol.specs.KeptAlone.{IsFederate, IsStillToRun}
 use Rattle.protocol_laws.proofs.FederateAlone.{advance_leaves}
 use Rattle.plan.specs.declared.draft.Draft.{Draft}
 use Rattle.plan.specs.declared.draft.Federate as declared

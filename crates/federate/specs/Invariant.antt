@@ -3,7 +3,7 @@ use Rattle.std.specs.Prelude.{◌≡◌, ℕ, ◌<◌, List, slice_get, Option, 
 use Rattle.tag.specs.LogicalTime.{LogicalTime}
 use Rattle.network.specs.Undivided.{Row}
 use Rattle.protocol.specs.Federate.{Federate}
-use Rattle.protocol.specs.Alone.{IsFederate}
+use Rattle.protocol.specs.KeptAlone.{IsFederate}
 use Rattle.plan.specs.declared.draft.Draft.{Draft}
 use Rattle.plan.specs.declared.input.Input.{Input}
 use Rattle.plan.specs.External.{AreInputsOf}

@@ -5,7 +5,7 @@ ghost use Rattle.signal.specs.Signal.{IsSignal};
 ghost use Rattle.signal.specs.declared.signal.Signal.TheVariants as Signals;
 ghost use Rattle.protocol.specs.Outcome.{Nothing, Done, Refused};
 ghost use Rattle.protocol.specs.Federate.{accept_grant, accept_message, initial_federate, federate_accepts};
-ghost use Rattle.protocol.specs.Alone.{IsFederate};
+ghost use Rattle.protocol.specs.KeptAlone.{IsFederate};
 ghost use Rattle.plan.specs.External.{AreInputsOf};
 ghost use Rattle.plan.specs.Federation.{connections_of, federate_count, stop_of};
 ghost use Rattle.plan_network.specs.Network.{network_of};
@@ -149,7 +149,7 @@ impl<'a> Federate<'a> {
         self.due().is_none()
     }
 
-    /// The tag of the next turn, if it is granted.
+    // The tag of the next turn, if it is granted.
     fn due(&self) -> Option<FiniteTag>
         ensures { result ≡ due_in self.now.federate }
     {
@@ -161,7 +161,7 @@ impl<'a> Federate<'a> {
         }
     }
 
-    /// What a signal would change, or why it is refused.
+    // What a signal would change, or why it is refused.
     fn admit(&self, signal: Signal) -> Result<Change, Refusal>
         ensures outcome { MatchResult result
             (λ change. federate_accepts (network_at self.now) self.now.number self.now.federate signal ≡ Done (record { after = changed change self.now.federate; sent = [] }))
@@ -183,7 +183,7 @@ impl<'a> Federate<'a> {
         }
     }
 
-    /// The same of a TAG.
+    // The same of a TAG.
     fn admit_grant(&self, tag: FiniteTag) -> Result<Change, Refusal>
         ensures outcome { MatchResult result
             (λ change. accept_grant (network_at self.now) self.now.federate tag ≡ Done (record {
@@ -205,7 +205,7 @@ impl<'a> Federate<'a> {
         Ok(Change::Grant(tag))
     }
 
-    /// The same of a message.
+    // The same of a message.
     fn admit_message(&self, connection: u16, tag: FiniteTag, value: i64) -> Result<Change, Refusal>
         ensures outcome { MatchResult result
             (λ change. accept_message (network_at self.now) self.now.number self.now.federate (slice_get (connections_of self.now.draft) connection) tag value ≡ Done (record { after = changed change self.now.federate; sent = [] }))
@@ -218,7 +218,7 @@ impl<'a> Federate<'a> {
         let Some(connection) = self.connection(connection) else {
             return Err(Refusal::WrongSignal);
         };
-        if !self.takes(connection, tag) {
+        if !self.ends_here_in_time(connection, tag) {
             return Err(Refusal::WrongSignal);
         }
         if !self.is_ahead(tag) {
@@ -227,28 +227,28 @@ impl<'a> Federate<'a> {
         Ok(Change::Put(PendingEvent::new(tag, connection.slot(), value)))
     }
 
-    /// The connection of this number.
+    // The connection of this number.
     fn connection(&self, number: u16) -> Option<Connection>
         ensures { result ≡ slice_get (connections_of self.now.draft) number }
     {
         self.plan.connections().get(usize::from(number)).copied()
     }
 
-    /// Whether a connection ends here, and the tag isn't later than stop.
-    fn takes(&self, connection: Connection, tag: FiniteTag) -> bool
+    // Whether a connection ends here, and the tag isn't later than stop.
+    fn ends_here_in_time(&self, connection: Connection, tag: FiniteTag) -> bool
         ensures { result ≡ (nat_eq connection.target self.now.number && is_at_most tag (stop_of self.now.draft)) }
     {
         connection.target() == self.number && tag <= self.plan.stop_tag()
     }
 
-    /// Whether a tag is later than what is completed, and than what is granted.
+    // Whether a tag is later than what is completed, and than what is granted.
     fn is_ahead(&self, tag: FiniteTag) -> bool
         ensures { result ≡ (is_past self.now.federate.completed tag && is_past self.now.federate.granted tag) }
     {
         is_past(self.completed, tag.tag()) && is_past(self.granted, tag.tag())
     }
 
-    /// Makes a change that was admitted.
+    // Makes a change that was admitted.
     fn apply(&mut self, change: Change) -> Result<(), Memory>
         requires alone { IsFederate (network_at self.old) self.old.number (changed change self.old.federate) }
         requires in_time { IsInTime (stop_of self.old.draft) change }

@@ -50,7 +50,7 @@ pub fn add_messages(
     Ok(())
 }
 
-/// Adds the message of a value, if there is one.
+// Adds the message of a value, if there is one.
 fn add_message(
     posts: &mut Vec<Post>,
     plan: &Plan,

@@ -25,7 +25,7 @@ pub fn put_recorded(
     Ok(())
 }
 
-/// Puts one of them, if it is the federate's.
+// Puts one of them, if it is the federate's.
 fn put_own(agenda: &mut Agenda, plan: &Plan, input: &Input, federate: usize) -> Result<(), Memory>
     requires { agenda.old.stop ≡ stop_of plan.now }
     ensures stop { OnOk result (agenda.new.stop ≡ agenda.old.stop) }

@@ -26,7 +26,7 @@ pub fn add_scheduled(
     Ok(())
 }
 
-/// Adds one of them.
+// Adds one of them.
 fn add_one(
     scheduled: &mut Vec<PendingEvent>,
     plan: &Plan,

@@ -55,7 +55,8 @@ fn main(rt: HostRuntime) -> ExitCode {
     ExitCode::from(status)
 }
 
-/// `command` over a machine whose connections are TCP's: the prover wants their types named where a machine is handed in.
+// `command` over a machine whose connections are TCP's: the prover wants their types named where a machine is handed
+// in.
 fn run_command<
     R: AllocGlobal
         + Threads
@@ -71,7 +72,7 @@ fn run_command<
     command(rt, words, files, out, err, progress)
 }
 
-/// `node_command`, likewise.
+// `node_command`, likewise.
 fn run_node<
     R: AllocGlobal
         + Threads
@@ -88,8 +89,8 @@ fn run_node<
     node_command(rt, words, files, disk, out, err)
 }
 
-/// A file in place of a standard stream that is closed, which can't be written. Else the next file that is opened would
-/// have the stream's number, and what is printed be written into it: into a report, say.
+// A file in place of a standard stream that is closed, which can't be written. Else the next file that is opened would
+// have the stream's number, and what is printed be written into it: into a report, say.
 fn stand_in<R: rt::Files>(rt: &R, stream: &str) -> Option<R::File> {
     match fs::symlink_metadata(rt, stream) {
         Err(error) if error.kind() == ErrorKind::NotFound => File::open(rt, "/dev/null").ok(),

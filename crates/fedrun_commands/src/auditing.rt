@@ -74,7 +74,7 @@ pub(crate) fn audit<'a, F: Files, O: Write>(
     }
 }
 
-/// The coordinator's journal, from its report of a run of these files.
+// The coordinator's journal, from its report of a run of these files.
 fn read_coordinator_file<'a, F: Files>(
     alloc: Global,
     digests: &FileDigests,
@@ -98,7 +98,7 @@ fn read_coordinator_file<'a, F: Files>(
     }
 }
 
-/// Takes the federates' reports, file by file.
+// Takes the federates' reports, file by file.
 #[tactic(auto, using(fedrun_files::proofs::InTurn::answered_in_turn))]
 fn take_files<'a, F: Files>(
     alloc: Global,
@@ -123,7 +123,7 @@ fn take_files<'a, F: Files>(
     Ok(())
 }
 
-/// Takes a federate's report.
+// Takes a federate's report.
 fn take_file<'a, F: Files>(
     alloc: Global,
     digests: &FileDigests,
@@ -151,7 +151,7 @@ fn take_file<'a, F: Files>(
     }
 }
 
-/// Prints the rows of reports that an audit proves with the coordinator's journal.
+// Prints the rows of reports that an audit proves with the coordinator's journal.
 fn print_reports<O: Write>(
     alloc: Global,
     sources: &Sources,

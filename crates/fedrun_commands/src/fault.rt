@@ -74,7 +74,7 @@ impl fmt::Display for NodeFault<'_> {
     }
 }
 
-/// The exit status where a picture isn't drawn: 1 where it would be too great.
+// The exit status where a picture isn't drawn: 1 where it would be too great.
 fn drawing_status(fault: &DrawFault) -> u8
     ensures { result ≡ drawing_status fault.now }
 {

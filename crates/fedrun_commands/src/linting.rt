@@ -50,7 +50,7 @@ pub(crate) fn lint<'a, F: Files, O: Write>(
     print_lint(alloc, request, &first, &second, out)
 }
 
-/// Prints the report on two files, of which one that is too long has no bytes here.
+// Prints the report on two files, of which one that is too long has no bytes here.
 fn print_lint<'a, O: Write>(
     alloc: Global,
     request: &LintRequest<'a>,
@@ -80,7 +80,7 @@ fn print_lint<'a, O: Write>(
     }
 }
 
-/// The bytes of a file, where they were read.
+// The bytes of a file, where they were read.
 fn bytes_in(file: &Option<Vec<u8>>) -> Option<&[u8]>
     ensures { option_copied result ≡ known_bytes file.now }
 {
@@ -90,7 +90,7 @@ fn bytes_in(file: &Option<Vec<u8>>) -> Option<&[u8]>
     }
 }
 
-/// The bytes of a file; none where it has more than this many.
+// The bytes of a file; none where it has more than this many.
 fn bytes_if_few<F: Files>(
     name: &str,
     files: &mut F,
@@ -109,7 +109,7 @@ fn bytes_if_few<F: Files>(
     }
 }
 
-/// The bytes of a file of recorded inputs; `-` is one without any.
+// The bytes of a file of recorded inputs; `-` is one without any.
 fn inputs_if_few<F: Files>(
     alloc: Global,
     name: &str,

@@ -90,7 +90,7 @@ pub(crate) fn draw_schedule<'a, F: Files, O: Write, P: Progress>(
     play_and_print(alloc, &play, files, out, progress)
 }
 
-/// Prints what is asked for of a schedule, played over the federation's world.
+// Prints what is asked for of a schedule, played over the federation's world.
 #[tactic(auto, using(fedrun_files::proofs::InTurn::answered_in_turn))]
 fn play_and_print<'a, F: Files, O: Write, P: Progress>(
     alloc: Global,

@@ -54,8 +54,8 @@ pub(crate) fn print_played<O: Write, P: Progress>(
     }
 }
 
-/// Plays a schedule and prints what `replay_in` does. Where there is no memory for a step, the refused steps before it
-/// are written, or as comma-separated values nothing.
+// Plays a schedule and prints what `replay_in` does. Where there is no memory for a step, the refused steps before it
+// are written, or as comma-separated values nothing.
 fn print_replay<O: Write, P: Progress>(
     alloc: Global,
     scheduled: &Scheduled,
@@ -94,7 +94,7 @@ fn print_replay<O: Write, P: Progress>(
     }
 }
 
-/// Plays a schedule and prints what `frames` does. Where there is no memory for a step, those before it are written.
+// Plays a schedule and prints what `frames` does. Where there is no memory for a step, those before it are written.
 fn print_frames<O: Write>(
     alloc: Global,
     scheduled: &Scheduled,
@@ -129,7 +129,7 @@ fn print_frames<O: Write>(
     }
 }
 
-/// Plays a schedule and prints a picture of it.
+// Plays a schedule and prints a picture of it.
 fn print_schedule_picture<O: Write>(
     alloc: Global,
     scheduled: &Scheduled,

@@ -44,7 +44,7 @@ pub(crate) fn perform<'a, R: NetRuntime, F: Files, O: Write, P: Progress + Sync>
     }
 }
 
-/// Does what this request asks for.
+// Does what this request asks for.
 #[tactic(auto, using(crate::proofs::Reported::kept_early))]
 fn fulfil<'a, R: NetRuntime, F: Files, O: Write, P: Progress + Sync>(
     rt: &R,

@@ -81,7 +81,7 @@ pub(crate) fn record_run<'a, R: NetRuntime, F: Files, O: Write, P: Progress + Sy
     run_and_print(rt, alloc, &run, files, out, progress)
 }
 
-/// Runs the federation in threads, and prints what is asked for of the run.
+// Runs the federation in threads, and prints what is asked for of the run.
 fn run_and_print<'a, R: NetRuntime, F: Files, O: Write, P: Progress + Sync>(
     rt: &R,
     alloc: Global,

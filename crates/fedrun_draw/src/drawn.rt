@@ -54,7 +54,7 @@ pub fn draw_schedule<W: Write>(
     write_all(out, &picture)
 }
 
-/// The picture of a plan.
+// The picture of a plan.
 fn picture_of_plan(alloc: Global, plan: &Plan) -> Result<Picture, AllocError> {
     let figures = figures_of(alloc, plan)?;
     federation_picture(alloc, &figures)
@@ -79,7 +79,7 @@ pub fn history_of_schedule(
     recorded(alloc, plan, programs, inputs, player.world())
 }
 
-/// What is drawn of the steps of a world, made anew.
+// What is drawn of the steps of a world, made anew.
 fn recorded(
     alloc: Global,
     plan: &Plan,
@@ -101,7 +101,7 @@ fn recorded(
     Ok(history)
 }
 
-/// A player that has played a schedule.
+// A player that has played a schedule.
 fn played<'a>(
     alloc: Global,
     plan: &'a Plan,
@@ -124,7 +124,7 @@ fn played<'a>(
     Ok(player)
 }
 
-/// Plays a schedule; what a replay prints is discarded.
+// Plays a schedule; what a replay prints is discarded.
 fn play(player: &mut Player<'_>, script: &Script, closing: Option<u32>) -> Result<(), DrawFault>
     ensures ok { OnOk result (IsPlayed script.now closing player.old player.new.world) }
     ensures err { IfErr result IsInterrupted }
@@ -137,7 +137,7 @@ fn play(player: &mut Player<'_>, script: &Script, closing: Option<u32>) -> Resul
     }
 }
 
-/// Refuses a world of more steps or frames than are drawn.
+// Refuses a world of more steps or frames than are drawn.
 fn refuse_too_long(world: &World<'_>) -> Result<(), DrawFault>
     ensures ok { OnOk result (IsWithin world.now) }
     ensures err { IfErr result (IsUndrawn world.now) }
@@ -153,7 +153,7 @@ fn refuse_too_long(world: &World<'_>) -> Result<(), DrawFault>
     Ok(())
 }
 
-/// How many frames were ever sent in a world.
+// How many frames were ever sent in a world.
 fn frame_count(world: &World<'_>) -> usize {
     let mut count = 0usize;
     for federate in 0..world.federate_count() {
@@ -164,7 +164,7 @@ fn frame_count(world: &World<'_>) -> usize {
     count
 }
 
-/// Writes a picture.
+// Writes a picture.
 fn write_all<W: Write>(out: &mut W, picture: &Picture) -> Result<(), DrawFault>
     ensures ok { OnOk result (HasPicture (W.contents out.old) (W.contents out.new)) }
     ensures err { IfErr result (λ fault. fault ≡ DrawFault.CannotWrite) }

@@ -47,7 +47,7 @@ pub(crate) fn history_of(
 }
 
 impl<'a> Recording<'a> {
-    /// Nothing was seen.
+    // Nothing was seen.
     fn new(alloc: Global, plan: &'a Plan) -> Result<Recording<'a>, AllocError>
         ensures { IfOk result (λ recording. vec_len recording.history.steps ≡ 0) }
     {
@@ -66,19 +66,19 @@ impl<'a> Recording<'a> {
         })
     }
 
-    /// What was seen, taken out.
+    // What was seen, taken out.
     fn into_history(self) -> History
         ensures { result ≡ self.entry.history }
     {
         self.history
     }
 
-    /// The step that was made last.
+    // The step that was made last.
     fn last_step(&self) -> usize {
         self.history.steps.len().saturating_sub(1)
     }
 
-    /// Makes a step, and looks at what it changed.
+    // Makes a step, and looks at what it changed.
     fn make(&mut self, alloc: Global, world: &mut World<'_>, step: Step) -> Result<(), OutOfMemory>
         ensures { OnOk result (vec_len self.new.history.steps ≡ vec_len self.old.history.steps + 1) }
     {
@@ -88,7 +88,7 @@ impl<'a> Recording<'a> {
         self.see_each(alloc, world)
     }
 
-    /// Adds what is written beside the step.
+    // Adds what is written beside the step.
     fn see_step(&mut self, alloc: Global, step: Step, outcome: Outcome) -> Result<(), OutOfMemory>
         ensures { OnOk result (vec_len self.new.history.steps ≡ vec_len self.old.history.steps + 1) }
     {
@@ -104,7 +104,7 @@ impl<'a> Recording<'a> {
         Ok(())
     }
 
-    /// Adds the frame that a step brought.
+    // Adds the frame that a step brought.
     fn see_arrival(&mut self, step: Step, outcome: Outcome) -> Result<(), AllocError>
         ensures { self.new.history.steps ≡ self.old.history.steps }
     {
@@ -123,7 +123,7 @@ impl<'a> Recording<'a> {
         self.history.add_arrival(arrival)
     }
 
-    /// The place among all frames of one of a direction.
+    // The place among all frames of one of a direction.
     fn place_of(&self, dir: Dir, number: usize) -> Option<usize> {
         let (federate, is_up) = way_of(dir);
         for place in 0..self.history.frames.len() {
@@ -136,7 +136,7 @@ impl<'a> Recording<'a> {
         None
     }
 
-    /// Whether a frame came before.
+    // Whether a frame came before.
     fn has_come(&self, frame: usize) -> bool {
         for arrival in self.history.arrivals.as_slice() {
             if arrival.frame == frame {
@@ -146,7 +146,7 @@ impl<'a> Recording<'a> {
         false
     }
 
-    /// Adds the frames and rows that weren't seen before, of each federate.
+    // Adds the frames and rows that weren't seen before, of each federate.
     fn see_each(&mut self, alloc: Global, world: &World<'_>) -> Result<(), OutOfMemory>
         ensures { self.new.history.steps ≡ self.old.history.steps }
     {
@@ -158,7 +158,7 @@ impl<'a> Recording<'a> {
         Ok(())
     }
 
-    /// Adds the frames of a direction that weren't seen before.
+    // Adds the frames of a direction that weren't seen before.
     fn see_frames(
         &mut self,
         alloc: Global,
@@ -177,7 +177,7 @@ impl<'a> Recording<'a> {
         Ok(())
     }
 
-    /// How many frames of a direction were seen.
+    // How many frames of a direction were seen.
     fn seen(&self, federate: usize, is_up: bool) -> usize {
         if is_up {
             number_at(self.up.as_slice(), federate)
@@ -186,7 +186,7 @@ impl<'a> Recording<'a> {
         }
     }
 
-    /// This many frames of a direction are seen.
+    // This many frames of a direction are seen.
     fn set_seen(&mut self, federate: usize, is_up: bool, count: usize)
         ensures { self.new.history ≡ self.old.history }
     {
@@ -197,7 +197,7 @@ impl<'a> Recording<'a> {
         }
     }
 
-    /// Adds a frame that the last step sent.
+    // Adds a frame that the last step sent.
     fn see_frame(
         &mut self,
         alloc: Global,
@@ -223,7 +223,7 @@ impl<'a> Recording<'a> {
         self.history.add_frame(sending)
     }
 
-    /// Adds the rows of a federate that weren't seen before.
+    // Adds the rows of a federate that weren't seen before.
     fn see_rows(
         &mut self,
         alloc: Global,
@@ -242,7 +242,7 @@ impl<'a> Recording<'a> {
         Ok(())
     }
 
-    /// Adds a row that the last step made.
+    // Adds a row that the last step made.
     fn see_row(
         &mut self,
         alloc: Global,
@@ -263,7 +263,7 @@ impl<'a> Recording<'a> {
     }
 }
 
-/// The names of the federates.
+// The names of the federates.
 fn names(alloc: Global, plan: &Plan) -> Result<Vec<String>, AllocError> {
     let mut names = Vec::new(alloc);
     for number in 0..plan.federate_count() {
@@ -272,7 +272,7 @@ fn names(alloc: Global, plan: &Plan) -> Result<Vec<String>, AllocError> {
     Ok(names)
 }
 
-/// The federate of a direction, and whether it leads to the coordinator.
+// The federate of a direction, and whether it leads to the coordinator.
 fn way_of(dir: Dir) -> (usize, bool) {
     match dir {
         Dir::Up(federate) => (federate, true),
@@ -288,12 +288,12 @@ fn dir_of(federate: usize, is_up: bool) -> Dir {
     }
 }
 
-/// Whether this is that frame of that direction.
+// Whether this is that frame of that direction.
 fn is_frame(frame: &Sending, federate: usize, is_up: bool, number: usize) -> bool {
     frame.federate == federate && frame.is_up == is_up && frame.number == number
 }
 
-/// The number by which something was refused.
+// The number by which something was refused.
 fn refusal(outcome: Outcome) -> Option<u16> {
     match outcome {
         Outcome::Refused(number) => Some(number),
@@ -308,7 +308,7 @@ fn outcome_ink(outcome: Outcome) -> Ink {
     }
 }
 
-/// Whether a step has room in the picture: where it changed nothing, only if it was asked for by name.
+// Whether a step has room in the picture: where it changed nothing, only if it was asked for by name.
 fn is_shown(step: Step, outcome: Outcome) -> bool {
     match step {
         Step::Deliver(_, _) | Step::Reconnect(_) | Step::Forget(_) => true,
@@ -316,7 +316,7 @@ fn is_shown(step: Step, outcome: Outcome) -> bool {
     }
 }
 
-/// The federate that a step made forget.
+// The federate that a step made forget.
 fn forgets(step: Step, outcome: Outcome) -> Option<usize> {
     match step {
         Step::Forget(federate) if outcome == Outcome::Done => Some(federate),

@@ -25,7 +25,7 @@ pub fn figures_of(alloc: Global, plan: &Plan) -> Result<Figures, AllocError>
     })
 }
 
-/// Its federates.
+// Its federates.
 fn all_figures(alloc: Global, plan: &Plan) -> Result<Vec<Figure>, AllocError>
     ensures { IfOk result (λ figures. vec_len figures ≡ federate_count plan.now) }
 {
@@ -37,7 +37,7 @@ fn all_figures(alloc: Global, plan: &Plan) -> Result<Vec<Figure>, AllocError>
     Ok(figures)
 }
 
-/// Connections.
+// Connections.
 fn all_wires(alloc: Global, connections: &[Connection]) -> Result<Vec<Wire>, AllocError>
     ensures { IfOk result (λ wires. vec_len wires ≡ length connections.now) }
 {
@@ -49,13 +49,13 @@ fn all_wires(alloc: Global, connections: &[Connection]) -> Result<Vec<Wire>, All
     Ok(wires)
 }
 
-/// What is written below all.
+// What is written below all.
 fn caption(alloc: Global, plan: &Plan) -> Result<String, AllocError> {
     let stop = plan.stop_time();
     format!(in alloc; "stop {stop}")
 }
 
-/// A federate, as it is drawn.
+// A federate, as it is drawn.
 fn figure_of(alloc: Global, federate: &Federate, rank: usize) -> Result<Figure, AllocError> {
     let name = String::from_str(alloc, federate.name.as_str())?;
     let inputs = texts(alloc, federate.slots.inputs.as_slice())?;
@@ -70,7 +70,7 @@ fn figure_of(alloc: Global, federate: &Federate, rank: usize) -> Result<Figure, 
     })
 }
 
-/// These names.
+// These names.
 fn texts(alloc: Global, names: &[Text]) -> Result<Vec<String>, AllocError> {
     let mut texts = Vec::new(alloc);
     for name in names {
@@ -79,7 +79,7 @@ fn texts(alloc: Global, names: &[Text]) -> Result<Vec<String>, AllocError> {
     Ok(texts)
 }
 
-/// What a federate has beside its ports.
+// What a federate has beside its ports.
 fn parts(alloc: Global, slots: &Slots) -> Result<Vec<Part>, AllocError> {
     let mut parts = Vec::new(alloc);
     if slots.startup {
@@ -100,7 +100,7 @@ fn add_part(parts: &mut Vec<Part>, sign: Sign, text: String) -> Result<(), Alloc
     Ok(())
 }
 
-/// Adds timers.
+// Adds timers.
 fn add_timers(alloc: Global, parts: &mut Vec<Part>, timers: &[Timer]) -> Result<(), AllocError> {
     for timer in timers {
         let text = timer_text(alloc, timer)?;
@@ -109,7 +109,7 @@ fn add_timers(alloc: Global, parts: &mut Vec<Part>, timers: &[Timer]) -> Result<
     Ok(())
 }
 
-/// Adds actions, or physical ones.
+// Adds actions, or physical ones.
 fn add_actions(
     alloc: Global,
     parts: &mut Vec<Part>,
@@ -123,7 +123,7 @@ fn add_actions(
     Ok(())
 }
 
-/// A timer: its name and when it fires.
+// A timer: its name and when it fires.
 fn timer_text(alloc: Global, timer: &Timer) -> Result<String, AllocError> {
     let name = timer.name.as_str();
     let offset = time_of(timer.offset);
@@ -135,7 +135,7 @@ fn timer_text(alloc: Global, timer: &Timer) -> Result<String, AllocError> {
     }
 }
 
-/// A time in ns; of those that are no time, 0.
+// A time in ns; of those that are no time, 0.
 fn time_of(nanoseconds: u64) -> Time {
     match Time::new(nanoseconds) {
         Some(time) => time,
@@ -143,7 +143,7 @@ fn time_of(nanoseconds: u64) -> Time {
     }
 }
 
-/// A connection, as it is drawn.
+// A connection, as it is drawn.
 fn wire_of(alloc: Global, connection: Connection) -> Result<Wire, AllocError> {
     let delay = delay_text(alloc, connection.delay())?;
     Ok(Wire {
@@ -155,7 +155,7 @@ fn wire_of(alloc: Global, connection: Connection) -> Result<Wire, AllocError> {
     })
 }
 
-/// A delay as the file of the federation has it; None where there is none.
+// A delay as the file of the federation has it; None where there is none.
 fn delay_text(alloc: Global, delay: Delay) -> Result<Option<String>, AllocError> {
     if delay.is_none() {
         return Ok(None);

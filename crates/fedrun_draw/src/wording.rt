@@ -29,7 +29,7 @@ pub(crate) fn step_text(
     Ok(text)
 }
 
-/// A step as a line of a schedule.
+// A step as a line of a schedule.
 fn step_line(alloc: Global, plan: &Plan, step: Step) -> Result<Vec<u8>, OutOfMemory> {
     let mut line = Vec::new(alloc);
     match write_steps(&mut line, plan, [step].as_slice()) {
@@ -51,7 +51,7 @@ pub(crate) fn frame_text(
     Ok(text)
 }
 
-/// Adds what a frame says.
+// Adds what a frame says.
 fn push_frame(text: &mut String, plan: &Plan, frame: &Frame) -> Result<(), AllocError> {
     match frame {
         Frame::Hello(hello) => push_count(text, "Hello", hello.last_taken),
@@ -65,7 +65,7 @@ fn push_count(text: &mut String, word: &str, count: u64) -> Result<(), AllocErro
     write!(text, "{word} {count}")
 }
 
-/// Adds a signal.
+// Adds a signal.
 fn push_signal(text: &mut String, plan: &Plan, signal: Signal) -> Result<(), AllocError> {
     match signal {
         Signal::Net(tag) => write!(text, "NET {tag}"),
@@ -82,7 +82,7 @@ fn push_signal(text: &mut String, plan: &Plan, signal: Signal) -> Result<(), All
     }
 }
 
-/// Adds to which port a message goes.
+// Adds to which port a message goes.
 fn push_port(text: &mut String, plan: &Plan, connection: usize) -> Result<(), AllocError> {
     let Some(connection) = plan.connections().get(connection) else {
         return write!(text, "MSG");
@@ -91,7 +91,7 @@ fn push_port(text: &mut String, plan: &Plan, connection: usize) -> Result<(), Al
     push_input(text, plan, connection.target(), place)
 }
 
-/// Adds an input port.
+// Adds an input port.
 fn push_input(
     text: &mut String,
     plan: &Plan,
@@ -103,7 +103,7 @@ fn push_input(
     write!(text, "MSG {name}.{port}")
 }
 
-/// The name of an input; empty where there is none.
+// The name of an input; empty where there is none.
 fn input_name(plan: &Plan, federate: usize, place: usize) -> &str {
     let Some(federate) = plan.federates().get(federate) else {
         return "";
@@ -145,7 +145,7 @@ pub(crate) fn row_text(
     Ok(text)
 }
 
-/// The row at a place as a line.
+// The row at a place as a line.
 fn row_line(alloc: Global, plan: &Plan, rows: &Rows, place: usize) -> Result<Vec<u8>, OutOfMemory> {
     let one = one_row(alloc, rows, place)?;
     let mut line = Vec::new(alloc);
@@ -155,7 +155,7 @@ fn row_line(alloc: Global, plan: &Plan, rows: &Rows, place: usize) -> Result<Vec
     }
 }
 
-/// The row at a place, alone.
+// The row at a place, alone.
 fn one_row(alloc: Global, rows: &Rows, place: usize) -> Result<Rows, OutOfMemory> {
     let mut one = Rows::new(alloc);
     if place < rows.len() {
@@ -168,7 +168,7 @@ fn one_row(alloc: Global, rows: &Rows, place: usize) -> Result<Rows, OutOfMemory
     Ok(one)
 }
 
-/// A line without its first word, and cut where it is too long.
+// A line without its first word, and cut where it is too long.
 fn cut_text(alloc: Global, line: &str) -> Result<String, AllocError> {
     let mut text = String::new(alloc);
     let mut is_past_name = false;
@@ -184,7 +184,7 @@ fn cut_text(alloc: Global, line: &str) -> Result<String, AllocError> {
     Ok(text)
 }
 
-/// Adds a letter, where there is room.
+// Adds a letter, where there is room.
 fn push_letter(text: &mut String, letter: char) -> Result<(), AllocError> {
     if text.len() < LONGEST_ROW {
         text.push(letter)?;

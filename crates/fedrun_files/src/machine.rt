@@ -29,7 +29,7 @@ impl<R: rt::Files + AllocGlobal> Files for MachineFiles<'_, R> {
     }
 }
 
-/// Why a file's bytes can't be had, where the machine has this error.
+// Why a file's bytes can't be had, where the machine has this error.
 fn fault_of(error: &io::Error) -> FileFault
     ensures memory { error_kind error.now ≡ ErrorKind.OutOfMemory → result ≡ Memory }
     ensures other { error_kind error.now ≢ ErrorKind.OutOfMemory → result ≡ Unreadable }

@@ -96,7 +96,7 @@ pub fn read_federation<'a, M, F: Files>(
     }
 }
 
-/// The same, and the file's bytes.
+// The same, and the file's bytes.
 fn read_federation_and_bytes<'a, M, F: Files>(
     alloc: Global,
     name: &'a str,
@@ -116,7 +116,7 @@ fn read_federation_and_bytes<'a, M, F: Files>(
     }
 }
 
-/// The recorded inputs in a file, and its bytes; `-` is a file without any.
+// The recorded inputs in a file, and its bytes; `-` is a file without any.
 fn read_inputs<'a, M, F: Files>(
     alloc: Global,
     name: &'a str,

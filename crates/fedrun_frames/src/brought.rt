@@ -37,7 +37,7 @@ pub(crate) fn brought_by(world: &World<'_>, step: Step) -> Brought
     }
 }
 
-/// What a frame brings that comes in a direction, if it is there.
+// What a frame brings that comes in a direction, if it is there.
 fn frame_brought(world: &World<'_>, dir: Dir, frame: Option<Frame>) -> Brought
     ensures { result ≡ frame_brought (stations_of world.now) dir frame }
 {
@@ -64,14 +64,14 @@ fn signal_brought(is_known: bool) -> Brought
     }
 }
 
-/// Whether the receiver of a direction acknowledged a signal before, or one after it.
+// Whether the receiver of a direction acknowledged a signal before, or one after it.
 fn is_acknowledged(world: &World<'_>, dir: Dir, incarnation: u32, number: u64) -> bool
     ensures { result ≡ is_acknowledged (stations_of world.now) dir incarnation number }
 {
     number <= acknowledged_last(world, back(dir), incarnation)
 }
 
-/// The direction in which what came in another one is acknowledged.
+// The direction in which what came in another one is acknowledged.
 fn back(dir: Dir) -> Dir
     ensures { result ≡ back dir }
 {
@@ -81,8 +81,8 @@ fn back(dir: Dir) -> Dir
     }
 }
 
-/// The number that a direction's frames acknowledge last in an incarnation, or 0 where none does. Mostly it stands near
-/// the end: an acknowledgement is sent for each signal that comes.
+// The number that a direction's frames acknowledge last in an incarnation, or 0 where none does. Mostly it stands near
+// the end: an acknowledgement is sent for each signal that comes.
 fn acknowledged_last(world: &World<'_>, dir: Dir, incarnation: u32) -> u64
     ensures { result ≡ acknowledged_last incarnation 0 (frames_in (stations_of world.now) dir) }
 {
@@ -95,7 +95,7 @@ fn acknowledged_last(world: &World<'_>, dir: Dir, incarnation: u32) -> u64
     0
 }
 
-/// The number that a frame acknowledges in an incarnation.
+// The number that a frame acknowledges in an incarnation.
 fn acknowledged_by(frame: Option<Frame>, wanted: u32) -> Option<u64>
     ensures { result ≡ acknowledged_by wanted frame }
 {

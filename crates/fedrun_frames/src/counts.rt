@@ -29,7 +29,7 @@ pub(crate) fn counts(alloc: Global, world: &World<'_>) -> Result<Vec<LinkCounts>
     Ok(counts)
 }
 
-/// Over a federate's link.
+// Over a federate's link.
 fn count_at(world: &World<'_>, federate: usize) -> LinkCounts
     ensures { result ≡ count_at (stations_of world.now) federate }
 {

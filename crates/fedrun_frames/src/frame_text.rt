@@ -43,7 +43,7 @@ pub(crate) fn write_frame<W: Write>(out: &mut W, plan: &Plan, frame: Frame) -> i
     }
 }
 
-/// Writes a greeting: which signal its sender took last.
+// Writes a greeting: which signal its sender took last.
 fn write_hello<W: Write>(out: &mut W, last_taken: u64, incarnation: u32) -> io::Result<()>
     ensures { OnOk result (Appends (W.contents out.old) (W.contents out.new)
         (codes "Hello taken " ++ (decimal last_taken ++ incarnation_text incarnation))) }
@@ -59,7 +59,7 @@ fn write_last_taken<W: Write>(out: &mut W, last_taken: u64) -> io::Result<()>
     write!(out, "Hello taken {last_taken}")
 }
 
-/// Writes an incarnation, where it isn't the first.
+// Writes an incarnation, where it isn't the first.
 fn write_incarnation<W: Write>(out: &mut W, incarnation: u32) -> io::Result<()>
     ensures { OnOk result (Appends (W.contents out.old) (W.contents out.new) (incarnation_text incarnation)) }
 {
@@ -69,7 +69,7 @@ fn write_incarnation<W: Write>(out: &mut W, incarnation: u32) -> io::Result<()>
     write!(out, ", incarnation {incarnation}")
 }
 
-/// Writes a signal: its name, its tag, and what a message brings.
+// Writes a signal: its name, its tag, and what a message brings.
 fn write_signal<W: Write>(out: &mut W, plan: &Plan, signal: Signal) -> io::Result<()>
     ensures { OnOk result (Appends (W.contents out.old) (W.contents out.new) (signal_text plan.now signal)) }
 {
@@ -89,7 +89,7 @@ fn write_signal<W: Write>(out: &mut W, plan: &Plan, signal: Signal) -> io::Resul
     }
 }
 
-/// Writes the input at which a connection ends.
+// Writes the input at which a connection ends.
 fn write_input<W: Write>(out: &mut W, plan: &Plan, connection: usize) -> io::Result<()>
     ensures { OnOk result (Appends (W.contents out.old) (W.contents out.new)
         (input_text plan.now (slice_get (connections_of plan.now) connection))) }
@@ -104,7 +104,7 @@ fn write_input<W: Write>(out: &mut W, plan: &Plan, connection: usize) -> io::Res
     }
 }
 
-/// The name of the input at a slot of a federate, or an empty text where there is none.
+// The name of the input at a slot of a federate, or an empty text where there is none.
 fn input_name(plan: &Plan, federate: usize, slot: usize) -> &str
     ensures { result.now ≡ input_name (slice_get plan.now.federates federate) slot }
 {

@@ -40,7 +40,7 @@ pub(crate) fn steps_of_schedule(
     Ok(made)
 }
 
-/// Does what the lines of a schedule ask for, one after the other.
+// Does what the lines of a schedule ask for, one after the other.
 fn make_lines(
     player: &mut Player<'_>,
     made: &mut Vec<MadeStep>,
@@ -54,7 +54,7 @@ fn make_lines(
     Ok(())
 }
 
-/// Does what a line asks for.
+// Does what a line asks for.
 fn make_line(
     player: &mut Player<'_>,
     made: &mut Vec<MadeStep>,
@@ -72,7 +72,7 @@ fn make_line(
     }
 }
 
-/// Makes closing rounds for the line after the last, where they are asked for.
+// Makes closing rounds for the line after the last, where they are asked for.
 fn close(
     player: &mut Player<'_>,
     made: &mut Vec<MadeStep>,
@@ -87,7 +87,7 @@ fn close(
     }
 }
 
-/// Makes closing rounds for a line.
+// Makes closing rounds for a line.
 fn make_closing_rounds(
     player: &mut Player<'_>,
     made: &mut Vec<MadeStep>,
@@ -105,7 +105,7 @@ fn make_closing_rounds(
     }
 }
 
-/// Adds the steps of a world after this many, which were made for a line.
+// Adds the steps of a world after this many, which were made for a line.
 fn list(
     made: &mut Vec<MadeStep>,
     line: usize,
@@ -118,7 +118,7 @@ fn list(
     add_each(made, line, rest.as_slice())
 }
 
-/// Adds steps, which were made for a line.
+// Adds steps, which were made for a line.
 fn add_each(made: &mut Vec<MadeStep>, line: usize, steps: &[Step]) -> Result<(), Memory>
     ensures { OnOk result (made.new.items ≡ made.old.items ++ made_for line steps.now) }
 {

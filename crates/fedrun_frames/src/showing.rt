@@ -38,7 +38,7 @@ pub(crate) fn show_steps<W: Write>(
     Ok(())
 }
 
-/// Makes a step, and writes what came of it. Where there is no memory for it, nothing is written.
+// Makes a step, and writes what came of it. Where there is no memory for it, nothing is written.
 fn show<W: Write>(
     alloc: Global,
     out: &mut W,
@@ -59,7 +59,7 @@ fn show<W: Write>(
     write_account(out, plan, world, &account).map_err(|_| ReplayFault::CannotWrite)
 }
 
-/// Makes a step, and answers what is to be written of it.
+// Makes a step, and answers what is to be written of it.
 fn make(alloc: Global, world: &mut World<'_>, made: MadeStep) -> Result<Account, Memory>
     ensures account { IfOk result (λ account. account
         ≡ account_of (stations_of world.old) (federate_count world.old.draft) made) }
@@ -80,7 +80,7 @@ fn make(alloc: Global, world: &mut World<'_>, made: MadeStep) -> Result<Account,
     })
 }
 
-/// The row that a step made that ended so, in the world after it.
+// The row that a step made that ended so, in the world after it.
 fn row_made(alloc: Global, world: &World<'_>, step: Step, outcome: Outcome) -> Result<Rows, Memory>
     ensures { IfOk result (λ row. row ≡ row_made step outcome (stations_of world.now)) }
 {
@@ -90,7 +90,7 @@ fn row_made(alloc: Global, world: &World<'_>, step: Step, outcome: Outcome) -> R
     }
 }
 
-/// The last row of a federate, alone.
+// The last row of a federate, alone.
 fn last_row_of(alloc: Global, world: &World<'_>, federate: usize) -> Result<Rows, Memory>
     ensures { IfOk result (λ row. row ≡ last_row (rows_in (stations_of world.now) federate)) }
 {
@@ -100,7 +100,7 @@ fn last_row_of(alloc: Global, world: &World<'_>, federate: usize) -> Result<Rows
     }
 }
 
-/// The last of these rows, alone.
+// The last of these rows, alone.
 fn last_row(alloc: Global, rows: &Rows) -> Result<Rows, Memory>
     ensures { IfOk result (λ row. row ≡ last_row rows.now) }
 {

@@ -39,7 +39,7 @@ pub(crate) fn write_account<W: Write>(
     write_sent(out, plan, world, account.before.as_slice())
 }
 
-/// Writes a step behind its line, as a schedule has it.
+// Writes a step behind its line, as a schedule has it.
 fn write_step<W: Write>(out: &mut W, plan: &Plan, line: usize, step: Step) -> io::Result<()>
     ensures { OnOk result (Appends (W.contents out.old) (W.contents out.new)
         (decimal line ++ (codes " " ++ printed_step plan.now step))) }
@@ -48,7 +48,7 @@ fn write_step<W: Write>(out: &mut W, plan: &Plan, line: usize, step: Step) -> io
     write_steps(out, plan, &[step])
 }
 
-/// Writes how a step ended.
+// Writes how a step ended.
 fn write_ending<W: Write>(out: &mut W, brought: Brought, outcome: Outcome) -> io::Result<()>
     ensures { OnOk result (Appends (W.contents out.old) (W.contents out.new) (ending_text brought outcome)) }
 {
@@ -84,7 +84,7 @@ fn done_text(brought: Brought) -> &'static str
     }
 }
 
-/// Writes the row that a step made, if it made one.
+// Writes the row that a step made, if it made one.
 fn write_row<W: Write>(out: &mut W, plan: &Plan, row: &Rows) -> io::Result<()>
     ensures { OnOk result (Appends (W.contents out.old) (W.contents out.new) (row_text plan.now row.now)) }
 {
@@ -96,7 +96,7 @@ fn write_row<W: Write>(out: &mut W, plan: &Plan, row: &Rows) -> io::Result<()>
     Ok(())
 }
 
-/// Writes the frames sent over each link after this many, federate by federate.
+// Writes the frames sent over each link after this many, federate by federate.
 fn write_sent<W: Write>(
     out: &mut W,
     plan: &Plan,
@@ -112,7 +112,7 @@ fn write_sent<W: Write>(
     Ok(())
 }
 
-/// Writes those of a federate, and then those to it.
+// Writes those of a federate, and then those to it.
 fn write_link<W: Write>(
     out: &mut W,
     plan: &Plan,
@@ -127,7 +127,7 @@ fn write_link<W: Write>(
     write_sent_after(out, plan, world, Dir::Down(federate), before.down)
 }
 
-/// Writes the frames of a direction after this many.
+// Writes the frames of a direction after this many.
 fn write_sent_after<W: Write>(
     out: &mut W,
     plan: &Plan,
@@ -145,7 +145,7 @@ fn write_sent_after<W: Write>(
     Ok(())
 }
 
-/// Writes a frame that was sent, if it is there, on a line of its own.
+// Writes a frame that was sent, if it is there, on a line of its own.
 fn write_sent_line<W: Write>(
     out: &mut W,
     plan: &Plan,
@@ -163,7 +163,7 @@ fn write_sent_line<W: Write>(
     out.write_all(b"\n")
 }
 
-/// Writes that a frame was sent, by the words that `deliver` names it with.
+// Writes that a frame was sent, by the words that `deliver` names it with.
 fn write_name<W: Write>(out: &mut W, plan: &Plan, dir: Dir, k: usize) -> io::Result<()>
     ensures { OnOk result (Appends (W.contents out.old) (W.contents out.new)
         (codes "  sent " ++ (way_of dir

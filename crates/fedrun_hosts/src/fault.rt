@@ -101,7 +101,7 @@ impl fmt::Display for HostFault<'_> {
     }
 }
 
-/// The name of what a coordinator answered.
+// The name of what a coordinator answered.
 fn refusal_name(fault: DialFault) -> &'static str
     ensures { result.now ≡ refusal_name fault }
 {

@@ -53,7 +53,7 @@ fn requested<'a>(matches: &ArgMatches<'a>) -> Option<HostRequest<'a>> {
     })
 }
 
-/// Both commands.
+// Both commands.
 fn commands<'a>(alloc: Global) -> Result<Command<'a>, AllocError> {
     Command::new(alloc, "fedrun")
         .no_binary_name(true)
@@ -76,7 +76,7 @@ fn commands<'a>(alloc: Global) -> Result<Command<'a>, AllocError> {
         )?)
 }
 
-/// A command as `clap` has it. An option may be given once.
+// A command as `clap` has it. An option may be given once.
 fn described<'a>(
     alloc: Global,
     name: &'static str,
@@ -106,7 +106,7 @@ fn described<'a>(
     Ok(command)
 }
 
-/// What every node is given, with the address under this option.
+// What every node is given, with the address under this option.
 fn node<'a>(given: &ArgMatches<'a>, address: &str) -> Option<NodeRequest<'a>> {
     Some(NodeRequest {
         federation: given.get_str("FED")?,
@@ -121,12 +121,12 @@ fn node<'a>(given: &ArgMatches<'a>, address: &str) -> Option<NodeRequest<'a>> {
     })
 }
 
-/// A file's name, which has a letter at least.
+// A file's name, which has a letter at least.
 fn name(text: &str) -> Option<&str> {
     if text.is_empty() { None } else { Some(text) }
 }
 
-/// The version of frames that a federate writes; where none is given, one that has Batches.
+// The version of frames that a federate writes; where none is given, one that has Batches.
 fn frames(given: &ArgMatches<'_>) -> Option<u8> {
     match number(given, "frames", u32::from(BATCHING))? {
         1 => Some(1),
@@ -135,7 +135,7 @@ fn frames(given: &ArgMatches<'_>) -> Option<u8> {
     }
 }
 
-/// The number under an option, or this one where it isn't given.
+// The number under an option, or this one where it isn't given.
 fn number(given: &ArgMatches<'_>, option: &str, default: u32) -> Option<u32> {
     match given.get_str(option) {
         Some(text) => count(text),
@@ -143,7 +143,7 @@ fn number(given: &ArgMatches<'_>, option: &str, default: u32) -> Option<u32> {
     }
 }
 
-/// A number in ASCII digits.
+// A number in ASCII digits.
 fn count(text: &str) -> Option<u32> {
     if text.bytes().all(|byte| byte.is_ascii_digit()) {
         text.parse::<u32>().ok()

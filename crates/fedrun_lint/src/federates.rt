@@ -36,8 +36,8 @@ pub(crate) fn look_at_federation(look: &mut Look<'_>) {
     }
 }
 
-/// Finds what is wrong with each federate, and adds its name and its ports, as far as they are taken; answers whether
-/// all are.
+// Finds what is wrong with each federate, and adds its name and its ports, as far as they are taken; answers whether
+// all are.
 fn look_at_federates(look: &mut Look<'_>, federates: &mut Entries) -> bool {
     let tree = look.tree;
     let mut is_whole = true;
@@ -53,7 +53,7 @@ fn look_at_federates(look: &mut Look<'_>, federates: &mut Entries) -> bool {
     is_whole
 }
 
-/// The same of one federate.
+// The same of one federate.
 fn look_at_federate(look: &mut Look<'_>, place: usize, federates: &mut Entries) -> bool {
     let tree = look.tree;
     let mut file = Draft::new(look.alloc);
@@ -75,7 +75,7 @@ fn look_at_federate(look: &mut Look<'_>, place: usize, federates: &mut Entries) 
     }
 }
 
-/// Adds the name and the ports of a federate that is taken.
+// Adds the name and the ports of a federate that is taken.
 fn push_ports(tree: &Tree<'_>, place: usize, federates: &mut Entries) {
     federates.text.push("{ name = ");
     push_value(tree, tree.child(place, "name"), &mut federates.text);
@@ -90,14 +90,14 @@ fn push_ports(tree: &Tree<'_>, place: usize, federates: &mut Entries) {
     federates.end(place);
 }
 
-/// Adds the key of a list behind other pairs.
+// Adds the key of a list behind other pairs.
 fn push_list(key: &str, out: &mut Draft) {
     out.push(", ");
     out.push(key);
     out.push(" = ");
 }
 
-/// Finds what is wrong with a federate that isn't taken: its keys, then its lists, each behind those before it.
+// Finds what is wrong with a federate that isn't taken: its keys, then its lists, each behind those before it.
 fn look_closely(look: &mut Look<'_>, place: usize, federates: &mut Entries) -> bool {
     look_at_keys(look, &FEDERATE, place);
     look.is_whole = true;
@@ -116,7 +116,7 @@ fn look_closely(look: &mut Look<'_>, place: usize, federates: &mut Entries) -> b
     is_named && has_ports
 }
 
-/// Adds the pairs of a file of one federate.
+// Adds the pairs of a file of one federate.
 fn push_pairs(file: &Draft, federates: &mut Entries) {
     let text = &mut federates.text;
     text.add(file.as_slice().get(BEFORE.len()..).unwrap_or(&[]));
@@ -126,7 +126,7 @@ fn push_pairs(file: &Draft, federates: &mut Entries) {
     }
 }
 
-/// Adds a federate's name, or any where it has none, and answers whether it has one.
+// Adds a federate's name, or any where it has none, and answers whether it has one.
 fn push_name(look: &mut Look<'_>, place: usize, file: &mut Draft) -> bool {
     let tree = look.tree;
     let name = tree.child(place, "name");
@@ -141,7 +141,7 @@ fn push_name(look: &mut Look<'_>, place: usize, file: &mut Draft) -> bool {
     }
 }
 
-/// Finds what is wrong with lists of a federate, and adds what is kept of them to the file.
+// Finds what is wrong with lists of a federate, and adds what is kept of them to the file.
 fn look_at_lists(look: &mut Look<'_>, federate: usize, keys: &[&str], file: &mut Draft) {
     for key in keys {
         let array = look.tree.child(federate, key);

@@ -31,7 +31,7 @@ pub(crate) fn look_at_keys(look: &mut Look<'_>, form: &Form, table: usize) {
     }
 }
 
-/// Finds what is wrong with a key, or with the entries of its array.
+// Finds what is wrong with a key, or with the entries of its array.
 fn look_at_key(look: &mut Look<'_>, form: &Form, place: usize) {
     if !is_refused(look, form, place) {
         return;
@@ -54,7 +54,7 @@ pub(crate) fn is_refused(look: &mut Look<'_>, form: &Form, place: usize) -> bool
     look.refuses_shape(&file)
 }
 
-/// Finds what is wrong with an array that was refused: its entries that are wrong by themselves, or else all of it.
+// Finds what is wrong with an array that was refused: its entries that are wrong by themselves, or else all of it.
 fn look_at_array(look: &mut Look<'_>, form: &Form, array: usize) {
     let before = look.len();
     let (fault, about) = look.take();
@@ -65,7 +65,7 @@ fn look_at_array(look: &mut Look<'_>, form: &Form, array: usize) {
     }
 }
 
-/// Finds the entries of an array that are wrong by themselves.
+// Finds the entries of an array that are wrong by themselves.
 fn look_at_entries(look: &mut Look<'_>, form: &Form, array: usize) {
     let tree = look.tree;
     let mut at = tree.node(array).first;
@@ -85,7 +85,7 @@ fn look_at_entries(look: &mut Look<'_>, form: &Form, array: usize) {
     }
 }
 
-/// Adds the last fault, one of shape, at the line of a node, with what stands at the key of another.
+// Adds the last fault, one of shape, at the line of a node, with what stands at the key of another.
 fn put_shape(look: &mut Look<'_>, place: usize, keyed: usize) {
     let tree = look.tree;
     let line = tree.line(place);
@@ -95,7 +95,7 @@ fn put_shape(look: &mut Look<'_>, place: usize, keyed: usize) {
     }
 }
 
-/// Finds that a key which isn't there is needed.
+// Finds that a key which isn't there is needed.
 fn look_for_key(look: &mut Look<'_>, form: &Form, table: usize, key: &str) {
     let mut file = begin(look, form, key);
     file.push(form.behind);
@@ -104,7 +104,7 @@ fn look_for_key(look: &mut Look<'_>, form: &Form, table: usize, key: &str) {
     }
 }
 
-/// The least file that has the table, up to its pairs and with all keys that it needs but this one.
+// The least file that has the table, up to its pairs and with all keys that it needs but this one.
 fn begin(look: &Look<'_>, form: &Form, without: &str) -> Draft {
     let mut file = Draft::new(look.alloc);
     file.push(form.before);
@@ -119,7 +119,7 @@ fn begin(look: &Look<'_>, form: &Form, without: &str) -> Draft {
     file
 }
 
-/// The least file that has the table, up to the value at the key of a node.
+// The least file that has the table, up to the value at the key of a node.
 fn up_to_value(look: &Look<'_>, form: &Form, place: usize) -> Draft {
     let mut file = begin(look, form, look.tree.key(place));
     push_key(look.tree, place, &mut file);
@@ -137,7 +137,7 @@ pub(crate) fn put_entry(look: &mut Look<'_>, entry: usize) {
     }
 }
 
-/// Finds what is wrong with the keys of an entry of an array, if it is a table.
+// Finds what is wrong with the keys of an entry of an array, if it is a table.
 fn look_into_entry(look: &mut Look<'_>, entry: usize) {
     let tree = look.tree;
     if tree.is_table(entry) {

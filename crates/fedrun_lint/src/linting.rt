@@ -44,7 +44,7 @@ pub(crate) fn report_on(
     }
 }
 
-/// The report where the federation file is too long.
+// The report where the federation file is too long.
 fn of_long_federation(alloc: Global, inputs: Option<&[u8]>) -> Result<Report, AllocError>
     ensures { IfOk result (IsReportOn None (option_copied inputs.entry)) }
 {
@@ -56,8 +56,8 @@ fn of_long_federation(alloc: Global, inputs: Option<&[u8]>) -> Result<Report, Al
     })
 }
 
-/// Why a file of recorded inputs of a refused federation is refused, if it is: for its length, where it has no bytes
-/// here, and else for its shape.
+// Why a file of recorded inputs of a refused federation is refused, if it is: for its length, where it has no bytes
+// here, and else for its shape.
 fn refusal_if_few(alloc: Global, inputs: Option<&[u8]>) -> Result<Option<Refusal>, AllocError>
     ensures { IfOk result (IsReportOnInputs (option_copied inputs.entry)) }
 {
@@ -67,7 +67,7 @@ fn refusal_if_few(alloc: Global, inputs: Option<&[u8]>) -> Result<Option<Refusal
     }
 }
 
-/// The report where the file of recorded inputs is too long.
+// The report where the file of recorded inputs is too long.
 fn of_long_inputs(alloc: Global, federation: &[u8]) -> Result<Report, AllocError>
     ensures { IfOk result (IsReportOnOne federation.now) }
 {
@@ -79,7 +79,7 @@ fn of_long_inputs(alloc: Global, federation: &[u8]) -> Result<Report, AllocError
     })
 }
 
-/// Why a federation file is refused, if it is.
+// Why a federation file is refused, if it is.
 fn refusal_if_any(alloc: Global, federation: &[u8]) -> Result<Option<Refusal>, AllocError>
     ensures { IfOk result (λ refused. MatchOption refused (IsTaken federation.now) (IsRefused federation.now)) }
 {
@@ -103,7 +103,7 @@ pub fn lint(alloc: Global, federation: &[u8], inputs: &[u8]) -> Result<Report, A
     }
 }
 
-/// The report where the federation file has this fault.
+// The report where the federation file has this fault.
 fn of_refused(
     alloc: Global,
     federation: &[u8],
@@ -122,7 +122,7 @@ fn of_refused(
     })
 }
 
-/// The report where the federation file is this plan.
+// The report where the federation file is this plan.
 #[tactic(auto, using(crate::proofs::Agreement::inputs_refused))]
 fn of_taken(
     alloc: Global,
@@ -162,7 +162,7 @@ fn of_taken(
     }
 }
 
-/// What is odd in a federation file that is this plan, and in a file of these inputs.
+// What is odd in a federation file that is this plan, and in a file of these inputs.
 fn odd_of(
     alloc: Global,
     federation: &[u8],
@@ -179,7 +179,7 @@ fn odd_of(
     survey.into_odd()
 }
 
-/// Why a federation file is refused that has this fault.
+// Why a federation file is refused that has this fault.
 fn refusal_of_federation(
     alloc: Global,
     federation: &[u8],
@@ -194,8 +194,8 @@ fn refusal_of_federation(
     refusal(alloc, fault, found)
 }
 
-/// The faults of a TOML document: as recorded inputs where there is a plan, theirs or for the shape alone, and else as
-/// a federation.
+// The faults of a TOML document: as recorded inputs where there is a plan, theirs or for the shape alone, and else as a
+// federation.
 fn faults(
     alloc: Global,
     bytes: &[u8],
@@ -212,13 +212,13 @@ fn faults(
     look.into_found()
 }
 
-/// A file's bytes, but none of one that is longer than it may be.
+// A file's bytes, but none of one that is longer than it may be.
 fn up_to(bytes: &[u8], most: usize) -> &[u8] {
     if bytes.len() > most { &[] } else { bytes }
 }
 
-/// Why a file of recorded inputs is refused that has this fault as one of this plan: whether they are its own, or only
-/// their shape is looked at.
+// Why a file of recorded inputs is refused that has this fault as one of this plan: whether they are its own, or only
+// their shape is looked at.
 fn refusal_of_inputs(
     alloc: Global,
     inputs: &[u8],
@@ -240,7 +240,7 @@ fn refusal_of_inputs(
     refusal(alloc, fault, found)
 }
 
-/// Why a file of recorded inputs of a refused federation is refused, for its shape.
+// Why a file of recorded inputs of a refused federation is refused, for its shape.
 #[tactic(auto, using(crate::proofs::Agreement::records_some, crate::proofs::Agreement::taken_are_some, crate::proofs::Agreement::shape_refused))]
 fn refusal_of_shapes(alloc: Global, inputs: &[u8]) -> Result<Option<Refusal>, AllocError>
     ensures { IfOk result (AgreesOnShape inputs.now) }
@@ -259,7 +259,7 @@ fn refusal_of_shapes(alloc: Global, inputs: &[u8]) -> Result<Option<Refusal>, Al
     Ok(Some(refusal_of_inputs(alloc, inputs, &plan, false, fault)?))
 }
 
-/// Whether a fault of recorded inputs is about the actions that they are for, and so not about their shape.
+// Whether a fault of recorded inputs is about the actions that they are for, and so not about their shape.
 fn is_about_actions(fault: &LoadFault) -> bool
     ensures about { result ≡ true → (fault.now ≡ UnknownAction) ⊎ (fault.now ≡ RepeatedInput) }
     ensures other { result ≡ false → (fault.now ≢ UnknownAction) × (fault.now ≢ RepeatedInput) }
@@ -267,7 +267,7 @@ fn is_about_actions(fault: &LoadFault) -> bool
     matches!(fault, LoadFault::UnknownAction | LoadFault::RepeatedInput)
 }
 
-/// Finds what is wrong with recorded inputs.
+// Finds what is wrong with recorded inputs.
 fn look_at_inputs(look: &mut Look<'_>, is_theirs: bool) {
     look_at_keys(look, &INPUT_FILE, Tree::ROOT);
     let array = look.tree.child(Tree::ROOT, "input");
@@ -280,7 +280,7 @@ fn look_at_inputs(look: &mut Look<'_>, is_theirs: bool) {
     }
 }
 
-/// Why a file is refused that is no TOML document: what its reader says, at the line where it stopped.
+// Why a file is refused that is no TOML document: what its reader says, at the line where it stopped.
 fn refusal_of_text(alloc: Global, bytes: &[u8], fault: LoadFault) -> Result<Refusal, AllocError>
     ensures { IfOk result (λ refusal. refusal.first.fault ≡ fault) }
 {
@@ -298,7 +298,7 @@ fn refusal_of_text(alloc: Global, bytes: &[u8], fault: LoadFault) -> Result<Refu
     })
 }
 
-/// The line at which the reader of documents stopped, and what it says.
+// The line at which the reader of documents stopped, and what it says.
 fn told_by_reader(alloc: Global, bytes: &[u8]) -> Result<(usize, String), AllocError> {
     match toml::table_from_slice(alloc, bytes) {
         Ok(_) => Ok((1, String::new(alloc))),
@@ -314,13 +314,13 @@ fn told_by_reader(alloc: Global, bytes: &[u8]) -> Result<(usize, String), AllocE
     }
 }
 
-/// Where the values of a file stand; of a file that isn't UTF-8 nothing is known.
+// Where the values of a file stand; of a file that isn't UTF-8 nothing is known.
 fn tree_of(alloc: Global, bytes: &[u8]) -> Result<Tree<'_>, AllocError> {
     read_tree(alloc, std::str::from_utf8(bytes).unwrap_or(""))
 }
 
-/// Why a file is refused that has this fault, which comes first: where it was found again, at its line, and else at the
-/// first.
+// Why a file is refused that has this fault, which comes first: where it was found again, at its line, and else at the
+// first.
 fn refusal(alloc: Global, fault: LoadFault, found: Found) -> Result<Refusal, AllocError>
     ensures { IfOk result (λ refusal. refusal.first.fault ≡ fault) }
 {
@@ -338,7 +338,7 @@ fn refusal(alloc: Global, fault: LoadFault, found: Found) -> Result<Refusal, All
     })
 }
 
-/// A fault of which no line is known: it is about the whole file.
+// A fault of which no line is known: it is about the whole file.
 fn of_whole_file(alloc: Global, fault: LoadFault) -> Finding
     ensures { result.fault ≡ fault }
 {
@@ -351,7 +351,7 @@ fn of_whole_file(alloc: Global, fault: LoadFault) -> Finding
     }
 }
 
-/// The place of the first of the findings that is spelled as this fault is, or how many they are.
+// The place of the first of the findings that is spelled as this fault is, or how many they are.
 fn place_of(alloc: Global, findings: &[Finding], fault: &LoadFault) -> Result<usize, AllocError> {
     let spelled = format!(in alloc; "{fault}")?;
     for (place, finding) in findings.iter().enumerate() {

@@ -62,7 +62,7 @@ impl Entries {
         self.entries.len()
     }
 
-    /// The node of an entry.
+    // The node of an entry.
     fn place(&self, number: usize) -> usize {
         match self.entries.get(number) {
             Some(entry) => entry.place,
@@ -70,7 +70,7 @@ impl Entries {
         }
     }
 
-    /// Where the text of this many entries ends.
+    // Where the text of this many entries ends.
     fn end_of(&self, count: usize) -> usize {
         match count.checked_sub(1) {
             Some(last) => match self.entries.get(last) {
@@ -81,7 +81,7 @@ impl Entries {
         }
     }
 
-    /// The text of the entries from one on up to another.
+    // The text of the entries from one on up to another.
     fn between(&self, from: usize, to: usize) -> &[u8] {
         self.text
             .as_slice()
@@ -135,7 +135,7 @@ pub(crate) fn sift(
     count
 }
 
-/// Whether entries are refused in a file behind what was kept.
+// Whether entries are refused in a file behind what was kept.
 fn is_refused(look: &mut Look<'_>, kind: Kind, kept: &Draft, next: &[u8], behind: &str) -> bool {
     let mut file = Draft::new(look.alloc);
     file.append(kept);
@@ -147,7 +147,7 @@ fn is_refused(look: &mut Look<'_>, kind: Kind, kept: &Draft, next: &[u8], behind
     }
 }
 
-/// Adds the last fault, which is one of this entry, the one of this number from 0 on.
+// Adds the last fault, which is one of this entry, the one of this number from 0 on.
 fn put(look: &mut Look<'_>, kind: Kind, number: usize, entry: usize) {
     if is_passed(look) {
         return;
@@ -165,8 +165,8 @@ fn put(look: &mut Look<'_>, kind: Kind, number: usize, entry: usize) {
     look.add(line);
 }
 
-/// Whether the last fault isn't told: that there are too many of something a second time, and that a name isn't there
-/// where not all names were kept.
+// Whether the last fault isn't told: that there are too many of something a second time, and that a name isn't there
+// where not all names were kept.
 fn is_passed(look: &mut Look<'_>) -> bool {
     match look.about() {
         About::Name => !look.is_whole,
@@ -179,7 +179,7 @@ fn is_passed(look: &mut Look<'_>) -> bool {
     }
 }
 
-/// The node in an entry which the last fault is about, or else the entry.
+// The node in an entry which the last fault is about, or else the entry.
 fn place_in(look: &Look<'_>, entry: usize) -> usize {
     let tree = look.tree;
     let place = match look.fault() {
@@ -199,7 +199,7 @@ fn place_in(look: &Look<'_>, entry: usize) -> usize {
     if place == 0 { entry } else { place }
 }
 
-/// Whether a text is how this port is named.
+// Whether a text is how this port is named.
 fn is_port(text: &str, port: &PortName) -> bool {
     match text.split_once('.') {
         Some((federate, name)) => port.federate.is(federate) && port.port.is(name),

@@ -117,8 +117,7 @@ impl<'a> Look<'a> {
         self.refuses(file) && self.is_about_shape()
     }
 
-    /// Whether the loader is asked about this many bytes more; then they are counted, and else there may be more
-    /// faults.
+    // Whether the loader is asked about this many bytes more; then they are counted, and else there may be more faults.
     fn may_ask(&mut self, count: usize) -> bool {
         let cost = count.saturating_add(COST);
         let may = cost <= self.left;
@@ -217,7 +216,7 @@ impl<'a> Look<'a> {
     }
 }
 
-/// The fault of a file, if it is refused: of recorded inputs of a plan, or else of a federation.
+// The fault of a file, if it is refused: of recorded inputs of a plan, or else of a federation.
 fn fault_of(alloc: Global, plan: Option<&Plan>, file: &[u8]) -> Option<LoadFault> {
     match plan {
         Some(plan) => match load_inputs(alloc, file, plan) {
@@ -231,7 +230,7 @@ fn fault_of(alloc: Global, plan: Option<&Plan>, file: &[u8]) -> Option<LoadFault
     }
 }
 
-/// What a fault is about.
+// What a fault is about.
 fn subject_of(fault: &LoadFault) -> About {
     match fault {
         LoadFault::NotToml | LoadFault::WrongShape(_) => About::Shape,
@@ -246,7 +245,7 @@ fn subject_of(fault: &LoadFault) -> About {
     }
 }
 
-/// A program's fault, as one of this reaction and line.
+// A program's fault, as one of this reaction and line.
 fn at(fault: ProgramFault, reaction: usize, line: usize) -> ProgramFault {
     match fault {
         ProgramFault::BadLine { .. } => ProgramFault::BadLine { reaction, line },

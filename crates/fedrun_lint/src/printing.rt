@@ -54,7 +54,7 @@ pub fn print_report<O: Write>(
     }
 }
 
-/// Prints the lines of a report and hands them on, and says whether all of them were written.
+// Prints the lines of a report and hands them on, and says whether all of them were written.
 fn print_lines<O: Write>(lines: &ReportLines<'_>, out: &mut O) -> bool
     ensures { AppendsPrinted result (O.contents out.old) (O.contents out.new)
         (printed_report lines.now.federation.now lines.now.inputs.now lines.now.report.now) }

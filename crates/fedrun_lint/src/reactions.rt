@@ -33,7 +33,7 @@ pub(crate) fn look_at_reactions(look: &mut Look<'_>, federate: usize, file: &mut
     }
 }
 
-/// Whether one of the reactions from this one on is triggered by startup.
+// Whether one of the reactions from this one on is triggered by startup.
 fn has_startup(tree: &Tree<'_>, first: usize) -> bool {
     let mut at = first;
     for _ in 0..tree.len() {
@@ -62,7 +62,7 @@ fn is_of_startup(tree: &Tree<'_>, reaction: usize) -> bool {
     false
 }
 
-/// Finds what is wrong with a reaction.
+// Finds what is wrong with a reaction.
 fn look_at_reaction(look: &mut Look<'_>, reaction: usize, around: &Draft) {
     if !is_refused(look, reaction, around) {
         return;
@@ -80,7 +80,7 @@ fn look_at_reaction(look: &mut Look<'_>, reaction: usize, around: &Draft) {
     }
 }
 
-/// Whether a reaction is refused behind these.
+// Whether a reaction is refused behind these.
 fn is_refused(look: &mut Look<'_>, reaction: usize, around: &Draft) -> bool {
     let mut file = Draft::new(look.alloc);
     file.append(around);
@@ -89,7 +89,7 @@ fn is_refused(look: &mut Look<'_>, reaction: usize, around: &Draft) -> bool {
     look.refuses(&file)
 }
 
-/// Finds the triggers and lines that are wrong in a reaction of right shape.
+// Finds the triggers and lines that are wrong in a reaction of right shape.
 fn look_at_texts(look: &mut Look<'_>, reaction: usize, around: &Draft) {
     let tree = look.tree;
     let mut file = Draft::new(look.alloc);

@@ -97,7 +97,7 @@ impl Survey {
         }
     }
 
-    /// Notes that an allocation failed, if it did.
+    // Notes that an allocation failed, if it did.
     fn note(&mut self, is_done: bool) {
         self.is_lost = self.is_lost || !is_done;
     }
@@ -119,7 +119,7 @@ impl Survey {
         }
     }
 
-    /// Adds a name of a federate, which stands at this node.
+    // Adds a name of a federate, which stands at this node.
     fn add_name(&mut self, at: &At<'_>, place: usize, name: &Text, why: Why) {
         let federate = at.name.as_str();
         let name = name.as_str();
@@ -127,7 +127,7 @@ impl Survey {
         self.add(at.tree.line(place), name, why);
     }
 
-    /// Looks at what a federate has by name.
+    // Looks at what a federate has by name.
     fn look_at_slots(&mut self, at: &At<'_>, number: usize, federate: &Federate, plan: &Plan) {
         let slots = &federate.slots;
         let connections = plan.connections();
@@ -144,7 +144,7 @@ impl Survey {
         self.look_at_names(at, "physical", slots.physical.as_slice(), &mut names);
     }
 
-    /// Looks for ports of a federate at which no connection ends, or begins.
+    // Looks for ports of a federate at which no connection ends, or begins.
     fn look_at_ports(
         &mut self,
         at: &At<'_>,
@@ -173,7 +173,7 @@ impl Survey {
         }
     }
 
-    /// Looks for names that differ from one of those before them by case alone, and adds them to these.
+    // Looks for names that differ from one of those before them by case alone, and adds them to these.
     fn look_at_names<'n, T: Named>(
         &mut self,
         at: &At<'_>,
@@ -192,7 +192,7 @@ impl Survey {
         }
     }
 
-    /// Looks at a federate's states and reactions.
+    // Looks at a federate's states and reactions.
     fn look_at_program(&mut self, at: &At<'_>, program: &Program) {
         let mut names = Vec::new(self.alloc);
         self.look_at_names(at, "state", program.states(), &mut names);
@@ -209,7 +209,7 @@ impl Survey {
     }
 }
 
-/// Whether a name differs from one of these by case alone.
+// Whether a name differs from one of these by case alone.
 fn is_alike_to_one(names: &[&Text], name: &Text) -> bool {
     for other in names {
         if other.as_str().eq_ignore_ascii_case(name.as_str()) {
@@ -219,7 +219,7 @@ fn is_alike_to_one(names: &[&Text], name: &Text) -> bool {
     false
 }
 
-/// Whether a connection ends at the input of this number of a federate, or, of an output, begins there.
+// Whether a connection ends at the input of this number of a federate, or, of an output, begins there.
 fn is_connected(connections: &[Connection], federate: usize, port: usize, why: Why) -> bool {
     for connection in connections {
         let is_there = match why {

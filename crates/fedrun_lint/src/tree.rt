@@ -174,7 +174,7 @@ impl<'a> Tree<'a> {
         place
     }
 
-    /// Makes a node the last of its holder's.
+    // Makes a node the last of its holder's.
     fn append(&mut self, holder: usize, place: usize) {
         let before = self.node(holder).last;
         if let Some(node) = self.nodes.get_mut(holder) {
@@ -188,7 +188,7 @@ impl<'a> Tree<'a> {
         }
     }
 
-    /// Has a node follow the one before it.
+    // Has a node follow the one before it.
     fn chain(&mut self, before: usize, place: usize) {
         if let Some(node) = self.nodes.get_mut(before) {
             node.next = place;

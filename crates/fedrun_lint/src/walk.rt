@@ -25,7 +25,7 @@ pub(crate) fn read_tree(alloc: Global, text: &str) -> Result<Tree<'_>, AllocErro
     }
 }
 
-/// A text without the mark of its byte order.
+// A text without the mark of its byte order.
 fn without_mark(text: &str) -> &str {
     if first(text) == 0xEF && byte_at(text, 1) == 0xBB && byte_at(text, 2) == 0xBF {
         text.get(3..).unwrap_or(text)
@@ -34,12 +34,12 @@ fn without_mark(text: &str) -> &str {
     }
 }
 
-/// What follows the first byte, which is ASCII.
+// What follows the first byte, which is ASCII.
 fn behind(s: &str) -> &str {
     s.get(1..).unwrap_or("")
 }
 
-/// What follows a scalar.
+// What follows a scalar.
 fn behind_scalar(alloc: Global, s: &str) -> Result<&str, ParseError> {
     if starts_string(s) {
         let (_text, rest) = quoted(alloc, s)?;
@@ -62,8 +62,8 @@ pub(crate) fn line_feeds(bytes: &[u8]) -> usize {
 }
 
 impl Tree<'_> {
-    /// Reads what comes first in a node that isn't whole: a comma, a bracket or brace, a header, a pair or an entry.
-    /// Answers the node in which reading goes on, and what is left; nothing where the document is at its end.
+    // Reads what comes first in a node that isn't whole: a comma, a bracket or brace, a header, a pair or an entry.
+    // Answers the node in which reading goes on, and what is left; nothing where the document is at its end.
     fn step<'s>(&mut self, at: usize, s: &'s str) -> Option<(usize, &'s str)> {
         self.count_lines(s);
         let byte = first(s);
@@ -80,7 +80,7 @@ impl Tree<'_> {
         }
     }
 
-    /// Notes the line of what is left, of which less is left than before.
+    // Notes the line of what is left, of which less is left than before.
     fn count_lines(&mut self, rest: &str) {
         let place = self.place(rest);
         let text = self.text;
@@ -89,12 +89,12 @@ impl Tree<'_> {
         self.counted = place;
     }
 
-    /// The place of what is left.
+    // The place of what is left.
     fn place(&self, rest: &str) -> usize {
         self.text.len().saturating_sub(rest.len())
     }
 
-    /// A header, behind its first bracket. Its last ones are left, and lead back to its table.
+    // A header, behind its first bracket. Its last ones are left, and lead back to its table.
     fn header<'s>(&mut self, s: &'s str) -> Option<(usize, &'s str)> {
         let is_of_entry = first(s) == b'[';
         let inside = if is_of_entry { behind(s) } else { s };
@@ -108,14 +108,14 @@ impl Tree<'_> {
         Some((table, rest))
     }
 
-    /// A pair of a table, as far as `value` reads its value.
+    // A pair of a table, as far as `value` reads its value.
     fn pair<'s>(&mut self, at: usize, s: &'s str) -> Option<(usize, &'s str)> {
         let (key, rest) = self.key_at(s)?;
         let holder = self.along(at, key.path.as_slice());
         self.value(at, holder, key.last.as_str(), skip_ws(behind(rest)))
     }
 
-    /// A key that comes first, and what is left.
+    // A key that comes first, and what is left.
     fn key_at<'s>(&mut self, s: &'s str) -> Option<(Key, &'s str)> {
         match dotted_key(self.alloc, s) {
             Ok(read) => Some(read),
@@ -126,14 +126,14 @@ impl Tree<'_> {
         }
     }
 
-    /// Notes that reading stopped, if for want of memory.
+    // Notes that reading stopped, if for want of memory.
     fn stop(&mut self, fault: ParseError) {
         if let ParseError::OutOfMemory = fault {
             self.is_lost = true;
         }
     }
 
-    /// The table at the end of a path.
+    // The table at the end of a path.
     fn along(&mut self, from: usize, path: &[String]) -> usize {
         let mut holder = from;
         for part in path {
@@ -142,7 +142,7 @@ impl Tree<'_> {
         holder
     }
 
-    /// The table at a key: of an array of tables the last one, and a new one where there is none.
+    // The table at a key: of an array of tables the last one, and a new one where there is none.
     fn enter(&mut self, holder: usize, key: &str) -> usize {
         let place = self.child(holder, key);
         if place == 0 {
@@ -154,7 +154,7 @@ impl Tree<'_> {
         }
     }
 
-    /// A new table in the array at a key.
+    // A new table in the array at a key.
     fn entry(&mut self, holder: usize, key: &str) -> usize {
         let mut array = self.child(holder, key);
         if array == 0 {
@@ -163,7 +163,7 @@ impl Tree<'_> {
         self.section(array, "", Shape::Table)
     }
 
-    /// Adds a node that has no brackets of its own.
+    // Adds a node that has no brackets of its own.
     fn section(&mut self, holder: usize, key: &str, shape: Shape) -> usize {
         let node = Node {
             shape,
@@ -174,8 +174,8 @@ impl Tree<'_> {
         self.add(holder, key, node)
     }
 
-    /// Reads a scalar, or the opening bracket or brace of a value; answers where reading goes on, which is `at` behind
-    /// a scalar.
+    // Reads a scalar, or the opening bracket or brace of a value; answers where reading goes on, which is `at` behind a
+    // scalar.
     fn value<'s>(
         &mut self,
         at: usize,
@@ -202,7 +202,7 @@ impl Tree<'_> {
         }
     }
 
-    /// Adds an array or a table that has brackets or braces.
+    // Adds an array or a table that has brackets or braces.
     fn opened(&mut self, at: usize, holder: usize, key: &str, shape: Shape) -> usize {
         let node = Node {
             shape,

@@ -33,7 +33,7 @@ pub(crate) fn push_value(tree: &Tree<'_>, top: usize, out: &mut Draft) {
     }
 }
 
-/// Adds a scalar, or how a value of this shape begins.
+// Adds a scalar, or how a value of this shape begins.
 fn push_opening(tree: &Tree<'_>, place: usize, out: &mut Draft) {
     match tree.node(place).shape {
         Shape::Scalar => out.push(tree.scalar(place)),
@@ -42,7 +42,7 @@ fn push_opening(tree: &Tree<'_>, place: usize, out: &mut Draft) {
     }
 }
 
-/// Adds how a value of this shape ends.
+// Adds how a value of this shape ends.
 fn push_closing(shape: Shape, out: &mut Draft) {
     match shape {
         Shape::Scalar => {}
@@ -62,7 +62,7 @@ pub(crate) fn push_key(tree: &Tree<'_>, place: usize, out: &mut Draft) {
     }
 }
 
-/// Adds a byte of a text between quotes.
+// Adds a byte of a text between quotes.
 fn push_escaped(byte: u8, out: &mut Draft) {
     const DIGITS: &[u8; 16] = b"0123456789abcdef";
     if byte == b'"' || byte == b'\\' {

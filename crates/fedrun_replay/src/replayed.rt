@@ -78,8 +78,8 @@ pub fn replay_in<W: Write, P: Progress>(
     }
 }
 
-/// Plays a schedule and makes closing rounds as `replay` does, and then prints the rows of each federate that kept its
-/// state.
+// Plays a schedule and makes closing rounds as `replay` does, and then prints the rows of each federate that kept its
+// state.
 fn replay_as_csv<W: Write, P: Progress>(
     alloc: Global,
     out: &mut W,

@@ -41,7 +41,7 @@ pub fn print_audited<O: Write>(
     print_audited_text(alloc, plan, audit, reports, coordinator, output, None, out)
 }
 
-// The same, where the rows may stand as text already.
+/// The same, where the rows may stand as text already.
 pub(crate) fn print_audited_text<O: Write>(
     alloc: Global,
     plan: &Plan,
@@ -72,8 +72,8 @@ pub(crate) fn print_audited_text<O: Write>(
     }
 }
 
-// The rows of reports as they are printed, before it is known whether they are proved: none where steps are printed, or
-// there is no memory for them.
+/// The rows of reports as they are printed, before it is known whether they are proved: none where steps are printed,
+/// or there is no memory for them.
 pub(crate) fn text_of(
     alloc: Global,
     plan: &Plan,

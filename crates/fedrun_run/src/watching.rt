@@ -17,8 +17,8 @@ use wires_transports::times::AUDIT_PAUSE_MS;
 // How many events are copied at once while a node's lock is held.
 const AT_ONCE: usize = 16_384;
 
-// Reads what the nodes write down, and makes steps for it; when the run is to end, it only reads what is left. Nothing
-// rests on how much of it is read.
+/// Reads what the nodes write down, and makes steps for it; when the run is to end, it only reads what is left. Nothing
+/// rests on how much of it is read.
 pub(crate) fn watch<'a, R: Wait + Clock, H: Node, M: Node, P: Progress>(
     rt: &R,
     alloc: Global,

@@ -27,7 +27,7 @@ pub(crate) fn print_plan<M: MoreFault, O: Write>(
     }
 }
 
-/// Prints a text, and sends it on.
+// Prints a text, and sends it on.
 fn print<M, O: Write>(out: &mut O, text: &String) -> Result<(), Fault<'static, M>>
     ensures ok { OnOk result (Appends (O.contents out.old) (O.contents out.new) (string_bytes text.now)) }
     ensures err { IfErr result (λ fault. fault ≡ cannot_write) }

@@ -37,7 +37,7 @@ pub(crate) fn perform<'a, F: Files, O: Write, P: Progress>(
     }
 }
 
-/// Does what this request asks for.
+// Does what this request asks for.
 #[tactic(auto, using(fedrun_files::proofs::InTurn::none_answered))]
 fn fulfil<'a, F: Files, O: Write, P: Progress>(
     alloc: Global,

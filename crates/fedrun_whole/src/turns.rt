@@ -54,7 +54,7 @@ pub fn print_turns<M: MoreFault, O: Write, P: Progress>(
     }
 }
 
-/// Makes at most this many turns, or as many as there is memory for, and prints their rows under their heading.
+// Makes at most this many turns, or as many as there is memory for, and prints their rows under their heading.
 fn print_all<O: Write, P: Progress>(
     alloc: Global,
     sources: &Sources,
@@ -86,8 +86,8 @@ fn print_all<O: Write, P: Progress>(
     }
 }
 
-/// Makes at most this many turns, or as many as there is memory for, and prints their rows, for which the heading is
-/// written.
+// Makes at most this many turns, or as many as there is memory for, and prints their rows, for which the heading is
+// written.
 fn print_in_batches<O: Write, P: Progress>(
     program: &mut Whole<'_>,
     plan: &Plan,
@@ -118,7 +118,7 @@ fn print_in_batches<O: Write, P: Progress>(
     Ok(Ok(()))
 }
 
-/// Makes at most this many turns, prints their rows, and lets go of them.
+// Makes at most this many turns, prints their rows, and lets go of them.
 fn print_batch<O: Write, P: Progress>(
     program: &mut Whole<'_>,
     plan: &Plan,
@@ -143,7 +143,7 @@ fn print_batch<O: Write, P: Progress>(
     Ok(turned)
 }
 
-/// Tells that these rows are made.
+// Tells that these rows are made.
 fn tell<P: Progress>(rows: &Rows, progress: &P) {
     if let Some(last) = rows.len().checked_sub(1) {
         progress.rows(rows.len(), rows.row(last).tag());

@@ -142,7 +142,7 @@ pub fn read_words<'a>(alloc: Global, words: &'a [String]) -> Result<Request<'a>,
     requested(alloc, &matches)
 }
 
-/// The words, parsed.
+// The words, parsed.
 fn parsed<'a>(alloc: Global, words: &'a [String]) -> Result<ArgMatches<'a>, WordsFault> {
     match commands(alloc) {
         Ok(command) => command
@@ -152,7 +152,7 @@ fn parsed<'a>(alloc: Global, words: &'a [String]) -> Result<ArgMatches<'a>, Word
     }
 }
 
-/// Why the words can't be parsed.
+// Why the words can't be parsed.
 fn fault_of(error: &Error) -> WordsFault {
     if error.kind() == ErrorKind::OutOfMemory {
         WordsFault::Memory
@@ -161,7 +161,7 @@ fn fault_of(error: &Error) -> WordsFault {
     }
 }
 
-/// The request of words that were parsed.
+// The request of words that were parsed.
 fn requested<'a>(alloc: Global, matches: &ArgMatches<'a>) -> Result<Request<'a>, WordsFault> {
     for subcommand in &SUBCOMMANDS {
         if let Some(given) = matches.subcommand_matches(subcommand.name) {
@@ -171,7 +171,7 @@ fn requested<'a>(alloc: Global, matches: &ArgMatches<'a>) -> Result<Request<'a>,
     Err(WordsFault::Usage)
 }
 
-/// The request of a subcommand with these arguments and options.
+// The request of a subcommand with these arguments and options.
 fn request<'a>(
     alloc: Global,
     kind: CommandKind,
@@ -191,7 +191,7 @@ fn request<'a>(
     request.ok_or(WordsFault::Usage)
 }
 
-/// The subcommands, with their arguments and options.
+// The subcommands, with their arguments and options.
 fn commands<'a>(alloc: Global) -> Result<Command<'a>, AllocError> {
     let mut command = Command::new(alloc, "fedrun")
         .no_binary_name(true)
@@ -204,7 +204,7 @@ fn commands<'a>(alloc: Global) -> Result<Command<'a>, AllocError> {
     Ok(command)
 }
 
-/// A subcommand as `clap` has it. An option, with a value or without, may be given once.
+// A subcommand as `clap` has it. An option, with a value or without, may be given once.
 fn described<'a>(alloc: Global, subcommand: Subcommand) -> Result<Command<'a>, AllocError> {
     let mut command = Command::new(alloc, subcommand.name).disable_help_flag(true);
     for argument in subcommand.arguments {
@@ -291,7 +291,7 @@ fn frames_of_schedule<'a>(given: &ArgMatches<'a>) -> Option<Request<'a>> {
     }))
 }
 
-/// The federation alone, or a schedule of it.
+// The federation alone, or a schedule of it.
 fn draw<'a>(given: &ArgMatches<'a>) -> Option<Request<'a>> {
     let federation = given.get_str("FED")?;
     match (
@@ -342,7 +342,7 @@ fn audit<'a>(alloc: Global, given: &ArgMatches<'a>) -> Result<Request<'a>, Words
     }
 }
 
-/// How many closing rounds there may be, where some are asked for. None where the words say no number.
+// How many closing rounds there may be, where some are asked for. None where the words say no number.
 fn until_stuck(given: &ArgMatches<'_>) -> Option<Option<u32>> {
     match given.get_str("until-stuck") {
         Some(rounds) => Some(Some(count(rounds)?)),
@@ -350,7 +350,7 @@ fn until_stuck(given: &ArgMatches<'_>) -> Option<Option<u32>> {
     }
 }
 
-/// The format in which rows are written.
+// The format in which rows are written.
 fn row_format(given: &ArgMatches<'_>) -> RowFormat {
     if given.get_flag("csv") {
         RowFormat::Csv
@@ -359,7 +359,7 @@ fn row_format(given: &ArgMatches<'_>) -> RowFormat {
     }
 }
 
-/// How many turns a run may make.
+// How many turns a run may make.
 fn turns(given: &ArgMatches<'_>) -> Option<u32> {
     match given.get_str("turns") {
         Some(turns) => count(turns),
@@ -367,7 +367,7 @@ fn turns(given: &ArgMatches<'_>) -> Option<u32> {
     }
 }
 
-/// The version of frames that a run's federates write, in ASCII digits; where none is given, one that has Batches.
+// The version of frames that a run's federates write, in ASCII digits; where none is given, one that has Batches.
 fn frames(given: &ArgMatches<'_>) -> Option<u8> {
     match given.get_str("frames") {
         Some(version) => match count(version)? {
@@ -379,7 +379,7 @@ fn frames(given: &ArgMatches<'_>) -> Option<u8> {
     }
 }
 
-/// A number of turns or rounds, in ASCII digits.
+// A number of turns or rounds, in ASCII digits.
 fn count(text: &str) -> Option<u32> {
     if text.bytes().all(|byte| byte.is_ascii_digit()) {
         text.parse::<u32>().ok()

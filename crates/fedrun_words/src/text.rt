@@ -40,7 +40,7 @@ pub fn print_text<E: Write, D: Display>(err: &mut E, text: &D) -> bool
     false
 }
 
-/// What a text has after this many bytes, as far as there is room for a piece; none where it can't be displayed.
+// What a text has after this many bytes, as far as there is room for a piece; none where it can't be displayed.
 fn piece_of<D: Display>(text: &D, from: usize) -> Option<ArrayVec<u8, PIECE>>
     ensures { IfSome result (λ piece.
         IfSome (D.output text.now) (λ bytes. piece.items ≡ take PIECE (drop from bytes))) }
@@ -55,7 +55,7 @@ fn piece_of<D: Display>(text: &D, from: usize) -> Option<ArrayVec<u8, PIECE>>
     }
 }
 
-/// Writes a prefix of the bytes, and says how many; fewer than all only where they are refused.
+// Writes a prefix of the bytes, and says how many; fewer than all only where they are refused.
 fn write_prefix<E: Write>(err: &mut E, bytes: &[u8]) -> usize
     ensures begun { Appends (E.contents err.old) (E.contents err.new) (take result bytes.now) }
     ensures few { result ≤ length bytes.now }

@@ -58,7 +58,7 @@ pub(crate) fn is_forward(numbers: &[usize], wire: &Wire) -> bool {
     number_at(numbers, wire.source) < number_at(numbers, wire.target)
 }
 
-/// Whether a connection goes from a lower rank to a higher. Each that doesn't has a delay.
+// Whether a connection goes from a lower rank to a higher. Each that doesn't has a delay.
 fn rises(figures: &[Figure], wire: &Wire) -> bool {
     let Some(source) = figures.get(wire.source) else {
         return false;
@@ -84,7 +84,7 @@ pub(crate) fn column_numbers(
     Ok(numbers)
 }
 
-/// Where ranks rise along a connection, its target stands right of its source.
+// Where ranks rise along a connection, its target stands right of its source.
 fn move_right(numbers: &mut Vec<usize>, figures: &[Figure], wire: &Wire) {
     if rises(figures, wire) {
         let least = number_at(numbers.as_slice(), wire.source).saturating_add(1);
@@ -110,7 +110,7 @@ pub(crate) fn all_columns(
     Ok(columns)
 }
 
-/// How many columns there are.
+// How many columns there are.
 fn column_count(numbers: &[usize]) -> usize {
     let mut count = 0;
     for number in numbers {
@@ -119,7 +119,7 @@ fn column_count(numbers: &[usize]) -> usize {
     count
 }
 
-/// The column of this number, whose lines have ended their swing here.
+// The column of this number, whose lines have ended their swing here.
 fn column_from(
     figures: &[Figure],
     wires: &[Wire],
@@ -144,7 +144,7 @@ fn column_from(
     }
 }
 
-/// The width of the boxes of a column.
+// The width of the boxes of a column.
 fn boxes_width(figures: &[Figure], numbers: &[usize], number: usize) -> usize {
     let mut most = 0;
     for place in 0..figures.len() {
@@ -157,7 +157,7 @@ fn boxes_width(figures: &[Figure], numbers: &[usize], number: usize) -> usize {
     most
 }
 
-/// The width of the delays of what ends in a column.
+// The width of the delays of what ends in a column.
 fn delays_width(wires: &[Wire], numbers: &[usize], number: usize) -> usize {
     let mut most = 0;
     for wire in wires {
@@ -168,7 +168,7 @@ fn delays_width(wires: &[Wire], numbers: &[usize], number: usize) -> usize {
     most
 }
 
-/// The width of a connection's delay.
+// The width of a connection's delay.
 fn delay_width(wire: &Wire) -> usize {
     match &wire.delay {
         Some(text) => text_width(text.as_str()).saturating_add(4),
@@ -176,7 +176,7 @@ fn delay_width(wire: &Wire) -> usize {
     }
 }
 
-/// How many connections come down to a column.
+// How many connections come down to a column.
 fn down_count(wires: &[Wire], numbers: &[usize], number: usize) -> usize {
     let mut count = 0usize;
     for wire in wires {
@@ -187,7 +187,7 @@ fn down_count(wires: &[Wire], numbers: &[usize], number: usize) -> usize {
     count
 }
 
-/// How many connections go up from a column.
+// How many connections go up from a column.
 fn up_count(wires: &[Wire], numbers: &[usize], number: usize) -> usize {
     let mut count = 0usize;
     for wire in wires {

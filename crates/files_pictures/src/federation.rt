@@ -43,7 +43,7 @@ pub fn federation_picture(alloc: Global, all: &Figures) -> Result<Picture, Alloc
     Ok(picture)
 }
 
-/// Adds all but the lines.
+// Adds all but the lines.
 fn add_all(
     alloc: Global,
     picture: &mut Picture,
@@ -59,7 +59,7 @@ fn add_all(
     add_caption(picture, grid, all)
 }
 
-/// Adds a federate's box and what stands in it.
+// Adds a federate's box and what stands in it.
 fn add_figure(
     alloc: Global,
     picture: &mut Picture,
@@ -89,7 +89,7 @@ fn rank_text(alloc: Global, rank: usize) -> Result<String, AllocError> {
     format!(in alloc; "rank {rank}")
 }
 
-/// Adds a federate's input ports.
+// Adds a federate's input ports.
 fn add_inputs(
     picture: &mut Picture,
     grid: &Grid<'_>,
@@ -105,7 +105,7 @@ fn add_inputs(
     Ok(())
 }
 
-/// Adds a federate's output ports.
+// Adds a federate's output ports.
 fn add_outputs(
     picture: &mut Picture,
     grid: &Grid<'_>,
@@ -121,7 +121,7 @@ fn add_outputs(
     Ok(())
 }
 
-/// Adds a federate's startup, timers and actions.
+// Adds a federate's startup, timers and actions.
 fn add_parts(
     picture: &mut Picture,
     grid: &Grid<'_>,
@@ -141,7 +141,7 @@ fn add_parts(
     Ok(())
 }
 
-/// Adds a mark, and its text beside it.
+// Adds a mark, and its text beside it.
 fn add_marked(
     picture: &mut Picture,
     at: Point,
@@ -161,7 +161,7 @@ fn add_marked(
     picture.add_label(beside, text.clone()?, look)
 }
 
-/// Adds the delays, each above its line where that ends.
+// Adds the delays, each above its line where that ends.
 fn add_delays(picture: &mut Picture, grid: &Grid<'_>, all: &Figures) -> Result<(), AllocError> {
     for number in 0..all.wires.len() {
         if let Some(wire) = all.wires.get(number) {
@@ -178,7 +178,7 @@ fn add_delays(picture: &mut Picture, grid: &Grid<'_>, all: &Figures) -> Result<(
     Ok(())
 }
 
-/// Adds what is written below all, and settles the size.
+// Adds what is written below all, and settles the size.
 fn add_caption(picture: &mut Picture, grid: &Grid<'_>, all: &Figures) -> Result<(), AllocError> {
     let at = Point {
         x: BESIDE,

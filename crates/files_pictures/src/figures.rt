@@ -65,7 +65,7 @@ const HEAD: usize = 28;
 const MARGIN: usize = 8;
 
 impl Figure {
-    /// How many lines the ports take.
+    // How many lines the ports take.
     fn port_lines(&self) -> usize {
         self.inputs.len().max(self.outputs.len())
     }
@@ -86,12 +86,12 @@ impl Figure {
             .max(90)
     }
 
-    /// Of its name and rank.
+    // Of its name and rank.
     fn head_width(&self) -> usize {
         text_width(self.name.as_str()).saturating_add(84)
     }
 
-    /// Of the names of its ports, side by side.
+    // Of the names of its ports, side by side.
     fn ports_width(&self) -> usize {
         widest(self.inputs.as_slice())
             .saturating_add(widest(self.outputs.as_slice()))
@@ -109,7 +109,7 @@ impl Figure {
     }
 }
 
-/// The width of the longest of these texts.
+// The width of the longest of these texts.
 fn widest(texts: &[String]) -> usize {
     let mut most = 0;
     for text in texts {
@@ -118,7 +118,7 @@ fn widest(texts: &[String]) -> usize {
     most
 }
 
-/// The width of the longest of these parts, with its mark.
+// The width of the longest of these parts, with its mark.
 fn parts_width(parts: &[Part]) -> usize {
     let mut most = 0;
     for part in parts {

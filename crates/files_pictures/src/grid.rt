@@ -108,12 +108,12 @@ impl<'a> Grid<'a> {
         self.lines
     }
 
-    /// The column of a federate.
+    // The column of a federate.
     fn column_of(&self, figure: usize) -> Column {
         self.column(number_at(self.numbers.as_slice(), figure))
     }
 
-    /// The column of this number.
+    // The column of this number.
     fn column(&self, number: usize) -> Column {
         match self.columns.get(number) {
             Some(column) => *column,
@@ -127,7 +127,7 @@ impl<'a> Grid<'a> {
         }
     }
 
-    /// Places all columns, from the left.
+    // Places all columns, from the left.
     fn place_columns(&mut self, alloc: Global) -> Result<(), AllocError> {
         for number in 0..self.columns.len() {
             self.place_column(alloc, number)?;
@@ -135,7 +135,7 @@ impl<'a> Grid<'a> {
         Ok(())
     }
 
-    /// Places what stands in a column and what goes past there, each as high as it is wanted where there is room.
+    // Places what stands in a column and what goes past there, each as high as it is wanted where there is room.
     fn place_column(&mut self, alloc: Global, number: usize) -> Result<(), AllocError> {
         let waiting = self.waiting(alloc, number)?;
         let mut from = self.first;
@@ -147,7 +147,7 @@ impl<'a> Grid<'a> {
         Ok(())
     }
 
-    /// What is to be placed in a column, in order.
+    // What is to be placed in a column, in order.
     fn waiting(&self, alloc: Global, number: usize) -> Result<Vec<Waiting>, AllocError> {
         let mut waiting = Vec::new(alloc);
         self.add_boxes(&mut waiting, number)?;
@@ -156,7 +156,7 @@ impl<'a> Grid<'a> {
         Ok(waiting)
     }
 
-    /// Adds the boxes of a column.
+    // Adds the boxes of a column.
     fn add_boxes(&self, waiting: &mut Vec<Waiting>, number: usize) -> Result<(), AllocError> {
         for place in 0..self.figures.len() {
             if number_at(self.numbers.as_slice(), place) == number {
@@ -171,7 +171,7 @@ impl<'a> Grid<'a> {
         Ok(())
     }
 
-    /// Adds the lines that go past in a column.
+    // Adds the lines that go past in a column.
     fn add_passing(&self, waiting: &mut Vec<Waiting>, number: usize) -> Result<(), AllocError> {
         for place in 0..self.wires.len() {
             if self.goes_past(place, number) {
@@ -187,7 +187,7 @@ impl<'a> Grid<'a> {
         Ok(())
     }
 
-    /// A federate's rank.
+    // A federate's rank.
     fn rank(&self, figure: usize) -> usize {
         match self.figures.get(figure) {
             Some(figure) => figure.rank,
@@ -195,7 +195,7 @@ impl<'a> Grid<'a> {
         }
     }
 
-    /// Whether a connection goes to the right past a column.
+    // Whether a connection goes to the right past a column.
     fn goes_past(&self, wire: usize, number: usize) -> bool {
         match self.wires.get(wire) {
             Some(wire) => {
@@ -206,7 +206,7 @@ impl<'a> Grid<'a> {
         }
     }
 
-    /// Where the top of a box has to be, on average, for the lines to it to go straight, or 0 where there are none.
+    // Where the top of a box has to be, on average, for the lines to it to go straight, or 0 where there are none.
     fn wanted_top(&self, figure: usize) -> usize {
         let mut sum = 0usize;
         let mut count = 0usize;
@@ -223,7 +223,7 @@ impl<'a> Grid<'a> {
         if count == 0 { 0 } else { sum / count }
     }
 
-    /// Places a box or a line in a column, and says where the next may begin.
+    // Places a box or a line in a column, and says where the next may begin.
     fn place(&mut self, number: usize, each: Waiting, top: usize) -> Result<usize, AllocError> {
         if each.is_box {
             self.place_box(each.number, top)
@@ -234,7 +234,7 @@ impl<'a> Grid<'a> {
         }
     }
 
-    /// Places a box: lines end there, and begin there.
+    // Places a box: lines end there, and begin there.
     fn place_box(&mut self, figure: usize, top: usize) -> Result<usize, AllocError> {
         put_number(&mut self.tops, figure, top);
         for wire in 0..self.wires.len() {
@@ -244,7 +244,7 @@ impl<'a> Grid<'a> {
         Ok(self.area(figure).bottom().saturating_add(APART))
     }
 
-    /// Where a line goes to the right to this box, it ends there.
+    // Where a line goes to the right to this box, it ends there.
     fn end_line(&mut self, wire: usize, figure: usize, top: usize) -> Result<(), AllocError> {
         let Some(input) = self.input_at(wire, figure) else {
             return Ok(());
@@ -255,7 +255,7 @@ impl<'a> Grid<'a> {
         self.lead(wire, column.left, y)
     }
 
-    /// Where a line goes to the right from this box, it begins there.
+    // Where a line goes to the right from this box, it begins there.
     fn begin_line(&mut self, wire: usize, figure: usize, top: usize) -> Result<(), AllocError> {
         let Some(output) = self.output_at(wire, figure) else {
             return Ok(());
@@ -266,14 +266,14 @@ impl<'a> Grid<'a> {
         self.lead(wire, column.swing_begin(), y)
     }
 
-    /// A line goes past a column at a height.
+    // A line goes past a column at a height.
     fn pass(&mut self, number: usize, wire: usize, y: usize) -> Result<(), AllocError> {
         let column = self.column(number);
         self.lead(wire, column.swing_end(), y)?;
         self.lead(wire, column.swing_begin(), y)
     }
 
-    /// The input at which a connection to the right ends, where that is at this federate.
+    // The input at which a connection to the right ends, where that is at this federate.
     fn input_at(&self, wire: usize, figure: usize) -> Option<usize> {
         let wire = self.wires.get(wire)?;
         if wire.target == figure && is_forward(self.numbers.as_slice(), wire) {
@@ -283,7 +283,7 @@ impl<'a> Grid<'a> {
         }
     }
 
-    /// The output at which a connection to the right begins, where that is at this federate.
+    // The output at which a connection to the right begins, where that is at this federate.
     fn output_at(&self, wire: usize, figure: usize) -> Option<usize> {
         let wire = self.wires.get(wire)?;
         if wire.source == figure && is_forward(self.numbers.as_slice(), wire) {
@@ -293,7 +293,7 @@ impl<'a> Grid<'a> {
         }
     }
 
-    /// A line goes on to a point.
+    // A line goes on to a point.
     fn lead(&mut self, wire: usize, x: usize, y: usize) -> Result<(), AllocError> {
         put_number(&mut self.heights, wire, y);
         if let Some(line) = self.lines.get_mut(wire) {
@@ -302,7 +302,7 @@ impl<'a> Grid<'a> {
         Ok(())
     }
 
-    /// The lines of connections that go back over the top.
+    // The lines of connections that go back over the top.
     fn draw_returns(&mut self, back: &[Return]) -> Result<(), AllocError> {
         for each in back {
             self.draw_return(*each)?;
@@ -310,7 +310,7 @@ impl<'a> Grid<'a> {
         Ok(())
     }
 
-    /// The line of a connection that goes back: out, up, along, down and in.
+    // The line of a connection that goes back: out, up, along, down and in.
     fn draw_return(&mut self, back: Return) -> Result<(), AllocError> {
         let (from, to) = self.ends(back.wire);
         let along = lane_height(self.first, back.lane);
@@ -352,19 +352,19 @@ impl<'a> Grid<'a> {
     }
 }
 
-/// Where boxes begin below this many lines.
+// Where boxes begin below this many lines.
 fn top_of_boxes(lanes: usize) -> usize {
     lanes.saturating_mul(LANE).saturating_add(ABOVE + APART / 2)
 }
 
-/// The height of a lane above the boxes.
+// The height of a lane above the boxes.
 fn lane_height(first: usize, lane: usize) -> usize {
     first
         .saturating_sub(APART / 2)
         .saturating_sub(lane.saturating_mul(LANE))
 }
 
-/// A line for each connection, without points.
+// A line for each connection, without points.
 fn blank_lines(alloc: Global, wires: &[Wire]) -> Result<Vec<Line>, AllocError> {
     let mut lines = Vec::new(alloc);
     for wire in wires {

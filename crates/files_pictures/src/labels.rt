@@ -20,7 +20,7 @@ pub(crate) fn write_labels<W: Write>(out: &mut W, labels: &[Label]) -> io::Resul
     Ok(())
 }
 
-/// Writes a text.
+// Writes a text.
 #[tactic(auto, unfolding(crate::specs::Svg::label_text))]
 fn write_label<W: Write>(out: &mut W, label: &Label) -> io::Result<()>
     ensures { OnOk result (Appends (W.contents out.old) (W.contents out.new) (label_text label.now)) }
@@ -31,7 +31,7 @@ fn write_label<W: Write>(out: &mut W, label: &Label) -> io::Result<()>
     out.write_all(b"</text>\n")
 }
 
-/// Writes where a text stands.
+// Writes where a text stands.
 #[tactic(auto, unfolding(crate::specs::Svg::anchor_text))]
 fn write_anchor<W: Write>(out: &mut W, at: Point) -> io::Result<()>
     ensures { OnOk result (Appends (W.contents out.old) (W.contents out.new) (anchor_text at)) }
@@ -39,7 +39,7 @@ fn write_anchor<W: Write>(out: &mut W, at: Point) -> io::Result<()>
     write!(out, "<text x='{}' y='{}'", at.x, at.y)
 }
 
-/// Writes how a text looks.
+// Writes how a text looks.
 #[tactic(auto, unfolding(crate::specs::Svg::lettering_text))]
 fn write_lettering<W: Write>(out: &mut W, look: Lettering) -> io::Result<()>
     ensures { OnOk result (Appends (W.contents out.old) (W.contents out.new) (lettering_text look)) }
@@ -48,7 +48,7 @@ fn write_lettering<W: Write>(out: &mut W, look: Lettering) -> io::Result<()>
     write_look(out, ink_colour(look.ink), anchor_name(look.anchor))
 }
 
-/// Writes its colour and its side, up to where it begins.
+// Writes its colour and its side, up to where it begins.
 #[tactic(auto, unfolding(crate::specs::Svg::look_text))]
 fn write_look<W: Write>(out: &mut W, colour: &str, side: &str) -> io::Result<()>
     ensures { OnOk result (Appends (W.contents out.old) (W.contents out.new) (look_text colour.now side.now)) }
@@ -56,7 +56,7 @@ fn write_look<W: Write>(out: &mut W, colour: &str, side: &str) -> io::Result<()>
     write!(out, " fill='{colour}' text-anchor='{side}'>")
 }
 
-/// Writes whether a text is bold.
+// Writes whether a text is bold.
 fn write_bold<W: Write>(out: &mut W, is_bold: bool) -> io::Result<()>
     ensures { OnOk result (Appends (W.contents out.old) (W.contents out.new) (bold_text is_bold)) }
 {
@@ -67,7 +67,7 @@ fn write_bold<W: Write>(out: &mut W, is_bold: bool) -> io::Result<()>
     }
 }
 
-/// Writes a text so that no part of it is read as part of the file's form.
+// Writes a text so that no part of it is read as part of the file's form.
 fn write_escaped<W: Write>(out: &mut W, text: &str) -> io::Result<()>
     ensures { OnOk result (Appends (W.contents out.old) (W.contents out.new) (escaped text.now)) }
 {
@@ -77,7 +77,7 @@ fn write_escaped<W: Write>(out: &mut W, text: &str) -> io::Result<()>
     Ok(())
 }
 
-/// Writes a letter of a text.
+// Writes a letter of a text.
 #[tactic(auto, unfolding(crate::specs::Escaped::escaped_letter))]
 fn write_letter<W: Write>(out: &mut W, letter: char) -> io::Result<()>
     ensures { OnOk result (Appends (W.contents out.old) (W.contents out.new) (escaped_letter letter)) }
@@ -92,7 +92,7 @@ fn write_letter<W: Write>(out: &mut W, letter: char) -> io::Result<()>
     }
 }
 
-/// Writes a letter that has no meaning of its own. What no such file may have becomes a space.
+// Writes a letter that has no meaning of its own. What no such file may have becomes a space.
 #[tactic(auto, unfolding(crate::specs::Escaped::plain_letter))]
 fn write_plain<W: Write>(out: &mut W, letter: char) -> io::Result<()>
     ensures { OnOk result (Appends (W.contents out.old) (W.contents out.new) (plain_letter letter)) }
@@ -104,7 +104,7 @@ fn write_plain<W: Write>(out: &mut W, letter: char) -> io::Result<()>
     }
 }
 
-/// Whether a letter is a control character, or one of the two that no such file may have.
+// Whether a letter is a control character, or one of the two that no such file may have.
 fn is_forbidden(letter: char) -> bool
     ensures { result ≡ is_forbidden letter }
 {

@@ -35,7 +35,7 @@ pub fn schedule_picture(alloc: Global, history: &History) -> Result<Picture, All
     Ok(picture)
 }
 
-/// Adds all that stands in the picture, and settles its size.
+// Adds all that stands in the picture, and settles its size.
 fn add_all(
     alloc: Global,
     picture: &mut Picture,
@@ -52,7 +52,7 @@ fn add_all(
     add_rows(picture, times, history)
 }
 
-/// A text in an ink.
+// A text in an ink.
 fn lettering(anchor: Anchor, ink: Ink, is_bold: bool) -> Lettering {
     Lettering {
         anchor,
@@ -61,7 +61,7 @@ fn lettering(anchor: Anchor, ink: Ink, is_bold: bool) -> Lettering {
     }
 }
 
-/// Adds what colours and lines mean, and says how far right that goes.
+// Adds what colours and lines mean, and says how far right that goes.
 fn add_legend(alloc: Global, picture: &mut Picture) -> Result<usize, AllocError> {
     let mut x = BESIDE;
     for ink in INKS {
@@ -74,7 +74,7 @@ fn add_legend(alloc: Global, picture: &mut Picture) -> Result<usize, AllocError>
     Ok(x)
 }
 
-/// Adds a word of them.
+// Adds a word of them.
 fn add_legend_word(
     alloc: Global,
     picture: &mut Picture,
@@ -90,7 +90,7 @@ fn add_legend_word(
     )
 }
 
-/// What an ink means, or, of inks that mean nothing, how lines are drawn.
+// What an ink means, or, of inks that mean nothing, how lines are drawn.
 fn legend_word(ink: Ink) -> &'static str {
     match ink {
         Ink::Net => "NET",
@@ -105,7 +105,7 @@ fn legend_word(ink: Ink) -> &'static str {
     }
 }
 
-/// Adds the lifelines, each with its name.
+// Adds the lifelines, each with its name.
 fn add_lifelines(
     alloc: Global,
     picture: &mut Picture,
@@ -124,7 +124,7 @@ fn add_lifelines(
     add_life(alloc, picture, x, NAMES + BOX, times.bottom)
 }
 
-/// Adds the boxes of a name above its lifeline and below it.
+// Adds the boxes of a name above its lifeline and below it.
 fn add_names(
     picture: &mut Picture,
     times: &Times,
@@ -135,7 +135,7 @@ fn add_names(
     add_name(picture, x, times.bottom, name.clone()?)
 }
 
-/// Adds the box of a name.
+// Adds the box of a name.
 fn add_name(picture: &mut Picture, x: usize, top: usize, name: String) -> Result<(), AllocError> {
     let width = text_width(name.as_str()).saturating_add(2 * BESIDE);
     picture.add_box(Area {
@@ -151,7 +151,7 @@ fn add_name(picture: &mut Picture, x: usize, top: usize, name: String) -> Result
     picture.add_label(at, name, lettering(Anchor::Centred, Ink::Plain, true))
 }
 
-/// Adds a federate's lifeline, cut where it forgets.
+// Adds a federate's lifeline, cut where it forgets.
 fn add_lifeline(
     alloc: Global,
     picture: &mut Picture,
@@ -174,7 +174,7 @@ fn add_lifeline(
     add_life(alloc, picture, x, from, times.bottom)
 }
 
-/// Whether a step makes this federate forget.
+// Whether a step makes this federate forget.
 fn makes_forget(moment: &Moment, number: usize) -> bool {
     match moment.forgets {
         Some(forgetting) => forgetting == number,
@@ -182,7 +182,7 @@ fn makes_forget(moment: &Moment, number: usize) -> bool {
     }
 }
 
-/// Adds a part of a lifeline.
+// Adds a part of a lifeline.
 fn add_life(
     alloc: Global,
     picture: &mut Picture,
@@ -198,7 +198,7 @@ fn add_life(
     picture.add_straight(alloc, Point { x, y: from }, Point { x, y: to }, stroke)
 }
 
-/// Adds what is written beside the steps.
+// Adds what is written beside the steps.
 fn add_steps(picture: &mut Picture, times: &Times, history: &History) -> Result<(), AllocError> {
     for step in 0..history.steps.len() {
         if let Some(moment) = history.steps.get(step) {
@@ -210,7 +210,7 @@ fn add_steps(picture: &mut Picture, times: &Times, history: &History) -> Result<
     Ok(())
 }
 
-/// Adds what is written beside a step.
+// Adds what is written beside a step.
 fn add_step(picture: &mut Picture, height: usize, moment: &Moment) -> Result<(), AllocError> {
     let at = Point {
         x: BESIDE,
@@ -220,7 +220,7 @@ fn add_step(picture: &mut Picture, height: usize, moment: &Moment) -> Result<(),
     picture.add_label(at, moment.text.clone()?, look)
 }
 
-/// Where a frame leaves, and where it is to go.
+// Where a frame leaves, and where it is to go.
 fn ends(times: &Times, frame: &Sending) -> (usize, usize) {
     let federate = times.federate(frame.federate);
     let coordinator = times.coordinator();
@@ -231,7 +231,7 @@ fn ends(times: &Times, frame: &Sending) -> (usize, usize) {
     }
 }
 
-/// So far from a place, towards another.
+// So far from a place, towards another.
 fn towards(from: usize, to: usize, far: usize) -> usize {
     if from < to {
         from.saturating_add(far)
@@ -240,7 +240,7 @@ fn towards(from: usize, to: usize, far: usize) -> usize {
     }
 }
 
-/// On which side of a point a text stands that is further on towards a place.
+// On which side of a point a text stands that is further on towards a place.
 fn anchor_towards(from: usize, to: usize) -> Anchor {
     if from < to {
         Anchor::Begins
@@ -249,7 +249,7 @@ fn anchor_towards(from: usize, to: usize) -> Anchor {
     }
 }
 
-/// Adds the frames that never came.
+// Adds the frames that never came.
 fn add_lost(
     alloc: Global,
     picture: &mut Picture,
@@ -266,7 +266,7 @@ fn add_lost(
     Ok(())
 }
 
-/// Adds a frame that never came: a short line that ends in a cross, below those of the same step before it.
+// Adds a frame that never came: a short line that ends in a cross, below those of the same step before it.
 fn add_lost_frame(
     alloc: Global,
     picture: &mut Picture,
@@ -295,7 +295,7 @@ fn add_lost_frame(
     picture.add_label(at, frame.text.clone()?, look)
 }
 
-/// Adds the frames that came, each as often as it did.
+// Adds the frames that came, each as often as it did.
 fn add_arrivals(
     alloc: Global,
     picture: &mut Picture,
@@ -311,7 +311,7 @@ fn add_arrivals(
     Ok(())
 }
 
-/// The ink of a frame that came.
+// The ink of a frame that came.
 fn arrival_ink(arrival: Arrival, frame: &Sending) -> Ink {
     match arrival.refused {
         Some(_) => Ink::Refused,
@@ -319,7 +319,7 @@ fn arrival_ink(arrival: Arrival, frame: &Sending) -> Ink {
     }
 }
 
-/// Adds the arrow of a frame that came: level beside both lifelines, where texts stand, and aslant between.
+// Adds the arrow of a frame that came: level beside both lifelines, where texts stand, and aslant between.
 fn add_arrow(
     alloc: Global,
     picture: &mut Picture,
@@ -355,7 +355,7 @@ fn add_arrow(
     })
 }
 
-/// Adds the text of a frame that came, above the end of its arrow.
+// Adds the text of a frame that came, above the end of its arrow.
 fn add_arrow_text(
     alloc: Global,
     picture: &mut Picture,
@@ -376,7 +376,7 @@ fn add_arrow_text(
     picture.add_label(at, arrival_text(alloc, arrival, frame)?, look)
 }
 
-/// What is written beside a frame that came.
+// What is written beside a frame that came.
 fn arrival_text(alloc: Global, arrival: Arrival, frame: &Sending) -> Result<String, AllocError> {
     let text = frame.text.as_str();
     match arrival.refused {
@@ -385,7 +385,7 @@ fn arrival_text(alloc: Global, arrival: Arrival, frame: &Sending) -> Result<Stri
     }
 }
 
-/// Adds the rows, each at its federate's lifeline.
+// Adds the rows, each at its federate's lifeline.
 fn add_rows(picture: &mut Picture, times: &Times, history: &History) -> Result<(), AllocError> {
     for row in history.rows.as_slice() {
         add_row(picture, times, row)?;
@@ -393,7 +393,7 @@ fn add_rows(picture: &mut Picture, times: &Times, history: &History) -> Result<(
     Ok(())
 }
 
-/// Adds a row, on the side away from the coordinator.
+// Adds a row, on the side away from the coordinator.
 fn add_row(picture: &mut Picture, times: &Times, row: &RowMark) -> Result<(), AllocError> {
     let x = times.federate(row.federate);
     let y = times.height(row.step);

@@ -21,7 +21,7 @@ pub(crate) fn write_lines<W: Write>(out: &mut W, lines: &[Line]) -> io::Result<(
     Ok(())
 }
 
-/// Writes a line.
+// Writes a line.
 #[tactic(auto, unfolding(crate::specs::Svg::line_text))]
 fn write_line<W: Write>(out: &mut W, line: &Line) -> io::Result<()>
     ensures { OnOk result (Appends (W.contents out.old) (W.contents out.new) (line_text line.now)) }
@@ -34,7 +34,7 @@ fn write_line<W: Write>(out: &mut W, line: &Line) -> io::Result<()>
     out.write_all(b"'/>\n")
 }
 
-/// Writes how a line looks.
+// Writes how a line looks.
 #[tactic(auto, unfolding(crate::specs::Svg::stroke_text))]
 fn write_stroke<W: Write>(out: &mut W, stroke: Stroke) -> io::Result<()>
     ensures { OnOk result (Appends (W.contents out.old) (W.contents out.new) (stroke_text stroke)) }
@@ -46,7 +46,7 @@ fn write_stroke<W: Write>(out: &mut W, stroke: Stroke) -> io::Result<()>
     write_head(out, stroke.ending, stroke.ink)
 }
 
-/// Writes whether a line is dashed.
+// Writes whether a line is dashed.
 fn write_dash<W: Write>(out: &mut W, is_dashed: bool) -> io::Result<()>
     ensures { OnOk result (Appends (W.contents out.old) (W.contents out.new) (dash_text is_dashed)) }
 {
@@ -57,7 +57,7 @@ fn write_dash<W: Write>(out: &mut W, is_dashed: bool) -> io::Result<()>
     }
 }
 
-/// Writes the head in which a line ends, where it does.
+// Writes the head in which a line ends, where it does.
 #[tactic(auto, unfolding(crate::specs::Svg::head_text))]
 fn write_head<W: Write>(out: &mut W, ending: Ending, ink: Ink) -> io::Result<()>
     ensures { OnOk result (Appends (W.contents out.old) (W.contents out.new) (head_text ending ink)) }
@@ -68,7 +68,7 @@ fn write_head<W: Write>(out: &mut W, ending: Ending, ink: Ink) -> io::Result<()>
     }
 }
 
-/// Writes that a line ends in the head of this name.
+// Writes that a line ends in the head of this name.
 #[tactic(auto, unfolding(crate::specs::Svg::marker_end_text))]
 fn write_marker_end<W: Write>(out: &mut W, name: &str) -> io::Result<()>
     ensures { OnOk result (Appends (W.contents out.old) (W.contents out.new) (marker_end_text name.now)) }
@@ -76,7 +76,7 @@ fn write_marker_end<W: Write>(out: &mut W, name: &str) -> io::Result<()>
     write!(out, " marker-end='url(#{name})'")
 }
 
-/// Writes the cross in which a line ends, where it does.
+// Writes the cross in which a line ends, where it does.
 #[tactic(auto, unfolding(crate::specs::Svg::cross_text))]
 fn write_cross<W: Write>(out: &mut W, ending: Ending) -> io::Result<()>
     ensures { OnOk result (Appends (W.contents out.old) (W.contents out.new) (cross_text ending)) }
@@ -87,7 +87,7 @@ fn write_cross<W: Write>(out: &mut W, ending: Ending) -> io::Result<()>
     }
 }
 
-/// Writes the points of a line.
+// Writes the points of a line.
 #[tactic(auto, unfolding(crate::specs::Svg::points_text))]
 fn write_points<W: Write>(out: &mut W, points: &[Point], bends: bool) -> io::Result<()>
     ensures { OnOk result (Appends (W.contents out.old) (W.contents out.new) (points_text bends points.now)) }
@@ -98,7 +98,7 @@ fn write_points<W: Write>(out: &mut W, points: &[Point], bends: bool) -> io::Res
     Ok(())
 }
 
-/// Writes how a line goes on to the point at a place.
+// Writes how a line goes on to the point at a place.
 #[tactic(auto, unfolding(crate::specs::Svg::point_text))]
 fn write_point<W: Write>(out: &mut W, points: &[Point], place: usize, bends: bool) -> io::Result<()>
     ensures { OnOk result (Appends (W.contents out.old) (W.contents out.new) (point_text bends points.now place)) }
@@ -111,7 +111,7 @@ fn write_point<W: Write>(out: &mut W, points: &[Point], place: usize, bends: boo
     }
 }
 
-/// The point at a place.
+// The point at a place.
 fn point_at(points: &[Point], place: usize) -> Point
     ensures { result ≡ point_at points.now place }
 {
@@ -121,7 +121,7 @@ fn point_at(points: &[Point], place: usize) -> Point
     }
 }
 
-/// Writes how a line goes from one point to the next.
+// Writes how a line goes from one point to the next.
 #[tactic(auto, unfolding(crate::specs::Svg::leg_text))]
 fn write_leg<W: Write>(out: &mut W, from: Point, to: Point, bends: bool) -> io::Result<()>
     ensures { OnOk result (Appends (W.contents out.old) (W.contents out.new) (leg_text bends from to)) }
@@ -133,7 +133,7 @@ fn write_leg<W: Write>(out: &mut W, from: Point, to: Point, bends: bool) -> io::
     }
 }
 
-/// Writes how it goes there where lines bend: straight, where both have a coordinate in common.
+// Writes how it goes there where lines bend: straight, where both have a coordinate in common.
 #[tactic(auto, unfolding(crate::specs::Svg::bend_text))]
 fn write_bend<W: Write>(out: &mut W, from: Point, to: Point) -> io::Result<()>
     ensures { OnOk result (Appends (W.contents out.old) (W.contents out.new) (bend_text from to)) }
@@ -145,14 +145,14 @@ fn write_bend<W: Write>(out: &mut W, from: Point, to: Point) -> io::Result<()>
     }
 }
 
-/// Whether two points have a coordinate in common.
+// Whether two points have a coordinate in common.
 fn is_level(from: Point, to: Point) -> bool
     ensures { result ≡ is_level from to }
 {
     from.x == to.x || from.y == to.y
 }
 
-/// Writes a letter of a path and two numbers.
+// Writes a letter of a path and two numbers.
 #[tactic(auto, unfolding(crate::specs::Svg::pair_text))]
 fn write_pair<W: Write>(out: &mut W, letter: &str, x: usize, y: usize) -> io::Result<()>
     ensures { OnOk result (Appends (W.contents out.old) (W.contents out.new) (pair_text letter.now x y)) }
@@ -160,7 +160,7 @@ fn write_pair<W: Write>(out: &mut W, letter: &str, x: usize, y: usize) -> io::Re
     write!(out, "{letter}{x} {y}")
 }
 
-/// Writes a swing from one point to another, level at both.
+// Writes a swing from one point to another, level at both.
 #[tactic(auto, unfolding(crate::specs::Svg::swing_text))]
 fn write_swing<W: Write>(out: &mut W, from: Point, to: Point) -> io::Result<()>
     ensures { OnOk result (Appends (W.contents out.old) (W.contents out.new) (swing_text from to)) }

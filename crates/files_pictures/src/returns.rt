@@ -31,7 +31,7 @@ pub(crate) fn all_returns(
     Ok(found)
 }
 
-/// All of them, each in lane 0.
+// All of them, each in lane 0.
 fn unsorted(
     alloc: Global,
     wires: &[Wire],
@@ -59,7 +59,7 @@ fn unsorted(
     Ok(found)
 }
 
-/// Where the next line goes up, right of a column.
+// Where the next line goes up, right of a column.
 fn next_up(columns: &[Column], ups: &mut Vec<usize>, number: usize) -> usize {
     let used = number_at(ups.as_slice(), number);
     put_number(ups, number, used.saturating_add(1));
@@ -69,7 +69,7 @@ fn next_up(columns: &[Column], ups: &mut Vec<usize>, number: usize) -> usize {
     }
 }
 
-/// Where the next line comes down, left of a column.
+// Where the next line comes down, left of a column.
 fn next_down(columns: &[Column], downs: &mut Vec<usize>, number: usize) -> usize {
     let used = number_at(downs.as_slice(), number);
     put_number(downs, number, used.saturating_add(1));
@@ -79,7 +79,7 @@ fn next_down(columns: &[Column], downs: &mut Vec<usize>, number: usize) -> usize
     }
 }
 
-/// Each gets the lowest lane in which it meets none before it.
+// Each gets the lowest lane in which it meets none before it.
 fn give_lanes(returns: &mut Vec<Return>) {
     for place in 0..returns.len() {
         let lane = free_lane(returns.as_slice(), place);
@@ -89,7 +89,7 @@ fn give_lanes(returns: &mut Vec<Return>) {
     }
 }
 
-/// The lowest lane in which this one meets none before it.
+// The lowest lane in which this one meets none before it.
 fn free_lane(returns: &[Return], place: usize) -> usize {
     for lane in 0..place {
         if is_free(returns, place, lane) {
@@ -99,7 +99,7 @@ fn free_lane(returns: &[Return], place: usize) -> usize {
     place
 }
 
-/// Whether none before this one meets it in a lane.
+// Whether none before this one meets it in a lane.
 fn is_free(returns: &[Return], place: usize, lane: usize) -> bool {
     let Some(mine) = returns.get(place) else {
         return true;

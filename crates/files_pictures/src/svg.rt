@@ -40,7 +40,7 @@ pub fn write_picture<W: Write>(out: &mut W, picture: &Picture) -> io::Result<()>
     out.write_all(b"</svg>\n")
 }
 
-/// Writes what stands before all shapes.
+// Writes what stands before all shapes.
 #[tactic(auto, unfolding(crate::specs::Svg::beginning_text))]
 fn write_beginning<W: Write>(out: &mut W, width: usize, height: usize) -> io::Result<()>
     ensures { OnOk result (Appends (W.contents out.old) (W.contents out.new) (beginning_text width height)) }
@@ -52,7 +52,7 @@ fn write_beginning<W: Write>(out: &mut W, width: usize, height: usize) -> io::Re
     write_heads(out)
 }
 
-/// Writes the beginning of the file's first element.
+// Writes the beginning of the file's first element.
 #[tactic(auto, unfolding(crate::specs::Svg::svg_text))]
 fn write_svg<W: Write>(out: &mut W, width: usize, height: usize) -> io::Result<()>
     ensures { OnOk result (Appends (W.contents out.old) (W.contents out.new) (svg_text width height)) }
@@ -63,7 +63,7 @@ fn write_svg<W: Write>(out: &mut W, width: usize, height: usize) -> io::Result<(
     )
 }
 
-/// Writes how large it is shown.
+// Writes how large it is shown.
 #[tactic(auto, unfolding(crate::specs::Svg::size_text))]
 fn write_size<W: Write>(out: &mut W, width: usize, height: usize) -> io::Result<()>
     ensures { OnOk result (Appends (W.contents out.old) (W.contents out.new) (size_text width height)) }
@@ -71,7 +71,7 @@ fn write_size<W: Write>(out: &mut W, width: usize, height: usize) -> io::Result<
     write!(out, " width='{width}' height='{height}'>\n")
 }
 
-/// Writes how all looks.
+// Writes how all looks.
 #[tactic(auto, unfolding(crate::specs::Svg::style_text))]
 fn write_style<W: Write>(out: &mut W) -> io::Result<()>
     ensures { OnOk result (Appends (W.contents out.old) (W.contents out.new) style_text) }
@@ -79,7 +79,7 @@ fn write_style<W: Write>(out: &mut W) -> io::Result<()>
     out.write_all(STYLE.as_bytes())
 }
 
-/// Writes what it stands on.
+// Writes what it stands on.
 #[tactic(auto, unfolding(crate::specs::Svg::ground_text))]
 fn write_ground<W: Write>(out: &mut W, width: usize, height: usize) -> io::Result<()>
     ensures { OnOk result (Appends (W.contents out.old) (W.contents out.new) (ground_text width height)) }
@@ -90,7 +90,7 @@ fn write_ground<W: Write>(out: &mut W, width: usize, height: usize) -> io::Resul
     )
 }
 
-/// Writes the heads of arrows, one for each ink.
+// Writes the heads of arrows, one for each ink.
 #[tactic(auto, unfolding(crate::specs::Svg::heads_text))]
 fn write_heads<W: Write>(out: &mut W) -> io::Result<()>
     ensures { OnOk result (Appends (W.contents out.old) (W.contents out.new) heads_text) }
@@ -100,7 +100,7 @@ fn write_heads<W: Write>(out: &mut W) -> io::Result<()>
     out.write_all(b"</defs>\n")
 }
 
-/// Writes the heads of arrows of these inks.
+// Writes the heads of arrows of these inks.
 #[tactic(auto, unfolding(crate::specs::Svg::arrow_heads_text))]
 fn write_arrow_heads<W: Write>(out: &mut W, inks: &[Ink]) -> io::Result<()>
     ensures { OnOk result (Appends (W.contents out.old) (W.contents out.new) (arrow_heads_text inks.now)) }
@@ -111,7 +111,7 @@ fn write_arrow_heads<W: Write>(out: &mut W, inks: &[Ink]) -> io::Result<()>
     Ok(())
 }
 
-/// Writes the head of arrows of an ink.
+// Writes the head of arrows of an ink.
 #[tactic(auto, unfolding(crate::specs::Svg::arrow_head_text))]
 fn write_arrow_head<W: Write>(out: &mut W, ink: Ink) -> io::Result<()>
     ensures { OnOk result (Appends (W.contents out.old) (W.contents out.new) (arrow_head_text ink)) }
@@ -121,7 +121,7 @@ fn write_arrow_head<W: Write>(out: &mut W, ink: Ink) -> io::Result<()>
     write_marker_shape(out, ink_colour(ink))
 }
 
-/// Writes the beginning of an arrow's head of this name.
+// Writes the beginning of an arrow's head of this name.
 #[tactic(auto, unfolding(crate::specs::Svg::marker_text))]
 fn write_marker<W: Write>(out: &mut W, name: &str) -> io::Result<()>
     ensures { OnOk result (Appends (W.contents out.old) (W.contents out.new) (marker_text name.now)) }
@@ -129,7 +129,7 @@ fn write_marker<W: Write>(out: &mut W, name: &str) -> io::Result<()>
     write!(out, "<marker id='{name}'")
 }
 
-/// Writes its size, and how it lies.
+// Writes its size, and how it lies.
 #[tactic(auto, unfolding(crate::specs::Svg::marker_size_text))]
 fn write_marker_size<W: Write>(out: &mut W) -> io::Result<()>
     ensures { OnOk result (Appends (W.contents out.old) (W.contents out.new) marker_size_text) }
@@ -139,7 +139,7 @@ fn write_marker_size<W: Write>(out: &mut W) -> io::Result<()>
     )
 }
 
-/// Writes its shape, of this colour, and its end.
+// Writes its shape, of this colour, and its end.
 #[tactic(auto, unfolding(crate::specs::Svg::marker_shape_text))]
 fn write_marker_shape<W: Write>(out: &mut W, colour: &str) -> io::Result<()>
     ensures { OnOk result (Appends (W.contents out.old) (W.contents out.new) (marker_shape_text colour.now)) }
@@ -150,7 +150,7 @@ fn write_marker_shape<W: Write>(out: &mut W, colour: &str) -> io::Result<()>
     )
 }
 
-/// Writes boxes.
+// Writes boxes.
 fn write_boxes<W: Write>(out: &mut W, boxes: &[Area]) -> io::Result<()>
     ensures { OnOk result (Appends (W.contents out.old) (W.contents out.new) (flat_map box_text boxes.now)) }
 {
@@ -160,7 +160,7 @@ fn write_boxes<W: Write>(out: &mut W, boxes: &[Area]) -> io::Result<()>
     Ok(())
 }
 
-/// Writes a box.
+// Writes a box.
 #[tactic(auto, unfolding(crate::specs::Svg::box_text))]
 fn write_box<W: Write>(out: &mut W, area: Area) -> io::Result<()>
     ensures { OnOk result (Appends (W.contents out.old) (W.contents out.new) (box_text area)) }
@@ -169,7 +169,7 @@ fn write_box<W: Write>(out: &mut W, area: Area) -> io::Result<()>
     write_extent(out, area)
 }
 
-/// Writes where a box stands.
+// Writes where a box stands.
 #[tactic(auto, unfolding(crate::specs::Svg::corner_text))]
 fn write_corner<W: Write>(out: &mut W, area: Area) -> io::Result<()>
     ensures { OnOk result (Appends (W.contents out.old) (W.contents out.new) (corner_text area)) }
@@ -177,7 +177,7 @@ fn write_corner<W: Write>(out: &mut W, area: Area) -> io::Result<()>
     write!(out, "<rect x='{}' y='{}' rx='5'", area.left, area.top)
 }
 
-/// Writes how large it is.
+// Writes how large it is.
 #[tactic(auto, unfolding(crate::specs::Svg::extent_text))]
 fn write_extent<W: Write>(out: &mut W, area: Area) -> io::Result<()>
     ensures { OnOk result (Appends (W.contents out.old) (W.contents out.new) (extent_text area)) }
@@ -185,7 +185,7 @@ fn write_extent<W: Write>(out: &mut W, area: Area) -> io::Result<()>
     write!(out, " width='{}' height='{}'/>\n", area.width, area.height)
 }
 
-/// Writes marks.
+// Writes marks.
 fn write_marks<W: Write>(out: &mut W, marks: &[Mark]) -> io::Result<()>
     ensures { OnOk result (Appends (W.contents out.old) (W.contents out.new) (flat_map mark_text marks.now)) }
 {
@@ -195,7 +195,7 @@ fn write_marks<W: Write>(out: &mut W, marks: &[Mark]) -> io::Result<()>
     Ok(())
 }
 
-/// Writes a mark.
+// Writes a mark.
 #[tactic(auto, unfolding(crate::specs::Svg::mark_text))]
 fn write_mark<W: Write>(out: &mut W, mark: Mark) -> io::Result<()>
     ensures { OnOk result (Appends (W.contents out.old) (W.contents out.new) (mark_text mark)) }
@@ -204,7 +204,7 @@ fn write_mark<W: Write>(out: &mut W, mark: Mark) -> io::Result<()>
     write_sign(out, mark.sign)
 }
 
-/// Writes where a mark stands.
+// Writes where a mark stands.
 #[tactic(auto, unfolding(crate::specs::Svg::spot_text))]
 fn write_spot<W: Write>(out: &mut W, at: Point) -> io::Result<()>
     ensures { OnOk result (Appends (W.contents out.old) (W.contents out.new) (spot_text at)) }
@@ -212,7 +212,7 @@ fn write_spot<W: Write>(out: &mut W, at: Point) -> io::Result<()>
     write!(out, "<path transform='translate({} {})'", at.x, at.y)
 }
 
-/// Writes what it is.
+// Writes what it is.
 #[tactic(auto, unfolding(crate::specs::Svg::sign_text))]
 fn write_sign<W: Write>(out: &mut W, sign: Sign) -> io::Result<()>
     ensures { OnOk result (Appends (W.contents out.old) (W.contents out.new) (sign_text sign)) }

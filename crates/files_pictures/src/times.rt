@@ -104,25 +104,25 @@ impl Times {
         self.line(self.count).saturating_add(self.beyond)
     }
 
-    /// How many federates stand left of the coordinator.
+    // How many federates stand left of the coordinator.
     fn left_count(&self) -> usize {
         self.count.saturating_add(1) / 2
     }
 
-    /// Where the lifeline at a place from the left stands.
+    // Where the lifeline at a place from the left stands.
     fn line(&self, place: usize) -> usize {
         self.first.saturating_add(place.saturating_mul(self.gap))
     }
 }
 
-/// Beside each lifeline: room for what arrows and names take there.
+// Beside each lifeline: room for what arrows and names take there.
 fn zone(history: &History, names: usize) -> usize {
     frames_width(history.frames.as_slice())
         .saturating_add(refusal_width(history.arrivals.as_slice()))
         .max(names)
 }
 
-/// The width of what is written before a frame that is refused, where there is one.
+// The width of what is written before a frame that is refused, where there is one.
 fn refusal_width(arrivals: &[Arrival]) -> usize {
     for arrival in arrivals {
         if arrival.refused.is_some() {
@@ -132,13 +132,13 @@ fn refusal_width(arrivals: &[Arrival]) -> usize {
     0
 }
 
-/// From one lifeline to the next. Of two federates, the rows stand outside.
+// From one lifeline to the next. Of two federates, the rows stand outside.
 fn gap(count: usize, zone: usize, rows: usize) -> usize {
     let arrows = zone.saturating_mul(2).saturating_add(SLANT);
     if count > 2 { arrows.max(rows) } else { arrows }
 }
 
-/// How many times each frame came.
+// How many times each frame came.
 fn comings(alloc: Global, history: &History) -> Result<Vec<usize>, AllocError> {
     let mut comings = zeros(alloc, history.frames.len())?;
     for arrival in history.arrivals.as_slice() {
@@ -148,7 +148,7 @@ fn comings(alloc: Global, history: &History) -> Result<Vec<usize>, AllocError> {
     Ok(comings)
 }
 
-/// Of each frame that never came, how many there are before it of the same step; and of each step, how many there are.
+// Of each frame that never came, how many there are before it of the same step; and of each step, how many there are.
 fn loss_places(
     alloc: Global,
     history: &History,
@@ -168,7 +168,7 @@ fn loss_places(
     Ok((losses, lost))
 }
 
-/// The height of each step, and what is below all.
+// The height of each step, and what is below all.
 fn heights(
     alloc: Global,
     history: &History,
@@ -188,7 +188,7 @@ fn heights(
     Ok((heights, height))
 }
 
-/// The width of the longest text beside a step, with the space beside it.
+// The width of the longest text beside a step, with the space beside it.
 fn steps_width(history: &History) -> usize {
     let mut most = 0;
     for moment in history.steps.as_slice() {
@@ -199,7 +199,7 @@ fn steps_width(history: &History) -> usize {
     most.saturating_add(2 * BESIDE)
 }
 
-/// The same of frames.
+// The same of frames.
 fn frames_width(frames: &[Sending]) -> usize {
     let mut most = 0;
     for frame in frames {
@@ -208,7 +208,7 @@ fn frames_width(frames: &[Sending]) -> usize {
     most.saturating_add(2 * BESIDE)
 }
 
-/// The same of rows.
+// The same of rows.
 fn rows_width(rows: &[RowMark]) -> usize {
     let mut most = 0;
     for row in rows {
@@ -217,7 +217,7 @@ fn rows_width(rows: &[RowMark]) -> usize {
     most.saturating_add(2 * BESIDE)
 }
 
-/// Half the width of the longest of these names, with the space beside it.
+// Half the width of the longest of these names, with the space beside it.
 fn names_width(names: &[String]) -> usize {
     let mut most = 0;
     for name in names {

@@ -23,7 +23,7 @@ pub fn write_steps<W: Write>(out: &mut W, plan: &Plan, steps: &[Step]) -> io::Re
     Ok(())
 }
 
-/// Writes a step and the end of its line.
+// Writes a step and the end of its line.
 fn write_step<W: Write>(out: &mut W, plan: &Plan, step: Step) -> io::Result<()>
     ensures { OnOk result (Appends (W.contents out.old) (W.contents out.new) (printed_step plan.now step)) }
 {
@@ -31,7 +31,7 @@ fn write_step<W: Write>(out: &mut W, plan: &Plan, step: Step) -> io::Result<()>
     out.write_all(b"\n")
 }
 
-/// Writes the words of a step.
+// Writes the words of a step.
 fn write_text<W: Write>(out: &mut W, plan: &Plan, step: Step) -> io::Result<()>
     ensures { OnOk result (Appends (W.contents out.old) (W.contents out.new) (step_text plan.now step)) }
 {
@@ -45,7 +45,7 @@ fn write_text<W: Write>(out: &mut W, plan: &Plan, step: Step) -> io::Result<()>
     }
 }
 
-/// Writes that a frame comes.
+// Writes that a frame comes.
 fn write_delivery<W: Write>(out: &mut W, way: &str, name: &str, k: usize) -> io::Result<()>
     ensures { OnOk result (Appends (W.contents out.old) (W.contents out.new)
         (codes "deliver " ++ (way.now ++ (codes " " ++ (name.now ++ (codes " " ++ decimal k)))))) }
@@ -53,7 +53,7 @@ fn write_delivery<W: Write>(out: &mut W, way: &str, name: &str, k: usize) -> io:
     write!(out, "deliver {way} {name} {k}")
 }
 
-/// The word of a direction.
+// The word of a direction.
 fn way_of(dir: Dir) -> &'static str
     ensures { result.now ≡ way_of dir }
 {
@@ -63,7 +63,7 @@ fn way_of(dir: Dir) -> &'static str
     }
 }
 
-/// The name of a direction's federate, or an empty text where there is none.
+// The name of a direction's federate, or an empty text where there is none.
 fn name_of(plan: &Plan, dir: Dir) -> &str
     ensures { result.now ≡ federate_name plan.now (federate_of dir) }
 {

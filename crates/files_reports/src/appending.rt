@@ -3,7 +3,7 @@
 ghost use Rattle.std.specs.Prelude.{◌≡◌, ◌++◌, OnOk};
 ghost use Rattle.byteorder.specs.Endian.{big_bytes};
 ghost use Rattle.tag.specs.LogicalTime.{IsLogicalTime};
-ghost use Rattle.signal.specs.Signal.{point_bytes, tag_bytes};
+ghost use Rattle.signal.specs.Signal.{tag_number_bytes, tag_bytes};
 ghost use Rattle.files_reports.specs.Said.{IsEntry, AreCounted};
 ghost use Rattle.files_reports.specs.Spelling.{counted, entry_bytes};
 
@@ -42,12 +42,12 @@ pub fn append_tag(bytes: &mut Vec<u8>, tag: Tag) -> Result<(), Memory>
     ensures is_tag { IsLogicalTime tag }
 {
     tag.invariant();
-    append(bytes, &point(numbers_of(tag)))
+    append(bytes, &tag_number_bytes(numbers_of(tag)))
 }
 
 // The tag's two numbers in its bytes.
 fn numbers_of(tag: Tag) -> (u64, u32)
-    ensures { tag_bytes tag ≡ point_bytes result.0 result.1 }
+    ensures { tag_bytes tag ≡ tag_number_bytes result.0 result.1 }
 {
     tag.invariant();
     if tag.is_forever() {
@@ -57,8 +57,8 @@ fn numbers_of(tag: Tag) -> (u64, u32)
     }
 }
 
-fn point(numbers: (u64, u32)) -> [u8; 12]
-    ensures { result ≡ point_bytes numbers.0 numbers.1 }
+fn tag_number_bytes(numbers: (u64, u32)) -> [u8; 12]
+    ensures { result ≡ tag_number_bytes numbers.0 numbers.1 }
 {
     let mut bytes = [0; 12];
     BigEndian::write_u64(&mut bytes, numbers.0);

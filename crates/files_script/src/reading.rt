@@ -41,7 +41,7 @@ pub fn read_command(plan: &Plan, line: &[u8]) -> Option<Command>
     }
 }
 
-/// A line of one word.
+// A line of one word.
 fn alone(form: &[u8]) -> Option<Command>
     ensures value { result ≡ forms.alone form.now }
     ensures about { (d : Draft) → IfSome result (IsCommandOf d) }
@@ -53,7 +53,7 @@ fn alone(form: &[u8]) -> Option<Command>
     }
 }
 
-/// A line of a word and a federate.
+// A line of a word and a federate.
 fn of_federate(form: &[u8], federate: usize) -> Option<Command>
     ensures value { result ≡ forms.of_federate form.now federate }
     ensures about { (d : Draft) → federate < federate_count d → IfSome result (IsCommandOf d) }
@@ -69,7 +69,7 @@ fn of_federate(form: &[u8], federate: usize) -> Option<Command>
     }
 }
 
-/// A line of a word and a direction.
+// A line of a word and a direction.
 fn of_direction(form: &[u8], direction: Dir) -> Option<Command>
     ensures value { result ≡ forms.of_direction form.now direction }
     ensures about { (d : Draft) → IsDirOf d direction → IfSome result (IsCommandOf d) }
@@ -85,7 +85,7 @@ fn of_direction(form: &[u8], direction: Dir) -> Option<Command>
     }
 }
 
-/// A line of a word, a direction and a frame's number.
+// A line of a word, a direction and a frame's number.
 fn of_frame(form: &[u8], direction: Dir, number: usize) -> Option<Command>
     ensures value { result ≡ forms.of_frame form.now direction number }
     ensures about { (d : Draft) → IsDirOf d direction → 0 < number → number < 2 ^ 32 → IfSome result (IsCommandOf d) }
@@ -97,7 +97,7 @@ fn of_frame(form: &[u8], direction: Dir, number: usize) -> Option<Command>
     }
 }
 
-/// The direction that a word and a federate's name say.
+// The direction that a word and a federate's name say.
 fn direction(plan: &Plan, way: &[u8], name: &[u8]) -> Option<Dir>
     ensures value { result ≡ forms.direction_named plan.now way.now name.now }
     ensures there { IfSome result (IsDirOf plan.now) }
@@ -112,7 +112,7 @@ fn direction(plan: &Plan, way: &[u8], name: &[u8]) -> Option<Dir>
     }
 }
 
-/// The number of the federate of this name.
+// The number of the federate of this name.
 fn federate(plan: &Plan, name: &[u8]) -> Option<usize>
     ensures value { result ≡ federate_number plan.now.federates name.now }
     ensures there { IfSome result (λ number. number < federate_count plan.now) }
@@ -120,7 +120,7 @@ fn federate(plan: &Plan, name: &[u8]) -> Option<usize>
     place_of(plan.federates(), name)
 }
 
-/// A frame's number: ASCII digits, of which some may be leading zeros.
+// A frame's number: ASCII digits, of which some may be leading zeros.
 #[tactic(auto, using(crate::proofs::Forms::digits_listed))]
 fn frame_number(word: &[u8]) -> Option<usize>
     ensures value { result ≡ forms.frame_number word.now }

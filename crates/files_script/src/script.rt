@@ -97,7 +97,7 @@ fn read_lines(alloc: Global, bytes: &[u8], plan: &Plan) -> Result<Script, Script
     Ok(Script { lines, last })
 }
 
-/// The first of some lines, and what follows it. None where there is no line.
+// The first of some lines, and what follows it. None where there is no line.
 fn next_line(lines: &[u8]) -> Option<(&[u8], &[u8])>
     ensures lines { MatchOption result (lines_of lines.now ≡ [])
         (λ parts. lines_of lines.now ≡ parts.0.now ∷ lines_of parts.1.now) }
@@ -115,7 +115,7 @@ fn next_line(lines: &[u8]) -> Option<(&[u8], &[u8])>
     }
 }
 
-/// In bytes.
+// In bytes.
 fn line_len(lines: &[u8]) -> usize
     ensures value { result ≡ prefix_len is_within_line lines.now }
     ensures within { result ≤ length lines.now }

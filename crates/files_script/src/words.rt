@@ -36,7 +36,7 @@ pub(crate) fn words_of(line: &[u8]) -> Option<Words<'_>>
     }
 }
 
-/// The first word of a text, and what follows the space after it: None where there is no space.
+// The first word of a text, and what follows the space after it: None where there is no space.
 fn next_word(text: &[u8]) -> (&[u8], Option<&[u8]>)
     ensures { MatchOption result.1 (words_of text.now ≡ result.0.now ∷ [])
         (λ rest. words_of text.now ≡ result.0.now ∷ words_of rest.now) }
@@ -48,7 +48,7 @@ fn next_word(text: &[u8]) -> (&[u8], Option<&[u8]>)
     }
 }
 
-/// In bytes.
+// In bytes.
 fn word_len(text: &[u8]) -> usize
     ensures value { result ≡ prefix_len is_within_word text.now }
     ensures within { result ≤ length text.now }

@@ -32,7 +32,7 @@ pub(crate) fn write_csv_row<W: Write>(
     }
 }
 
-/// Writes the lines of a row of this federate.
+// Writes the lines of a row of this federate.
 #[tactic(auto, unfolding(crate::specs::CsvText::csv_turn))]
 fn write_csv_turn<W: Write>(
     out: &mut W,
@@ -50,7 +50,7 @@ fn write_csv_turn<W: Write>(
     write_csv_outputs(out, digits, federate, tag, row.outputs())
 }
 
-/// Writes the lines of the slots that were present.
+// Writes the lines of the slots that were present.
 fn write_csv_inputs<W: Write>(
     out: &mut W,
     digits: &mut Buffer,
@@ -67,7 +67,7 @@ fn write_csv_inputs<W: Write>(
     Ok(())
 }
 
-/// Writes the lines of the outputs that were set.
+// Writes the lines of the outputs that were set.
 fn write_csv_outputs<W: Write>(
     out: &mut W,
     digits: &mut Buffer,
@@ -84,7 +84,7 @@ fn write_csv_outputs<W: Write>(
     Ok(())
 }
 
-/// Writes the line of a slot that was present.
+// Writes the line of a slot that was present.
 #[tactic(auto, unfolding(crate::specs::CsvText::csv_input))]
 fn write_csv_input<W: Write>(
     out: &mut W,
@@ -100,7 +100,7 @@ fn write_csv_input<W: Write>(
     write_csv_line(out, digits, federate, tag, "in", name, value)
 }
 
-/// Writes the line of an output that was set.
+// Writes the line of an output that was set.
 #[tactic(auto, unfolding(crate::specs::CsvText::csv_output))]
 fn write_csv_output<W: Write>(
     out: &mut W,
@@ -115,7 +115,7 @@ fn write_csv_output<W: Write>(
     write_csv_line(out, digits, federate, tag, "out", name, Some(entry.value()))
 }
 
-/// The value of a slot that was present; startup and timers have none.
+// The value of a slot that was present; startup and timers have none.
 fn value_at(slots: &Slots, entry: Entry) -> Option<i64>
     ensures { result ≡ value_at slots.now entry }
 {
@@ -126,7 +126,7 @@ fn value_at(slots: &Slots, entry: Entry) -> Option<i64>
     }
 }
 
-/// Writes a line of this kind, of what has this name and maybe a value.
+// Writes a line of this kind, of what has this name and maybe a value.
 #[tactic(auto, unfolding(crate::specs::CsvText::csv_line))]
 fn write_csv_line<W: Write>(
     out: &mut W,
@@ -147,7 +147,7 @@ fn write_csv_line<W: Write>(
     put(out, b"\n")
 }
 
-/// Writes the cells of whose turn it is and when.
+// Writes the cells of whose turn it is and when.
 #[tactic(auto, unfolding(crate::specs::CsvText::csv_turn_cells))]
 fn write_turn_cells<W: Write>(
     out: &mut W,
@@ -162,7 +162,7 @@ fn write_turn_cells<W: Write>(
     write_count_cell(out, digits, u64::from(tag.microstep()))
 }
 
-/// Writes a cell, and the comma after it.
+// Writes a cell, and the comma after it.
 #[tactic(auto, unfolding(crate::specs::CsvText::csv_cell))]
 fn write_cell<W: Write>(out: &mut W, text: &str) -> Result<(), CannotWrite>
     ensures { OnOk result (Appends (W.contents out.old) (W.contents out.new) (csv_cell text.now)) }
@@ -171,7 +171,7 @@ fn write_cell<W: Write>(out: &mut W, text: &str) -> Result<(), CannotWrite>
     put(out, b",")
 }
 
-/// Writes a cell with a number, and the comma after it.
+// Writes a cell with a number, and the comma after it.
 #[tactic(auto, unfolding(crate::specs::CsvText::csv_cell))]
 fn write_count_cell<W: Write>(
     out: &mut W,
@@ -184,7 +184,7 @@ fn write_count_cell<W: Write>(
     put(out, b",")
 }
 
-/// Writes a value, where there is one.
+// Writes a value, where there is one.
 fn write_csv_value<W: Write>(
     out: &mut W,
     digits: &mut Buffer,

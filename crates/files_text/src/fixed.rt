@@ -49,7 +49,7 @@ impl FixedBytes {
         self.len = 0;
     }
 
-    /// Adds bytes, if there is room for all of them.
+    // Adds bytes, if there is room for all of them.
     #[inline(always)]
     fn add(&mut self, bytes: &[u8]) -> bool
         ensures { MatchBool result (self.new ≡ self.old ++ bytes.now) (self.new ≡ self.old) }
@@ -64,7 +64,7 @@ impl FixedBytes {
     }
 }
 
-/// Copies bytes. Of a few the first and the last are copied, and may overlap: that takes no call.
+// Copies bytes. Of a few the first and the last are copied, and may overlap: that takes no call.
 #[inline(always)]
 fn copy(to: &mut [u8], from: &[u8])
     requires { length to.old ≡ length from.now }
@@ -80,7 +80,7 @@ fn copy(to: &mut [u8], from: &[u8])
     }
 }
 
-/// Copies the first `N` bytes and the last `N`, which are all of them.
+// Copies the first `N` bytes and the last `N`, which are all of them.
 #[inline(always)]
 fn copy_ends<const N: usize>(to: &mut [u8], from: &[u8])
     requires size { length to.old ≡ length from.now }

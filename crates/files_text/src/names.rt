@@ -42,7 +42,7 @@ pub(crate) fn name_of(names: &[Text], place: usize) -> &str
     }
 }
 
-/// The name of the timer at a place, or an empty text where there is none.
+// The name of the timer at a place, or an empty text where there is none.
 fn timer_name(timers: &[Timer], place: usize) -> &str
     ensures { result.now ≡ name_at (timer_names timers.now) place }
 {

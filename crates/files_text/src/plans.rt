@@ -18,7 +18,7 @@ pub fn plan_text(alloc: Global, plan: &Plan) -> Result<String, Memory>
     Ok(text)
 }
 
-/// Adds how much there is.
+// Adds how much there is.
 fn push_size(text: &mut String, plan: &Plan) -> Result<(), AllocError>
     ensures { OnOk result (string_bytes text.new ≡ string_bytes text.old ++ printed_size plan.now) }
 {
@@ -31,7 +31,7 @@ fn push_size(text: &mut String, plan: &Plan) -> Result<(), AllocError>
     )
 }
 
-/// Adds the ranks of all federates.
+// Adds the ranks of all federates.
 fn push_ranks(text: &mut String, plan: &Plan) -> Result<(), AllocError>
     ensures { OnOk result (string_bytes text.new ≡ string_bytes text.old
         ++ printed_each (printed_rank plan.now) (federate_count plan.now)) }
@@ -42,7 +42,7 @@ fn push_ranks(text: &mut String, plan: &Plan) -> Result<(), AllocError>
     Ok(())
 }
 
-/// Adds the rank of a federate.
+// Adds the rank of a federate.
 fn push_rank(text: &mut String, plan: &Plan, federate: usize) -> Result<(), AllocError>
     requires { federate < federate_count plan.now }
     ensures { OnOk result (string_bytes text.new ≡ string_bytes text.old ++ printed_rank plan.now federate) }
@@ -52,7 +52,7 @@ fn push_rank(text: &mut String, plan: &Plan, federate: usize) -> Result<(), Allo
     write!(text, "{name} rank {rank}\n")
 }
 
-/// Adds the least delays between all federates.
+// Adds the least delays between all federates.
 fn push_least_delays(text: &mut String, plan: &Plan) -> Result<(), AllocError>
     ensures { OnOk result (string_bytes text.new ≡ string_bytes text.old
         ++ printed_each (λ i. printed_each (printed_least plan.now i) (federate_count plan.now))
@@ -64,7 +64,7 @@ fn push_least_delays(text: &mut String, plan: &Plan) -> Result<(), AllocError>
     Ok(())
 }
 
-/// Adds the least delays from a federate to all.
+// Adds the least delays from a federate to all.
 fn push_least_delays_from(text: &mut String, plan: &Plan, from: usize) -> Result<(), AllocError>
     requires { from < federate_count plan.now }
     ensures { OnOk result (string_bytes text.new ≡ string_bytes text.old
@@ -76,7 +76,7 @@ fn push_least_delays_from(text: &mut String, plan: &Plan, from: usize) -> Result
     Ok(())
 }
 
-/// Adds the least delay from one federate to another, if a path leads there.
+// Adds the least delay from one federate to another, if a path leads there.
 fn push_least_delay(
     text: &mut String,
     plan: &Plan,

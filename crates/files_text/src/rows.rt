@@ -64,7 +64,7 @@ pub fn write_rows<W: Write>(
     Ok(())
 }
 
-/// Writes the rows from one place up to another, put together where there is room for that.
+// Writes the rows from one place up to another, put together where there is room for that.
 fn write_some<W: Write>(
     out: &mut W,
     room: &mut FixedBytes,
@@ -87,7 +87,7 @@ fn write_some<W: Write>(
     }
 }
 
-/// Writes the rows from one place up to another.
+// Writes the rows from one place up to another.
 fn write_lines<W: Write>(
     out: &mut W,
     spelling: &mut Spelling,
@@ -108,7 +108,7 @@ fn write_lines<W: Write>(
     Ok(())
 }
 
-/// Writes a row, with the ends of its lines.
+// Writes a row, with the ends of its lines.
 fn write_row<W: Write>(
     out: &mut W,
     spelling: &mut Spelling,
@@ -125,7 +125,7 @@ fn write_row<W: Write>(
     }
 }
 
-/// Writes a row and the end of its line.
+// Writes a row and the end of its line.
 fn write_line<W: Write>(
     out: &mut W,
     spelling: &mut Spelling,
@@ -140,7 +140,7 @@ fn write_line<W: Write>(
     }
 }
 
-/// Writes a row of this federate and the end of its line.
+// Writes a row of this federate and the end of its line.
 fn write_turn<W: Write>(
     out: &mut W,
     spelling: &mut Spelling,
@@ -153,7 +153,7 @@ fn write_turn<W: Write>(
     write_parts(out, spelling, federate, row)
 }
 
-/// Writes the parts of a row one after the other, each with what parts it from the next.
+// Writes the parts of a row one after the other, each with what parts it from the next.
 fn write_parts<W: Write>(
     out: &mut W,
     spelling: &mut Spelling,
@@ -170,7 +170,7 @@ fn write_parts<W: Write>(
     write_outputs(out, &mut spelling.digits, &federate.slots, row.outputs())
 }
 
-/// Writes the slots that were present, in brackets, and an arrow.
+// Writes the slots that were present, in brackets, and an arrow.
 #[tactic(auto, unfolding(crate::specs::RowText::printed_inputs))]
 fn write_inputs<W: Write>(
     out: &mut W,
@@ -191,7 +191,7 @@ fn write_inputs<W: Write>(
     put(out, b"] -> ")
 }
 
-/// Writes the outputs that were set, in brackets, and the end of the line.
+// Writes the outputs that were set, in brackets, and the end of the line.
 #[tactic(auto, unfolding(crate::specs::RowText::printed_outputs))]
 fn write_outputs<W: Write>(
     out: &mut W,
@@ -212,7 +212,7 @@ fn write_outputs<W: Write>(
     put(out, b"]\n")
 }
 
-/// Writes a slot that was present.
+// Writes a slot that was present.
 #[tactic(auto, unfolding(crate::specs::RowText::printed_input))]
 fn write_input<W: Write>(
     out: &mut W,
@@ -230,7 +230,7 @@ fn write_input<W: Write>(
     write_valued(out, digits, name, entry.value())
 }
 
-/// Writes a further slot that was present.
+// Writes a further slot that was present.
 fn write_next_input<W: Write>(
     out: &mut W,
     digits: &mut Buffer,
@@ -244,7 +244,7 @@ fn write_next_input<W: Write>(
     write_input(out, digits, slots, entry)
 }
 
-/// Writes a name with a value.
+// Writes a name with a value.
 #[inline(always)]
 fn write_valued<W: Write>(
     out: &mut W,
@@ -260,7 +260,7 @@ fn write_valued<W: Write>(
     write_value(out, digits, value)
 }
 
-/// Writes an output that was set.
+// Writes an output that was set.
 #[tactic(auto, unfolding(crate::specs::RowText::printed_output))]
 fn write_output<W: Write>(
     out: &mut W,
@@ -274,7 +274,7 @@ fn write_output<W: Write>(
     write_valued(out, digits, name, entry.value())
 }
 
-/// Writes a further output that was set.
+// Writes a further output that was set.
 fn write_next_output<W: Write>(
     out: &mut W,
     digits: &mut Buffer,

@@ -62,7 +62,7 @@ impl Spelling {
         write_tag(out, &mut self.digits, tag)
     }
 
-    /// Keeps the text of this tag, where there is room for it.
+    // Keeps the text of this tag, where there is room for it.
     fn spell(&mut self, tag: Tag) {
         self.tag = None;
         self.text.clear();
@@ -72,7 +72,7 @@ impl Spelling {
     }
 }
 
-/// Whether this is the tag, if there is one.
+// Whether this is the tag, if there is one.
 fn is_tag(tag: Option<Tag>, wanted: Tag) -> bool
     ensures { IsTrue result → tag ≡ Some wanted }
 {

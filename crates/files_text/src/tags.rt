@@ -26,7 +26,7 @@ pub fn write_tag<W: Write>(out: &mut W, digits: &mut Buffer, tag: Tag) -> Result
     }
 }
 
-/// Writes a microstep after its time, and the end of the tag.
+// Writes a microstep after its time, and the end of the tag.
 fn write_microstep<W: Write>(
     out: &mut W,
     digits: &mut Buffer,
@@ -43,7 +43,7 @@ fn write_microstep<W: Write>(
     put(out, b") ")
 }
 
-/// Writes a time in the greatest unit that divides it.
+// Writes a time in the greatest unit that divides it.
 fn write_time<W: Write>(out: &mut W, digits: &mut Buffer, time: u64) -> Result<(), CannotWrite>
     ensures { OnOk result (Appends (W.contents out.old) (W.contents out.new) (printed_time time)) }
 {

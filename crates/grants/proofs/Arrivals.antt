@@ -10,7 +10,7 @@ use Rattle.network.specs.Tables.{Table}
 use Rattle.protocol.specs.FederateRecord.{FederateRecord}
 use Rattle.protocol.specs.Grant.{after_completed, lesser_arrival, bound_by_paths, bound_by_connections, bound_of}
 use Rattle.grants.specs.declared.routes.Upstream.{Upstream}
-use Rattle.grants.specs.Wires.{Wires, least_by, network_by}
+use Rattle.grants.specs.Wiring.{Wiring, least_by, network_by}
 use Rattle.grants.specs.Routes.{upstream_at, upstream_of, incoming_of}
 use Rattle.grants.specs.Bounds.{first_upstream, first_incoming}
 
@@ -55,7 +55,7 @@ by_connections federate_records j (c ∷ rest) =
     with_incoming federate_records c (nat_eq c.target j) (bound_by_connections federate_records j rest) (incoming_of rest j) (by_connections federate_records j rest)
 
 -- the greater of both is the bound
-pub bound_is : (w : Wires) (federate_records : ℕ → FederateRecord) (j : ℕ) (upstream : List Upstream) (incoming : List Connection) (paths connections bound : LogicalTime) →
+pub bound_is : (w : Wiring) (federate_records : ℕ → FederateRecord) (j : ℕ) (upstream : List Upstream) (incoming : List Connection) (paths connections bound : LogicalTime) →
     upstream ≡ upstream_of (least_by w) j w.federates → incoming ≡ incoming_of w.connections j → paths ≡ first_upstream federate_records upstream →
     connections ≡ first_incoming federate_records incoming → bound ≡ greater paths connections → bound ≡ bound_of (network_by w) (least_by w) federate_records j
 bound_is w federate_records j upstream incoming paths connections bound up down p c b =

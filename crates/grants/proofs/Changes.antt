@@ -11,10 +11,10 @@ use Rattle.protocol_laws.proofs.Eligibility.{contains_at}
 use Rattle.protocol_laws.proofs.ListedFederateRecords.{list_read}
 use Rattle.protocol.specs.FederateRecord.{FederateRecord, initial_federate_record}
 use Rattle.protocol.specs.FederateRecords.{federate_record_at, federate_records_listed}
-use Rattle.grants.specs.Wires.{Wires, AreWires, least_by, network_by}
+use Rattle.grants.specs.Wiring.{Wiring, IsWiring, least_by, network_by}
 use Rattle.grants.specs.Records.{is_eligible_by}
 use Rattle.grants.specs.Looks.{count_below, has_path, reached_from, differ}
-use Rattle.grants.specs.Routes.{connected_to, leads, listed_below, may_change, looked_at}
+use Rattle.grants.specs.Routes.{connected_to, leads, listed_below, may_change, affected_by}
 use Rattle.grants.proofs.Leading.{leads_by}
 use Rattle.grants.specs.Invariant.{IsKept, flags_after}
 use Rattle.grants.proofs.Numbered.{length_listed, count_weaker, count_one, count_either}
@@ -66,22 +66,22 @@ some_entry : (connections : List Connection) (i j : ℕ) (path : List Connection
 some_entry connections i j path None m p = absurd (m path p)
 some_entry connections i j path (Some d) m p = refl
 
-connected : (w : Wires) (j k : ℕ) (c : Connection) → AreWires w → slice_get w.connections k ≡ Some c → c.target ≡ j → has_path w c.source j ≡ true
+connected : (w : Wiring) (j k : ℕ) (c : Connection) → IsWiring w → slice_get w.connections k ≡ Some c → c.target ≡ j → has_path w c.source j ≡ true
 connected w j k c are e t = some_entry w.connections c.source j (c ∷ []) (least_by w c.source j) (are.least c.source j) (contains_at w.connections k c e, refl, t)
 
-pub hears_not : (w : Wires) (i j : ℕ) → may_change w i j ≡ false → (k : ℕ) → has_path w k j ≡ true → k ≡ i → ⊥
+pub hears_not : (w : Wiring) (i j : ℕ) → may_change w i j ≡ false → (k : ℕ) → has_path w k j ≡ true → k ≡ i → ⊥
 hears_not w i j away k path same =
     let none : has_path w i j ≡ false = (or_parts (nat_eq j i) (has_path w i j) away).1 in
     let some : has_path w i j ≡ true = ap (λ x. has_path w x j) (sym same) ∙ path in
     cc
 
-is_not : (w : Wires) (i j : ℕ) → may_change w i j ≡ false → j ≡ i → ⊥
+is_not : (w : Wiring) (i j : ℕ) → may_change w i j ≡ false → j ≡ i → ⊥
 is_not w i j away same =
     let none : nat_eq j i ≡ false = (or_parts (nat_eq j i) (has_path w i j) away).0 in
     let some : nat_eq j i ≡ true = eq-eqb j i same in
     cc
 
-pub others_stay : (w : Wires) (federate_records : List FederateRecord) (i j : ℕ) (mine : FederateRecord) → AreWires w → may_change w i j ≡ false →
+pub others_stay : (w : Wiring) (federate_records : List FederateRecord) (i j : ℕ) (mine : FederateRecord) → IsWiring w → may_change w i j ≡ false →
     is_eligible_by w (slice_set federate_records i mine) j ≡ is_eligible_by w federate_records j
 others_stay w federate_records i j mine are away =
     let own = other_federate_record federate_records i j mine (is_not w i j away) in
@@ -97,7 +97,7 @@ others_stay w federate_records i j mine are away =
 
 -- ---- where next and completed stay
 
-pub alone_changes : (w : Wires) (federate_records : List FederateRecord) (i j : ℕ) (mine : FederateRecord) → AreWires w → i < length federate_records →
+pub alone_changes : (w : Wiring) (federate_records : List FederateRecord) (i j : ℕ) (mine : FederateRecord) → IsWiring w → i < length federate_records →
     mine.next ≡ (federate_record_at federate_records i).next → mine.completed ≡ (federate_record_at federate_records i).completed → (j ≡ i → ⊥) →
     is_eligible_by w (slice_set federate_records i mine) j ≡ is_eligible_by w federate_records j
 alone_changes w federate_records i j mine are l next completed n =
@@ -112,7 +112,7 @@ alone_changes w federate_records i j mine are l next completed n =
     })
 
 -- where what i completed alone changes, all stay to whom no connection leads from it
-pub completed_stays : (w : Wires) (federate_records : List FederateRecord) (i j : ℕ) (completed : Option LogicalTime) → AreWires w → i < length federate_records → leads w.connections i j ≡ false →
+pub completed_stays : (w : Wiring) (federate_records : List FederateRecord) (i j : ℕ) (completed : Option LogicalTime) → IsWiring w → i < length federate_records → leads w.connections i j ≡ false →
     is_eligible_by w (slice_set federate_records i (record (federate_record_at federate_records i) { completed = completed })) j ≡ is_eligible_by w federate_records j
 completed_stays w federate_records i j completed are l away =
     let mine : FederateRecord = record (federate_record_at federate_records i) { completed = completed } in
@@ -127,7 +127,7 @@ completed_stays w federate_records i j completed are l away =
     })
 
 -- where the tags in transit alone change, all stay
-pub none_changes : (w : Wires) (federate_records : List FederateRecord) (i j : ℕ) (transit : List LogicalTime) → AreWires w → i < length federate_records →
+pub none_changes : (w : Wiring) (federate_records : List FederateRecord) (i j : ℕ) (transit : List LogicalTime) → IsWiring w → i < length federate_records →
     is_eligible_by w (slice_set federate_records i (record (federate_record_at federate_records i) { transit = transit })) j ≡ is_eligible_by w federate_records j
 none_changes w federate_records i j transit are l =
     let mine : FederateRecord = record (federate_record_at federate_records i) { transit = transit } in
@@ -142,7 +142,7 @@ none_changes w federate_records i j transit are l =
 
 -- ---- the flags
 
-flag_by : (w : Wires) (federate_records : List FederateRecord) (flags : List Bool) (i j : ℕ) (mine : FederateRecord) (test : ℕ → Bool) → IsKept w federate_records flags → j < w.federates →
+flag_by : (w : Wiring) (federate_records : List FederateRecord) (flags : List Bool) (i j : ℕ) (mine : FederateRecord) (test : ℕ → Bool) → IsKept w federate_records flags → j < w.federates →
     (test j ≡ false → is_eligible_by w (slice_set federate_records i mine) j ≡ is_eligible_by w federate_records j) → (b : Bool) → test j ≡ b →
     slice_index_or (flags_after (is_eligible_by w (slice_set federate_records i mine)) (listed_below w.federates test) flags) j false ≡ is_eligible_by w (slice_set federate_records i mine) j
 flag_by w federate_records flags i j mine test kept l stays true e =
@@ -153,7 +153,7 @@ flag_by w federate_records flags i j mine test kept l stays false e =
     ∙ kept.each j l ∙ sym (stays e)
 
 -- after a look at each that passes a test, where those that don't pass it stay
-pub kept_by_looks : (w : Wires) (federate_records : List FederateRecord) (flags : List Bool) (i : ℕ) (mine : FederateRecord) (test : ℕ → Bool) → IsKept w federate_records flags →
+pub kept_by_looks : (w : Wiring) (federate_records : List FederateRecord) (flags : List Bool) (i : ℕ) (mine : FederateRecord) (test : ℕ → Bool) → IsKept w federate_records flags →
     ((j : ℕ) → test j ≡ false → is_eligible_by w (slice_set federate_records i mine) j ≡ is_eligible_by w federate_records j) →
     IsKept w (slice_set federate_records i mine) (flags_after (is_eligible_by w (slice_set federate_records i mine)) (listed_below w.federates test) flags)
 kept_by_looks w federate_records flags i mine test kept stay = record {
@@ -162,7 +162,7 @@ kept_by_looks w federate_records flags i mine test kept stay = record {
   each = λ j l. flag_by w federate_records flags i j mine test kept l (stay j) (test j) refl;
 }
 
-pub kept_by_one_look : (w : Wires) (federate_records : List FederateRecord) (flags : List Bool) (i : ℕ) (mine : FederateRecord) → AreWires w → IsKept w federate_records flags → i < w.federates →
+pub kept_by_one_look : (w : Wiring) (federate_records : List FederateRecord) (flags : List Bool) (i : ℕ) (mine : FederateRecord) → IsWiring w → IsKept w federate_records flags → i < w.federates →
     mine.next ≡ (federate_record_at federate_records i).next → mine.completed ≡ (federate_record_at federate_records i).completed →
     IsKept w (slice_set federate_records i mine) (slice_set flags i (is_eligible_by w (slice_set federate_records i mine) i))
 kept_by_one_look w federate_records flags i mine are kept l next completed =
@@ -180,7 +180,7 @@ kept_by_one_look w federate_records flags i mine are kept l next completed =
       ];
     }
 
-pub kept_with_transit : (w : Wires) (federate_records : List FederateRecord) (flags : List Bool) (i : ℕ) (transit : List LogicalTime) → AreWires w → IsKept w federate_records flags → i < w.federates →
+pub kept_with_transit : (w : Wiring) (federate_records : List FederateRecord) (flags : List Bool) (i : ℕ) (transit : List LogicalTime) → IsWiring w → IsKept w federate_records flags → i < w.federates →
     IsKept w (slice_set federate_records i (record (federate_record_at federate_records i) { transit = transit })) flags
 kept_with_transit w federate_records flags i transit are kept l =
     let federate_record_count = kept.federate_record_count in
@@ -207,7 +207,7 @@ changed_few : (count : ℕ) (before after test : ℕ → Bool) → ((j : ℕ) �
     count_below count (λ j. differ (before j) (after j)) ≤ count_below count test
 changed_few count before after test stay = count_weaker count (λ j. differ (before j) (after j)) test (λ j d. passes (before j) (after j) (test j) (stay j) d)
 
-pub changed_by_looks : (w : Wires) (federate_records : List FederateRecord) (i : ℕ) (mine : FederateRecord) (test : ℕ → Bool) →
+pub changed_by_looks : (w : Wiring) (federate_records : List FederateRecord) (i : ℕ) (mine : FederateRecord) (test : ℕ → Bool) →
     ((j : ℕ) → test j ≡ false → is_eligible_by w (slice_set federate_records i mine) j ≡ is_eligible_by w federate_records j) →
     count_below w.federates (λ j. differ (is_eligible_by w federate_records j) (is_eligible_by w (slice_set federate_records i mine) j)) ≤ length (listed_below w.federates test)
 changed_by_looks w federate_records i mine test stay =
@@ -215,7 +215,7 @@ changed_by_looks w federate_records i mine test stay =
     let few = changed_few w.federates (is_eligible_by w federate_records) (is_eligible_by w (slice_set federate_records i mine)) test stay in
     omega arith
 
-pub changed_by_one_look : (w : Wires) (federate_records : List FederateRecord) (i : ℕ) (mine : FederateRecord) → AreWires w → i < length federate_records →
+pub changed_by_one_look : (w : Wiring) (federate_records : List FederateRecord) (i : ℕ) (mine : FederateRecord) → IsWiring w → i < length federate_records →
     mine.next ≡ (federate_record_at federate_records i).next → mine.completed ≡ (federate_record_at federate_records i).completed →
     count_below w.federates (λ j. differ (is_eligible_by w federate_records j) (is_eligible_by w (slice_set federate_records i mine) j)) ≤ 1
 changed_by_one_look w federate_records i mine are l next completed =
@@ -224,8 +224,8 @@ changed_by_one_look w federate_records i mine are l next completed =
     (λ j away. alone_changes w federate_records i j mine are l next completed (eqb-false j i away)) in
     omega arith
 
-pub looked_at_few : (w : Wires) (i : ℕ) → length (looked_at w i) ≤ 1 + reached_from w i
-looked_at_few w i =
+pub few_affected : (w : Wiring) (i : ℕ) → length (affected_by w i) ≤ 1 + reached_from w i
+few_affected w i =
     let listed = length_listed w.federates (may_change w i) in
     let either = count_either w.federates (λ j. nat_eq j i) (has_path w i) in
     let one = count_one w.federates i in
@@ -238,7 +238,7 @@ path_of_entry : (connections : List Connection) (i j : ℕ) (o : Option LogicalT
 path_of_entry connections i j None m e = cc
 path_of_entry connections i j (Some d) m e = (m.attained.0, m.attained.1)
 
-pub counted_paths : (w : Wires) (i j : ℕ) → AreWires w → (has_path w i j ≡ true → (path : List Connection) × IsPath w.connections i path j) ×
+pub counted_paths : (w : Wiring) (i j : ℕ) → IsWiring w → (has_path w i j ≡ true → (path : List Connection) × IsPath w.connections i path j) ×
     ((path : List Connection) × IsPath w.connections i path j → has_path w i j ≡ true)
 counted_paths w i j are =
     (path_of_entry w.connections i j (least_by w i j) (are.least i j), (λ p. some_entry w.connections i j p.0 (least_by w i j) (are.least i j) p.1))

@@ -8,10 +8,10 @@ use Rattle.plan.specs.Federation.{connections_of, federate_count}
 use Rattle.plan.specs.Legal.{IsLegal}
 use Rattle.plan.proofs.LeastLaws.{least}
 use Rattle.plan.proofs.Plans.{ends_below}
-use Rattle.grants.specs.Wires.{AreWires, wires_of}
+use Rattle.grants.specs.Wiring.{IsWiring, federation_wiring}
 
-pub wires_are : (d : Draft) → IsLegal d → AreWires (wires_of d)
-wires_are d legal = record {
+pub wiring_is : (d : Draft) → IsLegal d → IsWiring (federation_wiring d)
+wiring_is d legal = record {
   wired = record {
     stop = record { time = legal.stop; microstep = omega arith };
     connections =

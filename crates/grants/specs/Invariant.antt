@@ -3,11 +3,11 @@ use Rattle.std.specs.Prelude.{◌≡◌, ℕ, ◌+◌, ◌<◌, Bool, false, Lis
 use Rattle.std.specs.Prelude.{if◌then◌else◌}
 use Rattle.std.specs.List.{fold}
 use Rattle.protocol.specs.FederateRecord.{FederateRecord}
-use Rattle.grants.specs.Wires.{Wires}
+use Rattle.grants.specs.Wiring.{Wiring}
 use Rattle.grants.specs.Records.{is_eligible_by}
 
 -- a record for each federate, and a flag that says whether it is eligible
-pub record IsKept (w : Wires) (federate_records : List FederateRecord) (flags : List Bool) : Type 0 where
+pub record IsKept (w : Wiring) (federate_records : List FederateRecord) (flags : List Bool) : Type 0 where
   pub federate_record_count : length federate_records ≡ w.federates
   pub flag_count : length flags ≡ w.federates
   pub each : (j : ℕ) → j < w.federates → slice_index_or flags j false ≡ is_eligible_by w federate_records j

@@ -4,7 +4,7 @@ pub mod Fault
 -- the tags of messages on their way
 pub mod Transit
 -- the wiring of a federation, as data
-pub mod Wires
+pub mod Wiring
 -- what a table holds
 pub mod Records
 -- how often federates are looked at

@@ -5,11 +5,11 @@ use Rattle.plan.specs.Federation.{federate_count}
 use Rattle.protocol.specs.FederateRecord.{FederateRecord, initial_federate_record}
 use Rattle.protocol.specs.FederateRecords.{federate_record_at, federate_records_listed}
 use Rattle.protocol.specs.Grant.{is_eligible}
-use Rattle.grants.specs.Wires.{Wires, AreWires, wires_of, network_by, least_by}
+use Rattle.grants.specs.Wiring.{Wiring, IsWiring, federation_wiring, network_by, least_by}
 
 -- the wiring, each federate's record by number, and how often a federate was looked at
 pub record Records : Type 0 where
-  pub wires : Wires
+  pub wiring : Wiring
   pub federate_records : List FederateRecord
   pub looks : ℕ
 
@@ -17,7 +17,7 @@ pub record Records : Type 0 where
 abbrev pub initial_records : Draft → Records
 initial_records d =
     record {
-      wires = wires_of d;
+      wiring = federation_wiring d;
       federate_records = federate_records_listed (federate_count d)
           (λ j. initial_federate_record);
       looks = 0;
@@ -36,13 +36,13 @@ abbrev pub with_looks : Records → ℕ → Records
 with_looks r looks = record r { looks = looks }
 
 -- whether federate j is eligible where all stand so, by the table of least delays
-abbrev pub is_eligible_by : Wires → List FederateRecord → ℕ → Bool
+abbrev pub is_eligible_by : Wiring → List FederateRecord → ℕ → Bool
 is_eligible_by w federate_records j = is_eligible (network_by w) (least_by w) (federate_record_at federate_records) j
 
 abbrev pub is_eligible_in : Records → ℕ → Bool
-is_eligible_in r j = is_eligible_by r.wires r.federate_records j
+is_eligible_in r j = is_eligible_by r.wiring r.federate_records j
 
 -- a record for each federate, and wiring that is sound
 pub record AreRecords (r : Records) : Type 0 where
-  pub count : length r.federate_records ≡ r.wires.federates
-  pub wires : AreWires r.wires
+  pub count : length r.federate_records ≡ r.wiring.federates
+  pub wiring : IsWiring r.wiring

@@ -5,7 +5,7 @@ use Rattle.tag.specs.LogicalTime.{LogicalTime}
 use Rattle.network.specs.Connection.{Connection}
 use Rattle.network.specs.Tables.{Table}
 use Rattle.grants.specs.declared.routes.Upstream.{Upstream}
-use Rattle.grants.specs.Wires.{Wires, least_by}
+use Rattle.grants.specs.Wiring.{Wiring, least_by}
 use Rattle.grants.specs.Looks.{has_path}
 
 -- a federate from which a path leads here, if one does
@@ -28,12 +28,12 @@ listed_below zero test = []
 listed_below (suc count) test = listed_below count test ++ (if test count then count ∷ [] else [])
 
 -- a change of federate i's next tag may make it eligible, or a federate to which a path leads from it
-abbrev pub may_change : Wires → ℕ → ℕ → Bool
+abbrev pub may_change : Wiring → ℕ → ℕ → Bool
 may_change w i j = nat_eq j i || has_path w i j
 
 -- those federates
-abbrev pub looked_at : Wires → ℕ → List ℕ
-looked_at w i = listed_below w.federates (may_change w i)
+abbrev pub affected_by : Wiring → ℕ → List ℕ
+affected_by w i = listed_below w.federates (may_change w i)
 
 -- one of these connections leads from i to j
 abbrev pub leads : List Connection → ℕ → ℕ → Bool
@@ -46,7 +46,7 @@ outgoing_of connections i = filter (λ c. nat_eq c.source i) connections
 
 -- the federates to which a connection leads from i: what i completed bears on whether they are eligible, and on nobody
 -- else
-abbrev pub connected_to : Wires → ℕ → List ℕ
+abbrev pub connected_to : Wiring → ℕ → List ℕ
 connected_to w i = listed_below w.federates (leads w.connections i)
 
 -- one federate's routes
@@ -54,18 +54,18 @@ pub record Routed : Type 0 where
   pub upstream : List Upstream
   pub incoming : List Connection
   pub targets : List ℕ
-  pub downstream : List ℕ
+  pub affected : List ℕ
 
-abbrev pub routed : Wires → ℕ → Routed
+abbrev pub routed : Wiring → ℕ → Routed
 routed w j =
     record {
       upstream = upstream_of (least_by w) j w.federates;
       incoming = incoming_of w.connections j;
       targets = connected_to w j;
-      downstream = looked_at w j;
+      affected = affected_by w j;
     }
 
 -- those of the first `count` federates
-abbrev pub routed_below : Wires → ℕ → List Routed
+abbrev pub routed_below : Wiring → ℕ → List Routed
 routed_below w zero = []
 routed_below w (suc count) = routed_below w count ++ routed w count ∷ []

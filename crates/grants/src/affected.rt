@@ -2,7 +2,7 @@ ghost use Rattle.std.specs.Prelude.{◌≡◌, ◌↔◌, ℕ, ◌+◌, ◌-◌,
 ghost use Rattle.std.specs.Prelude.{replicate, slice_index_or, slice_set};
 ghost use Rattle.protocol.specs.Grant.{is_eligible};
 ghost use Rattle.protocol.specs.FederateRecords.{federate_record_at};
-ghost use Rattle.grants.specs.Wires.{least_by, network_by};
+ghost use Rattle.grants.specs.Wiring.{least_by, network_by};
 ghost use Rattle.grants.specs.Looks.{counted};
 ghost use Rattle.grants.specs.Invariant.{flags_after};
 
@@ -109,7 +109,7 @@ impl AffectedFederates {
     }
 }
 
-/// A count of flags that are set, after one of them changed so.
+// A count of flags that are set, after one of them changed so.
 fn count_after(count: usize, was: bool, is: bool) -> usize
     requires room { was ≡ false → count < 2 ^ 64 - 1 }
     requires counted { was ≡ true → 0 < count }

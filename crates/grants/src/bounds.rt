@@ -64,7 +64,7 @@ pub fn passes_incoming(
     is_before(tag, Tag::FOREVER)
 }
 
-/// The first tag at which anything of a federate's next turn can arrive.
+// The first tag at which anything of a federate's next turn can arrive.
 fn arrival_from(from: &Upstream, federate_records: &[FederateRecord]) -> Tag
     requires { from.now.federate < length federate_records.now }
     ensures { result ≡ sum_of (federate_record_at federate_records.now from.now.federate).next from.now.delay }
@@ -72,7 +72,7 @@ fn arrival_from(from: &Upstream, federate_records: &[FederateRecord]) -> Tag
     plus(federate_records[from.federate].next(), from.delay)
 }
 
-/// The first tag at which anything can arrive over a connection that comes after its sender's last LTC.
+// The first tag at which anything can arrive over a connection that comes after its sender's last LTC.
 fn arrival_over(connection: &Connection, federate_records: &[FederateRecord]) -> Tag
     requires { connection.now.source < length federate_records.now }
     ensures { result ≡ sum_of (after_completed
@@ -82,7 +82,7 @@ fn arrival_over(connection: &Connection, federate_records: &[FederateRecord]) ->
     plus(sent, connection.delay())
 }
 
-/// The first tag at which a federate's next turn may be, as far as its LTCs tell.
+// The first tag at which a federate's next turn may be, as far as its LTCs tell.
 fn after_completed(completed: Option<FiniteTag>) -> Tag
     ensures { result ≡ after_completed completed }
 {

@@ -134,7 +134,7 @@ impl FederateRecord {
     }
 }
 
-/// The first tag.
+// The first tag.
 fn first_of(tags: &BTreeSet<FiniteTag, Global>) -> Option<FiniteTag>
     ensures first { result ≡ slice_get tags.now.keys 0 }
     ensures rises { Rises tags.now.keys }
@@ -144,7 +144,7 @@ fn first_of(tags: &BTreeSet<FiniteTag, Global>) -> Option<FiniteTag>
     tags.first().copied()
 }
 
-/// Lets go of the tags up to this one.
+// Lets go of the tags up to this one.
 fn drop_up_to(tags: &mut BTreeSet<FiniteTag, Global>, last: FiniteTag)
     ensures { tags.new.keys ≡ filter (λ t. is_before last t) tags.old.keys }
 {
@@ -158,7 +158,7 @@ fn drop_up_to(tags: &mut BTreeSet<FiniteTag, Global>, last: FiniteTag)
     let _count = tags.len();
 }
 
-/// Whether the first tag is not later than this one.
+// Whether the first tag is not later than this one.
 fn has_up_to(tags: &BTreeSet<FiniteTag, Global>, last: FiniteTag) -> bool
     ensures { result ≡ has_up_to last tags.now.keys }
 {

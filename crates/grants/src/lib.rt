@@ -1,6 +1,6 @@
 //! What the coordinator knows of the federates, who is eligible for a grant, and how far it may go.
 //!
-//! Promise to the layer above: after any list of changes `eligible` answers what `Eligible` of `protocol` says of the
+//! Promise to the layer above: after any list of changes `eligible` answers what `IsEligible` of `protocol` says of the
 //! records, and `grant` is the widest grant. A change looks only at the federates that it may make eligible.
 //!
 //!     set_next(i) --> records[i] --> AffectedFederates::look at i, and at each federate that a path leads to from i

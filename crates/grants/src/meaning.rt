@@ -6,7 +6,7 @@ ghost use Rattle.network.specs.Connection.{Connection, IsPath};
 ghost use Rattle.network.specs.Network.{with_one};
 ghost use Rattle.protocol.specs.FederateRecord.{FederateRecord};
 ghost use Rattle.protocol.specs.FederateRecords.{federate_record_at, federate_records_listed};
-ghost use Rattle.grants.specs.Wires.{Wires, AreWires};
+ghost use Rattle.grants.specs.Wiring.{Wiring, IsWiring};
 ghost use Rattle.grants.specs.Records.{Records, AreRecords, changed_at, is_eligible_in, with_federate_record};
 ghost use Rattle.grants.specs.Looks.{has_path};
 ghost use Rattle.grants.specs.Routes.{may_change};
@@ -24,7 +24,7 @@ pub fn one_federate_record_is_replaced()
 
 /// The paths by which looks are counted are all paths.
 pub fn paths_are_counted()
-    ensures { (w : Wires) (i j : ℕ) → AreWires w
+    ensures { (w : Wiring) (i j : ℕ) → IsWiring w
         → IsTrue (has_path w i j) ↔ ((path : List Connection) × IsPath w.connections i path j) }
 {}
 
@@ -32,12 +32,12 @@ pub fn paths_are_counted()
 /// it; where its next tag and what it completed stay, of all others; and where the tags in transit alone change, of
 /// all.
 pub fn others_stay()
-    ensures apart { (r : Records) (i j : ℕ) (mine : FederateRecord) → AreRecords r → may_change r.wires i j ≡ false →
+    ensures apart { (r : Records) (i j : ℕ) (mine : FederateRecord) → AreRecords r → may_change r.wiring i j ≡ false →
         is_eligible_in (with_federate_record r i mine) j ≡ is_eligible_in r j }
-    ensures alone { (r : Records) (i j : ℕ) (mine : FederateRecord) → AreRecords r → i < r.wires.federates →
+    ensures alone { (r : Records) (i j : ℕ) (mine : FederateRecord) → AreRecords r → i < r.wiring.federates →
         mine.next ≡ (federate_record_at r.federate_records i).next
         → mine.completed ≡ (federate_record_at r.federate_records i).completed → j ≢ i →
         is_eligible_in (with_federate_record r i mine) j ≡ is_eligible_in r j }
-    ensures transit { (r : Records) (i j : ℕ) (tags : List LogicalTime) → AreRecords r → i < r.wires.federates →
+    ensures transit { (r : Records) (i j : ℕ) (tags : List LogicalTime) → AreRecords r → i < r.wiring.federates →
         is_eligible_in (changed_at r i (λ s. record s { transit = tags })) j ≡ is_eligible_in r j }
 {}

@@ -1,8 +1,8 @@
 ghost use Rattle.std.specs.Prelude.{◌≡◌, ◌<◌, IfOk, nat_eq};
 ghost use Rattle.std.specs.List.{list_any};
 ghost use Rattle.plan.specs.Federation.{federate_count};
-ghost use Rattle.grants.specs.Wires.{least_by, wires_of};
-ghost use Rattle.grants.specs.Routes.{connected_to, incoming_of, looked_at, outgoing_of, routed, upstream_of};
+ghost use Rattle.grants.specs.Wiring.{least_by, federation_wiring};
+ghost use Rattle.grants.specs.Routes.{connected_to, incoming_of, affected_by, outgoing_of, routed, upstream_of};
 
 use crate::memory::Memory;
 use plan::Plan;
@@ -27,7 +27,7 @@ pub struct Routes {
     /// Each federate that a connection leads to from it.
     targets: Vec<usize>,
     /// Itself, and each federate that a path leads to from it.
-    downstream: Vec<usize>,
+    affected: Vec<usize>,
 }
 
 impl Model for Routes {
@@ -39,7 +39,7 @@ impl Model for Routes {
       upstream = r.upstream.items;
       incoming = r.incoming.items;
       targets = r.targets.items;
-      downstream = r.downstream.items;
+      affected = r.affected.items;
     } };
 }
 
@@ -47,17 +47,17 @@ impl Routes {
     /// Those of a federate of a plan.
     pub fn new(alloc: Global, plan: &Plan, federate: usize) -> Result<Routes, Memory>
         requires { federate < federate_count plan.now }
-        ensures { IfOk result (λ routes. routes ≡ routed (wires_of plan.now) federate) }
+        ensures { IfOk result (λ routes. routes ≡ routed (federation_wiring plan.now) federate) }
     {
         let upstream = upstream_of(alloc, plan, federate)?;
         let incoming = incoming_of(alloc, plan.connections(), federate)?;
         let targets = targets_of(alloc, plan, federate)?;
-        let downstream = downstream_of(alloc, plan, federate)?;
+        let affected = affected_of(alloc, plan, federate)?;
         Ok(Routes {
             upstream,
             incoming,
             targets,
-            downstream,
+            affected,
         })
     }
 
@@ -79,18 +79,18 @@ impl Routes {
         self.targets.as_slice()
     }
 
-    pub fn downstream(&self) -> &[usize]
-        ensures { result.now ≡ self.now.downstream }
+    pub fn affected(&self) -> &[usize]
+        ensures { result.now ≡ self.now.affected }
     {
-        self.downstream.as_slice()
+        self.affected.as_slice()
     }
 }
 
-/// The federates from which a path leads to this one.
+// The federates from which a path leads to this one.
 fn upstream_of(alloc: Global, plan: &Plan, federate: usize) -> Result<Vec<Upstream>, Memory>
     requires { federate < federate_count plan.now }
     ensures { IfOk result (λ upstream. upstream.items
-        ≡ upstream_of (least_by (wires_of plan.now)) federate (federate_count plan.now)) }
+        ≡ upstream_of (least_by (federation_wiring plan.now)) federate (federate_count plan.now)) }
 {
     let mut upstream = Vec::new(alloc);
     for from in 0..plan.federate_count() {
@@ -104,7 +104,7 @@ fn upstream_of(alloc: Global, plan: &Plan, federate: usize) -> Result<Vec<Upstre
     Ok(upstream)
 }
 
-/// The connections that end at a federate.
+// The connections that end at a federate.
 fn incoming_of(
     alloc: Global,
     connections: &[Connection],
@@ -121,7 +121,7 @@ fn incoming_of(
     Ok(incoming)
 }
 
-/// The connections that begin at a federate.
+// The connections that begin at a federate.
 fn outgoing_of(
     alloc: Global,
     connections: &[Connection],
@@ -138,9 +138,9 @@ fn outgoing_of(
     Ok(outgoing)
 }
 
-/// The federates to which a connection leads from this one.
+// The federates to which a connection leads from this one.
 fn targets_of(alloc: Global, plan: &Plan, federate: usize) -> Result<Vec<usize>, Memory>
-    ensures { IfOk result (λ targets. targets.items ≡ connected_to (wires_of plan.now) federate) }
+    ensures { IfOk result (λ targets. targets.items ≡ connected_to (federation_wiring plan.now) federate) }
 {
     let outgoing = outgoing_of(alloc, plan.connections(), federate)?;
     let mut targets = Vec::new(alloc);
@@ -152,7 +152,7 @@ fn targets_of(alloc: Global, plan: &Plan, federate: usize) -> Result<Vec<usize>,
     Ok(targets)
 }
 
-/// Whether one of these connections ends at a federate.
+// Whether one of these connections ends at a federate.
 fn ends_at(connections: &[Connection], federate: usize) -> bool
     ensures { result ≡ list_any (λ c. nat_eq c.target federate) connections.now }
 {
@@ -161,16 +161,16 @@ fn ends_at(connections: &[Connection], federate: usize) -> bool
         .any(|connection| connection.target() == federate)
 }
 
-/// A federate, and those that a path leads to from it.
-fn downstream_of(alloc: Global, plan: &Plan, federate: usize) -> Result<Vec<usize>, Memory>
+// A federate, and those that a path leads to from it.
+fn affected_of(alloc: Global, plan: &Plan, federate: usize) -> Result<Vec<usize>, Memory>
     requires { federate < federate_count plan.now }
-    ensures { IfOk result (λ downstream. downstream.items ≡ looked_at (wires_of plan.now) federate) }
+    ensures { IfOk result (λ affected. affected.items ≡ affected_by (federation_wiring plan.now) federate) }
 {
-    let mut downstream = Vec::new(alloc);
+    let mut affected = Vec::new(alloc);
     for to in 0..plan.federate_count() {
         if to == federate || plan.least(federate, to).is_some() {
-            downstream.push(to)?;
+            affected.push(to)?;
         }
     }
-    Ok(downstream)
+    Ok(affected)
 }

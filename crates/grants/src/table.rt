@@ -3,13 +3,13 @@ ghost use Rattle.std.specs.Prelude.{slice_get};
 ghost use Rattle.tag.specs.LogicalTime.{LogicalTime, is_before, lesser, origin, predecessor_of};
 ghost use Rattle.protocol.specs.FederateRecord.{least_with, initial_federate_record, with_tag};
 ghost use Rattle.protocol.specs.FederateRecords.{federate_record_at, federate_records_listed};
-ghost use Rattle.protocol.specs.Grant.{Eligible, grant_widest};
+ghost use Rattle.protocol.specs.Grant.{IsEligible, grant_widest};
 ghost use Rattle.protocol.specs.Bound.{IsWidest};
 ghost use Rattle.grants.specs.Transit.{lesser_with};
-ghost use Rattle.grants.specs.Wires.{least_by, network_by};
+ghost use Rattle.grants.specs.Wiring.{least_by, network_by};
 ghost use Rattle.grants.specs.Records.{AreRecords, changed_at, is_eligible_in, initial_records, with_looks};
 ghost use Rattle.grants.specs.Looks.{changed_between, counted, reached_from};
-ghost use Rattle.grants.specs.Routes.{connected_to, looked_at};
+ghost use Rattle.grants.specs.Routes.{connected_to, affected_by};
 
 use crate::affected::AffectedFederates;
 use crate::federate_record::FederateRecord;
@@ -36,7 +36,7 @@ impl Model for Table {
     ghost Value = { Records };
 
     ghost view = { λ t. record {
-      wires = t.wiring;
+      wiring = t.wiring;
       federate_records = t.federate_records.items;
       looks = t.affected.looks;
     } };
@@ -67,21 +67,21 @@ impl Table {
     }
 
     pub fn federates(&self) -> usize
-        ensures { result ≡ self.now.wires.federates }
+        ensures { result ≡ self.now.wiring.federates }
     {
         self.wiring.federates()
     }
 
     /// The last tag at which anything runs.
     pub fn stop(&self) -> FiniteTag
-        ensures { result ≡ self.now.wires.stop }
+        ensures { result ≡ self.now.wiring.stop }
     {
         self.wiring.stop()
     }
 
     /// The tag of a federate's last LTC.
     pub fn completed(&self, federate: usize) -> Option<FiniteTag>
-        requires { federate < self.now.wires.federates }
+        requires { federate < self.now.wiring.federates }
         ensures { result ≡ (federate_record_at self.now.federate_records federate).completed }
     {
         self.federate_records[federate].completed()
@@ -89,7 +89,7 @@ impl Table {
 
     /// The last TAG to a federate.
     pub fn granted(&self, federate: usize) -> Option<FiniteTag>
-        requires { federate < self.now.wires.federates }
+        requires { federate < self.now.wiring.federates }
         ensures { result ≡ (federate_record_at self.now.federate_records federate).granted }
     {
         self.federate_records[federate].granted()
@@ -97,7 +97,7 @@ impl Table {
 
     /// Whether a NET of a federate came.
     pub fn announced(&self, federate: usize) -> bool
-        requires { federate < self.now.wires.federates }
+        requires { federate < self.now.wiring.federates }
         ensures { result ≡ (federate_record_at self.now.federate_records federate).announced }
     {
         self.federate_records[federate].announced()
@@ -105,7 +105,7 @@ impl Table {
 
     /// Before this tag a federate does nothing, unless a message is routed to it first.
     pub fn next(&self, federate: usize) -> Tag
-        requires { federate < self.now.wires.federates }
+        requires { federate < self.now.wiring.federates }
         ensures { result ≡ (federate_record_at self.now.federate_records federate).next }
     {
         self.federate_records[federate].next()
@@ -113,7 +113,7 @@ impl Table {
 
     /// The least tag of a message on its way to a federate.
     pub fn least_transit(&self, federate: usize) -> Option<FiniteTag>
-        requires { federate < self.now.wires.federates }
+        requires { federate < self.now.wiring.federates }
         ensures first { result ≡ slice_get (federate_record_at self.now.federate_records federate).transit 0 }
         ensures least { (tag : LogicalTime)
             → least_with tag (federate_record_at self.now.federate_records federate).transit ≡ lesser_with tag result }
@@ -130,8 +130,8 @@ impl Table {
 
     /// Whether a federate gets a grant.
     pub fn eligible(&self, federate: usize) -> bool
-        requires { federate < self.now.wires.federates }
-        ensures paths { IsTrue result ↔ Eligible (network_by self.now.wires)
+        requires { federate < self.now.wiring.federates }
+        ensures paths { IsTrue result ↔ IsEligible (network_by self.now.wiring)
             (federate_record_at self.now.federate_records) federate }
         ensures table { result ≡ is_eligible_in self.now federate }
     {
@@ -142,7 +142,7 @@ impl Table {
 
     /// Whether any federate gets a grant. It takes the same time however many there are.
     pub fn has_eligible(&self) -> bool
-        ensures { result ≡ false ↔ ((federate : ℕ) → federate < self.now.wires.federates
+        ensures { result ≡ false ↔ ((federate : ℕ) → federate < self.now.wiring.federates
             → is_eligible_in self.now federate ≡ false) }
     {
         self.affected.has_eligible()
@@ -151,11 +151,11 @@ impl Table {
     /// How far an eligible federate may be granted: the last tag before anything can still arrive at it, or stop if
     /// that is earlier.
     pub fn grant(&self, federate: usize) -> FiniteTag
-        requires federate { federate < self.now.wires.federates }
+        requires federate { federate < self.now.wiring.federates }
         requires eligible { IsTrue (is_eligible_in self.now federate) }
-        ensures widest { IsWidest (network_by self.now.wires) (federate_record_at self.now.federate_records)
+        ensures widest { IsWidest (network_by self.now.wiring) (federate_record_at self.now.federate_records)
             federate result }
-        ensures rule { grant_widest (network_by self.now.wires) (least_by self.now.wires)
+        ensures rule { grant_widest (network_by self.now.wiring) (least_by self.now.wiring)
             (federate_record_at self.now.federate_records) federate ≡ Some result }
     {
         // For the prover: the least delays are least over all paths.
@@ -169,25 +169,25 @@ impl Table {
     /// The federates that a change of this one's next tag may make eligible, in order: itself, and each that a path
     /// leads to from it.
     pub fn affected_by(&self, federate: usize) -> &[usize]
-        requires { federate < self.now.wires.federates }
-        ensures { result.now ≡ looked_at self.now.wires federate }
+        requires { federate < self.now.wiring.federates }
+        ensures { result.now ≡ affected_by self.now.wiring federate }
     {
-        self.wiring.looked_at(federate)
+        self.wiring.affected_by(federate)
     }
 
     /// Sets a federate's next tag. It looks at that federate, and at each that a path leads to from it.
     pub fn set_next(&mut self, federate: usize, next: Tag)
-        requires { federate < self.old.wires.federates }
+        requires { federate < self.old.wiring.federates }
         ensures value { self.new ≡ with_looks (changed_at self.old federate (λ s. record s { next = next }))
             self.new.looks }
-        ensures few_looks { self.new.looks ≤ self.old.looks + 1 + reached_from self.old.wires federate }
+        ensures few_looks { self.new.looks ≤ self.old.looks + 1 + reached_from self.old.wiring federate }
         ensures looks { counted self.old.looks (changed_between self.old self.new) ≤ self.new.looks }
     {
         // For the prover: the least delays are least over all paths.
         self.wiring.invariant();
         let federate_record = &mut self.federate_records[federate];
         federate_record.set_next(next);
-        let federates = self.wiring.looked_at(federate);
+        let federates = self.wiring.affected_by(federate);
         self.affected
             .look_at_each(&self.wiring, self.federate_records.as_slice(), federates);
     }
@@ -195,10 +195,10 @@ impl Table {
     /// Sets the tag of a federate's last LTC. It looks at each federate that a connection leads to from it: what it
     /// completed bears on nobody else.
     pub fn set_completed(&mut self, federate: usize, completed: Option<FiniteTag>)
-        requires { federate < self.old.wires.federates }
+        requires { federate < self.old.wiring.federates }
         ensures value { self.new ≡ with_looks (changed_at self.old federate (λ s. record s { completed = completed }))
             self.new.looks }
-        ensures few_looks { self.new.looks ≤ self.old.looks + length (connected_to self.old.wires federate) }
+        ensures few_looks { self.new.looks ≤ self.old.looks + length (connected_to self.old.wiring federate) }
         ensures looks { counted self.old.looks (changed_between self.old self.new) ≤ self.new.looks }
     {
         // For the prover: the least delays are least over all paths.
@@ -212,7 +212,7 @@ impl Table {
 
     /// Sets whether a NET of a federate came. It looks at that federate alone.
     pub fn set_announced(&mut self, federate: usize, announced: bool)
-        requires { federate < self.old.wires.federates }
+        requires { federate < self.old.wiring.federates }
         ensures value { self.new ≡ with_looks (changed_at self.old federate (λ s. record s { announced = announced }))
             self.new.looks }
         ensures few_looks { self.new.looks ≤ self.old.looks + 1 }
@@ -228,7 +228,7 @@ impl Table {
 
     /// Sets the last TAG to a federate. It looks at that federate alone.
     pub fn set_granted(&mut self, federate: usize, granted: Option<FiniteTag>)
-        requires { federate < self.old.wires.federates }
+        requires { federate < self.old.wiring.federates }
         ensures value { self.new ≡ with_looks (changed_at self.old federate (λ s. record s { granted = granted }))
             self.new.looks }
         ensures few_looks { self.new.looks ≤ self.old.looks + 1 }
@@ -244,7 +244,7 @@ impl Table {
 
     /// A message with this tag is on its way to a federate. It looks at nobody.
     pub fn add_transit(&mut self, federate: usize, tag: FiniteTag) -> Result<(), Memory>
-        requires { federate < self.old.wires.federates }
+        requires { federate < self.old.wiring.federates }
         ensures ok { OnOk result (self.new
             ≡ changed_at self.old federate (λ s. record s { transit = with_tag tag s.transit })) }
         ensures err { OnErr result (self.new ≡ self.old) }
@@ -257,7 +257,7 @@ impl Table {
 
     /// No message up to this tag is on its way to a federate. It looks at nobody.
     pub fn drop_transit(&mut self, federate: usize, completed: FiniteTag)
-        requires { federate < self.old.wires.federates }
+        requires { federate < self.old.wiring.federates }
         ensures { self.new ≡ changed_at self.old federate
             (λ s. record s { transit = filter (λ t. is_before completed t) s.transit }) }
     {
@@ -268,7 +268,7 @@ impl Table {
     }
 }
 
-/// This many records, before any signal came.
+// This many records, before any signal came.
 fn initial_federate_records(alloc: Global, count: usize) -> Result<Vec<FederateRecord>, Memory>
     ensures { IfOk result (λ federate_records. federate_records.items
         ≡ federate_records_listed count (λ j. initial_federate_record)) }
@@ -280,7 +280,7 @@ fn initial_federate_records(alloc: Global, count: usize) -> Result<Vec<FederateR
     Ok(federate_records)
 }
 
-/// The last tag before this one, which isn't the first, or stop if that is earlier.
+// The last tag before this one, which isn't the first, or stop if that is earlier.
 fn last_before(bound: Tag, stop: FiniteTag) -> FiniteTag
     requires { IsTrue (is_before origin bound) }
     ensures { result ≡ lesser (predecessor_of bound) stop }

@@ -3,8 +3,8 @@ ghost use Rattle.plan.specs.Federation.{federate_count, connections_of};
 ghost use Rattle.tag.specs.LogicalTime.{is_before};
 ghost use Rattle.protocol.specs.Grant.{bound_of, is_eligible};
 ghost use Rattle.protocol.specs.FederateRecords.{federate_record_at};
-ghost use Rattle.grants.specs.Wires.{AreWires, least_by, network_by, wires_of};
-ghost use Rattle.grants.specs.Routes.{connected_to, looked_at, routed_below};
+ghost use Rattle.grants.specs.Wiring.{IsWiring, least_by, network_by, federation_wiring};
+ghost use Rattle.grants.specs.Routes.{connected_to, affected_by, routed_below};
 
 use crate::bounds::{first_incoming, first_upstream, passes_incoming, passes_upstream};
 use crate::federate_record::FederateRecord;
@@ -27,10 +27,10 @@ pub struct Wiring {
 
 impl Model for Wiring {
     ghost use Rattle.std.specs.Prelude.{◌≡◌, length};
-    ghost use Rattle.grants.specs.Wires.{Wires, AreWires};
+    ghost use Rattle.grants.specs.Wiring.{Wiring as WiringOf, IsWiring};
     ghost use Rattle.grants.specs.Routes.{routed_below};
 
-    ghost Value = { Wires };
+    ghost Value = { WiringOf };
 
     ghost view = { λ w. record {
       federates = length w.routes.items;
@@ -38,7 +38,7 @@ impl Model for Wiring {
       stop = w.stop;
     } };
 
-    ghost invariant = { λ w. AreWires
+    ghost invariant = { λ w. IsWiring
         (record { federates = length w.routes.items; connections = w.connections.items; stop = w.stop })
         × (w.routes.items ≡ routed_below (record {
           federates = length w.routes.items;
@@ -49,7 +49,7 @@ impl Model for Wiring {
 
 impl Wiring {
     pub fn new(alloc: Global, plan: &Plan) -> Result<Wiring, Memory>
-        ensures { IfOk result (λ wiring. wiring ≡ wires_of plan.now) }
+        ensures { IfOk result (λ wiring. wiring ≡ federation_wiring plan.now) }
     {
         plan.invariant();
         let connections = copied(alloc, plan.connections())?;
@@ -64,7 +64,7 @@ impl Wiring {
 
     /// What every wiring keeps.
     pub fn invariant(&self)
-        ensures { AreWires self.now }
+        ensures { IsWiring self.now }
     {
         let _ = &self.stop;
     }
@@ -83,11 +83,11 @@ impl Wiring {
     }
 
     /// The federates that a change of this one's next tag may make eligible.
-    pub fn looked_at(&self, federate: usize) -> &[usize]
+    pub fn affected_by(&self, federate: usize) -> &[usize]
         requires { federate < self.now.federates }
-        ensures { result.now ≡ looked_at self.now federate }
+        ensures { result.now ≡ affected_by self.now federate }
     {
-        self.routes[federate].downstream()
+        self.routes[federate].affected()
     }
 
     /// The federates to which a connection leads from this one.
@@ -139,7 +139,7 @@ impl Wiring {
     }
 }
 
-/// The same connections.
+// The same connections.
 fn copied(alloc: Global, connections: &[Connection]) -> Result<Vec<Connection>, Memory>
     ensures { IfOk result (λ copy. copy.items ≡ connections.now) }
 {
@@ -148,9 +148,10 @@ fn copied(alloc: Global, connections: &[Connection]) -> Result<Vec<Connection>, 
     Ok(copy)
 }
 
-/// The routes of each federate.
+// The routes of each federate.
 fn routes_of(alloc: Global, plan: &Plan) -> Result<Vec<Routes>, Memory>
-    ensures { IfOk result (λ routes. routes.items ≡ routed_below (wires_of plan.now) (federate_count plan.now)) }
+    ensures { IfOk result
+        (λ routes. routes.items ≡ routed_below (federation_wiring plan.now) (federate_count plan.now)) }
 {
     let mut routes = Vec::new(alloc);
     for federate in 0..plan.federate_count() {

@@ -1,4 +1,4 @@
--- The numbers and names of the refusals.
+-- The numbers and names of the faults.
 pub mod Fault
 -- Whose a frame is, and what an open end answers to it.
 pub mod Answer

@@ -11,7 +11,7 @@ use std::alloc::Global;
 use std::collections::VecDeque;
 use std::marker::Model;
 
-/// One end of the link of a federate in an incarnation. After a refusal it is as it was.
+/// One end of the link of a federate in an incarnation. After a fault it is as it was.
 #[derive(Drop)]
 pub struct LinkEnd {
     federate: u16,

@@ -7,7 +7,7 @@ use Rattle.signal.specs.declared.frame.Frame.TheVariants.{Hello, Data, Ack, Refu
 use Rattle.link.specs.declared.arrival.Arrival.TheVariants as arrival
 use Rattle.link.specs.declared.fault.LinkFault.{LinkFault}
 use Rattle.link.specs.Image.{last_number, answer_of}
-use Rattle.link_laws.specs.Way.{offered_in}
+use Rattle.link_laws.specs.Direction.{offered_in}
 use Rattle.link_laws.specs.Link.{Side, says, side_after, replaced, Act, Link, At, First, Second, Forgets, after_acts, initial_link, IsTakenInOrder, TellsNothingUnsent}
 use Rattle.link_laws.proofs.Carried.{IsLinked, linked_back}
 use Rattle.link_laws.proofs.Taken.{at_place, act_keeps, fresh_is_linked, in_order, told_offered, signal_offered, refuse_offered, own_hello, tells_nothing}

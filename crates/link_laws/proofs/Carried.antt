@@ -8,7 +8,7 @@ use Rattle.signal.specs.declared.frame.Frame.{Frame}
 use Rattle.signal.specs.declared.frame.Frame.TheVariants.{Hello, Data, Ack, Refuse}
 use Rattle.signal.specs.Batch.{numbered}
 use Rattle.link.specs.Image.{Image, last_number, acknowledge, after_frame, after_close, ack_of, hello_by, hello_of, resent_by}
-use Rattle.link_laws.specs.Way.{offered_in, IsGenuine}
+use Rattle.link_laws.specs.Direction.{offered_in, IsGenuine}
 use Rattle.link_laws.specs.Link.{Side, says, offers, notes, takes, greeting}
 use Rattle.link_laws.proofs.Places.{get_below, take_more, take_next, drop_twice, length_of_rest}
 use Rattle.link_laws.proofs.Ways.{AreOld, AreGenuine, offers_more, offers_same, way_offers, way_repeats, resent_genuine, resent_old}

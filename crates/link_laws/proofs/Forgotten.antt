@@ -14,8 +14,9 @@ use Rattle.link.specs.declared.arrival.Arrival.TheVariants as arrival
 use Rattle.link.specs.declared.fault.LinkFault.{LinkFault}
 use Rattle.signal.specs.Batch.{numbered}
 use Rattle.link.specs.Image.{Image, last_number, answer_of, after_frame, ack_of, hello_by, resent_by}
-use Rattle.link_laws.specs.Way.{offered_in, is_old, IsGenuine}
-use Rattle.link_laws.specs.Link.{Side, says, lets_in, hears, gets, greeting, side_after, Gets, Offers, Resends, Greets, Closes, TurnsAway, Act, replaced}
+use Rattle.link_laws.specs.Direction.{offered_in, is_old, IsGenuine}
+use Rattle.link_laws.specs.Link.{Side, says, admits, hears, gets, greeting, side_after, Gets, Offers, Resends, Greets}
+use Rattle.link_laws.specs.Link.{Closes, TurnsAway, Act, replaced}
 use Rattle.link_laws.proofs.Ways.{AreOld, AreGenuine}
 use Rattle.link_laws.proofs.Carried.{IsLinked, linked_back, linked_says}
 use Rattle.link_laws.proofs.Taken.{at_place}
@@ -52,7 +53,7 @@ resent_of : (i k n : ℕ) (signals : List Signal) (b : Bool) → k ≡ i → Are
 resent_of i k n signals true e = tt
 resent_of i k n signals false e = numbered_of i k n signals e
 
-lets_of : (i : ℕ) (s : Side) (frame : Frame) (arrived : Arrival) (is_taken : Bool) → s.end.incarnation ≡ i → AreOf i s.sent → AreOf i (lets_in is_taken s frame arrived).sent
+lets_of : (i : ℕ) (s : Side) (frame : Frame) (arrived : Arrival) (is_taken : Bool) → s.end.incarnation ≡ i → AreOf i s.sent → AreOf i (admits is_taken s frame arrived).sent
 lets_of i s (Data k n signal) arrival.Signal true e h = sends_of i s.sent (ack_of (after_frame s.end (Data k n signal)) ∷ []) h (e, tt)
 lets_of i s (Data k n signal) arrival.Signal false e h = h
 lets_of i s (Data k n signal) arrival.Repeated true e h = sends_of i s.sent (ack_of s.end ∷ []) h (e, tt)

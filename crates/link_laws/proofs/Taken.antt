@@ -12,7 +12,7 @@ use Rattle.link.specs.declared.arrival.Arrival.{Arrival}
 use Rattle.link.specs.declared.arrival.Arrival.TheVariants as arrival
 use Rattle.link.specs.declared.fault.LinkFault.{LinkFault}
 use Rattle.link.specs.Image.{last_number, answer_of, blank, after_close}
-use Rattle.link_laws.specs.Way.{offered_in, IsGenuine}
+use Rattle.link_laws.specs.Direction.{offered_in, IsGenuine}
 use Rattle.link_laws.specs.Link.{Side, notes, hears, gets, side_after, Gets, Offers, Resends, Greets, Closes, TurnsAway, Act, fresh, IsTakenInOrder, TellsNothingUnsent}
 use Rattle.link_laws.proofs.Places.{length_of_rest}
 use Rattle.link_laws.proofs.Carried.{IsLinked, linked_says, linked_offers, linked_acknowledges, linked_closes, linked_takes, linked_repeats, linked_resends, linked_greets}

@@ -9,7 +9,7 @@ use Rattle.signal.specs.declared.signal.Signal.{Signal}
 use Rattle.signal.specs.declared.frame.Frame.{Frame}
 use Rattle.signal.specs.declared.frame.Frame.TheVariants.{Hello, Data, Ack, Refuse}
 use Rattle.signal.specs.Batch.{numbered}
-use Rattle.link_laws.specs.Way.{with_offered, offered_with, offered_in, is_old, IsGenuine, IsWay}
+use Rattle.link_laws.specs.Direction.{with_offered, offered_with, offered_in, is_old, IsGenuine, IsGenuineDirection}
 use Rattle.link_laws.proofs.Places.{get_seam, get_more, length_of_rest}
 
 pub offered-append : (i : ℕ) (offered : List Signal) (xs ys : List Frame) → offered_with i offered (xs ++ ys) ≡ offered_with i (offered_with i offered xs) ys
@@ -112,14 +112,14 @@ pub resent_old : (i k : ℕ) (offered : List Signal) → k ≤ length offered �
 resent_old i k offered l = let size = length_of_rest k offered l in numbered_old i (k + 1) (length offered) (drop k offered) (omega arith)
 
 -- the same of all frames by their places
-pub way_with_more : (i most more : ℕ) (frames : List Frame) (signals : List Signal) → most ≤ more → IsWay i most frames → IsWay i more (frames ++ numbered i (length (offered_in i frames) + 1) signals)
+pub way_with_more : (i most more : ℕ) (frames : List Frame) (signals : List Signal) → most ≤ more → IsGenuineDirection i most frames → IsGenuineDirection i more (frames ++ numbered i (length (offered_in i frames) + 1) signals)
 way_with_more i most more frames signals l w =
     let sent = numbered i (length (offered_in i frames) + 1) signals in
     let P : List Signal → Type 0 = λ x. All (IsGenuine i x more) (frames ++ sent) in
     subst P (sym (offers_more i frames signals))
     (from_each (IsGenuine i (offered_in i frames ++ signals) more) (frames ++ sent) (way_offers i most more frames signals l (each (IsGenuine i (offered_in i frames) most) frames w)))
 
-pub way_with_old : (i most more : ℕ) (frames others : List Frame) → most ≤ more → IsWay i most frames → All (λ f. IsTrue (is_old i (length (offered_in i frames)) f)) others → All (IsGenuine i (offered_in i frames) more) others → IsWay i more (frames ++ others)
+pub way_with_old : (i most more : ℕ) (frames others : List Frame) → most ≤ more → IsGenuineDirection i most frames → All (λ f. IsTrue (is_old i (length (offered_in i frames)) f)) others → All (IsGenuine i (offered_in i frames) more) others → IsGenuineDirection i more (frames ++ others)
 way_with_old i most more frames others l w old genuine =
     let P : List Signal → Type 0 = λ x. All (IsGenuine i x more) (frames ++ others) in
     subst P (sym (offers_same i frames others (each (λ f. IsTrue (is_old i (length (offered_in i frames)) f)) others old)))

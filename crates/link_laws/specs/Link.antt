@@ -9,7 +9,7 @@ use Rattle.link.specs.declared.arrival.Arrival.{Arrival}
 use Rattle.link.specs.declared.arrival.Arrival.TheVariants as arrival
 use Rattle.link.specs.declared.fault.LinkFault.{LinkFault}
 use Rattle.signal.specs.Batch.{numbered}
-use Rattle.link_laws.specs.Way.{offered_in}
+use Rattle.link_laws.specs.Direction.{offered_in}
 use Rattle.link.specs.Image.{Image, blank, last_number, answer_of, after_frame, after_close, ack_of, hello_of}
 use Rattle.link.specs.Image.{resent_by}
 
@@ -49,17 +49,17 @@ takes s frame signal =
 
 -- a side after a frame that its end doesn't refuse. A signal in its turn goes to the node, and is taken or isn't; a
 -- repeated one is acknowledged again; a greeting is answered by all that is kept
-abbrev pub lets_in : (is_taken : Bool) → Side → Frame → Arrival → Side
-lets_in true s (Data i n signal) arrival.Signal = takes s (Data i n signal) signal
-lets_in false s (Data i n signal) arrival.Signal = s
-lets_in is_taken s (Data i n signal) other = says (notes s (Data i n signal)) (ack_of s.end ∷ [])
-lets_in is_taken s (Hello hello) other = says (notes s (Hello hello)) (resent_by (after_frame s.end (Hello hello)))
-lets_in is_taken s (Ack i n) other = notes s (Ack i n)
-lets_in is_taken s (Refuse i n) other = notes s (Refuse i n)
+abbrev pub admits : (is_taken : Bool) → Side → Frame → Arrival → Side
+admits true s (Data i n signal) arrival.Signal = takes s (Data i n signal) signal
+admits false s (Data i n signal) arrival.Signal = s
+admits is_taken s (Data i n signal) other = says (notes s (Data i n signal)) (ack_of s.end ∷ [])
+admits is_taken s (Hello hello) other = says (notes s (Hello hello)) (resent_by (after_frame s.end (Hello hello)))
+admits is_taken s (Ack i n) other = notes s (Ack i n)
+admits is_taken s (Refuse i n) other = notes s (Refuse i n)
 
 -- by what the end answers
 abbrev pub hears : (is_taken : Bool) → Side → Frame → Result Arrival LinkFault → Side
-hears is_taken s frame (Ok arrived) = lets_in is_taken s frame arrived
+hears is_taken s frame (Ok arrived) = admits is_taken s frame arrived
 hears is_taken s frame (Err fault) = s
 
 -- a frame comes, if there is one

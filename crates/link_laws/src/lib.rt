@@ -11,7 +11,7 @@ ghost use Rattle.signal.specs.declared.frame.Frame.{Frame};
 ghost use Rattle.signal.specs.declared.frame.Frame.TheVariants.{Data};
 ghost use Rattle.signal.specs.Batch.{numbered};
 ghost use Rattle.link.specs.Image.{after_offer, last_number};
-ghost use Rattle.link_laws.specs.Way.{offered_in, is_old, IsGenuine, IsWay};
+ghost use Rattle.link_laws.specs.Direction.{offered_in, is_old, IsGenuine, IsGenuineDirection};
 ghost use Rattle.link_laws.specs.Link.{Side, offers, At, initial_link, after_acts, IsTakenInOrder, TellsNothingUnsent};
 
 /// What a direction offered: signals that are sent under the next numbers are offered after all others; old frames, as
@@ -31,13 +31,14 @@ pub fn a_direction_offers()
 /// The frames of a direction stay what they say: as signals are offered, as they are sent again, and as more is told.
 pub fn a_direction_says_what_it_offered()
     ensures more { (incarnation most more : ℕ) (frames : List Frame) (signals : List Signal) → most ≤ more
-        → IsWay incarnation most frames →
-        IsWay incarnation more (frames ++ numbered incarnation (length (offered_in incarnation frames) + 1) signals) }
+        → IsGenuineDirection incarnation most frames →
+        IsGenuineDirection incarnation more
+        (frames ++ numbered incarnation (length (offered_in incarnation frames) + 1) signals) }
     ensures old { (incarnation most more : ℕ) (frames others : List Frame) → most ≤ more
-        → IsWay incarnation most frames →
+        → IsGenuineDirection incarnation most frames →
         All (λ f. IsTrue (is_old incarnation (length (offered_in incarnation frames)) f)) others →
         All (IsGenuine incarnation (offered_in incarnation frames) more) others
-        → IsWay incarnation more (frames ++ others) }
+        → IsGenuineDirection incarnation more (frames ++ others) }
     ensures resent { (incarnation acknowledged most : ℕ) (offered : List Signal) → acknowledged ≤ length offered →
         All (IsGenuine incarnation offered most) (numbered incarnation (acknowledged + 1) (drop acknowledged offered)) }
 {}

@@ -1,4 +1,4 @@
--- An input file says one list of inputs, and what it says meets no refusal.
+-- An input file says one list of inputs, and what it says meets no fault.
 use Rattle.std.specs.Prelude.{◌≤◌, length, AllPairs, IfOk, IfErr}
 use Rattle.std.proofs.Common.{Result, Ok, Err, ◌≡◌, ◌⊎◌, inl, inr, ℕ, ℤ, List, codes, ap, ◌∙◌, refl, sym, subst, arith}
 use Rattle.toml.specs.Data.{Members}
@@ -7,7 +7,7 @@ use Rattle.plan.specs.declared.input.Input.{Input}
 use Rattle.plan.specs.declared.input.TheConstants.{MOST_INPUTS}
 use Rattle.plan.specs.declared.input_fault.InputFault.{InputFault}
 use Rattle.plan.specs.declared.input_fault.InputFault.TheVariants as input_fault
-use Rattle.plan.specs.External.{AreApart, AreInputsOf}
+use Rattle.plan.specs.External.{AreForDifferentActions, AreInputsOf}
 use Rattle.loadfed_tables.specs.declared.fault.TableFault.{TableFault}
 use Rattle.loadfed_tables.specs.declared.fault.TableFault.TheVariants as table_fault
 use Rattle.loadfed.specs.declared.fault.LoadFault.{LoadFault}
@@ -77,8 +77,8 @@ inputs_accepted d bytes (Err fault) h is file all = only_memory d bytes is fault
 
 -- a fault of recorded inputs, which isn't want of memory, stands against them
 pub inputs_told : (d : Draft) (is : List Input) (reason : InputFault) → (reason ≡ input_fault.UnknownAction → ¬ (AreKnown d is))
-    → (reason ≡ input_fault.RepeatedInput → AreKnown d is × ¬ (AllPairs AreApart is))
-    → (reason ≡ input_fault.OverLimit → AreKnown d is × AllPairs AreApart is × ¬ (length is ≤ MOST_INPUTS))
+    → (reason ≡ input_fault.RepeatedInput → AreKnown d is × ¬ (AllPairs AreForDifferentActions is))
+    → (reason ≡ input_fault.OverLimit → AreKnown d is × AllPairs AreForDifferentActions is × ¬ (length is ≤ MOST_INPUTS))
     → (fault_of_inputs reason ≡ Memory) ⊎ IsFaultOfInputs d is (fault_of_inputs reason)
 inputs_told d is input_fault.UnknownAction unknown repeated over = inr (unknown_action refl (unknown refl))
 inputs_told d is input_fault.RepeatedInput unknown repeated over = let h = repeated refl in inr (repeated_input refl h.0 h.1)

@@ -9,7 +9,7 @@ pub mod NoFault
 -- arrays of tables, and the parts of a federation
 pub mod TableReadings
 pub mod ShapeReadings
--- a file is one federation at most, which meets no refusal
+-- a file is one federation at most, which meets no fault
 pub mod Accepted
 -- how faults of the plan and of programs are printed
 pub mod Planned

@@ -4,7 +4,7 @@ use Rattle.std.specs.Prelude.{MatchResult}
 use Rattle.toml.specs.Data.{Members}
 use Rattle.plan.specs.declared.draft.Draft.{Draft}
 use Rattle.plan.specs.declared.input.Input.{Input}
-use Rattle.plan.specs.External.{found_action, AreApart, AreInputsOf}
+use Rattle.plan.specs.External.{found_action, AreForDifferentActions, AreInputsOf}
 use Rattle.plan.specs.declared.input.TheConstants.{MOST_INPUTS}
 use Rattle.loadfed_tables.specs.declared.fault.TableFault.{TableFault}
 use Rattle.loadfed.specs.declared.fault.LoadFault.{LoadFault}
@@ -69,10 +69,11 @@ pub data IsFaultOfInputs (d : Draft) (inputs : List Input) (fault : LoadFault) :
   -- an input is for an action that isn't there
   unknown_action : fault ≡ UnknownAction → ¬ (AreKnown d inputs) → IsFaultOfInputs d inputs fault
   -- one action has two inputs at one tag
-  repeated_input : fault ≡ RepeatedInput → AreKnown d inputs → ¬ (AllPairs AreApart inputs)
+  repeated_input : fault ≡ RepeatedInput → AreKnown d inputs → ¬ (AllPairs AreForDifferentActions inputs)
       → IsFaultOfInputs d inputs fault
   -- there are more inputs than there may be
-  too_many : fault ≡ OverLimit → AreKnown d inputs → AllPairs AreApart inputs → ¬ (length inputs ≤ MOST_INPUTS)
+  too_many : fault ≡ OverLimit → AreKnown d inputs → AllPairs AreForDifferentActions inputs
+      → ¬ (length inputs ≤ MOST_INPUTS)
       → IsFaultOfInputs d inputs fault
 
 -- the recorded inputs aren't inputs of the federation

@@ -1,5 +1,5 @@
 -- What the two files of a federation say.
--- refusals: their numbers and texts
+-- faults: their numbers and texts
 pub mod Numbers
 -- what faults of the crates below are as faults of files
 pub mod Errors

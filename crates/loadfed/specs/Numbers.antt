@@ -1,4 +1,4 @@
--- The refusals: their numbers, and how they are printed.
+-- The faults: their numbers, and how they are printed.
 use Rattle.std.specs.Prelude.{ℕ, List, ◌++◌, codes}
 use Rattle.std.specs.Fmt.{decimal}
 use Rattle.plan.specs.declared.input_fault.InputFault.TheVariants as input_fault
@@ -9,7 +9,7 @@ use Rattle.loadfed.specs.declared.fault.LoadFault.{LoadFault}
 use Rattle.loadfed.specs.declared.fault.LoadFault.TheVariants.{NotToml, WrongShape, Plan, Program, UnknownAction}
 use Rattle.loadfed.specs.declared.fault.LoadFault.TheVariants.{RepeatedInput, OverLimit, Memory}
 
--- the refusal's number; those of recorded inputs are `plan`'s
+-- the fault's number; those of recorded inputs are `plan`'s
 abbrev pub number_of : LoadFault → ℕ
 number_of NotToml = 30
 number_of (WrongShape key) = 31
@@ -20,7 +20,7 @@ number_of RepeatedInput = input_number_of input_fault.RepeatedInput
 number_of OverLimit = input_number_of input_fault.OverLimit
 number_of Memory = input_number_of input_fault.Memory
 
--- how the refusal is printed; of a plan or a program it is the inner fault
+-- how the fault is printed; of a plan or a program it is the inner fault
 abbrev pub printed_fault : LoadFault → List ℕ
 printed_fault NotToml = decimal (number_of NotToml) ++ codes " NotToml"
 printed_fault (WrongShape key) = decimal (number_of (WrongShape key)) ++ (codes " WrongShape " ++ key)

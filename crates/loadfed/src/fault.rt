@@ -33,7 +33,7 @@ pub enum LoadFault {
 }
 
 impl LoadFault {
-    /// The refusal's number.
+    /// The fault's number.
     pub fn number(&self) -> u16
         ensures { result ≡ number_of self.now }
     {

@@ -11,7 +11,7 @@ ghost use Rattle.loadfed.specs.Loaded.{IsLoading};
 use crate::errors::{of_plan, of_program};
 use crate::fault::LoadFault;
 use crate::federation_shape::{Shape, federation_shape};
-use crate::program_shape::ProgramShape;
+use crate::program_draft::ProgramDraft;
 use loadfed_tables::{Section, document};
 use plan::{Draft, Federate, Plan};
 use reactor_program::Program;
@@ -30,10 +30,10 @@ pub fn load(alloc: Global, bytes: &[u8]) -> Result<(Plan, Programs), LoadFault>
     ensures accepts { (d : Draft) (programs : List Behaviour) → IsFederationFile bytes.now d programs
         → IfErr result (λ fault. fault ≡ LoadFault.Memory) }
 {
-    staged(alloc, bytes)
+    load_stages(alloc, bytes)
 }
 
-fn staged(alloc: Global, bytes: &[u8]) -> Result<(Plan, Programs), LoadFault>
+fn load_stages(alloc: Global, bytes: &[u8]) -> Result<(Plan, Programs), LoadFault>
     ensures { IsLoading bytes.now result }
 {
     if bytes.len() > MOST_BYTES {
@@ -41,11 +41,11 @@ fn staged(alloc: Global, bytes: &[u8]) -> Result<(Plan, Programs), LoadFault>
     }
     let table = document(alloc, bytes)?;
     let shape = federation_shape(alloc, &Section::new(alloc, &table))?;
-    loaded(alloc, shape)
+    plan_and_programs(alloc, shape)
 }
 
-/// The plan of what a file declares, and its programs.
-fn loaded(alloc: Global, shape: Shape) -> Result<(Plan, Programs), LoadFault>
+// The plan of what a file declares, and its programs.
+fn plan_and_programs(alloc: Global, shape: Shape) -> Result<(Plan, Programs), LoadFault>
     requires { AreReady shape.draft.federates shape.programs.items }
     ensures plan { IfOk result (λ loaded. loaded.0 ≡ shape.draft) }
     ensures legal { OnOk result (IsLegal shape.draft) }
@@ -57,17 +57,17 @@ fn loaded(alloc: Global, shape: Shape) -> Result<(Plan, Programs), LoadFault>
         ⊎ (IsLegal shape.draft × IsFaultAmong shape.draft.federates shape.programs.items fault))) }
 {
     let Shape { draft, programs } = shape;
-    let plan = planned(alloc, draft)?;
+    let plan = plan_of(alloc, draft)?;
     // For the prover: the plan is legal.
     plan.invariant();
-    let programs = parsed(alloc, &plan, programs)?;
+    let programs = programs_of(alloc, &plan, programs)?;
     match Programs::new(&plan, programs) {
         Some(programs) => Ok((plan, programs)),
         None => unreachable!(),
     }
 }
 
-fn planned(alloc: Global, draft: Draft) -> Result<Plan, LoadFault>
+fn plan_of(alloc: Global, draft: Draft) -> Result<Plan, LoadFault>
     ensures ok { IfOk result (λ plan. plan ≡ draft) }
     ensures legal { OnOk result (IsLegal draft) }
     ensures refused { IfErr result (λ fault. (fault ≡ LoadFault.Memory) ⊎ IsPlanFault draft fault) }
@@ -78,8 +78,12 @@ fn planned(alloc: Global, draft: Draft) -> Result<Plan, LoadFault>
     }
 }
 
-/// The program of each federate, in their order.
-fn parsed(alloc: Global, plan: &Plan, shapes: Vec<ProgramShape>) -> Result<Vec<Program>, LoadFault>
+// The program of each federate, in their order.
+fn programs_of(
+    alloc: Global,
+    plan: &Plan,
+    shapes: Vec<ProgramDraft>,
+) -> Result<Vec<Program>, LoadFault>
     requires { AreReady plan.now.federates shapes.items }
     ensures ok { IfOk result (λ programs. SpellPrograms plan.now.federates shapes.items programs.items) }
     ensures refused { IfErr result
@@ -102,7 +106,7 @@ fn parsed(alloc: Global, plan: &Plan, shapes: Vec<ProgramShape>) -> Result<Vec<P
     Ok(programs)
 }
 
-fn program(alloc: Global, federate: &Federate, shape: ProgramShape) -> Result<Program, LoadFault>
+fn program(alloc: Global, federate: &Federate, shape: ProgramDraft) -> Result<Program, LoadFault>
     requires { IsReadable federate.now.slots shape.states shape.reactions }
     ensures ok { IfOk result (SpellsProgram federate.now.slots shape.states shape.reactions) }
     ensures refused { IfErr result (λ fault. (fault ≡ LoadFault.Memory) ⊎ IsProgramFault federate.now shape fault) }

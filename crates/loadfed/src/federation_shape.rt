@@ -6,7 +6,7 @@ ghost use Rattle.loadfed.specs.ShapeFaults.{HasFederateFault, HasTablesFault, Ha
 
 use crate::arrays::{FromTable, read_each};
 use crate::connection_shape::connections_shape;
-use crate::program_shape::ProgramShape;
+use crate::program_draft::ProgramDraft;
 use crate::slots_shape::slots_shape;
 use loadfed_tables::{Section, TableFault};
 use plan::{Draft, Federate, Federates};
@@ -17,7 +17,7 @@ use std::alloc::Global;
 #[derive(Drop)]
 pub struct Shape {
     pub draft: Draft,
-    pub programs: Vec<ProgramShape>,
+    pub programs: Vec<ProgramDraft>,
 }
 
 /// The federation in a file's table.
@@ -37,11 +37,11 @@ pub fn federation_shape(alloc: Global, file: &Section<'_>) -> Result<Shape, Tabl
     Ok(Shape { draft, programs })
 }
 
-/// The federates in a file's table, and their programs.
+// The federates in a file's table, and their programs.
 fn federates(
     alloc: Global,
     file: &Section<'_>,
-) -> Result<(Federates, Vec<ProgramShape>), TableFault>
+) -> Result<(Federates, Vec<ProgramDraft>), TableFault>
     ensures ok { IfOk result (λ made. SaysFederates (members_of file.now) made.0 made.1.items) }
     ensures refused { IfErr result
         (λ fault. (fault ≡ TableFault.Memory)
@@ -51,11 +51,11 @@ fn federates(
     parted(alloc, shapes)
 }
 
-/// The federates, and their programs.
+// The federates, and their programs.
 fn parted(
     alloc: Global,
     shapes: Vec<FederateShape>,
-) -> Result<(Federates, Vec<ProgramShape>), TableFault>
+) -> Result<(Federates, Vec<ProgramDraft>), TableFault>
     ensures ok { IfOk result (λ made. (made.0 ≡ map (λ shape. shape.federate) shapes.items)
         × (made.1.items ≡ map (λ shape. shape.program) shapes.items)) }
     ensures refused { IfErr result (λ fault. fault ≡ TableFault.Memory) }
@@ -73,7 +73,7 @@ fn parted(
 #[derive(Drop)]
 struct FederateShape {
     federate: Federate,
-    program: ProgramShape,
+    program: ProgramDraft,
 }
 
 impl FromTable for FederateShape {
@@ -86,7 +86,7 @@ impl FromTable for FederateShape {
             "name", "inputs", "outputs", "actions", "physical", "timers", "state", "reaction",
         ])?;
         let name = federate_name(alloc, table)?;
-        let program = ProgramShape::read(alloc, table)?;
+        let program = ProgramDraft::read(alloc, table)?;
         let slots = slots_shape(alloc, table, program.reactions())?;
         Ok(FederateShape {
             federate: Federate { name, slots },
@@ -95,7 +95,7 @@ impl FromTable for FederateShape {
     }
 }
 
-/// A federate's name, which isn't that of the coordinator.
+// A federate's name, which isn't that of the coordinator.
 fn federate_name(alloc: Global, section: &Section<'_>) -> Result<Text, TableFault>
     ensures ok { IfOk result (SaysFederateName (members_of section.now)) }
     ensures refused { IfErr result

@@ -12,7 +12,7 @@ pub mod fault;
 pub mod federation;
 mod federation_shape;
 pub mod laws;
-mod program_shape;
+mod program_draft;
 pub mod recorded;
 mod slots_shape;
 

@@ -25,10 +25,10 @@ pub fn load_inputs(alloc: Global, bytes: &[u8], plan: &Plan) -> Result<Inputs, L
     ensures accepts { (inputs : List Input) → SaysInputFile bytes.now inputs → AreInputsOf plan.now inputs
         → IfErr result (λ fault. fault ≡ LoadFault.Memory) }
 {
-    staged(alloc, bytes, plan)
+    load_stages(alloc, bytes, plan)
 }
 
-fn staged(alloc: Global, bytes: &[u8], plan: &Plan) -> Result<Inputs, LoadFault>
+fn load_stages(alloc: Global, bytes: &[u8], plan: &Plan) -> Result<Inputs, LoadFault>
     ensures { IsInputLoading plan.now bytes.now result }
 {
     if bytes.len() > MOST_INPUT_BYTES {
@@ -50,7 +50,7 @@ fn checked(alloc: Global, plan: &Plan, inputs: Vec<Input>) -> Result<Inputs, Loa
     }
 }
 
-/// The recorded inputs in a file's table.
+// The recorded inputs in a file's table.
 fn inputs_shape(alloc: Global, file: &Section<'_>) -> Result<Vec<Input>, TableFault>
     ensures ok { IfOk result (λ inputs. SaysInputs (members_of file.now) inputs.items) }
     ensures refused { IfErr result (λ fault. (fault ≡ TableFault.Memory) ⊎ HasInputsFault (members_of file.now) fault) }

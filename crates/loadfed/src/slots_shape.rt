@@ -35,7 +35,7 @@ pub fn slots_shape(
     })
 }
 
-/// Whether one of these reactions is triggered by startup.
+// Whether one of these reactions is triggered by startup.
 fn want_startup(reactions: &[ReactionDraft]) -> bool
     ensures { result ≡ wants_startup reactions.now }
 {

@@ -57,7 +57,7 @@ impl<'a> Section<'a> {
         Ok(())
     }
 
-    /// The value at a key, if there is one.
+    // The value at a key, if there is one.
     fn value(&self, key: &str) -> Option<&'a Value>
         ensures { option_map (λ value. view value.now) result ≡ get_member key.now (members_of self.now) }
     {
@@ -258,7 +258,7 @@ impl<'a> Section<'a> {
         Ok(Names::new(texts))
     }
 
-    /// The text that a value is, of an array of texts at this key.
+    // The text that a value is, of an array of texts at this key.
     fn entry_text(&self, key: &str, value: &'a Value) -> Result<&'a str, TableFault>
         ensures ok { IfOk result (λ text. view value.now ≡ string text.now) }
         ensures refused { IfErr result

@@ -1,11 +1,11 @@
--- What walks add to a tag or a delay, and walks without any delay.
+-- What walks add to a tag or a delay, and zero-delay walks.
 use Rattle.std.proofs.Common.{◌≡◌, ℕ, ◌^◌, ◌<◌, List, [], ◌∷◌, ◌++◌, length, IsTrue, refl, ap, ◌∙◌, arith}
 use Rattle.std.specs.Prelude.{All, Contains}
 use Rattle.std.proofs.lemmas.Bool.Decides.{nat_tests}
 use Rattle.std.proofs.lemmas.List.{length-map}
 use Rattle.std.proofs.lemmas.List.Elements.{All-nil, All-cons}
 use Rattle.tag.specs.LogicalTime.{LogicalTime, IsLogicalTime, origin, is_at_most, sum_of}
-use Rattle.tag.specs.Total.{IsPlainDelay}
+use Rattle.tag.specs.Total.{IsConnectionDelay}
 use Rattle.tag.proofs.Order.{at_most_reflexive, at_most_transitive}
 use Rattle.tag.proofs.SumLaws.{sum_is_logical, sum_twice_at_least, sum_monotone_left}
 use Rattle.tag.proofs.Paths.{path_cut, plain_is_logical}
@@ -13,7 +13,7 @@ use Rattle.network.specs.Connection.{Connection, IsWalk, IsPath, delays_of, then
 
 -- all delays of these connections are permitted
 abbrev pub ArePlain : List Connection → Type 0
-ArePlain cs = (c : Connection) → Contains cs c → IsPlainDelay c.delay
+ArePlain cs = (c : Connection) → Contains cs c → IsConnectionDelay c.delay
 
 pub walk_of_path : (cs : List Connection) (i : ℕ) (path : List Connection) (j : ℕ) → IsPath cs i path j → IsWalk cs i path j
 walk_of_path cs i [] j is_path = absurd is_path
@@ -46,9 +46,9 @@ along_is_logical cs i [] j g plain walk p = p
 along_is_logical cs i (c ∷ rest) j g plain walk p =
     along_is_logical cs c.target rest j (sum_of g c.delay) plain walk.2 (sum_is_logical g c.delay p (plain_is_logical c.delay (plain c walk.0)))
 
-delays_along : (cs : List Connection) → ArePlain cs → (i : ℕ) (walk : List Connection) (j : ℕ) → IsWalk cs i walk j → All IsPlainDelay (delays_of walk)
-delays_along cs plain i [] j walk = All-nil IsPlainDelay
-delays_along cs plain i (c ∷ rest) j walk = All-cons IsPlainDelay c.delay (delays_of rest) (plain c walk.0) (delays_along cs plain c.target rest j walk.2)
+delays_along : (cs : List Connection) → ArePlain cs → (i : ℕ) (walk : List Connection) (j : ℕ) → IsWalk cs i walk j → All IsConnectionDelay (delays_of walk)
+delays_along cs plain i [] j walk = All-nil IsConnectionDelay
+delays_along cs plain i (c ∷ rest) j walk = All-cons IsConnectionDelay c.delay (delays_of rest) (plain c walk.0) (delays_along cs plain c.target rest j walk.2)
 
 -- a connection before a short path
 pub total-cons : (cs : List Connection) → ArePlain cs → (c : Connection) → Contains cs c → (path : List Connection) (j : ℕ) → IsPath cs c.target path j
@@ -57,12 +57,12 @@ total-cons cs plain c contained path j is_path few =
     path_cut (c.delay ∷ []) (delays_of path) (delays_along cs plain c.source (c ∷ path) j (joined_path cs c contained path j is_path))
     (omega (arith, length-map path (λ (x : Connection). x.delay)))
 
--- ---- walks without any delay
+-- ---- zero-delay walks
 
 -- no connection of these has a delay
-abbrev pub AreImmediate : List Connection → Type 0
-AreImmediate [] = Unit {0}
-AreImmediate (c ∷ rest) = (c.delay ≡ origin) × AreImmediate rest
+abbrev pub AreZeroDelay : List Connection → Type 0
+AreZeroDelay [] = Unit {0}
+AreZeroDelay (c ∷ rest) = (c.delay ≡ origin) × AreZeroDelay rest
 
 time_of_sum : (a m b k : ℕ) → sum_of (record { time = a; microstep = m }) (record { time = b; microstep = k }) ≡ origin
     → (a ≡ 0) × (m ≡ 0) × (b ≡ 0) × (k ≡ 0)
@@ -79,21 +79,21 @@ sum_parts g d e =
     let parts : (g.time ≡ 0) × (g.microstep ≡ 0) × (d.time ≡ 0) × (d.microstep ≡ 0) = time_of_sum g.time g.microstep d.time d.microstep e in
     (ap (λ a. at_time a g.microstep) parts.0 ∙ ap (λ m. at_time 0 m) parts.1, ap (λ a. at_time a d.microstep) parts.2 ∙ ap (λ m. at_time 0 m) parts.3)
 
-along_parts : (g : LogicalTime) (rest : List Connection) → then_along g rest ≡ origin → (g ≡ origin) × AreImmediate rest
+along_parts : (g : LogicalTime) (rest : List Connection) → then_along g rest ≡ origin → (g ≡ origin) × AreZeroDelay rest
 along_parts g [] e = (e, tt)
 along_parts g (c ∷ rest) e =
-    let further : (sum_of g c.delay ≡ origin) × AreImmediate rest = along_parts (sum_of g c.delay) rest e in
+    let further : (sum_of g c.delay ≡ origin) × AreZeroDelay rest = along_parts (sum_of g c.delay) rest e in
     let both : (g ≡ origin) × (c.delay ≡ origin) = sum_parts g c.delay further.0 in
     (both.0, (both.1, further.1))
 
-pub immediate_from_total : (path : List Connection) → total_of path ≡ origin → AreImmediate path
-immediate_from_total [] e = tt
-immediate_from_total (c ∷ rest) e = along_parts c.delay rest e
+pub zero_delay_from_total : (path : List Connection) → total_of path ≡ origin → AreZeroDelay path
+zero_delay_from_total [] e = tt
+zero_delay_from_total (c ∷ rest) e = along_parts c.delay rest e
 
-along_none : (rest : List Connection) → AreImmediate rest → then_along origin rest ≡ origin
+along_none : (rest : List Connection) → AreZeroDelay rest → then_along origin rest ≡ origin
 along_none [] each = refl
 along_none (c ∷ rest) each = ap (λ d. then_along (sum_of origin d) rest) each.0 ∙ along_none rest each.1
 
-pub total_from_immediate : (path : List Connection) → AreImmediate path → total_of path ≡ origin
-total_from_immediate [] each = refl
-total_from_immediate (c ∷ rest) each = ap (λ d. then_along d rest) each.0 ∙ along_none rest each.1
+pub total_from_zero_delay : (path : List Connection) → AreZeroDelay path → total_of path ≡ origin
+total_from_zero_delay [] each = refl
+total_from_zero_delay (c ∷ rest) each = ap (λ d. then_along d rest) each.0 ∙ along_none rest each.1

@@ -2,7 +2,7 @@
 -- network.
 use Rattle.std.specs.Prelude.{◌≡◌, ◌≢◌, ℕ, ◌<◌, ◌≤◌, ℤ, List, All, AllPairs, IsTrue, Option}
 use Rattle.tag.specs.LogicalTime.{IsFinite, origin, is_at_most}
-use Rattle.tag.specs.Total.{IsPlainDelay}
+use Rattle.tag.specs.Total.{IsConnectionDelay}
 use Rattle.network.specs.declared.limits.TheConstants.{MOST_REACTORS}
 use Rattle.network.specs.Connection.{Connection}
 use Rattle.network.specs.Event.{Event}
@@ -14,11 +14,11 @@ pub record IsConnected (n : Network) (c : Connection) : Type 0 where
   pub port : c.port < n.ports c.source
   pub target : c.target < n.reactors
   pub slot : c.slot < n.slots c.target
-  pub delay : IsPlainDelay c.delay
+  pub delay : IsConnectionDelay c.delay
 
 -- two connections end at different slots
-abbrev pub EndApart : Connection → Connection → Type 0
-EndApart c d = c.target ≡ d.target → c.slot ≡ d.slot → ⊥
+abbrev pub HaveDifferentEnds : Connection → Connection → Type 0
+HaveDifferentEnds c d = c.target ≡ d.target → c.slot ≡ d.slot → ⊥
 
 -- an external event is at a slot that is there, up to stop
 pub record IsExternal (n : Network) (e : Event) : Type 0 where
@@ -28,14 +28,14 @@ pub record IsExternal (n : Network) (e : Event) : Type 0 where
   pub in_time : IsTrue (is_at_most e.tag n.stop)
 
 -- two external events aren't for one slot at one tag
-abbrev pub FallApart : Event → Event → Type 0
-FallApart d e = d.tag ≡ e.tag → d.reactor ≡ e.reactor → d.slot ≡ e.slot → ⊥
+abbrev pub AreForDifferentSlots : Event → Event → Type 0
+AreForDifferentSlots d e = d.tag ≡ e.tag → d.reactor ≡ e.reactor → d.slot ≡ e.slot → ⊥
 
 -- a scheduling of a reactor is later than its turn, at a slot that no connection and no external event reaches. Its
 -- delay is that of an `after`, which `delay` and `later` say together
 pub record IsOwn (n : Network) (reactor : ℕ) (s : Scheduling) : Type 0 where
   pub slot : s.slot < n.slots reactor
-  pub delay : IsPlainDelay s.delay
+  pub delay : IsConnectionDelay s.delay
   pub later : s.delay ≢ origin
   pub no_port : All (λ c. c.target ≡ reactor → c.slot ≢ s.slot) n.connections
   pub not_external : All (λ e. e.reactor ≡ reactor → e.slot ≢ s.slot) n.external
@@ -46,11 +46,11 @@ pub record IsLawful (n : Network) : Type 0 where
   pub stop : IsFinite n.stop
   pub connected : All (IsConnected n) n.connections
   -- each input slot is the end of one connection at most, and has no external events
-  pub one_source : AllPairs EndApart n.connections
+  pub one_source : AllPairs HaveDifferentEnds n.connections
   pub ports_apart : All (λ c. All (λ e. e.reactor ≡ c.target → e.slot ≢ c.slot) n.external) n.connections
   pub external : All (IsExternal n) n.external
-  pub external_apart : AllPairs FallApart n.external
-  -- ranks number the reactors, and rise along connections without delay
+  pub external_apart : AllPairs AreForDifferentSlots n.external
+  -- ranks number the reactors, and rise along zero-delay connections
   pub ranks : (i : ℕ) → i < n.reactors → n.rank i < n.reactors
   pub ranks_apart : (i j : ℕ) → i < n.reactors → j < n.reactors → n.rank i ≡ n.rank j → i ≡ j
   pub ranks_rise : All (λ c. c.delay ≡ origin → n.rank c.source < n.rank c.target) n.connections

@@ -15,9 +15,9 @@ IsLeastTable n table =
     (i j : ℕ) → MatchOption (table i j) (IsUnreachable n.connections i j) (IsLeastDelay n.connections i j)
 
 -- if there is a delay, some path from i to j has it as its total
-abbrev pub IsAttained : List Connection → ℕ → ℕ → Option LogicalTime → Type 0
-IsAttained connections i j None = Unit {0}
-IsAttained connections i j (Some delay) =
+abbrev pub IsTotalOfPath : List Connection → ℕ → ℕ → Option LogicalTime → Type 0
+IsTotalOfPath connections i j None = Unit {0}
+IsTotalOfPath connections i j (Some delay) =
     (path : List Connection) × IsPath connections i path j × (total_of path ≡ delay)
 
 -- there is a delay, and it is at most this one
@@ -28,7 +28,7 @@ IsWithin (Some delay) bound = IsTrue (is_at_most delay bound)
 -- two facts, which say by single connections that no entry is more than the total of a path. Over one connection the
 -- entry is at most its delay. Where a connection leads to a path, the entry from its beginning is at most its delay and
 -- then the entry of the path
-pub record IsTable (n : Network) (table : Table) : Type 0 where
+pub record IsAtMostEveryPath (n : Network) (table : Table) : Type 0 where
   pub direct : All (λ c. IsWithin (table c.source c.target) c.delay) n.connections
   pub onward : (j : ℕ) → All (λ c.
       IfSome (table c.target j) (λ rest. IsWithin (table c.source j) (sum_of c.delay rest))) n.connections
@@ -38,4 +38,4 @@ pub record IsTable (n : Network) (table : Table) : Type 0 where
 pub record IsLawfulWith (n : Network) (table : Table) : Type 0 where
   pub lawful : IsLawful n
   pub least : IsLeastTable n table
-  pub facts : IsTable n table
+  pub facts : IsAtMostEveryPath n table

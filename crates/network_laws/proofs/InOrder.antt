@@ -8,7 +8,7 @@ use Rattle.network.specs.Connection.{Connection}
 use Rattle.network.specs.Event.{Event, is_later, present_at}
 use Rattle.network.specs.Network.{Network, Scheduling, Effect}
 use Rattle.network.specs.Undivided.{message_of, carried_by, scheduled_from, made_by}
-use Rattle.network.specs.Lawful.{IsLawful, IsOwn, EndApart, FallApart}
+use Rattle.network.specs.Lawful.{IsLawful, IsOwn, HaveDifferentEnds, AreForDifferentSlots}
 use Rattle.network.specs.Undone.{PendingEvent, pending_event_of}
 use Rattle.network_laws.specs.Newest.{or_else}
 use Rattle.network_laws.specs.Pending.{Replaces, AreInOrder}
@@ -86,15 +86,15 @@ carried_goes P i s outputs (c ∷ cs) w =
     (each_more (GoesTo c) P w.0 (carried_by i s outputs c) (message_goes s c (outputs c.port) (nat_eq c.source i)))
     (carried_goes P i s outputs cs w.1)
 
-carried_in_order : (i : ℕ) (s : LogicalTime) (outputs : ℕ → Option ℤ) (cs : List Connection) → AllPairs EndApart cs → AreInOrder (flat_map (carried_by i s outputs) cs)
+carried_in_order : (i : ℕ) (s : LogicalTime) (outputs : ℕ → Option ℤ) (cs : List Connection) → AllPairs HaveDifferentEnds cs → AreInOrder (flat_map (carried_by i s outputs) cs)
 carried_in_order i s outputs [] a = tt
 carried_in_order i s outputs (c ∷ cs) a =
-    let apart = each (EndApart c) cs (first_pair EndApart c cs a) in
+    let apart = each (HaveDifferentEnds c) cs (first_pair HaveDifferentEnds c cs a) in
     in_order_append (carried_by i s outputs c) (flat_map (carried_by i s outputs) cs)
     (message_in_order s c (outputs c.port) (nat_eq c.source i))
-    (carried_in_order i s outputs cs (later_pairs EndApart c cs a))
+    (carried_in_order i s outputs cs (later_pairs HaveDifferentEnds c cs a))
     (each_more (GoesTo c) (λ x. AllByRecursion (Replaces x) (flat_map (carried_by i s outputs) cs))
-    (λ x at. carried_goes (Replaces x) i s outputs cs (each_more (EndApart c) (λ d. (e : Event) → GoesTo d e → Replaces x e)
+    (λ x at. carried_goes (Replaces x) i s outputs cs (each_more (HaveDifferentEnds c) (λ d. (e : Event) → GoesTo d e → Replaces x e)
     (λ d end e to p q r. absurd (end (sym at.0 ∙ sym p ∙ to.0) (sym at.1 ∙ sym r ∙ to.1))) cs apart))
     (carried_by i s outputs c) (message_goes s c (outputs c.port) (nat_eq c.source i)))
 
@@ -142,9 +142,9 @@ made_in_order n L i s states present =
     (each_more (IsOwn n i) (λ x. AllByRecursion (λ c. AreApart i c x) n.connections) (λ x w. each (λ c. AreApart i c x) n.connections w.no_port) effect.schedulings own)))))
 
 -- external events
-pub external_in_order : (es : List Event) → AllPairs FallApart es → AreInOrder es
+pub external_in_order : (es : List Event) → AllPairs AreForDifferentSlots es → AreInOrder es
 external_in_order [] a = tt
 external_in_order (e ∷ rest) a = (
-  each_more (FallApart e) (Replaces e) (λ x w p q r. absurd (w (sym q) (sym p) (sym r))) rest (each (FallApart e) rest (first_pair FallApart e rest a)),
-  external_in_order rest (later_pairs FallApart e rest a),
+  each_more (AreForDifferentSlots e) (Replaces e) (λ x w p q r. absurd (w (sym q) (sym p) (sym r))) rest (each (AreForDifferentSlots e) rest (first_pair AreForDifferentSlots e rest a)),
+  external_in_order rest (later_pairs AreForDifferentSlots e rest a),
 )

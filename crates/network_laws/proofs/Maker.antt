@@ -11,7 +11,7 @@ use Rattle.network.specs.Connection.{Connection}
 use Rattle.network.specs.Event.{Event, is_at}
 use Rattle.network.specs.Network.{Network, Scheduling, Effect}
 use Rattle.network.specs.Undivided.{message_of, carried_by, scheduled_from, made_by}
-use Rattle.network.specs.Lawful.{IsLawful, IsConnected, IsOwn, EndApart}
+use Rattle.network.specs.Lawful.{IsLawful, IsConnected, IsOwn, HaveDifferentEnds}
 use Rattle.network_laws.specs.History.{Turn, states_after, effect_after}
 use Rattle.network_laws.specs.Sees.{made_in, made_by_first, events_of}
 use Rattle.network.proofs.Items.{first_pair, later_pairs}
@@ -31,7 +31,7 @@ source_or (Some i) a = i
 abbrev pub maker : Network → ℕ → ℕ → ℕ
 maker n a slot = source_or (port_source n.connections a slot) a
 
-apart_test : (x c : Connection) → EndApart x c → (nat_eq x.target c.target && nat_eq x.slot c.slot) ≡ false
+apart_test : (x c : Connection) → HaveDifferentEnds x c → (nat_eq x.target c.target && nat_eq x.slot c.slot) ≡ false
 apart_test x c h = false_from_ne_true (nat_eq x.target c.target && nat_eq x.slot c.slot) (λ t. let parts = and_parts (nat_eq x.target c.target) (nat_eq x.slot c.slot) t in h (eqb-true x.target c.target parts.0) (eqb-true x.slot c.slot parts.1))
 
 own_test : (x : Connection) (i slot : ℕ) → (x.target ≡ i → x.slot ≢ slot) → (nat_eq x.target i && nat_eq x.slot slot) ≡ false
@@ -43,13 +43,13 @@ itself x = grind (arith, nat_tests)
 abbrev pub FoundIn : List Connection → Connection → Type 0
 FoundIn cs c = port_source cs c.target c.slot ≡ Some c.source
 
-pub all_found : (cs : List Connection) → AllPairs EndApart cs → AllByRecursion (FoundIn cs) cs
+pub all_found : (cs : List Connection) → AllPairs HaveDifferentEnds cs → AllByRecursion (FoundIn cs) cs
 all_found [] a = tt
 all_found (x ∷ xs) a = (
   ap (λ (b : Bool). cond b (Some x.source) (port_source xs x.target x.slot)) (itself x),
-  each_more (λ c. EndApart x c × FoundIn xs c) (FoundIn (x ∷ xs))
+  each_more (λ c. HaveDifferentEnds x c × FoundIn xs c) (FoundIn (x ∷ xs))
       (λ c w. ap (λ (b : Bool). cond b (Some x.source) (port_source xs c.target c.slot)) (apart_test x c w.0) ∙ w.1) xs
-      (each_both (EndApart x) (FoundIn xs) xs (each (EndApart x) xs (first_pair EndApart x xs a)) (all_found xs (later_pairs EndApart x xs a))),
+      (each_both (HaveDifferentEnds x) (FoundIn xs) xs (each (HaveDifferentEnds x) xs (first_pair HaveDifferentEnds x xs a)) (all_found xs (later_pairs HaveDifferentEnds x xs a))),
 )
 
 pub none_found : (cs : List Connection) (i slot : ℕ) → AllByRecursion (λ c. c.target ≡ i → c.slot ≢ slot) cs → port_source cs i slot ≡ None

@@ -13,7 +13,7 @@ use Rattle.network.specs.Connection.{Connection}
 use Rattle.network.specs.Event.{Source, Event, is_later, later_of, latest}
 use Rattle.network.specs.Network.{Network, Scheduling, Effect}
 use Rattle.network.specs.Undivided.{message_of, carried_by, scheduled_from, made_by}
-use Rattle.network.specs.Lawful.{IsLawful, IsConnected, IsExternal, IsOwn, EndApart, FallApart}
+use Rattle.network.specs.Lawful.{IsLawful, IsConnected, IsExternal, IsOwn, HaveDifferentEnds, AreForDifferentSlots}
 use Rattle.network_laws.specs.History.{Turn, HasRisingTags, states_after, effect_after}
 use Rattle.network_laws.specs.Sees.{made_in, sees}
 use Rattle.network_laws.specs.Newest.{or_else, carried_to, last_carried, scheduled_to, last_in_list, last_scheduled}
@@ -169,20 +169,20 @@ message_here s t c (Some v) =
 abbrev pub CarriesAlone : LogicalTime → LogicalTime → (ℕ → Option ℤ) → List Connection → Connection → Type 0
 CarriesAlone s t outputs cs c = filter (is_for c.target t c.slot) (flat_map (carried_by c.source s outputs) cs) ≡ filter (is_for c.target t c.slot) (message_of s c (outputs c.port))
 
-carried_alone : (s t : LogicalTime) (outputs : ℕ → Option ℤ) (cs : List Connection) → AllPairs EndApart cs → AllByRecursion (CarriesAlone s t outputs cs) cs
+carried_alone : (s t : LogicalTime) (outputs : ℕ → Option ℤ) (cs : List Connection) → AllPairs HaveDifferentEnds cs → AllByRecursion (CarriesAlone s t outputs cs) cs
 carried_alone s t outputs [] a = tt
 carried_alone s t outputs (x ∷ xs) a =
-    let apart = each (EndApart x) xs (first_pair EndApart x xs a) in
+    let apart = each (HaveDifferentEnds x) xs (first_pair HaveDifferentEnds x xs a) in
     let mine : nat_eq x.source x.source ≡ true = grind (arith, nat_tests) in
-    let none = all_carried_elsewhere x.source x.target t x.slot s outputs xs (each_more (EndApart x) (λ c. c.target ≡ x.target → c.slot ≡ x.slot → ⊥) (λ c h p q. h (sym p) (sym q)) xs apart) in (
+    let none = all_carried_elsewhere x.source x.target t x.slot s outputs xs (each_more (HaveDifferentEnds x) (λ c. c.target ≡ x.target → c.slot ≡ x.slot → ⊥) (λ c h p q. h (sym p) (sym q)) xs apart) in (
       filter-append (is_for x.target t x.slot) (carried_by x.source s outputs x) (flat_map (carried_by x.source s outputs) xs)
           ∙ ((λ y. filter (is_for x.target t x.slot) (cond (mine y) (message_of s x (outputs x.port)) []) ++ none y)
           ∙ append-nil (filter (is_for x.target t x.slot) (message_of s x (outputs x.port)))),
-      each_more (λ c. EndApart x c × CarriesAlone s t outputs xs c) (CarriesAlone s t outputs (x ∷ xs))
+      each_more (λ c. HaveDifferentEnds x c × CarriesAlone s t outputs xs c) (CarriesAlone s t outputs (x ∷ xs))
           (λ c w.
           let first = message_elsewhere c.target t c.slot s x w.0 (outputs x.port) (nat_eq x.source c.source) in
           filter-append (is_for c.target t c.slot) (carried_by c.source s outputs x) (flat_map (carried_by c.source s outputs) xs) ∙ (λ y. first y ++ w.1 y))
-          xs (each_both (EndApart x) (CarriesAlone s t outputs xs) xs apart (carried_alone s t outputs xs (later_pairs EndApart x xs a))),
+          xs (each_both (HaveDifferentEnds x) (CarriesAlone s t outputs xs) xs apart (carried_alone s t outputs xs (later_pairs HaveDifferentEnds x xs a))),
     )
 
 -- what schedulings make present, of all that is made for a slot
@@ -307,18 +307,18 @@ action_sees n L trace j slot h no_port not_external rising t below =
 other_event : (e x : Event) → (e.tag ≡ x.tag → e.reactor ≡ x.reactor → e.slot ≡ x.slot → ⊥) → is_for e.reactor e.tag e.slot x ≡ false
 other_event e x h = false_from_ne_true (is_for e.reactor e.tag e.slot x) (λ k. let parts = is_for_parts e.reactor e.tag e.slot x k in h (sym (same_is_equal x.tag e.tag parts.1.0)) (sym parts.0) (sym parts.1.1))
 
-external_alone : (es : List Event) → AllPairs FallApart es → AllByRecursion (λ e. filter (is_for e.reactor e.tag e.slot) es ≡ e ∷ []) es
+external_alone : (es : List Event) → AllPairs AreForDifferentSlots es → AllByRecursion (λ e. filter (is_for e.reactor e.tag e.slot) es ≡ e ∷ []) es
 external_alone [] a = tt
 external_alone (x ∷ xs) a =
-    let apart = each (FallApart x) xs (first_pair FallApart x xs a) in
-    let rest : filter (is_for x.reactor x.tag x.slot) xs ≡ [] = none_kept (is_for x.reactor x.tag x.slot) xs (each_more (FallApart x) (λ y. is_for x.reactor x.tag x.slot y ≡ false) (λ y w. other_event x y w) xs apart) in
+    let apart = each (AreForDifferentSlots x) xs (first_pair AreForDifferentSlots x xs a) in
+    let rest : filter (is_for x.reactor x.tag x.slot) xs ≡ [] = none_kept (is_for x.reactor x.tag x.slot) xs (each_more (AreForDifferentSlots x) (λ y. is_for x.reactor x.tag x.slot y ≡ false) (λ y w. other_event x y w) xs apart) in
     let mine : is_for x.reactor x.tag x.slot x ≡ true = for_own_slot x x.tag ∙ same_itself x.tag in (
       (λ y. cond (mine y) (x ∷ rest y) (rest y)),
-      each_more (λ e. FallApart x e × (filter (is_for e.reactor e.tag e.slot) xs ≡ e ∷ [])) (λ e. filter (is_for e.reactor e.tag e.slot) (x ∷ xs) ≡ e ∷ [])
+      each_more (λ e. AreForDifferentSlots x e × (filter (is_for e.reactor e.tag e.slot) xs ≡ e ∷ [])) (λ e. filter (is_for e.reactor e.tag e.slot) (x ∷ xs) ≡ e ∷ [])
           (λ e w.
           let other : is_for e.reactor e.tag e.slot x ≡ false = other_event e x (λ p q r. w.0 (sym p) (sym q) (sym r)) in
           ap (λ (b : Bool). cond b (x ∷ filter (is_for e.reactor e.tag e.slot) xs) (filter (is_for e.reactor e.tag e.slot) xs)) other ∙ w.1)
-          xs (each_both (FallApart x) (λ e. filter (is_for e.reactor e.tag e.slot) xs ≡ e ∷ []) xs apart (external_alone xs (later_pairs FallApart x xs a))),
+          xs (each_both (AreForDifferentSlots x) (λ e. filter (is_for e.reactor e.tag e.slot) xs ≡ e ∷ []) xs apart (external_alone xs (later_pairs AreForDifferentSlots x xs a))),
     )
 
 -- no turn makes an event where an external event is

@@ -4,7 +4,7 @@ use Rattle.std.specs.Prelude.{nat_eq, Option, None, Some}
 use Rattle.std.specs.List.{AllByRecursion, flat_map}
 use Rattle.std.proofs.lemmas.Bool.{eqb-true}
 use Rattle.tag.specs.LogicalTime.{LogicalTime, IsLogicalTime, IsFinite, is_at_most, place, origin, sum_of}
-use Rattle.tag.specs.Total.{IsPlainDelay}
+use Rattle.tag.specs.Total.{IsConnectionDelay}
 use Rattle.tag.proofs.Order.{finite_is_logical, before_places, at_most_places, finite_is_not_forever, finite_up_to}
 use Rattle.tag.proofs.SumLaws.{sum_is_logical, sum_at_least_first, sum_later}
 use Rattle.tag.proofs.Paths.{plain_is_logical, none_or_some}
@@ -42,10 +42,10 @@ connection_key n L c w r t p =
       | inr e ↦ let rise = sum_place_later t c.delay p d e in omega arith
     ]
 
-pub scheduling_key : (n : Network) → IsLawful n → (j : ℕ) → j < n.reactors → (d t : LogicalTime) → IsPlainDelay d → (d ≡ origin → ⊥) → IsFinite t → key n j t < key n j (sum_of t d)
+pub scheduling_key : (n : Network) → IsLawful n → (j : ℕ) → j < n.reactors → (d t : LogicalTime) → IsConnectionDelay d → (d ≡ origin → ⊥) → IsFinite t → key n j t < key n j (sum_of t d)
 scheduling_key n L j h d t w e p = let rise = sum_place_later t d p (plain_is_logical d w) e in omega arith
 
-pub sum_is_finite : (n : Network) → IsLawful n → (t d : LogicalTime) → IsFinite t → IsPlainDelay d → IsTrue (is_at_most (sum_of t d) n.stop) → IsFinite (sum_of t d)
+pub sum_is_finite : (n : Network) → IsLawful n → (t d : LogicalTime) → IsFinite t → IsConnectionDelay d → IsTrue (is_at_most (sum_of t d) n.stop) → IsFinite (sum_of t d)
 sum_is_finite n L t d p w h = finite_up_to (sum_of t d) n.stop (sum_is_logical t d (finite_is_logical _ p) (plain_is_logical d w)) L.stop h
 
 -- what a connection keeps in a lawful network

@@ -5,7 +5,7 @@ use Rattle.std.proofs.lemmas.List.Kept.{AllPairs-cons}
 use Rattle.tag.specs.LogicalTime.{LogicalTime}
 use Rattle.tag.specs.Total.{some_delay}
 use Rattle.network.specs.Event.{Event, outside}
-use Rattle.network.specs.Lawful.{IsLawful, IsConnected, IsExternal, FallApart, IsOwn}
+use Rattle.network.specs.Lawful.{IsLawful, IsConnected, IsExternal, AreForDifferentSlots, IsOwn}
 use Rattle.network.specs.Examples.{gateway, at}
 use Rattle.network_laws.specs.Consistent.{IsConsistent, Where}
 use Rattle.network.proofs.Items.{no_pairs}
@@ -24,11 +24,11 @@ e2 = outside (at 0 4294967295) 0 1 (pos 1)
 abbrev e3 : Event
 e3 = outside (at 1 0) 0 1 (pos 2)
 
-gateway_external_apart : AllPairs FallApart gateway.external
+gateway_external_apart : AllPairs AreForDifferentSlots gateway.external
 gateway_external_apart =
-    AllPairs-cons FallApart e1 (e2 ∷ e3 ∷ []) (from_each (FallApart e1) (e2 ∷ e3 ∷ []) ((λ t r q. absurd (omega arith)), ((λ t r q. absurd (omega arith)), tt)))
-    (AllPairs-cons FallApart e2 (e3 ∷ []) (from_each (FallApart e2) (e3 ∷ []) ((λ t r q. two_times e2.tag e3.tag refl refl t), tt))
-    (AllPairs-cons FallApart e3 [] (from_each (FallApart e3) [] tt) (no_pairs FallApart)))
+    AllPairs-cons AreForDifferentSlots e1 (e2 ∷ e3 ∷ []) (from_each (AreForDifferentSlots e1) (e2 ∷ e3 ∷ []) ((λ t r q. absurd (omega arith)), ((λ t r q. absurd (omega arith)), tt)))
+    (AllPairs-cons AreForDifferentSlots e2 (e3 ∷ []) (from_each (AreForDifferentSlots e2) (e3 ∷ []) ((λ t r q. two_times e2.tag e3.tag refl refl t), tt))
+    (AllPairs-cons AreForDifferentSlots e3 [] (from_each (AreForDifferentSlots e3) [] tt) (no_pairs AreForDifferentSlots)))
 
 pub gateway_is_lawful : IsLawful gateway
 gateway_is_lawful = record {

@@ -13,7 +13,8 @@ use Rattle.node.specs.Numbers.{closes}
 use Rattle.node.specs.Mail.{Mail, lacks_room}
 use Rattle.node.specs.Core.{Core, Made, IsCore, GoesOn, Ending, Refuses, LacksRoom, Stays, Moves, ending_of, node_after}
 use Rattle.protocol.specs.Refusals.{number_of}
-use Rattle.node.specs.Step.{Station, refused, acts, takes, lets_in, comes, frame_comes, resends, greets, step_of, acknowledging, unsent}
+use Rattle.node.specs.Step.{Station, refused, acts, takes, admits, comes, frame_comes, resends, greets, step_of}
+use Rattle.node.specs.Step.{acknowledging, unsent}
 
 -- what stays as it is goes on
 stays : {View Row : Type 0} (core : Core View Row) (v : View) → GoesOn core v v
@@ -50,7 +51,7 @@ takes_ahead core s peer e frame m Stays goes = goes
 takes_ahead core s peer e frame m (Moves after mail) goes = goes
 
 lets_in_ahead : {View Row : Type 0} (core : Core View Row) → IsCore core → (s : Station View) (peer : ℕ) (e : Image) (frame : Frame) (arrival : Arrival) →
-    GoesOn core s.node (lets_in core s peer e frame arrival).station.node
+    GoesOn core s.node (admits core s peer e frame arrival).station.node
 lets_in_ahead core is s peer e (Data i n signal) Arrival.Signal =
     takes_ahead core s peer e (Data i n signal) (acknowledging s peer e (Data i n signal))
     (ending_of (acknowledging s peer e (Data i n signal)) (core.accept s.node peer signal))

@@ -17,7 +17,8 @@ use Rattle.node.specs.declared.outgoing.Outgoing.{Outgoing}
 use Rattle.node.specs.Numbers.{fault_number, closes}
 use Rattle.node.specs.Mail.{Mail, lacks_room, bare}
 use Rattle.node.specs.Core.{Core, Made, Ending, Refuses, LacksRoom, Stays, Moves, ending_of, answer_of as answer_for, node_after, mail_after, IsCall}
-use Rattle.node.specs.Step.{Station, Silent, Says, Declines, answer_in, acts, takes, received, with_end, addressed, acknowledging, unsent, lets_in, noted, answer_with, changes, returned}
+use Rattle.node.specs.Step.{Station, Silent, Says, Declines, answer_in, acts, takes, received, with_end, addressed}
+use Rattle.node.specs.Step.{acknowledging, unsent, admits, noted, answer_with, changes, returned}
 use Rattle.node.proofs.Posts.{all_posted_bare, bare_at, still_answers}
 
 acts_as : {View : Type 0} (before after : View) (ends : List Image) (mail : Mail) (answer : Result Bool NodeFault) (reply : Reply) (ending : Ending View) →
@@ -185,7 +186,7 @@ take_refused s node first after one two three four five frames peer i n number s
     (refuses_it s peer e (Data i n signal) (acknowledging s peer e (Data i n signal)) (ending_of (acknowledging s peer e (Data i n signal)) (step s.node)) refusal answers closing)
 
 lets_noted : {View Row : Type 0} (core : Core View Row) (s : Station View) (peer : ℕ) (e : Image) (frame : Frame) (arrival : Arrival) →
-    ((i n : ℕ) (signal : Signal) → frame ≡ Data i n signal → arrival ≡ Arrival.Signal → ⊥) → lets_in core s peer e frame arrival ≡ noted s peer e frame
+    ((i n : ℕ) (signal : Signal) → frame ≡ Data i n signal → arrival ≡ Arrival.Signal → ⊥) → admits core s peer e frame arrival ≡ noted s peer e frame
 lets_noted core s peer e (Data i n signal) Arrival.Signal other = absurd (other i n signal refl refl)
 lets_noted core s peer e frame arrival other = refl
 
@@ -196,7 +197,7 @@ pub noted_ended : {View Row : Type 0} (core : Core View Row) (s : Station View) 
     ((x : Image) → slice_get first.ends peer ≡ Some x →
     IfOk result (λ reply. answer_in reply ≡ answer_with (changes x frame) (addressed peer (returned (after_frame x frame) frame)))) →
     OnOk result (left ≡ received peer frame first) →
-    IfOk result (λ reply. record { station = record { node = node; ends = left.ends }; answer = answer_in reply } ≡ lets_in core s peer e frame arrival)
+    IfOk result (λ reply. record { station = record { node = node; ends = left.ends }; answer = answer_in reply } ≡ admits core s peer e frame arrival)
 noted_ended core s node first left peer e frame arrival (Ok reply) is found other told received_is =
     let at : slice_get first.ends peer ≡ Some e = ap (λ s. slice_get s.ends peer) is ∙ found in
     let here : node ≡ s.node = ap (λ s. s.node) is in

@@ -12,7 +12,8 @@ use Rattle.node.specs.declared.event.Event.TheVariants as event
 use Rattle.node.specs.Numbers.{closes}
 use Rattle.node.specs.Mail.{Mail, bare}
 use Rattle.node.specs.Core.{Core, Made, IsCore, Ending, Refuses, LacksRoom, Stays, Moves, ending_of, mail_after}
-use Rattle.node.specs.Step.{Station, fresh, initial_of, received, received_at, refused, acts, takes, noted, lets_in, comes, frame_comes, resends, greets, step_of, acknowledging, unsent}
+use Rattle.node.specs.Step.{Station, fresh, initial_of, received, received_at, refused, acts, takes, noted, admits}
+use Rattle.node.specs.Step.{comes, frame_comes, resends, greets, step_of, acknowledging, unsent}
 use Rattle.node.proofs.Calls.{bare_after}
 use Rattle.node.proofs.Ahead.{ahead}
 
@@ -70,7 +71,7 @@ noted_fresh : {View : Type 0} (s : Station View) (peer : ℕ) (e : Image) (frame
 noted_fresh s peer e frame is = set_fresh s.ends peer e (after_frame e frame) is (frame_fresh e frame)
 
 lets_in_fresh : {View Row : Type 0} (core : Core View Row) (s : Station View) (peer : ℕ) (e : Image) (frame : Frame) (arrival : Arrival) →
-    slice_get s.ends peer ≡ Some e → map fresh (lets_in core s peer e frame arrival).station.ends ≡ map fresh s.ends
+    slice_get s.ends peer ≡ Some e → map fresh (admits core s peer e frame arrival).station.ends ≡ map fresh s.ends
 lets_in_fresh core s peer e (Data i n signal) Arrival.Signal is =
     takes_fresh s peer e (Data i n signal) (acknowledging s peer e (Data i n signal))
     (ending_of (acknowledging s peer e (Data i n signal)) (core.accept s.node peer signal)) is refl

@@ -1,4 +1,4 @@
--- A station's own refusals: their numbers, and how they are printed; and which refusals close a link.
+-- A station's own faults: their numbers, and how they are printed; and which refusals close a link.
 pub mod Numbers
 -- What a node's posts make of the link ends, and whether there is room for them.
 pub mod Mail

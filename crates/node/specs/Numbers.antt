@@ -1,4 +1,4 @@
--- A station's own refusals: their numbers, and how they are printed; and which refusals close a link.
+-- A station's own faults: their numbers, and how they are printed; and which refusals close a link.
 use Rattle.std.specs.Prelude.{ℕ, Bool, true, false, List, codes}
 use Rattle.signal.specs.Fault.{printed_fault}
 use Rattle.protocol.specs.declared.refusal.Refusal.{Refusal}

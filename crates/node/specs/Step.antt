@@ -122,11 +122,11 @@ noted s peer e frame =
     }
 
 -- a frame that the end doesn't refuse: a signal in its turn goes to the node
-abbrev pub lets_in : {View Row : Type 0} → Core View Row → Station View → ℕ → Image → Frame → Arrival → Stepped View
-lets_in core s peer e (Data i n signal) arrival.Signal =
+abbrev pub admits : {View Row : Type 0} → Core View Row → Station View → ℕ → Image → Frame → Arrival → Stepped View
+admits core s peer e (Data i n signal) arrival.Signal =
     takes s peer e (Data i n signal) (acknowledging s peer e (Data i n signal))
     (ending_of (acknowledging s peer e (Data i n signal)) (core.accept s.node peer signal))
-lets_in core s peer e frame arrival = noted s peer e frame
+admits core s peer e frame arrival = noted s peer e frame
 
 -- a stranger's Hello is answered by the one node that all others are linked to
 abbrev pub turned_away : (is_coordinator : Bool) → ℕ → Image → Frame → List Outgoing
@@ -140,7 +140,7 @@ abbrev pub comes : {View Row : Type 0} → Core View Row → (is_coordinator : B
     → Result Arrival LinkFault → Stepped View
 comes core is_coordinator s peer e frame (Err fault) =
     same s (Declines (link.number_of fault) (turned_away is_coordinator peer e frame))
-comes core is_coordinator s peer e frame (Ok arrival) = lets_in core s peer e frame arrival
+comes core is_coordinator s peer e frame (Ok arrival) = admits core s peer e frame arrival
 
 -- a peer that the station hasn't is a stranger, and nothing is sent
 abbrev pub nobody : {View : Type 0} → Station View → Stepped View

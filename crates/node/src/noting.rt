@@ -11,7 +11,7 @@ use crate::replies::{address, reply_with};
 use crate::reply::Reply;
 use signal::Frame;
 
-// What the end makes of the frame, and what is sent for it.
+/// What the end makes of the frame, and what is sent for it.
 pub(crate) fn note(outbox: &mut Outbox, peer: usize, frame: &Frame) -> Result<Reply, Memory>
     requires there { peer < length outbox.old.mail.ends }
     requires ok { (e : Image) → slice_get outbox.old.mail.ends peer ≡ Some e → IsOk (answer_of e frame.now) }

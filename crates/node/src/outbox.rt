@@ -186,14 +186,25 @@ impl Outbox {
         mem::replace(&mut self.frames, Vec::new(self.alloc))
     }
 
-    /// Takes back the room of frames that were taken, where there is no frame.
+    /// Drops the frames, and keeps their room.
+    pub(crate) fn clear_frames(&mut self)
+        ensures { self.new.mail ≡ record { ends = self.old.mail.ends; frames = [] } }
+    {
+        self.places = 0;
+        self.frames.clear();
+    }
+
+    /// Takes back the room of frames that were taken, where there is no frame. Of two rooms the larger one stays: a
+    /// reply that says nothing has none.
     pub(crate) fn reuse(&mut self, mut frames: Vec<Outgoing>)
         requires { self.old.mail.frames ≡ [] }
         ensures { self.new.mail ≡ self.old.mail }
     {
-        frames.clear();
-        self.places = 0;
-        self.frames = frames;
+        if self.frames.capacity() < frames.capacity() {
+            frames.clear();
+            self.places = 0;
+            self.frames = frames;
+        }
     }
 
     // Memory for this many more frames.

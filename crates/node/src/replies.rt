@@ -15,7 +15,7 @@ use link::{LinkEnd, LinkFault};
 use signal::{Frame, Hello};
 use std::alloc::Global;
 
-// What changed something or not, and sends these.
+/// What changed something or not, and sends these.
 pub(crate) fn reply_with(changed: bool, frames: Vec<Outgoing>) -> Reply
     ensures { answer_in result ≡ answer_with changed frames.items }
 {
@@ -26,7 +26,7 @@ pub(crate) fn reply_with(changed: bool, frames: Vec<Outgoing>) -> Reply
     }
 }
 
-// One frame to a peer.
+/// One frame to a peer.
 pub(crate) fn one(alloc: Global, peer: usize, frame: Frame) -> Result<Vec<Outgoing>, Memory>
     ensures { IfOk result (λ frames. frames.items ≡ addressed peer (frame ∷ [])) }
 {
@@ -35,7 +35,7 @@ pub(crate) fn one(alloc: Global, peer: usize, frame: Frame) -> Result<Vec<Outgoi
     Ok(frames)
 }
 
-// Frames to a peer, put into memory that was taken before.
+/// Frames to a peer, put into memory that was taken before.
 pub(crate) fn address(to: &mut Vec<Outgoing>, peer: usize, frames: &[Frame])
     requires none { to.old.items ≡ [] }
     requires places { length frames.now ≤ vec_capacity to.old }
@@ -49,7 +49,7 @@ pub(crate) fn address(to: &mut Vec<Outgoing>, peer: usize, frames: &[Frame])
     }
 }
 
-// What a stranger's frame is answered.
+/// What a stranger's frame is answered.
 pub(crate) fn turn_away(
     alloc: Global,
     is_coordinator: bool,
@@ -81,21 +81,21 @@ pub(crate) fn turn_away(
     }
 }
 
-// A node's fault, after which nothing is sent.
+/// A node's fault, after which nothing is sent.
 pub(crate) fn decline(outbox: &mut Outbox, fault: NodeFault) -> Result<Reply, Memory>
     ensures reply { IfOk result (λ reply. answer_in reply ≡ Declines (fault_number fault) []) }
     ensures done { OnOk result (fault ≢ Faults.Memory) }
     ensures memory { OnErr result (fault ≡ Faults.Memory) }
     ensures mail { outbox.new.mail ≡ record { ends = outbox.old.mail.ends; frames = [] } }
 {
-    let _ = outbox.take_frames();
+    outbox.clear_frames();
     if let NodeFault::Memory = fault {
         return Err(Memory);
     }
     Ok(Reply::Refused(fault.number(), Vec::new(outbox.alloc())))
 }
 
-// What a node did by itself.
+/// What a node did by itself.
 pub(crate) fn tell(outbox: &mut Outbox, answer: Result<bool, NodeFault>) -> Result<Reply, Memory>
     ensures done { answer ≡ Ok true → IfOk result (λ reply. answer_in reply ≡ Says outbox.old.mail.frames) }
     ensures nothing { answer ≡ Ok false → IfOk result (λ reply. answer_in reply ≡ Silent) }
@@ -108,7 +108,7 @@ pub(crate) fn tell(outbox: &mut Outbox, answer: Result<bool, NodeFault>) -> Resu
     match answer {
         Ok(true) => Ok(Reply::Done(outbox.take_frames())),
         Ok(false) => {
-            let _ = outbox.take_frames();
+            outbox.clear_frames();
             Ok(Reply::Nothing)
         }
         Err(fault) => decline(outbox, fault),

@@ -3,7 +3,7 @@ ghost use Rattle.link.specs.Image.{Image, answer_of};
 ghost use Rattle.link.specs.declared.arrival.Arrival.TheVariants as Arrivals;
 ghost use Rattle.signal.specs.declared.frame.Frame.TheVariants as Frames;
 ghost use Rattle.node.specs.Core.{ending_of};
-ghost use Rattle.node.specs.Step.{Station as StationOf, answer_in, step_of, frame_comes, comes, lets_in, resends};
+ghost use Rattle.node.specs.Step.{Station as StationOf, answer_in, step_of, frame_comes, comes, admits, resends};
 ghost use Rattle.node.specs.Step.{greets};
 ghost use Rattle.node.specs.Step.{acts, unsent};
 
@@ -123,7 +123,7 @@ impl<N: Node> Station<N> {
         requires answered { (e : Image) → slice_get self.old.ends peer ≡ Some e → answer_of e frame.now ≡ Ok arrival }
         ensures ended { (e : Image) → slice_get self.old.ends peer ≡ Some e
             → IfOk result (λ reply. record { station = self.new; answer = answer_in reply }
-            ≡ lets_in N.core self.old peer e frame.now arrival) }
+            ≡ admits N.core self.old peer e frame.now arrival) }
         ensures unchanged { OnErr result (self.new ≡ self.old) }
     {
         match (*frame, arrival) {
@@ -153,7 +153,7 @@ impl<N: Node> Station<N> {
             → answer_of e (Frames.Data incarnation number signal) ≡ Ok Arrivals.Signal }
         ensures ended { (e : Image) → slice_get self.old.ends peer ≡ Some e
             → IfOk result (λ reply. record { station = self.new; answer = answer_in reply }
-            ≡ lets_in N.core self.old peer e (Frames.Data incarnation number signal) Arrivals.Signal) }
+            ≡ admits N.core self.old peer e (Frames.Data incarnation number signal) Arrivals.Signal) }
         ensures unchanged { OnErr result (self.new ≡ self.old) }
     {
         self.outbox.begin(

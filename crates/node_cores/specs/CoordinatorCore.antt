@@ -11,7 +11,7 @@ use Rattle.protocol.specs.FederateRecords.{Listed, federate_record_at, federate_
 use Rattle.protocol.specs.FederateRecords.{is_finished}
 use Rattle.protocol.specs.Grant.{Rule, grant_widest, all_below}
 use Rattle.protocol.specs.Machine.{sent_to}
-use Rattle.protocol.specs.Alone.{is_of_step, is_sent_past}
+use Rattle.protocol.specs.KeptAlone.{is_of_step, may_go_down}
 use Rattle.node.specs.Core.{Core, Made}
 use Rattle.plan.specs.declared.draft.Draft.{Draft}
 use Rattle.plan.specs.Federation.{federate_count, connections_of, stop_of}
@@ -43,7 +43,7 @@ abbrev pub coordinator_may_send : CoordinatorNode → List Post → Bool
 coordinator_may_send v posts =
     all_below (federate_count v.draft)
     (λ j. is_of_step (sent_to j posts)
-    && is_sent_past (federate_record_at v.federate_records j).granted (sent_to j posts))
+    && may_go_down (federate_record_at v.federate_records j).granted (sent_to j posts))
 
 -- as it was made
 abbrev pub initial_node : CoordinatorNode → CoordinatorNode

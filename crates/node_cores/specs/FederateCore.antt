@@ -7,7 +7,7 @@ use Rattle.protocol.specs.declared.post.Post.{Post}
 use Rattle.protocol.specs.Outcome.{Outcome, with_made}
 use Rattle.protocol.specs.Federate.{Federate, Stepped, initial_federate, federate_accepts, federate_announces}
 use Rattle.protocol.specs.Federate.{federate_advances}
-use Rattle.protocol.specs.Alone.{is_sent_after}
+use Rattle.protocol.specs.KeptAlone.{may_go_up}
 use Rattle.node.specs.Core.{Core, Made}
 use Rattle.plan.specs.declared.draft.Draft.{Draft}
 use Rattle.plan.specs.declared.input.Input.{Input}
@@ -40,7 +40,7 @@ signals_of posts = map (λ (p : Post). p.signal) posts
 
 -- its LTCs rise, and each message is later than every LTC before it
 abbrev pub federate_may_send : FederateNode → List Post → Bool
-federate_may_send v posts = is_sent_after v.federate.completed (signals_of posts)
+federate_may_send v posts = may_go_up v.federate.completed (signals_of posts)
 
 abbrev pub accepts : FederateNode → ℕ → Signal → Outcome (Made FederateNode)
 accepts v peer signal = with_made (made_by v) (federate_accepts (network_at v) v.number v.federate signal)

@@ -7,7 +7,7 @@ use Rattle.std.proofs.lemmas.Grind.{flat_map-append}
 use Rattle.std.proofs.lemmas.Bool.Decides.{nat_tests}
 use Rattle.std.proofs.lemmas.Option.{slice_get_past, slice_get_within, slice_get-get_or}
 use Rattle.node.specs.declared.event.Event.{Event}
-use Rattle.node_journal.specs.declared.placed.Placed.{Placed}
+use Rattle.node_journal.specs.declared.placed_block.PlacedBlock.{PlacedBlock}
 use Rattle.node_journal.specs.declared.slip.Slip.{Slip}
 use Rattle.node_journal.specs.Slips.{slips_from, slips_at, slips_of, IsFilled, AreFilled, event_of, event_if, event_in}
 use Rattle.node_journal.proofs.Places.{get_left, get_right, take_next}
@@ -45,11 +45,11 @@ slips_length place [] = refl
 slips_length place (event ∷ events) = ap suc (slips_length (suc place) events)
 
 -- one block more
-pub one_block : (blocks : List Placed) (placed : Placed) → slips_of (blocks ++ placed ∷ []) ≡ slips_of blocks ++ slips_at placed
+pub one_block : (blocks : List PlacedBlock) (placed : PlacedBlock) → slips_of (blocks ++ placed ∷ []) ≡ slips_of blocks ++ slips_at placed
 one_block blocks placed = flat_map-append slips_at blocks (placed ∷ []) ∙ ap (λ slips. slips_of blocks ++ slips) (append-nil (slips_at placed))
 
 -- the last block, with one slip more
-pub extended_last : (blocks : List Placed) (k : ℕ) (d new : Placed) (slip : Slip) → suc k ≡ length blocks →
+pub extended_last : (blocks : List PlacedBlock) (k : ℕ) (d new : PlacedBlock) (slip : Slip) → suc k ≡ length blocks →
     slips_at new ≡ slips_at (get_or blocks k d) ++ slip ∷ [] → slips_of (set blocks k new) ≡ slips_of blocks ++ slip ∷ []
 extended_last [] k d new slip last is = absurd (omega arith)
 extended_last (placed ∷ []) zero d new slip last is =
@@ -59,7 +59,7 @@ extended_last (placed ∷ blocks) (suc k) d new slip last is =
     ap (λ slips. slips_at placed ++ slips) (extended_last blocks k d new slip (omega arith) is)
     ∙ sym (append_assoc (slips_at placed) (slips_of blocks) (slip ∷ []))
 
-pub filled_last : (blocks : List Placed) (k : ℕ) (new : Placed) → IsFilled new → AreFilled blocks → AreFilled (set blocks k new)
+pub filled_last : (blocks : List PlacedBlock) (k : ℕ) (new : PlacedBlock) → IsFilled new → AreFilled blocks → AreFilled (set blocks k new)
 filled_last [] k new filled all = all
 filled_last (placed ∷ blocks) zero new filled all = All-cons IsFilled new blocks filled (All-tail IsFilled placed blocks all)
 filled_last (placed ∷ blocks) (suc k) new filled all =
@@ -91,40 +91,40 @@ count_less slips less slip count is counted =
     (omega arith, omega arith)
 
 -- where there is no block, there is no slip
-pub no_slip : (blocks : List Placed) → length blocks ≡ 0 → slips_of blocks ≡ []
+pub no_slip : (blocks : List PlacedBlock) → length blocks ≡ 0 → slips_of blocks ≡ []
 no_slip [] none = refl
 no_slip (placed ∷ blocks) none = absurd (omega arith)
 
-pub no_block : (blocks front : List Placed) → blocks ≡ front ++ [] → length front ≡ 0 → slips_of blocks ≡ []
+pub no_block : (blocks front : List PlacedBlock) → blocks ≡ front ++ [] → length front ≡ 0 → slips_of blocks ≡ []
 no_block blocks front is none = ap slips_of (is ∙ append-nil front) ∙ no_slip front none
 
-all_front : (front rest : List Placed) → AreFilled (front ++ rest) → AreFilled front
+all_front : (front rest : List PlacedBlock) → AreFilled (front ++ rest) → AreFilled front
 all_front [] rest all = All-nil IsFilled
 all_front (placed ∷ front) rest all =
     All-cons IsFilled placed front (All-head IsFilled placed (front ++ rest) all) (all_front front rest (All-tail IsFilled placed (front ++ rest) all))
 
-all_back : (front rest : List Placed) → AreFilled (front ++ rest) → AreFilled rest
+all_back : (front rest : List PlacedBlock) → AreFilled (front ++ rest) → AreFilled rest
 all_back [] rest all = all
 all_back (placed ∷ front) rest all = all_back front rest (All-tail IsFilled placed (front ++ rest) all)
 
 -- the last block has events, and so have all others
-pub filled_end : (blocks front : List Placed) (placed : Placed) → blocks ≡ front ++ placed ∷ [] → AreFilled blocks → IsFilled placed
+pub filled_end : (blocks front : List PlacedBlock) (placed : PlacedBlock) → blocks ≡ front ++ placed ∷ [] → AreFilled blocks → IsFilled placed
 filled_end blocks front placed is filled = All-head IsFilled placed [] (all_back front (placed ∷ []) (subst AreFilled is filled))
 
-pub filled_front : (blocks front : List Placed) (placed : Placed) → blocks ≡ front ++ placed ∷ [] → AreFilled blocks → AreFilled front
+pub filled_front : (blocks front : List PlacedBlock) (placed : PlacedBlock) → blocks ≡ front ++ placed ∷ [] → AreFilled blocks → AreFilled front
 filled_front blocks front placed is filled = all_front front (placed ∷ []) (subst AreFilled is filled)
 
-pub filled_push : (blocks front : List Placed) (placed less : Placed) → blocks ≡ front ++ placed ∷ [] → AreFilled blocks → IsFilled less → AreFilled (front ++ less ∷ [])
+pub filled_push : (blocks front : List PlacedBlock) (placed less : PlacedBlock) → blocks ≡ front ++ placed ∷ [] → AreFilled blocks → IsFilled less → AreFilled (front ++ less ∷ [])
 filled_push blocks front placed less is filled one = All-push IsFilled front less (filled_front blocks front placed is filled) one
 
 -- the last block, with one slip less
-pub popped_some : (blocks front : List Placed) (placed less : Placed) (slip : Slip) → blocks ≡ front ++ placed ∷ [] → slips_at placed ≡ slips_at less ++ slip ∷ [] →
+pub popped_some : (blocks front : List PlacedBlock) (placed less : PlacedBlock) (slip : Slip) → blocks ≡ front ++ placed ∷ [] → slips_at placed ≡ slips_at less ++ slip ∷ [] →
     slips_of blocks ≡ slips_of (front ++ less ∷ []) ++ slip ∷ []
 popped_some blocks front placed less slip there is =
     ap slips_of there ∙ one_block front placed ∙ ap (λ s. slips_of front ++ s) is
     ∙ sym (append_assoc (slips_of front) (slips_at less) (slip ∷ [])) ∙ ap (λ s. s ++ slip ∷ []) (sym (one_block front less))
 
-pub popped_last : (blocks front : List Placed) (placed less : Placed) (slip : Slip) → blocks ≡ front ++ placed ∷ [] → slips_at placed ≡ slips_at less ++ slip ∷ [] →
+pub popped_last : (blocks front : List PlacedBlock) (placed less : PlacedBlock) (slip : Slip) → blocks ≡ front ++ placed ∷ [] → slips_at placed ≡ slips_at less ++ slip ∷ [] →
     length less.block ≡ 0 → slips_of blocks ≡ slips_of front ++ slip ∷ []
 popped_last blocks front placed less slip there is none =
     let long = slips_length less.place less.block in
@@ -132,7 +132,7 @@ popped_last blocks front placed less slip there is none =
     ap slips_of there ∙ one_block front placed ∙ ap (λ s. slips_of front ++ s) (is ∙ ap (λ s. s ++ slip ∷ []) empty)
 
 -- the last slip of the last block is the last of all
-pub last_in : (blocks : List Placed) (position : ℕ) (placed : Placed) (slips : List Slip) (slip : Slip) → position + 1 ≡ length blocks → placed ≡ get_or blocks position placed →
+pub last_in : (blocks : List PlacedBlock) (position : ℕ) (placed : PlacedBlock) (slips : List Slip) (slip : Slip) → position + 1 ≡ length blocks → placed ≡ get_or blocks position placed →
     slips_at placed ≡ slips ++ slip ∷ [] → (before : List Slip) × (slips_of blocks ≡ before ++ slip ∷ [])
 last_in blocks position placed slips slip end is last =
     let found : slice_get blocks position ≡ Some placed = slice_get-get_or blocks position placed (omega arith) ∙ ap Some (sym is) in
@@ -144,7 +144,7 @@ last_in blocks position placed slips slip end is last =
     )
 
 -- what a block has at a place
-event_of_is : (placed : Placed) (place : ℕ) (b : Bool) (event : Event) → nat_le placed.place place ≡ b → event_of placed place ≡ Some event →
+event_of_is : (placed : PlacedBlock) (place : ℕ) (b : Bool) (event : Event) → nat_le placed.place place ≡ b → event_of placed place ≡ Some event →
     (placed.place ≤ place) × (slice_get placed.block (place - placed.place) ≡ Some event)
 event_of_is placed place true event test is =
     let there : slice_get placed.block (place - placed.place) ≡ Some event = rw test at is in
@@ -153,7 +153,7 @@ event_of_is placed place false event test is =
     let bad : None ≡ Some event = rw test at is in
     absurd (grind (arith, bad))
 
-event_of_from : (placed : Placed) (place offset : ℕ) (event : Event) → place ≡ placed.place + offset → slice_get placed.block offset ≡ Some event →
+event_of_from : (placed : PlacedBlock) (place offset : ℕ) (event : Event) → place ≡ placed.place + offset → slice_get placed.block offset ≡ Some event →
     event_of placed place ≡ Some event
 event_of_from placed place offset event at is =
     let test : nat_le placed.place place ≡ true = grind (arith, nat_tests) in
@@ -182,7 +182,7 @@ slip_is place (e ∷ events) (suc i) slip is =
     let moved : suc place + i ≡ place + suc i = omega arith in
     (rest.0 ∙ moved, rest.1)
 
-found_first : (placed : Placed) (blocks : List Placed) (place : ℕ) (event : Event) → event_of placed place ≡ Some event →
+found_first : (placed : PlacedBlock) (blocks : List PlacedBlock) (place : ℕ) (event : Event) → event_of placed place ≡ Some event →
     (k : ℕ) × (slice_get (slips_of (placed ∷ blocks)) k ≡ Some (record { place = place; event = event }))
 found_first placed blocks place event is =
     let there = event_of_is placed place (nat_le placed.place place) event refl is in
@@ -194,7 +194,7 @@ found_first placed blocks place event is =
     )
 
 -- an event that is found has a slip
-pub found_in : (blocks : List Placed) (position place : ℕ) (event : Event) → event_in blocks position place ≡ Some event →
+pub found_in : (blocks : List PlacedBlock) (position place : ℕ) (event : Event) → event_in blocks position place ≡ Some event →
     (k : ℕ) × (slice_get (slips_of blocks) k ≡ Some (record { place = place; event = event }))
 found_in [] position place event is = let bad : ⊥ = grind arith in absurd bad
 found_in (placed ∷ blocks) zero place event is = found_first placed blocks place event is
@@ -202,7 +202,7 @@ found_in (placed ∷ blocks) (suc position) place event is =
     let rest = found_in blocks position place event is in
     (length (slips_at placed) + rest.0, get_right (slips_at placed) (slips_of blocks) rest.0 (length (slips_at placed) + rest.0) refl ∙ rest.1)
 
-held_by : (placed : Placed) (blocks : List Placed) (k : ℕ) (b : Bool) (slip : Slip) → nat_lt k (length (slips_at placed)) ≡ b → slice_get (slips_of (placed ∷ blocks)) k ≡ Some slip →
+held_by : (placed : PlacedBlock) (blocks : List PlacedBlock) (k : ℕ) (b : Bool) (slip : Slip) → nat_lt k (length (slips_at placed)) ≡ b → slice_get (slips_of (placed ∷ blocks)) k ≡ Some slip →
     ((i : ℕ) → slice_get (slips_of blocks) i ≡ Some slip → (position : ℕ) × (event_in blocks position slip.place ≡ Some slip.event)) →
     (position : ℕ) × (event_in (placed ∷ blocks) position slip.place ≡ Some slip.event)
 held_by placed blocks k true slip test is rest =
@@ -215,51 +215,51 @@ held_by placed blocks k false slip test is rest =
     (sym (get_right (slips_at placed) (slips_of blocks) (k - length (slips_at placed)) k (omega arith)) ∙ is) in
     (suc later.0, later.1)
 
-held : (blocks : List Placed) (k : ℕ) (slip : Slip) → slice_get (slips_of blocks) k ≡ Some slip → (position : ℕ) × (event_in blocks position slip.place ≡ Some slip.event)
+held : (blocks : List PlacedBlock) (k : ℕ) (slip : Slip) → slice_get (slips_of blocks) k ≡ Some slip → (position : ℕ) × (event_in blocks position slip.place ≡ Some slip.event)
 held [] k slip is = let bad : ⊥ = grind arith in absurd bad
 held (placed ∷ blocks) k slip is =
     held_by placed blocks k (nat_lt k (length (slips_at placed))) slip refl is (λ i there. held blocks i slip there)
 
 -- where no block has an event at a place, there is no slip of it
-pub none_in : (blocks : List Placed) (place : ℕ) → ((position : ℕ) → event_in blocks position place ≡ None) →
+pub none_in : (blocks : List PlacedBlock) (place : ℕ) → ((position : ℕ) → event_in blocks position place ≡ None) →
     (k : ℕ) (slip : Slip) → slice_get (slips_of blocks) k ≡ Some slip → slip.place ≢ place
 none_in blocks place none k slip is same =
     let there = held blocks k slip is in
     let both : Some slip.event ≡ None = sym there.1 ∙ ap (event_in blocks there.0) same ∙ none there.0 in
     absurd (grind (arith, both))
 
-none_by : (blocks : List Placed) (place position k : ℕ) (b : Bool) → nat_lt k position ≡ b → length blocks ≤ position →
+none_by : (blocks : List PlacedBlock) (place position k : ℕ) (b : Bool) → nat_lt k position ≡ b → length blocks ≤ position →
     ((k : ℕ) → k < position → event_in blocks k place ≡ None) → event_in blocks k place ≡ None
 none_by blocks place position k true test all none = none k (grind (arith, nat_tests))
 none_by blocks place position k false test all none =
     let beyond : length blocks ≤ k = grind (arith, nat_tests) in
-    ap (λ (found : Option Placed). event_if found place) (slice_get_past blocks k beyond)
+    ap (λ (found : Option PlacedBlock). event_if found place) (slice_get_past blocks k beyond)
 
 -- no block at all has an event at a place, if none that is there has one
-pub none_anywhere : (blocks : List Placed) (place position : ℕ) → length blocks ≤ position → ((k : ℕ) → k < position → event_in blocks k place ≡ None) →
+pub none_anywhere : (blocks : List PlacedBlock) (place position : ℕ) → length blocks ≤ position → ((k : ℕ) → k < position → event_in blocks k place ≡ None) →
     (k : ℕ) → event_in blocks k place ≡ None
 none_anywhere blocks place position all none k = none_by blocks place position k (nat_lt k position) refl all none
 
 -- the slips of the block at a position, with those before it and behind it
-pub split_at : (blocks : List Placed) (position : ℕ) (placed : Placed) → slice_get blocks position ≡ Some placed →
+pub split_at : (blocks : List PlacedBlock) (position : ℕ) (placed : PlacedBlock) → slice_get blocks position ≡ Some placed →
     (front : List Slip) × (back : List Slip) × (slips_of blocks ≡ front ++ (slips_at placed ++ back))
 split_at [] position placed is = let bad : ⊥ = grind arith in absurd bad
 split_at (first ∷ blocks) zero placed is =
     let same : first ≡ placed = grind arith in
-    ([], slips_of blocks, ap (λ (p : Placed). slips_at p ++ slips_of blocks) same)
+    ([], slips_of blocks, ap (λ (p : PlacedBlock). slips_at p ++ slips_of blocks) same)
 split_at (first ∷ blocks) (suc position) placed is =
     let rest = split_at blocks position placed is in
     (slips_at first ++ rest.0, rest.1, ap (λ slips. slips_at first ++ slips) rest.2 ∙ sym (append_assoc (slips_at first) rest.0 (slips_at placed ++ rest.1)))
 
 -- those of a block that begins at a place
-pub split_from : (blocks : List Placed) (position place : ℕ) (placed : Placed) → slice_get blocks position ≡ Some placed → placed.place ≡ place →
+pub split_from : (blocks : List PlacedBlock) (position place : ℕ) (placed : PlacedBlock) → slice_get blocks position ≡ Some placed → placed.place ≡ place →
     (front : List Slip) × (back : List Slip) × (slips_of blocks ≡ front ++ (slips_from place placed.block ++ back))
 split_from blocks position place placed is same =
     let split = split_at blocks position placed is in
     (split.0, split.1, split.2 ∙ ap (λ (p : ℕ). split.0 ++ (slips_from p placed.block ++ split.1)) same)
 
 -- it has an event, as all have
-pub filled_at : (blocks : List Placed) (position : ℕ) (placed : Placed) → slice_get blocks position ≡ Some placed → AreFilled blocks → IsFilled placed
+pub filled_at : (blocks : List PlacedBlock) (position : ℕ) (placed : PlacedBlock) → slice_get blocks position ≡ Some placed → AreFilled blocks → IsFilled placed
 filled_at [] position placed is filled = let bad : ⊥ = grind arith in absurd bad
 filled_at (first ∷ blocks) zero placed is filled =
     let same : first ≡ placed = grind arith in

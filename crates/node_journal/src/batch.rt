@@ -39,7 +39,7 @@ impl Batch {
     }
 
     /// The same events, for one more who keeps them.
-    pub fn share(&self) -> Result<Batch, AllocError>
+    pub fn try_clone(&self) -> Result<Batch, AllocError>
         ensures { IfOk result (λ batch. batch ≡ self.now) }
     {
         let events = Arc::try_clone(&self.events)?;

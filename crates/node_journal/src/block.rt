@@ -45,7 +45,7 @@ impl Block {
         }
     }
 
-    // All events of a batch.
+    /// All events of a batch.
     pub(crate) fn of(batch: Batch) -> Block
         ensures { result ≡ batch }
     {
@@ -56,11 +56,11 @@ impl Block {
         }
     }
 
-    // The same events, for one more who keeps them.
-    pub(crate) fn share(&self) -> Result<Block, AllocError>
+    /// The same events, for one more who keeps them.
+    pub(crate) fn try_clone(&self) -> Result<Block, AllocError>
         ensures { IfOk result (λ block. block ≡ self.now) }
     {
-        let batch = self.batch.share()?;
+        let batch = self.batch.try_clone()?;
         Ok(Block {
             batch,
             used: self.used,
@@ -68,8 +68,8 @@ impl Block {
         })
     }
 
-    // Whether both have the same events, as many of them from their batches. It is false also where one has as turns
-    // what the other has in its batch.
+    /// Whether both have the same events, as many of them from their batches. It is false also where one has as turns
+    /// what the other has in its batch.
     pub(crate) fn is_same(&self, other: &Block) -> bool
         ensures { result ≡ true → self.now ≡ other.now }
     {

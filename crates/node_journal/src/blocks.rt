@@ -6,7 +6,7 @@ ghost use Rattle.node_journal.specs.Slips.{AreFilled, slips_from, slips_of};
 use crate::batch::Batch;
 use crate::block::Block;
 use crate::finding::{event_in, find};
-use crate::placed::Placed;
+use crate::placed_block::PlacedBlock;
 use crate::slip::Slip;
 use crate::turns::is_same;
 use node::Event;
@@ -17,7 +17,7 @@ use std::marker::Model;
 /// turns, they take no memory of their own.
 #[derive(Debug, Drop)]
 pub struct Blocks {
-    blocks: Vec<Placed>,
+    blocks: Vec<PlacedBlock>,
     // How many slips.
     count: usize,
 }
@@ -81,7 +81,7 @@ impl Blocks {
         if batch.events().is_empty() {
             return Ok(());
         }
-        self.add_block(place, Block::of(batch.share()?))
+        self.add_block(place, Block::of(batch.try_clone()?))
     }
 
     /// Takes off all slips but the first ones, this many.
@@ -135,7 +135,7 @@ impl Blocks {
         get(&self.blocks, place, near)
     }
 
-    // The block of this number, if its events are those from a place on.
+    /// The block of this number, if its events are those from a place on.
     pub(crate) fn block(&self, number: usize, place: usize) -> Option<&Block>
         ensures some { IfSome result (λ block. 0 < length block.now) }
         ensures there { IfSome result (λ block. (front : List IsSlip) × (back : List IsSlip)
@@ -144,7 +144,7 @@ impl Blocks {
         block_at(&self.blocks, number, place)
     }
 
-    // Adds a block, whose events follow one another from a place on.
+    /// Adds a block, whose events follow one another from a place on.
     #[tactic(auto, using(crate::proofs::SlipLists::one_block, crate::proofs::SlipLists::count_more))]
     pub(crate) fn add_block(&mut self, place: usize, block: Block) -> Result<(), AllocError>
         requires { 0 < length block }
@@ -155,7 +155,7 @@ impl Blocks {
         if count > usize::MAX - place || count > usize::MAX - self.count {
             return Err(AllocError);
         }
-        self.blocks.push(Placed { place, block })?;
+        self.blocks.push(PlacedBlock { place, block })?;
         self.count += count;
         Ok(())
     }
@@ -172,7 +172,7 @@ impl Blocks {
 }
 
 // The block at a position, if its events are those from a place on.
-fn block_at(blocks: &[Placed], position: usize, place: usize) -> Option<&Block>
+fn block_at(blocks: &[PlacedBlock], position: usize, place: usize) -> Option<&Block>
     requires { AreFilled blocks.now }
     ensures some { IfSome result (λ block. 0 < length block.now) }
     ensures there { IfSome result (λ block. (front : List IsSlip) × (back : List IsSlip)
@@ -186,7 +186,7 @@ fn block_at(blocks: &[Placed], position: usize, place: usize) -> Option<&Block>
 
 // One slip more.
 fn add(
-    blocks: &mut Vec<Placed>,
+    blocks: &mut Vec<PlacedBlock>,
     place: usize,
     event: &Event,
     batch: Option<&Batch>,
@@ -200,13 +200,13 @@ fn add(
         return Ok(());
     }
     let block = first_of(*blocks.allocator(), event, batch)?;
-    blocks.push(Placed { place, block })?;
+    blocks.push(PlacedBlock { place, block })?;
     Ok(())
 }
 
 // Has the last block go on with the event of a place, if it can.
 #[tactic(auto, using(crate::proofs::SlipLists::extended_last, crate::proofs::SlipLists::filled_last))]
-fn extend_last(blocks: &mut [Placed], place: usize, event: &Event) -> bool
+fn extend_last(blocks: &mut [PlacedBlock], place: usize, event: &Event) -> bool
     ensures extended { result ≡ true
         → slips_of blocks.new ≡ slips_of blocks.old ++ record { place = place; event = event.now } ∷ [] }
     ensures filled { result ≡ true → AreFilled blocks.old → AreFilled blocks.new }
@@ -224,7 +224,7 @@ fn first_of(alloc: Global, event: &Event, batch: Option<&Batch>) -> Result<Block
     ensures { IfOk result (λ block. block ≡ event.now ∷ []) }
 {
     match batch {
-        Some(batch) if begins(batch.events(), event) => Ok(Block::first(batch.share()?)),
+        Some(batch) if begins(batch.events(), event) => Ok(Block::first(batch.try_clone()?)),
         _ => Ok(Block::first(Batch::one(alloc, event)?)),
     }
 }
@@ -241,7 +241,7 @@ fn begins(events: &[Event], event: &Event) -> bool
 
 // Takes off the last slip. A block without events goes.
 #[tactic(auto, using(crate::proofs::SlipLists::no_block, crate::proofs::SlipLists::filled_end, crate::proofs::SlipLists::filled_front, crate::proofs::SlipLists::filled_push, crate::proofs::SlipLists::popped_some, crate::proofs::SlipLists::popped_last))]
-fn pop(blocks: &mut Vec<Placed>) -> Option<Slip>
+fn pop(blocks: &mut Vec<PlacedBlock>) -> Option<Slip>
     requires { AreFilled blocks.old.items }
     ensures popped { MatchOption result (slips_of blocks.old.items ≡ [])
         (λ slip. slips_of blocks.old.items ≡ slips_of blocks.new.items ++ slip ∷ []) }
@@ -263,7 +263,7 @@ fn pop(blocks: &mut Vec<Placed>) -> Option<Slip>
 
 // The last slip.
 #[tactic(auto, using(crate::proofs::SlipLists::last_in, crate::proofs::SlipLists::no_slip))]
-fn last(blocks: &[Placed]) -> Option<Slip>
+fn last(blocks: &[PlacedBlock]) -> Option<Slip>
     requires { AreFilled blocks.now }
     ensures { MatchOption result (slips_of blocks.now ≡ [])
         (λ slip. (front : List IsSlip) × (slips_of blocks.now ≡ front ++ slip ∷ [])) }
@@ -276,7 +276,7 @@ fn last(blocks: &[Placed]) -> Option<Slip>
 
 // The event of a place, looked for near a block.
 #[tactic(auto, using(crate::proofs::SlipLists::found_in))]
-fn get(blocks: &[Placed], place: usize, near: &mut usize) -> Option<Event>
+fn get(blocks: &[PlacedBlock], place: usize, near: &mut usize) -> Option<Event>
     ensures found { IfSome result (λ event. (k : ℕ)
         × (slice_get (slips_of blocks.now) k ≡ Some (record { place = place; event = event }))) }
     ensures none { result ≡ None → (k : ℕ) (slip : IsSlip) → slice_get (slips_of blocks.now) k ≡ Some slip

@@ -2,11 +2,11 @@
 ghost use Rattle.std.specs.Prelude.{◌≡◌, ℕ, true, None, IfSome, is_some};
 ghost use Rattle.node_journal.specs.Slips.{event_in};
 
-use crate::placed::Placed;
+use crate::placed_block::PlacedBlock;
 use node::Event;
 
-// The event that the block at a position has at a place.
-pub(crate) fn event_in(blocks: &[Placed], position: usize, place: usize) -> Option<Event>
+/// The event that the block at a position has at a place.
+pub(crate) fn event_in(blocks: &[PlacedBlock], position: usize, place: usize) -> Option<Event>
     ensures { result ≡ event_in blocks.now position place }
 {
     match blocks.get(position) {
@@ -16,7 +16,7 @@ pub(crate) fn event_in(blocks: &[Placed], position: usize, place: usize) -> Opti
 }
 
 // Whether the block at a position has one there.
-fn has(blocks: &[Placed], position: usize, place: usize) -> bool
+fn has(blocks: &[PlacedBlock], position: usize, place: usize) -> bool
     ensures { result ≡ is_some (event_in blocks.now position place) }
 {
     match blocks.get(position) {
@@ -25,9 +25,9 @@ fn has(blocks: &[Placed], position: usize, place: usize) -> bool
     }
 }
 
-// A block that has an event at this place: the one at `near` or beside it, if that is one, else where it is if places
-// rise.
-pub(crate) fn find(blocks: &[Placed], place: usize, near: usize) -> Option<usize>
+/// A block that has an event at this place: the one at `near` or beside it, if that is one, else where it is if places
+/// rise.
+pub(crate) fn find(blocks: &[PlacedBlock], place: usize, near: usize) -> Option<usize>
     ensures found { IfSome result (λ position. is_some (event_in blocks.now position place) ≡ true) }
     ensures none { result ≡ None → (position : ℕ) → event_in blocks.now position place ≡ None }
 {
@@ -50,14 +50,14 @@ pub(crate) fn find(blocks: &[Placed], place: usize, near: usize) -> Option<usize
 }
 
 // Where the block is, if places rise.
-fn guess(blocks: &[Placed], place: usize) -> usize {
+fn guess(blocks: &[PlacedBlock], place: usize) -> usize {
     blocks
         .partition_point(|placed| placed.place <= place)
         .saturating_sub(1)
 }
 
 // The first block that has an event at this place.
-fn find_anywhere(blocks: &[Placed], place: usize) -> Option<usize>
+fn find_anywhere(blocks: &[PlacedBlock], place: usize) -> Option<usize>
     ensures found { IfSome result (λ position. is_some (event_in blocks.now position place) ≡ true) }
     ensures none { result ≡ None → (position : ℕ) → event_in blocks.now position place ≡ None }
 {

@@ -183,7 +183,7 @@ impl Journal {
             Some(block) if block.len() <= most => {
                 let count = block.len();
                 let place = self.len();
-                self.slips.add_block(place, block.share()?)?;
+                self.slips.add_block(place, block.try_clone()?)?;
                 Ok(count)
             }
             _ => {

@@ -1,13 +1,13 @@
 //! Journals of events: what came to a node, oldest first, in little memory.
 //!
 //! Promise to the layer above: a `Journal` is the list of the events that were pushed, each at its place (`get`), and
-//! `Blocks` are the slips that were added (`specs/Slips`).
+//! `Blocks` are the slips that were added, each an event with its place in a journal (`specs/Slips`).
 //!
-//!     Batch      events that came together: whoever keeps some of them keeps the same ones
-//!     Block      the first events of a batch, and turns behind them, which are counted
-//!     Placed     a block, and the place of its first event
-//!     Blocks     slips, an event with its place each: blocks of those whose places follow one another
-//!     Journal    blocks whose places are 0, 1, 2 ..
+//!     Batch          events that came together: whoever keeps some of them keeps the same ones
+//!     Block          the first events of a batch, and turns behind them, which are counted
+//!     PlacedBlock    a block, and the place of its first event
+//!     Blocks         slips, in blocks of those whose places follow one another
+//!     Journal        blocks whose places are 0, 1, 2 ..
 //!
 //! Begin with `block`, then `blocks`.
 #![tactic(auto)]
@@ -17,7 +17,7 @@ pub mod block;
 pub mod blocks;
 mod finding;
 pub mod journal;
-pub mod placed;
+pub mod placed_block;
 pub mod slip;
 mod turns;
 
@@ -25,5 +25,5 @@ pub use batch::Batch;
 pub use block::Block;
 pub use blocks::Blocks;
 pub use journal::Journal;
-pub use placed::Placed;
+pub use placed_block::PlacedBlock;
 pub use slip::Slip;

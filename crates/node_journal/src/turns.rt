@@ -4,7 +4,7 @@ ghost use Rattle.node_journal.specs.Turns.{turn_event};
 
 use node::Event;
 
-// An event of turns, counted from 0.
+/// An event of turns, counted from 0.
 pub(crate) fn turn_event(number: usize) -> Event
     ensures { result ≡ turn_event number }
 {
@@ -15,7 +15,7 @@ pub(crate) fn turn_event(number: usize) -> Event
     }
 }
 
-// Whether two events are the same.
+/// Whether two events are the same.
 pub(crate) fn is_same(event: &Event, other: &Event) -> bool
     ensures { (result ≡ true) ↔ (event.now ≡ other.now) }
 {

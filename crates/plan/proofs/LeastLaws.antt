@@ -2,7 +2,7 @@
 use Rattle.std.proofs.Common.{◌≡◌, ℕ, ◌<◌, ◌≤◌, ◌^◌, List, [], ◌∷◌, length, refl, sym, ◌∙◌, subst, arith, get_or}
 use Rattle.std.specs.Prelude.{All, IfSome, MatchOption, Option, None, Some}
 use Rattle.tag.specs.LogicalTime.{LogicalTime, sum_of}
-use Rattle.tag.specs.Total.{IsPlainDelay, no_delay, some_delay}
+use Rattle.tag.specs.Total.{IsConnectionDelay, no_delay, some_delay}
 use Rattle.network.specs.Connection.{Connection, IsLeastDelay, IsUnreachable}
 use Rattle.network.specs.Tables.{IsWithin}
 use Rattle.network.proofs.Items.{All-filter_map}
@@ -19,16 +19,16 @@ use Rattle.plan_paths.proofs.LeastTotals.{attained, least_is, within_direct, wit
 
 -- ---- delays of connections
 
-pub plain_after : (after : Option ℕ) → IfSome after (λ t. t < 2 ^ 62) → IsPlainDelay (delay_after after)
+pub plain_after : (after : Option ℕ) → IfSome after (λ t. t < 2 ^ 62) → IsConnectionDelay (delay_after after)
 plain_after None below = no_delay
 plain_after (Some time) below = some_delay (time, below, refl)
 
-pub connection_delays : (d : Draft) → IsLegal d → All (λ c. IsPlainDelay c.delay) (connections_of d)
+pub connection_delays : (d : Draft) → IsLegal d → All (λ c. IsConnectionDelay c.delay) (connections_of d)
 connection_delays d legal =
-    All-filter_map (λ (c : ConnectionDraft). IfSome c.after (λ t. t < 2 ^ 62)) (λ (c : Connection). IsPlainDelay c.delay) (connection_of d.federates) d.connections
+    All-filter_map (λ (c : ConnectionDraft). IfSome c.after (λ t. t < 2 ^ 62)) (λ (c : Connection). IsConnectionDelay c.delay) (connection_of d.federates) d.connections
     (λ c x below is.
     let joins : Joins d.federates c x = joins_from_connection_of d.federates c x is in
-    subst (λ g. IsPlainDelay g) (sym joins.delay) (plain_after c.after below))
+    subst (λ g. IsConnectionDelay g) (sym joins.delay) (plain_after c.after below))
     legal.delays
 
 -- ---- least delays

@@ -11,7 +11,7 @@ use Rattle.plan.specs.declared.draft.Federate.{Federate}
 use Rattle.plan.specs.declared.input.Input.{Input}
 use Rattle.plan.specs.declared.input.Occurrence.{Occurrence}
 use Rattle.plan.specs.Federation.{Found, federate_names, found_in}
-use Rattle.plan.specs.External.{found_action, AreApart}
+use Rattle.plan.specs.External.{found_action, AreForDifferentActions}
 use Rattle.plan.specs.Occurrences.{occurrence_of}
 use Rattle.plan.proofs.Joined.{found_in_parts, same_name, same_name_in}
 
@@ -55,8 +55,8 @@ that_from fs i o (Some r) found e =
 pub that_from_occurrence_of : (fs : List Federate) (i : Input) (o : Occurrence) → occurrence_of fs i ≡ Some o → IsThat fs i o
 that_from_occurrence_of fs i o e = that_from fs i o (found_action fs i) refl e
 
--- two inputs that are one occurrence aren't apart
-pub one_occurrence : (fs : List Federate) (i j : Input) (o : Occurrence) → IsThat fs i o → IsThat fs j o → AreApart i j → ⊥
+-- two inputs that are one occurrence aren't for different actions
+pub one_occurrence : (fs : List Federate) (i j : Input) (o : Occurrence) → IsThat fs i o → IsThat fs j o → AreForDifferentActions i j → ⊥
 one_occurrence fs i j o that_i that_j apart =
     let r : Found = record { federate = o.federate; place = o.place } in
     let of_i = found_in_parts (λ s. s.physical) fs i.federate i.action r that_i.found in
@@ -65,8 +65,8 @@ one_occurrence fs i j o that_i that_j apart =
     (same_name_in (λ s. s.physical) (slice_get fs r.federate) i.action j.action r.place of_i.1 of_j.1)
     (that_i.tag ∙ sym that_j.tag)
 
--- two inputs that are different ones are apart
-pub two_occurrences : (fs : List Federate) (i j : Input) (o p : Occurrence) → IsThat fs i o → IsThat fs j p → (o ≡ p → ⊥) → AreApart i j
+-- two inputs that are different occurrences are for different actions
+pub two_occurrences : (fs : List Federate) (i j : Input) (o p : Occurrence) → IsThat fs i o → IsThat fs j p → (o ≡ p → ⊥) → AreForDifferentActions i j
 two_occurrences fs i j o p that_i that_j other federate action tag =
     let same : found_action fs i ≡ found_action fs j
     = ap (λ f. found_in (λ s. s.physical) fs f i.action) federate ∙ ap (λ a. found_in (λ s. s.physical) fs j.federate a) action in
@@ -105,13 +105,13 @@ module _ (fs : List Federate) (inputs : List Input) (occurrences : List Occurren
   pub all_known : All (λ i. IsSome (found_action fs i)) inputs
   all_known k i below = subst IsSome (sym (that_at k i no_occurrence below).found) (search rules)
 
-  pub apart_from_distinct : AllPairs (λ a b. a ≢ b) occurrences → AllPairs AreApart inputs
+  pub apart_from_distinct : AllPairs (λ a b. a ≢ b) occurrences → AllPairs AreForDifferentActions inputs
   apart_from_distinct distinct j k i first below =
       two_occurrences fs (get_or inputs j i) (get_or inputs k i) (get_or occurrences j no_occurrence) (get_or occurrences k no_occurrence)
       (that_at j i no_occurrence (omega arith)) (that_at k i no_occurrence below)
       (distinct j k no_occurrence first (subst (λ n. k < n) (sym same_count) below))
 
-  pub distinct_from_apart : AllPairs AreApart inputs → AllPairs (λ a b. a ≢ b) occurrences
+  pub distinct_from_apart : AllPairs AreForDifferentActions inputs → AllPairs (λ a b. a ≢ b) occurrences
   distinct_from_apart apart j k o first below same =
       let there : k < length inputs = subst (λ n. k < n) same_count below in
       one_occurrence fs (get_or inputs j no_input) (get_or inputs k no_input) (get_or occurrences k o)

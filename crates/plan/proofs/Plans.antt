@@ -6,7 +6,7 @@ use Rattle.std.proofs.lemmas.Slice.Eq.{bytes_eq-Decides}
 use Rattle.std.proofs.lemmas.Map.Made.{AllPairs-from_IsDistinct}
 use Rattle.tag.specs.LogicalTime.{LogicalTime}
 use Rattle.network.specs.Connection.{Connection}
-use Rattle.network.specs.Lawful.{EndApart}
+use Rattle.network.specs.Lawful.{HaveDifferentEnds}
 use Rattle.network.proofs.Items.{All-filter_map}
 use Rattle.plan.specs.declared.draft.Federate.{Federate}
 use Rattle.plan_names.specs.declared.port.PortName.{PortName}
@@ -19,7 +19,7 @@ use Rattle.plan_slots.specs.Numbering.{all_names, first_input}
 use Rattle.plan.specs.Federation.{Found, federate_names, found_input, found_output, connection_of, connections_of, federate_count}
 use Rattle.plan_paths.specs.Levels.{level_within, before_by}
 use Rattle.plan_paths.specs.Least.{IsLeastTable}
-use Rattle.plan_paths.specs.Cycles.{HasNoImmediateCycle}
+use Rattle.plan_paths.specs.Cycles.{HasNoZeroDelayCycle}
 use Rattle.plan.specs.Legal.{IsLegal}
 use Rattle.plan.specs.Planned.{IsPlanned}
 use Rattle.plan.specs.Faults.{StandsIn, HasTwoSources, IsUnknown, IsRepeated, IsWithinAllLimits, AreTimersInRange, HasDistinctNames, ArePortsThere, IsNamedCycle}
@@ -47,7 +47,7 @@ ends_below d =
 -- ---- what the steps of a check show
 
 pub legal_from : (d : Draft) → d.stop < 2 ^ 62 → 0 < length d.federates → IsWithinAllLimits d → AreTimersInRange d → HasDistinctNames d → ArePortsThere d
-    → All (λ c. IfSome c.after (λ t. t < 2 ^ 62)) d.connections → AllPairs EndApart (connections_of d) → HasNoImmediateCycle (connections_of d) → IsLegal d
+    → All (λ c. IfSome c.after (λ t. t < 2 ^ 62)) d.connections → AllPairs HaveDifferentEnds (connections_of d) → HasNoZeroDelayCycle (connections_of d) → IsLegal d
 legal_from d stop some limits timers names ports delays sources cycles = record {
   some_federate = some;
   few_federates = limits.federates;
@@ -61,7 +61,7 @@ legal_from d stop some limits timers names ports delays sources cycles = record 
   from_outputs = ports.from_outputs;
   to_inputs = ports.to_inputs;
   one_source = sources;
-  no_immediate_cycle = cycles;
+  no_zero_delay_cycle = cycles;
 }
 
 pub ends_below_at : (d : Draft) (cs : List Connection) (n : ℕ) → cs ≡ connections_of d → n ≡ federate_count d → EndsBelow n cs
@@ -150,7 +150,7 @@ not_two_sources d p legal two =
     (first_joins.slot ∙ ap (λ (f : Found). first_input + f.place) same ∙ sym later_joins.slot)
 
 not_a_cycle : (d : Draft) (names : List (List ℕ)) → IsLegal d → IsNamedCycle d names → ⊥
-not_a_cycle d names legal named = legal.no_immediate_cycle named.start named.path named.cycle.way.is_path named.cycle.way.immediate
+not_a_cycle d names legal named = legal.no_zero_delay_cycle named.start named.path named.cycle.way.is_path named.cycle.way.zero_delay
 
 other_faults : (d : Draft) (e : PlanFault) → StandsIn d e → IsLegal d → e ≡ Memory
 other_faults d NoFederate stands legal =

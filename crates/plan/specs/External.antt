@@ -103,12 +103,12 @@ pub record FiresAt (stop : ℕ) (t : Timer) (tag : LogicalTime) : Type 0 where
   pub time : tag.time ≡ t.offset + periods * t.period
 
 -- two recorded inputs aren't for one action at one tag
-abbrev pub AreApart : Input → Input → Type 0
-AreApart a b = a.federate ≡ b.federate → a.action ≡ b.action → a.tag ≡ b.tag → ⊥
+abbrev pub AreForDifferentActions : Input → Input → Type 0
+AreForDifferentActions a b = a.federate ≡ b.federate → a.action ≡ b.action → a.tag ≡ b.tag → ⊥
 
 -- inputs of a federation: physical actions of it, each at most once at a tag and never at FOREVER, and not too many
 pub record AreInputsOf (d : Draft) (inputs : List Input) : Type 0 where
   pub known : All (λ i. IsSome (found_action d.federates i)) inputs
-  pub apart : AllPairs AreApart inputs
+  pub apart : AllPairs AreForDifferentActions inputs
   pub few : length inputs ≤ MOST_INPUTS
   pub finite : All (λ i. IsFinite i.tag) inputs

@@ -1,4 +1,4 @@
--- What each refusal says of a draft.
+-- What each fault says of a draft.
 use Rattle.std.specs.Prelude.{◌≡◌, ℕ, ◌<◌, ◌≤◌, ◌⊎◌, List, [], length, map, All, Any, IsSome, None, Some, slice_get}
 use Rattle.network.specs.Connection.{Connection}
 use Rattle.plan_paths.specs.Cycles.{HasNoCycleAt, IsCycleFrom}
@@ -49,7 +49,7 @@ pub record IsWithinAllLimits (d : Draft) : Type 0 where
 abbrev pub AreTimersInRange : Draft → Type 0
 AreTimersInRange d = All (λ f. All IsTimerInRange f.slots.timers) d.federates
 
--- the names of the federates of a cycle without any delay, in the order of its path, from the lowest number on
+-- the names of the federates of a zero-delay cycle, in the order of its path, from the lowest number on
 pub record IsNamedCycle (d : Draft) (names : List (List ℕ)) : Type 0 where
   pub start : ℕ
   pub path : List Connection
@@ -68,7 +68,7 @@ StandsIn d BadTimer = ¬ AreTimersInRange d
 StandsIn d Memory = Unit {0}
 StandsIn d (RepeatedName name) = IsRepeated d name
 
--- a cycle without any delay that is in the draft, or want of memory
+-- a zero-delay cycle that is in the draft, or want of memory
 abbrev pub IsCycleRefusal : Draft → PlanFault → Type 0
 IsCycleRefusal d (ZeroDelayCycle names) = IsNamedCycle d names
 IsCycleRefusal d Memory = Unit {0}

@@ -79,7 +79,7 @@ federate_count d = length d.federates
 abbrev pub stop_of : Draft → LogicalTime
 stop_of d = record { time = d.stop; microstep = 0 }
 
--- a federate's level; in a legal federation no path without any delay has more connections than there are federates
+-- a federate's level; in a legal federation no zero-delay path has more connections than there are federates
 abbrev pub level_of : Draft → ℕ → ℕ
 level_of d j = level_within (connections_of d) (federate_count d) j
 

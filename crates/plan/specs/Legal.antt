@@ -1,7 +1,7 @@
 -- Legal federations.
 use Rattle.std.specs.Prelude.{◌^◌, ◌<◌, ◌≤◌, length, All, AllPairs, IsSome, IfSome}
-use Rattle.network.specs.Lawful.{EndApart}
-use Rattle.plan_paths.specs.Cycles.{HasNoImmediateCycle}
+use Rattle.network.specs.Lawful.{HaveDifferentEnds}
+use Rattle.plan_paths.specs.Cycles.{HasNoZeroDelayCycle}
 use Rattle.plan_slots.specs.Limits.{IsWithinLimits, IsTimerInRange}
 use Rattle.plan.specs.declared.draft.Draft.{Draft}
 use Rattle.plan.specs.declared.limits.TheConstants.{MOST_FEDERATES, MOST_CONNECTIONS}
@@ -30,5 +30,5 @@ pub record IsLegal (d : Draft) : Type 0 where
   pub from_outputs : All (λ c. IsSome (found_output d.federates c.from)) d.connections
   pub to_inputs : All (λ c. IsSome (found_input d.federates c.to)) d.connections
   -- a port has at most one source
-  pub one_source : AllPairs EndApart (connections_of d)
-  pub no_immediate_cycle : HasNoImmediateCycle (connections_of d)
+  pub one_source : AllPairs HaveDifferentEnds (connections_of d)
+  pub no_zero_delay_cycle : HasNoZeroDelayCycle (connections_of d)

@@ -1,5 +1,5 @@
 -- Federations: what is declared, what is legal, and what it means in numbers.
--- the refusals of a draft: their numbers and texts
+-- the faults of a draft: their numbers and texts
 pub mod PlanFaults
 -- those of recorded inputs
 pub mod InputFaults
@@ -17,5 +17,5 @@ pub mod External
 pub mod Occurrences
 -- what a plan keeps
 pub mod Planned
--- what each refusal says of a draft
+-- what each fault says of a draft
 pub mod Faults

@@ -1,4 +1,4 @@
--- The refusals of a draft: their numbers, and how they are printed.
+-- The faults of a draft: their numbers, and how they are printed.
 use Rattle.std.specs.Prelude.{ℕ, List, [], ◌++◌, codes}
 use Rattle.std.specs.List.{flat_map}
 use Rattle.std.specs.Fmt.{decimal}
@@ -7,7 +7,7 @@ use Rattle.plan.specs.declared.plan_fault.PlanFault.{PlanFault}
 use Rattle.plan.specs.declared.plan_fault.PlanFault.TheVariants.{NoFederate, UnknownName, TwoSources, ZeroDelayCycle}
 use Rattle.plan.specs.declared.plan_fault.PlanFault.TheVariants.{OverLimit, BadTimer, Memory, RepeatedName}
 
--- the refusal's number
+-- the fault's number
 abbrev pub number_of : PlanFault → ℕ
 number_of NoFederate = 10
 number_of (UnknownName p) = 11
@@ -22,7 +22,7 @@ number_of (RepeatedName name) = 17
 abbrev pub spaced : List (List ℕ) → List ℕ
 spaced names = flat_map (λ name. codes " " ++ name) names
 
--- the refusal's name
+-- the fault's name
 abbrev pub name_of : PlanFault → List ℕ
 name_of NoFederate = codes "NoFederate"
 name_of (UnknownName p) = codes "UnknownName"
@@ -44,6 +44,6 @@ about BadTimer = []
 about Memory = []
 about (RepeatedName name) = codes " " ++ name
 
--- how the refusal is printed: by number and name, and what it is about
+-- how the fault is printed: by number and name, and what it is about
 abbrev pub printed_fault : PlanFault → List ℕ
 printed_fault fault = decimal (number_of fault) ++ (codes " " ++ (name_of fault ++ about fault))

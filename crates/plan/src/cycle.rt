@@ -1,5 +1,5 @@
 ghost use Rattle.std.specs.Prelude.{◌≡◌, ◌<◌, map, length, slice_get, All, IfOk, OnOk, IfErr};
-ghost use Rattle.plan_paths.specs.Cycles.{HasNoImmediateCycle};
+ghost use Rattle.plan_paths.specs.Cycles.{HasNoZeroDelayCycle};
 ghost use Rattle.plan.specs.Federation.{connections_of, federate_names};
 ghost use Rattle.plan.specs.Faults.{IsCycleRefusal};
 
@@ -9,7 +9,7 @@ use plan_names::Names;
 use plan_paths::{Connection, lowest_cycle};
 use std::alloc::{AllocError, Global};
 
-/// The names of the federates from which these connections go.
+// The names of the federates from which these connections go.
 fn names_along(
     alloc: Global,
     federates: &[Federate],
@@ -26,14 +26,14 @@ fn names_along(
     Ok(Names::new(names))
 }
 
-/// Refuses a draft, whose connections by number these are, in which a cycle is without any delay.
+/// Refuses a draft with a zero-delay cycle; these are its connections by number.
 pub(crate) fn refuse_cycle(
     alloc: Global,
     draft: &Draft,
     connections: &[Connection],
 ) -> Result<(), PlanFault>
     requires { connections.now ≡ connections_of draft.now }
-    ensures ok { OnOk result (HasNoImmediateCycle connections.now) }
+    ensures ok { OnOk result (HasNoZeroDelayCycle connections.now) }
     ensures fault { IfErr result (IsCycleRefusal draft.now) }
 {
     let federates = draft.federates.as_slice();

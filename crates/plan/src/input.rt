@@ -1,7 +1,7 @@
 ghost use Rattle.std.specs.Prelude.{◌≡◌, ◌≢◌, ◌<◌, ◌≤◌, ◌↔◌, ◌⊎◌, map, length, All, AllPairs, Any, IsSome, IsTrue};
 ghost use Rattle.std.specs.Prelude.{Some, OnOk, IfOk, IfErr, Err};
 ghost use Rattle.tag.specs.LogicalTime.{IsFinite};
-ghost use Rattle.plan.specs.External.{found_action, AreApart};
+ghost use Rattle.plan.specs.External.{found_action, AreForDifferentActions};
 ghost use Rattle.plan.specs.declared.input.TheConstants.{MOST_INPUTS};
 ghost use Rattle.plan.specs.Occurrences.{occurrence_of};
 
@@ -58,9 +58,11 @@ impl Inputs {
         ensures unknown { result ≡ Err InputFault.UnknownAction
             → ¬ (All (λ i. IsSome (found_action plan.now.federates i)) inputs.items) }
         ensures repeated { result ≡ Err InputFault.RepeatedInput
-            → All (λ i. IsSome (found_action plan.now.federates i)) inputs.items × ¬ (AllPairs AreApart inputs.items) }
+            → All (λ i. IsSome (found_action plan.now.federates i)) inputs.items
+            × ¬ (AllPairs AreForDifferentActions inputs.items) }
         ensures over { result ≡ Err InputFault.OverLimit
-            → All (λ i. IsSome (found_action plan.now.federates i)) inputs.items × AllPairs AreApart inputs.items
+            → All (λ i. IsSome (found_action plan.now.federates i)) inputs.items
+            × AllPairs AreForDifferentActions inputs.items
             × ¬ (length inputs.items ≤ MOST_INPUTS) }
 
         // Where no input's action is there, nothing has to be kept.
@@ -86,7 +88,7 @@ impl Inputs {
     }
 }
 
-/// For the prover: no recorded input is at FOREVER.
+// For the prover: no recorded input is at FOREVER.
 fn know_tags(inputs: &[Input])
     ensures { All (λ i. IsFinite i.tag) inputs.now }
 {
@@ -103,7 +105,7 @@ struct Occurrence {
     tag: FiniteTag,
 }
 
-/// The occurrence that each input is.
+// The occurrence that each input is.
 fn occurrences(
     alloc: Global,
     federates: &[Federate],
@@ -129,7 +131,7 @@ fn occurrences(
     Ok(occurrences)
 }
 
-/// Whether none of them is there twice.
+// Whether none of them is there twice.
 fn are_distinct(alloc: Global, occurrences: &[Occurrence]) -> Result<bool, AllocError>
     ensures distinct { IfOk result (λ distinct. IsTrue distinct ↔ AllPairs (λ a b. a ≢ b) occurrences.now) }
     ensures memory { IfErr result (λ _. 0 < length occurrences.now) }

@@ -20,7 +20,7 @@ pub enum InputFault {
 }
 
 impl InputFault {
-    /// The refusal's number.
+    /// The fault's number.
     pub fn number(self) -> u16
         ensures { result ≡ input_number_of self }
     {

@@ -14,13 +14,13 @@ ghost use Rattle.plan.specs.declared.limits.TheConstants.{MOST_FEDERATES};
 ghost use Rattle.plan.specs.Least.{least_of};
 ghost use Rattle.plan.specs.Legal.{IsLegal};
 
-/// A federate's level is the number of connections on the longest path without any delay that ends there.
+/// A federate's level is the number of connections on the longest zero-delay path that ends there.
 #[tactic(auto, using(crate::proofs::Legality::level_laws))]
 pub fn levels_are_longest_paths()
     ensures { (d : Draft) (j : ℕ) → IsLegal d → IsLevel (connections_of d) j (level_of d j) }
 {}
 
-/// Ranks rise along paths without any delay, so along each connection without delay.
+/// Ranks rise along zero-delay paths, so along each zero-delay connection.
 #[tactic(auto, using(crate::proofs::Legality::level_laws))]
 pub fn ranks_rise()
     ensures { (d : Draft) (i j : ℕ) (path : List Connection) → IsLegal d → IsPath (connections_of d) i path j

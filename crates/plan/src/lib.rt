@@ -1,6 +1,6 @@
 //! A federation that was checked: its federates, connections and ranks, and recorded inputs.
 //!
-//! Promise to the layer above: a `Plan` is a legal draft (`specs/Legal`), and each refusal of a draft or of recorded
+//! Promise to the layer above: a `Plan` is a legal draft (`specs/Legal`), and each fault of a draft or of recorded
 //! inputs is printed as its number, its name and what it is about (`specs/PlanFaults`, `specs/InputFaults`). Begin with
 //! `specs/Legal`, then `Plan::check` in `plan`.
 #![tactic(auto)]

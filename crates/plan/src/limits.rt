@@ -19,7 +19,7 @@ fn are_slots_within_limits(federates: &[Federate]) -> bool
     federates.iter().all(|f| is_within_limits(&f.slots))
 }
 
-/// Whether all limits hold.
+// Whether all limits hold.
 fn is_within_all_limits(draft: &Draft) -> bool
     ensures { IsTrue result ↔ IsWithinAllLimits draft.now }
 {
@@ -35,7 +35,7 @@ fn are_in_range(timers: &[Timer]) -> bool
     timers.iter().all(is_in_range)
 }
 
-/// Whether all timers are in range.
+// Whether all timers are in range.
 fn are_timers_in_range(draft: &Draft) -> bool
     ensures { IsTrue result ↔ AreTimersInRange draft.now }
 {

@@ -16,8 +16,8 @@ pub enum PlanFault {
     UnknownName(PortName),
     /// Two connections go to this input port. Leave one out, or declare a second port.
     TwoSources(PortName),
-    /// Connections without any delay lead round through these federates, in the cycle's order, from the lowest number
-    /// on. Give one of the connections a delay.
+    /// Zero-delay connections lead round through these federates, in the cycle's order, from the lowest number on. Give
+    /// one of the connections a delay.
     ZeroDelayCycle(Names),
     /// More federates, connections or slots than there may be. Make the federation smaller.
     OverLimit,
@@ -30,7 +30,7 @@ pub enum PlanFault {
 }
 
 impl PlanFault {
-    /// The refusal's number.
+    /// The fault's number.
     pub fn number(&self) -> u16
         ensures { result ≡ number_of self.now }
     {
@@ -73,7 +73,7 @@ impl fmt::Display for PlanFault {
     }
 }
 
-/// What a refusal is about, printed after a space.
+/// What a fault is about, printed after a space.
 #[derive(Drop)]
 struct About<'a>(&'a PlanFault);
 

@@ -21,7 +21,7 @@ fn names_of_federates<'a>(
     Ok(names)
 }
 
-/// The names of all slots and outputs.
+// The names of all slots and outputs.
 #[tactic(auto, using(plan_names::proofs::Places::same_names))]
 fn names_of_slots<'a>(alloc: Global, slots: &'a Slots) -> Result<Vec<&'a Text>, AllocError>
     ensures { IfOk result (λ v. map (λ n. n.now) v.items ≡ all_names slots.now) }

@@ -1,7 +1,7 @@
 ghost use Rattle.std.specs.Prelude.{◌≡◌, ◌≤◌, length, AllPairs, OnOk, IfErr};
 ghost use Rattle.plan.specs.Federation.{connections_of};
 ghost use Rattle.plan.specs.declared.limits.TheConstants.{MOST_CONNECTIONS};
-ghost use Rattle.network.specs.Lawful.{EndApart};
+ghost use Rattle.network.specs.Lawful.{HaveDifferentEnds};
 ghost use Rattle.plan.specs.Faults.{ArePortsThere, StandsIn};
 
 use crate::PlanFault;
@@ -13,7 +13,7 @@ pub(crate) fn refuse_two_sources(draft: &Draft, connections: &[Connection]) -> R
     requires value { connections.now ≡ connections_of draft.now }
     requires there { ArePortsThere draft.now }
     requires few { length draft.now.connections ≤ MOST_CONNECTIONS }
-    ensures ok { OnOk result (AllPairs EndApart connections.now) }
+    ensures ok { OnOk result (AllPairs HaveDifferentEnds connections.now) }
     ensures fault { IfErr result (StandsIn draft.now) }
 {
     match second_source(connections) {

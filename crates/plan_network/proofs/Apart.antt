@@ -7,7 +7,7 @@ use Rattle.std.proofs.lemmas.List.Elements.{All-nil, All-cons, All-append, All-m
 use Rattle.std.proofs.lemmas.List.Kept.{AllPairs-cons, AllPairs-filter}
 use Rattle.tag.specs.LogicalTime.{LogicalTime, origin, is_at_most}
 use Rattle.network.specs.Event.{Event}
-use Rattle.network.specs.Lawful.{FallApart}
+use Rattle.network.specs.Lawful.{AreForDifferentSlots}
 use Rattle.plan_slots.specs.declared.slots.Slots.{Slots}
 use Rattle.plan_slots.specs.declared.slots.Timer.{Timer}
 use Rattle.plan.specs.declared.draft.Federate.{Federate}
@@ -15,7 +15,9 @@ use Rattle.plan.specs.declared.draft.Draft.{Draft}
 use Rattle.plan.specs.declared.input.Input.{Input}
 use Rattle.plan_slots.specs.Numbering.{startup_slot, first_timer, first_action, first_physical, slot_count}
 use Rattle.plan.specs.Federation.{Found, place_in, federate_names, federate_number, stop_of}
-use Rattle.plan.specs.External.{outside, times_from, firing_count, firing_times, firings_from, startup_of, own_events, own_events_from, found_action, slot_in, physical_slot, input_event, input_events, external_of, AreApart, AreInputsOf}
+use Rattle.plan.specs.External.{outside, times_from, firing_count, firing_times, firings_from, startup_of, own_events}
+use Rattle.plan.specs.External.{own_events_from, found_action, slot_in, physical_slot, input_event, input_events}
+use Rattle.plan.specs.External.{external_of, AreForDifferentActions, AreInputsOf}
 use Rattle.plan.specs.Legal.{IsLegal}
 use Rattle.plan.proofs.Joined.{found_in_parts, found_at, same_name}
 use Rattle.network.proofs.Items.{no_pairs}
@@ -71,17 +73,17 @@ firings_are_from stop number slot (t ∷ ts) =
     (λ e from. let later : slot + 1 ≤ e.slot = from.1 in (from.0, omega arith))
     (firings_from stop number (slot + 1) ts) (firings_are_from stop number (slot + 1) ts))
 
-firings_apart : (stop number slot : ℕ) (ts : List Timer) → AllPairs FallApart (firings_from stop number slot ts)
-firings_apart stop number slot [] = no_pairs FallApart
+firings_apart : (stop number slot : ℕ) (ts : List Timer) → AllPairs AreForDifferentSlots (firings_from stop number slot ts)
+firings_apart stop number slot [] = no_pairs AreForDifferentSlots
 firings_apart stop number slot (t ∷ ts) =
-    AllPairs-append FallApart (map (firing number slot) (firing_times stop t)) (firings_from stop number (slot + 1) ts)
-    (AllPairs-map (λ a b. a < b) FallApart (firing number slot) (firing_times stop t)
+    AllPairs-append AreForDifferentSlots (map (firing number slot) (firing_times stop t)) (firings_from stop number (slot + 1) ts)
+    (AllPairs-map (λ a b. a < b) AreForDifferentSlots (firing number slot) (firing_times stop t)
     (λ a b before tags reactors slots.
     let same : a ≡ b = ap (λ (g : LogicalTime). g.time) tags in
     omega arith)
     (firing_times_rise stop t))
     (firings_apart stop number (slot + 1) ts)
-    (across (λ (e : Event). e.slot ≡ slot) (IsFrom number (slot + 1)) FallApart
+    (across (λ (e : Event). e.slot ≡ slot) (IsFrom number (slot + 1)) AreForDifferentSlots
     (map (firing number slot) (firing_times stop t)) (firings_from stop number (slot + 1) ts)
     (λ d e here from tags reactors slots.
     let later : slot + 1 ≤ e.slot = from.1 in
@@ -100,14 +102,14 @@ startup_is number s = chosen s.startup
     chosen true = All-cons (IsStartup number) (outside origin number startup_slot (pos 0)) [] (refl, refl) (All-nil (IsStartup number))
     chosen false = All-nil (IsStartup number)
 
-startup_apart : (number : ℕ) (s : Slots) → AllPairs FallApart (startup_of number s)
+startup_apart : (number : ℕ) (s : Slots) → AllPairs AreForDifferentSlots (startup_of number s)
 startup_apart number s = chosen s.startup
   where
-    chosen : (b : Bool) → AllPairs FallApart (if b then outside origin number startup_slot (pos 0) ∷ [] else [])
+    chosen : (b : Bool) → AllPairs AreForDifferentSlots (if b then outside origin number startup_slot (pos 0) ∷ [] else [])
     chosen true =
-        AllPairs-cons FallApart (outside origin number startup_slot (pos 0)) [] (All-nil (FallApart (outside origin number startup_slot (pos 0))))
-        (no_pairs FallApart)
-    chosen false = no_pairs FallApart
+        AllPairs-cons AreForDifferentSlots (outside origin number startup_slot (pos 0)) [] (All-nil (AreForDifferentSlots (outside origin number startup_slot (pos 0))))
+        (no_pairs AreForDifferentSlots)
+    chosen false = no_pairs AreForDifferentSlots
 
 own_events_are : (stop number : ℕ) (f : Federate) → All (λ e. e.reactor ≡ number) (own_events stop number f.slots)
 own_events_are stop number f =
@@ -117,11 +119,11 @@ own_events_are stop number f =
     (All-weaker (IsFrom number (first_timer f.slots)) (λ (e : Event). e.reactor ≡ number) (λ e from. from.0)
     (firings_from stop number (first_timer f.slots) f.slots.timers) (firings_are_from stop number (first_timer f.slots) f.slots.timers))
 
-own_events_apart : (stop number : ℕ) (f : Federate) → AllPairs FallApart (own_events stop number f.slots)
+own_events_apart : (stop number : ℕ) (f : Federate) → AllPairs AreForDifferentSlots (own_events stop number f.slots)
 own_events_apart stop number f =
-    AllPairs-append FallApart (startup_of number f.slots) (firings_from stop number (first_timer f.slots) f.slots.timers)
+    AllPairs-append AreForDifferentSlots (startup_of number f.slots) (firings_from stop number (first_timer f.slots) f.slots.timers)
     (startup_apart number f.slots) (firings_apart stop number (first_timer f.slots) f.slots.timers)
-    (across (IsStartup number) (IsFrom number (first_timer f.slots)) FallApart
+    (across (IsStartup number) (IsFrom number (first_timer f.slots)) AreForDifferentSlots
     (startup_of number f.slots) (firings_from stop number (first_timer f.slots) f.slots.timers)
     (λ d e start from tags reactors slots.
     let first : d.slot ≡ 0 = start.1 in
@@ -141,12 +143,12 @@ all_are_from stop number (f ∷ fs) =
     (All-weaker (IsNoEarlier (number + 1)) (IsNoEarlier number) (λ e later. omega arith)
     (own_events_from stop (number + 1) fs) (all_are_from stop (number + 1) fs))
 
-all_apart : (stop number : ℕ) (fs : List Federate) → AllPairs FallApart (own_events_from stop number fs)
-all_apart stop number [] = no_pairs FallApart
+all_apart : (stop number : ℕ) (fs : List Federate) → AllPairs AreForDifferentSlots (own_events_from stop number fs)
+all_apart stop number [] = no_pairs AreForDifferentSlots
 all_apart stop number (f ∷ fs) =
-    AllPairs-append FallApart (own_events stop number f.slots) (own_events_from stop (number + 1) fs)
+    AllPairs-append AreForDifferentSlots (own_events stop number f.slots) (own_events_from stop (number + 1) fs)
     (own_events_apart stop number f) (all_apart stop (number + 1) fs)
-    (across (λ (e : Event). e.reactor ≡ number) (IsNoEarlier (number + 1)) FallApart (own_events stop number f.slots) (own_events_from stop (number + 1) fs)
+    (across (λ (e : Event). e.reactor ≡ number) (IsNoEarlier (number + 1)) AreForDifferentSlots (own_events stop number f.slots) (own_events_from stop (number + 1) fs)
     (λ d e here later tags reactors slots. omega arith)
     (own_events_are stop number f) (all_are_from stop (number + 1) fs))
 
@@ -156,8 +158,8 @@ abbrev physical_names : Slots → List (List ℕ)
 physical_names s = s.physical
 
 -- inputs of different actions, or at different tags, make events of different slots, or at different tags
-input_apart : (d : Draft) (i j : Input) (e g : Event) → AreApart i j → input_event d.federates i ≡ Some e → input_event d.federates j ≡ Some g
-    → FallApart e g
+input_apart : (d : Draft) (i j : Input) (e g : Event) → AreForDifferentActions i j → input_event d.federates i ≡ Some e → input_event d.federates j ≡ Some g
+    → AreForDifferentSlots e g
 input_apart d i j e g apart e_is g_is tags reactors slots =
     let p : (r : Found) × (found_action d.federates i ≡ Some r) × (outside i.tag r.federate (physical_slot d.federates r) i.value ≡ e)
     = input_parts d i e e_is in
@@ -184,14 +186,14 @@ input_apart d i j e g apart e_is g_is tags reactors slots =
     (ap (λ o. place_in physical_names o j.action) (sym there) ∙ q_names.1 ∙ ap (λ k. Some k) place))
     tag
 
-inputs_apart : (d : Draft) (inputs : List Input) → AreInputsOf d inputs → AllPairs FallApart (input_events d inputs)
+inputs_apart : (d : Draft) (inputs : List Input) → AreInputsOf d inputs → AllPairs AreForDifferentSlots (input_events d inputs)
 inputs_apart d inputs are =
-    AllPairs-filter FallApart (λ (e : Event). is_at_most e.tag (stop_of d)) (filter_map (input_event d.federates) inputs)
-    (AllPairs-filter_map AreApart FallApart (input_event d.federates) inputs (input_apart d) are.apart)
+    AllPairs-filter AreForDifferentSlots (λ (e : Event). is_at_most e.tag (stop_of d)) (filter_map (input_event d.federates) inputs)
+    (AllPairs-filter_map AreForDifferentActions AreForDifferentSlots (input_event d.federates) inputs (input_apart d) are.apart)
 
 -- ---- all external events
 
-own_and_input : (d : Draft) (e g : Event) → IsOutside IsOwnSlot d e → IsOutside IsInputSlot d g → FallApart e g
+own_and_input : (d : Draft) (e g : Event) → IsOutside IsOwnSlot d e → IsOutside IsInputSlot d g → AreForDifferentSlots e g
 own_and_input d e g own input tags reactors slots =
     let same : own.federate ≡ input.federate
     = same_federate d e.reactor g.reactor own.federate input.federate reactors own.federate_is input.federate_is in
@@ -202,9 +204,9 @@ own_and_input d e g own input tags reactors slots =
       | inr timer ↦ (let low : e.slot < first_action input.federate.slots = timer.1 in omega arith)
     ]
 
-pub external_apart : (d : Draft) (inputs : List Input) → IsLegal d → AreInputsOf d inputs → AllPairs FallApart (external_of d inputs)
+pub external_apart : (d : Draft) (inputs : List Input) → IsLegal d → AreInputsOf d inputs → AllPairs AreForDifferentSlots (external_of d inputs)
 external_apart d inputs legal are =
-    AllPairs-append FallApart (own_events_from d.stop 0 d.federates) (input_events d inputs)
+    AllPairs-append AreForDifferentSlots (own_events_from d.stop 0 d.federates) (input_events d inputs)
     (all_apart d.stop 0 d.federates) (inputs_apart d inputs are)
-    (across (IsOutside IsOwnSlot d) (IsOutside IsInputSlot d) FallApart (own_events_from d.stop 0 d.federates) (input_events d inputs)
+    (across (IsOutside IsOwnSlot d) (IsOutside IsInputSlot d) AreForDifferentSlots (own_events_from d.stop 0 d.federates) (input_events d inputs)
     (own_and_input d) (own_events_outside d legal) (inputs_outside d inputs are))

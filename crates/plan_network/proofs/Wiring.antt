@@ -1,7 +1,7 @@
 -- Where the connections of a legal draft begin and end, and which delays there are.
 use Rattle.std.proofs.Common.{◌≡◌, ℕ, ◌+◌, ◌<◌, ◌≤◌, ◌^◌, length, ap, sym, ◌∙◌, arith, subst, Some, IfSome}
 use Rattle.std.specs.Prelude.{All, slice_get}
-use Rattle.tag.specs.Total.{IsPlainDelay}
+use Rattle.tag.specs.Total.{IsConnectionDelay}
 use Rattle.network.specs.Connection.{Connection}
 use Rattle.plan.specs.declared.draft.Federate.{Federate}
 use Rattle.plan.specs.declared.draft.ConnectionDraft.{ConnectionDraft}
@@ -28,7 +28,7 @@ pub record IsWired (d : Draft) (c : Connection) : Type 0 where
   pub port : c.port < length from.slots.outputs
   pub input : 1 ≤ c.slot
   pub no_timer : c.slot < first_timer to.slots
-  pub delay : IsPlainDelay c.delay
+  pub delay : IsConnectionDelay c.delay
 
 wired : (d : Draft) (c : ConnectionDraft) (x : Connection) → IfSome c.after (λ t. t < 2 ^ 62) → connection_of d.federates c ≡ Some x → IsWired d x
 wired d c x within is =
@@ -47,7 +47,7 @@ wired d c x within is =
       port = omega arith;
       input = omega arith;
       no_timer = omega arith;
-      delay = subst (λ g. IsPlainDelay g) (sym joins.delay) (plain_after c.after within);
+      delay = subst (λ g. IsConnectionDelay g) (sym joins.delay) (plain_after c.after within);
     }
 
 pub all_wired : (d : Draft) → IsLegal d → All (IsWired d) (connections_of d)

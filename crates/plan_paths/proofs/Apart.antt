@@ -1,14 +1,14 @@
--- Connections that end apart.
+-- Connections that have different ends.
 use Rattle.std.proofs.Common.{◌≡◌, ℕ, ◌<◌, List, length, ap, sym, ◌∙◌, arith, get_or, take, min}
 use Rattle.std.specs.Prelude.{Any}
 use Rattle.std.proofs.lemmas.List.{get_or_default, get_or-take, length-take}
 use Rattle.network.specs.Connection.{Connection}
-use Rattle.network.specs.Lawful.{EndApart}
+use Rattle.network.specs.Lawful.{HaveDifferentEnds}
 
 -- where no connection before a place ends where the one there does
 pub apart_from_before : (xs : List Connection) (place : ℕ) (x : Connection) → place < length xs → x ≡ get_or xs place x
     → (Any (λ c. (c.target ≡ x.target) × (c.slot ≡ x.slot)) (take place xs) → ⊥)
-    → (j : ℕ) (d : Connection) → j < place → EndApart (get_or xs j d) (get_or xs place d)
+    → (j : ℕ) (d : Connection) → j < place → HaveDifferentEnds (get_or xs j d) (get_or xs place d)
 apart_from_before xs place x below here none j d j_below target slot =
     let bound : length (take place xs) ≡ min place (length xs) = length-take place xs in
     let j_there : j < length xs = omega arith in

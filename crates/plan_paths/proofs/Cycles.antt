@@ -1,4 +1,4 @@
--- Cycles without any delay: what is found is one, and where nothing is found there is none.
+-- Zero-delay cycles: what is found is one, and where nothing is found there is none.
 use Rattle.std.proofs.Common.{◌≡◌, ◌≢◌, ℕ, zero, suc, ◌+◌, ◌<◌, ◌≤◌, Bool, true, false, List, [], ◌∷◌, ◌++◌, length, map, refl, ap, sym, ◌∙◌, arith, subst, inl, inr, ◌⊎◌, eqb, ◌||◌, get_or, drop}
 use Rattle.std.specs.Prelude.{All, AllPairs, Contains, nat_eq, if◌then◌else◌}
 use Rattle.std.specs.List.{list_any}
@@ -11,15 +11,16 @@ use Rattle.std.proofs.lemmas.Map.Steps.{length-le_from_distinct_below}
 use Rattle.std.proofs.lemmas.Bool.{eqb-true}
 use Rattle.tag.specs.LogicalTime.{origin}
 use Rattle.network.specs.Connection.{Connection, IsWalk, IsPath}
-use Rattle.network.proofs.Walks.{AreImmediate, walk_of_path, immediate_from_total, total_from_immediate}
-use Rattle.plan_paths.specs.Cycles.{HasNoCycleAt, IsCycleFrom, IsWay, IsSource, IsReached, JoinsTree, IsTree}
+use Rattle.network.proofs.Walks.{AreZeroDelay, walk_of_path, zero_delay_from_total, total_from_zero_delay}
+use Rattle.plan_paths.specs.Cycles.{HasNoCycleAt, IsCycleFrom, IsSimpleZeroDelayPath, IsSource, IsReached, JoinsTree}
+use Rattle.plan_paths.specs.Cycles.{IsTree}
 use Rattle.plan_paths.proofs.Levels.{EndsBelow}
-use Rattle.plan_paths.proofs.Paths.{immediate_test, immediate_from_test}
+use Rattle.plan_paths.proofs.Paths.{zero_delay_test, zero_delay_from_test}
 
--- ---- walks without any delay
+-- ---- zero-delay walks
 
 abbrev pub Leads : List Connection → ℕ → List Connection → ℕ → Type 0
-Leads cs i walk j = IsWalk cs i walk j × AreImmediate walk
+Leads cs i walk j = IsWalk cs i walk j × AreZeroDelay walk
 
 further : (cs : List Connection) (i : ℕ) (front : List Connection) (j : ℕ) (back : List Connection) (k : ℕ)
     → Leads cs i front j → Leads cs j back k → Leads cs i (front ++ back) k
@@ -30,7 +31,7 @@ further cs i (c ∷ front) j back k first next =
 
 leads_nowhere : (cs : List Connection) (i : ℕ) (c : Connection) (rest : List Connection) → HasNoCycleAt cs i → Leads cs i (c ∷ rest) i → ⊥
 leads_nowhere cs i c rest none leads =
-    none (c ∷ rest) leads.0 (total_from_immediate (c ∷ rest) leads.1)
+    none (c ∷ rest) leads.0 (total_from_zero_delay (c ∷ rest) leads.1)
 
 -- ---- a cycle goes round from each of its federates
 
@@ -112,16 +113,16 @@ grown_more cs root tree c grown contained joined other = record {
   ];
 }
 
--- where no connection joins, each without delay that leads to the root begins where one of the tree does
+-- where no connection joins, each zero-delay one that leads to the root begins where one of the tree does
 closed_by_one : (cs : List Connection) (root : ℕ) (tree : List Connection) → All (λ c. ¬ JoinsTree root tree c) cs
     → (i : ℕ) (c : Connection) → Contains cs c → c.delay ≡ origin → c.source ≡ i → IsReached root tree c.target
     → IsSource tree i
-closed_by_one cs root tree closed i c contained immediate source onward =
+closed_by_one cs root tree closed i c contained zero_delay source onward =
     elim (decided tree i) [
       | inl begun ↦ begun
       | inr none ↦
           absurd (All-contains (λ (x : Connection). ¬ JoinsTree root tree x) cs c closed contained
-          (record { immediate = immediate_test c immediate; onward = onward; apart = λ h. none (subst (λ m. IsSource tree m) source h) }))
+          (record { zero_delay = zero_delay_test c zero_delay; onward = onward; apart = λ h. none (subst (λ m. IsSource tree m) source h) }))
     ]
 
 closed_back : (cs : List Connection) (root : ℕ) (tree : List Connection) → All (λ c. ¬ JoinsTree root tree c) cs
@@ -134,7 +135,7 @@ closed_back cs root tree closed i c (d ∷ rest) leads =
 pub none_from_closed : (cs : List Connection) (root : ℕ) (tree : List Connection) → IsGrown cs root tree
     → All (λ c. ¬ JoinsTree root tree c) cs → HasNoCycleAt cs root
 none_from_closed cs root tree grown closed path is_path total =
-    round path (walk_of_path cs root path root is_path, immediate_from_total path total) is_path
+    round path (walk_of_path cs root path root is_path, zero_delay_from_total path total) is_path
   where
     round : (path : List Connection) → Leads cs root path root → IsPath cs root path root → ⊥
     round [] leads is_path = is_path
@@ -212,7 +213,7 @@ way_leads cs root (c ∷ tree) contained is_tree i start =
         → Leads cs i (if b then c ∷ way_from c.target tree else way_from i tree) root
     chosen true e start rest =
         let on : Leads cs c.target (way_from c.target tree) root = rest c.target is_tree.0.onward in
-        ((All-head (λ (x : Connection). Contains cs x) c tree contained, eqb-true c.source i e, on.0), (immediate_from_test c is_tree.0.immediate, on.1))
+        ((All-head (λ (x : Connection). Contains cs x) c tree contained, eqb-true c.source i e, on.0), (zero_delay_from_test c is_tree.0.zero_delay, on.1))
     chosen false e start rest = rest i (later (no_number_of_test c.source i e) start)
 
 -- what holds of each federate at which a tree begins holds along the way
@@ -250,16 +251,16 @@ way_ended path tree whole federate i past is =
 
 -- along a connection that joins, and then the tree
 pub way_whole : (first : Connection) (tree path : List Connection) → path ≡ first ∷ way_from first.target tree
-    → (root : ℕ) → JoinsTree root tree first → IsTree root tree → IsWay (first ∷ tree) first.source path root
+    → (root : ℕ) → JoinsTree root tree first → IsTree root tree → IsSimpleZeroDelayPath (first ∷ tree) first.source path root
 way_whole first tree path whole root joined is_tree =
     let contained : All (λ c. Contains (first ∷ tree) c) (first ∷ tree) = λ k d below. Contains-get_or (first ∷ tree) k d below in
     let on : Leads (first ∷ tree) first.target (way_from first.target tree) root
     = way_leads (first ∷ tree) root tree (All-tail (λ (x : Connection). Contains (first ∷ tree) x) first tree contained) is_tree first.target joined.onward in
-    subst (λ p. IsWay (first ∷ tree) first.source p root) (sym whole)
+    subst (λ p. IsSimpleZeroDelayPath (first ∷ tree) first.source p root) (sym whole)
     (record {
       is_path = (All-head (λ (x : Connection). Contains (first ∷ tree) x) first tree contained, refl, on.0);
-      immediate = total_from_immediate (first ∷ way_from first.target tree)
-          (immediate_from_test first joined.immediate, on.1);
+      zero_delay = total_from_zero_delay (first ∷ way_from first.target tree)
+          (zero_delay_from_test first joined.zero_delay, on.1);
       apart = AllPairs-cons (λ (x y : Connection). x.source ≢ y.source) first (way_from first.target tree)
           (apart_from_way tree first.source first.target joined.apart) (way_apart root tree is_tree first.target);
     })
@@ -274,14 +275,14 @@ path_of_more xs cs within i (c ∷ d ∷ rest) j is_path =
 -- a connection that joins and begins at the root closes a cycle
 pub cycle_found : (cs : List Connection) (start : ℕ) (tree : List Connection) (c : Connection) (path : List Connection)
     → ((lower : ℕ) → lower < start → HasNoCycleAt cs lower) → IsGrown cs start tree → Contains cs c → c.source ≡ start
-    → IsWay (c ∷ tree) c.source path start → IsCycleFrom cs start path
+    → IsSimpleZeroDelayPath (c ∷ tree) c.source path start → IsCycleFrom cs start path
 cycle_found cs start tree c path none grown contained source way =
     let within : All (λ x. Contains cs x) (c ∷ tree) = All-cons (λ (x : Connection). Contains cs x) c tree contained grown.contained in
     let is_path : IsPath cs start path start
     = subst (λ m. IsPath cs m path start) source (path_of_more (c ∷ tree) cs within c.source path start way.is_path) in
     record {
-      way = record { is_path = is_path; immediate = way.immediate; apart = way.apart };
-      lowest = lowest_from cs start path none (walk_of_path cs start path start is_path, immediate_from_total path way.immediate);
+      way = record { is_path = is_path; zero_delay = way.zero_delay; apart = way.apart };
+      lowest = lowest_from cs start path none (walk_of_path cs start path start is_path, zero_delay_from_total path way.zero_delay);
     }
 
 -- ---- federates on a path

@@ -6,7 +6,7 @@ use Rattle.std.proofs.lemmas.Bool.Decides.{nat_tests}
 use Rattle.std.proofs.lemmas.List.Elements.{All-contains}
 use Rattle.std.proofs.lemmas.Bool.{eqb-true}
 use Rattle.tag.specs.LogicalTime.{LogicalTime, is_before, sum_of}
-use Rattle.tag.specs.Total.{IsPlainDelay}
+use Rattle.tag.specs.Total.{IsConnectionDelay}
 use Rattle.tag.proofs.SumLaws.{sum_monotone_left}
 use Rattle.network.specs.Connection.{Connection, IsWalk, IsPath, then_along, total_of, IsLeastDelay, IsUnreachable}
 use Rattle.network.proofs.Walks.{ArePlain, total-cons, joined_path, along-snoc}
@@ -135,8 +135,8 @@ within_short cs most i (c ∷ rest) j is_path few =
     = subst (λ m. IsWithin (least_within cs (suc (most - length (c ∷ rest))) m c.target) c.delay) is_path.1 (within_first cs (most - length (c ∷ rest)) c is_path.0) in
     within_along cs (suc (most - length (c ∷ rest))) i c.target j c.delay rest is_path.2 first most (omega arith)
 
-each_plain : (cs : List Connection) → All (λ c. IsPlainDelay c.delay) cs → ArePlain cs
-each_plain cs plain x within = All-contains (λ (c : Connection). IsPlainDelay c.delay) cs x plain within
+each_plain : (cs : List Connection) → All (λ c. IsConnectionDelay c.delay) cs → ArePlain cs
+each_plain cs plain x within = All-contains (λ (c : Connection). IsConnectionDelay c.delay) cs x plain within
 
 targets_below : (cs : List Connection) (count : ℕ) → EndsBelow count cs → EndBelow count cs
 targets_below cs count ends x within =
@@ -144,13 +144,13 @@ targets_below cs count ends x within =
     below.1
 
 -- of any path
-pub within_every : (cs : List Connection) (count i : ℕ) (path : List Connection) (j : ℕ) → EndsBelow count cs → All (λ c. IsPlainDelay c.delay) cs → IsPath cs i path j
+pub within_every : (cs : List Connection) (count i : ℕ) (path : List Connection) (j : ℕ) → EndsBelow count cs → All (λ c. IsConnectionDelay c.delay) cs → IsPath cs i path j
     → IsWithin (least_within cs count i j) (total_of path)
 within_every cs count i path j ends plain is_path =
     let short : Shortened cs count i j path = shortened cs count (targets_below cs count ends) (each_plain cs plain) i path j is_path in
     within_more (least_within cs count i j) (total_of short.path) (total_of path) (within_short cs count i short.path j short.is_path short.few) short.total
 
-pub least_is : (cs : List Connection) (count i j : ℕ) → EndsBelow count cs → All (λ c. IsPlainDelay c.delay) cs
+pub least_is : (cs : List Connection) (count i j : ℕ) → EndsBelow count cs → All (λ c. IsConnectionDelay c.delay) cs
     → MatchOption (least_within cs count i j) (IsUnreachable cs i j) (λ delay. IsLeastDelay cs i j delay)
 least_is cs count i j ends plain = by (least_within cs count i j) (attained cs count i j) (λ path is_path. within_every cs count i path j ends plain is_path)
   where
@@ -161,11 +161,11 @@ least_is cs count i j ends plain = by (least_within cs count i j) (attained cs c
 
 -- ---- least delays along a connection
 
-pub within_direct : (cs : List Connection) (count : ℕ) (c : Connection) → EndsBelow count cs → All (λ c. IsPlainDelay c.delay) cs → Contains cs c
+pub within_direct : (cs : List Connection) (count : ℕ) (c : Connection) → EndsBelow count cs → All (λ c. IsConnectionDelay c.delay) cs → Contains cs c
     → IsWithin (least_within cs count c.source c.target) c.delay
 within_direct cs count c ends plain contained = within_every cs count c.source (c ∷ []) c.target ends plain (contained, refl, refl)
 
-pub within_onward : (cs : List Connection) (count j : ℕ) (c : Connection) → count ≤ 64 → EndsBelow count cs → All (λ c. IsPlainDelay c.delay) cs → Contains cs c
+pub within_onward : (cs : List Connection) (count j : ℕ) (c : Connection) → count ≤ 64 → EndsBelow count cs → All (λ c. IsConnectionDelay c.delay) cs → Contains cs c
     → IfSome (least_within cs count c.target j) (λ rest. IsWithin (least_within cs count c.source j) (sum_of c.delay rest))
 within_onward cs count j c small ends plain contained = by (least_within cs count c.target j) (attained cs count c.target j)
   where

@@ -1,16 +1,16 @@
--- A connection without any delay, as a test finds it.
+-- A zero-delay connection, as a test finds it.
 pub mod Delays
 -- Levels and ranks, as they are counted.
 pub mod Levels
--- Paths without any delay, and the levels that they make.
+-- Zero-delay paths, and the levels that they make.
 pub mod Paths
--- Cycles without any delay.
+-- Zero-delay cycles.
 pub mod Cycles
--- Levels and ranks where no cycle is without delay.
+-- Levels and ranks where there is no zero-delay cycle.
 pub mod Rising
 -- Least delays are least totals of paths.
 pub mod LeastTotals
 -- Least delays, as they are computed.
 pub mod LeastRounds
--- Connections that end apart.
+-- Connections that have different ends.
 pub mod Apart

@@ -1,27 +1,28 @@
--- Cycles without any delay, and the tree by which one is found.
+-- Zero-delay cycles, and the tree by which one is found.
 use Rattle.std.specs.Prelude.{◌≡◌, ◌≢◌, ℕ, ◌≤◌, ◌⊎◌, List, [], ◌∷◌, All, AllPairs, Any, IsTrue}
 use Rattle.tag.specs.LogicalTime.{origin}
 use Rattle.network.specs.Connection.{Connection, IsPath, total_of}
-use Rattle.plan_paths.specs.Levels.{is_immediate}
+use Rattle.plan_paths.specs.Levels.{is_zero_delay}
 
--- no path from this federate to itself is without any delay
+-- there is no zero-delay path from this federate to itself
 abbrev pub HasNoCycleAt : List Connection → ℕ → Type 0
 HasNoCycleAt connections start =
     (path : List Connection) → IsPath connections start path start → total_of path ≡ origin → ⊥
 
--- no path from any federate to itself is without any delay
-abbrev pub HasNoImmediateCycle : List Connection → Type 0
-HasNoImmediateCycle connections = (federate : ℕ) → HasNoCycleAt connections federate
+-- there is no zero-delay path from any federate to itself
+abbrev pub HasNoZeroDelayCycle : List Connection → Type 0
+HasNoZeroDelayCycle connections = (federate : ℕ) → HasNoCycleAt connections federate
 
--- a path without any delay, of which no two connections begin at one federate
-pub record IsWay (connections : List Connection) (start : ℕ) (path : List Connection) (goal : ℕ) : Type 0 where
+-- a zero-delay path, of which no two connections begin at one federate
+pub record IsSimpleZeroDelayPath (connections : List Connection) (start : ℕ) (path : List Connection)
+    (goal : ℕ) : Type 0 where
   pub is_path : IsPath connections start path goal
-  pub immediate : total_of path ≡ origin
+  pub zero_delay : total_of path ≡ origin
   pub apart : AllPairs (λ c d. c.source ≢ d.source) path
 
 -- such a path from a federate to itself, which is its lowest
 pub record IsCycleFrom (connections : List Connection) (start : ℕ) (path : List Connection) : Type 0 where
-  pub way : IsWay connections start path start
+  pub way : IsSimpleZeroDelayPath connections start path start
   pub lowest : All (λ c. start ≤ c.source) path
 
 -- one of these connections begins at the federate
@@ -32,9 +33,9 @@ IsSource connections federate = Any (λ c. c.source ≡ federate) connections
 abbrev pub IsReached : ℕ → List Connection → ℕ → Type 0
 IsReached root tree federate = (federate ≡ root) ⊎ IsSource tree federate
 
--- a connection without delay to the root or to where one of the tree begins, from where none of the tree does
+-- a zero-delay connection to the root or to where one of the tree begins, from where none of the tree does
 pub record JoinsTree (root : ℕ) (tree : List Connection) (c : Connection) : Type 0 where
-  pub immediate : IsTrue (is_immediate c)
+  pub zero_delay : IsTrue (is_zero_delay c)
   pub onward : IsReached root tree c.target
   pub apart : ¬ IsSource tree c.source
 

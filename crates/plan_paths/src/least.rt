@@ -63,7 +63,7 @@ impl LeastDelays {
     }
 }
 
-/// The least delays from a federate, one of this many.
+// The least delays from a federate, one of this many.
 fn row_of(
     alloc: Global,
     connections: &[Connection],
@@ -80,7 +80,7 @@ fn row_of(
     Ok(Row { delays })
 }
 
-/// The least totals of paths of one more connection at most.
+// The least totals of paths of one more connection at most.
 fn next_delays(
     alloc: Global,
     connections: &[Connection],
@@ -102,7 +102,7 @@ fn next_delays(
     Ok(next)
 }
 
-/// The least total of a path with this last connection, where `delays` are those of paths to its source.
+// The least total of a path with this last connection, where `delays` are those of paths to its source.
 fn ending(delays: &[Option<Delay>], from: usize, last: Connection) -> Option<Delay>
     requires { last.source < length delays.now }
     ensures { result ≡ least_ending (λ m. slice_index_or delays.now m None) from last }
@@ -112,7 +112,7 @@ fn ending(delays: &[Option<Delay>], from: usize, last: Connection) -> Option<Del
     lesser(alone, longer)
 }
 
-/// The lesser of two delays, where they are there.
+// The lesser of two delays, where they are there.
 fn lesser(first: Option<Delay>, second: Option<Delay>) -> Option<Delay>
     ensures { result ≡ lesser_of first second }
 {

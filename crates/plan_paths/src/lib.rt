@@ -1,5 +1,5 @@
-//! Connections between federates by number, and their paths: ports with two sources, cycles without any delay, ranks,
-//! and least delays.
+//! Connections between federates by number, and their paths: ports with two sources, zero-delay cycles, ranks, and
+//! least delays.
 //!
 //! Promise to the layer above: a second source of a port and a cycle are found exactly where there is one, the cycle
 //! over all paths of the connections; ranks and least delays are those of `specs`. Begin with `connection`, then

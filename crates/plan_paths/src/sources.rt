@@ -1,12 +1,12 @@
 ghost use Rattle.std.specs.Prelude.{◌≡◌, ◌↔◌, AllPairs, Any, IsTrue, MatchOption};
-ghost use Rattle.network.specs.Lawful.{EndApart};
+ghost use Rattle.network.specs.Lawful.{HaveDifferentEnds};
 ghost use Rattle.plan_paths.specs.Sources.{EndsTwice};
 
 use crate::connection::Connection;
 
 /// The place of a connection to a port to which one before it goes.
 pub fn second_source(connections: &[Connection]) -> Option<usize>
-    ensures { MatchOption result (AllPairs EndApart connections.now) (EndsTwice connections.now) }
+    ensures { MatchOption result (AllPairs HaveDifferentEnds connections.now) (EndsTwice connections.now) }
 {
     for (place, &connection) in connections.iter().enumerate() {
         if ends_there(&connections[..place], connection) {

@@ -43,7 +43,7 @@ pub record IsWidest (n : Network) (federate_records : ℕ → FederateRecord) (j
   pub is_bound : IsBound n federate_records j bound
   pub last : tag ≡ lesser (predecessor_of bound) n.stop
 
--- federate j is eligible by this bound: it is as `Eligible` says, but that its next tag is before the bound stands in
+-- federate j is eligible by this bound: it is as `IsEligible` says, but that its next tag is before the bound stands in
 -- place of `safe`
 pub record IsWithin (n : Network) (federate_records : ℕ → FederateRecord) (j : ℕ) (bound : LogicalTime) : Type 0 where
   pub announced : IsTrue (federate_records j).announced

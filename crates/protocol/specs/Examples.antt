@@ -1,4 +1,4 @@
--- A counter and a sum: `counter` sends 1, 2, 3 at (0, 0), (10 ms, 0), (20 ms, 0), over a connection without delay.
+-- A counter and a sum: `counter` sends 1, 2, 3 at (0, 0), (10 ms, 0), (20 ms, 0), over a zero-delay connection.
 use Rattle.std.specs.Prelude.{ℕ, ℤ, pos, ◌+ℤ◌, List, [], ◌∷◌, Option, None, Some, nat_eq, if◌then◌else◌, unwrap_or}
 use Rattle.tag.specs.LogicalTime.{origin}
 use Rattle.network.specs.Network.{Network, Effect}

@@ -33,7 +33,7 @@ ByConnections n federate_records j tag =
 
 -- a federate that gets a TAG: it has announced, its next tag isn't granted yet and isn't later than stop, and is safe.
 -- How far the TAG reaches, the rule says
-pub record Eligible (n : Network) (federate_records : ℕ → FederateRecord) (j : ℕ) : Type 0 where
+pub record IsEligible (n : Network) (federate_records : ℕ → FederateRecord) (j : ℕ) : Type 0 where
   pub announced : IsTrue (federate_records j).announced
   pub not_granted : IsTrue (is_past (federate_records j).granted (federate_records j).next)
   pub in_time : IsTrue (is_at_most (federate_records j).next n.stop)

@@ -16,7 +16,7 @@ pub mod Coordinator
 -- records as a list, and whether all is finished
 pub mod FederateRecords
 -- what each side keeps by itself, and what it sends, whatever the other side says
-pub mod Alone
+pub mod KeptAlone
 -- federates, coordinator and the queues between them
 pub mod Machine
 -- a small federation, on which the definitions are computed

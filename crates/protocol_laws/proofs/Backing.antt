@@ -8,7 +8,7 @@ use Rattle.tag.proofs.Order.{at_most_reflexive, before_then, either_of}
 use Rattle.tag.proofs.SumLaws.{sum_monotone_left, sum_monotone_right, sum_twice_at_least}
 use Rattle.network.specs.Connection.{Connection}
 use Rattle.network.specs.Network.{Network}
-use Rattle.network.specs.Tables.{Table, IsWithin, IsTable}
+use Rattle.network.specs.Tables.{Table, IsWithin, IsAtMostEveryPath}
 use Rattle.network.proofs.Tables.{within_found}
 use Rattle.protocol.specs.FederateRecord.{FederateRecord, after_message, after_grant}
 use Rattle.protocol.specs.Coordinator.{with_federate_record}
@@ -100,7 +100,7 @@ if_some_at None d P e h = cc
 if_some_at (Some x) d P e h = let same : x ≡ d = cc in subst P same h
 
 -- a message that is sent from a tag at or after its sender's next, and after the last LTC, is past what its receiver was granted
-pub message_is_past : (n : Network) (table : Table) (federate_records : ℕ → FederateRecord) (k : ℕ) (c : Connection) (s : LogicalTime) (o : Option LogicalTime) → IsTable n table → slice_get n.connections k ≡ Some c → c.source < n.reactors → is_at_most (federate_records c.source).next s ≡ true → is_at_most (after_completed (federate_records c.source).completed) s ≡ true → IsBacked n table federate_records c.target o → is_past o (sum_of s c.delay) ≡ true
+pub message_is_past : (n : Network) (table : Table) (federate_records : ℕ → FederateRecord) (k : ℕ) (c : Connection) (s : LogicalTime) (o : Option LogicalTime) → IsAtMostEveryPath n table → slice_get n.connections k ≡ Some c → c.source < n.reactors → is_at_most (federate_records c.source).next s ≡ true → is_at_most (after_completed (federate_records c.source).completed) s ≡ true → IsBacked n table federate_records c.target o → is_past o (sum_of s c.delay) ≡ true
 message_is_past n table federate_records k c s None t e l m a b = refl
 message_is_past n table federate_records k c s (Some g) t e l m a (inl h) =
     let w = within_found (table c.source c.target) c.delay (all_at (λ x. IsWithin (table x.source x.target) x.delay) n.connections k c t.direct e) in
@@ -112,7 +112,7 @@ message_is_past n table federate_records k c s (Some g) t e l m a (inr h) =
     before_then g (sum_of (after_completed (federate_records c.source).completed) c.delay) (sum_of s c.delay) (h k c e refl) (sum_monotone_left (after_completed (federate_records c.source).completed) s c.delay a)
 
 -- and it lowers its receiver's next tag no further than other grants are backed
-pub message_keeps_backing : (n : Network) (table : Table) (federate_records : ℕ → FederateRecord) (k : ℕ) (c : Connection) (s : LogicalTime) (j : ℕ) (o : Option LogicalTime) → IsTable n table → slice_get n.connections k ≡ Some c → c.source < n.reactors → is_at_most (federate_records c.source).next s ≡ true → IsBacked n table federate_records j o → IsBacked n table (with_federate_record federate_records c.target (after_message (federate_records c.target) (sum_of s c.delay))) j o
+pub message_keeps_backing : (n : Network) (table : Table) (federate_records : ℕ → FederateRecord) (k : ℕ) (c : Connection) (s : LogicalTime) (j : ℕ) (o : Option LogicalTime) → IsAtMostEveryPath n table → slice_get n.connections k ≡ Some c → c.source < n.reactors → is_at_most (federate_records c.source).next s ≡ true → IsBacked n table federate_records j o → IsBacked n table (with_federate_record federate_records c.target (after_message (federate_records c.target) (sum_of s c.delay))) j o
 message_keeps_backing n table federate_records k c s j None t e l m b = tt
 message_keeps_backing n table federate_records k c s j (Some g) t e l m (inl h) =
     inl (λ i d r p. (

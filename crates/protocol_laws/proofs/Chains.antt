@@ -8,7 +8,7 @@ use Rattle.tag.proofs.Paths.{plain_is_logical}
 use Rattle.network.specs.Connection.{Connection, then_along, total_of, IsWalk}
 use Rattle.network.specs.Network.{Network}
 use Rattle.network.specs.Lawful.{IsLawful}
-use Rattle.network.specs.Tables.{Table, IsTable}
+use Rattle.network.specs.Tables.{Table, IsAtMostEveryPath}
 use Rattle.network.proofs.Walks as walks
 use Rattle.network.proofs.Walks.{sum_before_along}
 use Rattle.network.proofs.Lawful.{contained_is, plain_of}
@@ -32,7 +32,7 @@ pub along_is_logical : (n : Network) (i j : ℕ) (g : LogicalTime) (path : List 
 along_is_logical n i j g path lawful p w = walks.along_is_logical n.connections i path j g (plain_of n lawful) w p
 
 -- over paths: what comes from a tag at or after the next one
-ahead_by_paths : (n : Network) (table : Table) (federate_records : ℕ → FederateRecord) (k j : ℕ) (s tag : LogicalTime) (c : Connection) (rest : List Connection) → IsLawful n → IsTable n table → is_at_most (federate_records k).next s ≡ true → HoldsByPaths n table federate_records j tag → IsWalk n.connections k (c ∷ rest) j → is_before tag (then_along s (c ∷ rest)) ≡ true
+ahead_by_paths : (n : Network) (table : Table) (federate_records : ℕ → FederateRecord) (k j : ℕ) (s tag : LogicalTime) (c : Connection) (rest : List Connection) → IsLawful n → IsAtMostEveryPath n table → is_at_most (federate_records k).next s ≡ true → HoldsByPaths n table federate_records j tag → IsWalk n.connections k (c ∷ rest) j → is_before tag (then_along s (c ∷ rest)) ≡ true
 ahead_by_paths n table federate_records k j s tag c rest lawful facts next h w =
     let d = within_found (table k j) (total_of (c ∷ rest)) (within_path n table k j (c ∷ rest) facts w) in
     let first = h k d.0 (path_begins n k j (c ∷ rest) (lawful_is_wired n lawful) w) d.1 in
@@ -55,7 +55,7 @@ ahead_by_connections n federate_records completed k j s tag c (d ∷ rest) lawfu
     (λ i path v. clear i (c ∷ path) (w.0, w.1, v)) h w.2
 
 -- so of each pending event what comes over at least one connection is later than what was granted
-pub backed_is_ahead : (n : Network) (table : Table) (federate_records : ℕ → FederateRecord) (completed : ℕ → Option LogicalTime) (k j : ℕ) (s tag : LogicalTime) → IsLawful n → IsTable n table → ((i : ℕ) → IsOptional (federate_records i).completed) → ((i : ℕ) → above (federate_records i).completed ≤ above (completed i)) → IsLogicalTime s → IsLogicalTime tag → is_at_most (federate_records k).next s ≡ true → IsClear n completed k s → IsBacked n table federate_records j (Some tag) → IsAhead n j k s tag
+pub backed_is_ahead : (n : Network) (table : Table) (federate_records : ℕ → FederateRecord) (completed : ℕ → Option LogicalTime) (k j : ℕ) (s tag : LogicalTime) → IsLawful n → IsAtMostEveryPath n table → ((i : ℕ) → IsOptional (federate_records i).completed) → ((i : ℕ) → above (federate_records i).completed ≤ above (completed i)) → IsLogicalTime s → IsLogicalTime tag → is_at_most (federate_records k).next s ≡ true → IsClear n completed k s → IsBacked n table federate_records j (Some tag) → IsAhead n j k s tag
 backed_is_ahead n table federate_records completed k j s tag lawful facts optional behind p q next clear (inl h) c rest w =
     let before = before_places tag (then_along s (c ∷ rest)) q (along_is_logical n k j s (c ∷ rest) lawful p w) (ahead_by_paths n table federate_records k j s tag c rest lawful facts next h w) in
     omega arith
@@ -64,7 +64,7 @@ backed_is_ahead n table federate_records completed k j s tag lawful facts option
     omega arith
 
 -- and so is what comes of a message that is still on its way to the coordinator
-pub message_is_ahead : (n : Network) (table : Table) (federate_records : ℕ → FederateRecord) (completed : ℕ → Option LogicalTime) (i j : ℕ) (c : Connection) (source s tag : LogicalTime) (path : List Connection) → IsLawful n → IsTable n table → ((x : ℕ) → IsOptional (federate_records x).completed) → ((x : ℕ) → above (federate_records x).completed ≤ above (completed x)) → IsLogicalTime source → IsLogicalTime tag → Contains n.connections c → c.source ≡ i → s ≡ sum_of source c.delay → is_at_most (federate_records i).next source ≡ true → above (federate_records i).completed ≤ place source → IsClear n completed c.target s → IsBacked n table federate_records j (Some tag) → IsWalk n.connections c.target path j → place tag + 1 ≤ place (then_along s path)
+pub message_is_ahead : (n : Network) (table : Table) (federate_records : ℕ → FederateRecord) (completed : ℕ → Option LogicalTime) (i j : ℕ) (c : Connection) (source s tag : LogicalTime) (path : List Connection) → IsLawful n → IsAtMostEveryPath n table → ((x : ℕ) → IsOptional (federate_records x).completed) → ((x : ℕ) → above (federate_records x).completed ≤ above (completed x)) → IsLogicalTime source → IsLogicalTime tag → Contains n.connections c → c.source ≡ i → s ≡ sum_of source c.delay → is_at_most (federate_records i).next source ≡ true → above (federate_records i).completed ≤ place source → IsClear n completed c.target s → IsBacked n table federate_records j (Some tag) → IsWalk n.connections c.target path j → place tag + 1 ≤ place (then_along s path)
 message_is_ahead n table federate_records completed i j c source s tag path lawful facts optional behind p q within from e next low clear (inl h) w =
     let walk : IsWalk n.connections i (c ∷ path) j = (within, from, w) in
     let before = before_places tag (then_along source (c ∷ path)) q (along_is_logical n i j source (c ∷ path) lawful p walk) (ahead_by_paths n table federate_records i j source tag c path lawful facts next h walk) in

@@ -6,7 +6,7 @@ use Rattle.tag.proofs.Order.{at_most_from_places, at_most_places, place_bound}
 use Rattle.network.specs.Connection.{Connection, then_along, IsWalk}
 use Rattle.network.specs.Network.{Network}
 use Rattle.network.specs.Lawful.{IsLawful}
-use Rattle.network.specs.Tables.{Table, IsTable}
+use Rattle.network.specs.Tables.{Table, IsAtMostEveryPath}
 use Rattle.signal.specs.declared.signal.Signal.{Signal}
 use Rattle.signal.specs.declared.signal.Signal.TheVariants.{Net, Ltc, Tag, Msg}
 use Rattle.network.specs.Undone.{PendingEvent, put, put_all, drop_up_to, is_held_before, is_for_same}
@@ -105,7 +105,7 @@ walk_past n j k g γ s (c ∷ rest) ahead l here w = let a = ahead c rest w in o
 -- what is known at a turn of j at g: how far it was granted, and what is behind each grant
 pub record IsTurn (n : Network) (table : Table) (members : ℕ → Member) (j : ℕ) (g γ : LogicalTime) : Type 0 where
   pub lawful : IsLawful n
-  pub facts : IsTable n table
+  pub facts : IsAtMostEveryPath n table
   pub kept : (i : ℕ) → IsKept n i (members i).federate_record (members i).federate (members i).up (members i).down
   pub logical : IsLogicalTime γ
   pub within : place g ≤ place γ

@@ -8,7 +8,7 @@ use Rattle.tag.proofs.Order.{finite_is_logical, place_of_finite}
 use Rattle.network.specs.Connection.{Connection}
 use Rattle.network.specs.Network.{Network}
 use Rattle.network.specs.Lawful.{IsLawful}
-use Rattle.network.specs.Tables.{Table, IsTable}
+use Rattle.network.specs.Tables.{Table, IsAtMostEveryPath}
 use Rattle.signal.specs.declared.signal.Signal.{Signal}
 use Rattle.signal.specs.declared.signal.Signal.TheVariants.{Net, Ltc, Tag, Msg}
 use Rattle.protocol.specs.declared.refusal.Refusal.TheVariants.{Late, OldGrant, WrongSignal, NotYours, BelowGrant, NotRising, AfterStop}
@@ -94,7 +94,7 @@ turn_other n table members j k g γ t apart clear =
       downward = down_after n table members j k (above (members k).federate.granted) g γ (members k).federate_record.transit (members k).down t kept.downward kept.covered kept.next_transit (λ e. absurd (apart e)) (clear k).downward;
     }
 
-turn_clears : (n : Network) (table : Table) (members : ℕ → Member) (j : ℕ) (g : LogicalTime) → IsLawful n → IsTable n table → IsSound n table members → first_tag (members j).federate.undone ≡ Some g → is_reached (members j).federate.granted g ≡ true → AllClear n members → AllClear n (with_member members j (stepped (members j) (members j).down (turn_at n j (members j).federate g)))
+turn_clears : (n : Network) (table : Table) (members : ℕ → Member) (j : ℕ) (g : LogicalTime) → IsLawful n → IsAtMostEveryPath n table → IsSound n table members → first_tag (members j).federate.undone ≡ Some g → is_reached (members j).federate.granted g ≡ true → AllClear n members → AllClear n (with_member members j (stepped (members j) (members j).down (turn_at n j (members j).federate g)))
 turn_clears n table members j g lawful facts sound first reached clear =
     let k = sound.kept j in
     let is = first_is n.stop (above (members j).federate.completed) (members j).federate.undone g k.undone first in
@@ -173,12 +173,12 @@ announce_stays : (n : Network) (completed : ℕ → Option LogicalTime) (i : ℕ
 announce_stays n completed i m true a = tt
 announce_stays n completed i m false a = (refl, record { held = a.held; upward = up_clear-append n completed m.up (Net (next_event m.federate) ∷ []) a.upward tt; downward = a.downward })
 
-advance_if : (n : Network) (table : Table) (members : ℕ → Member) (j : ℕ) (g : LogicalTime) (lost b : Bool) → IsLawful n → IsTable n table → IsSound n table members → first_tag (members j).federate.undone ≡ Some g → (b ≡ true → is_reached (members j).federate.granted g ≡ true) → AllClear n members → MakesClear n (if lost then Nothing else with_made (with_member members j) (with_made (stepped (members j) (members j).down) (if b then Done (turn_at n j (members j).federate g) else Nothing)))
+advance_if : (n : Network) (table : Table) (members : ℕ → Member) (j : ℕ) (g : LogicalTime) (lost b : Bool) → IsLawful n → IsAtMostEveryPath n table → IsSound n table members → first_tag (members j).federate.undone ≡ Some g → (b ≡ true → is_reached (members j).federate.granted g ≡ true) → AllClear n members → MakesClear n (if lost then Nothing else with_made (with_member members j) (with_made (stepped (members j) (members j).down) (if b then Done (turn_at n j (members j).federate g) else Nothing)))
 advance_if n table members j g true b lawful facts sound first reached clear = tt
 advance_if n table members j g false true lawful facts sound first reached clear = turn_clears n table members j g lawful facts sound first (reached refl) clear
 advance_if n table members j g false false lawful facts sound first reached clear = tt
 
-advance_clears : (n : Network) (table : Table) (members : ℕ → Member) (j : ℕ) (o : Option LogicalTime) (lost : Bool) → IsLawful n → IsTable n table → IsSound n table members → first_tag (members j).federate.undone ≡ o → AllClear n members → MakesClear n (if lost then Nothing else with_made (with_member members j) (with_made (stepped (members j) (members j).down) (advance_to n j (members j).federate o)))
+advance_clears : (n : Network) (table : Table) (members : ℕ → Member) (j : ℕ) (o : Option LogicalTime) (lost : Bool) → IsLawful n → IsAtMostEveryPath n table → IsSound n table members → first_tag (members j).federate.undone ≡ o → AllClear n members → MakesClear n (if lost then Nothing else with_made (with_member members j) (with_made (stepped (members j) (members j).down) (advance_to n j (members j).federate o)))
 advance_clears n table members j None true lawful facts sound first clear = tt
 advance_clears n table members j None false lawful facts sound first clear = tt
 advance_clears n table members j (Some g) lost lawful facts sound first clear = advance_if n table members j g lost (is_reached (members j).federate.granted g) lawful facts sound first (λ t. t) clear
@@ -246,7 +246,7 @@ coordinator_clears n rule members i (signal ∷ rest) a clear =
     coordinated_clears n rule (with_member members i (record (members i) { up = rest })) (coordinator_takes n (federate_records_of members) i signal) popped
     (subst P (sym (popped_completed members i rest)) (coordinator_sends n (completed_of members) (federate_records_of members) i signal rest a))
 
-move_clears : (n : Network) (table : Table) (rule : Rule) (members : ℕ → Member) (move : Move) → IsLawful n → IsTable n table → IsSound n table members → AllClear n members → MakesClear n (outcome_of n rule members move)
+move_clears : (n : Network) (table : Table) (rule : Rule) (members : ℕ → Member) (move : Move) → IsLawful n → IsAtMostEveryPath n table → IsSound n table members → AllClear n members → MakesClear n (outcome_of n rule members move)
 move_clears n table rule members (ToCoordinator i) lawful facts sound clear = coordinator_clears n rule members i (members i).up (clear i).upward clear
 move_clears n table rule members (ToFederate i) lawful facts sound clear = stays_unless n members i (federate_takes_from n i (members i) (members i).down) (members i).lost (take_stays n (completed_of members) i (members i) (members i).down (clear i)) clear
 move_clears n table rule members (Announce i) lawful facts sound clear =
@@ -265,7 +265,7 @@ none_completed n k [] = tt
 none_completed n k (x ∷ rest) = ((λ j path w. omega arith), none_completed n k rest)
 
 -- after every list of moves
-pub moves_clear : (n : Network) (table : Table) (rules : ℕ → Rule) (moves : List Move) → IsLawful n → IsTable n table → ((k : ℕ) → IsSafeRule n table (rules k)) → AllClear n (after_moves n rules moves)
+pub moves_clear : (n : Network) (table : Table) (rules : ℕ → Rule) (moves : List Move) → IsLawful n → IsAtMostEveryPath n table → ((k : ℕ) → IsSafeRule n table (rules k)) → AllClear n (after_moves n rules moves)
 moves_clear n table rules [] lawful facts safe = λ k. record { held = none_completed n k (initial_member n k).federate.undone; upward = tt; downward = tt }
 moves_clear n table rules (move ∷ earlier) lawful facts safe =
     made_or_clear n (after_moves n rules earlier) (outcome_of n (rules (length earlier)) (after_moves n rules earlier) move) (moves_clear n table rules earlier lawful facts safe)

@@ -4,7 +4,7 @@ use Rattle.tag.specs.LogicalTime.{LogicalTime, IsFinite, place, is_reached}
 use Rattle.network.specs.Network.{Network}
 use Rattle.network.specs.Undivided.{whole, part}
 use Rattle.network.specs.Lawful.{IsLawful}
-use Rattle.network.specs.Tables.{Table, IsTable}
+use Rattle.network.specs.Tables.{Table, IsAtMostEveryPath}
 use Rattle.network_laws.specs.History.{up_to}
 use Rattle.network_laws.specs.Consistent.{IsInTime}
 use Rattle.network_laws.proofs.Agree.{agree}
@@ -25,17 +25,17 @@ use Rattle.protocol_laws.proofs.Consistency.{histories_are_consistent}
 abbrev AreSafe : Network → Table → (ℕ → Rule) → Type 0
 AreSafe n table rules = (move : ℕ) → IsSafeRule n table (rules move)
 
-pub rows_begin : (n : Network) (table : Table) (rules : ℕ → Rule) → IsLawful n → IsTable n table → AreSafe n table rules → (moves : List Move) (j : ℕ) → j < n.reactors → (turns : ℕ) → place n.stop * 64 + 64 ≤ turns → BeginsWith (part j (whole n turns)) (rows_of_run n rules moves j)
+pub rows_begin : (n : Network) (table : Table) (rules : ℕ → Rule) → IsLawful n → IsAtMostEveryPath n table → AreSafe n table rules → (moves : List Move) (j : ℕ) → j < n.reactors → (turns : ℕ) → place n.stop * 64 + 64 ≤ turns → BeginsWith (part j (whole n turns)) (rows_of_run n rules moves j)
 rows_begin n table rules lawful facts safe moves j there turns enough =
     begins_whole n lawful (after_moves n rules moves) (IsSettled n (after_moves n rules moves)) (histories_are_consistent n table rules lawful facts safe moves) j there
     (moves_replay n table rules moves lawful facts safe j) turns enough
 
-pub rows_begin_some : (n : Network) (table : Table) (rules : ℕ → Rule) → IsLawful n → IsTable n table → AreSafe n table rules → (moves : List Move) (j : ℕ) → j < n.reactors → (turns : ℕ) × BeginsWith (part j (whole n turns)) (rows_of_run n rules moves j)
+pub rows_begin_some : (n : Network) (table : Table) (rules : ℕ → Rule) → IsLawful n → IsAtMostEveryPath n table → AreSafe n table rules → (moves : List Move) (j : ℕ) → j < n.reactors → (turns : ℕ) × BeginsWith (part j (whole n turns)) (rows_of_run n rules moves j)
 rows_begin_some n table rules lawful facts safe moves j there =
     (place n.stop * 64 + 64, rows_begin n table rules lawful facts safe moves j there (place n.stop * 64 + 64) (omega arith))
 
 -- two runs
-module _ (n : Network) (table other_table : Table) (rules others : ℕ → Rule) (lawful : IsLawful n) (facts : IsTable n table) (other_facts : IsTable n other_table) (safe : AreSafe n table rules) (other_safe : AreSafe n other_table others) (moves other_moves : List Move) (j : ℕ) where
+module _ (n : Network) (table other_table : Table) (rules others : ℕ → Rule) (lawful : IsLawful n) (facts : IsAtMostEveryPath n table) (other_facts : IsAtMostEveryPath n other_table) (safe : AreSafe n table rules) (other_safe : AreSafe n other_table others) (moves other_moves : List Move) (j : ℕ) where
   pub histories_agree : (tag : LogicalTime) → IsInTime n j tag → IsSettled n (after_moves n rules moves) j tag → IsSettled n (after_moves n others other_moves) j tag → up_to tag (histories_of (after_moves n rules moves) j) ≡ up_to tag (histories_of (after_moves n others other_moves) j)
   histories_agree =
       agree n lawful (histories_of (after_moves n rules moves)) (histories_of (after_moves n others other_moves)) (IsSettled n (after_moves n rules moves)) (IsSettled n (after_moves n others other_moves))
@@ -54,7 +54,7 @@ module _ (n : Network) (table other_table : Table) (rules others : ℕ → Rule)
       (moves_replay n table rules moves lawful facts safe j) (moves_replay n other_table others other_moves lawful other_facts other_safe j)
 
 -- where nothing is left to do
-module _ (n : Network) (table : Table) (rules : ℕ → Rule) (lawful : IsLawful n) (facts : IsTable n table) (safe : AreSafe n table rules) (moves : List Move) (quiet : (j : ℕ) → j < n.reactors → IsQuiet (after_moves n rules moves j)) (j : ℕ) (there : j < n.reactors) where
+module _ (n : Network) (table : Table) (rules : ℕ → Rule) (lawful : IsLawful n) (facts : IsAtMostEveryPath n table) (safe : AreSafe n table rules) (moves : List Move) (quiet : (j : ℕ) → j < n.reactors → IsQuiet (after_moves n rules moves j)) (j : ℕ) (there : j < n.reactors) where
   settled_to_stop : IsSettled n (after_moves n rules moves) j n.stop
   settled_to_stop k s path pending w = absurd (nothing_pending n lawful (after_moves n rules moves) (moves_sound n table rules moves lawful facts safe).kept quiet k j s path there pending w)
 

@@ -10,7 +10,7 @@ use Rattle.tag.proofs.SumLaws.{sum_monotone_left}
 use Rattle.network.specs.Connection.{Connection, then_along, IsWalk}
 use Rattle.network.specs.Network.{Network}
 use Rattle.network.specs.Lawful.{IsLawful}
-use Rattle.network.specs.Tables.{Table, IsTable}
+use Rattle.network.specs.Tables.{Table, IsAtMostEveryPath}
 use Rattle.network_laws.specs.History.{Turn, has_turn_at}
 use Rattle.network_laws.specs.Newest.{or_else}
 use Rattle.network_laws.specs.Consistent.{IsCalledFor}
@@ -139,7 +139,7 @@ traced_by_histories n members w =
     let P : (ℕ → List Turn) → Type 0 = λ trace. IsTraced n members trace in
     subst P (fun_ext (λ i. sym (w.1.history i))) w.1
 
-pub histories_are_consistent : (n : Network) (table : Table) (rules : ℕ → Rule) → IsLawful n → IsTable n table → ((k : ℕ) → IsSafeRule n table (rules k)) → StaysConsistent n rules
+pub histories_are_consistent : (n : Network) (table : Table) (rules : ℕ → Rule) → IsLawful n → IsAtMostEveryPath n table → ((k : ℕ) → IsSafeRule n table (rules k)) → StaysConsistent n rules
 histories_are_consistent n table rules lawful facts safe moves =
     let sound = moves_sound n table rules moves lawful facts safe in
     let replayed = moves_replay n table rules moves lawful facts safe in

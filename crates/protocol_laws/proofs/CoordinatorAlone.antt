@@ -25,7 +25,7 @@ use Rattle.protocol.specs.Grant.{Rule, IsSafe, IsSafeRule}
 use Rattle.protocol.specs.declared.post.Post.{Post}
 use Rattle.protocol.specs.Coordinator.{Coordinated, with_federate_record, noted, route, coordinator_takes, grant_to, grants_from, with_grants, coordinator_accepts}
 use Rattle.protocol.specs.Machine.{sent_to}
-use Rattle.protocol.specs.Alone.{IsFederateRecord, is_of_step, is_sent_past, granted_by}
+use Rattle.protocol.specs.KeptAlone.{IsFederateRecord, is_of_step, may_go_down, granted_by_tags}
 use Rattle.protocol_laws.proofs.Transit.{lesser_is_tag}
 use Rattle.protocol_laws.proofs.Backing.{at_update}
 use Rattle.protocol_laws.proofs.Safety.{tag_if, sent-append, grants_sent, rule_grants}
@@ -164,7 +164,7 @@ signal_taken n federate_records i (Msg k g v) all p = route_taken n federate_rec
 
 -- what goes to one federate: a message at most, and a TAG at most
 abbrev IsSent : Option LogicalTime → Option LogicalTime → List Signal → Type 0
-IsSent before after sent = IsTrue (is_of_step sent) × IsTrue (is_sent_past before sent) × (after ≡ granted_by before sent)
+IsSent before after sent = IsTrue (is_of_step sent) × IsTrue (may_go_down before sent) × (after ≡ granted_by_tags before sent)
 
 with_tag_sent : (s : FederateRecord) (before : Option LogicalTime) (xs : List Signal) (o : Option LogicalTime) → s.granted ≡ before → IsMessageAtMost before xs → ((g : LogicalTime) → o ≡ Some g → IsTrue (is_past s.granted g)) → IsSent before (after_grant s o).granted (xs ++ tag_if o)
 with_tag_sent s before [] None e m later = (refl, refl, e)

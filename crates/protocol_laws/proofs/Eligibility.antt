@@ -14,7 +14,8 @@ use Rattle.network.specs.Lawful.{IsLawful, IsConnected}
 use Rattle.network.specs.Wiring.{IsBetween, IsWired}
 use Rattle.network.specs.Tables.{Table, IsLeastTable}
 use Rattle.protocol.specs.FederateRecord.{FederateRecord}
-use Rattle.protocol.specs.Grant.{after_completed, ByPaths, ByConnections, Eligible, all_below, is_before_arrival, passes_paths, passes_connection, passes_connections, is_eligible}
+use Rattle.protocol.specs.Grant.{after_completed, ByPaths, ByConnections, IsEligible, all_below, is_before_arrival}
+use Rattle.protocol.specs.Grant.{passes_paths, passes_connection, passes_connections, is_eligible}
 use Rattle.protocol_laws.proofs.Backing.{paths_hold, connections_hold}
 use Rattle.protocol_laws.proofs.SafeGrants.{eligible_announced, eligible_not_granted, eligible_in_time, eligible_safe}
 use Rattle.protocol_laws.proofs.Tests.{both_hold, either_case, either_of}
@@ -85,7 +86,7 @@ paths_by_table n table federate_records j tag wired least = (paths_from n table 
 pub connections_by_test : (n : Network) (federate_records : ℕ → FederateRecord) (j : ℕ) (tag : LogicalTime) → ByConnections n federate_records j tag ↔ IsTrue (passes_connections n federate_records j tag)
 connections_by_test n federate_records j tag = (connections_from n federate_records j tag, by_connections n federate_records j tag)
 
-to_formula : (n : Network) (table : Table) (federate_records : ℕ → FederateRecord) (j : ℕ) → IsWired n → IsLeastTable n table → is_eligible n table federate_records j ≡ true → Eligible n federate_records j
+to_formula : (n : Network) (table : Table) (federate_records : ℕ → FederateRecord) (j : ℕ) → IsWired n → IsLeastTable n table → is_eligible n table federate_records j ≡ true → IsEligible n federate_records j
 to_formula n table federate_records j wired least h =
     let next = (federate_records j).next in
     let a = (federate_records j).announced in
@@ -103,7 +104,7 @@ to_formula n table federate_records j wired least h =
       ];
     }
 
-to_test : (n : Network) (table : Table) (federate_records : ℕ → FederateRecord) (j : ℕ) → IsLeastTable n table → Eligible n federate_records j → is_eligible n table federate_records j ≡ true
+to_test : (n : Network) (table : Table) (federate_records : ℕ → FederateRecord) (j : ℕ) → IsLeastTable n table → IsEligible n federate_records j → is_eligible n table federate_records j ≡ true
 to_test n table federate_records j least e =
     let next = (federate_records j).next in
     let a = (federate_records j).announced in
@@ -117,5 +118,5 @@ to_test n table federate_records j least e =
     ] in
     both_hold (a && b && c) (p || q) (both_hold (a && b) c (both_hold a b e.announced e.not_granted) e.in_time) (either_of p q safe)
 
-pub eligible_by_table : (n : Network) (table : Table) (federate_records : ℕ → FederateRecord) (j : ℕ) → IsWired n → IsLeastTable n table → Eligible n federate_records j ↔ IsTrue (is_eligible n table federate_records j)
+pub eligible_by_table : (n : Network) (table : Table) (federate_records : ℕ → FederateRecord) (j : ℕ) → IsWired n → IsLeastTable n table → IsEligible n federate_records j ↔ IsTrue (is_eligible n table federate_records j)
 eligible_by_table n table federate_records j wired least = (to_test n table federate_records j least, to_formula n table federate_records j wired least)

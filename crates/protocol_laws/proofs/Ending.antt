@@ -5,7 +5,7 @@ use Rattle.tag.specs.LogicalTime.{LogicalTime, is_at_most, forever, place}
 use Rattle.tag.proofs.Order.{at_most_places, finite_is_logical, place_of_finite, place_of_forever, top}
 use Rattle.network.specs.Network.{Network}
 use Rattle.network.specs.Lawful.{IsLawful}
-use Rattle.network.specs.Tables.{Table, IsTable}
+use Rattle.network.specs.Tables.{Table, IsAtMostEveryPath}
 use Rattle.signal.specs.declared.signal.Signal.{Signal}
 use Rattle.signal.specs.declared.signal.Signal.TheVariants.{Net, Ltc, Tag, Msg}
 use Rattle.network.specs.Undone.{PendingEvent}
@@ -71,5 +71,5 @@ quiet n j m lawful k e =
     }
 
 -- after every list of moves
-pub ends_quiet : (n : Network) (table : Table) (rules : ℕ → Rule) → IsLawful n → IsTable n table → ((k : ℕ) → IsSafeRule n table (rules k)) → (moves : List Move) (j : ℕ) → (after_moves n rules moves j).federate_record.next ≡ forever → IsQuiet (after_moves n rules moves j)
+pub ends_quiet : (n : Network) (table : Table) (rules : ℕ → Rule) → IsLawful n → IsAtMostEveryPath n table → ((k : ℕ) → IsSafeRule n table (rules k)) → (moves : List Move) (j : ℕ) → (after_moves n rules moves j).federate_record.next ≡ forever → IsQuiet (after_moves n rules moves j)
 ends_quiet n table rules lawful facts safe moves j e = quiet n j (after_moves n rules moves j) lawful ((moves_sound n table rules moves lawful facts safe).kept j) e

@@ -26,7 +26,7 @@ use Rattle.protocol.specs.declared.refusal.Refusal.{Refusal}
 use Rattle.protocol.specs.declared.refusal.Refusal.TheVariants.{Late, OldGrant, WrongSignal}
 use Rattle.protocol.specs.Outcome.{Outcome, Refused, Nothing, Done, IfDone}
 use Rattle.protocol.specs.Federate.{Federate, Stepped, initial_federate, is_told, next_event, accept_message, federate_accepts, federate_announces, advance_to, federate_advances, effect_of, scheduled_at, scheduled_by, messages_from, turn_at}
-use Rattle.protocol.specs.Alone.{IsStillToRun, IsFederate, is_of_turn, is_sent_after, completed_by}
+use Rattle.protocol.specs.KeptAlone.{IsStillToRun, IsFederate, is_of_turn, may_go_up, completed_by_ltcs}
 use Rattle.protocol_laws.proofs.Tags.{past_then}
 use Rattle.protocol_laws.proofs.Upward.{IsOver}
 use Rattle.protocol_laws.proofs.Turns.{AreMessages, messages_of_turn, all_first, all_rest}
@@ -234,11 +234,11 @@ advance_leaves n j f lawful k = advances_to n j f (first_tag f.undone) lawful re
 
 -- what a step sends is in order, and its LTC is what is completed then
 abbrev pub SendsInOrder : Federate → Outcome Stepped → Type 0
-SendsInOrder f o = IfDone o (λ made. IsTrue (is_sent_after f.completed made.sent) × (made.after.completed ≡ completed_by f.completed made.sent))
+SendsInOrder f o = IfDone o (λ made. IsTrue (may_go_up f.completed made.sent) × (made.after.completed ≡ completed_by_ltcs f.completed made.sent))
 
 -- and it is messages, then one LTC
 abbrev pub SendsTurn : Federate → Outcome Stepped → Type 0
-SendsTurn f o = IfDone o (λ made. IsTrue (is_of_turn made.sent) × IsTrue (is_sent_after f.completed made.sent) × (made.after.completed ≡ completed_by f.completed made.sent))
+SendsTurn f o = IfDone o (λ made. IsTrue (is_of_turn made.sent) × IsTrue (may_go_up f.completed made.sent) × (made.after.completed ≡ completed_by_ltcs f.completed made.sent))
 
 sends_if : (f : Federate) (b : Bool) (refusal : Refusal) (o : Outcome Stepped) → SendsInOrder f o → SendsInOrder f (if not b then Refused refusal else o)
 sends_if f true refusal o h = h
@@ -275,14 +275,14 @@ over_later n j completed g t (Some c) tag past over =
     let is_sum : t ≡ sum_of g c.delay = over.1 in
     subst P (sym is_sum) (past_then completed g (sum_of g c.delay) past (sum_at_least_first g c.delay tag))
 
-turn_sends : (n : Network) (j : ℕ) (completed : Option LogicalTime) (g : LogicalTime) (xs : List Signal) → IsLogicalTime g → is_past completed g ≡ true → AreMessages n j g xs → IsTrue (is_of_turn (xs ++ Ltc g ∷ [])) × IsTrue (is_sent_after completed (xs ++ Ltc g ∷ [])) × (Some g ≡ completed_by completed (xs ++ Ltc g ∷ []))
+turn_sends : (n : Network) (j : ℕ) (completed : Option LogicalTime) (g : LogicalTime) (xs : List Signal) → IsLogicalTime g → is_past completed g ≡ true → AreMessages n j g xs → IsTrue (is_of_turn (xs ++ Ltc g ∷ [])) × IsTrue (may_go_up completed (xs ++ Ltc g ∷ [])) × (Some g ≡ completed_by_ltcs completed (xs ++ Ltc g ∷ []))
 turn_sends n j completed g [] tag past h = (refl, both_hold (is_past completed g) true past refl, refl)
 turn_sends n j completed g (Net t ∷ rest) tag past h = absurd h
 turn_sends n j completed g (Ltc t ∷ rest) tag past h = absurd h
 turn_sends n j completed g (Tag t ∷ rest) tag past h = absurd h
 turn_sends n j completed g (Msg k t v ∷ rest) tag past h =
     let more = turn_sends n j completed g rest tag past h.1 in
-    (more.0, both_hold (is_past completed t) (is_sent_after completed (rest ++ Ltc g ∷ [])) (over_later n j completed g t (slice_get n.connections k) tag past h.0) more.1, more.2)
+    (more.0, both_hold (is_past completed t) (may_go_up completed (rest ++ Ltc g ∷ [])) (over_later n j completed g t (slice_get n.connections k) tag past h.0) more.1, more.2)
 
 advance_if : (n : Network) (j : ℕ) (f : Federate) (g : LogicalTime) (b : Bool) → first_tag f.undone ≡ Some g → IsFederate n j f → SendsTurn f (if b then Done (turn_at n j f g) else Nothing)
 advance_if n j f g false first k = tt

@@ -11,7 +11,8 @@ use Rattle.network.specs.Network.{Network}
 use Rattle.network.specs.Wiring.{IsWired}
 use Rattle.network.specs.Tables.{Table, IsLeastTable}
 use Rattle.protocol.specs.FederateRecord.{FederateRecord}
-use Rattle.protocol.specs.Grant.{after_completed, Eligible, is_eligible, lesser_arrival, bound_by_paths, bound_by_connections, bound_of, grant_widest}
+use Rattle.protocol.specs.Grant.{after_completed, IsEligible, is_eligible, lesser_arrival, bound_by_paths}
+use Rattle.protocol.specs.Grant.{bound_by_connections, bound_of, grant_widest}
 use Rattle.protocol.specs.Bound.{IsArrivalByPath, IsArrivalByConnection, IsFirst, IsBound, IsWidest, IsWithin}
 use Rattle.protocol_laws.proofs.SafeGrants.{greater_splits, greater_from_first, greater_from_second}
 use Rattle.protocol_laws.proofs.Eligibility.{contained_at, contains_at, path_begins, least_of_table, eligible_by_table}
@@ -192,7 +193,7 @@ before_first P next bound f all first =
     let A : LogicalTime → Type 0 = λ x. is_before next x ≡ true in
     elim first.attained [ inl e ↦ subst A (sym e) f | inr a ↦ all bound a ]
 
-to_within : (n : Network) (federate_records : ℕ → FederateRecord) (j : ℕ) (bound : LogicalTime) → IsWired n → IsBound n federate_records j bound → Eligible n federate_records j → IsWithin n federate_records j bound
+to_within : (n : Network) (federate_records : ℕ → FederateRecord) (j : ℕ) (bound : LogicalTime) → IsWired n → IsBound n federate_records j bound → IsEligible n federate_records j → IsWithin n federate_records j bound
 to_within n federate_records j bound wired b e =
     let next = (federate_records j).next in
     let finite = in_time_before next n.stop wired.stop.time e.in_time in
@@ -211,7 +212,7 @@ to_within n federate_records j bound wired b e =
           ]);
     }
 
-from_within : (n : Network) (federate_records : ℕ → FederateRecord) (j : ℕ) (bound : LogicalTime) → IsBound n federate_records j bound → IsWithin n federate_records j bound → Eligible n federate_records j
+from_within : (n : Network) (federate_records : ℕ → FederateRecord) (j : ℕ) (bound : LogicalTime) → IsBound n federate_records j bound → IsWithin n federate_records j bound → IsEligible n federate_records j
 from_within n federate_records j bound b w =
     let next = (federate_records j).next in
     let A : LogicalTime → Type 0 = λ x. is_before next x ≡ true in
@@ -227,14 +228,14 @@ from_within n federate_records j bound b w =
       ];
     }
 
-pub eligible_within : (n : Network) (federate_records : ℕ → FederateRecord) (j : ℕ) (bound : LogicalTime) → IsWired n → IsBound n federate_records j bound → Eligible n federate_records j ↔ IsWithin n federate_records j bound
+pub eligible_within : (n : Network) (federate_records : ℕ → FederateRecord) (j : ℕ) (bound : LogicalTime) → IsWired n → IsBound n federate_records j bound → IsEligible n federate_records j ↔ IsWithin n federate_records j bound
 eligible_within n federate_records j bound wired b = (to_within n federate_records j bound wired b, from_within n federate_records j bound b)
 
 -- the widest grant
-widest_if : (n : Network) (table : Table) (federate_records : ℕ → FederateRecord) (j : ℕ) (b : Bool) → is_eligible n table federate_records j ≡ b → IsWired n → IsLeastTable n table → MatchOption (if b then Some (lesser (predecessor_of (bound_of n table federate_records j)) n.stop) else None) (Eligible n federate_records j → ⊥) (λ tag. Eligible n federate_records j × IsWidest n federate_records j tag)
+widest_if : (n : Network) (table : Table) (federate_records : ℕ → FederateRecord) (j : ℕ) (b : Bool) → is_eligible n table federate_records j ≡ b → IsWired n → IsLeastTable n table → MatchOption (if b then Some (lesser (predecessor_of (bound_of n table federate_records j)) n.stop) else None) (IsEligible n federate_records j → ⊥) (λ tag. IsEligible n federate_records j × IsWidest n federate_records j tag)
 widest_if n table federate_records j true e wired least =
     ((eligible_by_table n table federate_records j wired least).1 e, record { bound = bound_of n table federate_records j; is_bound = table_bound n table federate_records j wired least; last = refl })
 widest_if n table federate_records j false e wired least = λ eligible. (let yes : is_eligible n table federate_records j ≡ true = (eligible_by_table n table federate_records j wired least).0 eligible in cc)
 
-pub widest_grant : (n : Network) (table : Table) (federate_records : ℕ → FederateRecord) (j : ℕ) → IsWired n → IsLeastTable n table → MatchOption (grant_widest n table federate_records j) (Eligible n federate_records j → ⊥) (λ tag. Eligible n federate_records j × IsWidest n federate_records j tag)
+pub widest_grant : (n : Network) (table : Table) (federate_records : ℕ → FederateRecord) (j : ℕ) → IsWired n → IsLeastTable n table → MatchOption (grant_widest n table federate_records j) (IsEligible n federate_records j → ⊥) (λ tag. IsEligible n federate_records j × IsWidest n federate_records j tag)
 widest_grant n table federate_records j wired least = widest_if n table federate_records j (is_eligible n table federate_records j) refl wired least

@@ -6,7 +6,7 @@ use Rattle.tag.specs.LogicalTime.{LogicalTime, sum_of}
 use Rattle.tag.proofs.SumLaws.{sum_monotone_right}
 use Rattle.network.specs.Connection.{Connection, IsPath, total_of, IsLeastDelay, IsUnreachable}
 use Rattle.network.specs.Network.{Network}
-use Rattle.network.specs.Tables.{Table, IsLeastTable, IsTable, IsWithin, IsAttained}
+use Rattle.network.specs.Tables.{Table, IsLeastTable, IsAtMostEveryPath, IsWithin, IsTotalOfPath}
 use Rattle.network.proofs.Walks.{sum_before_along}
 use Rattle.network.proofs.Tables.{within_more}
 
@@ -14,7 +14,7 @@ within_onward : (o here : Option LogicalTime) (delay total : LogicalTime) → Is
 within_onward None here delay total h k = absurd h
 within_onward (Some d) here delay total h k = within_more here (sum_of delay d) (sum_of delay total) k (sum_monotone_right delay d total h)
 
-pub within_path : (n : Network) (table : Table) (i j : ℕ) (path : List Connection) → IsTable n table → IsPath n.connections i path j → IsWithin (table i j) (total_of path)
+pub within_path : (n : Network) (table : Table) (i j : ℕ) (path : List Connection) → IsAtMostEveryPath n table → IsPath n.connections i path j → IsWithin (table i j) (total_of path)
 within_path n table i j [] t p = absurd p
 within_path n table i j (c ∷ []) t p =
     let here = All-contains (λ (x : Connection). IsWithin (table x.source x.target) x.delay) n.connections c t.direct p.0 in
@@ -27,9 +27,9 @@ within_path n table i j (c ∷ d ∷ rest) t p =
     let P : ℕ → Type 0 = λ x. IsWithin (table x j) (total_of (c ∷ d ∷ rest)) in
     subst P p.1 (within_more (table c.source j) (sum_of c.delay (total_of (d ∷ rest))) (total_of (c ∷ d ∷ rest)) short (sum_before_along c.delay d.delay rest))
 
-least_if : (connections : List Connection) (i j : ℕ) (o : Option LogicalTime) → ((path : List Connection) → IsPath connections i path j → IsWithin o (total_of path)) → IsAttained connections i j o → MatchOption o (IsUnreachable connections i j) (λ delay. IsLeastDelay connections i j delay)
+least_if : (connections : List Connection) (i j : ℕ) (o : Option LogicalTime) → ((path : List Connection) → IsPath connections i path j → IsWithin o (total_of path)) → IsTotalOfPath connections i j o → MatchOption o (IsUnreachable connections i j) (λ delay. IsLeastDelay connections i j delay)
 least_if connections i j None within attained = within
 least_if connections i j (Some d) within attained = record { attained = attained; least = within }
 
-pub fixed_point_is_least : (n : Network) (table : Table) → IsTable n table → ((i j : ℕ) → IsAttained n.connections i j (table i j)) → IsLeastTable n table
+pub fixed_point_is_least : (n : Network) (table : Table) → IsAtMostEveryPath n table → ((i j : ℕ) → IsTotalOfPath n.connections i j (table i j)) → IsLeastTable n table
 fixed_point_is_least n table t attained i j = least_if n.connections i j (table i j) (λ path p. within_path n table i j path t p) (attained i j)

@@ -9,8 +9,8 @@ use Rattle.tag.proofs.Order.{same_is_equal}
 use Rattle.network.specs.Connection.{Connection}
 use Rattle.network.specs.Event.{Event}
 use Rattle.network.specs.Network.{Network}
-use Rattle.network.specs.Lawful.{IsLawful, FallApart}
-use Rattle.network.specs.Tables.{Table, IsTable}
+use Rattle.network.specs.Lawful.{IsLawful, AreForDifferentSlots}
+use Rattle.network.specs.Tables.{Table, IsAtMostEveryPath}
 use Rattle.network_laws.specs.History.{Turn, history_of}
 use Rattle.network_laws.specs.Newest.{or_else}
 use Rattle.network_laws.specs.Sees.{sees}
@@ -299,7 +299,7 @@ made_traced n members (Refused refusal) w m clear = w
 made_traced n members Nothing w m clear = w
 made_traced n members (Done after) w m clear = m clear
 
-outside_first : (a : ℕ) (t : LogicalTime) (slot : ℕ) (e : Event) (rest : List Event) → AllByRecursion (FallApart e) rest → (b c d : Bool) → nat_eq e.reactor a ≡ b → is_same e.tag t ≡ c → nat_eq e.slot slot ≡ d → last_held (map pending_event_of (filter (λ x. nat_eq x.reactor a) rest)) t slot ≡ latest_value (filter (is_for a t slot) rest) → last_held (map pending_event_of (cond b (e ∷ filter (λ x. nat_eq x.reactor a) rest) (filter (λ x. nat_eq x.reactor a) rest))) t slot ≡ latest_value (cond ((b && c) && d) (e ∷ filter (is_for a t slot) rest) (filter (is_for a t slot) rest))
+outside_first : (a : ℕ) (t : LogicalTime) (slot : ℕ) (e : Event) (rest : List Event) → AllByRecursion (AreForDifferentSlots e) rest → (b c d : Bool) → nat_eq e.reactor a ≡ b → is_same e.tag t ≡ c → nat_eq e.slot slot ≡ d → last_held (map pending_event_of (filter (λ x. nat_eq x.reactor a) rest)) t slot ≡ latest_value (filter (is_for a t slot) rest) → last_held (map pending_event_of (cond b (e ∷ filter (λ x. nat_eq x.reactor a) rest) (filter (λ x. nat_eq x.reactor a) rest))) t slot ≡ latest_value (cond ((b && c) && d) (e ∷ filter (is_for a t slot) rest) (filter (is_for a t slot) rest))
 outside_first a t slot e rest apart false c d p q r h = h
 outside_first a t slot e rest apart true false d p q r h =
     let other : (is_same e.tag t && nat_eq e.slot slot) ≡ false = ap (λ (b : Bool). b && nat_eq e.slot slot) q in
@@ -309,18 +309,18 @@ outside_first a t slot e rest apart true true false p q r h =
     ap (λ (b : Bool). or_else (last_held (map pending_event_of (filter (λ x. nat_eq x.reactor a) rest)) t slot) (if b then Some e.value else None)) other ∙ (or_nothing (last_held (map pending_event_of (filter (λ x. nat_eq x.reactor a) rest)) t slot) ∙ h)
 outside_first a t slot e rest apart true true true p q r h =
     let here : (is_same e.tag t && nat_eq e.slot slot) ≡ true = (λ y. q y && r y) in
-    let none : filter (is_for a t slot) rest ≡ [] = none_kept (is_for a t slot) rest (each_more (FallApart e) (λ x. is_for a t slot x ≡ false)
+    let none : filter (is_for a t slot) rest ≡ [] = none_kept (is_for a t slot) rest (each_more (AreForDifferentSlots e) (λ x. is_for a t slot x ≡ false)
     (λ x w. false_from_ne_true (is_for a t slot x) (λ k. let parts = is_for_parts a t slot x k in w (same_is_equal e.tag t q ∙ sym (same_is_equal x.tag t parts.1.0)) (eqb-true e.reactor a p ∙ sym parts.0) (eqb-true e.slot slot r ∙ sym parts.1.1))) rest apart) in
     (λ y. or_else (h y) (if here y then Some e.value else None))
     ∙ ((λ y. or_else (latest_value (none y)) (Some e.value)) ∙ sym (ap (λ (l : List Event). latest_value (e ∷ l)) none))
 
 -- at first what comes from outside waits
 module _ (n : Network) (L : IsLawful n) where
-  external_waits : (a : ℕ) (t : LogicalTime) (slot : ℕ) (es : List Event) → AllPairs FallApart es → last_held (map pending_event_of (filter (λ e. nat_eq e.reactor a) es)) t slot ≡ latest_value (filter (is_for a t slot) es)
+  external_waits : (a : ℕ) (t : LogicalTime) (slot : ℕ) (es : List Event) → AllPairs AreForDifferentSlots es → last_held (map pending_event_of (filter (λ e. nat_eq e.reactor a) es)) t slot ≡ latest_value (filter (is_for a t slot) es)
   external_waits a t slot [] apart = refl
   external_waits a t slot (e ∷ rest) apart =
-      outside_first a t slot e rest (each (FallApart e) rest (first_pair FallApart e rest apart)) (nat_eq e.reactor a) (is_same e.tag t) (nat_eq e.slot slot) refl refl refl
-      (external_waits a t slot rest (later_pairs FallApart e rest apart))
+      outside_first a t slot e rest (each (AreForDifferentSlots e) rest (first_pair AreForDifferentSlots e rest apart)) (nat_eq e.reactor a) (is_same e.tag t) (nat_eq e.slot slot) refl refl refl
+      (external_waits a t slot rest (later_pairs AreForDifferentSlots e rest apart))
 
   initial_waits : (a : ℕ) → a < n.reactors → (t : LogicalTime) (slot : ℕ) → waiting n (initial_member n) a t slot ≡ sees n (λ i. []) a t slot
   initial_waits a h t slot =
@@ -340,7 +340,7 @@ module _ (n : Network) (L : IsLawful n) where
   )
 
 -- after every list of moves
-pub moves_traced : (n : Network) (table : Table) (rules : ℕ → Rule) (moves : List Move) → IsLawful n → IsTable n table → ((k : ℕ) → IsSafeRule n table (rules k)) → HasTrace n (after_moves n rules moves)
+pub moves_traced : (n : Network) (table : Table) (rules : ℕ → Rule) (moves : List Move) → IsLawful n → IsAtMostEveryPath n table → ((k : ℕ) → IsSafeRule n table (rules k)) → HasTrace n (after_moves n rules moves)
 moves_traced n table rules [] lawful facts safe = initial_traced n lawful
 moves_traced n table rules (move ∷ earlier) lawful facts safe =
     let before = moves_traced n table rules earlier lawful facts safe in

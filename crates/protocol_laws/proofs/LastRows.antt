@@ -7,11 +7,11 @@ use Rattle.std.proofs.lemmas.List.{append-nil, append_assoc, reverse-append}
 use Rattle.network.specs.Network.{Network}
 use Rattle.network.specs.Undivided.{Row}
 use Rattle.network.specs.Lawful.{IsLawful}
-use Rattle.network.specs.Tables.{Table, IsTable}
+use Rattle.network.specs.Tables.{Table, IsAtMostEveryPath}
 use Rattle.network_laws.specs.History.{Turn, turn_of_row, history_of}
 use Rattle.protocol.specs.Grant.{Rule, IsSafeRule}
 use Rattle.protocol.specs.Machine.{Move, after_moves}
-use Rattle.protocol.specs.Alone.{last_row_tag}
+use Rattle.protocol.specs.KeptAlone.{last_row_tag}
 use Rattle.protocol_laws.proofs.Replay.{newest_tag, moves_replay}
 
 abbrev turns_of : Option Row → List Turn
@@ -35,6 +35,6 @@ last_is_newest : (rows : List Row) → last_row_tag rows ≡ newest_tag (history
 last_is_newest rows = sym (newest_by None rows) ∙ ap newest_tag (append-nil (history_of rows))
 
 -- after every list of moves
-pub moves_end : (n : Network) (table : Table) (rules : ℕ → Rule) (moves : List Move) (j : ℕ) → IsLawful n → IsTable n table → ((k : ℕ) → IsSafeRule n table (rules k)) → (after_moves n rules moves j).federate.completed ≡ last_row_tag (after_moves n rules moves j).federate.rows
+pub moves_end : (n : Network) (table : Table) (rules : ℕ → Rule) (moves : List Move) (j : ℕ) → IsLawful n → IsAtMostEveryPath n table → ((k : ℕ) → IsSafeRule n table (rules k)) → (after_moves n rules moves j).federate.completed ≡ last_row_tag (after_moves n rules moves j).federate.rows
 moves_end n table rules moves j lawful facts safe =
     (moves_replay n table rules moves lawful facts safe j).newest ∙ sym (last_is_newest (after_moves n rules moves j).federate.rows)

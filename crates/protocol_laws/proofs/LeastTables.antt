@@ -7,7 +7,7 @@ use Rattle.tag.proofs.SumLaws.{sum_monotone_right}
 use Rattle.network.specs.Connection.{Connection, IsPath, total_of, IsLeastDelay, IsUnreachable}
 use Rattle.network.specs.Network.{Network}
 use Rattle.network.specs.Lawful.{IsLawful}
-use Rattle.network.specs.Tables.{Table, IsLeastTable, IsTable, IsWithin}
+use Rattle.network.specs.Tables.{Table, IsLeastTable, IsAtMostEveryPath, IsWithin}
 use Rattle.network.proofs.Walks.{joined_path, total-cons}
 use Rattle.network.proofs.Lawful.{plain_of, short_path}
 use Rattle.network.proofs.Tables.{each_contained}
@@ -34,7 +34,7 @@ onward_within n table c j (Some d) lawful least within m =
     let P : LogicalTime → Type 0 = λ x. is_at_most (total_of longer.0) (sum_of c.delay x) ≡ true in
     within_total n.connections c.source j (table c.source j) longer.0 (sum_of c.delay d) (least c.source j) longer.1 (subst P m.attained.2 longer.2)
 
-pub least_table_is_table : (n : Network) (table : Table) → IsLawful n → IsLeastTable n table → IsTable n table
+pub least_table_is_table : (n : Network) (table : Table) → IsLawful n → IsLeastTable n table → IsAtMostEveryPath n table
 least_table_is_table n table lawful least =
     record {
       direct =

@@ -8,7 +8,7 @@ use Rattle.tag.specs.LogicalTime.{LogicalTime, is_at_most, is_same, sum_of}
 use Rattle.tag.proofs.Order.{same_is_equal}
 use Rattle.network.specs.Connection.{Connection}
 use Rattle.network.specs.Network.{Network, Scheduling, Effect}
-use Rattle.network.specs.Lawful.{IsLawful, IsOwn, EndApart}
+use Rattle.network.specs.Lawful.{IsLawful, IsOwn, HaveDifferentEnds}
 use Rattle.network_laws.specs.Newest.{or_else, carried_to, last_in_list}
 use Rattle.network.proofs.Items.{first_pair, later_pairs}
 use Rattle.network_laws.proofs.Lists.{Among, each, each_more, each_both, each_among}
@@ -85,13 +85,13 @@ messages_elsewhere n j g outputs number (c ∷ rest) a t slot here w =
 abbrev pub SentAlone : Network → LogicalTime → (ℕ → Option ℤ) → ℕ → List Connection → Connection → Type 0
 SentAlone n g outputs number cs c = (t : LogicalTime) → is_at_most t n.stop ≡ true → last_message n c.target t c.slot (messages_from n c.source g outputs number cs) ≡ carried_to c g t (outputs c.port)
 
-apart_from : (x : Connection) (xs : List Connection) → AllByRecursion (EndApart x) xs → NoPort xs x.target x.slot
-apart_from x xs w = each_more (EndApart x) (λ c. c.target ≡ x.target → c.slot ≢ x.slot) (λ c h p q. h (sym p) (sym q)) xs w
+apart_from : (x : Connection) (xs : List Connection) → AllByRecursion (HaveDifferentEnds x) xs → NoPort xs x.target x.slot
+apart_from x xs w = each_more (HaveDifferentEnds x) (λ c. c.target ≡ x.target → c.slot ≢ x.slot) (λ c h p q. h (sym p) (sym q)) xs w
 
-sent_alone : (n : Network) (g : LogicalTime) (outputs : ℕ → Option ℤ) (number : ℕ) (cs : List Connection) → Stand n number cs → AllPairs EndApart cs → AllByRecursion (SentAlone n g outputs number cs) cs
+sent_alone : (n : Network) (g : LogicalTime) (outputs : ℕ → Option ℤ) (number : ℕ) (cs : List Connection) → Stand n number cs → AllPairs HaveDifferentEnds cs → AllByRecursion (SentAlone n g outputs number cs) cs
 sent_alone n g outputs number [] here a = tt
 sent_alone n g outputs number (x ∷ xs) here a =
-    let apart = each (EndApart x) xs (first_pair EndApart x xs a) in
+    let apart = each (HaveDifferentEnds x) xs (first_pair HaveDifferentEnds x xs a) in
     let onward = stand_rest n number x xs here in
     let at = stand_first n number x xs here in
     let mine : nat_eq x.source x.source ≡ true = eq-eqb x.source x.source refl in (
@@ -100,13 +100,13 @@ sent_alone n g outputs number (x ∷ xs) here a =
           last_message-append n x.target t x.slot (sent_over n x.source g outputs number x) (messages_from n x.source g outputs (number + 1) xs)
           ∙ ((λ y. or_else (none y) (last_message n x.target t x.slot (cond (mine y) (message_over n g number x (outputs x.port)) [])))
           ∙ over_here n number g x (outputs x.port) t at below))),
-      each_more (λ c. EndApart x c × SentAlone n g outputs (number + 1) xs c) (SentAlone n g outputs number (x ∷ xs))
+      each_more (λ c. HaveDifferentEnds x c × SentAlone n g outputs (number + 1) xs c) (SentAlone n g outputs number (x ∷ xs))
           (λ c w t below. (
           let none = over_elsewhere n number g x (outputs x.port) c.target t c.slot (nat_eq x.source c.source) at (not_led x c.target c.slot w.0) in
           let rest = w.1 t below in
           last_message-append n c.target t c.slot (sent_over n c.source g outputs number x) (messages_from n c.source g outputs (number + 1) xs)
           ∙ ((λ y. or_else (rest y) (none y)) ∙ or_nothing (carried_to c g t (outputs c.port)))))
-          xs (each_both (EndApart x) (SentAlone n g outputs (number + 1) xs) xs apart (sent_alone n g outputs (number + 1) xs onward (later_pairs EndApart x xs a))),
+          xs (each_both (HaveDifferentEnds x) (SentAlone n g outputs (number + 1) xs) xs apart (sent_alone n g outputs (number + 1) xs onward (later_pairs HaveDifferentEnds x xs a))),
     )
 
 -- of a turn's messages that for a connection's slot

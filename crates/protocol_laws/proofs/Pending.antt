@@ -7,7 +7,7 @@ use Rattle.tag.proofs.Paths.{plain_is_logical}
 use Rattle.network.specs.Connection.{Connection, then_along, IsWalk}
 use Rattle.network.specs.Network.{Network}
 use Rattle.network.specs.Lawful.{IsLawful}
-use Rattle.network.specs.Tables.{Table, IsTable}
+use Rattle.network.specs.Tables.{Table, IsAtMostEveryPath}
 use Rattle.signal.specs.declared.signal.Signal.{Signal}
 use Rattle.signal.specs.declared.signal.Signal.TheVariants.{Net, Ltc, Tag, Msg}
 use Rattle.network.specs.Undone.{PendingEvent}
@@ -77,7 +77,7 @@ pending_clear n table members k s lawful sound clear (up i number c value within
     let Q : ℕ → Type 0 = λ y. IsClear n (completed_of members) y s in
     (subst Q target (subst P e is.0), is.1)
 
-pub completes_nothing_early : (n : Network) (table : Table) (rules : ℕ → Rule) → IsLawful n → IsTable n table → ((k : ℕ) → IsSafeRule n table (rules k)) → (moves : List Move) (k j : ℕ) (s : LogicalTime) (path : List Connection) → IsPending n (after_moves n rules moves) k s → IsWalk n.connections k path j → IsTrue (is_past (after_moves n rules moves j).federate.completed (then_along s path))
+pub completes_nothing_early : (n : Network) (table : Table) (rules : ℕ → Rule) → IsLawful n → IsAtMostEveryPath n table → ((k : ℕ) → IsSafeRule n table (rules k)) → (moves : List Move) (k j : ℕ) (s : LogicalTime) (path : List Connection) → IsPending n (after_moves n rules moves) k s → IsWalk n.connections k path j → IsTrue (is_past (after_moves n rules moves j).federate.completed (then_along s path))
 completes_nothing_early n table rules lawful facts safe moves k j s path pending w =
     let sound = moves_sound n table rules moves lawful facts safe in
     let is = pending_clear n table (after_moves n rules moves) k s lawful sound (moves_clear n table rules moves lawful facts safe) pending in

@@ -12,7 +12,7 @@ use Rattle.network.specs.Event.{Event, listed}
 use Rattle.network.specs.Network.{Network, Scheduling}
 use Rattle.network.specs.Undivided.{Row}
 use Rattle.network.specs.Lawful.{IsLawful, IsConnected, IsExternal, IsOwn}
-use Rattle.network.specs.Tables.{Table, IsTable}
+use Rattle.network.specs.Tables.{Table, IsAtMostEveryPath}
 use Rattle.network_laws.specs.History.{Turn, HasRisingTags, turn_of_row, history_of, states_after, row_after, rows_of}
 use Rattle.network_laws.proofs.Lists.{from_each, each_more}
 use Rattle.network_laws.proofs.Meet.{IsRising}
@@ -278,7 +278,7 @@ initial_replayed n j lawful =
     }
 
 -- after every list of moves
-pub moves_replay : (n : Network) (table : Table) (rules : ℕ → Rule) (moves : List Move) → IsLawful n → IsTable n table → ((k : ℕ) → IsSafeRule n table (rules k)) → AllReplayed n (after_moves n rules moves)
+pub moves_replay : (n : Network) (table : Table) (rules : ℕ → Rule) (moves : List Move) → IsLawful n → IsAtMostEveryPath n table → ((k : ℕ) → IsSafeRule n table (rules k)) → AllReplayed n (after_moves n rules moves)
 moves_replay n table rules [] lawful facts safe = λ j. initial_replayed n j lawful
 moves_replay n table rules (move ∷ earlier) lawful facts safe =
     let before = moves_replay n table rules earlier lawful facts safe in

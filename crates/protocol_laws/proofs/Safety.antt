@@ -13,7 +13,7 @@ use Rattle.tag.proofs.Paths.{plain_is_logical}
 use Rattle.network.specs.Connection.{Connection}
 use Rattle.network.specs.Network.{Network}
 use Rattle.network.specs.Lawful.{IsLawful, IsConnected}
-use Rattle.network.specs.Tables.{Table, IsTable}
+use Rattle.network.specs.Tables.{Table, IsAtMostEveryPath}
 use Rattle.signal.specs.declared.signal.Signal.{Signal}
 use Rattle.signal.specs.declared.signal.Signal.TheVariants.{Net, Ltc, Tag, Msg}
 use Rattle.protocol.specs.declared.refusal.Refusal.{Refusal}
@@ -268,7 +268,7 @@ routed_if n j target mine other f up down message true k o = k refl
 routed_if n j target mine other f up down message false k o = let P : List Signal → Type 0 = λ x. IsKept n j other f up x in subst P (sym (append-nil down)) o
 
 -- a message from i over a connection: it goes on to the connection's end
-over_goes : (n : Network) (table : Table) (rule : Rule) (members : ℕ → Member) (i k : ℕ) (g : LogicalTime) (v : ℤ) (rest : List Signal) (source : LogicalTime) (o : Option Connection) → IsLawful n → IsTable n table → IsSafeRule n table rule → IsSound n table members → IsKept n i (members i).federate_record (members i).federate rest (members i).down → IsLogicalTime source → place (members i).federate_record.next ≤ place source → above (members i).federate_record.completed ≤ place source → slice_get n.connections k ≡ o → IsOver n i o source g → Goes n table (with_made (λ made. λ j. coordinated made j (with_member members i (record (members i) { up = rest }) j)) (with_made (with_grants n rule) (route n (federate_records_of members) i (Msg k g v) o g)))
+over_goes : (n : Network) (table : Table) (rule : Rule) (members : ℕ → Member) (i k : ℕ) (g : LogicalTime) (v : ℤ) (rest : List Signal) (source : LogicalTime) (o : Option Connection) → IsLawful n → IsAtMostEveryPath n table → IsSafeRule n table rule → IsSound n table members → IsKept n i (members i).federate_record (members i).federate rest (members i).down → IsLogicalTime source → place (members i).federate_record.next ≤ place source → above (members i).federate_record.completed ≤ place source → slice_get n.connections k ≡ o → IsOver n i o source g → Goes n table (with_made (λ made. λ j. coordinated made j (with_member members i (record (members i) { up = rest }) j)) (with_made (with_grants n rule) (route n (federate_records_of members) i (Msg k g v) o g)))
 over_goes n table rule members i k g v rest source None lawful facts safe sound popped tag next completed e over = absurd over
 over_goes n table rule members i k g v rest source (Some c) lawful facts safe sound popped tag next completed e over =
     let connected : IsConnected n c = all_at (IsConnected n) n.connections k c lawful.connected e in
@@ -315,7 +315,7 @@ over_goes n table rule members i k g v rest source (Some c) lawful facts safe so
     subst P (sym (outer ∙ middle ∙ inner)) (with_grants_sound n table rule made W safe kept backed)
 
 -- the coordinator takes the oldest signal of federate i
-coordinator_goes : (n : Network) (table : Table) (rule : Rule) (members : ℕ → Member) (i : ℕ) (up : List Signal) → IsLawful n → IsTable n table → IsSafeRule n table rule → IsSound n table members → IsKept n i (members i).federate_record (members i).federate up (members i).down → Goes n table (coordinator_takes_from n rule members i up)
+coordinator_goes : (n : Network) (table : Table) (rule : Rule) (members : ℕ → Member) (i : ℕ) (up : List Signal) → IsLawful n → IsAtMostEveryPath n table → IsSafeRule n table rule → IsSound n table members → IsKept n i (members i).federate_record (members i).federate up (members i).down → Goes n table (coordinator_takes_from n rule members i up)
 coordinator_goes n table rule members i [] lawful facts safe sound k = tt
 coordinator_goes n table rule members i (Net g ∷ rest) lawful facts safe sound k =
     let mine : FederateRecord = after_net (members i).federate_record g in
@@ -351,7 +351,7 @@ coordinator_goes n table rule members i (Msg c g v ∷ rest) lawful facts safe s
     (message_keeps n i (members i).federate_record (members i).federate rest (members i).down c g v k) is.0 (omega arith) low refl k.upward.2
 
 -- each move goes
-pub move_goes : (n : Network) (table : Table) (rule : Rule) (members : ℕ → Member) (move : Move) → IsLawful n → IsTable n table → IsSafeRule n table rule → IsSound n table members → Goes n table (outcome_of n rule members move)
+pub move_goes : (n : Network) (table : Table) (rule : Rule) (members : ℕ → Member) (move : Move) → IsLawful n → IsAtMostEveryPath n table → IsSafeRule n table rule → IsSound n table members → Goes n table (outcome_of n rule members move)
 move_goes n table rule members (ToCoordinator i) lawful facts safe sound = coordinator_goes n table rule members i (members i).up lawful facts safe sound (sound.kept i)
 move_goes n table rule members (ToFederate i) lawful facts safe sound =
     unless_goes n table members i (federate_takes_from n i (members i) (members i).down) (members i).lost sound (take_goes n i (members i) (members i).down lawful (sound.kept i))
@@ -370,7 +370,7 @@ made_sound n table members Nothing s g = s
 made_sound n table members (Done after) s g = g
 
 -- all is kept after every list of moves
-pub moves_sound : (n : Network) (table : Table) (rules : ℕ → Rule) (moves : List Move) → IsLawful n → IsTable n table → ((k : ℕ) → IsSafeRule n table (rules k)) → IsSound n table (after_moves n rules moves)
+pub moves_sound : (n : Network) (table : Table) (rules : ℕ → Rule) (moves : List Move) → IsLawful n → IsAtMostEveryPath n table → ((k : ℕ) → IsSafeRule n table (rules k)) → IsSound n table (after_moves n rules moves)
 moves_sound n table rules [] lawful facts safe = initial_sound n table lawful
 moves_sound n table rules (move ∷ earlier) lawful facts safe =
     let before = moves_sound n table rules earlier lawful facts safe in
@@ -381,7 +381,7 @@ pub goes_refused : (n : Network) (table : Table) (o : Outcome (ℕ → Member)) 
 goes_refused n table o refusal g e = let P : Outcome (ℕ → Member) → Type 0 = λ x. Goes n table x in subst P e g
 
 -- no move is refused
-pub none_refused : (n : Network) (table : Table) (rules : ℕ → Rule) (moves : List Move) (move : Move) (refusal : Refusal) → IsLawful n → IsTable n table → ((k : ℕ) → IsSafeRule n table (rules k)) → outcome_of n (rules (length moves)) (after_moves n rules moves) move ≡ Refused refusal → ⊥
+pub none_refused : (n : Network) (table : Table) (rules : ℕ → Rule) (moves : List Move) (move : Move) (refusal : Refusal) → IsLawful n → IsAtMostEveryPath n table → ((k : ℕ) → IsSafeRule n table (rules k)) → outcome_of n (rules (length moves)) (after_moves n rules moves) move ≡ Refused refusal → ⊥
 none_refused n table rules moves move refusal lawful facts safe e =
     goes_refused n table (outcome_of n (rules (length moves)) (after_moves n rules moves) move) refusal
     (move_goes n table (rules (length moves)) (after_moves n rules moves) move lawful facts (safe (length moves)) (moves_sound n table rules moves lawful facts safe)) e

@@ -9,7 +9,7 @@ use Rattle.tag.specs.LogicalTime.{LogicalTime, IsLogicalTime, is_before, is_at_m
 use Rattle.tag.proofs.Order.{not_before}
 use Rattle.network.specs.Network.{Network}
 use Rattle.network.specs.Lawful.{IsLawful}
-use Rattle.network.specs.Tables.{Table, IsTable}
+use Rattle.network.specs.Tables.{Table, IsAtMostEveryPath}
 use Rattle.signal.specs.declared.signal.Signal.{Signal}
 use Rattle.protocol.specs.Outcome.{Outcome, Refused, Nothing, Done, made_or, with_made}
 use Rattle.protocol.specs.Federate.{Stepped, federate_accepts, federate_announces, federate_advances}
@@ -135,7 +135,7 @@ made_settles n table members Nothing s m = s
 made_settles n table members (Done after) s m = m
 
 -- after every list of moves nobody is eligible
-pub moves_settle : (n : Network) (table : Table) (rules : ℕ → Rule) (moves : List Move) → IsLawful n → IsTable n table → ((k : ℕ) → IsSafeRule n table (rules k)) → ((k : ℕ) → IsFullRule n table (rules k)) → NobodyIsEligible n table (federate_records_of (after_moves n rules moves))
+pub moves_settle : (n : Network) (table : Table) (rules : ℕ → Rule) (moves : List Move) → IsLawful n → IsAtMostEveryPath n table → ((k : ℕ) → IsSafeRule n table (rules k)) → ((k : ℕ) → IsFullRule n table (rules k)) → NobodyIsEligible n table (federate_records_of (after_moves n rules moves))
 moves_settle n table rules [] lawful facts safe full = λ j l. refl
 moves_settle n table rules (move ∷ earlier) lawful facts safe full =
     let before = moves_sound n table rules earlier lawful facts safe in

@@ -11,7 +11,7 @@ use Rattle.network.specs.Connection.{Connection, IsPath, total_of, IsLeastDelay,
 use Rattle.network.specs.Network.{Network}
 use Rattle.network.specs.Lawful.{IsLawful}
 use Rattle.network.specs.Tables.{Table, IsLeastTable}
-use Rattle.network.proofs.Walks.{AreImmediate, immediate_from_total}
+use Rattle.network.proofs.Walks.{AreZeroDelay, zero_delay_from_total}
 use Rattle.signal.specs.declared.signal.Signal.{Signal}
 use Rattle.signal.specs.declared.signal.Signal.TheVariants.{Net}
 use Rattle.protocol.specs.Outcome.{Nothing, Done}
@@ -85,23 +85,23 @@ connection_ranks n c lawful h e =
     let at = contained_at n.connections c h in
     all_at (λ x. x.delay ≡ origin → n.rank x.source < n.rank x.target) n.connections at.0 c lawful.ranks_rise at.1 e
 
--- along a path without delay ranks rise
-immediate_ranks : (n : Network) (i j : ℕ) (path : List Connection) → IsLawful n → IsPath n.connections i path j → AreImmediate path → n.rank i < n.rank j
-immediate_ranks n i j [] lawful p each = absurd p
-immediate_ranks n i j (c ∷ []) lawful p each =
+-- along a zero-delay path ranks rise
+zero_delay_ranks : (n : Network) (i j : ℕ) (path : List Connection) → IsLawful n → IsPath n.connections i path j → AreZeroDelay path → n.rank i < n.rank j
+zero_delay_ranks n i j [] lawful p each = absurd p
+zero_delay_ranks n i j (c ∷ []) lawful p each =
     let rises = connection_ranks n c lawful p.0 each.0 in
     let P : ℕ → Type 0 = λ x. n.rank x < n.rank c.target in
     let Q : ℕ → Type 0 = λ x. n.rank i < n.rank x in
     subst Q p.2 (subst P p.1 rises)
-immediate_ranks n i j (c ∷ d ∷ rest) lawful p each =
-    let later = immediate_ranks n c.target j (d ∷ rest) lawful p.2 each.1 in
+zero_delay_ranks n i j (c ∷ d ∷ rest) lawful p each =
+    let later = zero_delay_ranks n c.target j (d ∷ rest) lawful p.2 each.1 in
     let rises = connection_ranks n c lawful p.0 each.0 in
     let P : ℕ → Type 0 = λ x. n.rank x < n.rank c.target in
     let first = subst P p.1 rises in
     omega arith
 
 path_ranks : (n : Network) (i j : ℕ) (path : List Connection) → IsLawful n → IsPath n.connections i path j → total_of path ≡ origin → n.rank i < n.rank j
-path_ranks n i j path lawful p e = immediate_ranks n i j path lawful p (immediate_from_total path e)
+path_ranks n i j path lawful p e = zero_delay_ranks n i j path lawful p (zero_delay_from_total path e)
 
 table_ranks : (n : Network) (i j : ℕ) (o : Option LogicalTime) (d : LogicalTime) → IsLawful n → MatchOption o (IsUnreachable n.connections i j) (λ delay. IsLeastDelay n.connections i j delay) → o ≡ Some d → d ≡ origin → n.rank i < n.rank j
 table_ranks n i j None d lawful m e z = cc

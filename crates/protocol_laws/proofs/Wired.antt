@@ -10,7 +10,7 @@ use Rattle.signal.specs.declared.signal.Signal.{Signal}
 use Rattle.signal.specs.declared.signal.Signal.TheVariants.{Net, Ltc, Tag, Msg}
 use Rattle.protocol.specs.Outcome.{Outcome, with_made}
 use Rattle.protocol.specs.FederateRecord.{FederateRecord, after_grant}
-use Rattle.protocol.specs.Grant.{Rule, Eligible}
+use Rattle.protocol.specs.Grant.{Rule, IsEligible}
 use Rattle.protocol.specs.declared.post.Post.{Post}
 use Rattle.protocol.specs.Coordinator.{Coordinated, route, coordinator_takes, grant_to, grant_post, grants_from, with_grants, coordinator_accepts}
 
@@ -41,7 +41,7 @@ accepts_same n rule federate_records i signal =
     ap (λ (o : Outcome Coordinated). with_made (with_grants n rule) o) (takes_same n federate_records i signal) ∙
     ap (λ (f : Coordinated → Coordinated). with_made f (coordinator_takes (wiring_of n) federate_records i signal)) grants
 
-pub eligible_same : (n : Network) (federate_records : ℕ → FederateRecord) (j : ℕ) → Eligible n federate_records j ↔ Eligible (wiring_of n) federate_records j
+pub eligible_same : (n : Network) (federate_records : ℕ → FederateRecord) (j : ℕ) → IsEligible n federate_records j ↔ IsEligible (wiring_of n) federate_records j
 eligible_same n federate_records j = (
   (λ e. record { announced = e.announced; not_granted = e.not_granted; in_time = e.in_time; safe = e.safe }),
   (λ e. record { announced = e.announced; not_granted = e.not_granted; in_time = e.in_time; safe = e.safe }),

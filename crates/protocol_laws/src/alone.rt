@@ -15,8 +15,8 @@ ghost use Rattle.protocol.specs.FederateRecord.{FederateRecord, initial_federate
 ghost use Rattle.protocol.specs.Grant.{Rule, IsSafeRule};
 ghost use Rattle.protocol.specs.Coordinator.{coordinator_accepts};
 ghost use Rattle.protocol.specs.Machine.{sent_to};
-ghost use Rattle.protocol.specs.Alone.{IsFederate, IsFederateRecord, is_of_turn, is_sent_after, completed_by};
-ghost use Rattle.protocol.specs.Alone.{is_of_step, is_sent_past, granted_by};
+ghost use Rattle.protocol.specs.KeptAlone.{IsFederate, IsFederateRecord, is_of_turn, may_go_up, completed_by_ltcs};
+ghost use Rattle.protocol.specs.KeptAlone.{is_of_step, may_go_down, granted_by_tags};
 
 /// A federate stays a federate at each step, whatever signals come.
 pub fn a_federate_stays_one()
@@ -34,14 +34,14 @@ pub fn a_federate_stays_one()
 /// it sends messages, and then one LTC, of what it has completed then.
 pub fn a_federate_sends_in_order()
     ensures accept { (n : Network) (j : ℕ) (f : Federate) (signal : Signal) → IfDone (federate_accepts n j f signal)
-        (λ made. IsTrue (is_sent_after f.completed made.sent)
-        × (made.after.completed ≡ completed_by f.completed made.sent)) }
+        (λ made. IsTrue (may_go_up f.completed made.sent)
+        × (made.after.completed ≡ completed_by_ltcs f.completed made.sent)) }
     ensures announce { (f : Federate) → IfDone (federate_announces f)
-        (λ made. IsTrue (is_sent_after f.completed made.sent)
-        × (made.after.completed ≡ completed_by f.completed made.sent)) }
+        (λ made. IsTrue (may_go_up f.completed made.sent)
+        × (made.after.completed ≡ completed_by_ltcs f.completed made.sent)) }
     ensures advance { (n : Network) (j : ℕ) (f : Federate) → IsFederate n j f → IfDone (federate_advances n j f)
-        (λ made. IsTrue (is_of_turn made.sent) × IsTrue (is_sent_after f.completed made.sent)
-        × (made.after.completed ≡ completed_by f.completed made.sent)) }
+        (λ made. IsTrue (is_of_turn made.sent) × IsTrue (may_go_up f.completed made.sent)
+        × (made.after.completed ≡ completed_by_ltcs f.completed made.sent)) }
 {}
 
 /// What the coordinator knows of each federate stays as it should, whatever signals come, by any rule that grants what
@@ -63,20 +63,20 @@ pub fn the_coordinator_sends_in_order()
         IsSignal signal → ((j : ℕ) → IsFederateRecord (federate_records j))
         → IfDone (coordinator_accepts n rule federate_records i signal)
         (λ made. (j : ℕ) → IsTrue (is_of_step (sent_to j made.sent))
-        × IsTrue (is_sent_past (federate_records j).granted (sent_to j made.sent)) ×
-        ((made.after j).granted ≡ granted_by (federate_records j).granted (sent_to j made.sent))) }
+        × IsTrue (may_go_down (federate_records j).granted (sent_to j made.sent)) ×
+        ((made.after j).granted ≡ granted_by_tags (federate_records j).granted (sent_to j made.sent))) }
 {}
 
 /// What is sent in order by one step, and then by others, is in order as a whole.
 pub fn order_goes_on()
     ensures after { (completed : Option LogicalTime) (sent more : List Signal) →
-        is_sent_after completed (sent ++ more)
-        ≡ (is_sent_after completed sent && is_sent_after (completed_by completed sent) more) }
+        may_go_up completed (sent ++ more)
+        ≡ (may_go_up completed sent && may_go_up (completed_by_ltcs completed sent) more) }
     ensures completed { (completed : Option LogicalTime) (sent more : List Signal) →
-        completed_by completed (sent ++ more) ≡ completed_by (completed_by completed sent) more }
+        completed_by_ltcs completed (sent ++ more) ≡ completed_by_ltcs (completed_by_ltcs completed sent) more }
     ensures past { (granted : Option LogicalTime) (sent more : List Signal) →
-        is_sent_past granted (sent ++ more)
-        ≡ (is_sent_past granted sent && is_sent_past (granted_by granted sent) more) }
+        may_go_down granted (sent ++ more)
+        ≡ (may_go_down granted sent && may_go_down (granted_by_tags granted sent) more) }
     ensures granted { (granted : Option LogicalTime) (sent more : List Signal) →
-        granted_by granted (sent ++ more) ≡ granted_by (granted_by granted sent) more }
+        granted_by_tags granted (sent ++ more) ≡ granted_by_tags (granted_by_tags granted sent) more }
 {}

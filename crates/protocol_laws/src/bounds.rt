@@ -8,7 +8,7 @@ ghost use Rattle.network.specs.Wiring.{IsWired, wiring_of};
 ghost use Rattle.network.specs.Tables.{Table, IsLeastTable};
 ghost use Rattle.signal.specs.declared.signal.Signal.{Signal};
 ghost use Rattle.protocol.specs.FederateRecord.{FederateRecord};
-ghost use Rattle.protocol.specs.Grant.{Rule, Eligible, bound_of, grant_next, grant_widest};
+ghost use Rattle.protocol.specs.Grant.{Rule, IsEligible, bound_of, grant_next, grant_widest};
 ghost use Rattle.protocol.specs.Bound.{IsBound, IsWidest, IsWithin};
 ghost use Rattle.protocol.specs.Coordinator.{coordinator_accepts};
 
@@ -25,7 +25,7 @@ pub fn the_coordinator_goes_by_the_wiring()
         coordinator_accepts n rule federate_records i signal
         ≡ coordinator_accepts (wiring_of n) rule federate_records i signal }
     ensures eligible { (n : Network) (federate_records : ℕ → FederateRecord) (j : ℕ)
-        → Eligible n federate_records j ↔ Eligible (wiring_of n) federate_records j }
+        → IsEligible n federate_records j ↔ IsEligible (wiring_of n) federate_records j }
     ensures next { (n : Network) (table : Table) → grant_next n table ≡ grant_next (wiring_of n) table }
     ensures widest { (n : Network) (table : Table) → grant_widest n table ≡ grant_widest (wiring_of n) table }
     ensures least { (n : Network) (table : Table) → IsLeastTable n table ↔ IsLeastTable (wiring_of n) table }
@@ -46,7 +46,7 @@ pub fn the_table_gives_the_bound()
 pub fn eligible_before_the_bound()
     ensures { (n : Network) (federate_records : ℕ → FederateRecord) (j : ℕ) (bound : LogicalTime) → IsWired n
         → IsBound n federate_records j bound →
-        (Eligible n federate_records j ↔ IsWithin n federate_records j bound) }
+        (IsEligible n federate_records j ↔ IsWithin n federate_records j bound) }
 {}
 
 /// By the wider rule each eligible federate, and no other, is granted the last tag before the bound, or stop if that is
@@ -54,6 +54,6 @@ pub fn eligible_before_the_bound()
 pub fn the_widest_grant()
     ensures { (n : Network) (table : Table) (federate_records : ℕ → FederateRecord) (j : ℕ) → IsWired n
         → IsLeastTable n table →
-        MatchOption (grant_widest n table federate_records j) (Eligible n federate_records j → ⊥)
-        (λ tag. Eligible n federate_records j × IsWidest n federate_records j tag) }
+        MatchOption (grant_widest n table federate_records j) (IsEligible n federate_records j → ⊥)
+        (λ tag. IsEligible n federate_records j × IsWidest n federate_records j tag) }
 {}

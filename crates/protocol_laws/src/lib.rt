@@ -17,7 +17,7 @@ ghost use Rattle.network.specs.Network.{Network};
 ghost use Rattle.network.specs.Lawful.{IsLawful};
 ghost use Rattle.network.specs.Wiring.{IsWired};
 ghost use Rattle.protocol.specs.FederateRecord.{FederateRecord};
-ghost use Rattle.protocol.specs.Grant.{Rule, ByPaths, ByConnections, Eligible, is_eligible, passes_paths};
+ghost use Rattle.protocol.specs.Grant.{Rule, ByPaths, ByConnections, IsEligible, is_eligible, passes_paths};
 ghost use Rattle.protocol.specs.Grant.{passes_connections, grant_next, grant_widest, grant_chosen, IsSafeRule};
 ghost use Rattle.network.specs.Undivided.{part, whole};
 ghost use Rattle.protocol_laws.specs.Ring.{ring, ring_table, ring_after, first_moves, all_moves};
@@ -25,7 +25,7 @@ ghost use Rattle.protocol_laws.specs.WeakerRules.{by_last_ltcs, by_equal_paths, 
 ghost use Rattle.protocol_laws.specs.WeakerRules.{both_ends, line_table, both_microsteps, first_turn, second_turn};
 ghost use Rattle.protocol_laws.specs.WeakerRules.{next_taken};
 ghost use Rattle.network.specs.Examples.{at};
-ghost use Rattle.network.specs.Tables.{Table, IsTable, IsLeastTable, IsAttained};
+ghost use Rattle.network.specs.Tables.{Table, IsAtMostEveryPath, IsLeastTable, IsTotalOfPath};
 ghost use Rattle.protocol.specs.declared.refusal.Refusal.TheVariants.{BelowGrant};
 ghost use Rattle.protocol.specs.Outcome.{Refused};
 ghost use Rattle.protocol.specs.Machine.{federate_records_of};
@@ -37,7 +37,7 @@ ghost use Rattle.protocol_laws.specs.Runs.{IsQuietWhereStuck};
 /// Whatever moves were made, no move is refused, by any rule that grants what is safe; the rule may be another at each
 /// move.
 pub fn nothing_is_refused()
-    ensures { (n : Network) (table : Table) (rules : ℕ → Rule) → IsLawful n → IsTable n table →
+    ensures { (n : Network) (table : Table) (rules : ℕ → Rule) → IsLawful n → IsAtMostEveryPath n table →
         ((move : ℕ) → IsSafeRule n table (rules move)) → RefusesNothing n rules }
 {}
 
@@ -61,12 +61,12 @@ pub fn eligible_by_the_table()
         (ByConnections n federate_records j tag ↔ IsTrue (passes_connections n federate_records j tag)) }
     ensures eligible { (n : Network) (table : Table) (federate_records : ℕ → FederateRecord) (j : ℕ) → IsWired n
         → IsLeastTable n table →
-        (Eligible n federate_records j ↔ IsTrue (is_eligible n table federate_records j)) }
+        (IsEligible n federate_records j ↔ IsTrue (is_eligible n table federate_records j)) }
 {}
 
 /// Whatever is pending, no chain of connections leads from it to a tag that the federate at its end has completed.
 pub fn nothing_is_completed_early()
-    ensures { (n : Network) (table : Table) (rules : ℕ → Rule) → IsLawful n → IsTable n table →
+    ensures { (n : Network) (table : Table) (rules : ℕ → Rule) → IsLawful n → IsAtMostEveryPath n table →
         ((move : ℕ) → IsSafeRule n table (rules move)) → CompletesNothingEarly n rules }
 {}
 
@@ -74,14 +74,14 @@ pub fn nothing_is_completed_early()
 /// just that was present which the trace itself calls for, and none is missing at a tag that no chain from what is
 /// pending still reaches.
 pub fn histories_are_consistent()
-    ensures { (n : Network) (table : Table) (rules : ℕ → Rule) → IsLawful n → IsTable n table →
+    ensures { (n : Network) (table : Table) (rules : ℕ → Rule) → IsLawful n → IsAtMostEveryPath n table →
         ((move : ℕ) → IsSafeRule n table (rules move)) → StaysConsistent n rules }
 {}
 
 /// Where a federate's next tag is FOREVER, no event of it is pending, no message that it sent waits for the
 /// coordinator, and none waits for it on the way down. So where every federate's is, no message is on its way.
 pub fn nothing_is_left()
-    ensures { (n : Network) (table : Table) (rules : ℕ → Rule) → IsLawful n → IsTable n table →
+    ensures { (n : Network) (table : Table) (rules : ℕ → Rule) → IsLawful n → IsAtMostEveryPath n table →
         ((move : ℕ) → IsSafeRule n table (rules move)) → IsQuietWhereNextIsForever n rules }
 {}
 
@@ -99,15 +99,17 @@ pub fn grants_are_full()
     ensures widest { (n : Network) (table : Table) → IsWired n → IsFullRule n table (grant_widest n table) }
 {}
 
-/// The table of the least delays over all paths keeps the two facts of `IsTable`, which the laws go by, in a network of
-/// at most 64 reactors with delays of the plain forms.
+/// The table of the least delays over all paths keeps the two facts of `IsAtMostEveryPath`, which the laws go by, in a
+/// network of at most 64 reactors with delays that connections may have.
 pub fn least_delays_suffice()
-    ensures { (n : Network) (table : Table) → IsLawful n → IsLeastTable n table → IsTable n table }
+    ensures { (n : Network) (table : Table) → IsLawful n → IsLeastTable n table → IsAtMostEveryPath n table }
 {}
 
-/// A table that keeps the two facts of `IsTable`, and whose entries are totals of paths, is that of the least delays.
+/// A table that keeps the two facts of `IsAtMostEveryPath`, and whose entries are totals of paths, is that of the least
+/// delays.
 pub fn fixed_points_are_least()
-    ensures { (n : Network) (table : Table) → IsTable n table → ((i j : ℕ) → IsAttained n.connections i j (table i j)) →
+    ensures { (n : Network) (table : Table) → IsAtMostEveryPath n table
+        → ((i j : ℕ) → IsTotalOfPath n.connections i j (table i j)) →
         IsLeastTable n table }
 {}
 

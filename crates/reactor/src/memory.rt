@@ -12,7 +12,7 @@ use std::fmt;
 pub struct Memory;
 
 impl Memory {
-    /// The number of this refusal.
+    /// The number of this fault.
     pub const fn number(self) -> u16
         ensures { result ≡ fault_number ProgramFaults.Memory }
     {

@@ -111,7 +111,7 @@ impl Rows {
     }
 }
 
-/// Adds entries, for which there is room.
+// Adds entries, for which there is room.
 fn append(to: &mut Vec<Entry>, entries: &[Entry])
     requires { vec_len to.old + length entries.now ≤ vec_capacity to.old }
     ensures items { to.new.items ≡ to.old.items ++ entries.now }

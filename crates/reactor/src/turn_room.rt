@@ -116,7 +116,7 @@ impl TurnRoom {
     }
 }
 
-/// The values that are there, each with its place, in place of what the list held.
+// The values that are there, each with its place, in place of what the list held.
 #[tactic(auto, using(crate::proofs::Listing::listed_some, crate::proofs::Listing::listed_none))]
 fn list_into(entries: &mut Vec<Entry>, values: &[Option<i64>]) -> Result<(), Memory>
     ensures { OnOk result (entries.new.items ≡ listed (length values.now) (value_in values.now)) }

@@ -151,7 +151,7 @@ impl Agenda {
     }
 }
 
-/// Where startup stands.
+// Where startup stands.
 fn startup() -> Key
     ensures { result ≡ record { tag = origin; slot = 0 } }
 {
@@ -161,7 +161,7 @@ fn startup() -> Key
     }
 }
 
-/// Startup, where it is asked for.
+// Startup, where it is asked for.
 fn startup_of(alloc: Global, wanted: bool) -> Result<Puts, Memory>
     ensures { IfOk result (λ puts. puts ≡ startup_in wanted) }
 {

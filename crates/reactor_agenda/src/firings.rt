@@ -41,7 +41,7 @@ pub fn later_than(timer: Firings, tag: Tag) -> Firings
     rest
 }
 
-/// Whether the next firing is not later than a tag.
+// Whether the next firing is not later than a tag.
 fn is_due(timer: Firings, tag: Tag) -> bool
     requires { IsTimer timer }
     ensures due { result ≡ has_due tag (firings_of timer) }
@@ -67,7 +67,7 @@ pub fn fires_at(timer: Firings, tag: Tag) -> bool
     is_next(rest, tag)
 }
 
-/// Whether the next firing is before a tag.
+// Whether the next firing is before a tag.
 fn is_before(timer: Firings, tag: Tag) -> bool
     requires { IsTimer timer }
     ensures before { result ≡ has_before tag (firings_of timer) }
@@ -79,7 +79,7 @@ fn is_before(timer: Firings, tag: Tag) -> bool
     next_tag(timer) < tag
 }
 
-/// Whether the next firing, which is not before a tag, is at it.
+// Whether the next firing, which is not before a tag, is at it.
 fn is_next(timer: Firings, tag: Tag) -> bool
     requires timer { IsTimer timer }
     requires none_before { has_before tag (firings_of timer) ≡ false }

@@ -123,7 +123,7 @@ impl Puts {
     }
 }
 
-/// How a key stands to the first, or `Less` where there is none.
+// How a key stands to the first, or `Less` where there is none.
 fn first_cmp(front: &VecDeque<(Key, i64), Global>, key: &Key) -> Ordering
     ensures { result ≡ to_first key.now front.now.items }
 {
@@ -133,7 +133,7 @@ fn first_cmp(front: &VecDeque<(Key, i64), Global>, key: &Key) -> Ordering
     }
 }
 
-/// How a key stands to the last, or `Greater` where there is none.
+// How a key stands to the last, or `Greater` where there is none.
 fn last_cmp(front: &VecDeque<(Key, i64), Global>, key: &Key) -> Ordering
     ensures { result ≡ to_last key.now front.now.items }
 {
@@ -143,7 +143,7 @@ fn last_cmp(front: &VecDeque<(Key, i64), Global>, key: &Key) -> Ordering
     }
 }
 
-/// Moves those later than a key to the others, the last first; after `Memory` what was moved stays there.
+// Moves those later than a key to the others, the last first; after `Memory` what was moved stays there.
 fn move_later(
     front: &mut VecDeque<(Key, i64), Global>,
     rest: &mut BTreeMap<Key, i64, Global>,
@@ -172,7 +172,7 @@ fn move_later(
     Ok(())
 }
 
-/// Takes out the last, where it is for a key.
+// Takes out the last, where it is for a key.
 fn take_last(front: &mut VecDeque<(Key, i64), Global>, key: &Key) -> Option<i64>
     ensures taken { IfSome result (λ value. front.old.items ≡ front.new.items ++ (key.now, value) ∷ []) }
     ensures other { IfNone result ((front.new.items ≡ front.old.items)
@@ -188,7 +188,7 @@ fn take_last(front: &mut VecDeque<(Key, i64), Global>, key: &Key) -> Option<i64>
     }
 }
 
-/// Moves the first of the others to the front, where that is empty.
+// Moves the first of the others to the front, where that is empty.
 fn refill(front: &mut VecDeque<(Key, i64), Global>, rest: &mut BTreeMap<Key, i64, Global>)
     requires { deque_len front.old < deque_capacity front.old }
     ensures all { front.new.items ++ rest.new.entries ≡ front.old.items ++ rest.old.entries }
@@ -202,7 +202,7 @@ fn refill(front: &mut VecDeque<(Key, i64), Global>, rest: &mut BTreeMap<Key, i64
     }
 }
 
-/// Where the value for a key is.
+// Where the value for a key is.
 fn place_of(front: &VecDeque<(Key, i64), Global>, key: &Key) -> Option<usize>
     requires { Rises (held_in front.now.items) }
     ensures found { IfSome result (λ place. place < deque_len front.now) }
@@ -212,7 +212,7 @@ fn place_of(front: &VecDeque<(Key, i64), Global>, key: &Key) -> Option<usize>
     front.binary_search_by_key(key, |&(other, _)| other).ok()
 }
 
-/// Gives a slot at a tag another value, where it has one. That takes no memory.
+// Gives a slot at a tag another value, where it has one. That takes no memory.
 fn replace_in(rest: &mut BTreeMap<Key, i64, Global>, key: Key, value: i64)
     ensures { held_in rest.new.entries ≡ undo_to key (Some value) (held_in rest.old.entries) }
 {

@@ -28,7 +28,7 @@ pub fn add_firings(entries: &mut Vec<Entry>, timers: &[Firings], tag: Tag) -> Re
     Ok(())
 }
 
-/// Adds a timer, if it fires at a tag.
+// Adds a timer, if it fires at a tag.
 fn add_firing(entries: &mut Vec<Entry>, timer: Firings, tag: Tag) -> Result<(), Memory>
     requires timer { IsTimer timer }
     requires in_place { AreInPlace entries.old.items }
@@ -51,7 +51,7 @@ pub fn add_puts(entries: &mut Vec<Entry>, puts: &Puts, tag: Tag) -> Result<(), M
     add_rest(entries, &puts.rest, tag)
 }
 
-/// Adds those in front.
+// Adds those in front.
 fn add_front(
     entries: &mut Vec<Entry>,
     front: &VecDeque<(Key, i64), Global>,
@@ -71,7 +71,7 @@ fn add_front(
     Ok(())
 }
 
-/// Adds the others.
+// Adds the others.
 fn add_rest(
     entries: &mut Vec<Entry>,
     rest: &BTreeMap<Key, i64, Global>,
@@ -92,7 +92,7 @@ fn add_rest(
     Ok(())
 }
 
-/// Adds a value for a slot, if it was put for a tag.
+// Adds a value for a slot, if it was put for a tag.
 fn add_put(entries: &mut Vec<Entry>, key: &Key, value: i64, tag: Tag) -> Result<(), Memory>
     requires { AreInPlace entries.old.items }
     ensures { OnOk result (entries.new.items
@@ -105,7 +105,7 @@ fn add_put(entries: &mut Vec<Entry>, key: &Key, value: i64, tag: Tag) -> Result<
     Ok(())
 }
 
-/// Adds an entry in its place; it replaces one for its slot.
+// Adds an entry in its place; it replaces one for its slot.
 #[inline(always)]
 fn set_entry(entries: &mut Vec<Entry>, entry: Entry) -> Result<(), Memory>
     requires { AreInPlace entries.old.items }
@@ -121,7 +121,7 @@ fn set_entry(entries: &mut Vec<Entry>, entry: Entry) -> Result<(), Memory>
     Ok(())
 }
 
-/// Adds an entry at a place, which most often is the end.
+// Adds an entry at a place, which most often is the end.
 fn insert(entries: &mut Vec<Entry>, place: usize, entry: Entry) -> Result<(), Memory>
     requires { place ≤ length entries.old.items }
     ensures { OnOk result (entries.new.items ≡ insert entries.old.items place entry) }

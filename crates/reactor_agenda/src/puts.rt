@@ -49,7 +49,7 @@ fn is_in_time(event: PendingEvent, stop: FiniteTag) -> bool
     event.tag() <= stop
 }
 
-/// Puts an event, and notes how to undo it.
+// Puts an event, and notes how to undo it.
 #[inline(always)]
 fn put_one(puts: &mut Puts, undos: &mut Vec<Undo>, event: PendingEvent) -> Result<(), Memory>
     requires { vec_len undos.old < vec_capacity undos.old }
@@ -70,7 +70,7 @@ fn put_one(puts: &mut Puts, undos: &mut Vec<Undo>, event: PendingEvent) -> Resul
     Ok(())
 }
 
-/// Where an event stands.
+// Where an event stands.
 fn key_of(event: PendingEvent) -> Key
     ensures { result ≡ record { tag = event.tag; slot = event.slot } }
 {
@@ -109,7 +109,7 @@ pub fn drop_puts(puts: &mut Puts, tag: Tag)
     puts.in_order();
 }
 
-/// Whether the first is not later than a tag.
+// Whether the first is not later than a tag.
 fn has_due(puts: &Puts, tag: Tag) -> bool
     ensures { result ≡ has_due tag puts.now }
 {

@@ -30,7 +30,7 @@ pub fn timers_of(alloc: Global, slots: &Slots, stop: Time) -> Result<Vec<Firings
     Ok(timers)
 }
 
-/// How often a timer fires up to stop.
+// How often a timer fires up to stop.
 fn firing_count(stop: u64, timer: &Timer) -> u64
     requires { stop < 2 ^ 62 }
     ensures { result ≡ firing_count stop timer.now }

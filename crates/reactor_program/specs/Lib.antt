@@ -1,5 +1,5 @@
 -- The programs of reactors.
--- refusals of a program: their numbers and texts
+-- faults of a program: their numbers and texts
 pub mod ProgramFaults
 -- what a reactor has and does
 pub mod Behaviour

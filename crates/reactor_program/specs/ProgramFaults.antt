@@ -1,11 +1,11 @@
--- The refusals of a program: their numbers, and how they are printed.
+-- The faults of a program: their numbers, and how they are printed.
 use Rattle.std.specs.Prelude.{ℕ, List, ◌++◌, codes}
 use Rattle.std.specs.Fmt.{decimal}
 use Rattle.reactor_program.specs.declared.program_fault.ProgramFault.{ProgramFault}
 use Rattle.reactor_program.specs.declared.program_fault.ProgramFault.TheVariants.{BadLine, UnknownOperand, Memory}
 use Rattle.reactor_program.specs.declared.program_fault.ProgramFault.TheVariants.{RepeatedState}
 
--- the refusal's number
+-- the fault's number
 abbrev pub fault_number : ProgramFault → ℕ
 fault_number (BadLine reaction line) = 20
 fault_number (UnknownOperand reaction line) = 21
@@ -16,7 +16,7 @@ fault_number RepeatedState = 23
 abbrev pub printed_line_of : List ℕ → ℕ → ℕ → List ℕ
 printed_line_of federate reaction line = federate ++ (codes " " ++ (decimal reaction ++ (codes " " ++ decimal line)))
 
--- what is printed after the number: the refusal's name, and where it stands in the program of this federate
+-- what is printed after the number: the fault's name, and where it stands in the program of this federate
 abbrev pub fault_text_of : List ℕ → ProgramFault → List ℕ
 fault_text_of federate (BadLine reaction line) = codes " BadLine " ++ printed_line_of federate reaction line
 fault_text_of federate (UnknownOperand reaction line) =
@@ -24,7 +24,7 @@ fault_text_of federate (UnknownOperand reaction line) =
 fault_text_of federate Memory = codes " Memory"
 fault_text_of federate RepeatedState = codes " RepeatedState " ++ federate
 
--- how the refusal of the program of this federate is printed
+-- how the fault of the program of this federate is printed
 abbrev pub printed_fault_of : List ℕ → ProgramFault → List ℕ
 printed_fault_of federate fault = decimal (fault_number fault) ++ fault_text_of federate fault
 

@@ -51,7 +51,7 @@ IsTimed text time token =
     (duration : List (List ℕ)) × (tokens_of text ≡ duration ++ token ∷ []) × SpellsDuration time duration
     × (time < 2 ^ 62)
 
--- the refusal of a program for a line's fault
+-- a program's fault, by that of a line
 abbrev pub told_at : ℕ → ℕ → LineFault → ProgramFault
 told_at reaction line NoForm = BadLine reaction line
 told_at reaction line UnknownName = UnknownOperand reaction line

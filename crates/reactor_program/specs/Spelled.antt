@@ -74,7 +74,7 @@ IsReactionFault s states drafts fault =
     (r : ℕ) × (d : ReactionDraft) × (slice_get drafts r ≡ Some d)
     × (IsTriggerFault s (r + 1) d.triggers fault ⊎ IsLineFault s states (r + 1) d.body fault)
 
--- a refusal is answered where its fault stands; memory may be wanting anywhere
+-- a fault is answered where it stands; memory may be wanting anywhere
 abbrev pub IsFaultOf : Slots → List StateOf.State → List ReactionDraft → ProgramFault → Type 0
 IsFaultOf s states drafts fault =
     (fault ≡ Memory) ⊎ (((fault ≡ RepeatedState) × ¬ (AreDistinct (state_names states)))

@@ -35,7 +35,7 @@ fn negated(magnitude: u64) -> Option<i64>
     }
 }
 
-/// The number that digits spell, or None for other texts, and for 2^64 or more.
+// The number that digits spell, or None for other texts, and for 2^64 or more.
 #[tactic(auto, using(crate::proofs::Numerals::digits_listed))]
 fn magnitude(digits: &[u8]) -> Option<u64>
     ensures { SomeIff result (IsTrue (is_numeral digits.now) × (digits_value 10 digits.now < 2 ^ 64))

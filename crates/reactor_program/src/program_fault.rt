@@ -21,7 +21,7 @@ pub enum ProgramFault {
 impl ProgramFault {
     ghost use Rattle.reactor_program.specs.ProgramFaults.{fault_number};
 
-    /// The refusal's number.
+    /// The fault's number.
     pub const fn number(self) -> u16
         ensures { result ≡ fault_number self }
     {
@@ -33,7 +33,7 @@ impl ProgramFault {
         }
     }
 
-    /// The refusal of the program of the federate of this name, to be printed.
+    /// The fault of the program of the federate of this name, to be printed.
     pub fn of(self, federate: &str) -> FaultOf<'_>
         ensures { (result.federate ≡ federate.entry) × (result.fault ≡ self) }
     {
@@ -44,7 +44,7 @@ impl ProgramFault {
     }
 }
 
-/// A refusal of the program of the federate of this name, to be printed.
+/// A fault of the program of the federate of this name, to be printed.
 #[derive(Clone, Copy)]
 pub struct FaultOf<'a> {
     pub federate: &'a str,

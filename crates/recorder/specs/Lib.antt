@@ -1,4 +1,4 @@
--- The machine of an audit, and which step an event can be.
+-- What makes an audit's steps, and which step an event can be.
 pub mod Placing
 -- What an audit answers.
 pub mod Audited

@@ -16,7 +16,7 @@ use Rattle.world_stations.specs.World.{occurrence_of}
 use Rattle.world.specs.World.{WorldView, stations_of, with_step}
 use Rattle.recorder_search.specs.Motion.{Motion}
 
--- a world as a machine: each step is an event of its definition
+-- a world as a step maker: each step is an event of its definition
 abbrev pub world_motion : Motion WorldView
 world_motion = record { occurrence = λ w step. occurrence_of (stations_of w) step; after = with_step }
 

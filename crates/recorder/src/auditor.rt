@@ -13,15 +13,14 @@ use crate::cursors::Cursors;
 use node::{Event, NodeId};
 use plan::{Inputs, Plan};
 use reactor_programs::Programs;
-use recorder_search::{Machine, Memory};
+use recorder_search::{Memory, StepMaker};
 use signal::Frame;
 use std::alloc::Global;
 use std::marker::Model;
 use world::World;
 use world_stations::{Dir, Step};
 
-/// The world of a federation, as the machine that a search for its nodes' journals moves, step by step. Contracts see
-/// that world.
+/// The world of a federation, as the step maker of a search for its nodes' journals. Contracts see that world.
 #[derive(Drop)]
 pub struct Auditor<'a> {
     world: World<'a>,
@@ -36,7 +35,7 @@ impl<'a> Model for Auditor<'a> {
     ghost view = { λ a. a.world };
 }
 
-impl<'a> Machine for Auditor<'a> {
+impl<'a> StepMaker for Auditor<'a> {
     ghost motion = { world_motion };
 
     fn place(&mut self, node: NodeId, event: Event, exact: bool) -> Result<Option<Step>, Memory> {

@@ -144,7 +144,7 @@ impl<'a> IncrementalAudit<'a> {
         }
     }
 
-    // What it says of complete reports.
+    /// What it says of complete reports.
     pub(crate) fn conclude_complete(
         self,
         alloc: Global,

@@ -18,8 +18,8 @@ use recorder_reports::{Report, Unproved, first_difference, report_of};
 use recorder_search::Found;
 use world::World;
 
-// What is to be said of complete reports, in the world in which a search for their journals ended, whatever the
-// coordinator's is.
+/// What is to be said of complete reports, in the world in which a search for their journals ended, whatever the
+/// coordinator's is.
 pub(crate) fn judge(
     world: World<'_>,
     reports: &[Report],

@@ -6,7 +6,7 @@ ghost use Rattle.network_laws.specs.Settled.{BeginsWith};
 use node_journal::Journal;
 use std::alloc::{AllocError, Global};
 
-// Of this many journals nothing.
+/// Of this many journals nothing.
 pub(crate) fn none_known(alloc: Global, count: usize) -> Result<Vec<Journal>, AllocError> {
     let mut known = Vec::new(alloc);
     for _ in 0..count {
@@ -15,7 +15,7 @@ pub(crate) fn none_known(alloc: Global, count: usize) -> Result<Vec<Journal>, Al
     Ok(known)
 }
 
-// The journal at a place goes on with these events, if it is there. Without memory nothing has changed.
+/// The journal at a place goes on with these events, if it is there. Without memory nothing has changed.
 pub(crate) fn add_to(
     known: &mut Vec<Journal>,
     place: usize,
@@ -31,7 +31,7 @@ pub(crate) fn add_to(
     }
 }
 
-// The same journals, as a search reads them.
+/// The same journals, as a search reads them.
 pub(crate) fn references_to(alloc: Global, known: &[Journal]) -> Result<Vec<&Journal>, AllocError>
     ensures { IfOk result (λ journals. map (λ j. j.now) journals.items ≡ known.now) }
 {
@@ -42,7 +42,7 @@ pub(crate) fn references_to(alloc: Global, known: &[Journal]) -> Result<Vec<&Jou
     Ok(journals)
 }
 
-// Whether all that is known is a prefix of these journals.
+/// Whether all that is known is a prefix of these journals.
 pub(crate) fn are_prefixes(known: &[Journal], journals: &[&Journal]) -> bool
     ensures { result ≡ true → GrewTo known.now (map (λ j. j.now) journals.now) }
 {

@@ -12,10 +12,10 @@
 //!     journals as they grow --> IncrementalAudit::add, go_on      steps are made ahead, while nodes still write
 //!     reports --> IncrementalAudit::conclude                      as `audit_run`, where only what is left is read
 //!
-//! An `Auditor` is the `Machine` of that search: a step that it makes for an event is that event, and with None, where
-//! it looks exactly, no step is (`specs/Placing`); `cursors` says where a frame is looked for first, and no answer
-//! rests on it. Begin with `specs/Audited`, then `conclude` in `incremental`; `audit` in `auditing` is the same in one
-//! call.
+//! An `Auditor` is the `StepMaker` of that search: a step that it makes for an event is that event, and with None,
+//! where it looks exactly, no step is (`specs/Placing`); `cursors` says where a frame is looked for first, and no
+//! answer rests on it. Begin with `specs/Audited`, then `conclude` in `incremental`; `audit` in `auditing` is the same
+//! in one call.
 #![tactic(auto)]
 
 pub mod audited_run;

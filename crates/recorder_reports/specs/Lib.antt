@@ -2,5 +2,5 @@
 pub mod Reports
 -- The first place at which two lists of rows differ.
 pub mod Difference
--- The numbers by which refusals are printed, and how a report that isn't taken is printed.
+-- The numbers by which faults are printed, and how a report that isn't taken is printed.
 pub mod Numbers

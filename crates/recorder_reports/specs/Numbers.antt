@@ -1,4 +1,4 @@
--- The numbers by which refusals are printed, and how a report that isn't taken is printed.
+-- The numbers by which faults are printed, and how a report that isn't taken is printed.
 use Rattle.std.specs.Prelude.{ℕ, List, codes}
 use Rattle.signal.specs.Fault.{printed_fault}
 use Rattle.recorder_search.specs.Fault.{memory_number}

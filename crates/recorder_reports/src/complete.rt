@@ -6,7 +6,7 @@ ghost use Rattle.recorder_reports.specs.Reports.{IsFirstMissing, IsIncomplete};
 use crate::report::Report;
 use crate::unproved::Unproved;
 
-// How many reports of a federate there are.
+/// How many reports of a federate there are.
 pub(crate) fn count_of(reports: &[Report], federate: usize) -> usize
     ensures { result ≡ how_many reports.now federate }
 {

@@ -1,4 +1,4 @@
--- How a machine moves, and what it answers when an event is to be placed.
+-- How a step maker moves, and what it answers when an event is to be placed.
 use Rattle.std.specs.Prelude.{◌≡◌, Bool, true, List, [], ◌∷◌, Option, None, Some}
 use Rattle.node.specs.declared.event.Event.{Event}
 use Rattle.node.specs.declared.node_id.NodeId.{NodeId}

@@ -9,7 +9,7 @@ use Rattle.world_stations.specs.Kept.{is_forget}
 use Rattle.recorder_search.specs.Motion.{Motion, after_all, IsNoStep}
 use Rattle.recorder_search.specs.Journals.{place_of, node_at, journal_of, events_at, AreEvents}
 
--- the machine's state, and how many events of each journal are read
+-- the step maker's state, and how many events of each journal are read
 pub record Position (State : Type 0) : Type 0 where
   pub state : State
   pub read : List ℕ

@@ -3,7 +3,7 @@ ghost use Rattle.std.specs.Prelude.{◌≡◌};
 use std::alloc::{AllocError, AllocFailed};
 use std::fmt;
 
-/// No memory was to be had, for the search or its machine: the machine stands after some steps.
+/// No memory was to be had, for the search or its step maker, which stands after some steps.
 #[derive(Clone, Copy, Debug, PartialEq, Eq)]
 pub struct Memory;
 

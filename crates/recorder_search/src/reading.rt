@@ -1,11 +1,11 @@
-//! Reading journals, with a machine that makes the steps.
+//! Reading journals, with a step maker.
 ghost use Rattle.std.specs.Prelude.{◌≡◌, ◌≢◌, ℕ, ◌<◌, ◌≤◌, true, false, length, get_or, slice_get, map, [], replicate};
 ghost use Rattle.std.specs.Prelude.{IfOk, OnOk};
 ghost use Rattle.recorder_search.specs.Journals.{node_at};
 ghost use Rattle.recorder_search.specs.Reading.{GoesOn, IsBlocked, IsFirstUnread, IsReading};
 
-use crate::machine::Machine;
 use crate::memory::Memory;
+use crate::step_maker::StepMaker;
 use node::{Event, NodeId};
 use node_journal::Journal;
 use std::alloc::Global;
@@ -13,7 +13,7 @@ use std::alloc::Global;
 // Events of one journal that are read before the next journal is, at most.
 const AT_ONCE: usize = 64;
 
-// The node of a place among the journals.
+/// The node of a place among the journals.
 pub(crate) fn node_at(place: usize) -> NodeId
     ensures { result ≡ node_at place }
 {
@@ -55,9 +55,9 @@ fn nth_event(journal: &Journal, event: usize, near: &mut [usize], place: usize) 
     }
 }
 
-// Reads the next event of the journal at a place, if a step of the machine is that event.
-fn read_one<M: Machine>(
-    machine: &mut M,
+// Reads the next event of the journal at a place, if the step maker has a step that is that event.
+fn read_one<M: StepMaker>(
+    step_maker: &mut M,
     journals: &[&Journal],
     read: &mut [usize],
     near: &mut [usize],
@@ -66,15 +66,16 @@ fn read_one<M: Machine>(
 ) -> Result<bool, Memory>
     requires { place < length read.old }
     ensures goes_on { IfOk result (λ moved.
-        GoesOn M.motion (map (λ j. j.now) journals.now) (record { state = machine.old; read = read.old })
-        (record { state = machine.new; read = read.new }) moved) }
+        GoesOn M.motion (map (λ j. j.now) journals.now) (record { state = step_maker.old; read = read.old })
+        (record { state = step_maker.new; read = read.new }) moved) }
     ensures blocked { IfOk result (λ moved. moved ≡ false → exact ≡ true
-        → IsBlocked M.motion (map (λ j. j.now) journals.now) (record { state = machine.old; read = read.old }) place) }
+        → IsBlocked M.motion (map (λ j. j.now) journals.now)
+        (record { state = step_maker.old; read = read.old }) place) }
 {
     let Some(event) = next_event(journals, read, near, place) else {
         return Ok(false);
     };
-    let Some(_) = machine.place(node_at(place), event, exact)? else {
+    let Some(_) = step_maker.place(node_at(place), event, exact)? else {
         return Ok(false);
     };
     read[place] += 1;
@@ -83,8 +84,8 @@ fn read_one<M: Machine>(
 
 // Reads the journal at a place, as far as it goes now, but at most this many events at once: what a node sent is still
 // near when another one takes it in.
-fn read_on<M: Machine>(
-    machine: &mut M,
+fn read_on<M: StepMaker>(
+    step_maker: &mut M,
     journals: &[&Journal],
     read: &mut [usize],
     near: &mut [usize],
@@ -93,46 +94,48 @@ fn read_on<M: Machine>(
 ) -> Result<bool, Memory>
     requires { place < length read.old }
     ensures goes_on { IfOk result (λ moved.
-        GoesOn M.motion (map (λ j. j.now) journals.now) (record { state = machine.old; read = read.old })
-        (record { state = machine.new; read = read.new }) moved) }
+        GoesOn M.motion (map (λ j. j.now) journals.now) (record { state = step_maker.old; read = read.old })
+        (record { state = step_maker.new; read = read.new }) moved) }
     ensures blocked { IfOk result (λ moved. moved ≡ false → exact ≡ true
-        → IsBlocked M.motion (map (λ j. j.now) journals.now) (record { state = machine.old; read = read.old }) place) }
+        → IsBlocked M.motion (map (λ j. j.now) journals.now)
+        (record { state = step_maker.old; read = read.old }) place) }
 {
-    if !read_one(machine, journals, read, near, place, exact)? {
+    if !read_one(step_maker, journals, read, near, place, exact)? {
         return Ok(false);
     }
     for _ in 1..AT_ONCE {
-        if !read_one(machine, journals, read, near, place, exact)? {
+        if !read_one(step_maker, journals, read, near, place, exact)? {
             break;
         }
     }
     Ok(true)
 }
 
-// Reads each journal once, as far as it goes then.
-pub(crate) fn round<M: Machine>(
-    machine: &mut M,
+/// Reads each journal once, as far as it goes then.
+pub(crate) fn round<M: StepMaker>(
+    step_maker: &mut M,
     journals: &[&Journal],
     read: &mut [usize],
     near: &mut [usize],
     exact: bool,
 ) -> Result<bool, Memory>
     ensures goes_on { IfOk result (λ moved.
-        GoesOn M.motion (map (λ j. j.now) journals.now) (record { state = machine.old; read = read.old })
-        (record { state = machine.new; read = read.new }) moved) }
+        GoesOn M.motion (map (λ j. j.now) journals.now) (record { state = step_maker.old; read = read.old })
+        (record { state = step_maker.new; read = read.new }) moved) }
     ensures blocked { IfOk result (λ moved. moved ≡ false → exact ≡ true → (place : ℕ) → place < length read.old
-        → IsBlocked M.motion (map (λ j. j.now) journals.now) (record { state = machine.old; read = read.old }) place) }
+        → IsBlocked M.motion (map (λ j. j.now) journals.now)
+        (record { state = step_maker.old; read = read.old }) place) }
 {
     let mut moved = false;
     for place in 0..read.len() {
-        if read_on(machine, journals, read, near, place, exact)? {
+        if read_on(step_maker, journals, read, near, place, exact)? {
             moved = true;
         }
     }
     Ok(moved)
 }
 
-// The first node whose journal isn't used up, and its next event, counted from 1.
+/// The first node whose journal isn't used up, and its next event, counted from 1.
 pub(crate) fn first_unread(
     journals: &[&Journal],
     read: &[usize],
@@ -149,43 +152,46 @@ pub(crate) fn first_unread(
     None
 }
 
-// Reads all journals, as far as they go: by guesses, and exactly where no guess is right.
-pub(crate) fn read_all<M: Machine>(
-    machine: &mut M,
+/// Reads all journals, as far as they go: by guesses, and exactly where no guess is right.
+pub(crate) fn read_all<M: StepMaker>(
+    step_maker: &mut M,
     journals: &[&Journal],
     read: &mut [usize],
     near: &mut [usize],
 ) -> Result<(), Memory>
     ensures reading { OnOk result ((initial : M)
-        → IsReading M.motion initial (map (λ j. j.now) journals.now) (record { state = machine.old; read = read.old })
         → IsReading M.motion initial (map (λ j. j.now) journals.now)
-        (record { state = machine.new; read = read.new })) }
+        (record { state = step_maker.old; read = read.old })
+        → IsReading M.motion initial (map (λ j. j.now) journals.now)
+        (record { state = step_maker.new; read = read.new })) }
     ensures blocked { OnOk result ((place : ℕ) → place < length read.old
-        → IsBlocked M.motion (map (λ j. j.now) journals.now) (record { state = machine.new; read = read.new }) place) }
+        → IsBlocked M.motion (map (λ j. j.now) journals.now)
+        (record { state = step_maker.new; read = read.new }) place) }
 {
-    while round(machine, journals, read, near, false)?
-        || round(machine, journals, read, near, true)?
+    while round(step_maker, journals, read, near, false)?
+        || round(step_maker, journals, read, near, true)?
     {}
     Ok(())
 }
 
-// Reads all journals, as far as guesses go.
-pub(crate) fn read_by_guesses<M: Machine>(
-    machine: &mut M,
+/// Reads all journals, as far as guesses go.
+pub(crate) fn read_by_guesses<M: StepMaker>(
+    step_maker: &mut M,
     journals: &[&Journal],
     read: &mut [usize],
     near: &mut [usize],
 ) -> Result<(), Memory>
     ensures reading { OnOk result ((initial : M)
-        → IsReading M.motion initial (map (λ j. j.now) journals.now) (record { state = machine.old; read = read.old })
         → IsReading M.motion initial (map (λ j. j.now) journals.now)
-        (record { state = machine.new; read = read.new })) }
+        (record { state = step_maker.old; read = read.old })
+        → IsReading M.motion initial (map (λ j. j.now) journals.now)
+        (record { state = step_maker.new; read = read.new })) }
 {
-    while round(machine, journals, read, near, false)? {}
+    while round(step_maker, journals, read, near, false)? {}
     Ok(())
 }
 
-// Of no journal anything is read.
+/// Of no journal anything is read.
 pub(crate) fn none_read(alloc: Global, count: usize) -> Result<Vec<usize>, Memory>
     ensures { IfOk result (λ read. read.items ≡ replicate count 0) }
 {

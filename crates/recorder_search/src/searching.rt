@@ -4,9 +4,9 @@ ghost use Rattle.recorder_search.specs.Journals.{IsFound};
 ghost use Rattle.recorder_search.specs.Reading.{IsReading};
 
 use crate::found::Found;
-use crate::machine::Machine;
 use crate::memory::Memory;
 use crate::reading::{first_unread, none_read, read_all, read_by_guesses};
+use crate::step_maker::StepMaker;
 use node_journal::Journal;
 use std::alloc::Global;
 use std::marker::Model;
@@ -37,68 +37,71 @@ impl Reading {
         })
     }
 
-    /// Lets the machine make steps that agree with the journals, by its guesses alone, as far as that goes. Call it
-    /// while the journals still grow, as often as wanted. Without memory the machine stands after some steps, and
+    /// Lets the step maker make steps that agree with the journals, by its guesses alone, as far as that goes. Call it
+    /// while the journals still grow, as often as wanted. Without memory the step maker stands after some steps, and
     /// nothing is said of them.
-    pub fn read_ahead<M: Machine>(
+    pub fn read_ahead<M: StepMaker>(
         &mut self,
-        machine: &mut M,
+        step_maker: &mut M,
         journals: &[&Journal],
     ) -> Result<(), Memory>
         ensures reading { OnOk result ((initial : M)
             → IsReading M.motion initial (map (λ j. j.now) journals.now)
-            (record { state = machine.old; read = self.old })
+            (record { state = step_maker.old; read = self.old })
             → IsReading M.motion initial (map (λ j. j.now) journals.now)
-            (record { state = machine.new; read = self.new })) }
+            (record { state = step_maker.new; read = self.new })) }
         ensures sized { OnOk result (length self.new ≡ length self.old) }
     {
-        read_by_guesses(machine, journals, &mut self.read, &mut self.near)
+        read_by_guesses(step_maker, journals, &mut self.read, &mut self.near)
     }
 
-    /// Reads the journals to their ends, or as far as any machine's step goes: call it when they are whole. What was
-    /// found is said of all steps, those made before too. Without memory the machine stands after some steps, and
+    /// Reads the journals to their ends, or as far as any step maker's step goes: call it when they are whole. What was
+    /// found is said of all steps, those made before too. Without memory the step maker stands after some steps, and
     /// nothing is said of them.
-    pub fn finish<M: Machine>(
+    pub fn finish<M: StepMaker>(
         mut self,
-        machine: &mut M,
+        step_maker: &mut M,
         journals: &[&Journal],
     ) -> Result<Found, Memory>
         requires sized { length self ≡ length journals.now }
         ensures { IfOk result (λ found. (initial : M)
-            → IsReading M.motion initial (map (λ j. j.now) journals.now) (record { state = machine.old; read = self })
-            → IsFound M.motion initial (map (λ j. j.now) journals.now) machine.new found) }
+            → IsReading M.motion initial (map (λ j. j.now) journals.now)
+            (record { state = step_maker.old; read = self })
+            → IsFound M.motion initial (map (λ j. j.now) journals.now) step_maker.new found) }
     {
-        find(machine, journals, &mut self.read, &mut self.near)
+        find(step_maker, journals, &mut self.read, &mut self.near)
     }
 }
 
-/// Lets the machine make steps that agree with the journals: the coordinator's, then the federates' by number. For each
-/// event it asks the machine at worst twice for each node, and copies no journal. Without memory the machine stands
-/// after some steps, and nothing is said of them.
-pub fn search<M: Machine>(
+/// Lets the step maker make steps that agree with the journals: the coordinator's, then the federates' by number. For
+/// each event it asks the step maker at worst twice for each node, and copies no journal. Without memory the step maker
+/// stands after some steps, and nothing is said of them.
+pub fn search<M: StepMaker>(
     alloc: Global,
-    machine: &mut M,
+    step_maker: &mut M,
     journals: &[&Journal],
 ) -> Result<Found, Memory>
-    ensures { IfOk result (λ found. IsFound M.motion machine.old (map (λ j. j.now) journals.now) machine.new found) }
+    ensures { IfOk result
+        (λ found. IsFound M.motion step_maker.old (map (λ j. j.now) journals.now) step_maker.new found) }
 {
     let reading = Reading::new(alloc, journals.len())?;
-    reading.finish(machine, journals)
+    reading.finish(step_maker, journals)
 }
 
 // The search, from where the journals are read to.
-fn find<M: Machine>(
-    machine: &mut M,
+fn find<M: StepMaker>(
+    step_maker: &mut M,
     journals: &[&Journal],
     read: &mut [usize],
     near: &mut [usize],
 ) -> Result<Found, Memory>
     requires sized { length read.old ≡ length journals.now }
     ensures { IfOk result (λ found. (initial : M)
-        → IsReading M.motion initial (map (λ j. j.now) journals.now) (record { state = machine.old; read = read.old })
-        → IsFound M.motion initial (map (λ j. j.now) journals.now) machine.new found) }
+        → IsReading M.motion initial (map (λ j. j.now) journals.now)
+        (record { state = step_maker.old; read = read.old })
+        → IsFound M.motion initial (map (λ j. j.now) journals.now) step_maker.new found) }
 {
-    read_all(machine, journals, read, near)?;
+    read_all(step_maker, journals, read, near)?;
     match first_unread(journals, read, near) {
         Some((node, event)) => Ok(Found::Stuck(node, event)),
         None => Ok(Found::All),

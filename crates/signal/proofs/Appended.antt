@@ -8,10 +8,10 @@ use Rattle.tag.specs.LogicalTime.{LogicalTime}
 use Rattle.signal.specs.declared.memory.Memory.{Memory}
 use Rattle.signal.specs.declared.signal.Signal.{Signal}
 use Rattle.signal.specs.declared.frame.Frame.TheVariants.{Data}
-use Rattle.signal.specs.Signal.{point_bytes, tag_bytes, signal_bytes}
+use Rattle.signal.specs.Signal.{tag_number_bytes, tag_bytes, signal_bytes}
 use Rattle.signal.specs.Batch.{batch_of}
 use Rattle.signal.specs.Frame.{framed, frame_bytes}
-use Rattle.signal.specs.Cut.{Extends}
+use Rattle.signal.specs.Pieces.{Extends}
 
 abbrev pub Answer : Type 0
 Answer = Result (Unit {0}) Memory
@@ -21,11 +21,11 @@ pub written_as : {X : Type 0} (spelling : X → List ℕ) (x y : X) (bytes old n
 written_as spelling x y bytes old new r e b h = subst (λ (l : List ℕ). OnOk r (new ≡ old ++ l)) (b ∙ ap spelling (sym e)) h
 
 -- a signal that is a kind and a tag
-pub point_is : (bytes : List ℕ) (kind time microstep : ℕ) (g h : LogicalTime) → h ≡ g → tag_bytes h ≡ point_bytes time microstep → bytes ≡ kind ∷ point_bytes time microstep → bytes ≡ kind ∷ tag_bytes g
-point_is bytes kind time microstep g h same e b = b ∙ ap (λ (l : List ℕ). kind ∷ l) (sym e ∙ ap tag_bytes same)
+pub tag_signal_is : (bytes : List ℕ) (kind time microstep : ℕ) (g h : LogicalTime) → h ≡ g → tag_bytes h ≡ tag_number_bytes time microstep → bytes ≡ kind ∷ tag_number_bytes time microstep → bytes ≡ kind ∷ tag_bytes g
+tag_signal_is bytes kind time microstep g h same e b = b ∙ ap (λ (l : List ℕ). kind ∷ l) (sym e ∙ ap tag_bytes same)
 
-pub message_is : (bytes : List ℕ) (connection time microstep value said : ℕ) (g h : LogicalTime) → h ≡ g → value ≡ said → tag_bytes h ≡ point_bytes time microstep
-    → bytes ≡ 4 ∷ big_bytes 2 connection ++ point_bytes time microstep ++ big_bytes 8 value → bytes ≡ 4 ∷ big_bytes 2 connection ++ tag_bytes g ++ big_bytes 8 said
+pub message_is : (bytes : List ℕ) (connection time microstep value said : ℕ) (g h : LogicalTime) → h ≡ g → value ≡ said → tag_bytes h ≡ tag_number_bytes time microstep
+    → bytes ≡ 4 ∷ big_bytes 2 connection ++ tag_number_bytes time microstep ++ big_bytes 8 value → bytes ≡ 4 ∷ big_bytes 2 connection ++ tag_bytes g ++ big_bytes 8 said
 message_is bytes connection time microstep value said g h same v e b =
     b ∙ ap (λ (l : List ℕ). 4 ∷ big_bytes 2 connection ++ l ++ big_bytes 8 value) (sym e ∙ ap tag_bytes same) ∙ ap (λ (n : ℕ). 4 ∷ big_bytes 2 connection ++ tag_bytes g ++ big_bytes 8 n) v
 

@@ -5,7 +5,8 @@ use Rattle.std.specs.List.{flat_map, AllByRecursion}
 use Rattle.std.proofs.lemmas.Bool.{cases_Bool, lt-ltb, le-ltb, ltb-true, ltb-false, and_parts, and_cases, and_left, and_right, and_from}
 use Rattle.signal.specs.declared.frame.Frame.{Frame}
 use Rattle.signal.specs.Frame.{frame_bytes_by}
-use Rattle.signal.specs.Cut.{follows, goes_on, in_front, stretches, cut_stretch, cut, IsStretch, IsPiece, AreLongest, piece_bytes, written}
+use Rattle.signal.specs.Pieces.{follows, goes_on, in_front, stretches, cut_stretch, pieces_of, IsStretch, IsPiece}
+use Rattle.signal.specs.Pieces.{AreLongest, piece_bytes, written}
 
 -- the pieces in one pass: the first has this many places, each later one `most`
 abbrev pub cut_from : (most places : ℕ) → List Frame → List (List Frame)
@@ -82,7 +83,7 @@ one_pass_at (frame ∷ next ∷ frames) places =
           rw (none, alone, lone_stretch places frame) (ap (λ (x : List (List Frame)). (frame ∷ []) ∷ x) (one_pass_at (next ∷ frames) 64 ∙ cut_all (stretches (next ∷ frames))))
     ]
 
-pub one_pass : (frames : List Frame) → cut_from 64 64 frames ≡ cut frames
+pub one_pass : (frames : List Frame) → cut_from 64 64 frames ≡ pieces_of frames
 one_pass frames = one_pass_at frames 64 ∙ cut_all (stretches frames)
 
 -- ---- a piece is taken off

@@ -64,8 +64,8 @@ signal_fault_counts body signal fault size kind place h =
     rw (kind, long) (ap signal_fault (sym place) ∙ h)
 
 -- a NET, an LTC or a TAG: its kind and twelve bytes
-pub point_parts : (bytes tag : List ℕ) (kind : ℕ) → length bytes ≡ 13 → get_or bytes 0 0 ≡ kind → take 12 (from 1 bytes) ≡ tag → bytes ≡ kind ∷ tag
-point_parts bytes tag kind size first e =
+pub tag_parts : (bytes tag : List ℕ) (kind : ℕ) → length bytes ≡ 13 → get_or bytes 0 0 ≡ kind → take 12 (from 1 bytes) ≡ tag → bytes ≡ kind ∷ tag
+tag_parts bytes tag kind size first e =
     let all : take 12 (from 1 bytes) ≡ from 1 bytes = take_all 12 (from 1 bytes) (omega (arith, ap length (take_rest bytes 1), length-drop 1 bytes)) in
     headed bytes tag kind (omega arith) first (sym (take_rest bytes 1) ∙ sym all ∙ e)
 

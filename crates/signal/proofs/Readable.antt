@@ -9,7 +9,7 @@ use Rattle.signal.specs.Signal.{IsSignal}
 use Rattle.signal.specs.Batch.{numbered, batch_of}
 use Rattle.signal.specs.Frame.{body_of, framed, frame_bytes_by, IsFrame, Spells, one, several}
 use Rattle.signal.specs.Stream.{Splits, done, more}
-use Rattle.signal.specs.Cut.{IsStretch, IsPiece, signals_of, batch_bytes, piece_bytes, written}
+use Rattle.signal.specs.Pieces.{IsStretch, IsPiece, signals_of, batch_bytes, piece_bytes, written}
 use Rattle.signal.proofs.Numbered.{length-numbered}
 use Rattle.signal.proofs.Cutting.{cut_from, joined, in_order, are_pieces, most_of, most_fits, written_from}
 

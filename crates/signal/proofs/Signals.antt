@@ -11,18 +11,18 @@ use Rattle.byteorder.specs.Numbers.{big_number-reads_back}
 use Rattle.tag.specs.LogicalTime.{LogicalTime, IsLogicalTime, IsFinite}
 use Rattle.signal.specs.declared.signal.Signal.{Signal}
 use Rattle.signal.specs.declared.signal.Signal.TheVariants.{Net, Ltc, Tag, Msg}
-use Rattle.signal.specs.Signal.{point_bytes, tag_bytes, signal_bytes, IsSignal}
+use Rattle.signal.specs.Signal.{tag_number_bytes, tag_bytes, signal_bytes, IsSignal}
 use Rattle.signal.specs.Fault.{number_at, is_tag, is_kind, signal_size, has_tag, signal_fault, shape_fault, tags_fault, signals_fault}
 use Rattle.signal.specs.Begun.{tag_of, signal_at, signals_at}
 
-abbrev point : ℕ → ℕ → LogicalTime
-point time microstep = record { time = time; microstep = microstep }
+abbrev tag_of_numbers : ℕ → ℕ → LogicalTime
+tag_of_numbers time microstep = record { time = time; microstep = microstep }
 
 -- the tag in its twelve bytes, as two numbers
 record TagNumbers (g : LogicalTime) (forever_too : Bool) : Type 0 where
   time : ℕ
   microstep : ℕ
-  bytes : tag_bytes g ≡ point_bytes time microstep
+  bytes : tag_bytes g ≡ tag_number_bytes time microstep
   time_fits : time < 2 ^ 64
   microstep_fits : microstep < 2 ^ 32
   again : tag_of time microstep ≡ g
@@ -55,7 +55,7 @@ tag_numbers g h =
             bytes = rw ge refl;
             time_fits = lit< tt;
             microstep_fits = lit< tt;
-            again = sym (ap (λ (a : ℕ). point a g.microstep) t ∙ ap (λ (b : ℕ). point (2 ^ 62) b) m);
+            again = sym (ap (λ (a : ℕ). tag_of_numbers a g.microstep) t ∙ ap (λ (b : ℕ). tag_of_numbers (2 ^ 62) b) m);
             good = refl;
           }
     ]
@@ -68,12 +68,12 @@ pub record Front (signal : Signal) (bytes : List ℕ) : Type 0 where
   pub tag_is : has_tag bytes ≡ true
 
 -- where the numbers of a NET, an LTC or a TAG stand
-record PointPlaces (bytes : List ℕ) (time microstep : ℕ) : Type 0 where
+record TagPlaces (bytes : List ℕ) (time microstep : ℕ) : Type 0 where
   time_at : number_at 1 8 bytes ≡ time
   microstep_at : number_at 9 4 bytes ≡ microstep
 
-point_places : (kind time microstep : ℕ) (behind : List ℕ) → time < 2 ^ 64 → microstep < 2 ^ 32 → PointPlaces (kind ∷ point_bytes time microstep ++ behind) time microstep
-point_places kind time microstep behind t m = record {
+tag_places : (kind time microstep : ℕ) (behind : List ℕ) → time < 2 ^ 64 → microstep < 2 ^ 32 → TagPlaces (kind ∷ tag_number_bytes time microstep ++ behind) time microstep
+tag_places kind time microstep behind t m = record {
   time_at = big_number-reads_back 8 time (big_bytes 4 microstep ++ behind) t;
   microstep_at = big_number-reads_back 4 microstep behind m;
 }
@@ -81,7 +81,7 @@ point_places kind time microstep behind t m = record {
 net_front : (g : LogicalTime) (behind : List ℕ) → IsLogicalTime g → Front (Net g) (signal_bytes (Net g) ++ behind)
 net_front g behind h =
     let x = tag_numbers g h in
-    let p = point_places 1 x.time x.microstep behind x.time_fits x.microstep_fits in
+    let p = tag_places 1 x.time x.microstep behind x.time_fits x.microstep_fits in
     let at : List ℕ → List ℕ = λ b. 1 ∷ b ++ behind in
     record {
       signal_is = ap (λ (b : List ℕ). signal_at (at b)) x.bytes ∙ rw (p.time_at, p.microstep_at, x.again) refl;
@@ -93,7 +93,7 @@ net_front g behind h =
 ltc_front : (g : LogicalTime) (behind : List ℕ) → IsFinite g → Front (Ltc g) (signal_bytes (Ltc g) ++ behind)
 ltc_front g behind h =
     let x = finite_numbers g false h in
-    let p = point_places 2 x.time x.microstep behind x.time_fits x.microstep_fits in
+    let p = tag_places 2 x.time x.microstep behind x.time_fits x.microstep_fits in
     let at : List ℕ → List ℕ = λ b. 2 ∷ b ++ behind in
     record {
       signal_is = ap (λ (b : List ℕ). signal_at (at b)) x.bytes ∙ rw (p.time_at, p.microstep_at, x.again) refl;
@@ -105,7 +105,7 @@ ltc_front g behind h =
 grant_front : (g : LogicalTime) (behind : List ℕ) → IsFinite g → Front (Tag g) (signal_bytes (Tag g) ++ behind)
 grant_front g behind h =
     let x = finite_numbers g false h in
-    let p = point_places 3 x.time x.microstep behind x.time_fits x.microstep_fits in
+    let p = tag_places 3 x.time x.microstep behind x.time_fits x.microstep_fits in
     let at : List ℕ → List ℕ = λ b. 3 ∷ b ++ behind in
     record {
       signal_is = ap (λ (b : List ℕ). signal_at (at b)) x.bytes ∙ rw (p.time_at, p.microstep_at, x.again) refl;
@@ -122,9 +122,9 @@ record MessagePlaces (bytes : List ℕ) (connection time microstep value : ℕ) 
   value_at : number_at 15 8 bytes ≡ value
 
 message_places : (connection time microstep value : ℕ) (behind : List ℕ) → connection < 2 ^ 16 → time < 2 ^ 64 → microstep < 2 ^ 32 → value < 2 ^ 64
-    → MessagePlaces ((4 ∷ big_bytes 2 connection ++ point_bytes time microstep ++ big_bytes 8 value) ++ behind) connection time microstep value
+    → MessagePlaces ((4 ∷ big_bytes 2 connection ++ tag_number_bytes time microstep ++ big_bytes 8 value) ++ behind) connection time microstep value
 message_places connection time microstep value behind c t m v = record {
-  connection_at = big_number-reads_back 2 connection (point_bytes time microstep ++ big_bytes 8 value ++ behind) c;
+  connection_at = big_number-reads_back 2 connection (tag_number_bytes time microstep ++ big_bytes 8 value ++ behind) c;
   time_at = big_number-reads_back 8 time (big_bytes 4 microstep ++ big_bytes 8 value ++ behind) t;
   microstep_at = big_number-reads_back 4 microstep (big_bytes 8 value ++ behind) m;
   value_at = big_number-reads_back 8 value behind v;

@@ -4,7 +4,7 @@ use Rattle.std.proofs.lemmas.List.{append-nil, nil_from_length, take_more, drop_
 use Rattle.std.specs.List.{flat_map, AllByRecursion}
 use Rattle.signal.specs.declared.frame.Frame.{Frame}
 use Rattle.signal.specs.Frame.{IsFrame}
-use Rattle.signal.specs.Cut.{follows, goes_on, IsStretch, piece_bytes, written}
+use Rattle.signal.specs.Pieces.{follows, goes_on, IsStretch, piece_bytes, written}
 use Rattle.signal.proofs.Cutting.{cut_from, one_piece, nothing_behind, most_of, written_from}
 
 -- a frame that goes on with the last one

@@ -7,18 +7,18 @@ use Rattle.tag.specs.LogicalTime.{forever}
 use Rattle.signal.specs.declared.wire.TheConstants.{LENGTH_SIZE, LONGEST_BODY, HELLO_KIND, HELLO_SIZE, DATA_KIND}
 use Rattle.signal.specs.declared.wire.TheConstants.{BEFORE_SIGNAL, ACK_KIND, ACK_SIZE, REFUSE_KIND, REFUSE_SIZE}
 use Rattle.signal.specs.declared.wire.TheConstants.{BATCH_KIND, BEFORE_SIGNALS, LEAST_SIGNALS, MOST_SIGNALS, NET_KIND}
-use Rattle.signal.specs.declared.wire.TheConstants.{MSG_KIND, POINT_SIZE, MSG_SIZE, FOREVER_TIME, FOREVER_MICROSTEP}
+use Rattle.signal.specs.declared.wire.TheConstants.{MSG_KIND, TAG_SIZE, MSG_SIZE, FOREVER_TIME, FOREVER_MICROSTEP}
 use Rattle.signal.specs.declared.fault.FrameFault.{FrameFault}
 use Rattle.signal.specs.declared.fault.FrameFault.TheVariants.{BadLength, BadKind, BadTag, Trailing}
 
--- the number by which a refusal is printed
+-- the number by which a fault is printed
 abbrev pub number_of : FrameFault → ℕ
 number_of BadLength = 40
 number_of BadKind = 41
 number_of BadTag = 42
 number_of Trailing = 43
 
--- the name by which a refusal is printed
+-- the name by which a fault is printed
 abbrev pub name_of : FrameFault → List ℕ
 name_of BadLength = codes "BadLength"
 name_of BadKind = codes "BadKind"
@@ -33,7 +33,7 @@ memory_number = 44
 abbrev pub printed_fault : ℕ → List ℕ → List ℕ
 printed_fault number name = decimal number ++ (codes " " ++ name)
 
--- what is printed of a refusal
+-- what is printed of a fault
 abbrev pub text_of : FrameFault → List ℕ
 text_of fault = printed_fault (number_of fault) (name_of fault)
 
@@ -55,7 +55,7 @@ is_tag is_net time microstep =
     nat_lt time forever.time || (is_net && time == FOREVER_TIME && microstep == FOREVER_MICROSTEP)
 
 abbrev pub signal_size : ℕ → ℕ
-signal_size kind = if kind == MSG_KIND then MSG_SIZE else POINT_SIZE
+signal_size kind = if kind == MSG_KIND then MSG_SIZE else TAG_SIZE
 
 -- where the tag of a signal stands: in a MSG behind its connection
 abbrev pub tag_place : ℕ → ℕ

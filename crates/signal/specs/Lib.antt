@@ -10,7 +10,7 @@ pub mod Fault
 -- A stream of bytes that is read frame by frame.
 pub mod Stream
 -- How a list of frames is cut into pieces, and written.
-pub mod Cut
+pub mod Pieces
 -- What a reader has of a begun Batch.
 pub mod Begun
 -- A reader's stream, by its fields.

@@ -9,13 +9,14 @@ use Rattle.signal.specs.declared.signal.Signal.{Signal}
 use Rattle.signal.specs.declared.signal.Signal.TheVariants.{Net, Ltc, Tag, Msg}
 
 -- a time and a microstep in twelve bytes
-abbrev pub point_bytes : ℕ → ℕ → List ℕ
-point_bytes time microstep = big_bytes 8 time ++ big_bytes 4 microstep
+abbrev pub tag_number_bytes : ℕ → ℕ → List ℕ
+tag_number_bytes time microstep = big_bytes 8 time ++ big_bytes 4 microstep
 
 -- a tag is its time and its microstep; FOREVER is twelve bytes ff
 abbrev pub tag_bytes : LogicalTime → List ℕ
 tag_bytes g =
-    if nat_lt g.time forever.time then point_bytes g.time g.microstep else point_bytes FOREVER_TIME FOREVER_MICROSTEP
+    if nat_lt g.time forever.time then tag_number_bytes g.time g.microstep
+    else tag_number_bytes FOREVER_TIME FOREVER_MICROSTEP
 
 abbrev pub signal_bytes : Signal → List ℕ
 signal_bytes (Net g) = NET_KIND ∷ tag_bytes g

@@ -11,7 +11,7 @@ use crate::frame::Frame;
 use crate::numbers::{take_u32, take_u64};
 use crate::reading::signal_of;
 use crate::signal::Signal;
-use crate::wire::{BEFORE_SIGNALS, LEAST_SIGNALS, MOST_SIGNALS, MSG_KIND, MSG_SIZE, POINT_SIZE};
+use crate::wire::{BEFORE_SIGNALS, LEAST_SIGNALS, MOST_SIGNALS, MSG_KIND, MSG_SIZE, TAG_SIZE};
 
 /// A Batch of which signals are still to be given. Their bytes are known to spell them, and stay where they were read.
 #[derive(Clone, Copy, Debug)]
@@ -88,7 +88,7 @@ pub fn batch_of(body: &[u8]) -> Result<Begun, FrameFault>
     })
 }
 
-/// Whether this many signals fill these bytes.
+// Whether this many signals fill these bytes.
 #[tactic(auto, using(crate::proofs::Checking::shape_first, crate::proofs::Checking::then_tags))]
 fn check_signals(bytes: &[u8], count: usize) -> Result<(), FrameFault>
     ensures filled { OnOk result (AreSignals count bytes.now) }
@@ -158,13 +158,9 @@ fn first_signal(bytes: &[u8]) -> (Signal, usize)
     }
 }
 
-/// Bytes of a signal of this kind.
+// Bytes of a signal of this kind.
 fn signal_size(kind: u8) -> usize
     ensures { result ≡ signal_size kind }
 {
-    if kind == MSG_KIND {
-        MSG_SIZE
-    } else {
-        POINT_SIZE
-    }
+    if kind == MSG_KIND { MSG_SIZE } else { TAG_SIZE }
 }

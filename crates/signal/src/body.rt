@@ -44,7 +44,7 @@ pub fn first_of(body: &[u8], version: u8) -> Result<Front, FrameFault>
     })
 }
 
-/// The version once the frame of this body was given.
+// The version once the frame of this body was given.
 fn version_after(before: u8, body: &[u8]) -> u8
     requires there { 0 < length body.now }
     requires hello { slice_index body.now 0 ≡ HELLO_KIND → 1 < length body.now }
@@ -57,7 +57,7 @@ fn version_after(before: u8, body: &[u8]) -> u8
     }
 }
 
-/// The frame that all of these bytes spell, where they are no Batch.
+// The frame that all of these bytes spell, where they are no Batch.
 fn frame_of(body: &[u8]) -> Result<Frame, FrameFault>
     requires there { 0 < length body.now }
     requires no_batch { slice_index body.now 0 ≢ BATCH_KIND }

@@ -6,7 +6,7 @@ ghost use Rattle.signal.specs.Frame.{IsFrame, Spells};
 ghost use Rattle.signal.specs.Fault.{is_partial, fault_at};
 ghost use Rattle.signal.specs.Stream.{Stream, start, fed, Splits, HasNoFrame, Call, Session, bytes_fed, frames_given};
 ghost use Rattle.signal.specs.Stream.{TellsStream};
-ghost use Rattle.signal.specs.Cut.{cut, written, IsCut};
+ghost use Rattle.signal.specs.Pieces.{pieces_of, written, ArePiecesOf};
 
 /// No spelling begins another: one list of bytes begins with one spelling at most, and that carries one list of frames.
 pub fn one_reading()
@@ -28,13 +28,14 @@ pub fn written_is_read()
 
 /// The pieces in which frames are written are the frames in order. Each is one frame, or the Data frames of 2 to 64
 /// signals in a row; and of two neighbours the first has 64, or the second doesn't go on with it.
-pub fn cut_is_longest()
-    ensures { (frames : List Frame) → IsCut frames (cut frames) }
+pub fn pieces_are_longest()
+    ensures { (frames : List Frame) → ArePiecesOf frames (pieces_of frames) }
 {}
 
 /// There are no other such pieces.
-pub fn only_cut()
-    ensures { (frames : List Frame) (pieces : List (List Frame)) → IsCut frames pieces → pieces ≡ cut frames }
+pub fn no_other_pieces()
+    ensures { (frames : List Frame) (pieces : List (List Frame)) → ArePiecesOf frames pieces
+        → pieces ≡ pieces_of frames }
 {}
 
 /// A stream is these frames and then a rest in one way only, if no frame begins the rest.

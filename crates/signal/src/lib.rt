@@ -2,8 +2,8 @@
 //!
 //! Promise to the layer above: bytes are read as the frames that they spell, in order, however they are cut into
 //! pieces, and nothing else is read; what was written is read again. Where no frame begins, the fault of `specs/Fault`
-//! is answered. Begin with `specs/Frame`, then `reader`; which frames are written as one Batch is said in `specs/Cut`.
-//! The numbers of the wire stand in `wire`, the laws of whole streams in `laws`.
+//! is answered. Begin with `specs/Frame`, then `reader`; which frames are written as one Batch is said in
+//! `specs/Pieces`. The numbers of the wire stand in `wire`, the laws of whole streams in `laws`.
 #![tactic(auto)]
 
 mod batch;

@@ -1,7 +1,7 @@
 //! How many frames at the front of a list are written as one piece.
 
 ghost use Rattle.std.specs.Prelude.{◌≡◌, ◌≤◌, ◌<◌, ◌⊎◌, length, take, drop, false};
-ghost use Rattle.signal.specs.Cut.{follows, goes_on, IsStretch};
+ghost use Rattle.signal.specs.Pieces.{follows, goes_on, IsStretch};
 
 use crate::frame::Frame;
 
@@ -21,7 +21,7 @@ pub fn piece_size(frames: &[Frame], most: usize) -> usize
     size
 }
 
-/// Whether a frame has the next signal of the same incarnation.
+// Whether a frame has the next signal of the same incarnation.
 fn follows(frame: &Frame, next: &Frame) -> bool
     ensures { result ≡ follows frame.now next.now }
 {

@@ -12,11 +12,11 @@ use crate::fault::FrameFault;
 use crate::numbers::{take_u16, take_u32, take_u64};
 use crate::signal::Signal;
 use crate::wire::{
-    FOREVER_MICROSTEP, FOREVER_TIME, LTC_KIND, MSG_KIND, MSG_SIZE, NET_KIND, POINT_SIZE, TAG_KIND,
+    FOREVER_MICROSTEP, FOREVER_TIME, LTC_KIND, MSG_KIND, MSG_SIZE, NET_KIND, TAG_KIND, TAG_SIZE,
 };
 use tag::{FiniteTag, Time};
 
-/// The tag at the front, or a fault for a time that isn't before FOREVER's.
+// The tag at the front, or a fault for a time that isn't before FOREVER's.
 fn finite_tag_of(bytes: &[u8]) -> Result<FiniteTag, FrameFault>
     requires { 12 ≤ length bytes.now }
     ensures found { IfOk result (λ g. IsFinite g × (take 12 bytes.now ≡ tag_bytes g)) }
@@ -35,7 +35,7 @@ fn finite_tag_of(bytes: &[u8]) -> Result<FiniteTag, FrameFault>
     }
 }
 
-/// The same, and FOREVER for twelve bytes ff.
+// The same, and FOREVER for twelve bytes ff.
 fn tag_of(bytes: &[u8]) -> Result<tag::Tag, FrameFault>
     requires { 12 ≤ length bytes.now }
     ensures found { IfOk result (λ g. IsLogicalTime g × (take 12 bytes.now ≡ tag_bytes g)) }
@@ -74,21 +74,21 @@ pub fn signal_of(bytes: &[u8]) -> Result<Signal, FrameFault>
     ensures fault { IfErr result (λ e. signal_fault bytes.now ≡ Some e) }
 {
     match bytes[0] {
-        NET_KIND | LTC_KIND | TAG_KIND => point_of(bytes),
+        NET_KIND | LTC_KIND | TAG_KIND => tag_signal_of(bytes),
         MSG_KIND => message_of(bytes),
         _ => Err(FrameFault::BadKind),
     }
 }
 
-/// The NET, LTC or TAG that all of these bytes spell.
-fn point_of(bytes: &[u8]) -> Result<Signal, FrameFault>
+// The NET, LTC or TAG that all of these bytes spell.
+fn tag_signal_of(bytes: &[u8]) -> Result<Signal, FrameFault>
     requires there { 0 < length bytes.now }
     requires is_kind { 0 < slice_index bytes.now 0 }
     requires no_message { slice_index bytes.now 0 < MSG_KIND }
     ensures spelled { IfOk result (λ signal. IsSignal signal × (bytes.now ≡ signal_bytes signal)) }
     ensures fault { IfErr result (λ e. signal_fault bytes.now ≡ Some e) }
 {
-    check_size(bytes.len(), POINT_SIZE)?;
+    check_size(bytes.len(), TAG_SIZE)?;
     if bytes[0] == NET_KIND {
         let tag = tag_of(&bytes[1..])?;
         return Ok(Signal::Net(tag));
@@ -101,7 +101,7 @@ fn point_of(bytes: &[u8]) -> Result<Signal, FrameFault>
     }
 }
 
-/// The message that all of these bytes spell.
+// The message that all of these bytes spell.
 fn message_of(bytes: &[u8]) -> Result<Signal, FrameFault>
     requires there { 0 < length bytes.now }
     requires kind { slice_index bytes.now 0 ≡ MSG_KIND }

@@ -62,7 +62,7 @@ pub const TAG_KIND: u8 = 3;
 pub const MSG_KIND: u8 = 4;
 
 /// Bytes of a NET, an LTC or a TAG: a kind and a tag.
-pub const POINT_SIZE: usize = 13;
+pub const TAG_SIZE: usize = 13;
 
 /// Bytes of a MSG: a kind, a connection, a tag and a value.
 pub const MSG_SIZE: usize = 23;

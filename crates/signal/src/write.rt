@@ -4,7 +4,7 @@ ghost use Rattle.std.specs.Prelude.{◌≡◌, ◌<◌, ◌++◌, ◌∷◌, [],
 ghost use Rattle.std.specs.List.{AllByRecursion};
 ghost use Rattle.signal.specs.Frame.{frame_bytes, IsFrame, Spells};
 ghost use Rattle.signal.specs.Stream.{Splits};
-ghost use Rattle.signal.specs.Cut.{written, Extends};
+ghost use Rattle.signal.specs.Pieces.{written, Extends};
 
 use crate::frame::Frame;
 use crate::memory::Memory;

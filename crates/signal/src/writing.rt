@@ -4,9 +4,9 @@
 ghost use Rattle.std.specs.Prelude.{◌≡◌, ◌+◌, ◌*◌, ◌≤◌, ◌<◌, ◌++◌, ◌∷◌, [], length, OnOk, OnErr};
 ghost use Rattle.std.specs.List.{flat_map, AllByRecursion};
 ghost use Rattle.byteorder.specs.Endian.{big_bytes};
-ghost use Rattle.signal.specs.Signal.{point_bytes, tag_bytes, signal_bytes};
+ghost use Rattle.signal.specs.Signal.{tag_number_bytes, tag_bytes, signal_bytes};
 ghost use Rattle.signal.specs.Frame.{frame_bytes, frame_bytes_by, IsFrame};
-ghost use Rattle.signal.specs.Cut.{IsStretch, signals_of, batch_bytes, piece_bytes, Extends};
+ghost use Rattle.signal.specs.Pieces.{IsStretch, signals_of, batch_bytes, piece_bytes, Extends};
 ghost use Rattle.signal.specs.declared.wire.TheConstants.{BATCH_KIND, BEFORE_SIGNAL, DATA_KIND, LONGEST_BODY, MSG_KIND};
 ghost use Rattle.signal.specs.declared.wire.TheConstants.{MSG_SIZE, MOST_SIGNALS};
 
@@ -15,8 +15,8 @@ use crate::memory::Memory;
 use crate::signal::Signal;
 use crate::wire::{
     ACK_KIND, ACK_SIZE, BATCH_KIND, BEFORE_SIGNAL, BEFORE_SIGNALS, DATA_KIND, FOREVER_MICROSTEP,
-    FOREVER_TIME, HELLO_KIND, HELLO_SIZE, LTC_KIND, MSG_KIND, MSG_SIZE, NET_KIND, POINT_SIZE,
-    REFUSE_KIND, REFUSE_SIZE, TAG_KIND,
+    FOREVER_TIME, HELLO_KIND, HELLO_SIZE, LTC_KIND, MSG_KIND, MSG_SIZE, NET_KIND, REFUSE_KIND,
+    REFUSE_SIZE, TAG_KIND, TAG_SIZE,
 };
 use byteorder::{BigEndian, ByteOrder};
 
@@ -116,7 +116,7 @@ fn write_data(
     write_signal(signal, bytes)
 }
 
-/// What stands before the signal of a Data, which has this size.
+// What stands before the signal of a Data, which has this size.
 fn data_head(size: usize, incarnation: u32, number: u64) -> [u8; 17]
     requires { size ≤ MSG_SIZE }
     ensures { result ≡ big_bytes 4 (BEFORE_SIGNAL + size) ++ DATA_KIND ∷ big_bytes 4 incarnation ++ big_bytes 8 number }
@@ -150,7 +150,7 @@ fn write_batch(piece: &[Frame], bytes: &mut Vec<u8>) -> Result<(), Memory>
     write_signals(piece, bytes)
 }
 
-/// What stands before the signals of a Batch, whose body has this size.
+// What stands before the signals of a Batch, whose body has this size.
 fn batch_head(size: usize, incarnation: u32, first: u64, count: usize) -> [u8; 18]
     requires size { size ≤ LONGEST_BODY }
     requires few { count ≤ MOST_SIGNALS }
@@ -165,7 +165,7 @@ fn batch_head(size: usize, incarnation: u32, first: u64, count: usize) -> [u8; 1
     bytes
 }
 
-/// Bytes of the signals of these Data frames.
+// Bytes of the signals of these Data frames.
 fn signals_size(piece: &[Frame]) -> usize
     requires { length piece.now ≤ MOST_SIGNALS }
     ensures size { result ≡ length (flat_map signal_bytes (signals_of piece.now)) }
@@ -194,14 +194,14 @@ fn write_signals(piece: &[Frame], bytes: &mut Vec<u8>) -> Result<(), Memory>
     Ok(())
 }
 
-/// Bytes of a signal.
+// Bytes of a signal.
 fn size_of(signal: &Signal) -> usize
     ensures size { result ≡ length (signal_bytes signal.now) }
     ensures small { result ≤ MSG_SIZE }
 {
     match signal {
         Signal::Msg { .. } => MSG_SIZE,
-        _ => POINT_SIZE,
+        _ => TAG_SIZE,
     }
 }
 
@@ -210,9 +210,9 @@ fn write_signal(signal: Signal, bytes: &mut Vec<u8>) -> Result<(), Memory>
     ensures extended { OnErr result (Extends bytes.old.items bytes.new.items) }
 {
     match signal {
-        Signal::Net(tag) => append(bytes, &point(NET_KIND, numbers_of(tag))),
-        Signal::Ltc(tag) => append(bytes, &point(LTC_KIND, numbers_of(tag.tag()))),
-        Signal::Tag(tag) => append(bytes, &point(TAG_KIND, numbers_of(tag.tag()))),
+        Signal::Net(tag) => append(bytes, &tag_signal(NET_KIND, numbers_of(tag))),
+        Signal::Ltc(tag) => append(bytes, &tag_signal(LTC_KIND, numbers_of(tag.tag()))),
+        Signal::Tag(tag) => append(bytes, &tag_signal(TAG_KIND, numbers_of(tag.tag()))),
         Signal::Msg {
             connection,
             tag,
@@ -224,9 +224,9 @@ fn write_signal(signal: Signal, bytes: &mut Vec<u8>) -> Result<(), Memory>
     }
 }
 
-/// The tag's two numbers in its bytes.
+// The tag's two numbers in its bytes.
 fn numbers_of(tag: tag::Tag) -> (u64, u32)
-    ensures { tag_bytes tag ≡ point_bytes result.0 result.1 }
+    ensures { tag_bytes tag ≡ tag_number_bytes result.0 result.1 }
 {
     tag.invariant();
     if tag.is_forever() {
@@ -236,9 +236,9 @@ fn numbers_of(tag: tag::Tag) -> (u64, u32)
     }
 }
 
-/// A signal that is a kind and a tag.
-fn point(kind: u8, tag: (u64, u32)) -> [u8; 13]
-    ensures { result ≡ kind ∷ point_bytes tag.0 tag.1 }
+// A signal that is a kind and a tag.
+fn tag_signal(kind: u8, tag: (u64, u32)) -> [u8; 13]
+    ensures { result ≡ kind ∷ tag_number_bytes tag.0 tag.1 }
 {
     let mut bytes = [0; 13];
     bytes[0] = kind;
@@ -247,9 +247,9 @@ fn point(kind: u8, tag: (u64, u32)) -> [u8; 13]
     bytes
 }
 
-/// A MSG; the value is given as its two's complement.
+// A MSG; the value is given as its two's complement.
 fn message(connection: u16, tag: (u64, u32), value: u64) -> [u8; 23]
-    ensures { result ≡ MSG_KIND ∷ big_bytes 2 connection ++ point_bytes tag.0 tag.1 ++ big_bytes 8 value }
+    ensures { result ≡ MSG_KIND ∷ big_bytes 2 connection ++ tag_number_bytes tag.0 tag.1 ++ big_bytes 8 value }
 {
     let mut bytes = [0; 23];
     bytes[0] = MSG_KIND;

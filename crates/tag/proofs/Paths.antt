@@ -6,7 +6,7 @@ use Rattle.std.specs.List.{AllByRecursion, fold}
 use Rattle.std.proofs.lemmas.List.{append-nil}
 use Rattle.std.proofs.lemmas.List.Sums.{fold-append}
 use Rattle.tag.specs.LogicalTime.{LogicalTime, IsLogicalTime, CarriesNothing, origin, one_microstep, sum_of, delay_of}
-use Rattle.tag.specs.Total.{total_of, IsAfterDelay, IsPlainDelay, no_delay, some_delay}
+use Rattle.tag.specs.Total.{total_of, IsAfterDelay, IsConnectionDelay, no_delay, some_delay}
 use Rattle.tag.proofs.Order.{origin_is_logical}
 use Rattle.tag.proofs.SumLaws.{sum_is_logical, sum_twice, sum_microstep}
 
@@ -24,14 +24,14 @@ delay_of_is_short time h = record {
   short = grind (arith, nat_tests);
 }
 
-plain_is_short : (d : LogicalTime) → IsPlainDelay d → IsShort d
+plain_is_short : (d : LogicalTime) → IsConnectionDelay d → IsShort d
 plain_is_short d no_delay = origin_is_short
 plain_is_short d (some_delay w) = let P : LogicalTime → Type 0 = λ x. IsShort x in subst P (sym w.2) (delay_of_is_short w.0 w.1)
 
-pub plain_is_logical : (d : LogicalTime) → IsPlainDelay d → IsLogicalTime d
+pub plain_is_logical : (d : LogicalTime) → IsConnectionDelay d → IsLogicalTime d
 plain_is_logical d p = (plain_is_short d p).logical
 
-pub plain_microstep : (d : LogicalTime) → IsPlainDelay d → d.microstep ≤ 1
+pub plain_microstep : (d : LogicalTime) → IsConnectionDelay d → d.microstep ≤ 1
 plain_microstep d p = (plain_is_short d p).short
 
 delay_of_is_some : (time : ℕ) → delay_of time ≡ origin → ⊥
@@ -41,7 +41,7 @@ delay_of_is_some time e = grind (arith, nat_tests)
 pub after_is_some : (d : LogicalTime) → IsAfterDelay d → d ≡ origin → ⊥
 after_is_some d w e = delay_of_is_some w.0 (sym w.2 ∙ e)
 
-pub none_or_some : (d : LogicalTime) → IsPlainDelay d → (d ≡ origin) ⊎ (d ≡ origin → ⊥)
+pub none_or_some : (d : LogicalTime) → IsConnectionDelay d → (d ≡ origin) ⊎ (d ≡ origin → ⊥)
 none_or_some d no_delay = inl refl
 none_or_some d (some_delay w) = inr (λ e. after_is_some d w e)
 
@@ -81,7 +81,7 @@ total_cut (d ∷ ds) [] a b h =
 total_cut (d ∷ ds) (e ∷ es) a b h =
     fold-append sum_of d ds (e ∷ es) ∙ fold_of_sum (fold sum_of d ds) e es b.1 (omega (arith, fold_microstep d ds a.1, a.0.short, b.0.short))
 
-shorts_from_all : (ds : List LogicalTime) → All IsPlainDelay ds → AllByRecursion IsShort ds
+shorts_from_all : (ds : List LogicalTime) → All IsConnectionDelay ds → AllByRecursion IsShort ds
 shorts_from_all [] a = tt
 shorts_from_all (d ∷ ds) a =
     (plain_is_short d (a 0 d (omega arith)), shorts_from_all ds (λ k x h. a (suc k) x (omega arith)))
@@ -90,13 +90,13 @@ shorts_apart : (front back : List LogicalTime) → AllByRecursion IsShort (front
 shorts_apart [] back a = (tt, a)
 shorts_apart (d ∷ ds) back a = let rest = shorts_apart ds back a.1 in ((a.0, rest.0), rest.1)
 
-pub path_cut : (front back : List LogicalTime) → All IsPlainDelay (front ++ back) → length (front ++ back) < 2 ^ 32 → total_of (front ++ back) ≡ sum_of (total_of front) (total_of back)
+pub path_cut : (front back : List LogicalTime) → All IsConnectionDelay (front ++ back) → length (front ++ back) < 2 ^ 32 → total_of (front ++ back) ≡ sum_of (total_of front) (total_of back)
 path_cut front back a h =
     let shorts = shorts_apart front back (shorts_from_all (front ++ back) a) in
     total_cut front back shorts.0 shorts.1 (omega (arith, length-append front back))
 
 -- a path's total is a delay
-pub path_is_logical : (ds : List LogicalTime) → All IsPlainDelay ds → IsLogicalTime (total_of ds)
+pub path_is_logical : (ds : List LogicalTime) → All IsConnectionDelay ds → IsLogicalTime (total_of ds)
 path_is_logical ds a = total_is_logical ds (shorts_from_all ds a)
 
 after_delay : (time : ℕ) → time < 2 ^ 62 → (delay_of time ≡ one_microstep) ⊎ ((0 < (delay_of time).time) × ((delay_of time).time < 2 ^ 62) × ((delay_of time).microstep ≡ 0))
@@ -106,16 +106,16 @@ after_delay time h = elim (cases_lt 0 time) [
 ]
 
 -- permitted delays by time and microstep
-pub plain_delays : (d : LogicalTime) → IsPlainDelay d ↔ ((d ≡ origin) ⊎ ((d ≡ one_microstep) ⊎ ((0 < d.time) × (d.time < 2 ^ 62) × (d.microstep ≡ 0))))
+pub plain_delays : (d : LogicalTime) → IsConnectionDelay d ↔ ((d ≡ origin) ⊎ ((d ≡ one_microstep) ⊎ ((0 < d.time) × (d.time < 2 ^ 62) × (d.microstep ≡ 0))))
 plain_delays d = (there d, back)
   where
-    there : (x : LogicalTime) → IsPlainDelay x → (x ≡ origin) ⊎ ((x ≡ one_microstep) ⊎ ((0 < x.time) × (x.time < 2 ^ 62) × (x.microstep ≡ 0)))
+    there : (x : LogicalTime) → IsConnectionDelay x → (x ≡ origin) ⊎ ((x ≡ one_microstep) ⊎ ((0 < x.time) × (x.time < 2 ^ 62) × (x.microstep ≡ 0)))
     there x no_delay = inl refl
     there x (some_delay w) =
         let P : LogicalTime → Type 0 = λ y. (y ≡ one_microstep) ⊎ ((0 < y.time) × (y.time < 2 ^ 62) × (y.microstep ≡ 0)) in
         inr (subst P (sym w.2) (after_delay w.0 w.1))
 
-    back : (d ≡ origin) ⊎ ((d ≡ one_microstep) ⊎ ((0 < d.time) × (d.time < 2 ^ 62) × (d.microstep ≡ 0))) → IsPlainDelay d
-    back (inl e) = let P : LogicalTime → Type 0 = λ y. IsPlainDelay y in subst P (sym e) no_delay
+    back : (d ≡ origin) ⊎ ((d ≡ one_microstep) ⊎ ((0 < d.time) × (d.time < 2 ^ 62) × (d.microstep ≡ 0))) → IsConnectionDelay d
+    back (inl e) = let P : LogicalTime → Type 0 = λ y. IsConnectionDelay y in subst P (sym e) no_delay
     back (inr (inl e)) = some_delay (0, omega arith, e)
     back (inr (inr h)) = some_delay (d.time, h.1, grind (arith, nat_tests))

@@ -14,6 +14,6 @@ abbrev pub IsAfterDelay : LogicalTime → Type 0
 IsAfterDelay delay = (time : ℕ) × (time < 2 ^ 62) × (delay ≡ delay_of time)
 
 -- a delay that a connection may have: none, or that of an `after`. A scheduling has the latter alone
-pub data IsPlainDelay : LogicalTime → Type 0 where
-  no_delay : IsPlainDelay origin
-  some_delay : {delay : LogicalTime} → IsAfterDelay delay → IsPlainDelay delay
+pub data IsConnectionDelay : LogicalTime → Type 0 where
+  no_delay : IsConnectionDelay origin
+  some_delay : {delay : LogicalTime} → IsAfterDelay delay → IsConnectionDelay delay

@@ -6,7 +6,7 @@ ghost use Rattle.tag.specs.LogicalTime.{LogicalTime, IsLogicalTime, IsFinite, Ca
 ghost use Rattle.tag.specs.LogicalTime.{logical_time, one_microstep, is_before, is_at_most, is_same, place, sum_of};
 ghost use Rattle.tag.specs.LogicalTime.{successor_of, tag_before};
 ghost use Rattle.tag.specs.Compared.{IsOrderOfTags};
-ghost use Rattle.tag.specs.Total.{total_of, IsPlainDelay};
+ghost use Rattle.tag.specs.Total.{total_of, IsConnectionDelay};
 
 use crate::delay::Delay;
 use crate::finite_tag::FiniteTag;
@@ -55,15 +55,16 @@ pub fn then_associates()
 /// A permitted delay is none, one microstep, or a time below 2^62 ns.
 #[tactic(auto, using(crate::proofs::Paths::plain_delays))]
 pub fn permitted_delays()
-    ensures { (d : LogicalTime) → IsPlainDelay d
+    ensures { (d : LogicalTime) → IsConnectionDelay d
         ↔ ((d ≡ origin) ⊎ ((d ≡ one_microstep) ⊎ ((0 < d.time) × (d.time < 2 ^ 62) × (d.microstep ≡ 0)))) }
 {}
 
 /// The total of a path of fewer than 2^32 connections, wherever the path is cut.
 pub fn paths_may_be_cut()
-    ensures cut { (front back : List LogicalTime) → All IsPlainDelay (front ++ back) → length (front ++ back) < 2 ^ 32
+    ensures cut { (front back : List LogicalTime) → All IsConnectionDelay (front ++ back)
+        → length (front ++ back) < 2 ^ 32
         → total_of (front ++ back) ≡ sum_of (total_of front) (total_of back) }
-    ensures logical { (path : List LogicalTime) → All IsPlainDelay path → IsLogicalTime (total_of path) }
+    ensures logical { (path : List LogicalTime) → All IsConnectionDelay path → IsLogicalTime (total_of path) }
 {}
 
 /// A later tag or a longer delay gives no earlier sum, and no sum is before its first part.

@@ -49,7 +49,7 @@ pub fn pred(tag: Tag) -> Option<Tag>
     Time::new(time).map(|time| Tag::new(time, microstep))
 }
 
-/// None where the sum is FOREVER.
+// None where the sum is FOREVER.
 fn sum(time: u64, microstep: u32, delay: Delay) -> Option<(Time, u32)>
     requires { IsLogicalTime (record { time = time; microstep = microstep }) }
     ensures { let g : LogicalTime = record { time = time; microstep = microstep }

@@ -71,7 +71,7 @@ pub fn parse_duration(text: &str) -> Result<u64, DurationFault>
     }
 }
 
-/// The digits in front, and the unit in nanoseconds.
+// The digits in front, and the unit in nanoseconds.
 fn parts(text: &[u8]) -> Option<(&[u8], u64)>
     ensures { MatchOption result ((digits : List ℕ) (unit : ℕ) → ¬ (HasParts text.now digits unit))
         (λ parts. HasParts text.now parts.0.now parts.1) }
@@ -99,7 +99,7 @@ fn spaces_len(text: &[u8]) -> usize
     text.iter().take_while(|b| **b == b' ').count()
 }
 
-/// The unit's length in nanoseconds.
+// The unit's length in nanoseconds.
 fn unit(name: &[u8]) -> Option<u64>
     ensures { MatchOption result ((n : ℕ) → ¬ (IsUnit name.now n)) (IsUnit name.now) }
 {
@@ -112,7 +112,7 @@ fn unit(name: &[u8]) -> Option<u64>
     }
 }
 
-/// None for 2^62 or more.
+// None for 2^62 or more.
 fn value(digits: &[u8], unit: u64) -> Option<u64>
     requires digits_are { IsTrue (all_ascii_digits digits.now) }
     requires some_unit { 0 < unit }

@@ -1,22 +1,22 @@
 //! Attempts to connect that come to nothing count as turns: where no connection is made, and where no frame comes on
 //! one.
-use coordinator::Coordinator;
-use federate::Federate;
 use node::{Event, NodeId};
 use std::sync::Wait;
 use std::sync::atomic::{AtomicBool, AtomicU64, Ordering};
 use std::thread;
 use std::time::{Clock, Duration};
-use tests_lines::journals::count_of;
-use tests_lines::lines::{EACH_WAY, Nodes, Setting, ran_in_memory};
-use tests_lines::nodes::is_finished;
+use tests_lines::lines::{EACH_WAY, Nodes, Setting};
+use tests_lines::outcome::outcome_in_memory;
 use tests_lines::tap::{End, Tap};
-use tests_samples::{Machine, SENDER, loaded};
-use wires::{Gathered, Terms};
+use tests_samples::{Machine, SENDER};
+use wires::Terms;
 use wires_workers::{Gate, Point};
 
-/// How many turns a federate has.
-const TURNS: u32 = 5;
+/// A federate has five turns.
+const TERMS: Terms = Terms {
+    turns: 5,
+    frames: 2,
+};
 
 /// How many attempts come to nothing before the federate's first turn.
 const ATTEMPTS: u64 = 3;
@@ -62,18 +62,9 @@ impl Gate for InVain {
     }
 }
 
-/// How many turns the first federate made, where the run isn't finished.
-fn turns_made(gathered: &Gathered<Coordinator<'_>, Federate<'_>>) -> Option<usize> {
-    if is_finished(gathered) {
-        return None;
-    }
-    let journal = gathered.federates.first()?.journal();
-    Some(count_of(journal, &Event::Announce))
-}
-
-/// How many turns a federate makes before these and its attempts to connect are as many as it has.
+// How many turns a federate makes before these and its attempts to connect are as many as it has; None where the run is
+// finished, or its first turn waited in vain.
 fn turns_beside_attempts<R: Machine>(rt: &R, nodes: Nodes, connects: bool) -> Option<usize> {
-    let federation = loaded(rt.alloc(), SENDER, "")?;
     let in_vain = InVain {
         connects,
         attempts: AtomicU64::new(0),
@@ -82,20 +73,18 @@ fn turns_beside_attempts<R: Machine>(rt: &R, nodes: Nodes, connects: bool) -> Op
     let setting = Setting {
         nodes,
         gate: &in_vain,
-        terms: Terms {
-            turns: TURNS,
-            frames: 2,
-        },
+        terms: TERMS,
     };
-    let gathered = ran_in_memory(rt, rt.alloc(), &federation, setting, &in_vain)?;
-    if in_vain.has_waited_in_vain.load(Ordering::SeqCst) {
-        return None;
+    let outcome = outcome_in_memory(rt, rt.alloc(), SENDER, setting, &in_vain)?;
+    if outcome.is_finished || in_vain.has_waited_in_vain.load(Ordering::SeqCst) {
+        None
+    } else {
+        Some(outcome.count_of(&Event::Announce))
     }
-    turns_made(&gathered)
 }
 
-/// Three attempts or more are turns of the five, so at most two are made otherwise, and one at least, in which the
-/// attempts came.
+// Three attempts or more are turns of the five, so at most two are made otherwise, and one at least, in which the
+// attempts came.
 #[test]
 fn counts_attempts_that_come_to_nothing_as_turns(rt: HostRuntime) {
     for nodes in EACH_WAY {

@@ -11,7 +11,7 @@ use wires_workers::{Side, WriterQueue, write};
 /// This many frames wait at most.
 const MOST: usize = 16_384;
 
-/// This many frames for the peer, which refuse with this number.
+// This many frames for the peer, which refuse with this number.
 fn frames(alloc: Global, count: usize, refusal: u16) -> Option<Vec<Outgoing>> {
     let frame = Frame::Refuse {
         incarnation: 1,
@@ -20,7 +20,7 @@ fn frames(alloc: Global, count: usize, refusal: u16) -> Option<Vec<Outgoing>> {
     Vec::from_elem(alloc, Outgoing { peer: 0, frame }, count).ok()
 }
 
-/// All that came over a connection up to its end.
+// All that came over a connection up to its end.
 fn read<R: Wait>(rt: &R, alloc: Global, incoming: &mut MemoryTransport) -> Option<Vec<u8>> {
     let mut bytes = Vec::new(alloc);
     let mut room = [0; 4096];
@@ -37,8 +37,8 @@ fn is_second(frame: &Frame) -> bool {
     matches!(frame, Frame::Refuse { refusal: 71, .. })
 }
 
-/// How many frames of each of the two refusals are written, where this many of the one wait and then this many of the
-/// other are put.
+// How many frames of each of the two refusals are written, where this many of the one wait and then this many of the
+// other are put.
 fn written<R: Wait + Clock>(
     rt: &R,
     alloc: Global,

@@ -1,222 +1,161 @@
 //! Whichever call over the connections fails, and however much of a send went before that, a run has its rows, and an
 //! audit proves them: the federate connects again.
-ghost use Rattle.std.specs.Prelude.{◌≡◌, ◌≤◌};
-
-use std::alloc::Global;
 use std::net::{Net, TcpListener, TcpStream};
-use std::sync::Wait;
 use std::sync::atomic::{AtomicU64, Ordering};
-use std::thread::Threads;
-use std::time::Clock;
-use tests_lines::lines::{EACH_WAY, Nodes, Setting, ran_in_memory, ran_over_tcp};
-use tests_lines::reported::is_right;
+use tests_lines::lines::{EACH_WAY, Nodes, Setting};
+use tests_lines::outcome::{outcome_in_memory, outcome_over_tcp};
 use tests_lines::tap::{End, Fate, Tap};
-use tests_samples::{COUNTER, Federation, Machine, loaded};
+use tests_samples::{COUNTER, Machine};
 use wires_workers::NoGate;
 
-/// How much of a send goes before it fails.
-#[derive(Clone, Copy, Debug, PartialEq, Eq)]
-enum Over {
-    Nothing,
-    One,
-    AllButOne,
+/// Over what a run's connections go.
+#[derive(Clone, Copy)]
+enum Line {
+    Memory,
+    Tcp,
 }
 
-impl Over {
-    /// Of this many bytes.
-    fn of(self, bytes: usize) -> usize {
-        match self {
-            Over::Nothing => 0,
-            Over::One => bytes.min(1),
-            Over::AllButOne => bytes.saturating_sub(1),
-        }
-    }
-}
-
-/// Lets this many calls pass, fails the next one, and lets all pass after it.
+/// Lets this many calls pass over the connections of two federates, fails the next one, and lets all pass after it.
 #[derive(Drop)]
 struct Fuse {
     passing: u64,
-    over: Over,
-    calls: AtomicU64,
+    /// How many bytes of a send go at most before it fails. Its last byte never goes.
+    goes: usize,
+    /// Whether the calls of each federate's connections are counted by themselves. Else they are counted as the first
+    /// one's.
+    is_for_each: bool,
+    calls: [AtomicU64; 2],
 }
 
 impl Fuse {
-    fn new(passing: u64, over: Over) -> Fuse {
+    fn new(passing: u64, goes: usize, is_for_each: bool) -> Fuse {
         Fuse {
             passing,
-            over,
-            calls: AtomicU64::new(0),
+            goes,
+            is_for_each,
+            calls: [AtomicU64::new(0), AtomicU64::new(0)],
         }
     }
 
-    /// Whether the next call fails.
-    fn blows(&self) -> bool {
-        self.calls.fetch_add(1, Ordering::SeqCst) == self.passing
-    }
-
-    /// Whether a call has failed.
-    fn has_blown(&self) -> bool {
-        self.calls.load(Ordering::SeqCst) > self.passing
-    }
-}
-
-/// What breaks the connections of each of two federates, which may be the same for both.
-#[derive(Drop)]
-struct Fuses<'a> {
-    first: &'a Fuse,
-    second: &'a Fuse,
-}
-
-impl<'a> Fuses<'a> {
-    fn of(&self, end: End) -> &Fuse {
-        if end.federate == 0 {
-            self.first
+    // Whether the next call at this end fails.
+    fn blows(&self, end: End) -> bool {
+        let [first, second] = &self.calls;
+        let calls = if self.is_for_each && end.federate > 0 {
+            second
         } else {
-            self.second
-        }
+            first
+        };
+        calls.fetch_add(1, Ordering::SeqCst) == self.passing
+    }
+
+    // Whether a call has failed, where each federate's are counted one of each.
+    fn has_blown(&self) -> bool {
+        let [first, second] = &self.calls;
+        let has_first = first.load(Ordering::SeqCst) > self.passing;
+        let has_second = second.load(Ordering::SeqCst) > self.passing;
+        has_first && (has_second || !self.is_for_each)
     }
 }
 
-impl<'a> Tap for Fuses<'a> {
+impl Tap for Fuse {
     fn sends(&self, end: End, _before: u64, bytes: &[u8]) -> Fate {
-        let fuse = self.of(end);
-        if fuse.blows() {
-            Fate::broken(fuse.over.of(bytes.len()))
+        if self.blows(end) {
+            Fate::broken(self.goes.min(bytes.len().saturating_sub(1)))
         } else {
             Fate::whole()
         }
     }
 
     fn breaks(&self, end: End) -> bool {
-        self.of(end).blows()
+        self.blows(end)
     }
 }
 
-/// Whether a run over memory is right though connections break by these fuses.
-fn mends<R: Threads + Wait + Clock + Sync>(
+// Whether a call has failed in a run of the counter; None where the run isn't right.
+fn mends<R: Machine + Net<Stream = TcpStream, Listener = TcpListener>>(
     rt: &R,
-    alloc: Global,
     nodes: Nodes,
-    federation: &Federation,
-    fuses: &Fuses<'_>,
-) -> bool {
+    line: Line,
+    fuse: &Fuse,
+) -> Option<bool> {
     let setting = Setting::ample(nodes, &NoGate);
-    let gathered = ran_in_memory(rt, alloc, federation, setting, fuses);
-    is_right(alloc, federation, gathered)
+    let outcome = match line {
+        Line::Memory => outcome_in_memory(rt, rt.alloc(), COUNTER, setting, fuse)?,
+        Line::Tcp => outcome_over_tcp(rt, rt.alloc(), COUNTER, setting, fuse)?,
+    };
+    if outcome.is_right {
+        Some(fuse.has_blown())
+    } else {
+        None
+    }
 }
 
-/// How many calls a run makes, where it is right whichever of them fails; else the first one whose failure isn't
-/// mended.
-fn mends_each<R: Threads + Wait + Clock + Sync>(
+// How many calls a run over memory makes, where it is right whichever of them fails; else the first one whose failure
+// isn't mended.
+fn mends_each<R: Machine + Net<Stream = TcpStream, Listener = TcpListener>>(
     rt: &R,
-    alloc: Global,
     nodes: Nodes,
-    federation: &Federation,
-    over: Over,
+    goes: usize,
 ) -> Result<u64, u64> {
     for passing in 0..1000 {
-        let fuse = Fuse::new(passing, over);
-        let fuses = Fuses {
-            first: &fuse,
-            second: &fuse,
-        };
-        if !mends(rt, alloc, nodes, federation, &fuses) {
-            return Err(passing);
-        }
-        if !fuse.has_blown() {
-            return Ok(passing);
+        let fuse = Fuse::new(passing, goes, false);
+        match mends(rt, nodes, Line::Memory, &fuse) {
+            Some(true) => {}
+            Some(false) => return Ok(passing),
+            None => return Err(passing),
         }
     }
     Err(1000)
 }
 
-/// The same of the counter; none where it isn't loaded.
-fn mends_counter<R: Machine>(rt: &R, nodes: Nodes, over: Over) -> Option<Result<u64, u64>> {
-    let federation = loaded(rt.alloc(), COUNTER, "")?;
-    Some(mends_each(rt, rt.alloc(), nodes, &federation, over))
-}
-
 /// Each of the four ends sends twice at least, and reads twice.
 const FEWEST_CALLS: u64 = 16;
 
-fn assert_mends<R: Machine>(rt: &R, over: Over) {
+fn assert_mends<R: Machine + Net<Stream = TcpStream, Listener = TcpListener>>(rt: &R, goes: usize) {
     for nodes in EACH_WAY {
-        let mended = mends_counter(rt, nodes, over);
+        let mended = mends_each(rt, nodes, goes);
         assert!(rt;
-            matches!(mended, Some(Ok(calls)) if calls >= FEWEST_CALLS),
-            "{nodes:?}, {over:?}: {mended:?}"
+            matches!(mended, Ok(calls) if calls >= FEWEST_CALLS),
+            "{nodes:?}: {mended:?}"
         );
     }
 }
 
 #[test]
 fn mends_each_failure_before_the_first_byte(rt: HostRuntime) {
-    assert_mends(&rt, Over::Nothing);
+    assert_mends(&rt, 0);
 }
 
 #[test]
 fn mends_each_failure_behind_the_first_byte(rt: HostRuntime) {
-    assert_mends(&rt, Over::One);
+    assert_mends(&rt, 1);
 }
 
 #[test]
 fn mends_each_failure_before_the_last_byte(rt: HostRuntime) {
-    assert_mends(&rt, Over::AllButOne);
-}
-
-/// Whether each federate's connection breaks once, and a run is right.
-fn mends_both<R: Machine>(rt: &R, nodes: Nodes) -> Option<bool> {
-    let federation = loaded(rt.alloc(), COUNTER, "")?;
-    let first = Fuse::new(6, Over::One);
-    let second = Fuse::new(6, Over::One);
-    let fuses = Fuses {
-        first: &first,
-        second: &second,
-    };
-    let is_mended = mends(rt, rt.alloc(), nodes, &federation, &fuses);
-    Some(is_mended && first.has_blown() && second.has_blown())
+    assert_mends(&rt, usize::MAX);
 }
 
 #[test]
 fn mends_a_failure_of_each_connection(rt: HostRuntime) {
     for nodes in EACH_WAY {
-        assert_eq!(rt; mends_both(&rt, nodes), Some(true), "{nodes:?}");
-    }
-}
-
-/// Whether a run over TCP is right though this call fails; none where it didn't fail.
-fn mends_over_tcp<R: Machine + Net<Stream = TcpStream, Listener = TcpListener>>(
-    rt: &R,
-    nodes: Nodes,
-    passing: u64,
-    over: Over,
-) -> Option<bool> {
-    let federation = loaded(rt.alloc(), COUNTER, "")?;
-    let fuse = Fuse::new(passing, over);
-    let fuses = Fuses {
-        first: &fuse,
-        second: &fuse,
-    };
-    let setting = Setting::ample(nodes, &NoGate);
-    let gathered = ran_over_tcp(rt, rt.alloc(), &federation, setting, &fuses);
-    let is_mended = is_right(rt.alloc(), &federation, gathered);
-    if fuse.has_blown() {
-        Some(is_mended)
-    } else {
-        None
+        let fuse = Fuse::new(6, 1, true);
+        let mended = mends(&rt, nodes, Line::Memory, &fuse);
+        assert_eq!(rt; mended, Some(true), "{nodes:?}");
     }
 }
 
 #[test]
 fn mends_failures_over_tcp(rt: HostRuntime) {
     for passing in [0, 3, 5, 8, 10, 13, 15] {
-        for over in [Over::Nothing, Over::One, Over::AllButOne] {
+        for goes in [0, 1, usize::MAX] {
             for nodes in EACH_WAY {
+                let fuse = Fuse::new(passing, goes, false);
+                let mended = mends(&rt, nodes, Line::Tcp, &fuse);
                 assert_eq!(rt;
-                    mends_over_tcp(&rt, nodes, passing, over),
+                    mended,
                     Some(true),
-                    "{nodes:?}: {over:?} of call {passing}"
+                    "{nodes:?}: {goes} bytes of call {passing}"
                 );
             }
         }

@@ -3,14 +3,14 @@ use signal::Frame;
 use std::alloc::Global;
 use std::sync::atomic::{AtomicU64, Ordering};
 use tests_lines::federations::BY_TURNS;
-use tests_lines::lines::{EACH_WAY, Nodes, Setting, ran_in_memory};
-use tests_lines::reported::is_right;
+use tests_lines::lines::{EACH_WAY, Nodes, Setting};
+use tests_lines::outcome::outcome_in_memory;
 use tests_lines::tap::{End, Fate, Tap, frames_of};
-use tests_samples::{Machine, loaded};
+use tests_samples::Machine;
 use wires_workers::NoGate;
 
 /// Counts the connections that begin with a Hello, and those that don't, at both ends of each. One send in ten fails
-/// until this many have.
+/// until three have.
 #[derive(Drop)]
 struct Beginnings {
     alloc: Global,
@@ -20,7 +20,7 @@ struct Beginnings {
 }
 
 impl Beginnings {
-    /// Notes the first send on a connection.
+    // Notes the first send on a connection.
     fn note(&self, bytes: &[u8]) {
         let is_greeting = match frames_of(self.alloc, bytes) {
             Some(frames) => matches!(frames.first(), Some(Frame::Hello(_))),
@@ -47,9 +47,8 @@ impl Tap for Beginnings {
     }
 }
 
-/// How many ends of connections begin with a Hello, and how many don't; none where the run isn't right.
+// How many ends of connections begin with a Hello, and how many don't; none where the run isn't right.
 fn begun<R: Machine>(rt: &R, nodes: Nodes) -> Option<(u64, u64)> {
-    let federation = loaded(rt.alloc(), BY_TURNS, "")?;
     let beginnings = Beginnings {
         alloc: rt.alloc(),
         sends: AtomicU64::new(0),
@@ -57,8 +56,8 @@ fn begun<R: Machine>(rt: &R, nodes: Nodes) -> Option<(u64, u64)> {
         others: AtomicU64::new(0),
     };
     let setting = Setting::ample(nodes, &NoGate);
-    let gathered = ran_in_memory(rt, rt.alloc(), &federation, setting, &beginnings);
-    if is_right(rt.alloc(), &federation, gathered) {
+    let outcome = outcome_in_memory(rt, rt.alloc(), BY_TURNS, setting, &beginnings)?;
+    if outcome.is_right {
         let greeted = beginnings.greeted.load(Ordering::SeqCst);
         let others = beginnings.others.load(Ordering::SeqCst);
         Some((greeted, others))
@@ -67,7 +66,7 @@ fn begun<R: Machine>(rt: &R, nodes: Nodes) -> Option<(u64, u64)> {
     }
 }
 
-/// The two first connections have two ends each, and each of three failures makes a new connection.
+// The two first connections have two ends each, and each of three failures makes a new connection.
 #[test]
 fn begins_each_connection_with_a_greeting(rt: HostRuntime) {
     for nodes in EACH_WAY {

@@ -1,19 +1,17 @@
 //! One send of a run on which something befalls: it is followed by bytes that are no frame, it fails, or it is lost.
-ghost use Rattle.std.specs.Prelude.{◌≡◌};
-
 use signal::FrameReader;
 use std::alloc::Global;
 use std::sync::atomic::{AtomicU64, Ordering};
 use tests_lines::federations::BY_TURNS;
-use tests_lines::lines::{EACH_WAY, Nodes, Setting, ran_in_memory};
-use tests_lines::reported::is_right;
+use tests_lines::lines::{EACH_WAY, Nodes, Setting};
+use tests_lines::outcome::outcome_in_memory;
 use tests_lines::tap::{End, Fate, Tap};
-use tests_samples::{Machine, loaded};
+use tests_samples::Machine;
 use wires::Terms;
 use wires_workers::NoGate;
 
 /// The federate src's own end, and the coordinator's end for it.
-const SRC: &[End] = &[
+const SRC: [End; 2] = [
     End {
         federate: 0,
         is_own: true,
@@ -52,7 +50,7 @@ impl Once {
         }
     }
 
-    /// How often each federate connected.
+    // How often each federate connected.
     fn connections(&self) -> [u64; 2] {
         let [src, snk] = &self.connections;
         [src.load(Ordering::SeqCst), snk.load(Ordering::SeqCst)]
@@ -76,19 +74,45 @@ impl Tap for Once {
     }
 }
 
-/// How often src and snk connect in a run in which this befalls one send; none where the run isn't right.
+// How often src and snk connect in a run in which this befalls one send; none where the run isn't right.
 fn connections<R: Machine>(rt: &R, nodes: Nodes, once: &Once) -> Option<[u64; 2]> {
-    let federation = loaded(rt.alloc(), BY_TURNS, "")?;
     let setting = Setting {
         nodes,
         gate: &NoGate,
         terms: TERMS,
     };
-    let gathered = ran_in_memory(rt, rt.alloc(), &federation, setting, once);
-    if is_right(rt.alloc(), &federation, gathered) {
+    let outcome = outcome_in_memory(rt, rt.alloc(), BY_TURNS, setting, once)?;
+    if outcome.is_right {
         Some(once.connections())
     } else {
         None
+    }
+}
+
+// The first of so many sends of src or to it that makes src and snk connect otherwise where this befalls it, and how
+// often they do then; none where each makes them connect so.
+fn exception<R: Machine>(
+    rt: &R,
+    nodes: Nodes,
+    sends: u64,
+    fate: Fate,
+    expected: [u64; 2],
+) -> Option<(End, u64, Option<[u64; 2]>)> {
+    for end in SRC {
+        for nth in 0..sends {
+            let connected = connections(rt, nodes, &Once::new(end, nth, fate));
+            if connected != Some(expected) {
+                return Some((end, nth, connected));
+            }
+        }
+    }
+    None
+}
+
+fn assert_connects<R: Machine>(rt: &R, sends: u64, fate: Fate, expected: [u64; 2]) {
+    for nodes in EACH_WAY {
+        let exception = exception(rt, nodes, sends, fate, expected);
+        assert_eq!(rt; exception, None, "{nodes:?}: {fate:?}");
     }
 }
 
@@ -107,7 +131,7 @@ const MALICIOUS: &[(u16, &[u8])] = &[
     (43, &[0, 0, 0, 14, 3, 0, 0, 0, 1, 0, 0, 0, 0, 0, 0, 0, 0, 0]),
 ];
 
-/// The fault of these bytes; none where they have none.
+// The fault of these bytes; none where they have none.
 fn fault(alloc: Global, bytes: &[u8]) -> Option<u16> {
     let mut frames = FrameReader::new(alloc);
     frames.feed(bytes).ok()?;
@@ -117,65 +141,23 @@ fn fault(alloc: Global, bytes: &[u8]) -> Option<u16> {
     }
 }
 
-/// Whether bytes that are no frame end their connection, and no other, wherever they come behind one of src's first
-/// sends.
-fn ends_one_connection<R: Machine>(rt: &R, nodes: Nodes, bytes: &'static [u8]) -> bool {
-    for end in SRC {
-        for nth in 0..3 {
-            let once = Once::new(*end, nth, Fate::followed(bytes));
-            if connections(rt, nodes, &once) != Some([2, 1]) {
-                return false;
-            }
-        }
-    }
-    true
-}
-
 #[test]
 fn ends_a_connection_on_which_something_is_no_frame(rt: HostRuntime) {
     for (number, bytes) in MALICIOUS {
         assert_eq!(rt; fault(rt.alloc(), *bytes), Some(*number));
-        for nodes in EACH_WAY {
-            assert!(rt;
-                ends_one_connection(&rt, nodes, *bytes),
-                "{nodes:?}: {number}"
-            );
-        }
+        assert_connects(&rt, 3, Fate::followed(*bytes), [2, 1]);
     }
 }
 
-/// How often src and snk connect where this much of a send goes, and it fails.
 #[test]
 fn ends_a_connection_on_which_a_send_failed(rt: HostRuntime) {
-    for nodes in EACH_WAY {
-        for end in SRC {
-            for nth in 0..3 {
-                for goes in [0, 1, 19] {
-                    let once = Once::new(*end, nth, Fate::broken(goes));
-                    assert_eq!(rt;
-                        connections(&rt, nodes, &once),
-                        Some([2, 1]),
-                        "{nodes:?}: {goes} bytes of send {nth} of {end:?}"
-                    );
-                }
-            }
-        }
+    for goes in [0, 1, 19] {
+        assert_connects(&rt, 3, Fate::broken(goes), [2, 1]);
     }
 }
 
-/// What is lost without breaking a connection is sent again, at either end.
+// What is lost without breaking a connection is sent again, at either end.
 #[test]
 fn sends_again_what_was_lost(rt: HostRuntime) {
-    for nodes in EACH_WAY {
-        for end in SRC {
-            for nth in 0..4 {
-                let once = Once::new(*end, nth, Fate::lost());
-                assert_eq!(rt;
-                    connections(&rt, nodes, &once),
-                    Some([1, 1]),
-                    "{nodes:?}: send {nth} of {end:?}"
-                );
-            }
-        }
-    }
+    assert_connects(&rt, 4, Fate::lost(), [1, 1]);
 }

@@ -73,7 +73,7 @@ fn print_operand(alloc: Global, out: &mut String, operand: Operand) -> Result<()
     out.push_str(shown.as_str())
 }
 
-/// A formula with all its parentheses.
+// A formula with all its parentheses.
 fn print(alloc: Global, out: &mut String, formula: &Formula) -> Result<(), AllocError> {
     match formula {
         Formula::Leaf(operand) => print_operand(alloc, out, *operand),
@@ -203,7 +203,7 @@ fn refuses_what_is_no_expression(rt: HostRuntime) {
     }
 }
 
-/// `1 + 1 + ..`, with so many operators.
+// `1 + 1 + ..`, with so many operators.
 fn long(alloc: Global, operators: usize) -> Result<String, AllocError> {
     let mut text = String::from_str(alloc, "1")?;
     for _ in 0..operators {
@@ -212,7 +212,7 @@ fn long(alloc: Global, operators: usize) -> Result<String, AllocError> {
     Ok(text)
 }
 
-/// Whether a sum with so many operators is refused as too long.
+// Whether a sum with so many operators is refused as too long.
 fn is_too_long(alloc: Global, operators: usize) -> bool {
     match long(alloc, operators) {
         Ok(text) => is_refused(alloc, text.as_str(), ExpressionFault::TooLong),
@@ -226,7 +226,7 @@ fn refuses_more_than_512_tokens(rt: HostRuntime) {
     assert!(rt; is_too_long(rt.alloc(), 256));
 }
 
-/// Whether an expression becomes this one line before its last operator, with scratch states from 3 on.
+// Whether an expression becomes this one line before its last operator, with scratch states from 3 on.
 fn becomes(
     alloc: Global,
     text: &str,

@@ -1,11 +1,8 @@
 //! What `audit` answers and prints of report files: those of worked federations, and some that aren't taken.
-use crate::changed_reports::{HEAD, ROW, TWO, changed, federate_file};
-use crate::files::outcome_of_files;
-use crate::report_files::{ALL_ROUNDS, ReportFiles, empty_report, reports_of};
-use fedrun_progress::NoProgress;
+use crate::reports::{Flaw, ReportFile, changed, report_file, said};
 use std::alloc::Global;
 use std::net::{Net, TcpListener, TcpStream};
-use tests_outcomes::Outcome;
+use tests_outcomes::{ANY, Answer, Outcome, WrongAnswer, answered_over, outcome_of};
 use tests_samples::worked_rows::{
     CARRIED_ROWS, CHAIN_ROWS, COUNTER_ROWS, LOOP_ROWS, REPLACED_ROWS,
 };
@@ -13,76 +10,84 @@ use tests_samples::{
     CARRIED, CARRIED_INPUTS, CHAIN, CHAIN_INPUT, COUNTER, LOOP, Machine, REPLACED,
 };
 
-/// The words of an audit of one federate's report, of two in the other order, and of three in either.
-const ONE: &[&str] = &["audit", "f", "i", "c", "0"];
+/// Bytes of the counter's report files before the first row, and of each row, which has one input and one output.
+const HEAD: usize = 82;
 
-const TWO_BACKWARDS: &[&str] = &["audit", "f", "i", "c", "1", "0"];
+const ROW: usize = 60;
 
-const THREE: &[&str] = &["audit", "f", "i", "c", "0", "1", "2"];
+/// Where the value ends of the first message that comes to the counter's coordinator. Before the events stand 82 bytes;
+/// before this one, which is the fourth, both federates' first NETs with 39 bytes each, and an Ack with 26. It has 49.
+const VALUE: usize = 82 + 2 * 39 + 26 + 49;
 
-const THREE_BACKWARDS: &[&str] = &["audit", "f", "i", "c", "2", "1", "0"];
+/// Where the peer ends of the first frame that comes to `snk`: behind its three rows the count of its events in eight
+/// bytes, the two by which it announces and advances, and of this one the kind, and the peer in eight bytes.
+const PEER: usize = HEAD + 3 * ROW + 8 + 2 + 1 + 8;
 
-/// Federations, their input files, the words of an audit, and the rows, federate by federate.
-const WORKED: &[(&str, &str, &[&str], &str)] = &[
-    (COUNTER, "", TWO, COUNTER_ROWS),
-    (COUNTER, "", TWO_BACKWARDS, COUNTER_ROWS),
-    (REPLACED, "", TWO, REPLACED_ROWS),
-    (LOOP, "", ONE, LOOP_ROWS),
-    (CHAIN, CHAIN_INPUT, THREE, CHAIN_ROWS),
-    (CHAIN, CHAIN_INPUT, THREE_BACKWARDS, CHAIN_ROWS),
-    (CARRIED, CARRIED_INPUTS, TWO, CARRIED_ROWS),
+/// The reports of all nodes, also of a third federate where there are two.
+pub const HONEST: &[ReportFile] = &[
+    ("c", None, Flaw::Honest),
+    ("0", Some(0), Flaw::Honest),
+    ("1", Some(1), Flaw::Honest),
+    ("2", Some(2), Flaw::Honest),
 ];
 
-/// What an audit answers of all nodes' reports.
-fn audited<R: Machine + Net<Stream = TcpStream, Listener = TcpListener>>(
-    rt: &R,
-    federation: &str,
-    inputs: &str,
-    words: &[&str],
-) -> Option<Outcome> {
-    let reports = reports_of(rt.alloc(), federation, inputs, ALL_ROUNDS, true)?;
-    outcome_of_reports(rt, federation, inputs, &reports, words)
+/// The counter's reports, these after two rounds, that of a coordinator to which nothing came, and others in which
+/// something is wrong: the third row of `snk`, and the second of `src` in each of its parts.
+const COUNTER_REPORTS: &[ReportFile] = &[
+    ("c", None, Flaw::Honest),
+    ("0", Some(0), Flaw::Honest),
+    ("1", Some(1), Flaw::Honest),
+    ("2", Some(2), Flaw::Honest),
+    ("c2", None, Flaw::Rounds(2)),
+    ("02", Some(0), Flaw::Rounds(2)),
+    ("12", Some(1), Flaw::Rounds(2)),
+    ("silent", None, Flaw::Rounds(0)),
+    ("rowless", Some(0), Flaw::Rowless),
+    ("last", Some(1), Flaw::Changed(HEAD + 3 * ROW - 1)),
+    ("tag", Some(0), Flaw::Changed(HEAD + ROW + 12 - 1)),
+    ("slot", Some(0), Flaw::Changed(HEAD + ROW + 28 - 1)),
+    ("input", Some(0), Flaw::Changed(HEAD + ROW + 36 - 1)),
+    ("port", Some(0), Flaw::Changed(HEAD + ROW + 52 - 1)),
+    ("output", Some(0), Flaw::Changed(HEAD + 2 * ROW - 1)),
+    ("value", None, Flaw::Changed(VALUE - 1)),
+    ("peer", Some(1), Flaw::Changed(PEER - 1)),
+    ("cut", Some(0), Flaw::Cut),
+];
+
+/// A federation, its input file, reports of a run of them, and what is answered over these.
+#[derive(Clone, Copy)]
+struct Audit {
+    federation: &'static str,
+    inputs: &'static str,
+    reports: &'static [ReportFile],
+    answers: &'static [Answer],
+    /// How many lists of words these have.
+    count: usize,
 }
 
-/// The same, where the reports are there.
-fn outcome_of_reports<'x, R: Machine + Net<Stream = TcpStream, Listener = TcpListener>>(
-    rt: &R,
-    federation: &'x str,
-    inputs: &'x str,
-    reports: &'x ReportFiles,
-    words: &[&str],
-) -> Option<Outcome> {
-    let files = [
-        ("f", federation.as_bytes()),
-        ("i", inputs.as_bytes()),
-        ("c", reports.coordinator.as_slice()),
-        ("0", federate_file(reports, 0)),
-        ("1", federate_file(reports, 1)),
-        ("2", federate_file(reports, 2)),
-    ];
-    outcome_of_files(rt, words, &files, &NoProgress)
-}
+/// The words of an audit of two federates' reports.
+const TWO: &[&str] = &["audit", "f", "i", "c", "0", "1"];
 
-#[test]
-fn prints_the_rows_of_report_files_in_any_order(rt: HostRuntime) {
-    for (federation, inputs, words, rows) in WORKED {
-        let outcome = audited(&rt, federation, inputs, words);
-        assert_eq!(rt; outcome.as_ref().map(Outcome::texts), Some((0, *rows, "")));
-    }
-}
+const NOT_THERE: &[&str] = &["fedrun: cannot read g\n"];
 
-/// Words over the counter's files, the status, and all of what is on standard output and on standard error. The files:
-/// `f` and `i`, another federation `other`, an input file `j` without any input too, the coordinator's report `c` and
-/// the federates' `0` and `1`; `cut` is `0` without its last byte, `third` of a federate that isn't there; `silent` is
-/// of a coordinator to which nothing came, `rowless` a report of `src` without its rows; `second` reports another value
-/// in the second row of `src`, `last` in the last row of `snk`; `c2`, `02` and `12` are the reports after two rounds.
-/// Where several files are wrong, the first one that is named is told.
-const ANSWERS: &[(&[&str], u8, &str, &str)] = &[
-    (&["audit", "f", "-", "c", "0", "1"], 0, COUNTER_ROWS, ""),
+/// Words over the counter's files; `j` is an input file without any input too, and `other` another federation. Where
+/// several files are wrong, the first one that is named is told.
+const COUNTER_ANSWERS: &[Answer] = &[
     (
-        &["audit", "f", "i", "c", "0", "1", "--csv"],
+        &[
+            TWO,
+            &["audit", "f", "i", "c", "1", "0"],
+            &["audit", "f", "-", "c", "0", "1"],
+        ],
         0,
-        "federate,time_ns,microstep,kind,name,value
+        &[COUNTER_ROWS],
+        &[],
+    ),
+    (
+        &[&["audit", "f", "i", "c", "0", "1", "--csv"]],
+        0,
+        &[
+            "federate,time_ns,microstep,kind,name,value
 src,0,0,in,t,
 src,0,0,out,y,1
 src,10000000,0,in,t,
@@ -96,222 +101,371 @@ snk,10000000,0,out,total,3
 snk,20000000,0,in,x,3
 snk,20000000,0,out,total,6
 ",
-        "",
+        ],
+        &[],
     ),
-    (&["audit", "f", "i", "c"], 2, "", "fedrun: usage\n"),
     (
-        &["audit", "f", "i", "c", "0", "1", "--turns", "9"],
+        &[
+            &["audit", "f", "i", "c"],
+            &["audit", "f", "i", "c", "0", "1", "--turns", "9"],
+        ],
         2,
-        "",
-        "fedrun: usage\n",
+        &[],
+        &["fedrun: usage\n"],
     ),
     (
-        &["audit", "g", "i", "c", "0", "1"],
+        &[
+            &["audit", "g", "i", "c", "0", "1"],
+            &["audit", "f", "g", "c", "0", "1"],
+            &["audit", "f", "i", "g", "0", "1"],
+            &["audit", "f", "i", "c", "0", "g"],
+            &["audit", "f", "g", "f", "cut", "1"],
+        ],
         1,
-        "",
-        "fedrun: cannot read g\n",
+        &[],
+        NOT_THERE,
     ),
     (
-        &["audit", "f", "g", "c", "0", "1"],
+        &[
+            &["audit", "f", "i", "f", "0", "1"],
+            &["audit", "f", "i", "f", "cut", "1"],
+        ],
         1,
-        "",
-        "fedrun: cannot read g\n",
+        &[],
+        &["fedrun: f: 100 NoReport\n"],
     ),
     (
-        &["audit", "f", "i", "g", "0", "1"],
+        &[
+            &["audit", "f", "i", "c", "cut", "1"],
+            &["audit", "f", "i", "c", "cut", "2"],
+            &["audit", "f", "i", "c", "cut", "g"],
+        ],
         1,
-        "",
-        "fedrun: cannot read g\n",
+        &[],
+        &["fedrun: cut: 102 CutShort\n"],
     ),
     (
-        &["audit", "f", "i", "c", "0", "g"],
+        &[
+            &["audit", "f", "j", "c", "0", "1"],
+            &["audit", "other", "i", "c", "0", "1"],
+        ],
         1,
-        "",
-        "fedrun: cannot read g\n",
+        &[],
+        &["fedrun: c: 103 OtherFiles\n"],
     ),
     (
-        &["audit", "f", "i", "f", "0", "1"],
+        &[&["audit", "f", "i", "1", "0", "c"]],
         1,
-        "",
-        "fedrun: f: 100 NoReport\n",
+        &[],
+        &["fedrun: 1: 111 OtherNode\n"],
     ),
     (
-        &["audit", "f", "i", "c", "cut", "1"],
+        &[&["audit", "f", "i", "c", "0", "c"]],
         1,
-        "",
-        "fedrun: cut: 102 CutShort\n",
+        &[],
+        &["fedrun: c: 111 OtherNode\n"],
     ),
     (
-        &["audit", "f", "j", "c", "0", "1"],
+        &[&["audit", "f", "i", "c", "0", "1", "0"]],
         1,
-        "",
-        "fedrun: c: 103 OtherFiles\n",
+        &[],
+        &["fedrun: 0: 81 Double\n"],
     ),
     (
-        &["audit", "other", "i", "c", "0", "1"],
+        &[
+            &["audit", "f", "i", "c", "2", "0"],
+            &["audit", "f", "i", "c", "2", "cut"],
+        ],
         1,
-        "",
-        "fedrun: c: 103 OtherFiles\n",
-    ),
-    (
-        &["audit", "f", "i", "1", "0", "c"],
-        1,
-        "",
-        "fedrun: 1: 111 OtherNode\n",
-    ),
-    (
-        &["audit", "f", "i", "c", "0", "c"],
-        1,
-        "",
-        "fedrun: c: 111 OtherNode\n",
-    ),
-    (
-        &["audit", "f", "i", "c", "0", "1", "0"],
-        1,
-        "",
-        "fedrun: 0: 81 Double\n",
-    ),
-    (
-        &["audit", "f", "i", "c", "third", "0"],
-        1,
-        "",
-        "fedrun: third: 80 Stranger\n",
-    ),
-    (
-        &["audit", "f", "i", "c", "0"],
-        3,
-        "",
-        "fedrun: 84 Missing snk\n",
-    ),
-    (
-        &["audit", "f", "i", "silent", "0", "1"],
-        3,
-        "",
-        "fedrun: 82 Stuck src 3\n",
-    ),
-    (
-        &["audit", "f", "i", "c", "rowless", "1"],
-        3,
-        "",
-        "fedrun: 83 Mismatch src 1\n",
-    ),
-    (
-        &["audit", "f", "i", "c", "second", "last"],
-        3,
-        "",
-        "fedrun: 83 Mismatch src 2\n",
-    ),
-    (
-        &["audit", "f", "i", "c", "0", "last"],
-        3,
-        "",
-        "fedrun: 83 Mismatch snk 3\n",
-    ),
-    (
-        &["audit", "f", "i", "c2", "02", "12"],
-        3,
-        "",
-        "fedrun: not finished\n",
-    ),
-    (
-        &["audit", "f", "i", "f", "cut", "1"],
-        1,
-        "",
-        "fedrun: f: 100 NoReport\n",
-    ),
-    (
-        &["audit", "f", "i", "c", "cut", "third"],
-        1,
-        "",
-        "fedrun: cut: 102 CutShort\n",
-    ),
-    (
-        &["audit", "f", "i", "c", "third", "cut"],
-        1,
-        "",
-        "fedrun: third: 80 Stranger\n",
-    ),
-    (
-        &["audit", "f", "g", "f", "cut", "1"],
-        1,
-        "",
-        "fedrun: cannot read g\n",
-    ),
-    (
-        &["audit", "f", "i", "c", "cut", "g"],
-        1,
-        "",
-        "fedrun: cut: 102 CutShort\n",
+        &[],
+        &["fedrun: 2: 80 Stranger\n"],
     ),
 ];
 
-/// The counter's report files, and others beside them.
-#[derive(Drop)]
-struct CounterFiles {
-    all: ReportFiles,
-    early: ReportFiles,
-    rowless: ReportFiles,
-    third: Vec<u8>,
-    silent: Vec<u8>,
-    second: Vec<u8>,
-    last: Vec<u8>,
+/// The same words where the reports fit no run, or one that isn't finished.
+const COUNTER_DOUBTS: &[Answer] = &[
+    (
+        &[&["audit", "f", "i", "c", "0"]],
+        3,
+        &[],
+        &["fedrun: 84 Missing snk\n"],
+    ),
+    (
+        &[&["audit", "f", "i", "silent", "0", "1"]],
+        3,
+        &[],
+        &["fedrun: 82 Stuck src 3\n"],
+    ),
+    // A message that was not sent.
+    (
+        &[&["audit", "f", "i", "value", "0", "1"]],
+        3,
+        &[],
+        &["fedrun: 82 Stuck coordinator 4\n"],
+    ),
+    // A frame from a peer that isn't there.
+    (
+        &[&["audit", "f", "i", "c", "0", "peer"]],
+        3,
+        &[],
+        &["fedrun: 82 Stuck ", ANY, "\n"],
+    ),
+    (
+        &[&["audit", "f", "i", "c", "rowless", "1"]],
+        3,
+        &[],
+        &["fedrun: 83 Mismatch src 1\n"],
+    ),
+    (
+        &[
+            &["audit", "f", "i", "c", "tag", "1"],
+            &["audit", "f", "i", "c", "slot", "1"],
+            &["audit", "f", "i", "c", "input", "1"],
+            &["audit", "f", "i", "c", "port", "1"],
+            &["audit", "f", "i", "c", "output", "1"],
+            &["audit", "f", "i", "c", "output", "last"],
+        ],
+        3,
+        &[],
+        &["fedrun: 83 Mismatch src 2\n"],
+    ),
+    (
+        &[&["audit", "f", "i", "c", "0", "last"]],
+        3,
+        &[],
+        &["fedrun: 83 Mismatch snk 3\n"],
+    ),
+    (
+        &[&["audit", "f", "i", "c2", "02", "12"]],
+        3,
+        &[],
+        &["fedrun: not finished\n"],
+    ),
+];
+
+const COUNTER_AUDIT: Audit = Audit {
+    federation: COUNTER,
+    inputs: "",
+    reports: COUNTER_REPORTS,
+    answers: COUNTER_ANSWERS,
+    count: 23,
+};
+
+const DOUBTED_AUDIT: Audit = Audit {
+    federation: COUNTER,
+    inputs: "",
+    reports: COUNTER_REPORTS,
+    answers: COUNTER_DOUBTS,
+    count: 13,
+};
+
+const AUDITS: &[Audit] = &[
+    Audit {
+        federation: REPLACED,
+        inputs: "",
+        reports: HONEST,
+        answers: &[(&[TWO], 0, &[REPLACED_ROWS], &[])],
+        count: 1,
+    },
+    Audit {
+        federation: LOOP,
+        inputs: "",
+        reports: HONEST,
+        answers: &[(&[&["audit", "f", "i", "c", "0"]], 0, &[LOOP_ROWS], &[])],
+        count: 1,
+    },
+    Audit {
+        federation: CHAIN,
+        inputs: CHAIN_INPUT,
+        reports: HONEST,
+        answers: &[(
+            &[
+                &["audit", "f", "i", "c", "0", "1", "2"],
+                &["audit", "f", "i", "c", "2", "1", "0"],
+            ],
+            0,
+            &[CHAIN_ROWS],
+            &[],
+        )],
+        count: 2,
+    },
+    Audit {
+        federation: CARRIED,
+        inputs: CARRIED_INPUTS,
+        reports: HONEST,
+        answers: &[(&[TWO], 0, &[CARRIED_ROWS], &[])],
+        count: 1,
+    },
+];
+
+/// The files of these reports, in their order.
+pub fn report_files(
+    alloc: Global,
+    federation: &str,
+    inputs: &str,
+    reports: &[ReportFile],
+) -> Option<Vec<Vec<u8>>> {
+    let mut files = Vec::new(alloc);
+    for (_, node, flaw) in reports {
+        files
+            .push(report_file(alloc, federation, inputs, *node, *flaw)?)
+            .ok()?;
+    }
+    Some(files)
 }
 
-impl CounterFiles {
-    fn new(alloc: Global) -> Option<CounterFiles> {
-        let all = reports_of(alloc, COUNTER, "", ALL_ROUNDS, true)?;
-        let second = changed(alloc, all.federates.first()?, HEAD + 2 * ROW - 1)?;
-        let last = changed(alloc, all.federates.get(1)?, HEAD + 3 * ROW - 1)?;
-        Some(CounterFiles {
-            all,
-            early: reports_of(alloc, COUNTER, "", 2, true)?,
-            rowless: reports_of(alloc, COUNTER, "", ALL_ROUNDS, false)?,
-            third: empty_report(alloc, COUNTER, "", Some(2))?,
-            silent: empty_report(alloc, COUNTER, "", None)?,
-            second,
-            last,
-        })
+/// These by their names, with the two files of the run as `f` and `i`, and two others as `other` and `j`.
+pub fn named<'a>(
+    alloc: Global,
+    federation: &'a str,
+    inputs: &'a str,
+    reports: &'a [ReportFile],
+    files: &'a [Vec<u8>],
+) -> Option<Vec<(&'a str, &'a [u8])>> {
+    let mut named = Vec::new(alloc);
+    named.push(("f", federation.as_bytes())).ok()?;
+    named.push(("i", inputs.as_bytes())).ok()?;
+    named.push(("j", "# no input\n".as_bytes())).ok()?;
+    named.push(("other", REPLACED.as_bytes())).ok()?;
+    for ((name, _, _), file) in reports.iter().zip(files) {
+        named.push((*name, file.as_slice())).ok()?;
     }
+    Some(named)
+}
 
-    fn outcome_of<R: Machine + Net<Stream = TcpStream, Listener = TcpListener>>(
-        &self,
-        rt: &R,
-        words: &[&str],
-    ) -> Option<Outcome> {
-        let src = self.all.federates.first()?.as_slice();
-        let files = [
-            ("f", COUNTER.as_bytes()),
-            ("i", "".as_bytes()),
-            ("j", "# no input\n".as_bytes()),
-            ("other", REPLACED.as_bytes()),
-            ("c", self.all.coordinator.as_slice()),
-            ("0", src),
-            ("1", self.all.federates.get(1)?.as_slice()),
-            ("cut", &src[..src.len().saturating_sub(1)]),
-            ("third", self.third.as_slice()),
-            ("silent", self.silent.as_slice()),
-            ("rowless", self.rowless.federates.first()?.as_slice()),
-            ("second", self.second.as_slice()),
-            ("last", self.last.as_slice()),
-            ("c2", self.early.coordinator.as_slice()),
-            ("02", self.early.federates.first()?.as_slice()),
-            ("12", self.early.federates.get(1)?.as_slice()),
-        ];
-        outcome_of_files(rt, words, &files, &NoProgress)
+// How many lists of words an audit has, which are all answered as it says; else the first that isn't. None where there
+// is no memory for the files, or a node refuses something.
+fn audited<R: Machine + Net<Stream = TcpStream, Listener = TcpListener>>(
+    rt: &R,
+    audit: &Audit,
+) -> Option<Result<usize, WrongAnswer>> {
+    let alloc = rt.alloc();
+    let files = report_files(alloc, audit.federation, audit.inputs, audit.reports)?;
+    let files = named(
+        alloc,
+        audit.federation,
+        audit.inputs,
+        audit.reports,
+        files.as_slice(),
+    )?;
+    Some(answered_over(rt, files.as_slice(), audit.answers, 0))
+}
+
+// The place of the first audit that isn't answered as it says.
+fn first_wrong<R: Machine + Net<Stream = TcpStream, Listener = TcpListener>>(
+    rt: &R,
+    audits: &[Audit],
+) -> Option<usize> {
+    for (place, audit) in audits.iter().enumerate() {
+        if audited(rt, audit) != Some(Ok(audit.count)) {
+            return Some(place);
+        }
     }
+    None
 }
 
 #[test]
-fn answers_of_each_file_what_is_wrong_with_it(rt: HostRuntime) {
-    let files = CounterFiles::new(rt.alloc());
-    for (words, status, out, err) in ANSWERS {
-        let outcome = files
-            .as_ref()
-            .and_then(|files| files.outcome_of(&rt, words));
-        assert_eq!(rt;
-            outcome.as_ref().map(Outcome::texts),
-            Some((*status, *out, *err)),
-            "{words:?}"
-        );
+fn answers_of_report_files_what_is_wrong_with_them(rt: HostRuntime) {
+    assert_eq!(rt; audited(&rt, &COUNTER_AUDIT), Some(Ok(23)));
+}
+
+#[test]
+fn believes_no_reports_that_fit_no_finished_run(rt: HostRuntime) {
+    assert_eq!(rt; audited(&rt, &DOUBTED_AUDIT), Some(Ok(13)));
+}
+
+#[test]
+fn prints_the_rows_that_report_files_prove(rt: HostRuntime) {
+    assert_eq!(rt; first_wrong(&rt, AUDITS), None);
+}
+
+/// How many files that differ from honest ones in a byte were refused, and how many gave all rows and no others.
+#[derive(Clone, Copy, Debug, PartialEq, Eq)]
+struct Judged {
+    refused: usize,
+    harmless: usize,
+    wrong: usize,
+}
+
+impl Judged {
+    fn judge(&mut self, outcome: &Outcome) {
+        let count = match outcome.texts() {
+            (0, COUNTER_ROWS, "") => &mut self.harmless,
+            (1 | 3, "", err) if !err.is_empty() => &mut self.refused,
+            _ => &mut self.wrong,
+        };
+        *count = count.saturating_add(1);
     }
+}
+
+// The file of this place, in whose place another may stand.
+fn file_at<'a>(files: &'a [Vec<u8>], place: usize, changed: usize, other: &'a [u8]) -> &'a [u8] {
+    match files.get(place) {
+        Some(file) if place != changed => file.as_slice(),
+        _ => other,
+    }
+}
+
+// What an audit says of the counter's three reports, in the place of one of which this stands.
+fn outcome_of_changed<'x, R: Machine + Net<Stream = TcpStream, Listener = TcpListener>>(
+    rt: &R,
+    files: &'x [Vec<u8>],
+    changed: usize,
+    other: &'x [u8],
+) -> Option<Outcome> {
+    let files = [
+        ("f", COUNTER.as_bytes()),
+        ("i", "".as_bytes()),
+        ("c", file_at(files, 0, changed, other)),
+        ("0", file_at(files, 1, changed, other)),
+        ("1", file_at(files, 2, changed, other)),
+    ];
+    outcome_of(rt, TWO, &files)
+}
+
+// Judges each change of a byte of one of the files.
+fn judge_changes<R: Machine + Net<Stream = TcpStream, Listener = TcpListener>>(
+    rt: &R,
+    files: &[Vec<u8>],
+    number: usize,
+    judged: &mut Judged,
+) -> Option<usize> {
+    let file = files.get(number)?.as_slice();
+    for place in 0..said(file) {
+        let other = changed(rt.alloc(), file, place)?;
+        judged.judge(&outcome_of_changed(rt, files, number, &other)?);
+    }
+    Some(said(file))
+}
+
+// What comes of each change of a byte in each of the counter's three files; and how many changes there are.
+fn all_judged<R: Machine + Net<Stream = TcpStream, Listener = TcpListener>>(
+    rt: &R,
+) -> Option<(Judged, usize)> {
+    let files = report_files(rt.alloc(), COUNTER, "", HONEST)?;
+    let mut judged = Judged {
+        refused: 0,
+        harmless: 0,
+        wrong: 0,
+    };
+    let mut changes = 0usize;
+    for number in 0..3 {
+        let more = judge_changes(rt, files.as_slice(), number, &mut judged)?;
+        changes = changes.saturating_add(more);
+    }
+    Some((judged, changes))
+}
+
+#[test]
+fn a_changed_file_gives_the_rows_or_none(rt: HostRuntime) {
+    let judged = all_judged(&rt);
+    // Each file is longer than the name of its format and two digests.
+    let told = judged.map(|(judged, changes)| {
+        (
+            judged.wrong,
+            judged.refused >= 3 * 72,
+            judged.refused.saturating_add(judged.harmless) == changes,
+        )
+    });
+    assert_eq!(rt; told, Some((0, true, true)));
 }

@@ -1,22 +1,10 @@
 //! What `frames`, `draw` and `lint` answer and write. The lines are reckoned by hand; of a picture the beginning and
 //! the end are looked at.
-use crate::files::{Texts, outcome_of};
-use tests_outcomes::{Outcome, shown};
+use tests_outcomes::{ANY, Answer, Case, answered};
 use tests_samples::COUNTER;
 
-/// The counter announces its first tag, and the coordinator grants it all.
-const ANNOUNCED: Texts = Texts {
-    federation: COUNTER,
-    inputs: "",
-    schedule: "announce src
-deliver up src 1
-deliver up src 2
-",
-};
-
 /// Each port is connected, and each reaction does something.
-const NOTHING_ODD: Texts = Texts {
-    federation: r#"stop = "0"
+const NOTHING_ODD: &str = r#"stop = "0"
 connection = [{ from = "src.y", to = "snk.x" }]
 [[federate]]
 name = "src"
@@ -27,24 +15,43 @@ name = "snk"
 inputs = ["x"]
 state = [{ name = "s", value = 0 }]
 reaction = [{ triggers = ["x"], body = ["s = in.x"] }]
-"#,
-    inputs: "[[input]]",
-    schedule: "",
-};
+"#;
 
-const NO_TOML: Texts = Texts {
-    federation: "stop = \"0\"\nfederate = ",
-    inputs: "",
-    schedule: "late src\n",
-};
+/// The beginning and the end of a picture.
+const PICTURE: &[&str] = &["<svg xmlns='http://www.w3.org/2000/svg' ", ANY, "</svg>\n"];
 
-/// Words, files, the status, and all of what is on standard output and on standard error.
-const EXACT: &[(&[&str], Texts, u8, &str, &str)] = &[
-    (
-        &["frames", "f", "-", "s"],
-        ANNOUNCED,
-        0,
-        "1 announce src
+/// What `lint` says besides what is wrong.
+const NOT_TAKEN: &[&str] = &["fedrun: not taken\n"];
+
+/// Words that name a file `g`, which isn't there.
+const NOT_THERE: Answer = (
+    &[
+        &["draw", "g"],
+        &["draw", "f", "-", "g"],
+        &["lint", "g"],
+        &["lint", "f", "g"],
+    ],
+    1,
+    &[],
+    &["fedrun: cannot read g\n"],
+);
+
+const CASES: &[Case] = &[
+    // The counter announces its first tag, and the coordinator grants it all.
+    Case {
+        federation: &[COUNTER],
+        inputs: "",
+        schedules: &[(
+            "announce src
+deliver up src 1
+deliver up src 2
+",
+            &[
+                (
+                    &[&["frames", "f", "-", "s"]],
+                    0,
+                    &[
+                        "1 announce src
   sent up src 1: Data 1 NET (0, 0)
 2 deliver up src 1
   taken
@@ -53,101 +60,55 @@ const EXACT: &[(&[&str], Texts, u8, &str, &str)] = &[
 3 deliver up src 2
   no such frame
 ",
-        "",
-    ),
-    (
-        &["frames", "f", "-", "s"],
-        NO_TOML,
-        1,
-        "",
-        "fedrun: 30 NotToml\n",
-    ),
-    (&["draw", "f"], NO_TOML, 1, "", "fedrun: 30 NotToml\n"),
-    (&["draw", "g"], ANNOUNCED, 1, "", "fedrun: cannot read g\n"),
-    (
-        &["draw", "f", "-", "g"],
-        ANNOUNCED,
-        1,
-        "",
-        "fedrun: cannot read g\n",
-    ),
-    (&["draw", "f", "-"], ANNOUNCED, 2, "", "fedrun: usage\n"),
-    (&["lint", "f"], NOTHING_ODD, 0, "", ""),
-    (&["lint", "f", "-"], NOTHING_ODD, 0, "", ""),
-    (
-        &["lint", "g"],
-        NOTHING_ODD,
-        1,
-        "",
-        "fedrun: cannot read g\n",
-    ),
-    (
-        &["lint", "f", "g"],
-        NOTHING_ODD,
-        1,
-        "",
-        "fedrun: cannot read g\n",
-    ),
-];
-
-/// Words, files, the status, the beginning and the end of what is on standard output, and what is on standard error.
-const BEGUN: &[(&[&str], Texts, u8, &str, &str, &str)] = &[
-    (
-        &["draw", "f"],
-        ANNOUNCED,
-        0,
-        "<svg xmlns='http://www.w3.org/2000/svg' ",
-        "</svg>\n",
-        "",
-    ),
-    (
-        &["draw", "f", "-", "s"],
-        ANNOUNCED,
-        0,
-        "<svg xmlns='http://www.w3.org/2000/svg' ",
-        "</svg>\n",
-        "",
-    ),
-    (
-        &["lint", "f"],
-        NO_TOML,
-        1,
-        "f:2: wrong: 30 NotToml: ",
-        "\n",
-        "fedrun: not taken\n",
-    ),
-    (
-        &["lint", "f", "i"],
-        NOTHING_ODD,
-        1,
-        "i:1: wrong: 31 WrongShape ",
-        "\n",
-        "fedrun: not taken\n",
-    ),
+                    ],
+                    &[],
+                ),
+                (&[&["draw", "f"], &["draw", "f", "-", "s"]], 0, PICTURE, &[]),
+                (&[&["draw", "f", "-"]], 2, &[], &["fedrun: usage\n"]),
+                NOT_THERE,
+            ],
+        )],
+    },
+    Case {
+        federation: &["stop = \"0\"\nfederate = "],
+        inputs: "",
+        schedules: &[(
+            "late src\n",
+            &[
+                (
+                    &[&["frames", "f", "-", "s"], &["draw", "f"]],
+                    1,
+                    &[],
+                    &["fedrun: 30 NotToml\n"],
+                ),
+                (
+                    &[&["lint", "f"]],
+                    1,
+                    &["f:2: wrong: 30 NotToml: ", ANY, "\n"],
+                    NOT_TAKEN,
+                ),
+            ],
+        )],
+    },
+    Case {
+        federation: &[NOTHING_ODD],
+        inputs: "[[input]]",
+        schedules: &[(
+            "",
+            &[
+                (&[&["lint", "f"], &["lint", "f", "-"]], 0, &[], &[]),
+                (
+                    &[&["lint", "f", "i"]],
+                    1,
+                    &["i:1: wrong: 31 WrongShape ", ANY, "\n"],
+                    NOT_TAKEN,
+                ),
+            ],
+        )],
+    },
 ];
 
 #[test]
 fn answers_frames_draw_and_lint(rt: HostRuntime) {
-    for (words, texts, status, out, err) in EXACT {
-        let outcome = outcome_of(&rt, words, *texts);
-        assert_eq!(rt; shown(&outcome), Some((*status, *out, *err)), "{words:?}");
-    }
-}
-
-/// The status, whether it begins and ends so, and what is on standard error.
-fn framed<'a>(outcome: &'a Option<Outcome>, begin: &str, end: &str) -> Option<(u8, bool, &'a str)> {
-    let (status, out, err) = shown(outcome)?;
-    Some((status, out.starts_with(begin) && out.ends_with(end), err))
-}
-
-#[test]
-fn writes_pictures_and_what_is_wrong(rt: HostRuntime) {
-    for (words, texts, status, begin, end, err) in BEGUN {
-        let outcome = outcome_of(&rt, words, *texts);
-        assert_eq!(rt;
-            framed(&outcome, begin, end),
-            Some((*status, true, *err)),
-            "{words:?}"
-        );
-    }
+    assert_eq!(rt; answered(&rt, CASES), Ok(14));
 }

@@ -1,10 +1,12 @@
 //! The line that is shown of how far a command is.
 use fedrun_progress::{Progress, ProgressLine};
 use std::io::Write;
+use std::net::{Net, TcpListener, TcpStream};
 use std::sync::{Mutex, Wait};
 use std::time::Duration;
 use std::{io, thread};
 use tag::{Tag, Time};
+use tests_outcomes::{ANY, is_text};
 use tests_samples::Machine;
 
 /// A writer that keeps what is written where another thread can look at it.
@@ -27,7 +29,7 @@ impl<'a, R: Wait> Write for Kept<'a, R> {
 }
 
 /// What is told of a command.
-#[derive(Clone, Copy, Debug)]
+#[derive(Clone, Copy)]
 enum Telling {
     /// The time in ns until which it goes on.
     Until(u64),
@@ -45,8 +47,11 @@ fn tell<P: Progress>(line: &P, telling: Telling) -> Option<()> {
     Some(())
 }
 
-/// Waits until something is shown.
-fn wait_for_some<R: Machine>(rt: &R, bytes: &Mutex<Vec<u8>>) {
+// Waits until something is shown.
+fn wait_for_some<R: Machine + Net<Stream = TcpStream, Listener = TcpListener>>(
+    rt: &R,
+    bytes: &Mutex<Vec<u8>>,
+) {
     for _ in rt.forever() {
         if !bytes.lock(rt).is_empty() {
             break;
@@ -55,8 +60,11 @@ fn wait_for_some<R: Machine>(rt: &R, bytes: &Mutex<Vec<u8>>) {
     }
 }
 
-/// What is shown after all this is told, until the end is told.
-fn shown<R: Machine>(rt: &R, told: &[Telling]) -> Option<String> {
+// What is shown after all this is told, until the end is told.
+fn shown<R: Machine + Net<Stream = TcpStream, Listener = TcpListener>>(
+    rt: &R,
+    told: &[Telling],
+) -> Option<String> {
     let bytes = Mutex::new(Vec::new(rt.alloc()));
     let line = ProgressLine::new(rt);
     for telling in told {
@@ -92,21 +100,24 @@ const LINES: &[(&[Telling], &str)] = &[
     ),
 ];
 
-/// What stands last on the line is wiped.
+// Whether a line that begins so is shown after all this is told. What stands last on it is wiped.
+fn is_shown<R: Machine + Net<Stream = TcpStream, Listener = TcpListener>>(
+    rt: &R,
+    told: &[Telling],
+    line: &str,
+) -> Option<bool> {
+    let text = shown(rt, told)?;
+    Some(is_text(text.as_str(), &[line, ANY, " s\r\x1b[K"]))
+}
+
 #[test]
 fn line_is_shown_and_wiped(rt: HostRuntime) {
     for (told, line) in LINES {
-        match shown(&rt, told) {
-            Some(text) => {
-                assert!(rt; text.starts_with(line), "{text:?}");
-                assert!(rt; text.ends_with(" s\r\x1b[K"), "{text:?}");
-            }
-            None => assert!(rt; false, "{told:?}"),
-        }
+        assert_eq!(rt; is_shown(&rt, told, line), Some(true), "{line:?}");
     }
 }
 
-/// Where nobody shows it, nobody waits for it to be wiped.
+// Where nobody shows it, nobody waits for it to be wiped.
 #[test]
 fn an_end_waits_for_no_line(rt: HostRuntime) {
     let line = ProgressLine::new(&rt);

@@ -1,16 +1,18 @@
 //! Writers that refuse.
-use fedrun_commands::command;
+use crate::audits::{HONEST, named, report_files};
 use fedrun_progress::NoProgress;
 use std::io;
 use std::io::Write;
 use std::net::{Net, TcpListener, TcpStream};
-use tests_outcomes::{TwoFiles, given};
+use tests_outcomes::{NamedFiles, status_into};
 use tests_samples::{COUNTER, Machine};
 
-/// A writer that takes this many bytes, and then refuses.
+/// A writer that takes so many bytes, and refuses more.
 #[derive(Drop)]
-pub(crate) struct Narrow {
-    pub room: usize,
+struct Narrow {
+    room: usize,
+    /// Whether it sends on what it took.
+    is_flushed: bool,
 }
 
 impl Write for Narrow {
@@ -24,76 +26,107 @@ impl Write for Narrow {
     }
 
     fn flush(&mut self) -> io::Result<()> {
-        Ok(())
+        if self.is_flushed {
+            Ok(())
+        } else {
+            Err(io::Error::other("no way out"))
+        }
     }
 }
 
-/// A writer that takes all, and then can't send it on.
-#[derive(Drop)]
-pub(crate) struct Unflushed;
+/// Rooms that are too narrow for what each of the commands prints, and one that isn't sent on.
+const ROOMS: &[(usize, bool)] = &[(0, true), (1, true), (40, true), (100_000, false)];
 
-impl Write for Unflushed {
-    fn write(&mut self, buf: &[u8]) -> io::Result<usize> {
-        Ok(buf.len())
-    }
+/// Commands over the counter.
+const COMMANDS: &[&[&str]] = &[
+    &["whole", "f", "-", "4"],
+    &["replay", "f", "-", "i", "--until-stuck", "9"],
+    &["check", "f"],
+    &["run", "f", "-"],
+    &["audit", "f", "i", "c", "0", "1"],
+];
 
-    fn flush(&mut self) -> io::Result<()> {
-        Err(io::Error::other("no way out"))
-    }
-}
-
-const WHOLE: &[&str] = &["whole", "fed.toml", "-", "4"];
-
-const REPLAY: &[&str] = &["replay", "fed.toml", "-", "in.toml", "--until-stuck", "9"];
-
-const CHECK: &[&str] = &["check", "fed.toml"];
-
-const RUN: &[&str] = &["run", "fed.toml", "-"];
-
-/// What a command answers over a federation, into these writers.
-fn status<R: Machine + Net<Stream = TcpStream, Listener = TcpListener>, O: Write, E: Write>(
+// What a command answers whose rows go to a writer of this room, and what is on standard error.
+fn refusal<R: Machine + Net<Stream = TcpStream, Listener = TcpListener>>(
     rt: &R,
     words: &[&str],
-    federation: &str,
-    out: &mut O,
-    err: &mut E,
-) -> Option<u8> {
-    let words = given(rt.alloc(), words)?;
-    let mut files = TwoFiles::new(rt.alloc(), federation, "");
-    Some(command(rt, words.as_slice(), &mut files, out, err, &NoProgress))
-}
-
-/// Bytes as a text.
-fn text(bytes: &[u8]) -> &str {
-    str::from_utf8(bytes).unwrap_or("not UTF-8")
-}
-
-/// A command whose rows can't be written says so.
-fn assert_cannot_write<R: Machine + Net<Stream = TcpStream, Listener = TcpListener>, O: Write>(
-    rt: &R,
-    words: &[&str],
-    out: &mut O,
-) {
+    files: &[(&str, &[u8])],
+    room: usize,
+    is_flushed: bool,
+) -> Option<(u8, String)> {
+    let mut files = NamedFiles::new(rt.alloc(), files);
+    let mut out = Narrow { room, is_flushed };
     let mut err = Vec::new(rt.alloc());
-    let status = status(rt, words, COUNTER, out, &mut err);
-    let wanted = (Some(3), "fedrun: cannot write\n");
-    assert_eq!(rt; (status, text(&err)), wanted, "{words:?}");
+    let status = status_into(rt, words, &mut files, &mut out, &mut err, &NoProgress)?;
+    Some((status, String::from_utf8(err).ok()?))
+}
+
+// How often a command says that it can't write, which is in each room; None where it says something else.
+fn refusals_of<R: Machine + Net<Stream = TcpStream, Listener = TcpListener>>(
+    rt: &R,
+    words: &[&str],
+    files: &[(&str, &[u8])],
+) -> Option<usize> {
+    let mut count = 0usize;
+    for (room, is_flushed) in ROOMS {
+        let (status, err) = refusal(rt, words, files, *room, *is_flushed)?;
+        if status != 3 || err.as_str() != "fedrun: cannot write\n" {
+            return None;
+        }
+        count = count.saturating_add(1);
+    }
+    Some(count)
+}
+
+// The same of all commands.
+fn refusals<R: Machine + Net<Stream = TcpStream, Listener = TcpListener>>(
+    rt: &R,
+    files: &[(&str, &[u8])],
+) -> Option<usize> {
+    let mut count = 0usize;
+    for words in COMMANDS {
+        count = count.saturating_add(refusals_of(rt, words, files)?);
+    }
+    Some(count)
+}
+
+// The same over the counter and its reports.
+fn all_refusals<R: Machine + Net<Stream = TcpStream, Listener = TcpListener>>(
+    rt: &R,
+) -> Option<usize> {
+    let alloc = rt.alloc();
+    let files = report_files(alloc, COUNTER, "", HONEST)?;
+    let files = named(alloc, COUNTER, "", HONEST, files.as_slice())?;
+    refusals(rt, files.as_slice())
 }
 
 #[test]
 fn prints_that_it_cannot_write(rt: HostRuntime) {
-    for words in [WHOLE, REPLAY, CHECK, RUN] {
-        for room in [0, 1, 40] {
-            assert_cannot_write(&rt, words, &mut Narrow { room });
-        }
-        assert_cannot_write(&rt, words, &mut Unflushed);
-    }
+    assert_eq!(rt; all_refusals(&rt), Some(20));
 }
 
-/// The file of the federation is empty.
+// What a command answers over an empty federation, where standard error has room for three bytes.
+fn status_untold<R: Machine + Net<Stream = TcpStream, Listener = TcpListener>>(
+    rt: &R,
+) -> Option<u8> {
+    let files = [("f", "".as_bytes())];
+    let mut files = NamedFiles::new(rt.alloc(), &files);
+    let mut out = Vec::new(rt.alloc());
+    let mut err = Narrow {
+        room: 3,
+        is_flushed: true,
+    };
+    status_into(
+        rt,
+        &["check", "f"],
+        &mut files,
+        &mut out,
+        &mut err,
+        &NoProgress,
+    )
+}
+
 #[test]
 fn answers_the_same_where_the_line_cannot_be_written(rt: HostRuntime) {
-    let mut out = Vec::new(rt.alloc());
-    let status = status(&rt, CHECK, "", &mut out, &mut Narrow { room: 3 });
-    assert_eq!(rt; status, Some(1));
+    assert_eq!(rt; status_untold(&rt), Some(1));
 }

@@ -11,7 +11,7 @@ use std::alloc::Global;
 use std::test::Fail;
 use tests_samples::{COUNTER, LOOP, loaded};
 
-/// The picture of a federation's file; None where there is none.
+// The picture of a federation's file; None where there is none.
 fn drawn(alloc: Global, federation: &str) -> Option<Picture> {
     let federation = loaded(alloc, federation, "")?;
     let figures = figures_of(alloc, federation.plan()).ok()?;
@@ -46,7 +46,7 @@ fn draws_the_counter(rt: HostRuntime) -> Result<(), Fail> {
     Ok(())
 }
 
-/// A connection from a federate to itself goes out to the right, over the top, and in from the left, dashed.
+// A connection from a federate to itself goes out to the right, over the top, and in from the left, dashed.
 #[test]
 fn draws_a_loop_over_the_top(rt: HostRuntime) -> Result<(), Fail> {
     let picture = drawn(rt.alloc(), LOOP).ok_or("no picture")?;
@@ -71,7 +71,7 @@ fn has_startup(picture: &Picture) -> bool {
     false
 }
 
-/// Whether nothing of a picture stands where it may not.
+// Whether nothing of a picture stands where it may not.
 fn stands_well(alloc: Global, all: &Figures) -> Option<bool> {
     let picture = federation_picture(alloc, all).ok()?;
     Some(

@@ -2,7 +2,7 @@
 use files_pictures::figures::{Figure, Figures, Wire};
 use std::alloc::{AllocError, Global};
 
-/// This many names of a letter and a number.
+// This many names of a letter and a number.
 fn names(alloc: Global, letter: &str, count: usize) -> Result<Vec<String>, AllocError> {
     let mut names = Vec::new(alloc);
     for number in 0..count {
@@ -12,7 +12,7 @@ fn names(alloc: Global, letter: &str, count: usize) -> Result<Vec<String>, Alloc
     Ok(names)
 }
 
-/// A federate with this many inputs, and with two outputs.
+// A federate with this many inputs, and with two outputs.
 fn figure(alloc: Global, rank: usize, inputs: usize) -> Result<Figure, AllocError> {
     let name = format!(in alloc; "federate_{rank}")?;
     let inputs = names(alloc, "in", inputs)?;
@@ -26,7 +26,7 @@ fn figure(alloc: Global, rank: usize, inputs: usize) -> Result<Figure, AllocErro
     })
 }
 
-/// A connection from an output of a federate to an input of another; back and to itself with a delay.
+// A connection from an output of a federate to an input of another; back and to itself with a delay.
 fn wire(
     alloc: Global,
     source: usize,

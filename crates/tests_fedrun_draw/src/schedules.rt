@@ -9,7 +9,7 @@ use std::alloc::{AllocError, Global};
 use std::test::Fail;
 use tests_samples::{COUNTER, Federation, loaded};
 
-/// What is drawn of a schedule over the counter; the outer None where something isn't taken.
+// What is drawn of a schedule over the counter; the outer None where something isn't taken.
 fn history(
     alloc: Global,
     schedule: &str,
@@ -20,7 +20,7 @@ fn history(
     Some(history_over(alloc, &federation, &script, closing))
 }
 
-/// What is drawn of a schedule over a federation.
+// What is drawn of a schedule over a federation.
 fn history_over(
     alloc: Global,
     federation: &Federation,
@@ -37,12 +37,12 @@ fn history_over(
     )
 }
 
-/// The same, where it is drawn.
+// The same, where it is drawn.
 fn drawn_history(alloc: Global, schedule: &str) -> Option<History> {
     history(alloc, schedule, None)?.ok()
 }
 
-/// How many frames came and were refused by this number, or weren't refused.
+// How many frames came and were refused by this number, or weren't refused.
 fn arrival_count(history: &History, refused: Option<u16>) -> usize {
     let mut count = 0usize;
     for arrival in history.arrivals.as_slice() {
@@ -63,7 +63,7 @@ deliver up src 3
 deliver up src 1
 ";
 
-/// The step of each arrival, by which number it was refused, and whether the frame had come before.
+// The step of each arrival, by which number it was refused, and whether the frame had come before.
 fn fates(
     alloc: Global,
     arrivals: &[Arrival],
@@ -123,7 +123,7 @@ round
 round
 ";
 
-/// How many lines of a picture end in a cross.
+// How many lines of a picture end in a cross.
 fn cross_count(picture: &Picture) -> usize {
     let mut count = 0usize;
     for line in picture.lines.as_slice() {
@@ -134,7 +134,7 @@ fn cross_count(picture: &Picture) -> usize {
     count
 }
 
-/// How many lifelines are cut, each as often as it is.
+// How many lifelines are cut, each as often as it is.
 fn cut_count(picture: &Picture) -> usize {
     let mut count = 0usize;
     for mark in picture.marks.as_slice() {
@@ -145,7 +145,7 @@ fn cut_count(picture: &Picture) -> usize {
     count
 }
 
-/// How many frames never came.
+// How many frames never came.
 fn lost_count(history: &History) -> usize {
     let mut count = 0usize;
     for place in 0..history.frames.len() {
@@ -197,7 +197,7 @@ fn no_text_of_a_schedule_lies_on_another(rt: HostRuntime) -> Result<(), Fail> {
     Ok(())
 }
 
-/// A step of a federate with the longest name that there may be.
+// A step of a federate with the longest name that there may be.
 fn long_named(alloc: Global) -> Result<History, AllocError> {
     let mut history = History::new(alloc);
     let name = "n".repeat(alloc, 32)?;

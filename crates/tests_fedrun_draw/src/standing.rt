@@ -66,7 +66,7 @@ fn box_at(picture: &Picture, place: usize) -> Option<Area> {
     picture.boxes.get(place).copied()
 }
 
-/// What a text covers; its letters stand 10 above their base line and 2 below.
+// What a text covers; its letters stand 10 above their base line and 2 below.
 fn text_at(picture: &Picture, place: usize) -> Option<Area> {
     let label = picture.labels.get(place)?;
     let width = text_width(label.text.as_str());
@@ -96,7 +96,7 @@ fn do_meet(one: Option<Area>, other: Option<Area>) -> bool {
     }
 }
 
-/// Whether some point is in both.
+// Whether some point is in both.
 fn have_common_point(one: Area, other: Area) -> bool {
     one.left < other.right()
         && other.left < one.right()
@@ -111,7 +111,7 @@ fn is_inside(picture: &Picture, area: Option<Area>) -> bool {
     }
 }
 
-/// Where a port has its middle, beside a box: 37 below its top, and 18 more for each port above it.
+// Where a port has its middle, beside a box: 37 below its top, and 18 more for each port above it.
 fn port_height(area: Area, place: usize) -> usize {
     area.top
         .saturating_add(37)
@@ -166,7 +166,7 @@ fn does_pass(picture: &Picture, line: &Line) -> bool {
     true
 }
 
-/// Whether a box stands between two points that follow each other on a line.
+// Whether a box stands between two points that follow each other on a line.
 fn is_blocked(picture: &Picture, one: Point, other: Point) -> bool {
     let (left, right) = (one.x.min(other.x), one.x.max(other.x));
     let (top, bottom) = (one.y.min(other.y), one.y.max(other.y));

@@ -9,7 +9,7 @@ use std::io::{ErrorKind, Write};
 use std::test::Fail;
 use tests_samples::{COUNTER, loaded};
 
-/// What a picture of one text is written as; None where there is none.
+// What a picture of one text is written as; None where there is none.
 fn written(alloc: Global, text: &str) -> Option<String> {
     let mut picture = Picture::new(alloc);
     let lettering = Lettering {
@@ -35,7 +35,7 @@ fn texts_are_escaped(rt: HostRuntime) -> Result<(), Fail> {
     Ok(())
 }
 
-/// Whether these bytes are a file that begins and ends as SVG does, and has this text.
+// Whether these bytes are a file that begins and ends as SVG does, and has this text.
 fn is_svg_with(bytes: &[u8], text: &str) -> bool {
     match str::from_utf8(bytes) {
         Ok(svg) => {

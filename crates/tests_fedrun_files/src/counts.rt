@@ -1,20 +1,76 @@
 //! As many as there may be, and one more. The numbers are those of docs/FILES.md, written out: tests that cited the
 //! constants of the code would pass with any.
+use crate::answers::{TAKEN, answers};
 use std::alloc::Global;
 use std::net::{Net, TcpListener, TcpStream};
-use std::test::Fail;
-use tests_outcomes::{Outcome, outcome_of_parts, shown};
 use tests_samples::Machine;
 
 const OVER_PLAN: &str = "fedrun: 14 OverLimit\n";
 
 const OVER_FILE: &str = "fedrun: 36 OverLimit\n";
 
-/// What a federation file counts in all, or within what stands around it: what stands before the entries, an entry, in
-/// which `%` is its number, what stands after them, how many there may be, and what is printed of one more.
-const COUNTS: &[(&str, &str, &str, usize, &str)] = &[
+/// What a file counts in all, or within what stands around it: what stands before the entries, an entry, in which `%`
+/// is its number, what stands after them, how many there may be, and what is printed of one more.
+type Limit = (
+    &'static str,
+    &'static str,
+    &'static str,
+    usize,
+    &'static str,
+);
+
+/// Of a federation file, behind its stop time: federates, the lists of one, lines of a reaction, characters of names.
+const LIMITS: &[Limit] = &[
     ("federate = [", r#"{ name = "f%" }, "#, "]", 64, OVER_PLAN),
-    // Lines of a reaction.
+    (
+        r#"federate = [{ name = "f", inputs = ["#,
+        r#""x%", "#,
+        "] }]",
+        32,
+        OVER_PLAN,
+    ),
+    (
+        r#"federate = [{ name = "f", outputs = ["#,
+        r#""y%", "#,
+        "] }]",
+        32,
+        OVER_PLAN,
+    ),
+    (
+        r#"federate = [{ name = "f", timers = ["#,
+        r#"{ name = "t%" }, "#,
+        "] }]",
+        32,
+        OVER_PLAN,
+    ),
+    (
+        r#"federate = [{ name = "f", actions = ["#,
+        r#""a%", "#,
+        "] }]",
+        32,
+        OVER_PLAN,
+    ),
+    (
+        r#"federate = [{ name = "f", physical = ["#,
+        r#""p%", "#,
+        "] }]",
+        32,
+        OVER_PLAN,
+    ),
+    (
+        r#"federate = [{ name = "f", state = ["#,
+        r#"{ name = "n%", value = % }, "#,
+        "] }]",
+        64,
+        OVER_FILE,
+    ),
+    (
+        r#"federate = [{ name = "f", reaction = ["#,
+        r#"{ triggers = ["startup"] }, "#,
+        "] }]",
+        64,
+        OVER_FILE,
+    ),
     (
         r#"federate = [{ name = "f", outputs = ["y"], reaction = [{ triggers = ["startup"], body = ["#,
         r#""out.y = %", "#,
@@ -22,7 +78,6 @@ const COUNTS: &[(&str, &str, &str, usize, &str)] = &[
         256,
         OVER_FILE,
     ),
-    // Characters of names.
     (
         r#"federate = [{ name = ""#,
         "f",
@@ -39,18 +94,7 @@ const COUNTS: &[(&str, &str, &str, usize, &str)] = &[
     ),
 ];
 
-/// The lists of a federate: the list's name, an entry, how many there may be, and what is printed of one more.
-const LISTS: &[(&str, &str, usize, &str)] = &[
-    ("inputs", r#""x%", "#, 32, OVER_PLAN),
-    ("outputs", r#""y%", "#, 32, OVER_PLAN),
-    ("timers", r#"{ name = "t%" }, "#, 32, OVER_PLAN),
-    ("actions", r#""a%", "#, 32, OVER_PLAN),
-    ("physical", r#""p%", "#, 32, OVER_PLAN),
-    ("state", r#"{ name = "n%", value = % }, "#, 64, OVER_FILE),
-    ("reaction", r#"{ triggers = ["startup"] }, "#, 64, OVER_FILE),
-];
-
-/// Adds an entry with its number.
+// Adds an entry with its number.
 fn push_entry(file: &mut String, entry: &str, number: usize) -> Option<()> {
     for c in entry.chars() {
         match c {
@@ -61,7 +105,7 @@ fn push_entry(file: &mut String, entry: &str, number: usize) -> Option<()> {
     Some(())
 }
 
-/// A text with this many entries.
+// A text with this many entries.
 fn listed(alloc: Global, before: &str, entry: &str, after: &str, count: usize) -> Option<String> {
     let mut file = String::from_str(alloc, before).ok()?;
     for number in 0..count {
@@ -71,96 +115,79 @@ fn listed(alloc: Global, before: &str, entry: &str, after: &str, count: usize) -
     Some(file)
 }
 
-/// What is answered of the rest of a federation file, and of an input file.
-fn outcome<R: Machine + Net<Stream = TcpStream, Listener = TcpListener>>(
+// Whether the rest of a federation file, and an input file, are answered so.
+fn are_answered<R: Machine + Net<Stream = TcpStream, Listener = TcpListener>>(
     rt: &R,
     federation: &str,
     inputs: &str,
-) -> Option<Outcome> {
+    wanted: (u8, &str, &str),
+) -> bool {
     let words = ["whole", "fed.toml", "in.toml", "0"];
-    outcome_of_parts(rt, &words, &["stop = \"0\"\n", federation], &[inputs])
+    answers(
+        rt,
+        &words,
+        &["stop = \"0\"\n", federation],
+        &[inputs],
+        wanted,
+    )
 }
 
-/// The same of a federation file with this many entries.
-fn outcome_of_count<R: Machine + Net<Stream = TcpStream, Listener = TcpListener>>(
+// Whether a federation file with this many entries is answered so.
+fn is_answered<R: Machine + Net<Stream = TcpStream, Listener = TcpListener>>(
     rt: &R,
-    before: &str,
-    entry: &str,
-    after: &str,
-    count: usize,
-) -> Option<Outcome> {
-    let federation = listed(rt.alloc(), before, entry, after, count)?;
-    outcome(rt, federation.as_str(), "")
-}
-
-/// A federation file with this many entries is answered so.
-fn assert_count<R: Machine + Net<Stream = TcpStream, Listener = TcpListener>>(
-    rt: &R,
-    before: &str,
-    entry: &str,
-    after: &str,
+    limit: &Limit,
     count: usize,
     wanted: (u8, &str, &str),
-) {
-    let outcome = outcome_of_count(rt, before, entry, after, count);
-    assert_eq!(rt; shown(&outcome), Some(wanted), "{count} in {before}");
+) -> bool {
+    match listed(rt.alloc(), limit.0, limit.1, limit.2, count) {
+        Some(federation) => are_answered(rt, federation.as_str(), "", wanted),
+        None => false,
+    }
 }
 
-/// This many entries are taken, of which nothing is printed, and one more is refused, of which this line is printed.
-fn assert_counted<R: Machine + Net<Stream = TcpStream, Listener = TcpListener>>(
+// What stands before the entries of the first limit of which as many aren't taken, or one more isn't refused.
+fn first_wrong<R: Machine + Net<Stream = TcpStream, Listener = TcpListener>>(
     rt: &R,
-    before: &str,
-    entry: &str,
-    after: &str,
-    most: usize,
-    line: &str,
-) {
-    assert_count(rt, before, entry, after, most, (0, "", ""));
-    assert_count(
-        rt,
-        before,
-        entry,
-        after,
-        most.saturating_add(1),
-        (1, "", line),
-    );
+) -> Option<&'static str> {
+    for limit in LIMITS {
+        let (before, _, _, most, line) = *limit;
+        if !is_answered(rt, limit, most, TAKEN)
+            || !is_answered(rt, limit, most.saturating_add(1), (1, "", line))
+        {
+            return Some(before);
+        }
+    }
+    None
 }
 
 #[test]
 fn takes_as_many_as_the_limit_and_no_more(rt: HostRuntime) {
-    for (before, entry, after, most, line) in COUNTS {
-        assert_counted(&rt, before, entry, after, *most, line);
-    }
-}
-
-#[test]
-fn takes_as_many_in_each_list_of_a_federate_and_no_more(rt: HostRuntime) -> Result<(), Fail> {
-    for (list, entry, most, line) in LISTS {
-        let before = format!(in rt.alloc(); "federate = [{{ name = \"f\", {list} = [")?;
-        assert_counted(&rt, before.as_str(), entry, "] }]", *most, line);
-    }
-    Ok(())
+    assert_eq!(rt; first_wrong(&rt), None);
 }
 
 /// A federate with a physical action.
 const PHYSICAL: &str = r#"federate = [{ name = "f", physical = ["p"] }]"#;
 
-/// What is answered of this many recorded inputs.
-fn outcome_of_inputs<R: Machine + Net<Stream = TcpStream, Listener = TcpListener>>(
+// Whether this many recorded inputs are answered so.
+fn are_inputs<R: Machine + Net<Stream = TcpStream, Listener = TcpListener>>(
     rt: &R,
     count: usize,
-) -> Option<Outcome> {
+    wanted: (u8, &str, &str),
+) -> bool {
     let entry = r#"{ federate = "f", action = "p", time = "0", micro = %, value = 1 }, "#;
-    let inputs = listed(rt.alloc(), "input = [", entry, "]", count)?;
-    outcome(rt, PHYSICAL, inputs.as_str())
+    match listed(rt.alloc(), "input = [", entry, "]", count) {
+        Some(inputs) => are_answered(rt, PHYSICAL, inputs.as_str(), wanted),
+        None => false,
+    }
 }
 
 #[test]
 fn takes_65536_recorded_inputs_and_no_more(rt: HostRuntime) {
-    for (count, wanted) in [(65_536, (0, "", "")), (65_537, (1, "", OVER_FILE))] {
-        let outcome = outcome_of_inputs(&rt, count);
-        assert_eq!(rt; shown(&outcome), Some(wanted), "{count} inputs");
-    }
+    let answered = [
+        are_inputs(&rt, 65_536, TAKEN),
+        are_inputs(&rt, 65_537, (1, "", OVER_FILE)),
+    ];
+    assert_eq!(rt; answered, [true; 2]);
 }
 
 /// A federate with 32 inputs.
@@ -173,7 +200,7 @@ inputs = [
 ]
 "#;
 
-/// A federation with this many connections, each to an input of its own.
+// A federation with this many connections, each to an input of its own.
 fn connected(alloc: Global, count: usize) -> Option<String> {
     let mut file = listed(alloc, "", RECEIVER, "", 33)?;
     for number in 0..count {
@@ -187,19 +214,23 @@ fn connected(alloc: Global, count: usize) -> Option<String> {
     Some(file)
 }
 
-/// What is answered of this many connections.
-fn outcome_of_connections<R: Machine + Net<Stream = TcpStream, Listener = TcpListener>>(
+// Whether this many connections are answered so.
+fn are_connections<R: Machine + Net<Stream = TcpStream, Listener = TcpListener>>(
     rt: &R,
     count: usize,
-) -> Option<Outcome> {
-    let federation = connected(rt.alloc(), count)?;
-    outcome(rt, federation.as_str(), "")
+    wanted: (u8, &str, &str),
+) -> bool {
+    match connected(rt.alloc(), count) {
+        Some(federation) => are_answered(rt, federation.as_str(), "", wanted),
+        None => false,
+    }
 }
 
 #[test]
 fn takes_1024_connections_and_no_more(rt: HostRuntime) {
-    for (count, wanted) in [(1024, (0, "", "")), (1025, (1, "", OVER_PLAN))] {
-        let outcome = outcome_of_connections(&rt, count);
-        assert_eq!(rt; shown(&outcome), Some(wanted), "{count} connections");
-    }
+    let answered = [
+        are_connections(&rt, 1024, TAKEN),
+        are_connections(&rt, 1025, (1, "", OVER_PLAN)),
+    ];
+    assert_eq!(rt; answered, [true; 2]);
 }

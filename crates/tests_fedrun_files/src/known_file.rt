@@ -48,7 +48,7 @@ impl<'a, R: AllocGlobal> KnownFile<'a, R> {
         self.answers.as_slice()
     }
 
-    /// The bytes of a file.
+    // The bytes of a file.
     fn look_up(&self, name: &str, most: usize) -> Result<Vec<u8>, FileFault>
         ensures whole { IfOk result (λ bytes.
             AreBytesOf (contents_of self.now.name.now self.now.text.now name.now) bytes.items) }
@@ -67,7 +67,7 @@ impl<'a, R: AllocGlobal> KnownFile<'a, R> {
 }
 
 impl<R: AllocGlobal + Abort> KnownFile<'_, R> {
-    /// Notes what is answered about a file.
+    // Notes what is answered about a file.
     fn note(&mut self, name: &str, fault: Option<FileFault>)
         ensures noted { self.new.answers.items ≡ self.old.answers.items
             ++ record { name = name.now; fault = fault } ∷ [] }

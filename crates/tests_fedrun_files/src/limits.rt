@@ -1,54 +1,57 @@
 //! Files of the longest length and one byte more, and out of memory for a file.
+use crate::answers::{TAKEN, answers};
 use fedrun_files::{FileFault, Files};
 use std::net::{Net, TcpListener, TcpStream};
-use tests_outcomes::{Outcome, outcome_of_parts, outcome_over, shown};
+use tests_outcomes::{outcome_over, shown};
 use tests_samples::{COUNTER, Machine};
 
 /// No row is asked for.
 const WORDS: &[&str] = &["whole", "fed.toml", "in.toml", "0"];
 
-const TAKEN: (u8, &str, &str) = (0, "", "");
-
 const OVER_LIMIT: (u8, &str, &str) = (1, "", "fedrun: 36 OverLimit\n");
 
-/// How a federation file with this many bytes is answered.
-fn federation_of<R: Machine + Net<Stream = TcpStream, Listener = TcpListener>>(
+// Whether a federation file with this many bytes is answered so.
+fn is_federation<R: Machine + Net<Stream = TcpStream, Listener = TcpListener>>(
     rt: &R,
     length: usize,
-) -> Option<Outcome> {
-    let lines = "\n"
-        .repeat(rt.alloc(), length.checked_sub(COUNTER.len())?)
-        .ok()?;
-    outcome_of_parts(rt, WORDS, &[COUNTER, lines.as_str()], &[])
+    wanted: (u8, &str, &str),
+) -> bool {
+    let lines = "\n".repeat(rt.alloc(), length.saturating_sub(COUNTER.len()));
+    match lines {
+        Ok(lines) => answers(rt, WORDS, &[COUNTER, lines.as_str()], &[], wanted),
+        Err(_) => false,
+    }
 }
 
 #[test]
 fn takes_a_federation_of_a_mebibyte_and_no_more(rt: HostRuntime) {
-    for (length, wanted) in [(1_048_576, TAKEN), (1_048_577, OVER_LIMIT)] {
-        let outcome = federation_of(&rt, length);
-        assert_eq!(rt; shown(&outcome), Some(wanted), "{length} bytes");
-    }
+    let answered = [
+        is_federation(&rt, 1_048_576, TAKEN),
+        is_federation(&rt, 1_048_577, OVER_LIMIT),
+    ];
+    assert_eq!(rt; answered, [true; 2]);
 }
 
-/// How an input file of this many bytes is answered.
-fn inputs_of<R: Machine + Net<Stream = TcpStream, Listener = TcpListener>>(
+// Whether an input file of this many bytes is answered so.
+fn are_inputs<R: Machine + Net<Stream = TcpStream, Listener = TcpListener>>(
     rt: &R,
     length: usize,
-) -> Option<Outcome> {
-    let lines = "\n".repeat(rt.alloc(), length).ok()?;
-    outcome_of_parts(rt, WORDS, &[COUNTER], &[lines.as_str()])
+    wanted: (u8, &str, &str),
+) -> bool {
+    match "\n".repeat(rt.alloc(), length) {
+        Ok(lines) => answers(rt, WORDS, &[COUNTER], &[lines.as_str()], wanted),
+        Err(_) => false,
+    }
 }
 
 #[test]
 fn takes_inputs_of_eight_mebibytes_and_no_more(rt: HostRuntime) {
-    for (length, wanted) in [
-        (1_048_577, TAKEN),
-        (8_388_608, TAKEN),
-        (8_388_609, OVER_LIMIT),
-    ] {
-        let outcome = inputs_of(&rt, length);
-        assert_eq!(rt; shown(&outcome), Some(wanted), "{length} bytes");
-    }
+    let answered = [
+        are_inputs(&rt, 1_048_577, TAKEN),
+        are_inputs(&rt, 8_388_608, TAKEN),
+        are_inputs(&rt, 8_388_609, OVER_LIMIT),
+    ];
+    assert_eq!(rt; answered, [true; 3]);
 }
 
 /// Files for which there is no memory.

@@ -42,7 +42,7 @@ impl Read for Pieces {
     }
 }
 
-/// How many bytes are read of a reader that has this many, at most this many, before this failure.
+// How many bytes are read of a reader that has this many, at most this many, before this failure.
 fn read(
     alloc: Global,
     bytes: usize,
@@ -70,31 +70,22 @@ const READ: &[(usize, usize, Option<ErrorKind>, Result<usize, FileFault>)] = &[
     (5_000, 10_000, NO_MEMORY, Err(FileFault::Memory)),
 ];
 
-/// Whether that is read, the next time if memory was refused.
-fn is_read(
-    alloc: Global,
-    bytes: usize,
-    most: usize,
-    failure: Option<ErrorKind>,
-    wanted: Result<usize, FileFault>,
-) -> bool {
-    let first = read(alloc, bytes, most, failure);
-    first == wanted
-        || first == Err(FileFault::Memory) && read(alloc, bytes, most, failure) == wanted
+// The place of the first of these of which something else is read.
+fn first_wrong(alloc: Global) -> Option<usize> {
+    for (place, (bytes, most, failure, wanted)) in READ.iter().enumerate() {
+        if read(alloc, *bytes, *most, *failure) != *wanted {
+            return Some(place);
+        }
+    }
+    None
 }
 
-/// Whichever allocation is refused, that is what is printed: `rt try --test --fail-alloc N`.
 #[test]
 fn reads_to_the_end(rt: HostRuntime) {
-    for (bytes, most, failure, wanted) in READ {
-        assert!(rt;
-            is_read(rt.alloc(), *bytes, *most, *failure, *wanted),
-            "{bytes} of {most}"
-        );
-    }
+    assert_eq!(rt; first_wrong(rt.alloc()), None);
 }
 
-/// How many bytes of a file of the machine's are read, at most this many.
+// How many bytes of a file of the machine's are read, at most this many.
 fn read_file<R: rt::Files + AllocGlobal>(
     rt: &R,
     name: &str,
@@ -105,7 +96,7 @@ fn read_file<R: rt::Files + AllocGlobal>(
     Ok(bytes.len())
 }
 
-/// Whether a file of five bytes is read, at most this many or one less, and one that isn't there is not.
+// Whether a file of five bytes is read, at most this many or one less, and one that isn't there is not.
 fn are_files_read<R: rt::Files + AllocGlobal>(rt: &R) -> bool {
     let name = "five_bytes";
     let is_written = fs::write(rt, name, "bytes").is_ok();

@@ -27,13 +27,13 @@ impl Write for Narrow {
     }
 }
 
-/// How it ends where a writer has room for this many bytes.
+// How it ends where a writer has room for this many bytes.
 fn ended_in(alloc: Global, schedule: &str, room: usize) -> Option<Result<(), ReplayFault>> {
     let federation = loaded(alloc, COUNTER, "")?;
     ended(alloc, &federation, schedule, None, &mut Narrow { room })
 }
 
-/// `1 deliver up src 9` and `  no such frame`, each with the end of its line, are 35 bytes.
+// `1 deliver up src 9` and `  no such frame`, each with the end of its line, are 35 bytes.
 #[test]
 fn answers_that_it_cannot_write(rt: HostRuntime) {
     for (room, wanted) in [

@@ -3,7 +3,7 @@ use files_saving::{Disk, SaveFault};
 use std::alloc::Global;
 
 /// What a disk does.
-#[derive(Clone, Copy, Debug, PartialEq, Eq)]
+#[derive(Clone, Copy, PartialEq, Eq)]
 pub enum Operation {
     Look,
     Create,

@@ -1,4 +1,4 @@
-//! A machine's files that a node or an audit reads, in memory.
+//! What a node or an audit is given: words, and a machine's files in memory.
 use fedrun_files::{FileFault, Files};
 use std::alloc::Global;
 use tests_samples::COUNTER;
@@ -17,6 +17,21 @@ pub const FILES: &[(&str, &str)] = &[
     ("line", "0123456789abcdef0123456789abcdef\n"),
 ];
 
+/// Words and more of them, as the program gets them; None where there is no memory.
+pub fn given(alloc: Global, words: &[&str], more: &[&str]) -> Option<Vec<String>> {
+    let mut given = Vec::new(alloc);
+    add_words(alloc, &mut given, words)?;
+    add_words(alloc, &mut given, more)?;
+    Some(given)
+}
+
+fn add_words(alloc: Global, given: &mut Vec<String>, words: &[&str]) -> Option<()> {
+    for word in words {
+        given.push(String::from_str(alloc, word).ok()?).ok()?;
+    }
+    Some(())
+}
+
 /// Files in memory, by name: texts, and reports.
 #[derive(Drop)]
 pub struct NamedFiles<'a> {
@@ -26,7 +41,7 @@ pub struct NamedFiles<'a> {
 }
 
 impl<'a> NamedFiles<'a> {
-    /// What the file of this name holds, if there is one.
+    // What the file of this name holds, if there is one.
     fn named(&self, name: &str) -> Option<&'a [u8]> {
         for (known, text) in self.texts {
             if *known == name {

@@ -1,10 +1,9 @@
 //! All nodes of a run, each as a process of its own would run it, in threads of this one.
 use crate::disk::{MemoryDisk, Operation};
-use crate::files::NamedFiles;
+use crate::files::{NamedFiles, given};
 use crate::spoken::{Spoken, next_line, rest};
 use crossbeam_channel::unbounded;
 use fedrun_hosts::node_command;
-use std::alloc::Global;
 use std::io::Write;
 use std::net::{Net, TcpListener, TcpStream};
 use std::random::RandomSource;
@@ -42,7 +41,7 @@ pub struct Given<'a> {
 }
 
 /// What a node left on its disk.
-#[derive(Clone, Copy, Debug, PartialEq, Eq)]
+#[derive(Clone, Copy, PartialEq, Eq)]
 pub enum Left {
     /// No file.
     Nothing,
@@ -75,9 +74,9 @@ impl Ended {
         self.disk.file(REPORT)
     }
 
-    /// Its texts, and what it left on its disk.
-    pub fn shown(&self) -> ((u8, &str, &str), Left) {
-        (self.texts(), self.left())
+    /// Whether these are its texts, and this is what it left on its disk.
+    pub fn is(&self, texts: (u8, &str, &str), left: Left) -> bool {
+        self.texts() == texts && self.left() == left
     }
 
     // What it left on its disk.
@@ -91,35 +90,28 @@ impl Ended {
     }
 }
 
-/// These words, and more of them, as the program gets them.
-fn words(alloc: Global, first: &[&str], more: &[&str]) -> Option<Vec<String>> {
-    let mut words = Vec::new(alloc);
-    for word in first {
-        words.push(String::from_str(alloc, word).ok()?).ok()?;
-    }
-    for word in more {
-        words.push(String::from_str(alloc, word).ok()?).ok()?;
-    }
-    Some(words)
-}
-
-/// How a node ends; its status and its disk, and what it said on standard error.
-fn run_node<R: Machine + Net<Stream = TcpStream, Listener = TcpListener> + RandomSource, O: Write>(
+/// How words of a node's command end, over these files and on this disk: the status, and what is on standard error.
+pub fn commanded<
+    R: Machine + Net<Stream = TcpStream, Listener = TcpListener> + RandomSource,
+    O: Write,
+>(
     rt: &R,
-    given: &Given<'_>,
-    words: &[String],
+    words: &[&str],
+    more: &[&str],
+    texts: &[(&str, &str)],
+    disk: &mut MemoryDisk,
     out: &mut O,
-) -> Option<(u8, MemoryDisk, String)> {
+) -> Option<(u8, String)> {
     let alloc = rt.alloc();
+    let words = given(alloc, words, more)?;
     let mut files = NamedFiles {
         alloc,
-        texts: given.files,
+        texts,
         reports: &[],
     };
-    let mut disk = MemoryDisk::new(alloc, given.failing);
     let mut err = Vec::new(alloc);
-    let status = node_command(rt, words, &mut files, &mut disk, out, &mut err);
-    Some((status, disk, String::from_utf8(err).ok()?))
+    let status = node_command(rt, &words, &mut files, disk, out, &mut err);
+    Some((status, String::from_utf8(err).ok()?))
 }
 
 /// How `join` ends.
@@ -139,9 +131,9 @@ pub fn joined<R: Machine + Net<Stream = TcpStream, Listener = TcpListener> + Ran
         "--report",
         REPORT,
     ];
-    let words = words(alloc, &first, given.more)?;
+    let mut disk = MemoryDisk::new(alloc, given.failing);
     let mut out = Vec::new(alloc);
-    let (status, disk, err) = run_node(rt, given, &words, &mut out)?;
+    let (status, err) = commanded(rt, &first, given.more, given.files, &mut disk, &mut out)?;
     Some(Ended {
         status,
         out: String::from_utf8(out).ok()?,
@@ -159,13 +151,21 @@ pub fn coordinated<R: Machine + Net<Stream = TcpStream, Listener = TcpListener> 
     second: Option<&Given<'_>>,
 ) -> Option<(Ended, Ended, Option<Ended>)> {
     let alloc = rt.alloc();
-    let words = words(alloc, COORDINATE, given.more)?;
     let (to, from) = unbounded(alloc).ok()?;
     let (coordinator, federates) = thread::join(
         rt,
         || {
             let mut out = Spoken::new(rt, alloc, to);
-            run_node(rt, given, &words, &mut out)
+            let mut disk = MemoryDisk::new(alloc, given.failing);
+            let (status, err) = commanded(
+                rt,
+                COORDINATE,
+                given.more,
+                given.files,
+                &mut disk,
+                &mut out,
+            )?;
+            Some((status, disk, err))
         },
         || {
             let line = next_line(rt, alloc, &from)?;
@@ -185,7 +185,7 @@ pub fn coordinated<R: Machine + Net<Stream = TcpStream, Listener = TcpListener> 
     Some((coordinator, first, second))
 }
 
-/// How one federate's node ends, or how two do that run side by side.
+// How one federate's node ends, or how two do that run side by side.
 fn all_joined<R: Machine + Net<Stream = TcpStream, Listener = TcpListener> + RandomSource>(
     rt: &R,
     first: &Given<'_>,

@@ -1,51 +1,32 @@
 //! Nodes that don't begin: what each says, while all files stay as they are.
 use crate::disk::MemoryDisk;
-use crate::files::{FILES, NamedFiles};
-use crate::nodes::REPORT;
-use fedrun_hosts::node_command;
-use std::fmt::Write;
+use crate::files::FILES;
+use crate::nodes::{REPORT, commanded};
 use std::net::{Net, TcpListener, TcpStream};
 use std::random::RandomSource;
-use std::test::Fail;
 use tests_samples::Machine;
 use wires_transports::listen;
 
 /// The temporary file that a node left that was ended in the midst.
 const LEFT: &str = "left.part";
 
-/// What words of a node that doesn't begin give, over these files and a disk with a report and that temporary file,
-/// which holds just these two then.
-fn not_begun<R: Machine + Net<Stream = TcpStream, Listener = TcpListener> + RandomSource>(
+// Whether words of a node's command answer this status, say nothing and print this on standard error, over a disk with a
+// report and that temporary file, which holds just these two then.
+fn is_not_begun<R: Machine + Net<Stream = TcpStream, Listener = TcpListener> + RandomSource>(
     rt: &R,
     words: &[&str],
-) -> Option<(u8, String, String)> {
-    let alloc = rt.alloc();
-    let mut given = Vec::new(alloc);
-    for word in words {
-        given.push(String::from_str(alloc, word).ok()?).ok()?;
-    }
-    let mut files = NamedFiles {
-        alloc,
-        texts: FILES,
-        reports: &[],
-    };
-    let mut disk = MemoryDisk::new(alloc, None);
+    status: u8,
+    err: &str,
+) -> Option<bool> {
+    let mut disk = MemoryDisk::new(rt.alloc(), None);
     disk.put(REPORT, b"a report")?;
     disk.put(LEFT, b"a part")?;
-    let mut out = Vec::new(alloc);
-    let mut err = Vec::new(alloc);
-    let status = node_command(rt, &given, &mut files, &mut disk, &mut out, &mut err);
+    let mut out = Vec::new(rt.alloc());
+    let (answered, printed) = commanded(rt, words, &[], FILES, &mut disk, &mut out)?;
     let are_kept = disk.file(REPORT) == Some(b"a report".as_slice())
         && disk.file(LEFT) == Some(b"a part".as_slice())
         && disk.len() == 2;
-    if !are_kept {
-        return None;
-    }
-    Some((
-        status,
-        String::from_utf8(out).ok()?,
-        String::from_utf8(err).ok()?,
-    ))
+    Some(are_kept && answered == status && out.is_empty() && printed.as_str() == err)
 }
 
 /// Words, the status, and what is on standard error. A report stands in `r` already, and a part of another in
@@ -223,22 +204,30 @@ const NOT_BEGUN: &[(&[&str], u8, &str)] = &[
     ),
 ];
 
-#[test]
-fn begins_nothing_where_it_is_given_something_wrong(rt: HostRuntime) {
-    for (words, status, err) in NOT_BEGUN {
-        let told = not_begun(&rt, words);
-        let told = told
-            .as_ref()
-            .map(|(status, out, err)| (*status, out.as_str(), err.as_str()));
-        assert_eq!(rt; told, Some((*status, "", *err)), "{words:?}");
+// The place of the first words with which a node begins, or that are answered otherwise.
+fn first_wrong<R: Machine + Net<Stream = TcpStream, Listener = TcpListener> + RandomSource>(
+    rt: &R,
+) -> Option<usize> {
+    for (place, (words, status, err)) in NOT_BEGUN.iter().enumerate() {
+        if is_not_begun(rt, words, *status, err) != Some(true) {
+            return Some(place);
+        }
     }
+    None
 }
 
 #[test]
-fn cannot_listen_where_another_does(rt: HostRuntime) -> Result<(), Fail> {
-    let listener = listen(&rt)?;
-    let mut address = String::new(rt.alloc());
-    write!(address, "{}", listener.local_addr()?)?;
+fn begins_nothing_where_it_is_given_something_wrong(rt: HostRuntime) {
+    assert_eq!(rt; first_wrong(&rt), None);
+}
+
+// Whether a coordinator doesn't begin at an address at which another listens.
+fn is_not_begun_there<R: Machine + Net<Stream = TcpStream, Listener = TcpListener> + RandomSource>(
+    rt: &R,
+) -> Option<bool> {
+    let listener = listen(rt).ok()?;
+    let address = listener.local_addr().ok()?;
+    let address = format!(in rt.alloc(); "{address}").ok()?;
     let words = [
         "coordinate",
         "f",
@@ -248,10 +237,10 @@ fn cannot_listen_where_another_does(rt: HostRuntime) -> Result<(), Fail> {
         "--report",
         "new",
     ];
-    let told = not_begun(&rt, &words);
-    let told = told
-        .as_ref()
-        .map(|(status, out, err)| (*status, out.as_str(), err.as_str()));
-    assert_eq!(rt; told, Some((3, "", "fedrun: 117 CannotListen\n")));
-    Ok(())
+    is_not_begun(rt, &words, 3, "fedrun: 117 CannotListen\n")
+}
+
+#[test]
+fn cannot_listen_where_another_does(rt: HostRuntime) {
+    assert_eq!(rt; is_not_begun_there(&rt), Some(true));
 }

@@ -1,12 +1,10 @@
 //! Nodes that don't end well: what each says, and what is left of it.
 use crate::disk::{MemoryDisk, Operation};
-use crate::files::{FILES, NamedFiles, SECRET};
-use crate::nodes::{Ended, Given, Left, REPORT, coordinated};
-use fedrun_hosts::node_command;
+use crate::files::{FILES, SECRET};
+use crate::nodes::{Given, Left, REPORT, commanded, coordinated};
 use std::io;
 use std::net::{Net, TcpListener, TcpStream};
 use std::random::RandomSource;
-use std::test::Fail;
 use tests_samples::{COUNTER, Machine, REPLACED};
 
 /// The same with another input file.
@@ -169,23 +167,39 @@ const REFUSED: &[(Given<'static>, u8, &str, Left)] = &[
     ),
 ];
 
+/// How a node ends whose run isn't finished.
+const NOT_FINISHED: (u8, &str, &str) = (3, "", "fedrun: not finished\n");
+
+// Whether a federate's node that is given this ends so, and the coordinator's isn't finished by it.
+fn ends_so<R: Machine + Net<Stream = TcpStream, Listener = TcpListener> + RandomSource>(
+    rt: &R,
+    given: &Given<'_>,
+    texts: (u8, &str, &str),
+    left: Left,
+) -> bool {
+    match coordinated(rt, &COORDINATOR, given, None) {
+        Some((coordinator, federate, _)) => {
+            coordinator.is(NOT_FINISHED, Left::Report) && federate.is(texts, left)
+        }
+        None => false,
+    }
+}
+
+// The place of the first that ends otherwise.
+fn first_wrong<R: Machine + Net<Stream = TcpStream, Listener = TcpListener> + RandomSource>(
+    rt: &R,
+) -> Option<usize> {
+    for (place, (given, status, err, left)) in REFUSED.iter().enumerate() {
+        if !ends_so(rt, given, (*status, "", err), *left) {
+            return Some(place);
+        }
+    }
+    None
+}
+
 #[test]
 fn says_why_it_does_not_end_well(rt: HostRuntime) {
-    for (given, status, err, left) in REFUSED {
-        let ended = coordinated(&rt, &COORDINATOR, given, None);
-        let told = ended.as_ref().map(|(coordinator, federate, _)| (
-            coordinator.shown(),
-            federate.shown(),
-        ));
-        assert_eq!(rt;
-            told,
-            Some((
-                ((3, "", "fedrun: not finished\n"), Left::Report),
-                ((*status, "", *err), *left)
-            )),
-            "{err}"
-        );
-    }
+    assert_eq!(rt; first_wrong(&rt), None);
 }
 
 /// What the coordinator's disk can't do at the end of a run that is finished, and what it says.
@@ -195,31 +209,47 @@ const UNSAVED: &[(Operation, &str)] = &[
     (Operation::Rename, "fedrun: 120 Unsaved r: cannot rename\n"),
 ];
 
-/// Neither does it say so itself, nor does it tell federates, who would end with status 0 then.
+// Whether a coordinator says just that whose disk can't do this, and no federate hears that the run is finished.
+fn says_so_alone<R: Machine + Net<Stream = TcpStream, Listener = TcpListener> + RandomSource>(
+    rt: &R,
+    failing: Operation,
+    err: &str,
+) -> bool {
+    let coordinator = Given {
+        failing: Some(failing),
+        ..COORDINATOR
+    };
+    let snk = Given {
+        name: "snk",
+        ..COORDINATOR
+    };
+    let Some((coordinator, first, second)) = coordinated(rt, &coordinator, &SRC, Some(&snk)) else {
+        return false;
+    };
+    let Some(second) = second else {
+        return false;
+    };
+    coordinator.is((3, "", err), Left::Part)
+        && first.is(NOT_FINISHED, Left::Report)
+        && second.is(NOT_FINISHED, Left::Report)
+}
+
+// What is said of the first where it is otherwise.
+fn first_told<R: Machine + Net<Stream = TcpStream, Listener = TcpListener> + RandomSource>(
+    rt: &R,
+) -> Option<&'static str> {
+    for (failing, err) in UNSAVED {
+        if !says_so_alone(rt, *failing, err) {
+            return Some(*err);
+        }
+    }
+    None
+}
+
+// Neither does it say so itself, nor does it tell federates, who would end with status 0 then.
 #[test]
 fn does_not_say_finished_where_its_report_is_not_saved(rt: HostRuntime) {
-    for (failing, err) in UNSAVED {
-        let coordinator = Given {
-            failing: Some(*failing),
-            ..COORDINATOR
-        };
-        let snk = Given {
-            name: "snk",
-            ..COORDINATOR
-        };
-        let ended = coordinated(&rt, &coordinator, &SRC, Some(&snk));
-        let told = ended.as_ref().map(|(coordinator, first, second)| (
-            coordinator.shown(),
-            first.shown(),
-            second.as_ref().map(Ended::shown),
-        ));
-        let untold = ((3, "", "fedrun: not finished\n"), Left::Report);
-        assert_eq!(rt;
-            told,
-            Some((((3, "", *err), Left::Part), untold, Some(untold))),
-            "{err}"
-        );
-    }
+    assert_eq!(rt; first_told(&rt), None);
 }
 
 /// A writer that refuses.
@@ -236,59 +266,49 @@ impl io::Write for Refusing {
     }
 }
 
-/// How a coordinator ends that has this secret, whose standard output refuses: the status, and what is on standard
-/// error. None where a file is left.
-fn unheard<R: Machine + Net<Stream = TcpStream, Listener = TcpListener> + RandomSource>(
+/// The words of a coordinator that gives up after a second.
+const COORDINATE: &[&str] = &[
+    "coordinate",
+    "f",
+    "i",
+    "--listen",
+    "127.0.0.1:0",
+    "--report",
+    REPORT,
+    "--patience",
+    "1",
+    "--secret",
+    "secret",
+];
+
+// Whether a coordinator that has this secret, and whose standard output refuses, ends so and leaves no file.
+fn is_unheard<R: Machine + Net<Stream = TcpStream, Listener = TcpListener> + RandomSource>(
     rt: &R,
     secret: &str,
-) -> Option<(u8, String)> {
-    let alloc = rt.alloc();
-    let mut words = Vec::new(alloc);
-    for word in [
-        "coordinate",
-        "f",
-        "i",
-        "--listen",
-        "127.0.0.1:0",
-        "--report",
-        REPORT,
-        "--patience",
-        "1",
-        "--secret",
-        "secret",
-    ] {
-        words.push(String::from_str(alloc, word).ok()?).ok()?;
-    }
+    status: u8,
+    err: &str,
+) -> Option<bool> {
     let texts = [("f", COUNTER), ("i", ""), ("secret", secret)];
-    let mut files = NamedFiles {
-        alloc,
-        texts: &texts,
-        reports: &[],
-    };
-    let mut disk = MemoryDisk::new(alloc, None);
-    let mut err = Vec::new(alloc);
-    let status = node_command(rt, &words, &mut files, &mut disk, &mut Refusing, &mut err);
-    if disk.len() > 0 {
-        return None;
-    }
-    Some((status, String::from_utf8(err).ok()?))
+    let mut disk = MemoryDisk::new(rt.alloc(), None);
+    let (answered, printed) = commanded(rt, COORDINATE, &[], &texts, &mut disk, &mut Refusing)?;
+    Some(disk.len() == 0 && answered == status && printed.as_str() == err)
 }
 
 #[test]
 fn begins_nothing_where_nobody_hears_where_it_listens(rt: HostRuntime) {
-    let told = unheard(&rt, "0123456789abcdef");
-    let told = told.as_ref().map(|(status, err)| (*status, err.as_str()));
-    assert_eq!(rt; told, Some((3, "fedrun: cannot write\n")));
+    let told = is_unheard(&rt, "0123456789abcdef", 3, "fedrun: cannot write\n");
+    assert_eq!(rt; told, Some(true));
+}
+
+// Whether a secret of 4,097 bytes is refused.
+fn is_long_secret_refused<
+    R: Machine + Net<Stream = TcpStream, Listener = TcpListener> + RandomSource,
+>(rt: &R) -> Option<bool> {
+    let secret = "s".repeat(rt.alloc(), 4097).ok()?;
+    is_unheard(rt, secret.as_str(), 1, "fedrun: 113 SecretTooLong\n")
 }
 
 #[test]
-fn refuses_a_secret_of_more_than_4096_bytes(rt: HostRuntime) -> Result<(), Fail> {
-    let mut secret = String::new(rt.alloc());
-    for _ in 0..4097 {
-        secret.push('s')?;
-    }
-    let told = unheard(&rt, secret.as_str());
-    let told = told.as_ref().map(|(status, err)| (*status, err.as_str()));
-    assert_eq!(rt; told, Some((1, "fedrun: 113 SecretTooLong\n")));
-    Ok(())
+fn refuses_a_secret_of_more_than_4096_bytes(rt: HostRuntime) {
+    assert_eq!(rt; is_long_secret_refused(&rt), Some(true));
 }

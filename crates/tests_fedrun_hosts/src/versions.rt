@@ -9,8 +9,8 @@ use std::thread;
 use tests_samples::Machine;
 use wires_greeting::{CoordinatorSide, Key};
 
-/// The version in the Hello of the process that connects next, which is let in by hand. Its connection is ended then,
-/// and nobody listens any more.
+// The version in the Hello of the process that connects next, which is let in by hand. Its connection is ended then,
+// and nobody listens any more.
 fn version_said(listener: TcpListener) -> Option<u8> {
     let (mut stream, _) = listener.accept().ok()?;
     let mut greeting = [0; 74];
@@ -30,7 +30,7 @@ fn version_said(listener: TcpListener) -> Option<u8> {
     }
 }
 
-/// The version of frames that a federate's node says which is given this.
+// The version of frames that a federate's node says which is given this.
 fn version_of<R: Machine + Net<Stream = TcpStream, Listener = TcpListener> + RandomSource>(
     rt: &R,
     given: &Given<'_>,
@@ -73,9 +73,19 @@ const VERSIONS: &[(Given<'static>, u8)] = &[
     ),
 ];
 
+// What more the first is given that says another version.
+fn first_wrong<R: Machine + Net<Stream = TcpStream, Listener = TcpListener> + RandomSource>(
+    rt: &R,
+) -> Option<&'static [&'static str]> {
+    for (given, version) in VERSIONS {
+        if version_of(rt, given) != Some(*version) {
+            return Some(given.more);
+        }
+    }
+    None
+}
+
 #[test]
 fn join_writes_the_version_of_frames_that_it_is_given(rt: HostRuntime) {
-    for (given, version) in VERSIONS {
-        assert_eq!(rt; version_of(&rt, given), Some(*version), "{:?}", given.more);
-    }
+    assert_eq!(rt; first_wrong(&rt), None);
 }

@@ -1,5 +1,5 @@
 //! Nodes that are run each by itself, and the rows that an audit proves of their reports.
-use crate::files::NamedFiles;
+use crate::files::{NamedFiles, given};
 use crate::nodes::{Ended, Given, Left, coordinated};
 use fedrun_commands::command;
 use fedrun_progress::NoProgress;
@@ -8,46 +8,19 @@ use std::random::RandomSource;
 use tests_samples::worked_rows::{COUNTER_ROWS, REPLACED_ROWS};
 use tests_samples::{COUNTER, Machine, REPLACED};
 
-/// What the three nodes of a federation say, where all have these files, and what an audit says of their reports.
-fn audited<R: Machine + Net<Stream = TcpStream, Listener = TcpListener> + RandomSource>(
-    rt: &R,
-    files: &[(&str, &str)],
-    names: [&str; 2],
-    more: &[&str],
-) -> Option<([Ended; 3], (u8, String, String))> {
-    let node = Given {
-        name: "",
-        files,
-        more,
-        failing: None,
-    };
-    let first = Given {
-        name: names[0],
-        ..node
-    };
-    let second = Given {
-        name: names[1],
-        ..node
-    };
-    let (coordinator, first, second) = coordinated(rt, &node, &first, Some(&second))?;
-    let second = second?;
-    let said = said_of(rt, files, &coordinator, &first, &second)?;
-    Some(([coordinator, first, second], said))
-}
+const AUDIT: &[&str] = &["audit", "f", "i", "c", "second", "first"];
 
-/// What an audit says of three nodes' reports.
-fn said_of<R: Machine + Net<Stream = TcpStream, Listener = TcpListener> + RandomSource>(
+// Whether an audit of three nodes' reports prints these rows and nothing else.
+fn are_proved<R: Machine + Net<Stream = TcpStream, Listener = TcpListener> + RandomSource>(
     rt: &R,
-    files: &[(&str, &str)],
+    texts: &[(&str, &str)],
     coordinator: &Ended,
     first: &Ended,
     second: &Ended,
-) -> Option<(u8, String, String)> {
+    rows: &str,
+) -> Option<bool> {
     let alloc = rt.alloc();
-    let mut given = Vec::new(alloc);
-    for word in ["audit", "f", "i", "c", "second", "first"] {
-        given.push(String::from_str(alloc, word).ok()?).ok()?;
-    }
+    let words = given(alloc, AUDIT, &[])?;
     let reports = [
         ("c", coordinator.report()?),
         ("first", first.report()?),
@@ -55,17 +28,39 @@ fn said_of<R: Machine + Net<Stream = TcpStream, Listener = TcpListener> + Random
     ];
     let mut files = NamedFiles {
         alloc,
-        texts: files,
+        texts,
         reports: &reports,
     };
     let mut out = Vec::new(alloc);
     let mut err = Vec::new(alloc);
-    let status = command(rt, &given, &mut files, &mut out, &mut err, &NoProgress);
-    Some((
-        status,
-        String::from_utf8(out).ok()?,
-        String::from_utf8(err).ok()?,
-    ))
+    let status = command(rt, &words, &mut files, &mut out, &mut err, &NoProgress);
+    Some(status == 0 && out.as_slice() == rows.as_bytes() && err.is_empty())
+}
+
+/// How a node ends whose run is finished.
+const FINISHED: (u8, &str, &str) = (0, "finished\n", "");
+
+// Whether all three nodes of a federation of `src` and `snk` say that the run is finished, where all have these files,
+// and an audit proves these rows.
+fn give<'x, R: Machine + Net<Stream = TcpStream, Listener = TcpListener> + RandomSource>(
+    rt: &R,
+    files: &'x [(&'x str, &'x str)],
+    more: &'x [&'x str],
+    rows: &str,
+) -> Option<bool> {
+    let src = Given {
+        name: "src",
+        files,
+        more,
+        failing: None,
+    };
+    let snk = Given { name: "snk", ..src };
+    let (coordinator, first, second) = coordinated(rt, &src, &src, Some(&snk))?;
+    let second = second?;
+    let are_finished = coordinator.is(FINISHED, Left::Report)
+        && first.is(FINISHED, Left::Report)
+        && second.is(FINISHED, Left::Report);
+    Some(are_finished && are_proved(rt, files, &coordinator, &first, &second, rows)?)
 }
 
 /// Federations with two federates, further words of all nodes, and the rows.
@@ -75,20 +70,24 @@ const WORKED: &[(&str, &[&str], &str)] = &[
     (REPLACED, &["--secret", "secret"], REPLACED_ROWS),
 ];
 
-#[test]
-fn nodes_by_themselves_give_the_rows(rt: HostRuntime) {
-    for (federation, more, rows) in WORKED {
+// The place of the first that doesn't give its rows.
+fn first_wrong<R: Machine + Net<Stream = TcpStream, Listener = TcpListener> + RandomSource>(
+    rt: &R,
+) -> Option<usize> {
+    for (place, (federation, more, rows)) in WORKED.iter().enumerate() {
         let files = [
             ("f", *federation),
             ("i", ""),
             ("secret", "0123456789abcdef"),
         ];
-        let audited = audited(&rt, &files, ["src", "snk"], more);
-        let told = audited.as_ref().map(|(nodes, (status, out, err))| {
-            let nodes = [nodes[0].shown(), nodes[1].shown(), nodes[2].shown()];
-            (nodes, (*status, out.as_str(), err.as_str()))
-        });
-        let finished = ((0, "finished\n", ""), Left::Report);
-        assert_eq!(rt; told, Some(([finished; 3], (0, *rows, ""))));
+        if give(rt, &files, more, rows) != Some(true) {
+            return Some(place);
+        }
     }
+    None
+}
+
+#[test]
+fn nodes_by_themselves_give_the_rows(rt: HostRuntime) {
+    assert_eq!(rt; first_wrong(&rt), None);
 }

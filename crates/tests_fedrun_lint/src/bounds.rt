@@ -1,9 +1,9 @@
 //! Files with more mistakes than are told.
 use crate::mistakes::joined;
-use fedrun_lint::{Refusal, lint};
+use crate::printed::{line_count, printed};
 use std::alloc::{AllocError, Global};
 
-/// A federate with a reaction of this many lines, each of a wrong form.
+// A federate with a reaction of this many lines, each of a wrong form.
 fn file_of(alloc: Global, count: usize) -> Result<String, AllocError> {
     let mut text = joined(
         alloc,
@@ -17,20 +17,19 @@ fn file_of(alloc: Global, count: usize) -> Result<String, AllocError> {
     Ok(text)
 }
 
-/// How many faults are told of it, and whether there may be more.
+// How many lines are printed of it, and whether one says that there may be more.
 fn told(alloc: Global, count: usize) -> Option<(usize, bool)> {
     let text = file_of(alloc, count).ok()?;
-    let report = lint(alloc, text.as_bytes(), b"").ok()?;
-    let Refusal {
-        first: _,
-        more,
-        is_cut,
-    } = report.federation?;
-    Some((more.len() + 1, is_cut))
+    let told = printed(alloc, Some(text.as_str()), Some(""))?;
+    let told = told.as_str();
+    Some((
+        line_count(told),
+        told.contains("fed.toml:1: wrong: there may be more: "),
+    ))
 }
 
 #[test]
 fn tells_a_hundred_faults_of_a_file(rt: HostRuntime) {
-    assert_eq!(rt; told(rt.alloc(), 99), Some((99, false)));
-    assert_eq!(rt; told(rt.alloc(), 101), Some((100, true)));
+    let told = [told(rt.alloc(), 99), told(rt.alloc(), 101)];
+    assert_eq!(rt; told, [Some((99, false)), Some((101, true))]);
 }

@@ -1,9 +1,10 @@
 //! Mistakes in a federation file: each at its line, with the fault that `check` has.
-use fedrun_lint::{Finding, Refusal, lint};
+use crate::printed::are_first;
 use std::alloc::{AllocError, Global};
 
-/// Text behind a front; the line at which its mistake stands; and the fault.
-type Mistake<'a> = (&'a str, usize, &'a str);
+/// Text behind a front, and how the first line begins that is printed of both: the line at which the mistake stands, and
+/// the fault.
+type Mistake = (&'static str, &'static str);
 
 pub(crate) fn joined(alloc: Global, front: &str, back: &str) -> Result<String, AllocError> {
     let mut text = String::from_str(alloc, front)?;
@@ -11,96 +12,71 @@ pub(crate) fn joined(alloc: Global, front: &str, back: &str) -> Result<String, A
     Ok(text)
 }
 
-/// Whether a fault stands at this line, is spelled so, and comes with something to do.
-fn is_at(alloc: Global, finding: &Finding, line: usize, fault: &str) -> bool {
-    let told = &finding.fault;
-    match format!(in alloc; "{told}") {
-        Ok(text) => { text.as_str() == fault && finding.line == line && !finding.advice.is_empty() }
+// Whether what is printed of a file of two parts begins so.
+fn is_told(alloc: Global, front: &str, back: &str, line: &str) -> bool {
+    match joined(alloc, front, back) {
+        Ok(text) => are_first(alloc, text.as_str(), "", Some(line), None),
         Err(_) => false,
     }
 }
 
-/// Whether the first fault is this one.
-pub(crate) fn begins_so(
-    alloc: Global,
-    refusal: &Option<Refusal>,
-    line: usize,
-    fault: &str,
-) -> bool {
-    match refusal {
-        Some(refusal) => is_at(alloc, &refusal.first, line, fault),
-        None => false,
-    }
-}
-
-/// Whether a file of two parts is refused so.
-fn is_refused_so(alloc: Global, front: &str, mistake: &Mistake<'_>) -> bool {
-    let (back, line, fault) = mistake;
-    let Ok(text) = joined(alloc, front, back) else {
-        return false;
-    };
-    match lint(alloc, text.as_bytes(), b"") {
-        Ok(report) => begins_so(alloc, &report.federation, *line, fault),
-        Err(_) => false,
-    }
-}
-
-/// The first mistake that isn't found so behind this front.
-fn first_missed<'a>(alloc: Global, front: &str, mistakes: &[Mistake<'a>]) -> Option<&'a str> {
-    for mistake in mistakes {
-        if !is_refused_so(alloc, front, mistake) {
-            return Some(mistake.0);
+// The first mistake that isn't told so behind this front.
+fn first_missed(alloc: Global, front: &str, mistakes: &[Mistake]) -> Option<&'static str> {
+    for (back, line) in mistakes {
+        if !is_told(alloc, front, back, line) {
+            return Some(*back);
         }
     }
     None
 }
 
 /// Whole files.
-const FILES: &[Mistake<'_>] = &[
-    ("", 1, "31 WrongShape stop"),
+const FILES: &[Mistake] = &[
+    ("", "fed.toml:1: wrong: 31 WrongShape stop: "),
     (
         "\nstop = 5\n[[federate]]\nname = \"a\"",
-        2,
-        "31 WrongShape stop",
+        "fed.toml:2: wrong: 31 WrongShape stop: ",
     ),
     (
         "stop = \"5 h\"\n[[federate]]\nname = \"a\"",
-        1,
-        "31 WrongShape stop",
+        "fed.toml:1: wrong: 31 WrongShape stop: ",
     ),
-    ("stop = \"4611686018427387904 ns\"", 1, "31 WrongShape stop"),
-    ("# none\nstop = \"0\"", 1, "10 NoFederate"),
+    (
+        "stop = \"4611686018427387904 ns\"",
+        "fed.toml:1: wrong: 31 WrongShape stop: ",
+    ),
+    ("# none\nstop = \"0\"", "fed.toml:1: wrong: 10 NoFederate: "),
     (
         "stop = \"0\"\n\nstops = \"0\"\n[[federate]]\nname = \"a\"",
-        3,
-        "31 WrongShape stops",
+        "fed.toml:3: wrong: 31 WrongShape stops: ",
     ),
-    ("stop = \"0\"\nfederate = 1", 2, "31 WrongShape federate"),
+    (
+        "stop = \"0\"\nfederate = 1",
+        "fed.toml:2: wrong: 31 WrongShape federate: ",
+    ),
     (
         "stop = \"0\"\nfederate = [\n1]",
-        3,
-        "31 WrongShape federate",
+        "fed.toml:3: wrong: 31 WrongShape federate: ",
     ),
     (
         "stop = \"0\"\n[federate]\nname = \"a\"",
-        2,
-        "31 WrongShape federate",
+        "fed.toml:2: wrong: 31 WrongShape federate: ",
     ),
     (
         "stop = \"0\"\n[[federate]]\nname = \"a\"\n[connection]\nafter = \"0\"",
-        4,
-        "31 WrongShape connection",
+        "fed.toml:4: wrong: 31 WrongShape connection: ",
     ),
-    ("# a comment\nstop = 20 ms", 2, "30 NotToml"),
+    (
+        "# a comment\nstop = 20 ms",
+        "fed.toml:2: wrong: 30 NotToml: ",
+    ),
     (
         "stop = \"0\"\n[[federate]]\nname = \"a\"\ninputs = [\"x\"\n\"w\"]",
-        5,
-        "30 NotToml",
+        "fed.toml:5: wrong: 30 NotToml: ",
     ),
     (
         "stop = \"0\"\n[[federate]]\nname = \"a\"\nname = \"b\"",
-        4,
-        "30 NotToml",
+        "fed.toml:4: wrong: 30 NotToml: ",
     ),
 ];
 
@@ -108,123 +84,127 @@ const FILES: &[Mistake<'_>] = &[
 const FEDERATE: &str = "stop = \"1 s\"\n[[federate]]\nname = \"a\"\n";
 
 /// Its further lines, which begin with the fourth.
-const LINES: &[Mistake<'_>] = &[
-    ("rank = 1", 4, "31 WrongShape rank"),
-    ("inputs = 1", 4, "31 WrongShape inputs"),
-    ("outputs = [\n\"y\",\n\"a b\"]", 6, "31 WrongShape outputs"),
-    ("actions = [\"b\", 1]", 4, "31 WrongShape actions"),
-    ("physical = [\n\"when\"]", 5, "31 WrongShape physical"),
-    ("timers = [\n1]", 5, "31 WrongShape timers"),
-    ("timers = [\n{ offset = \"0\" }]", 5, "31 WrongShape name"),
+const LINES: &[Mistake] = &[
+    ("rank = 1", "fed.toml:4: wrong: 31 WrongShape rank: "),
+    ("inputs = 1", "fed.toml:4: wrong: 31 WrongShape inputs: "),
+    (
+        "outputs = [\n\"y\",\n\"a b\"]",
+        "fed.toml:6: wrong: 31 WrongShape outputs: ",
+    ),
+    (
+        "actions = [\"b\", 1]",
+        "fed.toml:4: wrong: 31 WrongShape actions: ",
+    ),
+    (
+        "physical = [\n\"when\"]",
+        "fed.toml:5: wrong: 31 WrongShape physical: ",
+    ),
+    (
+        "timers = [\n1]",
+        "fed.toml:5: wrong: 31 WrongShape timers: ",
+    ),
+    (
+        "timers = [\n{ offset = \"0\" }]",
+        "fed.toml:5: wrong: 31 WrongShape name: ",
+    ),
     (
         "timers = [{ name = \"t\",\noffset = \"1 h\" }]",
-        5,
-        "31 WrongShape offset",
+        "fed.toml:5: wrong: 31 WrongShape offset: ",
     ),
     (
         "[[federate.timers]]\nname = \"t\"\nperiod = 4",
-        6,
-        "31 WrongShape period",
+        "fed.toml:6: wrong: 31 WrongShape period: ",
     ),
     (
         "[[federate.timers]]\nname = \"t\"\nafter = \"0\"",
-        6,
-        "31 WrongShape after",
+        "fed.toml:6: wrong: 31 WrongShape after: ",
     ),
-    ("state = 1", 4, "31 WrongShape state"),
+    ("state = 1", "fed.toml:4: wrong: 31 WrongShape state: "),
     (
         "state = [{ name = \"m\", value = 0 },\n{ name = \"n\" }]",
-        5,
-        "31 WrongShape value",
+        "fed.toml:5: wrong: 31 WrongShape value: ",
     ),
     (
         "state = [{ name = \"n\",\nvalue = \"1\" }]",
-        5,
-        "31 WrongShape value",
+        "fed.toml:5: wrong: 31 WrongShape value: ",
     ),
     (
         "state = [{ name = \"n\", value = 1 },\n{ name = \"n\", value = 2 }]",
-        5,
-        "23 RepeatedState a",
+        "fed.toml:5: wrong: 23 RepeatedState a: ",
     ),
-    ("reaction = [\n{ body = [] }]", 5, "31 WrongShape triggers"),
+    (
+        "reaction = [\n{ body = [] }]",
+        "fed.toml:5: wrong: 31 WrongShape triggers: ",
+    ),
     (
         "reaction = [{\ntriggers = [] }]",
-        5,
-        "31 WrongShape triggers",
+        "fed.toml:5: wrong: 31 WrongShape triggers: ",
     ),
     (
         "reaction = [{ triggers = [\"startup\"], body = [\n\"\",\n1] }]",
-        6,
-        "31 WrongShape body",
+        "fed.toml:6: wrong: 31 WrongShape body: ",
     ),
     (
         "inputs = [\"x\"]\noutputs = [\"x\"]",
-        5,
-        "17 RepeatedName x",
+        "fed.toml:5: wrong: 17 RepeatedName x: ",
     ),
-    ("[[federate]]\nname = \"a\"", 5, "17 RepeatedName a"),
+    (
+        "[[federate]]\nname = \"a\"",
+        "fed.toml:5: wrong: 17 RepeatedName a: ",
+    ),
     (
         "[[federate]]\nname = \"coordinator\"",
-        5,
-        "31 WrongShape name",
+        "fed.toml:5: wrong: 31 WrongShape name: ",
     ),
-    ("[[federate]]\nname = \"snk-1\"", 5, "31 WrongShape name"),
-    ("[[connection]]\nto = \"a.x\"", 4, "31 WrongShape from"),
+    (
+        "[[federate]]\nname = \"snk-1\"",
+        "fed.toml:5: wrong: 31 WrongShape name: ",
+    ),
+    (
+        "[[connection]]\nto = \"a.x\"",
+        "fed.toml:4: wrong: 31 WrongShape from: ",
+    ),
     (
         "[[connection]]\nfrom = \"a\"\nto = \"a.x\"",
-        5,
-        "31 WrongShape from",
+        "fed.toml:5: wrong: 31 WrongShape from: ",
     ),
     (
         "[[connection]]\nfrom = \"a.y\"\nto = \"a.x.z\"",
-        6,
-        "31 WrongShape to",
+        "fed.toml:6: wrong: 31 WrongShape to: ",
     ),
     (
         "[[connection]]\nfrom = \"a.y\"\nto = \"a.x\"\nafter = \"5 h\"",
-        7,
-        "31 WrongShape after",
+        "fed.toml:7: wrong: 31 WrongShape after: ",
     ),
     (
         "[[connection]]\nfrom = \"a.y\"\nto = \"a.x\"\ndelay = \"5 s\"",
-        7,
-        "31 WrongShape delay",
+        "fed.toml:7: wrong: 31 WrongShape delay: ",
     ),
     (
         "[[connection]]\nfrom = \"a.z\"\nto = \"a.x\"",
-        5,
-        "11 UnknownName a.z",
+        "fed.toml:5: wrong: 11 UnknownName a.z: ",
     ),
     (
         "outputs = [\"y\"]\n[[connection]]\nfrom = \"a.y\"\nto = \"e.x\"",
-        7,
-        "11 UnknownName e.x",
+        "fed.toml:7: wrong: 11 UnknownName e.x: ",
     ),
     (
         "inputs = [\"x\"]\noutputs = [\"y\"]\n[[connection]]\nfrom = \"a.y\"\nto = \"a.x\"",
-        6,
-        "13 ZeroDelayCycle a",
+        "fed.toml:6: wrong: 13 ZeroDelayCycle a: ",
     ),
     (
         "inputs = [\"x\"]\noutputs = [\"y\"]\nconnection = []\n[[federate]]\nname = \"b\"",
-        6,
-        "31 WrongShape connection",
+        "fed.toml:6: wrong: 31 WrongShape connection: ",
     ),
     (
         "reaction = [{ triggers = [\"startup\"], body = [\n\"y\"] }]",
-        5,
-        "20 BadLine a 1 1",
+        "fed.toml:5: wrong: 20 BadLine a 1 1: ",
     ),
     (
         "reaction = [{ triggers = [\n\"t\"] }]",
-        5,
-        "21 UnknownOperand a 1 0",
+        "fed.toml:5: wrong: 21 UnknownOperand a 1 0: ",
     ),
-];
-
-/// The same with two connections to one input, of a timer, and of names beyond the limits.
-const MORE: &[Mistake<'_>] = &[
+    // Two connections to one input, a timer, and what is beyond the limits.
     (
         r#"inputs = ["x"]
 outputs = ["y"]
@@ -237,8 +217,7 @@ from = "a.y"
 to = "a.x"
 after = "1 ms"
 "#,
-        12,
-        "12 TwoSources a.x",
+        "fed.toml:12: wrong: 12 TwoSources a.x: ",
     ),
     (
         r#"inputs = [
@@ -246,8 +225,7 @@ after = "1 ms"
 "i16", "i17", "i18", "i19", "i20", "i21", "i22", "i23", "i24", "i25", "i26", "i27", "i28", "i29", "i30", "i31",
 "i32"]
 "#,
-        7,
-        "14 OverLimit",
+        "fed.toml:7: wrong: 14 OverLimit: ",
     ),
     (
         r#"timers = [{ name = "t" }]
@@ -259,8 +237,7 @@ body = [
     "n = n+1",
 ]
 "#,
-        10,
-        "20 BadLine a 1 2",
+        "fed.toml:10: wrong: 20 BadLine a 1 2: ",
     ),
     (
         r#"actions = ["b"]
@@ -272,8 +249,7 @@ triggers = ["p"]
 body = ["schedule b 0 1",
 "schedule p 0 1"]
 "#,
-        11,
-        "21 UnknownOperand a 2 2",
+        "fed.toml:11: wrong: 21 UnknownOperand a 2 2: ",
     ),
     // 65 states, each of a wrong shape
     (
@@ -282,8 +258,7 @@ body = ["schedule b 0 1",
     1, 1, 1, 1, 1, 1, 1, 1, 1, 1, 1, 1, 1, 1, 1, 1, 1, 1, 1, 1, 1, 1, 1, 1, 1, 1, 1, 1, 1, 1, 1, 1,
     1,
 ]"#,
-        4,
-        "36 OverLimit",
+        "fed.toml:4: wrong: 36 OverLimit: ",
     ),
 ];
 
@@ -295,5 +270,4 @@ fn finds_mistakes_of_files_at_their_lines(rt: HostRuntime) {
 #[test]
 fn finds_mistakes_of_federates_at_their_lines(rt: HostRuntime) {
     assert_eq!(rt; first_missed(rt.alloc(), FEDERATE, LINES), None);
-    assert_eq!(rt; first_missed(rt.alloc(), FEDERATE, MORE), None);
 }

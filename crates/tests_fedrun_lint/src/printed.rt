@@ -1,6 +1,96 @@
 //! What is printed of whole files.
-use fedrun_lint::lint;
+use fedrun_lint::{NamedFile, print_report};
 use std::alloc::Global;
+
+// A file's bytes, where it was read.
+fn bytes_of<'a>(text: Option<&'a str>) -> Option<&'a [u8]> {
+    match text {
+        Some(text) => Some(text.as_bytes()),
+        None => None,
+    }
+}
+
+/// What is printed of a federation file and a file of recorded inputs, of which one that is too long wasn't read.
+pub(crate) fn printed(
+    alloc: Global,
+    federation: Option<&str>,
+    inputs: Option<&str>,
+) -> Option<String> {
+    let federation = NamedFile {
+        name: "fed.toml",
+        bytes: bytes_of(federation),
+    };
+    let inputs = NamedFile {
+        name: "in.toml",
+        bytes: bytes_of(inputs),
+    };
+    let mut out = Vec::new(alloc);
+    print_report(alloc, &federation, &inputs, &mut out).ok()?;
+    String::from_utf8(out).ok()
+}
+
+/// Whether what is printed of each of two files begins so, or nothing is printed of it.
+pub(crate) fn are_first(
+    alloc: Global,
+    federation: &str,
+    inputs: &str,
+    of_federation: Option<&str>,
+    of_inputs: Option<&str>,
+) -> bool {
+    match printed(alloc, Some(federation), Some(inputs)) {
+        Some(text) => {
+            let text = text.as_str();
+            let place = text.find("in.toml:").unwrap_or(text.len());
+            is_first(text.get(..place), of_federation) && is_first(text.get(place..), of_inputs)
+        }
+        None => false,
+    }
+}
+
+// Whether the first of these lines begins so, with something to do behind it, or there is none.
+fn is_first(lines: Option<&str>, line: Option<&str>) -> bool {
+    match (lines, line) {
+        (Some(lines), Some(line)) => match lines.strip_prefix(line) {
+            Some(advice) => !advice.is_empty() && !advice.starts_with('\n'),
+            None => false,
+        },
+        (Some(lines), None) => lines.is_empty(),
+        (None, _) => false,
+    }
+}
+
+/// The first of these that isn't there.
+fn first_missing(text: &str, pieces: &[&'static str]) -> Option<&'static str> {
+    for piece in pieces {
+        if !text.contains(*piece) {
+            return Some(*piece);
+        }
+    }
+    None
+}
+
+pub(crate) fn line_count(text: &str) -> usize {
+    text.as_bytes()
+        .iter()
+        .filter(|byte| **byte == b'\n')
+        .count()
+}
+
+/// Whether these lines are printed of two files, up to what to do, and no others.
+pub(crate) fn are_printed(
+    alloc: Global,
+    federation: Option<&str>,
+    inputs: Option<&str>,
+    lines: &[&'static str],
+) -> bool {
+    match printed(alloc, federation, inputs) {
+        Some(text) => {
+            first_missing(text.as_str(), lines).is_none()
+                && line_count(text.as_str()) == lines.len()
+        }
+        None => false,
+    }
+}
 
 /// Files with several mistakes, and the lines that they are printed as, up to what to do.
 const MISTAKES: &str = r#"stop = "20 ms"
@@ -28,13 +118,13 @@ to = "b.x"
 
 /// The lines of its faults. Names of a and b were refused, so unknown names aren't told; each stands once.
 const FAULTS: &[&str] = &[
-    ":4: wrong: 17 RepeatedName x: ",
-    ":4: wrong: 31 WrongShape inputs: ",
-    ":5: wrong: 31 WrongShape perod: ",
-    ":8: wrong: 20 BadLine a 1 2: ",
-    ":12: wrong: 31 WrongShape rank: ",
-    ":14: wrong: 17 RepeatedName b: ",
-    ":18: wrong: 31 WrongShape after: ",
+    "fed.toml:4: wrong: 17 RepeatedName x: ",
+    "fed.toml:4: wrong: 31 WrongShape inputs: ",
+    "fed.toml:5: wrong: 31 WrongShape perod: ",
+    "fed.toml:8: wrong: 20 BadLine a 1 2: ",
+    "fed.toml:12: wrong: 31 WrongShape rank: ",
+    "fed.toml:14: wrong: 17 RepeatedName b: ",
+    "fed.toml:18: wrong: 31 WrongShape after: ",
 ];
 
 /// A file in which all is taken, and something is odd.
@@ -90,48 +180,20 @@ const ODD_LINES: &[&str] = &[
     "in.toml:6: odd: recorded input of a.p: ",
 ];
 
-/// What is printed of two files; no text where there is no memory.
-fn printed(alloc: Global, federation: &str, inputs: &str) -> String {
-    let empty = String::new(alloc);
-    let Ok(report) = lint(alloc, federation.as_bytes(), inputs.as_bytes()) else {
-        return empty;
-    };
-    let lines = report.lines("fed.toml", "in.toml");
-    match format!(in alloc; "{lines}") {
-        Ok(text) => text,
-        Err(_) => empty,
-    }
-}
-
-/// The first of these that isn't there.
-pub(crate) fn first_missing<'a>(text: &str, pieces: &[&'a str]) -> Option<&'a str> {
-    for piece in pieces {
-        if !text.contains(*piece) {
-            return Some(piece);
-        }
-    }
-    None
-}
-
-pub(crate) fn line_count(text: &str) -> usize {
-    text.as_bytes()
-        .iter()
-        .filter(|byte| **byte == b'\n')
-        .count()
-}
-
 #[test]
 fn prints_each_mistake_of_a_file_once(rt: HostRuntime) {
-    let text = printed(rt.alloc(), MISTAKES, "");
-    assert_eq!(rt; first_missing(text.as_str(), FAULTS), None);
-    assert_eq!(rt; line_count(text.as_str()), FAULTS.len());
+    assert!(rt; are_printed(rt.alloc(), Some(MISTAKES), Some(""), FAULTS));
 }
 
 #[test]
 fn prints_what_is_odd(rt: HostRuntime) {
-    let text = printed(rt.alloc(), ODD, ODD_INPUTS);
-    assert_eq!(rt; first_missing(text.as_str(), ODD_LINES), None);
-    assert_eq!(rt; line_count(text.as_str()), ODD_LINES.len());
+    assert!(rt; are_printed(rt.alloc(), Some(ODD), Some(ODD_INPUTS), ODD_LINES));
+}
+
+#[test]
+fn prints_nothing_of_a_good_file(rt: HostRuntime) {
+    let good = "stop = \"20 ms\"\nfederate = [{ name = \"src\" }]\n";
+    assert!(rt; are_printed(rt.alloc(), Some(good), Some(""), &[]));
 }
 
 /// Two mistakes, and what is printed of them, whole.
@@ -149,15 +211,15 @@ fed.toml:4: wrong: 31 WrongShape perod: no key of this name stands here; a timer
 fed.toml:7: wrong: 20 BadLine b 1 1: write X = A, X = A OP B, out.P = A or schedule C D A, each perhaps behind when A :, with spaces about = and OP, one OP a line
 ";
 
-#[test]
-fn prints_what_to_do(rt: HostRuntime) {
-    let text = printed(rt.alloc(), MISTYPED, "");
-    assert_eq!(rt; text.as_str(), MISTYPED_LINES);
+// Whether this is printed of a federation file, and nothing else.
+fn is_printed(alloc: Global, federation: &str, text: &str) -> bool {
+    match printed(alloc, Some(federation), Some("")) {
+        Some(printed) => printed.as_str() == text,
+        None => false,
+    }
 }
 
 #[test]
-fn prints_nothing_of_a_good_file(rt: HostRuntime) {
-    let good = "stop = \"20 ms\"\nfederate = [{ name = \"src\" }]\n";
-    let text = printed(rt.alloc(), good, "");
-    assert_eq!(rt; text.as_str(), "");
+fn prints_what_to_do(rt: HostRuntime) {
+    assert!(rt; is_printed(rt.alloc(), MISTYPED, MISTYPED_LINES));
 }

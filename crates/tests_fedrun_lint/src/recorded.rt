@@ -1,78 +1,68 @@
 //! Mistakes in a file of recorded inputs.
-use crate::mistakes::begins_so;
-use fedrun_lint::lint;
+use crate::printed::are_first;
 use std::alloc::Global;
 
 /// A federate with a physical action and another.
-const FEDERATION: &[u8] =
-    b"stop = \"20 ms\"\nfederate = [{ name = \"f\", actions = [\"b\"], physical = [\"p\"] }]\n";
+const FEDERATION: &str =
+    "stop = \"20 ms\"\nfederate = [{ name = \"f\", actions = [\"b\"], physical = [\"p\"] }]\n";
 
 /// A refused federation, of whose inputs the shape alone is looked at.
-const REFUSED: &[u8] = b"stop = \"20 ms\"\n";
+const REFUSED: &str = "stop = \"20 ms\"\n";
 
-/// Files, the lines of their mistakes, and the faults.
-const SHAPES: &[(&str, usize, &str)] = &[
-    ("\ninputs = []", 2, "31 WrongShape inputs"),
-    ("input = 1", 1, "31 WrongShape input"),
-    ("input = [\n1]", 2, "31 WrongShape input"),
+/// A file, and how the first line begins that is printed of it: the line at which the mistake stands, and the fault.
+type Mistake = (&'static str, &'static str);
+
+const SHAPES: &[Mistake] = &[
+    ("\ninputs = []", "in.toml:2: wrong: 31 WrongShape inputs: "),
+    ("input = 1", "in.toml:1: wrong: 31 WrongShape input: "),
+    ("input = [\n1]", "in.toml:2: wrong: 31 WrongShape input: "),
     (
         "[[input]]\naction = \"p\"\ntime = \"0\"\nvalue = 1",
-        1,
-        "31 WrongShape federate",
+        "in.toml:1: wrong: 31 WrongShape federate: ",
     ),
     (
         "[[input]]\nfederate = \"f\"\naction = 1\ntime = \"0\"\nvalue = 1",
-        3,
-        "31 WrongShape action",
+        "in.toml:3: wrong: 31 WrongShape action: ",
     ),
     (
         "[[input]]\nfederate = \"f\"\naction = \"p\"\nvalue = 1",
-        1,
-        "31 WrongShape time",
+        "in.toml:1: wrong: 31 WrongShape time: ",
     ),
     (
         "[[input]]\nfederate = \"f\"\naction = \"p\"\ntime = \"1\"\nvalue = 1",
-        4,
-        "31 WrongShape time",
+        "in.toml:4: wrong: 31 WrongShape time: ",
     ),
     (
         "[[input]]\nfederate = \"f\"\naction = \"p\"\ntime = \"0\"",
-        1,
-        "31 WrongShape value",
+        "in.toml:1: wrong: 31 WrongShape value: ",
     ),
     (
         "[[input]]\nfederate = \"f\"\naction = \"p\"\ntime = \"0\"\nvalue = 1.5",
-        5,
-        "31 WrongShape value",
+        "in.toml:5: wrong: 31 WrongShape value: ",
     ),
     (
         "[[input]]\nfederate = \"f\"\naction = \"p\"\ntime = \"0\"\nmicro = 4294967296\nvalue = 1",
-        5,
-        "31 WrongShape micro",
+        "in.toml:5: wrong: 31 WrongShape micro: ",
     ),
     (
         "[[input]]\nfederate = \"f\"\naction = \"p\"\ntime = \"0\"\nmicro = -1\nvalue = 1",
-        5,
-        "31 WrongShape micro",
+        "in.toml:5: wrong: 31 WrongShape micro: ",
     ),
     (
         "input = [\n{ value = 9223372036854775808 }]",
-        2,
-        "30 NotToml",
+        "in.toml:2: wrong: 30 NotToml: ",
     ),
 ];
 
-/// The same, of mistakes that aren't of shape.
-const RECORDED: &[(&str, usize, &str)] = &[
+/// Mistakes that aren't of shape.
+const RECORDED: &[Mistake] = &[
     (
         "[[input]]\nfederate = \"f\"\naction = \"b\"\ntime = \"0\"\nvalue = 1",
-        3,
-        "34 UnknownAction",
+        "in.toml:3: wrong: 34 UnknownAction: ",
     ),
     (
         "[[input]]\nfederate = \"g\"\naction = \"p\"\ntime = \"0\"\nvalue = 1",
-        3,
-        "34 UnknownAction",
+        "in.toml:3: wrong: 34 UnknownAction: ",
     ),
     (
         r#"
@@ -93,24 +83,20 @@ action = "p"
 time = "10000 us"
 value = 2
 "#,
-        13,
-        "35 RepeatedInput",
+        "in.toml:13: wrong: 35 RepeatedInput: ",
     ),
 ];
 
-/// The first file that isn't refused so.
+// The first file of which that isn't told beside this federation, of which this is told, if anything.
 fn first_missed(
     alloc: Global,
-    federation: &[u8],
-    mistakes: &[(&'static str, usize, &str)],
+    federation: &str,
+    of_federation: Option<&str>,
+    mistakes: &[Mistake],
 ) -> Option<&'static str> {
-    for (text, line, fault) in mistakes {
-        let is_found = match lint(alloc, federation, text.as_bytes()) {
-            Ok(report) => begins_so(alloc, &report.inputs, *line, fault),
-            Err(_) => false,
-        };
-        if !is_found {
-            return Some(text);
+    for (inputs, line) in mistakes {
+        if !are_first(alloc, federation, inputs, of_federation, Some(*line)) {
+            return Some(*inputs);
         }
     }
     None
@@ -118,11 +104,18 @@ fn first_missed(
 
 #[test]
 fn finds_mistakes_of_inputs_at_their_lines(rt: HostRuntime) {
-    assert_eq!(rt; first_missed(rt.alloc(), FEDERATION, SHAPES), None);
-    assert_eq!(rt; first_missed(rt.alloc(), FEDERATION, RECORDED), None);
+    let missed = [
+        first_missed(rt.alloc(), FEDERATION, None, SHAPES),
+        first_missed(rt.alloc(), FEDERATION, None, RECORDED),
+    ];
+    assert_eq!(rt; missed, [None; 2]);
 }
 
 #[test]
 fn finds_shapes_of_inputs_of_a_refused_federation(rt: HostRuntime) {
-    assert_eq!(rt; first_missed(rt.alloc(), REFUSED, SHAPES), None);
+    let no_federate = Some("fed.toml:1: wrong: 10 NoFederate: ");
+    assert_eq!(rt;
+        first_missed(rt.alloc(), REFUSED, no_federate, SHAPES),
+        None
+    );
 }

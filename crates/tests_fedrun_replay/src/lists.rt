@@ -30,7 +30,7 @@ struct Dice {
 }
 
 impl Dice {
-    /// A number below this one; 0 where there is none.
+    // A number below this one; 0 where there is none.
     fn roll(&mut self, sides: usize) -> usize {
         self.state = self
             .state
@@ -58,7 +58,7 @@ fn made_up_step(dice: &mut Dice, world: &World<'_>) -> Step {
     }
 }
 
-/// One of the last frames, mostly, or any.
+// One of the last frames, mostly, or any.
 fn made_up_frame(dice: &mut Dice, sent: usize) -> usize {
     if dice.roll(4) == 0 {
         dice.roll(sent).saturating_add(1)
@@ -67,7 +67,7 @@ fn made_up_frame(dice: &mut Dice, sent: usize) -> usize {
     }
 }
 
-/// Whether a step isn't refused by a node, and acknowledges nothing that wasn't sent.
+// Whether a step isn't refused by a node, and acknowledges nothing that wasn't sent.
 fn is_plain(outcome: Outcome) -> bool {
     match outcome {
         Outcome::Refused(number) => matches!(number, 51 | 52 | 55 | 60),
@@ -90,7 +90,7 @@ fn makes_plain_steps(dice: &mut Dice, world: &mut World<'_>) -> bool {
     true
 }
 
-/// Whether these rows are a prefix of a federate's part of all rows.
+// Whether these rows are a prefix of a federate's part of all rows.
 fn is_prefix(rows: &Rows, federate: usize, all: &Rows) -> bool {
     let mut next = 0;
     for place in 0..all.len() {
@@ -108,7 +108,7 @@ fn is_prefix(rows: &Rows, federate: usize, all: &Rows) -> bool {
     next >= rows.len()
 }
 
-/// How many rows of a federate are compared: all if it kept its state, and else none. None where they aren't a prefix.
+// How many rows of a federate are compared: all if it kept its state, and else none. None where they aren't a prefix.
 fn compared_of(world: &World<'_>, federate: usize, all: &Rows) -> Option<usize> {
     let rows = world.rows(federate)?;
     if !world.kept(federate) {
@@ -121,7 +121,7 @@ fn compared_of(world: &World<'_>, federate: usize, all: &Rows) -> Option<usize> 
     }
 }
 
-/// The same of all federates together.
+// The same of all federates together.
 fn compared(world: &World<'_>, all: &Rows) -> Option<usize> {
     let mut count = 0usize;
     for federate in 0..world.federate_count() {
@@ -130,7 +130,7 @@ fn compared(world: &World<'_>, all: &Rows) -> Option<usize> {
     Some(count)
 }
 
-/// The same after the list of a seed; None also where a node refused a signal of it.
+// The same after the list of a seed; None also where a node refused a signal of it.
 fn compared_in_list(
     alloc: Global,
     federation: &Federation,
@@ -155,7 +155,7 @@ enum Wrong {
     List(u64),
 }
 
-/// How many rows are compared in all lists together; else the first list that is wrong.
+// How many rows are compared in all lists together; else the first list that is wrong.
 fn compared_in_lists(alloc: Global, federation: &Federation, all: &Rows) -> Result<usize, Wrong> {
     let mut count = 0usize;
     for seed in 0..LISTS {
@@ -167,7 +167,7 @@ fn compared_in_lists(alloc: Global, federation: &Federation, all: &Rows) -> Resu
     Ok(count)
 }
 
-/// The same of a federation, beside its undivided program.
+// The same of a federation, beside its undivided program.
 fn compared_beside(alloc: Global, federation: &Federation) -> Result<usize, Wrong> {
     match undivided(alloc, federation) {
         Some(whole) => compared_in_lists(alloc, federation, whole.rows()),
@@ -175,7 +175,7 @@ fn compared_beside(alloc: Global, federation: &Federation) -> Result<usize, Wron
     }
 }
 
-/// The same of a federation's file and its input file.
+// The same of a federation's file and its input file.
 fn rows_compared(alloc: Global, federation: &str, inputs: &str) -> Result<usize, Wrong> {
     match loaded(alloc, federation, inputs) {
         Some(federation) => compared_beside(alloc, &federation),
@@ -183,44 +183,21 @@ fn rows_compared(alloc: Global, federation: &str, inputs: &str) -> Result<usize,
     }
 }
 
-#[test]
-fn keeps_to_the_undivided_rows_of_a_counter(rt: HostRuntime) -> Result<(), Fail> {
-    let rows = rows_compared(rt.alloc(), COUNTER, "")?;
-    assert!(rt; rows >= LEAST_ROWS, "{rows} rows");
-    Ok(())
-}
+/// Federations and their input files.
+const FEDERATIONS: &[(&str, &str)] = &[
+    (COUNTER, ""),
+    (DELAYED_COUNTER, ""),
+    (STARTED_COUNTER, ""),
+    (REPLACED, ""),
+    (LOOP, ""),
+    (CHAIN, CHAIN_INPUT),
+];
 
 #[test]
-fn keeps_to_the_undivided_rows_of_a_delayed_counter(rt: HostRuntime) -> Result<(), Fail> {
-    let rows = rows_compared(rt.alloc(), DELAYED_COUNTER, "")?;
-    assert!(rt; rows >= LEAST_ROWS, "{rows} rows");
-    Ok(())
-}
-
-#[test]
-fn keeps_to_the_undivided_rows_of_an_action(rt: HostRuntime) -> Result<(), Fail> {
-    let rows = rows_compared(rt.alloc(), REPLACED, "")?;
-    assert!(rt; rows >= LEAST_ROWS, "{rows} rows");
-    Ok(())
-}
-
-#[test]
-fn keeps_to_the_undivided_rows_of_a_loop(rt: HostRuntime) -> Result<(), Fail> {
-    let rows = rows_compared(rt.alloc(), LOOP, "")?;
-    assert!(rt; rows >= LEAST_ROWS, "{rows} rows");
-    Ok(())
-}
-
-#[test]
-fn keeps_to_the_undivided_rows_of_a_chain(rt: HostRuntime) -> Result<(), Fail> {
-    let rows = rows_compared(rt.alloc(), CHAIN, CHAIN_INPUT)?;
-    assert!(rt; rows >= LEAST_ROWS, "{rows} rows");
-    Ok(())
-}
-
-#[test]
-fn keeps_to_the_undivided_rows_of_a_started_counter(rt: HostRuntime) -> Result<(), Fail> {
-    let rows = rows_compared(rt.alloc(), STARTED_COUNTER, "")?;
-    assert!(rt; rows >= LEAST_ROWS, "{rows} rows");
+fn keeps_to_the_undivided_rows(rt: HostRuntime) -> Result<(), Fail> {
+    for (federation, inputs) in FEDERATIONS {
+        let rows = rows_compared(rt.alloc(), federation, inputs)?;
+        assert!(rt; rows >= LEAST_ROWS, "{rows} rows of {federation}");
+    }
     Ok(())
 }

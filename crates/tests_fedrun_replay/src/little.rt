@@ -11,7 +11,7 @@ const STEPS: u32 = 2_000_000;
 /// between, since memory that was let go while the list grew may be held for a time.
 const MOST: u64 = 24;
 
-/// How much memory this process holds, in bytes: the machine counts it in pages, in the second number of this file.
+// How much memory this process holds, in bytes: the machine counts it in pages, in the second number of this file.
 fn held<R: rt::Files + AllocGlobal>(rt: &R) -> Option<u64> {
     let text = fs::read_to_string(rt, "/proc/self/statm").ok()?;
     let (_, behind) = text.as_str().split_once(' ')?;
@@ -19,7 +19,7 @@ fn held<R: rt::Files + AllocGlobal>(rt: &R) -> Option<u64> {
     Some(pages.parse::<u64>().ok()?.saturating_mul(4096))
 }
 
-/// How many bytes more are held after these steps, by which a federate announces that has announced before.
+// How many bytes more are held after these steps, by which a federate announces that has announced before.
 fn taken<R: rt::Files + AllocGlobal>(rt: &R, federation: &Federation) -> Option<u64> {
     let mut world = world_of(rt.alloc(), federation)?;
     world.apply(Step::Announce(0)).ok()?;

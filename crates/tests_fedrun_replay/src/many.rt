@@ -1,35 +1,14 @@
-//! That there may be many of what no limit is stated for: steps of a replay, schedulings in one turn, events on an
-//! agenda, messages in transit. Ample memory has to suffice for all of them.
-use crate::played::Case;
+//! That there may be many of what no limit is stated for: schedulings in one turn, events on an agenda, messages in
+//! transit. Ample memory has to suffice for all of them. Of steps of a replay `schedules` has many.
 use crate::room::{GRANTED, advances};
 use crate::worlds::world_of;
 use std::alloc::Global;
-use std::test::Fail;
-use tests_samples::worked_rows::COUNTER_ROWS;
-use tests_samples::{COUNTER, Federation, joined, loaded};
+use tests_samples::{Federation, loaded};
 use world::World;
 use world_stations::{Dir, Outcome, Step};
 
-/// Each of these rounds has a step or more by which each of the two federates announces, and one by which it advances:
-/// these are 80,000 steps.
-#[test]
-fn replays_many_steps(rt: HostRuntime) -> Result<(), Fail> {
-    let case = Case {
-        federation: COUNTER,
-        inputs: "",
-        schedule: "",
-        rounds: 20_000,
-        closing: None,
-        text: &[],
-    };
-    let printed = case.printed(rt.alloc()).ok_or("not taken")?;
-    let text = joined(rt.alloc(), &[COUNTER_ROWS, "end\n"]).ok_or("memory")?;
-    assert_eq!(rt; printed.as_str(), text.as_str());
-    Ok(())
-}
-
-/// Adds a reaction to startup that schedules every second event of this many, a microsecond after the one before each.
-/// A reaction has at most 256 lines.
+// Adds a reaction to startup that schedules every second event of this many, a microsecond after the one before each. A
+// reaction has at most 256 lines.
 fn add_reaction(file: &mut String, events: u32, first: u32) -> Option<()> {
     file.push_str("[[federate.reaction]]\ntriggers = [\"startup\"]\nbody = [\n")
         .ok()?;
@@ -41,7 +20,7 @@ fn add_reaction(file: &mut String, events: u32, first: u32) -> Option<()> {
     file.push_str("]\n").ok()
 }
 
-/// A federate that schedules this many events in its first turn, by two reactions.
+// A federate that schedules this many events in its first turn, by two reactions.
 fn scheduling(alloc: Global, events: u32) -> Option<String> {
     let mut file = String::from_str(
         alloc,
@@ -53,21 +32,21 @@ fn scheduling(alloc: Global, events: u32) -> Option<String> {
     Some(file)
 }
 
-/// How often the only federate of a world advances once it is granted, and what happens then.
+// How often the only federate of a world advances once it is granted, and what happens then.
 fn advances_in(alloc: Global, federation: &Federation) -> Option<(usize, Outcome)> {
     let mut world = world_of(alloc, federation)?;
     world.run(GRANTED).ok()?;
     advances(&mut world, 0, 10_000)
 }
 
-/// The same of one that schedules this many events in its first turn.
+// The same of one that schedules this many events in its first turn.
 fn advances_of(alloc: Global, events: u32) -> Option<(usize, Outcome)> {
     let file = scheduling(alloc, events)?;
     let federation = loaded(alloc, file.as_str(), "")?;
     advances_in(alloc, &federation)
 }
 
-/// Its first turn, and one for each event.
+// Its first turn, and one for each event.
 #[test]
 fn schedules_many_events_in_one_turn(rt: HostRuntime) {
     assert_eq!(rt; advances_of(rt.alloc(), 400), Some((401, Outcome::Nothing)));
@@ -86,7 +65,7 @@ name = "snk"
 inputs = ["x"]
 "#;
 
-/// Brings all frames of a direction from this one on, in their order; none of them is refused.
+// Brings all frames of a direction from this one on, in their order; none of them is refused.
 fn deliver(world: &mut World<'_>, dir: Dir, from: usize) -> Option<()> {
     let sent = world.sent(dir);
     for k in from..sent.saturating_add(1) {
@@ -97,8 +76,8 @@ fn deliver(world: &mut World<'_>, dir: Dir, from: usize) -> Option<()> {
     Some(())
 }
 
-/// How many messages are on their way to the receiver at once, where it hears of nothing before all are sent, and how
-/// often it then advances.
+// How many messages are on their way to the receiver at once, where it hears of nothing before all are sent, and how
+// often it then advances.
 fn received(alloc: Global, federation: &Federation) -> Option<(usize, usize)> {
     let mut world = world_of(alloc, federation)?;
     world.run(GRANTED).ok()?;

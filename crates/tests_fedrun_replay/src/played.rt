@@ -1,68 +1,58 @@
 //! What a replay prints.
 use fedrun_progress::NoProgress;
-use fedrun_replay::replay;
-use files_script::{Script, read_script};
+use fedrun_replay::{ReplayFault, replay};
+use files_script::read_script;
 use std::alloc::Global;
-use tests_samples::{Federation, joined, loaded};
+use std::io::Write;
+use tests_samples::{Federation, joined};
 
-/// A replay, and what it prints.
-#[derive(Drop)]
-pub(crate) struct Case<'a> {
-    pub federation: &'a str,
-    pub inputs: &'a str,
+/// A federation, its input file, and schedules over it.
+#[derive(Clone, Copy)]
+pub(crate) struct Case {
+    pub federation: &'static str,
+    pub inputs: &'static str,
+    pub plays: &'static [Play],
+}
+
+/// A schedule, and what it prints.
+#[derive(Clone, Copy)]
+pub(crate) struct Play {
     /// The first lines of the schedule.
-    pub schedule: &'a str,
+    pub schedule: &'static str,
     /// How many lines `round` come after them.
     pub rounds: usize,
     pub closing: Option<u32>,
     /// What is printed, in parts.
-    pub text: &'a [&'a str],
+    pub text: &'static [&'static str],
 }
 
-impl<'a> Case<'a> {
-    /// What is printed; None where something isn't taken.
-    pub(crate) fn printed(&self, alloc: Global) -> Option<String> {
-        let federation = loaded(alloc, self.federation, self.inputs)?;
-        let rounds = "round\n".repeat(alloc, self.rounds).ok()?;
-        let schedule = joined(alloc, &[self.schedule, rounds.as_str()])?;
-        let out = printed(alloc, &federation, schedule.as_str(), self.closing)?;
-        String::from_utf8(out).ok()
-    }
-}
-
-// What a schedule prints over a federation; None where it isn't taken.
-fn printed(
+/// Plays a schedule over a federation; None where the schedule isn't taken.
+pub(crate) fn played<W: Write>(
     alloc: Global,
     federation: &Federation,
     schedule: &str,
     closing: Option<u32>,
-) -> Option<Vec<u8>> {
+    out: &mut W,
+) -> Option<Result<(), ReplayFault>> {
     let script = read_script(alloc, schedule.as_bytes(), federation.plan()).ok()?;
-    let mut out = Vec::new(alloc);
-    if is_replayed(alloc, federation, &script, closing, &mut out) {
-        Some(out)
-    } else {
-        None
-    }
-}
-
-// Whether a replay of commands ends, and what it prints.
-fn is_replayed(
-    alloc: Global,
-    federation: &Federation,
-    script: &Script,
-    closing: Option<u32>,
-    out: &mut Vec<u8>,
-) -> bool {
-    replay(
+    Some(replay(
         alloc,
         out,
         federation.plan(),
         federation.programs(),
         federation.inputs(),
-        script,
+        &script,
         closing,
         &NoProgress,
-    )
-    .is_ok()
+    ))
+}
+
+/// Whether a schedule prints what it has to; None where it isn't taken.
+pub(crate) fn is_printed(alloc: Global, federation: &Federation, play: &Play) -> Option<bool> {
+    let rounds = "round\n".repeat(alloc, play.rounds).ok()?;
+    let schedule = joined(alloc, &[play.schedule, rounds.as_str()])?;
+    let text = joined(alloc, play.text)?;
+    let mut out = Vec::new(alloc);
+    let played = played(alloc, federation, schedule.as_str(), play.closing, &mut out)?;
+    Some(played.is_ok() && out.as_slice() == text.as_str().as_bytes())
 }

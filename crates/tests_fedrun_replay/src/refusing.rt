@@ -1,11 +1,10 @@
 //! A writer that refuses every write.
-use fedrun_progress::NoProgress;
-use fedrun_replay::{ReplayFault, replay};
-use files_script::{Script, read_script};
+use crate::played::played;
+use fedrun_replay::ReplayFault;
 use std::alloc::Global;
 use std::io;
 use std::io::Write;
-use tests_samples::{COUNTER, Federation, loaded};
+use tests_samples::{COUNTER, loaded};
 
 #[derive(Drop)]
 struct Refusing;
@@ -20,33 +19,26 @@ impl Write for Refusing {
     }
 }
 
-fn cannot_write(alloc: Global, federation: &Federation, script: &Script) -> bool {
-    let played = replay(
-        alloc,
-        &mut Refusing,
-        federation.plan(),
-        federation.programs(),
-        federation.inputs(),
-        script,
-        None,
-        &NoProgress,
-    );
-    matches!(played, Err(ReplayFault::CannotWrite))
-}
+/// One whose rows can't be written, and one with a step that is refused before.
+const SCHEDULES: &[&str] = &[
+    "round\n",
+    "announce src\nadvance src\nround\nround\ndeliver up src 4\n",
+];
 
-fn tells_of(alloc: Global, federation: &Federation, schedule: &str) -> Option<bool> {
-    let script = read_script(alloc, schedule.as_bytes(), federation.plan()).ok()?;
-    Some(cannot_write(alloc, federation, &script))
-}
-
-fn tells(alloc: Global, schedule: &str) -> Option<bool> {
+// Whether a replay over the counter says that it can't write.
+fn cannot_write(alloc: Global, schedule: &str) -> Option<bool> {
     let federation = loaded(alloc, COUNTER, "")?;
-    tells_of(alloc, &federation, schedule)
+    let played = played(alloc, &federation, schedule, None, &mut Refusing)?;
+    Some(matches!(played, Err(ReplayFault::CannotWrite)))
 }
 
 #[test]
 fn answers_that_it_cannot_write(rt: HostRuntime) {
-    assert_eq!(rt; tells(rt.alloc(), "round\n"), Some(true));
-    let gap = "announce src\nadvance src\nround\nround\ndeliver up src 4\n";
-    assert_eq!(rt; tells(rt.alloc(), gap), Some(true));
+    for schedule in SCHEDULES {
+        assert_eq!(rt;
+            cannot_write(rt.alloc(), schedule),
+            Some(true),
+            "{schedule}"
+        );
+    }
 }

@@ -32,7 +32,7 @@ pub(crate) fn advances(
     None
 }
 
-/// The same of a world's only federate once it is granted, and again after the acknowledgement has come.
+// The same of a world's only federate once it is granted, and again after the acknowledgement has come.
 fn advances_twice(
     alloc: Global,
     federation: &Federation,
@@ -51,8 +51,7 @@ fn advances_of(alloc: Global, most: usize) -> Option<[(usize, Outcome); 2]> {
     advances_twice(alloc, &federation, most)
 }
 
-/// With the NET that it announced, 4,096 signals aren't acknowledged. The acknowledgement of the NET makes room for
-/// one.
+// With the NET that it announced, 4,096 signals aren't acknowledged. The acknowledgement of the NET makes room for one.
 #[test]
 fn refuses_the_4097th_signal_without_an_acknowledgement(rt: HostRuntime) {
     let full = Outcome::Refused(60);

@@ -1,8 +1,8 @@
 //! What schedules print over the worked federations.
-use crate::played::Case;
-use std::test::Fail;
+use crate::played::{Case, Play, is_printed};
+use std::alloc::Global;
 use tests_samples::worked_rows::{CHAIN_ROWS, COUNTER_ROWS};
-use tests_samples::{CHAIN, CHAIN_INPUT, COUNTER, IDLE, joined};
+use tests_samples::{CHAIN, CHAIN_INPUT, COUNTER, IDLE, loaded};
 
 /// A timer of one nanosecond.
 pub(crate) const TICKS: &str = r#"stop = "1 s"
@@ -16,21 +16,21 @@ triggers = ["t"]
 body = ["n = n + 1", "out.y = n"]
 "#;
 
-const CASES: &[Case<'static>] = &[
-    // A replay by rounds alone.
+const CASES: &[Case] = &[
     Case {
         federation: COUNTER,
         inputs: "",
-        schedule: "",
-        rounds: 10,
-        closing: None,
-        text: &[COUNTER_ROWS, "end\n"],
-    },
-    // Frames out of order and repeated.
-    Case {
-        federation: COUNTER,
-        inputs: "",
-        schedule: "announce src
+        plays: &[
+            // A replay by rounds alone.
+            Play {
+                schedule: "",
+                rounds: 10,
+                closing: None,
+                text: &[COUNTER_ROWS, "end\n"],
+            },
+            // Frames out of order and repeated.
+            Play {
+                schedule: "announce src
 deliver up src 1
 deliver down src 2
 advance src
@@ -40,28 +40,24 @@ deliver up src 3
 deliver up src 3
 deliver up src 4
 ",
-        rounds: 10,
-        closing: None,
-        text: &["step 5 refused 52\n", COUNTER_ROWS, "end\n"],
-    },
-    // A lost frame, and a new connection.
-    Case {
-        federation: COUNTER,
-        inputs: "",
-        schedule: "announce src\nskip up src\nreconnect up src\nreconnect down src\n",
-        rounds: 12,
-        closing: None,
-        text: &[COUNTER_ROWS, "end\n"],
-    },
-    // A federate that forgets.
-    Case {
-        federation: COUNTER,
-        inputs: "",
-        schedule: "round\nround\nround\nforget snk\nreconnect up snk\n",
-        rounds: 8,
-        closing: None,
-        text: &[
-            "step 6 refused 51
+                rounds: 10,
+                closing: None,
+                text: &["step 5 refused 52\n", COUNTER_ROWS, "end\n"],
+            },
+            // A lost frame, and a new connection.
+            Play {
+                schedule: "announce src\nskip up src\nreconnect up src\nreconnect down src\n",
+                rounds: 12,
+                closing: None,
+                text: &[COUNTER_ROWS, "end\n"],
+            },
+            // A federate that forgets.
+            Play {
+                schedule: "round\nround\nround\nforget snk\nreconnect up snk\n",
+                rounds: 8,
+                closing: None,
+                text: &[
+                    "step 6 refused 51
 step 6 refused 51
 step 6 refused 51
 src (0, 0) [t] -> [y=1]
@@ -70,67 +66,142 @@ src (20 ms, 0) [t] -> [y=3]
 snk forgotten
 end
 ",
-        ],
-    },
-    // A lost frame, sent again.
-    Case {
-        federation: COUNTER,
-        inputs: "",
-        schedule: "announce src\nskip up src\nresend up src\n",
-        rounds: 10,
-        closing: None,
-        text: &[COUNTER_ROWS, "end\n"],
-    },
-    // A frame that was never sent.
-    Case {
-        federation: COUNTER,
-        inputs: "",
-        schedule: "deliver up src 9\n",
-        rounds: 0,
-        closing: None,
-        text: &["end\n"],
-    },
-    // Frames that rounds leave out. Line 2 sends src an Ack and a TAG, and line 3 skips both. Line 4 brings the NET of
-    // src once more, for which another Ack is sent, and brings src that Ack alone. Line 5 brings nothing. Only line 6
-    // brings the TAG. In line 7 src runs its first tag, and snk, which hears of it at the end of the round, runs none.
-    Case {
-        federation: COUNTER,
-        inputs: "",
-        schedule: "announce src\ndeliver up src 1\nskip down src\nround\nround\ndeliver down src 2\n",
-        rounds: 1,
-        closing: None,
-        text: &["src (0, 0) [t] -> [y=1]\nend\n"],
-    },
-    // The same without the line that skips: line 3 brings the TAG, src runs a tag in each of the rounds after it (lines
-    // 4 and 6), and snk its first one in line 6, after it was granted that in line 4.
-    Case {
-        federation: COUNTER,
-        inputs: "",
-        schedule: "announce src\ndeliver up src 1\nround\nround\ndeliver down src 2\n",
-        rounds: 1,
-        closing: None,
-        text: &[
-            "src (0, 0) [t] -> [y=1]
+                ],
+            },
+            // A lost frame, sent again.
+            Play {
+                schedule: "announce src\nskip up src\nresend up src\n",
+                rounds: 10,
+                closing: None,
+                text: &[COUNTER_ROWS, "end\n"],
+            },
+            // A frame that was never sent.
+            Play {
+                schedule: "deliver up src 9\n",
+                rounds: 0,
+                closing: None,
+                text: &["end\n"],
+            },
+            // Frames that rounds leave out. Line 2 sends src an Ack and a TAG, and line 3 skips both. Line 4 brings the NET of
+            // src once more, for which another Ack is sent, and brings src that Ack alone. Line 5 brings nothing. Only line 6
+            // brings the TAG. In line 7 src runs its first tag, and snk, which hears of it at the end of the round, runs none.
+            Play {
+                schedule: "announce src\ndeliver up src 1\nskip down src\nround\nround\ndeliver down src 2\n",
+                rounds: 1,
+                closing: None,
+                text: &["src (0, 0) [t] -> [y=1]\nend\n"],
+            },
+            // The same without the line that skips: line 3 brings the TAG, src runs a tag in each of the rounds after it (lines
+            // 4 and 6), and snk its first one in line 6, after it was granted that in line 4.
+            Play {
+                schedule: "announce src\ndeliver up src 1\nround\nround\ndeliver down src 2\n",
+                rounds: 1,
+                closing: None,
+                text: &[
+                    "src (0, 0) [t] -> [y=1]
 src (10 ms, 0) [t] -> [y=2]
 snk (0, 0) [x=1] -> [total=1]
 end
 ",
+                ],
+            },
+            // Rounds until it is stuck.
+            Play {
+                schedule: "",
+                rounds: 0,
+                closing: Some(20),
+                text: &["stuck\n", COUNTER_ROWS, "end\n"],
+            },
+            // Too few rounds.
+            Play {
+                schedule: "",
+                rounds: 0,
+                closing: Some(2),
+                text: &["stopped at 2 rounds\nsrc (0, 0) [t] -> [y=1]\nend\n"],
+            },
+            // A lost frame, and rounds until it is stuck.
+            Play {
+                schedule: "announce src\nskip up src\n",
+                rounds: 0,
+                closing: Some(20),
+                text: &["stuck\n", COUNTER_ROWS, "end\n"],
+            },
+            // Four rounds. In the second src runs its first tag, and snk is granted its own first at the end of it. In the
+            // third snk says what it has next and then runs it; what comes next it says in the fourth, and isn't granted before
+            // the end of that.
+            Play {
+                schedule: "round\nround\nround\nround\n",
+                rounds: 0,
+                closing: None,
+                text: &[
+                    "src (0, 0) [t] -> [y=1]
+src (10 ms, 0) [t] -> [y=2]
+src (20 ms, 0) [t] -> [y=3]
+snk (0, 0) [x=1] -> [total=1]
+end
+",
+                ],
+            },
+            // Closing rounds after a federate forgot, whose steps have the number after the last line's: what snk announces is
+            // refused in each of them; the first message of src in the second and, sent again, in the third; its second message
+            // in the third.
+            Play {
+                schedule: "forget snk\n",
+                rounds: 0,
+                closing: Some(3),
+                text: &[
+                    "step 2 refused 51
+step 2 refused 51
+step 2 refused 51
+step 2 refused 51
+step 2 refused 51
+step 2 refused 51
+stopped at 3 rounds
+src (0, 0) [t] -> [y=1]
+src (10 ms, 0) [t] -> [y=2]
+snk forgotten
+end
+",
+                ],
+            },
+            // A TAG that rounds leave out is sent again by the coordinator.
+            Play {
+                schedule: "announce src\ndeliver up src 1\nskip down src\n",
+                rounds: 0,
+                closing: Some(20),
+                text: &["stuck\n", COUNTER_ROWS, "end\n"],
+            },
+            // A new incarnation.
+            Play {
+                schedule: "announce snk\ndeliver up snk 1\nforget snk\nreconnect up snk\ndeliver up snk 2\n",
+                rounds: 0,
+                closing: None,
+                text: &["step 5 refused 51\nsnk forgotten\nend\n"],
+            },
+            // Many steps, for which no limit is stated. Each round has a step or more by which each of the two federates
+            // announces, and one by which it advances: these are 80,000 steps.
+            Play {
+                schedule: "",
+                rounds: 20_000,
+                closing: None,
+                text: &[COUNTER_ROWS, "end\n"],
+            },
         ],
     },
-    // Three federates in a chain.
     Case {
         federation: CHAIN,
         inputs: CHAIN_INPUT,
-        schedule: "",
-        rounds: 60,
-        closing: None,
-        text: &[CHAIN_ROWS, "end\n"],
-    },
-    // A federate ahead of the others.
-    Case {
-        federation: CHAIN,
-        inputs: CHAIN_INPUT,
-        schedule: "announce b
+        plays: &[
+            // Three federates in a chain.
+            Play {
+                schedule: "",
+                rounds: 60,
+                closing: None,
+                text: &[CHAIN_ROWS, "end\n"],
+            },
+            // A federate ahead of the others.
+            Play {
+                schedule: "announce b
 deliver up b 1
 announce a
 deliver up a 1
@@ -149,137 +220,65 @@ deliver up c 1
 deliver down c 2
 advance c
 ",
-        rounds: 60,
-        closing: None,
-        text: &[CHAIN_ROWS, "end\n"],
+                rounds: 60,
+                closing: None,
+                text: &[CHAIN_ROWS, "end\n"],
+            },
+        ],
     },
-    // A timer of one nanosecond.
     Case {
         federation: TICKS,
         inputs: "",
-        schedule: "",
-        rounds: 6,
-        closing: None,
-        text: &[
-            "one (0, 0) [t] -> [y=1]
+        plays: &[
+            // A timer of one nanosecond.
+            Play {
+                schedule: "",
+                rounds: 6,
+                closing: None,
+                text: &[
+                    "one (0, 0) [t] -> [y=1]
 one (1 ns, 0) [t] -> [y=2]
 one (2 ns, 0) [t] -> [y=3]
 one (3 ns, 0) [t] -> [y=4]
 one (4 ns, 0) [t] -> [y=5]
 end
 ",
+                ],
+            },
         ],
     },
-    // Rounds until it is stuck.
-    Case {
-        federation: COUNTER,
-        inputs: "",
-        schedule: "",
-        rounds: 0,
-        closing: Some(20),
-        text: &["stuck\n", COUNTER_ROWS, "end\n"],
-    },
-    // Too few rounds.
-    Case {
-        federation: COUNTER,
-        inputs: "",
-        schedule: "",
-        rounds: 0,
-        closing: Some(2),
-        text: &["stopped at 2 rounds\nsrc (0, 0) [t] -> [y=1]\nend\n"],
-    },
-    // A lost frame, and rounds until it is stuck.
-    Case {
-        federation: COUNTER,
-        inputs: "",
-        schedule: "announce src\nskip up src\n",
-        rounds: 0,
-        closing: Some(20),
-        text: &["stuck\n", COUNTER_ROWS, "end\n"],
-    },
-    // Nothing to do.
     Case {
         federation: IDLE,
         inputs: "",
-        schedule: "",
-        rounds: 0,
-        closing: Some(20),
-        text: &["stuck\nend\n"],
-    },
-    // Four rounds. In the second src runs its first tag, and snk is granted its own first at the end of it. In the
-    // third snk says what it has next and then runs it; what comes next it says in the fourth, and isn't granted before
-    // the end of that.
-    Case {
-        federation: COUNTER,
-        inputs: "",
-        schedule: "round\nround\nround\nround\n",
-        rounds: 0,
-        closing: None,
-        text: &[
-            "src (0, 0) [t] -> [y=1]
-src (10 ms, 0) [t] -> [y=2]
-src (20 ms, 0) [t] -> [y=3]
-snk (0, 0) [x=1] -> [total=1]
-end
-",
+        plays: &[
+            // Nothing to do.
+            Play {
+                schedule: "",
+                rounds: 0,
+                closing: Some(20),
+                text: &["stuck\nend\n"],
+            },
         ],
-    },
-    // Closing rounds after a federate forgot, whose steps have the number after the last line's: what snk announces is
-    // refused in each of them; the first message of src in the second and, sent again, in the third; its second message
-    // in the third.
-    Case {
-        federation: COUNTER,
-        inputs: "",
-        schedule: "forget snk\n",
-        rounds: 0,
-        closing: Some(3),
-        text: &[
-            "step 2 refused 51
-step 2 refused 51
-step 2 refused 51
-step 2 refused 51
-step 2 refused 51
-step 2 refused 51
-stopped at 3 rounds
-src (0, 0) [t] -> [y=1]
-src (10 ms, 0) [t] -> [y=2]
-snk forgotten
-end
-",
-        ],
-    },
-    // A TAG that rounds leave out is sent again by the coordinator.
-    Case {
-        federation: COUNTER,
-        inputs: "",
-        schedule: "announce src\ndeliver up src 1\nskip down src\n",
-        rounds: 0,
-        closing: Some(20),
-        text: &["stuck\n", COUNTER_ROWS, "end\n"],
-    },
-    // A new incarnation.
-    Case {
-        federation: COUNTER,
-        inputs: "",
-        schedule: "announce snk\ndeliver up snk 1\nforget snk\nreconnect up snk\ndeliver up snk 2\n",
-        rounds: 0,
-        closing: None,
-        text: &["step 5 refused 51\nsnk forgotten\nend\n"],
     },
 ];
 
-#[test]
-fn prints_the_rows_of_worked_schedules(rt: HostRuntime) -> Result<(), Fail> {
-    for case in CASES {
-        let printed = case.printed(rt.alloc()).ok_or("not taken")?;
-        let text = joined(rt.alloc(), case.text).ok_or("memory")?;
-        assert_eq!(rt;
-            printed.as_str(),
-            text.as_str(),
-            "{:?}, {} rounds",
-            case.schedule,
-            case.rounds
-        );
+// How many schedules of a case print what they have to, which are all; else the first that doesn't, by its place.
+fn printed(alloc: Global, case: &Case) -> Option<Result<usize, usize>> {
+    let federation = loaded(alloc, case.federation, case.inputs)?;
+    let mut count = 0usize;
+    for play in case.plays {
+        if !is_printed(alloc, &federation, play)? {
+            return Some(Err(count));
+        }
+        count = count.saturating_add(1);
     }
-    Ok(())
+    Some(Ok(count))
+}
+
+#[test]
+fn prints_the_rows_of_worked_schedules(rt: HostRuntime) {
+    for case in CASES {
+        let printed = printed(rt.alloc(), case);
+        assert_eq!(rt; printed, Some(Ok(case.plays.len())), "{}", case.federation);
+    }
 }

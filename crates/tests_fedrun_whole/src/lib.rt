@@ -8,8 +8,6 @@
 #[cfg(test)]
 mod alone;
 #[cfg(test)]
-mod answers;
-#[cfg(test)]
 mod federations;
 #[cfg(test)]
 mod firings;

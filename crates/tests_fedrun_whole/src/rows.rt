@@ -1,56 +1,138 @@
 //! Rows and plans, by the words that ask for them.
-use crate::answers::assert_answers;
 use crate::federations::{THREE, TICKS};
 use std::alloc::Global;
-use std::test::Fail;
+use std::net::{Net, TcpListener, TcpStream};
+use tests_outcomes::{Case, answered, outcome_of};
 use tests_samples::worked_rows::{CARRIED_ROWS, CHAIN_ROWS_BY_TAG, LOOP_ROWS, REPLACED_ROWS};
 use tests_samples::{
     BOTH_WAYS, CARRIED, CARRIED_INPUTS, CHAIN, CHAIN_INPUT, COUNTER, DELAYED_COUNTER, LOOP,
-    REPLACED, STARTED_COUNTER, joined,
+    Machine, REPLACED, STARTED_COUNTER,
 };
 
-const COUNTER_ROWS: &[&str] = &[
-    "src (0, 0) [t] -> [y=1]\n",
-    "snk (0, 0) [x=1] -> [total=1]\n",
-    "src (10 ms, 0) [t] -> [y=2]\n",
-    "snk (10 ms, 0) [x=2] -> [total=3]\n",
-    "src (20 ms, 0) [t] -> [y=3]\n",
-    "snk (20 ms, 0) [x=3] -> [total=6]\n",
-];
+/// The counter's rows in the order of tags: the first, the three after it, and the last two.
+const FIRST_ROW: &str = "src (0, 0) [t] -> [y=1]\n";
 
-/// This many turns of the counter print this many rows.
-const TURNS: &[(&str, usize)] = &[
-    ("0", 0),
-    ("1", 1),
-    ("4", 4),
-    ("6", 6),
-    ("100", 6),
-    ("4294967295", 6),
+const NEXT_ROWS: &str = "snk (0, 0) [x=1] -> [total=1]
+src (10 ms, 0) [t] -> [y=2]
+snk (10 ms, 0) [x=2] -> [total=3]
+";
+
+const LAST_ROWS: &str = "src (20 ms, 0) [t] -> [y=3]
+snk (20 ms, 0) [x=3] -> [total=6]
+";
+
+/// Words that ask for at least as many turns as these federations have.
+const ALL: &[&[&str]] = &[&["whole", "f", "i", "20"]];
+
+/// Rows of at most so many turns, and all rows.
+const ROWS: &[Case] = &[
+    Case {
+        federation: &[COUNTER],
+        inputs: "",
+        schedules: &[(
+            "",
+            &[
+                (&[&["whole", "f", "-", "0"]], 0, &[], &[]),
+                (&[&["whole", "f", "-", "1"]], 0, &[FIRST_ROW], &[]),
+                (
+                    &[&["whole", "f", "-", "4"]],
+                    0,
+                    &[FIRST_ROW, NEXT_ROWS],
+                    &[],
+                ),
+                (
+                    &[
+                        &["whole", "f", "-", "6"],
+                        &["whole", "f", "-", "100"],
+                        &["whole", "f", "-", "4294967295"],
+                    ],
+                    0,
+                    &[FIRST_ROW, NEXT_ROWS, LAST_ROWS],
+                    &[],
+                ),
+            ],
+        )],
+    },
+    Case {
+        federation: &[DELAYED_COUNTER],
+        inputs: "",
+        schedules: &[(
+            "",
+            &[(
+                ALL,
+                0,
+                &[
+                    "src (0, 0) [t] -> [y=1]
+snk (0, 1) [x=1] -> [total=1]
+src (10 ms, 0) [t] -> [y=2]
+snk (10 ms, 1) [x=2] -> [total=3]
+src (20 ms, 0) [t] -> [y=3]
+",
+                ],
+                &[],
+            )],
+        )],
+    },
+    Case {
+        federation: &[STARTED_COUNTER],
+        inputs: "",
+        schedules: &[(
+            "",
+            &[(
+                ALL,
+                0,
+                &[
+                    "src (0, 0) [t] -> [y=1]
+snk (0, 0) [startup x=1] -> [total=1]
+src (10 ms, 0) [t] -> [y=2]
+snk (10 ms, 0) [x=2] -> [total=3]
+src (20 ms, 0) [t] -> [y=3]
+snk (20 ms, 0) [x=3] -> [total=6]
+",
+                ],
+                &[],
+            )],
+        )],
+    },
+    Case {
+        federation: &[REPLACED],
+        inputs: "",
+        schedules: &[("", &[(ALL, 0, &[REPLACED_ROWS], &[])])],
+    },
+    Case {
+        federation: &[LOOP],
+        inputs: "",
+        schedules: &[("", &[(ALL, 0, &[LOOP_ROWS], &[])])],
+    },
+    Case {
+        federation: &[CHAIN],
+        inputs: CHAIN_INPUT,
+        schedules: &[("", &[(ALL, 0, &[CHAIN_ROWS_BY_TAG], &[])])],
+    },
+    Case {
+        federation: &[CARRIED],
+        inputs: CARRIED_INPUTS,
+        schedules: &[("", &[(ALL, 0, &[CARRIED_ROWS], &[])])],
+    },
 ];
 
 #[test]
-fn prints_the_rows_of_at_most_n_turns(rt: HostRuntime) -> Result<(), Fail> {
-    for (turns, lines) in TURNS {
-        let rows = COUNTER_ROWS.get(..*lines).ok_or("too many lines")?;
-        let rows = joined(rt.alloc(), rows).ok_or("memory")?;
-        let words = ["whole", "fed.toml", "-", *turns];
-        assert_answers(&rt, &words, &[COUNTER], &[], (0, rows.as_str(), ""));
-    }
-    Ok(())
+fn prints_the_rows_of_worked_federations(rt: HostRuntime) {
+    assert_eq!(rt; answered(&rt, ROWS), Ok(12));
 }
 
-/// This many turns of an action that is scheduled again and again print this many rows, also of more turns than those
-/// whose rows are kept at once.
-const MANY_TURNS: &[(&str, u32)] = &[
-    ("1023", 1023),
-    ("1024", 1024),
-    ("1025", 1025),
-    ("2048", 2048),
-    ("2100", 2100),
-    ("4294967295", 2200),
+/// Words that ask for so many turns of an action that is scheduled again and again, also for more turns than those
+/// whose rows are kept at once, and how many rows are printed.
+const MANY_TURNS: &[(&[&str], u32)] = &[
+    (&["whole", "f", "-", "1023"], 1023),
+    (&["whole", "f", "-", "1024"], 1024),
+    (&["whole", "f", "-", "1025"], 1025),
+    (&["whole", "f", "-", "2048"], 2048),
+    (&["whole", "f", "-", "2100"], 2100),
+    (&["whole", "f", "-", "4294967295"], 2200),
 ];
 
-/// The rows of this many turns.
+// The rows of this many turns.
 fn rows_of_ticks(alloc: Global, ticks: u32) -> Option<String> {
     let mut rows = String::from_str(alloc, "a (0, 0) [startup] -> []\n").ok()?;
     for tick in 1..ticks {
@@ -62,50 +144,25 @@ fn rows_of_ticks(alloc: Global, ticks: u32) -> Option<String> {
     Some(rows)
 }
 
-#[test]
-fn prints_the_rows_of_many_turns(rt: HostRuntime) -> Result<(), Fail> {
-    for (turns, ticks) in MANY_TURNS {
-        let rows = rows_of_ticks(rt.alloc(), *ticks).ok_or("memory")?;
-        let words = ["whole", "fed.toml", "-", *turns];
-        assert_answers(&rt, &words, &[TICKS], &[], (0, rows.as_str(), ""));
-    }
-    Ok(())
+// Whether the words print the rows of this many turns and nothing else.
+fn prints_ticks<R: Machine + Net<Stream = TcpStream, Listener = TcpListener>>(
+    rt: &R,
+    words: &[&str],
+    ticks: u32,
+) -> Option<bool> {
+    let rows = rows_of_ticks(rt.alloc(), ticks)?;
+    let outcome = outcome_of(rt, words, &[("f", TICKS.as_bytes())])?;
+    Some(outcome.texts() == (0, rows.as_str(), ""))
 }
 
-/// Federations, their input files, and all their rows.
-const ROWS: &[(&str, &str, &str)] = &[
-    (
-        DELAYED_COUNTER,
-        "",
-        "src (0, 0) [t] -> [y=1]
-snk (0, 1) [x=1] -> [total=1]
-src (10 ms, 0) [t] -> [y=2]
-snk (10 ms, 1) [x=2] -> [total=3]
-src (20 ms, 0) [t] -> [y=3]
-",
-    ),
-    (
-        STARTED_COUNTER,
-        "",
-        "src (0, 0) [t] -> [y=1]
-snk (0, 0) [startup x=1] -> [total=1]
-src (10 ms, 0) [t] -> [y=2]
-snk (10 ms, 0) [x=2] -> [total=3]
-src (20 ms, 0) [t] -> [y=3]
-snk (20 ms, 0) [x=3] -> [total=6]
-",
-    ),
-    (REPLACED, "", REPLACED_ROWS),
-    (LOOP, "", LOOP_ROWS),
-    (CHAIN, CHAIN_INPUT, CHAIN_ROWS_BY_TAG),
-    (CARRIED, CARRIED_INPUTS, CARRIED_ROWS),
-];
-
 #[test]
-fn prints_the_rows_of_worked_federations(rt: HostRuntime) {
-    let words = ["whole", "fed.toml", "in.toml", "20"];
-    for (federation, inputs, rows) in ROWS {
-        assert_answers(&rt, &words, &[*federation], &[*inputs], (0, rows, ""));
+fn prints_the_rows_of_many_turns(rt: HostRuntime) {
+    for (words, ticks) in MANY_TURNS {
+        assert_eq!(rt;
+            prints_ticks(&rt, words, *ticks),
+            Some(true),
+            "{ticks} turns"
+        );
     }
 }
 
@@ -123,11 +180,20 @@ const AT_ONCE: &str = "after = \"0\"\n";
 
 const LATER: &str = "after = \"5 ms\"\n";
 
+const CHECK: &[&[&str]] = &[&["check", "f"]];
+
 /// Federations, of parts, and their plans.
-const PLANS: &[(&[&str], &str)] = &[
-    (
-        &[BOTH_WAYS, A_TO_B, AT_ONCE, B_TO_A],
-        "federates 2 connections 2 stop 10 ms
+const PLANS: &[Case] = &[
+    Case {
+        federation: &[BOTH_WAYS, A_TO_B, AT_ONCE, B_TO_A],
+        inputs: "",
+        schedules: &[(
+            "",
+            &[(
+                CHECK,
+                0,
+                &[
+                    "federates 2 connections 2 stop 10 ms
 a rank 1
 b rank 0
 a -> a least (0, 1)
@@ -135,17 +201,39 @@ a -> b least (0, 1)
 b -> a least (0, 0)
 b -> b least (0, 1)
 ",
-    ),
-    (
-        &[LOOP],
-        "federates 1 connections 1 stop 12 ms
+                ],
+                &[],
+            )],
+        )],
+    },
+    Case {
+        federation: &[LOOP],
+        inputs: "",
+        schedules: &[(
+            "",
+            &[(
+                CHECK,
+                0,
+                &[
+                    "federates 1 connections 1 stop 12 ms
 loop rank 0
 loop -> loop least (5 ms, 0)
 ",
-    ),
-    (
-        &[THREE, P_TO_Q, LATER, Q_TO_R, AT_ONCE, P_TO_R, LATER],
-        "federates 3 connections 3 stop 10 ms
+                ],
+                &[],
+            )],
+        )],
+    },
+    Case {
+        federation: &[THREE, P_TO_Q, LATER, Q_TO_R, AT_ONCE, P_TO_R, LATER],
+        inputs: "",
+        schedules: &[(
+            "",
+            &[(
+                CHECK,
+                0,
+                &[
+                    "federates 3 connections 3 stop 10 ms
 p rank 0
 q rank 1
 r rank 2
@@ -153,10 +241,21 @@ p -> q least (5 ms, 0)
 p -> r least (5 ms, 0)
 q -> r least (0, 1)
 ",
-    ),
-    (
-        &[THREE, P_TO_Q, LATER, Q_TO_R, AT_ONCE],
-        "federates 3 connections 2 stop 10 ms
+                ],
+                &[],
+            )],
+        )],
+    },
+    Case {
+        federation: &[THREE, P_TO_Q, LATER, Q_TO_R, AT_ONCE],
+        inputs: "",
+        schedules: &[(
+            "",
+            &[(
+                CHECK,
+                0,
+                &[
+                    "federates 3 connections 2 stop 10 ms
 p rank 0
 q rank 1
 r rank 2
@@ -164,10 +263,21 @@ p -> q least (5 ms, 0)
 p -> r least (5 ms, 1)
 q -> r least (0, 1)
 ",
-    ),
-    (
-        &[THREE, P_TO_Q, AT_ONCE, Q_TO_R, LATER],
-        "federates 3 connections 2 stop 10 ms
+                ],
+                &[],
+            )],
+        )],
+    },
+    Case {
+        federation: &[THREE, P_TO_Q, AT_ONCE, Q_TO_R, LATER],
+        inputs: "",
+        schedules: &[(
+            "",
+            &[(
+                CHECK,
+                0,
+                &[
+                    "federates 3 connections 2 stop 10 ms
 p rank 0
 q rank 1
 r rank 2
@@ -175,12 +285,14 @@ p -> q least (0, 1)
 p -> r least (5 ms, 0)
 q -> r least (5 ms, 0)
 ",
-    ),
+                ],
+                &[],
+            )],
+        )],
+    },
 ];
 
 #[test]
 fn prints_the_plans_of_worked_federations(rt: HostRuntime) {
-    for (federation, plan) in PLANS {
-        assert_answers(&rt, &["check", "fed.toml"], federation, &[], (0, plan, ""));
-    }
+    assert_eq!(rt; answered(&rt, PLANS), Ok(5));
 }

@@ -8,7 +8,7 @@ use files_text::RowFormat;
 use std::alloc::Global;
 use std::test::Fail;
 
-/// The words, as the program gets them.
+// The words, as the program gets them.
 fn given(alloc: Global, words: &[&str]) -> Option<Vec<String>> {
     let mut given = Vec::new(alloc);
     for word in words {
@@ -17,7 +17,7 @@ fn given(alloc: Global, words: &[&str]) -> Option<Vec<String>> {
     Some(given)
 }
 
-/// Whether the words are this request, or have this fault.
+// Whether the words are this request, or have this fault.
 fn ask(alloc: Global, words: &[&str], wanted: Result<&Request<'_>, WordsFault>) -> bool {
     match given(alloc, words) {
         Some(words) => match (read_words(alloc, words.as_slice()), wanted) {
@@ -29,7 +29,7 @@ fn ask(alloc: Global, words: &[&str], wanted: Result<&Request<'_>, WordsFault>) 
     }
 }
 
-/// Words, and the request that they are.
+// Words, and the request that they are.
 fn whole_and_check() -> [(&'static [&'static str], Request<'static>); 7] {
     [
         (
@@ -232,7 +232,7 @@ fn reads_record(rt: HostRuntime) {
     }
 }
 
-/// Words of `frames`, `draw` and `lint`, and the request that they are.
+// Words of `frames`, `draw` and `lint`, and the request that they are.
 fn looked_at() -> [(&'static [&'static str], Request<'static>); 7] {
     [
         (

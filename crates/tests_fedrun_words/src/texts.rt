@@ -27,7 +27,7 @@ impl Write for Interrupted {
     }
 }
 
-/// Whether a text of this many bytes is written whole, whenever it is interrupted, and whether that is said.
+// Whether a text of this many bytes is written whole, whenever it is interrupted, and whether that is said.
 fn is_written(alloc: Global, tens: usize) -> Option<(bool, bool)> {
     let text = "0123456789".repeat(alloc, tens).ok()?;
     let mut out = Interrupted {
@@ -38,7 +38,7 @@ fn is_written(alloc: Global, tens: usize) -> Option<(bool, bool)> {
     Some((is_whole, out.taken.as_slice() == text.as_bytes()))
 }
 
-/// A text goes to its writer in pieces of 1024 bytes: the longest of these has four.
+// A text goes to its writer in pieces of 1024 bytes: the longest of these has four.
 #[test]
 fn writes_a_text_to_a_writer_that_is_interrupted(rt: HostRuntime) {
     for tens in [0, 1, 100, 400] {

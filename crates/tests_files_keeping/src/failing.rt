@@ -35,7 +35,7 @@ struct Outcome {
     device: MemoryDevice,
 }
 
-/// How many of these bytes are whole blocks.
+// How many of these bytes are whole blocks.
 fn whole_of(bytes: &[u8]) -> usize {
     match bytes.iter().rposition(|byte| *byte == b'.') {
         Some(place) => place.saturating_add(1),
@@ -43,7 +43,7 @@ fn whole_of(bytes: &[u8]) -> usize {
     }
 }
 
-/// Opens the log of a device and keeps the blocks in it, also behind one that failed; none where there is no memory.
+// Opens the log of a device and keeps the blocks in it, also behind one that failed; none where there is no memory.
 fn run(alloc: Global, mut device: MemoryDevice) -> Option<Outcome>
     requires { (memory_standing device).has_failed ≡ false }
 {
@@ -85,7 +85,7 @@ fn run(alloc: Global, mut device: MemoryDevice) -> Option<Outcome>
     })
 }
 
-/// Whether a log goes on to its end from what was left: a torn block is cut off, and those are kept that are missing.
+// Whether a log goes on to its end from what was left: a torn block is cut off, and those are kept that are missing.
 fn goes_on(alloc: Global, left: &[u8]) -> Option<bool> {
     let mut device = MemoryDevice::new(alloc, left).ok()?;
     let bytes = match read_locked(alloc, &mut device) {
@@ -101,15 +101,15 @@ fn goes_on(alloc: Global, left: &[u8]) -> Option<bool> {
     Some(answer.is_ok() && log.into_device().synced() == ALL)
 }
 
-/// Whether a machine that stops now leaves what was kept, and nothing behind it but whole blocks and a torn one, from
-/// which a log goes on.
+// Whether a machine that stops now leaves what was kept, and nothing behind it but whole blocks and a torn one, from
+// which a log goes on.
 fn is_right(alloc: Global, outcome: &Outcome, left: &[u8]) -> bool {
     left.starts_with(outcome.kept.as_slice())
         && (ALL.starts_with(left) || (!outcome.is_settled && START.starts_with(left)))
         && goes_on(alloc, left) == Some(true)
 }
 
-/// Whether that is so of each front that may be left of the bytes: none is shorter than `least`.
+// Whether that is so of each front that may be left of the bytes: none is shorter than `least`.
 fn are_right(alloc: Global, outcome: &Outcome, bytes: &[u8], least: usize) -> bool {
     let mut right = true;
     for count in least..=bytes.len() {
@@ -122,8 +122,8 @@ fn are_right(alloc: Global, outcome: &Outcome, bytes: &[u8], least: usize) -> bo
     right
 }
 
-/// Whether that is so of all that may be left: a front of what is seen or of what was synced, as a cut may be done or
-/// not.
+// Whether that is so of all that may be left: a front of what is seen or of what was synced, as a cut may be done or
+// not.
 fn leaves_what_was_kept(alloc: Global, outcome: &Outcome) -> bool {
     let seen = outcome.device.bytes();
     let synced = outcome.device.synced();
@@ -131,7 +131,7 @@ fn leaves_what_was_kept(alloc: Global, outcome: &Outcome) -> bool {
     are_right(alloc, outcome, seen, least) && are_right(alloc, outcome, synced, least)
 }
 
-/// A run over a device of which a call fails, the next behind so many.
+// A run over a device of which a call fails, the next behind so many.
 fn failed_run(alloc: Global, calls: u64, part: Part) -> Option<Outcome> {
     let mut device = MemoryDevice::new(alloc, START).ok()?;
     device.fail_after(calls, part);
@@ -177,7 +177,7 @@ fn answers_which_call_failed_and_keeps_nothing_behind_it(rt: HostRuntime) {
     }
 }
 
-/// Whether all is kept where no call fails.
+// Whether all is kept where no call fails.
 fn keeps_all(alloc: Global) -> bool {
     match failed_run(alloc, CALLS, Part::Nothing) {
         Some(outcome) => outcome.kept.as_slice() == ALL && outcome.device.synced() == ALL,
@@ -185,7 +185,7 @@ fn keeps_all(alloc: Global) -> bool {
     }
 }
 
-/// Whether a file that another has locked is left as it is.
+// Whether a file that another has locked is left as it is.
 fn leaves_anothers(alloc: Global) -> Option<bool> {
     let mut device = MemoryDevice::new(alloc, START).ok()?;
     device.take();

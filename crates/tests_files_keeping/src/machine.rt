@@ -5,7 +5,7 @@ use std::{fs, rt};
 
 const NAME: &str = "kept_log";
 
-/// Whether the file holds this.
+// Whether the file holds this.
 fn holds<R: rt::Files + AllocGlobal>(rt: &R, expected: &str) -> bool {
     match fs::read_to_string(rt, NAME) {
         Ok(text) => text.as_str() == expected,
@@ -13,7 +13,7 @@ fn holds<R: rt::Files + AllocGlobal>(rt: &R, expected: &str) -> bool {
     }
 }
 
-/// The log of the file, cut to so many bytes, or why there is none.
+// The log of the file, cut to so many bytes, or why there is none.
 fn opened<R: rt::Files<File = File> + AllocGlobal>(
     rt: &R,
     whole: usize,
@@ -24,8 +24,8 @@ fn opened<R: rt::Files<File = File> + AllocGlobal>(
     Ok(KeptLog::new(device, whole))
 }
 
-/// Whether blocks are kept in a file that is made, while nobody else can lock it, and others behind them by whoever
-/// opens it then, from which a torn one is cut.
+// Whether blocks are kept in a file that is made, while nobody else can lock it, and others behind them by whoever
+// opens it then, from which a torn one is cut.
 fn keeps<R: rt::Files<File = File> + AllocGlobal>(rt: &R) -> bool {
     let Ok(mut log) = opened(rt, 0) else {
         return false;
@@ -40,7 +40,7 @@ fn keeps<R: rt::Files<File = File> + AllocGlobal>(rt: &R) -> bool {
     are_kept && is_there && is_taken && goes_on(rt)
 }
 
-/// Whether a torn block is cut from the file, and another stands in its place then.
+// Whether a torn block is cut from the file, and another stands in its place then.
 fn goes_on<R: rt::Files<File = File> + AllocGlobal>(rt: &R) -> bool {
     let is_torn = fs::write(rt, NAME, "one.two.th").is_ok();
     let Ok(mut log) = opened(rt, 8) else {
@@ -51,7 +51,7 @@ fn goes_on<R: rt::Files<File = File> + AllocGlobal>(rt: &R) -> bool {
     is_torn && is_cut && third.is_ok() && log.kept() == 14 && holds(rt, "one.two.three.")
 }
 
-/// Whether a file is read that was there, and again.
+// Whether a file is read that was there, and again.
 fn reads<R: rt::Files<File = File> + AllocGlobal>(rt: &R) -> bool {
     let Ok(mut device) = MachineDevice::open(rt, NAME) else {
         return false;
@@ -67,7 +67,7 @@ fn reads<R: rt::Files<File = File> + AllocGlobal>(rt: &R) -> bool {
     bytes.as_slice() == all && again.as_slice() == all
 }
 
-/// Whether nothing is opened in a folder that isn't there, nor a folder.
+// Whether nothing is opened in a folder that isn't there, nor a folder.
 fn refuses<R: rt::Files<File = File>>(rt: &R) -> bool {
     let nowhere = matches!(
         MachineDevice::open(rt, "no_folder/log"),

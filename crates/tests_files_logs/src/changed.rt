@@ -5,11 +5,10 @@ use crate::outcome::{Outcome, front, outcome_of};
 use crate::worked::{FIRST_END, HEAD_END, SECOND_END, THIRD_END, WHOLE, worked};
 use files_logs::LogFault;
 use std::alloc::Global;
-use std::test::Fail;
 
 const DAMAGED: Outcome = Outcome::Fault(LogFault::Damaged);
 
-/// How many bytes there are before the block, or the end, in which this byte stands.
+// How many bytes there are before the block, or the end, in which this byte stands.
 fn before(place: usize) -> usize
     ensures { result ≤ THIRD_END }
 {
@@ -24,9 +23,9 @@ fn before(place: usize) -> usize
     }
 }
 
-/// What a change of the byte at this place does to a log of so many bytes, which ends with a block or with the end. Of a
-/// block whose size isn't right nobody knows how much is behind it, so it may be a torn tail in a log that is shorter
-/// than a block may be.
+// What a change of the byte at this place does to a log of so many bytes, which ends with a block or with the end. Of a
+// block whose size isn't right nobody knows how much is behind it, so it may be a torn tail in a log that is shorter
+// than a block may be.
 fn after_change(place: usize, length: usize) -> Outcome {
     if place < 8 {
         return Outcome::Fault(LogFault::NoLog);
@@ -49,7 +48,7 @@ fn after_change(place: usize, length: usize) -> Outcome {
     if is_last { front(before) } else { DAMAGED }
 }
 
-/// Whether each bit of the byte at this place, where it is flipped, does that to the log.
+// Whether each bit of the byte at this place, where it is flipped, does that to the log.
 fn is_every_change_seen(alloc: Global, bytes: &mut [u8], place: usize) -> bool
     requires { place < length bytes.old }
 {
@@ -65,8 +64,8 @@ fn is_every_change_seen(alloc: Global, bytes: &mut [u8], place: usize) -> bool
     true
 }
 
-/// Whether each flipped bit is seen in the first bytes of the log, this many.
-fn are_changes_seen(alloc: Global, length: usize) -> Option<usize> {
+// In how many bytes of the log cut at this length, from the first on, each flipped bit is seen.
+fn changes_seen(alloc: Global, length: usize) -> Option<usize> {
     let mut log = worked(alloc).ok()?;
     log.truncate(length);
     let bytes = log.as_mut_slice();
@@ -75,12 +74,20 @@ fn are_changes_seen(alloc: Global, length: usize) -> Option<usize> {
             return Some(place);
         }
     }
-    None
+    Some(bytes.len())
 }
 
 #[test]
 fn sees_each_flipped_bit(rt: HostRuntime) {
-    for length in [FIRST_END, SECOND_END, THIRD_END, WHOLE] {
-        assert_eq!(rt; are_changes_seen(rt.alloc(), length), None, "{length}");
-    }
+    let seen = [FIRST_END, SECOND_END, THIRD_END, WHOLE].map(|length| changes_seen(
+        rt.alloc(),
+        length,
+    ));
+    let all = [
+        Some(FIRST_END),
+        Some(SECOND_END),
+        Some(THIRD_END),
+        Some(WHOLE),
+    ];
+    assert_eq!(rt; seen, all);
 }

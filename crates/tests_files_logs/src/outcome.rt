@@ -13,7 +13,7 @@ pub(crate) enum Outcome {
     Fault(LogFault),
 }
 
-/// Whether an event of the worked log stands at its place.
+// Whether an event of the worked log stands at its place.
 fn is_event(event: Event, place: usize) -> bool {
     match place {
         0 => event == Event::Announce,
@@ -23,7 +23,7 @@ fn is_event(event: Event, place: usize) -> bool {
     }
 }
 
-/// Whether the log has the first events of the worked log, this many.
+// Whether the log has the first events of the worked log, this many.
 fn has_events(log: &Log, count: usize) -> bool {
     if log.journal.len() != count {
         return false;
@@ -38,7 +38,7 @@ fn has_events(log: &Log, count: usize) -> bool {
     true
 }
 
-/// Whether that is what the worked log says up to the end of a block.
+// Whether that is what the worked log says up to the end of a block.
 fn is_front(log: &Log, count: usize, whole: usize) -> bool {
     let events = match count {
         0 => 0,
@@ -54,7 +54,7 @@ fn is_front(log: &Log, count: usize, whole: usize) -> bool {
         && log.sum == SUMS[count]
 }
 
-/// How many blocks of the worked log end behind so many bytes.
+// How many blocks of the worked log end behind so many bytes.
 fn blocks_within(whole: usize) -> usize {
     match whole {
         FIRST_END => 1,

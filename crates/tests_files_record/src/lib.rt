@@ -1,8 +1,6 @@
-//! Tests of recorded runs: how steps are written, and that a run, recorded and played again by the program's commands,
-//! gives its rows. No program uses this crate.
+//! Tests of recorded runs: that a run, recorded and played again by the program's commands, gives its rows. That what
+//! is written of steps is read again is a law of `files_record`. No program uses this crate.
 #![tactic(auto)]
 
 #[cfg(test)]
 mod again;
-#[cfg(test)]
-mod lines;

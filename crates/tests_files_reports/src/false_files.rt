@@ -1,98 +1,113 @@
 //! Files whose digest is right, and in which no node could say what is said.
 use crate::changed::fault;
-use crate::worked::{COORDINATOR_SAID, SAID, file};
+use crate::worked::{SAID, file};
 use files_reports::{ContentFault, ReadFault};
 use sha2::{Digest, Sha256};
 use std::alloc::{AllocError, Global};
-use std::test::Fail;
 
-/// The file of the run in which this is said.
+const SHORT: Option<ReadFault> = Some(ReadFault::Content(ContentFault::Short));
+
+const BAD_TAG: Option<ReadFault> = Some(ReadFault::Content(ContentFault::BadTag));
+
+const BAD_EVENT: Option<ReadFault> = Some(ReadFault::Content(ContentFault::BadEvent));
+
+const BAD_FRAME: Option<ReadFault> = Some(ReadFault::Content(ContentFault::BadFrame));
+
+const TRAILING: Option<ReadFault> = Some(ReadFault::Content(ContentFault::Trailing));
+
+// The file of the run in which this is said.
 fn sealed(alloc: Global, said: &[u8]) -> Result<Vec<u8>, AllocError> {
     let content = file(alloc, said, b"")?;
     file(alloc, said, &Sha256::digest(content.as_slice()))
 }
 
-/// What is wrong with what is said.
-fn content_fault(alloc: Global, said: &[u8]) -> Option<ContentFault> {
-    let file = sealed(alloc, said).ok()?;
-    match fault(alloc, &file) {
-        Some(ReadFault::Content(fault)) => Some(fault),
-        _ => None,
+// Why it isn't read; None where it is.
+fn fault_of(alloc: Global, said: &[u8]) -> Option<ReadFault> {
+    match sealed(alloc, said) {
+        Ok(file) => fault(alloc, &file),
+        Err(_) => Some(ReadFault::Memory),
     }
+}
+
+// How many fronts of what federate 0 says, from the shortest on, are too short.
+fn short_fronts(alloc: Global) -> Option<usize> {
+    for length in 0..SAID.len() {
+        if fault_of(alloc, SAID.get(..length)?) != SHORT {
+            return Some(length);
+        }
+    }
+    Some(SAID.len())
 }
 
 #[test]
 fn refuses_each_prefix_of_what_is_said(rt: HostRuntime) {
-    for length in 0..SAID.len() {
-        assert_eq!(rt;
-            content_fault(rt.alloc(), &SAID[..length]),
-            Some(ContentFault::Short),
-            "{length}"
-        );
-    }
-    assert_eq!(rt; content_fault(rt.alloc(), &SAID), None);
+    assert_eq!(rt; short_fronts(rt.alloc()), Some(179));
 }
 
-#[test]
-fn refuses_a_byte_behind_the_journal(rt: HostRuntime) -> Result<(), Fail> {
-    for byte in 0..=255 {
-        let mut said = Vec::from_slice(rt.alloc(), &COORDINATOR_SAID)?;
-        said.push(byte)?;
-        assert_eq!(rt;
-            content_fault(rt.alloc(), &said),
-            Some(ContentFault::Trailing),
-            "{byte}"
-        );
+/// Bytes, and what is wrong with a file in which they are said behind a front and before what follows it.
+type Part = (&'static [u8], Option<ReadFault>);
+
+// The place of the first of these parts with which a file is read otherwise.
+fn first_wrong(alloc: Global, front: &[u8], parts: &[Part], back: &[u8]) -> Option<usize> {
+    for (place, (part, fault)) in parts.iter().enumerate() {
+        if fault_between(alloc, front, part, back) != *fault {
+            return Some(place);
+        }
     }
-    Ok(())
+    None
 }
 
-/// What a coordinator would say whose one event is this.
-fn one_event(alloc: Global, event: &[u8]) -> Result<Vec<u8>, AllocError> {
-    let mut said = Vec::from_slice(alloc, &[0xff, 0xff, 0, 0, 0, 0, 0, 0, 0, 1])?;
-    said.extend_from_slice(event)?;
-    Ok(said)
+// Why a file isn't read in which these are said, one behind the other.
+fn fault_between(alloc: Global, front: &[u8], part: &[u8], back: &[u8]) -> Option<ReadFault> {
+    match between(alloc, front, part, back) {
+        Ok(said) => fault_of(alloc, &said),
+        Err(_) => Some(ReadFault::Memory),
+    }
 }
+
+fn between(alloc: Global, front: &[u8], part: &[u8], back: &[u8]) -> Result<Vec<u8>, AllocError> {
+    let mut bytes = Vec::from_slice(alloc, front)?;
+    bytes.extend_from_slice(part)?;
+    bytes.extend_from_slice(back)?;
+    Ok(bytes)
+}
+
+/// The coordinator, with one event.
+const ONE_EVENT: &[u8] = &[0xff, 0xff, 0, 0, 0, 0, 0, 0, 0, 1];
 
 /// Events, and what is wrong with them.
-const EVENTS: [(&[u8], ContentFault); 15] = [
-    (&[], ContentFault::Short),
+const EVENTS: &[Part] = &[
+    (&[], SHORT),
     // of no kind
-    (&[0], ContentFault::BadEvent),
-    (&[6, 0, 0, 0, 0, 0, 0, 0, 0], ContentFault::BadEvent),
-    (&[255], ContentFault::BadEvent),
+    (&[0], BAD_EVENT),
+    (&[6, 0, 0, 0, 0, 0, 0, 0, 0], BAD_EVENT),
+    (&[255], BAD_EVENT),
     // without all of its peer
-    (&[2], ContentFault::Short),
-    (&[3, 0, 0, 0, 0, 0, 0, 0], ContentFault::Short),
+    (&[2], SHORT),
+    (&[3, 0, 0, 0, 0, 0, 0, 0], SHORT),
     // without a frame's length, and without all of its body
-    (&[1, 0, 0, 0, 0, 0, 0, 0, 0, 0, 0, 0], ContentFault::Short),
+    (&[1, 0, 0, 0, 0, 0, 0, 0, 0, 0, 0, 0], SHORT),
     (
         &[1, 0, 0, 0, 0, 0, 0, 0, 0, 0, 0, 0, 7, 4, 0, 0, 0, 2, 0],
-        ContentFault::Short,
+        SHORT,
     ),
     // a frame of no bytes
-    (
-        &[1, 0, 0, 0, 0, 0, 0, 0, 0, 0, 0, 0, 0],
-        ContentFault::BadFrame,
-    ),
+    (&[1, 0, 0, 0, 0, 0, 0, 0, 0, 0, 0, 0, 0], BAD_FRAME),
     // of no kind
-    (
-        &[1, 0, 0, 0, 0, 0, 0, 0, 0, 0, 0, 0, 1, 9],
-        ContentFault::BadFrame,
-    ),
+    (&[1, 0, 0, 0, 0, 0, 0, 0, 0, 0, 0, 0, 1, 9], BAD_FRAME),
     // a Refuse with a byte too many in its body
     (
         &[
             1, 0, 0, 0, 0, 0, 0, 0, 0, 0, 0, 0, 8, 4, 0, 0, 0, 2, 0, 51, 0,
         ],
-        ContentFault::BadFrame,
+        BAD_FRAME,
     ),
     // a Hello of version 2, which this file spells with version 1
     (
         &[
             1, 0, 0, 0, 0, 0, 0, 0, 0, 0, 0, 0, 16, 1, 2, 0, 0, 0, 0, 0, 0, 0, 0, 0, 0, 0, 0, 0, 0,
         ],
-        ContentFault::BadFrame,
+        BAD_FRAME,
     ),
     // a Batch of two LTCs, which stands for two frames
     (
@@ -100,7 +115,7 @@ const EVENTS: [(&[u8], ContentFault); 15] = [
             1, 0, 0, 0, 0, 0, 0, 0, 0, 0, 0, 0, 40, 5, 0, 0, 0, 1, 0, 0, 0, 0, 0, 0, 0, 1, 2, 2, 0,
             0, 0, 0, 0, 0, 0, 0, 0, 0, 0, 0, 2, 0, 0, 0, 0, 0, 0, 0, 1, 0, 0, 0, 0,
         ],
-        ContentFault::BadFrame,
+        BAD_FRAME,
     ),
     // FOREVER in an LTC
     (
@@ -108,71 +123,74 @@ const EVENTS: [(&[u8], ContentFault); 15] = [
             1, 0, 0, 0, 0, 0, 0, 0, 0, 0, 0, 0, 26, 2, 0, 0, 0, 1, 0, 0, 0, 0, 0, 0, 0, 1, 2, 255,
             255, 255, 255, 255, 255, 255, 255, 255, 255, 255, 255,
         ],
-        ContentFault::BadFrame,
+        BAD_FRAME,
     ),
     // a second event that the count doesn't announce
-    (&[4, 5], ContentFault::Trailing),
+    (&[4, 5], TRAILING),
 ];
 
 #[test]
-fn refuses_what_is_no_event(rt: HostRuntime) -> Result<(), Fail> {
-    for (event, fault) in &EVENTS {
-        let said = one_event(rt.alloc(), *event)?;
-        assert_eq!(rt; content_fault(rt.alloc(), &said), Some(*fault), "{event:?}");
-    }
-    Ok(())
+fn refuses_what_is_no_event(rt: HostRuntime) {
+    assert_eq!(rt; first_wrong(rt.alloc(), ONE_EVENT, EVENTS, &[]), None);
 }
 
-/// What is wrong where federate 0 has one row, at this time and microstep, with no entries and no events.
-fn row_fault(alloc: Global, tag: &[u8; 12]) -> Option<ContentFault> {
-    let mut said = Vec::from_slice(alloc, &[0, 0, 0, 0, 0, 0, 0, 0, 0, 1]).ok()?;
-    said.extend_from_slice(tag).ok()?;
-    said.extend_from_slice(&[0; 24]).ok()?;
-    content_fault(alloc, &said)
-}
+/// Federate 0, with one row.
+const ONE_ROW: &[u8] = &[0, 0, 0, 0, 0, 0, 0, 0, 0, 1];
 
+/// Tags: the last one, FOREVER, and what is none.
+const TAGS: &[Part] = &[
+    (
+        &[0x3f, 255, 255, 255, 255, 255, 255, 255, 255, 255, 255, 255],
+        None,
+    ),
+    (&[255; 12], None),
+    (&[0x40, 0, 0, 0, 0, 0, 0, 0, 0, 0, 0, 0], BAD_TAG),
+    (
+        &[255, 255, 255, 255, 255, 255, 255, 255, 255, 255, 255, 254],
+        BAD_TAG,
+    ),
+];
+
+// No entries and no events are behind them.
 #[test]
 fn takes_the_tags_of_the_wire_alone(rt: HostRuntime) {
-    let bad = Some(ContentFault::BadTag);
-    let last = [0x3f, 255, 255, 255, 255, 255, 255, 255, 255, 255, 255, 255];
-    assert_eq!(rt; row_fault(rt.alloc(), &last), None);
-    assert_eq!(rt; row_fault(rt.alloc(), &[255; 12]), None);
-    assert_eq!(rt;
-        row_fault(rt.alloc(), &[0x40, 0, 0, 0, 0, 0, 0, 0, 0, 0, 0, 0]),
-        bad
-    );
-    let almost = [255, 255, 255, 255, 255, 255, 255, 255, 255, 255, 255, 254];
-    assert_eq!(rt; row_fault(rt.alloc(), &almost), bad);
+    assert_eq!(rt; first_wrong(rt.alloc(), ONE_ROW, TAGS, &[0; 24]), None);
 }
 
-/// What is wrong where federate 0 has one row, at the first tag, which goes on so.
-fn entries_fault(alloc: Global, entries: &[u8]) -> Option<ContentFault> {
-    let mut said = Vec::from_slice(alloc, &[0, 0, 0, 0, 0, 0, 0, 0, 0, 1]).ok()?;
-    said.extend_from_slice(&[0; 12]).ok()?;
-    said.extend_from_slice(entries).ok()?;
-    content_fault(alloc, &said)
-}
+/// Rows at the first tag with more inputs, and with more outputs, than there is memory for.
+const TOO_MANY_ENTRIES: &[Part] = &[
+    (
+        &[
+            0, 0, 0, 0, 0, 0, 0, 0, 0, 0, 0, 0, 255, 255, 255, 255, 255, 255, 255, 255,
+        ],
+        SHORT,
+    ),
+    (
+        &[
+            0, 0, 0, 0, 0, 0, 0, 0, 0, 0, 0, 0, 0, 0, 0, 0, 0, 0, 0, 0, 255, 255, 255, 255, 255,
+            255, 255, 255,
+        ],
+        SHORT,
+    ),
+];
 
-/// The count of more entries than there is memory for.
-const ALL: [u8; 8] = [255; 8];
-
-/// No room is taken for entries that a row says it has, before they are read.
+// No room is taken for entries that a row says it has, before they are read.
 #[test]
 fn refuses_a_count_of_entries_that_is_too_great(rt: HostRuntime) {
-    let short = Some(ContentFault::Short);
-    assert_eq!(rt; entries_fault(rt.alloc(), &ALL), short);
-    let outputs = [
-        0, 0, 0, 0, 0, 0, 0, 0, 255, 255, 255, 255, 255, 255, 255, 255,
-    ];
-    assert_eq!(rt; entries_fault(rt.alloc(), &outputs), short);
+    assert_eq!(rt;
+        first_wrong(rt.alloc(), ONE_ROW, TOO_MANY_ENTRIES, &[]),
+        None
+    );
 }
 
-/// A count that no file has bytes for is refused as soon as they end, and takes no memory of its own.
+/// Federate 0 with more rows, and the coordinator with more events, than there is memory for.
+const TOO_MANY: &[Part] = &[
+    (&[0, 0, 255, 255, 255, 255, 255, 255, 255, 255], SHORT),
+    (&[255, 255, 255, 255, 255, 255, 255, 255, 255, 255], SHORT),
+];
+
+// A count that no file has bytes for is refused as soon as they end, and takes no memory of its own.
 #[test]
 fn refuses_a_count_that_is_too_great(rt: HostRuntime) {
-    let short = Some(ContentFault::Short);
-    let rows = [0, 0, 255, 255, 255, 255, 255, 255, 255, 255];
-    let events = [255; 10];
-    assert_eq!(rt; content_fault(rt.alloc(), &rows), short);
-    assert_eq!(rt; content_fault(rt.alloc(), &events), short);
+    assert_eq!(rt; first_wrong(rt.alloc(), &[], TOO_MANY, &[]), None);
 }

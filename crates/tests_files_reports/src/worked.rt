@@ -1,5 +1,5 @@
 //! Two files worked by hand: of a federate that counted to two, and of a coordinator.
-use files_reports::{FileDigests, NodeReport, read_report, write_report};
+use files_reports::{FileDigests, NodeReport, write_report};
 use node::Event;
 use node_journal::Journal;
 use reactor::Rows;
@@ -7,11 +7,10 @@ use reactor_program::Entry;
 use recorder_reports::Report;
 use signal::{Frame, Hello, Signal};
 use std::alloc::{AllocError, Global};
-use std::test::Fail;
 use tag::{FiniteTag, Tag, Time};
 
 /// What the run is of; there are no recorded inputs.
-pub(crate) const FEDERATION: &[u8] = b"stop = \"20 ms\"\n";
+const FEDERATION: &[u8] = b"stop = \"20 ms\"\n";
 
 /// The SHA-256 of `FEDERATION`, by another program.
 const FEDERATION_DIGEST: [u8; 32] = [
@@ -54,7 +53,7 @@ const SEAL: [u8; 32] = [
 ];
 
 /// What the coordinator says: three events.
-pub(crate) const COORDINATOR_SAID: [u8; 57] = [
+const COORDINATOR_SAID: [u8; 57] = [
     0xff, 0xff, // the coordinator
     0, 0, 0, 0, 0, 0, 0, 3, // three events
     3, 0, 0, 0, 0, 0, 0, 0, 1, // federate 1 is to be greeted
@@ -90,7 +89,7 @@ pub(crate) fn worked(alloc: Global) -> Result<Vec<u8>, AllocError> {
     file(alloc, &SAID, &SEAL)
 }
 
-/// At that many ns.
+// At that many ns.
 fn at(nanoseconds: u64) -> Tag {
     match Time::new(nanoseconds) {
         Some(time) => Tag::new(time, 0),
@@ -98,7 +97,7 @@ fn at(nanoseconds: u64) -> Tag {
     }
 }
 
-/// A row of federate 0, in which the timer was present and the output was set to this.
+// A row of federate 0, in which the timer was present and the output was set to this.
 fn add_row(rows: &mut Rows, nanoseconds: u64, value: i64) -> bool {
     rows.push(
         0,
@@ -109,8 +108,8 @@ fn add_row(rows: &mut Rows, nanoseconds: u64, value: i64) -> bool {
     .is_ok()
 }
 
-/// What `src` says.
-pub(crate) fn counted_twice(alloc: Global) -> Option<NodeReport> {
+// What `src` says.
+fn counted_twice(alloc: Global) -> Option<NodeReport> {
     let mut rows = Rows::new(alloc);
     if !add_row(&mut rows, 0, 1) || !add_row(&mut rows, 10_000_000, 2) {
         return None;
@@ -128,7 +127,7 @@ pub(crate) fn counted_twice(alloc: Global) -> Option<NodeReport> {
     }))
 }
 
-/// What the coordinator says.
+// What the coordinator says.
 fn coordinated(alloc: Global) -> Option<NodeReport> {
     let hello = Frame::Hello(Hello {
         federate: 1,
@@ -143,110 +142,30 @@ fn coordinated(alloc: Global) -> Option<NodeReport> {
     Some(NodeReport::Coordinator(Journal::of(alloc, &events).ok()?))
 }
 
-/// The file of a report of the run.
-pub(crate) fn written(alloc: Global, report: &NodeReport) -> Option<Vec<u8>> {
-    write_report(alloc, &digests(), report).ok()
+// Whether the bytes are the file of a report of the run.
+fn is_file_of(alloc: Global, report: Option<NodeReport>, bytes: &[u8]) -> Option<bool> {
+    let written = write_report(alloc, &digests(), &report?).ok()?;
+    Some(written.as_slice() == bytes)
 }
 
-/// Whether the bytes are the file of the run in which this is said.
-fn is_written(alloc: Global, report: Option<NodeReport>, bytes: &[u8]) -> bool {
-    let Some(report) = report else {
-        return false;
-    };
-    match written(alloc, &report) {
-        Some(file) => file.as_slice() == bytes,
-        None => false,
-    }
+// Whether that is what `src` writes.
+fn is_written_of_src(alloc: Global) -> Option<bool> {
+    let file = worked(alloc).ok()?;
+    is_file_of(alloc, counted_twice(alloc), &file)
 }
 
 #[test]
-fn writes_what_a_federate_says(rt: HostRuntime) -> Result<(), Fail> {
-    let file = worked(rt.alloc())?;
-    assert!(rt; is_written(rt.alloc(), counted_twice(rt.alloc()), &file));
-    Ok(())
+fn writes_what_a_federate_says(rt: HostRuntime) {
+    assert_eq!(rt; is_written_of_src(rt.alloc()), Some(true));
+}
+
+// Whether that is what the coordinator writes.
+fn is_written_of_coordinator(alloc: Global) -> Option<bool> {
+    let file = file(alloc, &COORDINATOR_SAID, &COORDINATOR_SEAL).ok()?;
+    is_file_of(alloc, coordinated(alloc), &file)
 }
 
 #[test]
-fn writes_what_the_coordinator_says(rt: HostRuntime) -> Result<(), Fail> {
-    let file = file(rt.alloc(), &COORDINATOR_SAID, &COORDINATOR_SEAL)?;
-    assert!(rt; is_written(rt.alloc(), coordinated(rt.alloc()), &file));
-    Ok(())
-}
-
-/// Whether two rows are those of `src`, at these times with these values.
-fn are_rows_of_src(rows: &Rows, expected: &[(u64, i64)]) -> bool {
-    if rows.len() != expected.len() {
-        return false;
-    }
-    for place in 0..rows.len() {
-        let row = rows.row(place);
-        let (nanoseconds, value) = expected[place];
-        let is_one = row.federate() == 0
-            && row.tag() == at(nanoseconds)
-            && matches!(row.inputs(), [entry] if entry.place() == 1 && entry.value() == 0)
-            && matches!(row.outputs(), [entry] if entry.place() == 0 && entry.value() == value);
-        if !is_one {
-            return false;
-        }
-    }
-    true
-}
-
-/// The first four events of a journal, as far as it goes.
-fn events_of(journal: &Journal) -> [Option<Event>; 4] {
-    let mut block = 0;
-    [
-        journal.get(0, &mut block),
-        journal.get(1, &mut block),
-        journal.get(2, &mut block),
-        journal.get(3, &mut block),
-    ]
-}
-
-/// Whether the bytes are read as what `src` says.
-fn is_read_as_src(alloc: Global, bytes: &[u8]) -> bool {
-    let Ok(NodeReport::Federate(report)) = read_report(alloc, &digests(), bytes) else {
-        return false;
-    };
-    report.federate == 0
-        && are_rows_of_src(&report.rows, &[(0, 1), (10_000_000, 2)])
-        && matches!(
-            events_of(&report.journal),
-            [
-                Some(Event::Announce),
-                Some(Event::Frame(0, Frame::Data { number: 1, .. })),
-                Some(Event::Advance),
-                None
-            ]
-        )
-}
-
-#[test]
-fn reads_what_a_federate_says(rt: HostRuntime) -> Result<(), Fail> {
-    let file = worked(rt.alloc())?;
-    assert!(rt; is_read_as_src(rt.alloc(), &file));
-    Ok(())
-}
-
-/// Whether the bytes are read as what the coordinator says.
-fn is_read_as_coordinator(alloc: Global, bytes: &[u8]) -> bool {
-    let Ok(NodeReport::Coordinator(journal)) = read_report(alloc, &digests(), bytes) else {
-        return false;
-    };
-    matches!(
-        events_of(&journal),
-        [
-            Some(Event::Hello(1)),
-            Some(Event::Frame(1, Frame::Hello(Hello { federate: 1, .. }))),
-            Some(Event::Resend(0x1234)),
-            None
-        ]
-    )
-}
-
-#[test]
-fn reads_what_the_coordinator_says(rt: HostRuntime) -> Result<(), Fail> {
-    let file = file(rt.alloc(), &COORDINATOR_SAID, &COORDINATOR_SEAL)?;
-    assert!(rt; is_read_as_coordinator(rt.alloc(), &file));
-    Ok(())
+fn writes_what_the_coordinator_says(rt: HostRuntime) {
+    assert_eq!(rt; is_written_of_coordinator(rt.alloc()), Some(true));
 }

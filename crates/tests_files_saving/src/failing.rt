@@ -19,7 +19,7 @@ const PART: &[u8] = b"new ";
 
 const OTHERS: &[u8] = b"other";
 
-/// A disk with another file, and with these under the name and the temporary one.
+// A disk with another file, and with these under the name and the temporary one.
 fn disk_with(
     alloc: Global,
     bytes: Option<&[u8]>,
@@ -37,7 +37,7 @@ fn disk_with(
     Some(disk)
 }
 
-/// Whether the file of the name holds this, and the temporary one that, and the other file is as it was.
+// Whether the file of the name holds this, and the temporary one that, and the other file is as it was.
 fn stand(disk: &MemoryDisk, bytes: Option<&[u8]>, temporary: Option<&[u8]>) -> bool {
     let count = 1 + usize::from(bytes.is_some()) + usize::from(temporary.is_some());
     disk.bytes(NAME) == bytes
@@ -46,8 +46,8 @@ fn stand(disk: &MemoryDisk, bytes: Option<&[u8]>, temporary: Option<&[u8]>) -> b
         && disk.len() == count
 }
 
-/// Whether a name that is free is reserved, and once more is refused; whether new bytes are saved then, the temporary
-/// file isn't there any more, and the name is refused from then on.
+// Whether a name that is free is reserved, and once more is refused; whether new bytes are saved then, the temporary
+// file isn't there any more, and the name is refused from then on.
 fn saves(alloc: Global) -> Option<bool> {
     let mut disk = disk_with(alloc, None, None, None)?;
     let first = reserved(alloc, &mut disk, NAME)?;
@@ -122,8 +122,8 @@ const UNSAVED: &[(SaveFault, &[u8])] = &[
     (SaveFault::CannotRename, NEW),
 ];
 
-/// Whether it is answered that this call failed, there is no file of the name then, and the temporary one holds this,
-/// so that the name stays reserved.
+// Whether it is answered that this call failed, there is no file of the name then, and the temporary one holds this, so
+// that the name stays reserved.
 fn is_unsaved(alloc: Global, fails: SaveFault, left: &[u8]) -> Option<bool> {
     let mut disk = disk_with(alloc, None, None, None)?;
     let is_reserved = reserved(alloc, &mut disk, NAME)? == Ok(());
@@ -147,7 +147,7 @@ fn leaves_the_temporary_file_whichever_call_fails(rt: HostRuntime) {
     }
 }
 
-/// Whether a file that got the name meanwhile stays as it is, and the temporary one has all bytes.
+// Whether a file that got the name meanwhile stays as it is, and the temporary one has all bytes.
 fn leaves_another(alloc: Global) -> Option<bool> {
     let mut disk = disk_with(alloc, None, None, None)?;
     let is_reserved = reserved(alloc, &mut disk, NAME)? == Ok(());
@@ -193,7 +193,7 @@ impl Disk for Overtaken {
     }
 }
 
-/// Whether the name isn't reserved then, and what he saved is left.
+// Whether the name isn't reserved then, and what he saved is left.
 fn is_overtaken(alloc: Global) -> Option<bool> {
     let mut disk = Overtaken {
         disk: disk_with(alloc, None, Some(OLD), None)?,
@@ -202,7 +202,7 @@ fn is_overtaken(alloc: Global) -> Option<bool> {
     Some(answer == Err(ReserveFault::NameTaken) && stand(&disk.disk, Some(OLD), None))
 }
 
-/// Whoever looked for the name before he makes the temporary file would find neither.
+// Whoever looked for the name before he makes the temporary file would find neither.
 #[test]
 fn reserves_no_name_that_another_file_gets_meanwhile(rt: HostRuntime) {
     assert_eq!(rt; is_overtaken(rt.alloc()), Some(true));

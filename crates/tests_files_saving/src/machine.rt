@@ -9,12 +9,12 @@ const TEMPORARY: &str = "saved_report.part";
 
 const FOLDER: &str = "saved_folder";
 
-/// What a file holds; none where it isn't there.
+// What a file holds; none where it isn't there.
 fn text<R: rt::Files + AllocGlobal>(rt: &R, name: &str) -> Option<String> {
     fs::read_to_string(rt, name).ok()
 }
 
-/// Whether a file holds this.
+// Whether a file holds this.
 fn holds<R: rt::Files + AllocGlobal>(rt: &R, name: &str, expected: &str) -> bool {
     match text(rt, name) {
         Some(text) => text.as_str() == expected,
@@ -22,13 +22,13 @@ fn holds<R: rt::Files + AllocGlobal>(rt: &R, name: &str, expected: &str) -> bool
     }
 }
 
-/// Whether there are the file and the temporary one.
+// Whether there are the file and the temporary one.
 fn are_there<R: rt::Files>(rt: &R) -> (Result<bool, SaveFault>, Result<bool, SaveFault>) {
     let mut disk = MachineDisk::new(rt);
     (disk.exists(NAME), disk.exists(TEMPORARY))
 }
 
-/// Whether a file is saved under a name that was reserved, and the name is refused meanwhile and then.
+// Whether a file is saved under a name that was reserved, and the name is refused meanwhile and then.
 fn saves<R: rt::Files + AllocGlobal>(rt: &R) -> bool {
     let mut disk = MachineDisk::new(rt);
     let was_free = are_there(rt) == (Ok(false), Ok(false));
@@ -49,7 +49,7 @@ fn saves<R: rt::Files + AllocGlobal>(rt: &R) -> bool {
         && is_removed
 }
 
-/// Whether a temporary file that another made stays as it is, also where it is to be written.
+// Whether a temporary file that another made stays as it is, also where it is to be written.
 fn leaves_another<R: rt::Files + AllocGlobal>(rt: &R) -> bool {
     let is_written = fs::write(rt, TEMPORARY, "another's").is_ok();
     let mut disk = MachineDisk::new(rt);
@@ -64,7 +64,7 @@ fn leaves_another<R: rt::Files + AllocGlobal>(rt: &R) -> bool {
         && is_removed
 }
 
-/// Whether a file that got the name behind its reservation stays as it is, and the temporary one has all bytes.
+// Whether a file that got the name behind its reservation stays as it is, and the temporary one has all bytes.
 fn leaves_a_later_one<R: rt::Files + AllocGlobal>(rt: &R) -> bool {
     let mut disk = MachineDisk::new(rt);
     let first = reserved(rt.alloc(), &mut disk, NAME);
@@ -79,7 +79,7 @@ fn leaves_a_later_one<R: rt::Files + AllocGlobal>(rt: &R) -> bool {
         && are_removed
 }
 
-/// Whether nothing is written into what got the temporary file's name, and so neither into what a link there names.
+// Whether nothing is written into what got the temporary file's name, and so neither into what a link there names.
 fn writes_into_its_own<R: rt::Files + AllocGlobal>(rt: &R) -> bool {
     let mut disk = MachineDisk::new(rt);
     let first = reserved(rt.alloc(), &mut disk, NAME);
@@ -91,7 +91,7 @@ fn writes_into_its_own<R: rt::Files + AllocGlobal>(rt: &R) -> bool {
     first == Some(Ok(())) && is_replaced && written == Ok(()) && is_left && is_removed
 }
 
-/// Whether it can't be looked for a file below another file.
+// Whether it can't be looked for a file below another file.
 fn cannot_look<R: rt::Files + AllocGlobal>(rt: &R) -> bool {
     let is_written = fs::write(rt, NAME, "no folder").is_ok();
     let mut disk = MachineDisk::new(rt);
@@ -100,7 +100,7 @@ fn cannot_look<R: rt::Files + AllocGlobal>(rt: &R) -> bool {
     is_written && below == Err(SaveFault::CannotLook) && is_removed
 }
 
-/// Whether no name is reserved in a folder that isn't there, nor one that a folder has.
+// Whether no name is reserved in a folder that isn't there, nor one that a folder has.
 fn refuses<R: rt::Files + AllocGlobal>(rt: &R) -> bool {
     let mut disk = MachineDisk::new(rt);
     let nowhere = reserved(rt.alloc(), &mut disk, "no_folder/report");

@@ -72,7 +72,7 @@ impl OpenFile for UnsyncedFile {
     }
 }
 
-/// What isn't asked of the machine here.
+// What isn't asked of the machine here.
 fn unsupported() -> io::Error {
     io::Error::from(ErrorKind::Unsupported)
 }
@@ -134,7 +134,7 @@ impl rt::Files for Unsynced {
 /// What is answered when a name is reserved, and then when a file is saved under it.
 type Answers = (Result<(), ReserveFault>, Option<Result<(), SaveFault>>);
 
-/// These answers where the machine doesn't say of this file, this time, that it keeps it; and how many files it opened.
+// These answers where the machine doesn't say of this file, this time, that it keeps it; and how many files it opened.
 fn answered(alloc: Global, file: u64, time: u64) -> Option<(Answers, u64)> {
     let machine = Unsynced {
         opened: AtomicU64::new(0),
@@ -145,7 +145,7 @@ fn answered(alloc: Global, file: u64, time: u64) -> Option<(Answers, u64)> {
     Some((answers, machine.opened.load(Ordering::SeqCst)))
 }
 
-/// The same answers of a machine.
+// The same answers of a machine.
 fn answers_of<R: rt::Files>(alloc: Global, machine: &R) -> Option<Answers> {
     let mut disk = MachineDisk::new(machine);
     let first = reserved(alloc, &mut disk, NAME)?;

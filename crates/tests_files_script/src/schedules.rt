@@ -39,7 +39,7 @@ const FORMS: &[(&str, Command)] = &[
     ("round", Command::Round),
 ];
 
-/// Whether these are one command, in line 1.
+// Whether these are one command, in line 1.
 fn is_one(lines: &[ScheduleLine], command: Command) -> bool {
     match lines {
         [line] => line.number == 1 && line.command == command,
@@ -47,7 +47,7 @@ fn is_one(lines: &[ScheduleLine], command: Command) -> bool {
     }
 }
 
-/// Whether a file is read as one command, in its one line.
+// Whether a file is read as one command, in its one line.
 fn reads(alloc: Global, plan: &Plan, file: &[u8], command: Command) -> bool {
     match read_script(alloc, file, plan) {
         Ok(script) => script.last_line() == 1 && is_one(script.lines(), command),
@@ -114,7 +114,7 @@ const BAD: &[&[u8]] = &[
     b"deliver up nobody 1",
 ];
 
-/// What is printed of a file; None where it is taken.
+// What is printed of a file; None where it is taken.
 fn told(alloc: Global, plan: &Plan, file: &[u8]) -> Option<ScriptFault> {
     read_script(alloc, file, plan).err()
 }
@@ -146,7 +146,7 @@ const FILES: &[(&[u8], usize, usize, usize, usize)] = &[
     (b"round\n ", 2, 0, 0, 0),
 ];
 
-/// The line of the last command; 0 where there is none.
+// The line of the last command; 0 where there is none.
 fn last_number(lines: &[ScheduleLine]) -> usize {
     match lines {
         [.., line] => line.number,
@@ -154,7 +154,7 @@ fn last_number(lines: &[ScheduleLine]) -> usize {
     }
 }
 
-/// What stands in the table of files.
+// What stands in the table of files.
 fn answer(alloc: Global, plan: &Plan, file: &[u8]) -> Option<(usize, usize, usize, usize)> {
     match read_script(alloc, file, plan) {
         Ok(script) => {

@@ -1,55 +1,20 @@
 //! Reports of desks are collected and audited. A report that is refused is handed back, an audit that is out of memory
 //! may be made again, and one that is begun while journals grow goes on.
-use crate::desks::{Run, played, played_with_repeat};
+use crate::desks::{Run, played};
 use crate::loading::loaded;
+use coordinator::Coordinator;
 use desk::Desk;
 use federate::Federate;
-use node::NodeId;
+use node::{Event, NodeId};
 use node_journal::Journal;
-use recorder::{
-    AuditedRun, Collector, IncrementalAudit, Refused, Report, ReportFault, Unproved, audit,
-};
+use recorder::{Collector, IncrementalAudit, Refused, Report, Unproved, audit};
 use std::alloc::Global;
 use tests_samples::Federation;
 use world_stations::{Dir, Step};
 
 // ---- reports
 
-/// How much a report says: whose it is, its rows, and its events.
-#[derive(Clone, Copy, PartialEq, Eq)]
-struct Size {
-    federate: usize,
-    rows: usize,
-    events: usize,
-}
-
-fn size_of(report: &Report) -> Size {
-    Size {
-        federate: report.federate,
-        rows: report.rows.len(),
-        events: report.journal.len(),
-    }
-}
-
-/// Whether a report is taken: at once, or where it was out of memory and handed back, and all is as before, the next
-/// time.
-fn takes(collector: &mut Collector<'_>, report: Report) -> bool {
-    let count = collector.reports().len();
-    let size = size_of(&report);
-    match collector.add(report) {
-        Ok(()) => true,
-        Err(refused) => {
-            let Refused { report, fault } = refused;
-            fault == ReportFault::Memory
-                && fault.number() == 85
-                && size_of(&report) == size
-                && collector.reports().len() == count
-                && collector.add(report).is_ok()
-        }
-    }
-}
-
-/// What a federate's desk says.
+// What a federate's desk says.
 fn report_of(federate: usize, desk: Desk<Federate<'_>>) -> Report {
     let (station, journal) = desk.into_parts();
     Report {
@@ -59,86 +24,100 @@ fn report_of(federate: usize, desk: Desk<Federate<'_>>) -> Report {
     }
 }
 
-/// Whether all reports are taken.
-fn takes_all(collector: &mut Collector<'_>, desks: Vec<Desk<Federate<'_>>>) -> bool {
-    for (federate, desk) in desks.into_iter().enumerate() {
-        if !takes(collector, report_of(federate, desk)) {
-            return false;
-        }
+// Takes a report: at once, or where it was out of memory and handed back, the next time.
+fn take(collector: &mut Collector<'_>, report: Report) -> Option<()> {
+    match collector.add(report) {
+        Ok(()) => Some(()),
+        Err(Refused { report, .. }) => collector.add(report).ok(),
     }
-    collector.reports().len() == 2
+}
+
+// The federates' reports.
+fn collected<'a>(
+    alloc: Global,
+    federation: &'a Federation,
+    desks: Vec<Desk<Federate<'_>>>,
+) -> Option<Collector<'a>> {
+    let mut collector = Collector::new(alloc, federation.plan());
+    for (federate, desk) in desks.into_iter().enumerate() {
+        take(&mut collector, report_of(federate, desk))?;
+    }
+    Some(collector)
+}
+
+/// What the nodes of a run say.
+#[derive(Drop)]
+struct Claim<'a> {
+    federation: &'a Federation,
+    reports: Collector<'a>,
+    coordinator: Desk<Coordinator<'a>>,
+}
+
+// What they say of a run in which federate 0 got these events first.
+fn claimed<'a>(alloc: Global, federation: &'a Federation, first: &[Event]) -> Option<Claim<'a>> {
+    let Run {
+        coordinator,
+        federates,
+    } = played(alloc, federation, first)?;
+    Some(Claim {
+        federation,
+        reports: collected(alloc, federation, federates)?,
+        coordinator,
+    })
 }
 
 // ---- audits
 
-/// What the nodes of a run say.
-#[derive(Clone, Copy)]
-struct Said<'a> {
-    reports: &'a [Report],
-    coordinator: &'a Journal,
-}
-
-/// How many events all journals have: each of them is one step.
-fn event_count(said: Said<'_>) -> usize {
-    let mut count = said.coordinator.len();
-    for report in said.reports {
-        count = count.saturating_add(report.journal.len());
-    }
-    count
-}
-
-fn audited_at_once(
-    alloc: Global,
-    federation: &Federation,
-    said: Said<'_>,
-) -> Result<Vec<Step>, Unproved> {
+fn audited_at_once(alloc: Global, claim: &Claim<'_>) -> Result<Vec<Step>, Unproved> {
     audit(
         alloc,
-        federation.plan(),
-        federation.programs(),
-        federation.inputs(),
-        said.reports,
-        said.coordinator,
+        claim.federation.plan(),
+        claim.federation.programs(),
+        claim.federation.inputs(),
+        claim.reports.reports(),
+        claim.coordinator.journal(),
     )
 }
 
-/// The steps of an audit, at the second attempt where the first was out of memory.
-fn audited(alloc: Global, federation: &Federation, said: Said<'_>) -> Option<Vec<Step>> {
-    match audited_at_once(alloc, federation, said) {
+// The steps of an audit, at the second attempt where the first was out of memory.
+fn audited(alloc: Global, claim: &Claim<'_>) -> Option<Vec<Step>> {
+    match audited_at_once(alloc, claim) {
         Ok(steps) => Some(steps),
-        Err(fault) => {
-            if fault.number() == 85 {
-                audited_at_once(alloc, federation, said).ok()
-            } else {
-                None
-            }
-        }
+        Err(_) => audited_at_once(alloc, claim).ok(),
     }
 }
 
-/// Whether two audits find the same steps, one for each event.
-fn audits_twice(alloc: Global, federation: &Federation, said: Said<'_>) -> Option<bool> {
-    let first = audited(alloc, federation, said)?;
-    let second = audited(alloc, federation, said)?;
-    Some(first.as_slice() == second.as_slice() && first.len() == event_count(said))
+// Whether two audits find the same steps.
+fn audits_twice(alloc: Global, claim: &Claim<'_>) -> Option<bool> {
+    let first = audited(alloc, claim)?;
+    let second = audited(alloc, claim)?;
+    Some(first.as_slice() == second.as_slice())
 }
 
 // ---- audits of journals that grow
 
-/// Whether an audit knows these events of a node too: at once, or where it was out of memory and knows none of them,
-/// the next time.
-fn learns(audit: &mut IncrementalAudit<'_>, node: NodeId, events: &Journal) -> bool {
+// An audit knows these events of a node too: at once, or where it was out of memory and knows none of them, the next
+// time.
+fn learn(audit: &mut IncrementalAudit<'_>, node: NodeId, events: &Journal) -> Option<()> {
     let known = audit.known(node);
     if audit.add(node, events).is_err() {
-        if audit.known(node) != known || audit.add(node, events).is_err() {
-            return false;
-        }
+        audit.add(node, events).ok()?;
     }
-    audit.known(node) == known.saturating_add(events.len())
+    if audit.known(node) == known.saturating_add(events.len()) {
+        Some(())
+    } else {
+        None
+    }
 }
 
-/// The first half of a journal, or the second, at the second attempt where the first was out of memory.
-fn half(alloc: Global, journal: &Journal, is_first: bool) -> Option<Journal> {
+// It knows the first half of a node's journal too, or the second.
+fn learn_half(
+    alloc: Global,
+    audit: &mut IncrementalAudit<'_>,
+    node: NodeId,
+    journal: &Journal,
+    is_first: bool,
+) -> Option<()> {
     let middle = journal.len() / 2;
     let place = if is_first { 0 } else { middle };
     let most = if is_first { middle } else { journal.len() };
@@ -146,136 +125,74 @@ fn half(alloc: Global, journal: &Journal, is_first: bool) -> Option<Journal> {
     if half.append(journal, place, most).is_err() {
         half.append(journal, place, most).ok()?;
     }
-    Some(half)
+    learn(audit, node, &half)
 }
 
-/// Whether an audit knows a half of each journal too; None where there is no memory for a half.
-fn learns_half(
+// It knows a half of each journal too, and goes on.
+fn go_on(
     alloc: Global,
     audit: &mut IncrementalAudit<'_>,
-    said: Said<'_>,
+    claim: &Claim<'_>,
     is_first: bool,
-) -> Option<bool> {
-    let coordinator = half(alloc, said.coordinator, is_first)?;
-    if !learns(audit, NodeId::Coordinator, &coordinator) {
-        return Some(false);
+) -> Option<()> {
+    let coordinator = claim.coordinator.journal();
+    learn_half(alloc, audit, NodeId::Coordinator, coordinator, is_first)?;
+    for report in claim.reports.reports() {
+        let node = NodeId::Federate(report.federate);
+        learn_half(alloc, audit, node, &report.journal, is_first)?;
     }
-    for report in said.reports {
-        let journal = half(alloc, &report.journal, is_first)?;
-        if !learns(audit, NodeId::Federate(report.federate), &journal) {
-            return Some(false);
-        }
-    }
-    Some(true)
+    audit.go_on(alloc);
+    Some(())
 }
 
-/// What an audit says at the end that went on after each half of the journals; None where a half isn't known.
-fn concluded_at_once(
-    alloc: Global,
-    federation: &Federation,
-    said: Said<'_>,
-) -> Option<Result<AuditedRun, Unproved>> {
-    let mut audit = match IncrementalAudit::new(
-        alloc,
-        federation.plan(),
-        federation.programs(),
-        federation.inputs(),
-    ) {
-        Ok(audit) => audit,
-        Err(fault) => return Some(Err(fault)),
-    };
-    for is_first in [true, false] {
-        if !learns_half(alloc, &mut audit, said, is_first)? {
-            return None;
-        }
-        audit.go_on(alloc);
-    }
-    Some(audit.conclude(alloc, said.reports, said.coordinator))
-}
-
-/// The same, where it is a run that it believes, at the second attempt where the first was out of memory.
-fn concluded(alloc: Global, federation: &Federation, said: Said<'_>) -> Option<AuditedRun> {
-    match concluded_at_once(alloc, federation, said)? {
-        Ok(audited) => Some(audited),
-        Err(fault) => {
-            if fault.number() == 85 {
-                concluded_at_once(alloc, federation, said)?.ok()
-            } else {
-                None
-            }
-        }
+// An audit of which nothing is known, at the second attempt where the first was out of memory.
+fn begun<'a>(alloc: Global, federation: &'a Federation) -> Option<IncrementalAudit<'a>> {
+    let plan = federation.plan();
+    let programs = federation.programs();
+    let inputs = federation.inputs();
+    match IncrementalAudit::new(alloc, plan, programs, inputs) {
+        Ok(audit) => Some(audit),
+        Err(_) => IncrementalAudit::new(alloc, plan, programs, inputs).ok(),
     }
 }
 
-/// Whether such an audit finds a step for each event, and the run finished.
-fn concludes(alloc: Global, federation: &Federation, said: Said<'_>) -> Option<bool> {
-    let audited = concluded(alloc, federation, said)?;
-    Some(audited.is_finished && audited.steps.len() == event_count(said))
-}
-
-/// Whether an audit that goes on after each half of the journals has lost no step; None where a half isn't known.
-fn goes_on(alloc: Global, federation: &Federation, said: Said<'_>) -> Option<bool> {
-    let mut audit = match IncrementalAudit::new(
-        alloc,
-        federation.plan(),
-        federation.programs(),
-        federation.inputs(),
-    ) {
-        Ok(audit) => audit,
-        Err(_) => return None,
-    };
-    for is_first in [true, false] {
-        if !learns_half(alloc, &mut audit, said, is_first)? {
-            return None;
-        }
-        audit.go_on(alloc);
+// Whether an audit that goes on after each half of the journals has lost no step, and has memory for its end, at which
+// it believes a finished run; None where it doesn't believe one.
+fn goes_on(alloc: Global, claim: &Claim<'_>) -> Option<bool> {
+    let mut audit = begun(alloc, claim.federation)?;
+    go_on(alloc, &mut audit, claim, true)?;
+    go_on(alloc, &mut audit, claim, false)?;
+    let has_all = !audit.is_given_up();
+    match audit.conclude(alloc, claim.reports.reports(), claim.coordinator.journal()) {
+        Ok(audited) if audited.is_finished => Some(has_all),
+        Err(Unproved::Memory) => Some(false),
+        _ => None,
     }
-    Some(!audit.is_given_up())
 }
 
-/// The same of one of two audits at least: one request at most is refused, and only where steps were lost by that
-/// nothing more is of use.
-fn goes_on_once(alloc: Global, federation: &Federation, said: Said<'_>) -> bool {
-    let first = goes_on(alloc, federation, said);
-    let second = goes_on(alloc, federation, said);
-    first == Some(true) || second == Some(true)
+// The same of one of two audits at least: one request at most is refused, and only where steps were lost by that
+// nothing more is of use.
+fn goes_on_once(alloc: Global, claim: &Claim<'_>) -> Option<bool> {
+    let first = goes_on(alloc, claim)?;
+    let second = goes_on(alloc, claim)?;
+    Some(first || second)
 }
 
 // ---- all of it
 
-fn is_believed(alloc: Global, federation: &Federation, said: Said<'_>) -> Option<bool> {
-    Some(
-        audits_twice(alloc, federation, said)?
-            && concludes(alloc, federation, said)?
-            && goes_on_once(alloc, federation, said),
-    )
-}
-
-/// Whether the reports of a run are taken and believed.
-fn collects_and_audits(alloc: Global) -> Option<bool> {
+// Whether what the nodes of a run say is taken and believed.
+fn is_believed(alloc: Global) -> Option<bool> {
     let federation = loaded(alloc)?;
-    let Run {
-        coordinator,
-        federates,
-        ..
-    } = played(alloc, &federation)?;
-    let mut collector = Collector::new(alloc, federation.plan());
-    if !takes_all(&mut collector, federates) {
-        return Some(false);
-    }
-    let said = Said {
-        reports: collector.reports(),
-        coordinator: coordinator.journal(),
-    };
-    is_believed(alloc, &federation, said)
+    let claim = claimed(alloc, &federation, &[])?;
+    Some(audits_twice(alloc, &claim)? && goes_on_once(alloc, &claim)?)
 }
 
 #[test]
 fn believes_the_same_reports_after_a_refusal(rt: HostRuntime) {
-    assert_eq!(rt; collects_and_audits(rt.alloc()), Some(true));
+    assert_eq!(rt; is_believed(rt.alloc()), Some(true));
 }
 
-/// The places of the first two frames from federate 0 that these steps deliver; 0 where there are fewer.
+// The places of the first two frames from federate 0 that these steps deliver; 0 where there are fewer.
 fn first_places(steps: &[Step]) -> [usize; 2] {
     let mut places = [0; 2];
     for step in steps {
@@ -290,28 +207,16 @@ fn first_places(steps: &[Step]) -> [usize; 2] {
     places
 }
 
-/// The same of a run in which the first frame was sent again before it came.
+// The same of a run in which the first frame was sent again before it came.
 fn repeated_places(alloc: Global) -> Option<[usize; 2]> {
     let federation = loaded(alloc)?;
-    let Run {
-        coordinator,
-        federates,
-        ..
-    } = played_with_repeat(alloc, &federation)?;
-    let mut collector = Collector::new(alloc, federation.plan());
-    if !takes_all(&mut collector, federates) {
-        return None;
-    }
-    let said = Said {
-        reports: collector.reports(),
-        coordinator: coordinator.journal(),
-    };
-    let steps = audited(alloc, &federation, said)?;
-    Some(first_places(steps.as_slice()))
+    let claim = claimed(alloc, &federation, &[Event::Announce, Event::Resend(0)])?;
+    let steps = audited(alloc, &claim)?;
+    Some(first_places(&steps))
 }
 
-/// Frames are looked for behind the last one that was found, guessed or not: so one that comes again is its next copy,
-/// and no audit looks through all frames time after time.
+// Frames are looked for behind the last one that was found, guessed or not: so one that comes again is its next copy,
+// and no audit looks through all frames time after time.
 #[test]
 fn places_a_frame_that_was_sent_again_at_its_next_copy(rt: HostRuntime) {
     assert_eq!(rt; repeated_places(rt.alloc()), Some([1, 2]));

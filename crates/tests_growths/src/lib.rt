@@ -14,6 +14,8 @@ mod desks;
 #[cfg(test)]
 mod loading;
 #[cfg(test)]
+mod stations;
+#[cfg(test)]
 mod ways;
 #[cfg(test)]
 mod worlds;

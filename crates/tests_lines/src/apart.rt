@@ -5,29 +5,34 @@
 //! it does where nobody was heard for its patience.
 ghost use Rattle.std.specs.Thread.{IsSend, IsSync};
 
+use crate::nodes::desk_of;
+use coordinator::Coordinator;
+use crossbeam_channel::Receiver;
 use desk::Desk;
-use node::Node;
+use federate::Federate;
+use fedrun_run::coordinator_desk;
 use std::alloc::Global;
 use std::sync::Wait;
 use std::thread;
 use std::time::{Clock, Duration};
+use tests_samples::Federation;
 use wires::{
-    CoordinatorLines, Endpoint, FederateLines, Gathered, NoAcceptor, NoWatcher, Runtime, Terms,
-    Work, WorkerResult, run_coordinator, run_federate,
+    CoordinatorLines, FederateLines, Gathered, NoAcceptor, NoWatcher, Runtime, Work, WorkerResult,
+    run_coordinator, run_federate,
 };
-use wires_transports::{Connection, Cut, Dial, Ending, Transport};
+use wires_transports::{Accepted, Cut, Dial, Ending, Transport};
 use wires_workers::Gate;
 
 /// Whether the runs are to end: the coordinator's, and each federate's by its number.
 #[derive(Drop)]
-struct Endings {
+pub(crate) struct Endings {
     coordinator: Ending,
     federates: Vec<Ending>,
 }
 
 impl Endings {
     /// All runs go on; None where there is no memory.
-    fn new(alloc: Global, federates: usize) -> Option<Endings> {
+    pub(crate) fn new(alloc: Global, federates: usize) -> Option<Endings> {
         let mut endings = Vec::with_capacity(alloc, federates).ok()?;
         for _ in 0..federates {
             endings.push(Ending::new()).ok()?;
@@ -38,7 +43,18 @@ impl Endings {
         })
     }
 
-    /// Whether all federates' runs are to end.
+    /// Whether the coordinator's run is to end. Then the run of the federate that hears so is to end, too.
+    pub(crate) fn is_coordinator_ending(&self, federate: usize) -> bool {
+        if !self.coordinator.is_set() {
+            return false;
+        }
+        if let Some(own) = self.federates.get(federate) {
+            own.set();
+        }
+        true
+    }
+
+    // Whether all federates' runs are to end.
     fn are_federates_ending(&self) -> bool {
         for ending in &self.federates {
             if !ending.is_set() {
@@ -69,85 +85,10 @@ impl<'r> Work for EndWithFederates<'r> {
     }
 }
 
-/// Makes a federate's connections while the coordinator's run goes on. After that the federate's run is to end.
-#[derive(Drop)]
-struct DialWhileRunning<'r, D: Drop> {
-    dial: D,
-    coordinator: &'r Ending,
-    own: &'r Ending,
-}
-
-impl<'r, T: Drop, C: Drop, D: Dial<T, C> + Drop> Dial<T, C> for DialWhileRunning<'r, D> {
-    fn dial<R: Wait>(&self, rt: &R, alloc: Global) -> Option<Connection<T, C>> {
-        if self.coordinator.is_set() {
-            self.own.set();
-            return None;
-        }
-        self.dial.dial(rt, alloc)
-    }
-}
-
-/// A federate that is to run, and how it is connected.
-#[derive(Drop)]
-struct OwnFederate<'r, M: Node, D: Drop> {
-    desk: Desk<M>,
-    lines: FederateLines<DialWhileRunning<'r, D>>,
-    ending: &'r Ending,
-}
-
-/// Runs a federate to its end; its desk then.
+// Runs a federate to its end; its desk then.
 fn ran<
+    'f,
     R: Runtime,
-    M: Node + Send,
-    G: Gate + Sync,
-    D: Dial<T, C> + Drop + Send,
-    T: Transport + Send,
-    C: Cut + Send + Sync,
->(rt: &R, alloc: Global, run: OwnFederate<'_, M, D>, gate: &G) -> Option<Desk<M>> {
-    let OwnFederate {
-        desk,
-        lines,
-        ending,
-    } = run;
-    let ended = run_federate::<R, M, G, T, C, DialWhileRunning<'_, D>, NoWatcher>(
-        rt, alloc, desk, lines, NoWatcher, gate, ending,
-    );
-    match ended {
-        Ok(run) => Some(run.desk),
-        Err(_) => None,
-    }
-}
-
-/// Runs each federate in a thread; their desks then.
-fn all_ran<
-    R: Runtime,
-    M: Node + Send,
-    G: Gate + Sync,
-    D: Dial<T, C> + Drop + Send,
-    T: Transport + Send,
-    C: Cut + Send + Sync,
->(rt: &R, alloc: Global, runs: Vec<OwnFederate<'_, M, D>>, gate: &G) -> Option<Vec<Desk<M>>> {
-    let ends = thread::map_vec(
-        rt,
-        runs,
-        &|run| -> Option<Desk<M>>
-            requires { IsSync R.row × IsSend M.row × IsSync G.row × IsSend D.row × IsSend T.row × IsSend C.row
-                × IsSync C.row }
-        { ran::<R, M, G, D, T, C>(rt, alloc, run, gate) },
-    );
-    let mut desks = Vec::new(alloc);
-    for end in ends.ok()? {
-        let desk = end?;
-        desks.push(desk).ok()?;
-    }
-    Some(desks)
-}
-
-/// The desks after each node has run by itself, over these connections; None where there are none.
-pub(crate) fn run_apart<
-    R: Runtime,
-    H: Node + Send,
-    M: Node + Send,
     G: Gate + Sync,
     D: Dial<T, C> + Drop + Send,
     T: Transport + Send,
@@ -155,65 +96,92 @@ pub(crate) fn run_apart<
 >(
     rt: &R,
     alloc: Global,
-    coordinator: Desk<H>,
-    federates: Vec<Desk<M>>,
-    endpoints: Vec<Endpoint<D, T, C>>,
+    federation: &'f Federation,
+    lines: FederateLines<D>,
     gate: &G,
-    terms: Terms,
-) -> Option<Gathered<H, M>> {
-    let endings = Endings::new(alloc, federates.len())?;
-    let (runs, lines) = runs_of(alloc, &endings, federates, endpoints, terms)?;
-    let watcher = EndWithFederates { endings: &endings };
+    endings: &Endings,
+) -> Option<Desk<Federate<'f>>> {
+    let ending = endings.federates.get(lines.number)?;
+    let desk = desk_of(alloc, federation, lines.number)?;
+    match run_federate::<R, Federate<'f>, G, T, C, D, NoWatcher>(
+        rt, alloc, desk, lines, NoWatcher, gate, ending,
+    ) {
+        Ok(run) => Some(run.desk),
+        Err(_) => None,
+    }
+}
+
+// Runs each federate in a thread; their desks then.
+fn all_ran<
+    'f,
+    R: Runtime,
+    G: Gate + Sync,
+    D: Dial<T, C> + Drop + Send,
+    T: Transport + Send,
+    C: Cut + Send + Sync,
+>(
+    rt: &R,
+    alloc: Global,
+    federation: &'f Federation,
+    lines: Vec<FederateLines<D>>,
+    gate: &G,
+    endings: &Endings,
+) -> Option<Vec<Desk<Federate<'f>>>> {
+    let ends = thread::map_vec(
+        rt,
+        lines,
+        &|own| -> Option<Desk<Federate<'_>>>
+            requires { IsSync R.row × IsSync G.row × IsSend D.row × IsSend T.row × IsSend C.row × IsSync C.row }
+        { ran::<R, G, D, T, C>(rt, alloc, federation, own, gate, endings) },
+    );
+    all_of(alloc, ends.ok()?)
+}
+
+// All desks, where each run has left one.
+fn all_of<'f>(
+    alloc: Global,
+    ends: Vec<Option<Desk<Federate<'f>>>>,
+) -> Option<Vec<Desk<Federate<'f>>>> {
+    let mut desks = Vec::new(alloc);
+    for end in ends {
+        desks.push(end?).ok()?;
+    }
+    Some(desks)
+}
+
+/// The desks after each node of a federation has run by itself, where federates are connected so, and their connections
+/// come there; None where there are none.
+pub(crate) fn run_apart<
+    'f,
+    R: Runtime,
+    G: Gate + Sync,
+    D: Dial<T, C> + Drop + Send,
+    T: Transport + Send,
+    C: Cut + Send + Sync,
+>(
+    rt: &R,
+    alloc: Global,
+    federation: &'f Federation,
+    lines: Vec<FederateLines<D>>,
+    arrivals: Vec<Receiver<Accepted<T, C>>>,
+    gate: &G,
+    endings: &Endings,
+) -> Option<Gathered<Coordinator<'f>, Federate<'f>>> {
+    let desk = coordinator_desk(alloc, federation.plan()).ok()?;
+    let coordinator_lines = CoordinatorLines {
+        arrivals,
+        acceptor: NoAcceptor,
+    };
+    let watcher = EndWithFederates { endings };
     let ending = &endings.coordinator;
     let (federates, coordinator) = thread::join(
         rt,
-        || all_ran::<R, M, G, D, T, C>(rt, alloc, runs, gate),
-        || run_coordinator(rt, alloc, coordinator, lines, watcher, gate, ending),
+        || all_ran::<R, G, D, T, C>(rt, alloc, federation, lines, gate, endings),
+        || run_coordinator(rt, alloc, desk, coordinator_lines, watcher, gate, ending),
     );
-    let coordinator = coordinator.ok()?;
-    let federates = federates?;
+    let (coordinator, federates) = coordinator.ok().zip(federates)?;
     Some(Gathered {
         coordinator,
         federates,
     })
-}
-
-/// The federates that are to run, and how the coordinator is connected.
-fn runs_of<'r, M: Node, D: Drop, T: Drop, C: Drop>(
-    alloc: Global,
-    endings: &'r Endings,
-    federates: Vec<Desk<M>>,
-    endpoints: Vec<Endpoint<D, T, C>>,
-    terms: Terms,
-) -> Option<
-    (
-        Vec<OwnFederate<'r, M, D>>,
-        CoordinatorLines<NoAcceptor, T, C>,
-    ),
-> {
-    let mut runs = Vec::new(alloc);
-    let mut arrivals = Vec::new(alloc);
-    for (desk, endpoint) in federates.into_iter().zip(endpoints) {
-        let number = runs.len();
-        let ending = endings.federates.get(number)?;
-        arrivals.push(endpoint.arrivals).ok()?;
-        let dial = DialWhileRunning {
-            dial: endpoint.dial,
-            coordinator: &endings.coordinator,
-            own: ending,
-        };
-        let lines = FederateLines {
-            number,
-            dial,
-            terms,
-        };
-        runs.push(OwnFederate {
-            desk,
-            lines,
-            ending,
-        })
-        .ok()?;
-    }
-    let acceptor = NoAcceptor;
-    Some((runs, CoordinatorLines { arrivals, acceptor }))
 }

@@ -1,15 +1,18 @@
 //! Federations in threads over connections that a test has its hands on.
-use crate::apart::run_apart;
-use crate::nodes::{desks_of, nodes_of};
+use crate::apart::{Endings, run_apart};
+use crate::nodes::nodes_of;
 use crate::tap::{End, Tap, Tapped, between};
 use coordinator::Coordinator;
-use crossbeam_channel::{Sender, unbounded};
+use crossbeam_channel::{Receiver, Sender};
 use federate::Federate;
 use std::alloc::Global;
 use std::net::{Net, SocketAddr, TcpListener, TcpStream};
 use std::sync::Wait;
 use tests_samples::Federation;
-use wires::{Endpoint, FederationLines, Gathered, NetRuntime, NoAcceptor, Runtime, Terms, run};
+use wires::{
+    Endpoint, FederateLines, FederationLines, Gathered, NetRuntime, NoAcceptor, Runtime, Terms,
+    channels, run,
+};
 use wires_transports::tcp::connection;
 use wires_transports::{
     Accepted, Connection, Cut, Dial, MemoryCut, MemoryTransport, TcpCut, TcpTransport, Transport,
@@ -56,21 +59,21 @@ impl<'g, G: Gate> Setting<'g, G> {
 
 /// The two ends of a federate's connection: its own, and the coordinator's.
 #[derive(Drop)]
-pub struct Ends<T: Drop, C: Drop> {
-    pub own: Connection<T, C>,
-    pub other: Connection<T, C>,
+struct Ends<T: Drop, C: Drop> {
+    own: Connection<T, C>,
+    other: Connection<T, C>,
 }
 
 /// How connections are made.
-pub trait Pairing<T: Drop, C: Drop> {
-    /// A connection of this federate's; None where it can't be had.
+trait Pairing<T: Drop, C: Drop> {
+    // A connection of this federate's; None where it can't be had.
     fn pair<R: Wait>(&self, rt: &R, alloc: Global, federate: usize) -> Option<Ends<T, C>>;
 }
 
 /// Over memory.
 #[derive(Drop)]
-pub struct InMemory<'a, P: Tap> {
-    pub tap: &'a P,
+struct InMemory<'a, P: Tap> {
+    tap: &'a P,
 }
 
 impl<'a, P: Tap> Pairing<Tapped<'a, MemoryTransport, P>, MemoryCut> for InMemory<'a, P> {
@@ -90,9 +93,9 @@ impl<'a, P: Tap> Pairing<Tapped<'a, MemoryTransport, P>, MemoryCut> for InMemory
 
 /// Over TCP on loopback, each connection by a listener of its own.
 #[derive(Drop)]
-pub struct OverTcp<'m, 'a, M: Net<Stream = TcpStream, Listener = TcpListener>, P: Tap> {
-    pub net: &'m M,
-    pub tap: &'a P,
+struct OverTcp<'m, 'a, M: Net<Stream = TcpStream, Listener = TcpListener>, P: Tap> {
+    net: &'m M,
+    tap: &'a P,
 }
 
 impl<'m, 'a, M: Net<Stream = TcpStream, Listener = TcpListener>, P: Tap> Pairing<
@@ -115,7 +118,7 @@ impl<'m, 'a, M: Net<Stream = TcpStream, Listener = TcpListener>, P: Tap> Pairing
     }
 }
 
-/// Two connected streams.
+// Two connected streams.
 fn streams<M: Net<Stream = TcpStream, Listener = TcpListener>>(
     net: &M,
 ) -> Option<(TcpStream, TcpStream)> {
@@ -126,7 +129,7 @@ fn streams<M: Net<Stream = TcpStream, Listener = TcpListener>>(
     Some((own, other))
 }
 
-/// A connection of this federate's, with the test between the workers and it.
+// A connection of this federate's, with the test between the workers and it.
 fn tapped<'a, T: Drop, C: Drop, P: Tap>(
     alloc: Global,
     federate: usize,
@@ -148,16 +151,21 @@ fn tapped<'a, T: Drop, C: Drop, P: Tap>(
     }
 }
 
-/// Makes a federate's connections, and hands their other ends to the coordinator's reader.
+/// Makes a federate's connections while the coordinator's run goes on, and hands their other ends to the coordinator's
+/// reader. After that the federate's run is to end.
 #[derive(Drop)]
-pub struct PairDial<'p, L, T: Drop, C: Drop> {
+struct PairDial<'p, L, T: Drop, C: Drop> {
     federate: usize,
     pairing: &'p L,
+    endings: &'p Endings,
     arrivals: Sender<Accepted<T, C>>,
 }
 
 impl<'p, L: Pairing<T, C>, T: Drop, C: Drop> Dial<T, C> for PairDial<'p, L, T, C> {
     fn dial<R: Wait>(&self, rt: &R, alloc: Global) -> Option<Connection<T, C>> {
+        if self.endings.is_coordinator_ending(self.federate) {
+            return None;
+        }
         let Ends { own, other } = self.pairing.pair(rt, alloc, self.federate)?;
         let accepted = Accepted {
             connection: other,
@@ -168,28 +176,36 @@ impl<'p, L: Pairing<T, C>, T: Drop, C: Drop> Dial<T, C> for PairDial<'p, L, T, C
     }
 }
 
-/// The ways of this many federates to the coordinator.
+// How each federate is connected: these are the other ends of where its connections come.
 fn lines<'p, L: Pairing<T, C>, T: Drop, C: Drop>(
     alloc: Global,
-    count: usize,
+    senders: Vec<Sender<Accepted<T, C>>>,
     pairing: &'p L,
-) -> Option<Vec<Endpoint<PairDial<'p, L, T, C>, T, C>>> {
-    let mut lines = Vec::with_capacity(alloc, count).ok()?;
-    for federate in 0..count {
-        let (sender, arrivals) = unbounded(alloc).ok()?;
+    endings: &'p Endings,
+    terms: Terms,
+) -> Option<Vec<FederateLines<PairDial<'p, L, T, C>>>> {
+    let mut lines = Vec::new(alloc);
+    for (number, arrivals) in senders.into_iter().enumerate() {
         let dial = PairDial {
-            federate,
+            federate: number,
             pairing,
-            arrivals: sender,
+            endings,
+            arrivals,
         };
-        lines.push(Endpoint { dial, arrivals }).ok()?;
+        lines
+            .push(FederateLines {
+                number,
+                dial,
+                terms,
+            })
+            .ok()?;
     }
     Some(lines)
 }
 
-/// The desks after a run over connections that are made so; None where there are none.
+// The desks after a run over connections that are made so; None where there are none.
 fn ran<
-    'a,
+    'f,
     R: Runtime,
     G: Gate + Sync,
     T: Transport + Send,
@@ -198,60 +214,64 @@ fn ran<
 >(
     rt: &R,
     alloc: Global,
-    federation: &'a Federation,
+    federation: &'f Federation,
     setting: Setting<'_, G>,
     pairing: &L,
-) -> Option<Gathered<Coordinator<'a>, Federate<'a>>> {
-    match setting.nodes {
-        Nodes::Together => ran_together(rt, alloc, federation, setting, pairing),
-        Nodes::Apart => ran_apart(rt, alloc, federation, setting, pairing),
+) -> Option<Gathered<Coordinator<'f>, Federate<'f>>> {
+    let Setting { nodes, gate, terms } = setting;
+    let count = federation.plan().federate_count();
+    let endings = Endings::new(alloc, count)?;
+    let (senders, arrivals) = channels(alloc, count).ok()?;
+    let lines = lines(alloc, senders, pairing, &endings, terms)?;
+    match nodes {
+        Nodes::Together => run_together(rt, alloc, federation, lines, arrivals, gate, terms),
+        Nodes::Apart => run_apart(rt, alloc, federation, lines, arrivals, gate, &endings),
     }
 }
 
-/// The same where the nodes' workers are started together.
-fn ran_together<
-    'a,
+// The desks after all nodes have run together, where federates are connected so, and their connections come there; None
+// where there are none.
+fn run_together<
+    'f,
     R: Runtime,
     G: Gate + Sync,
+    D: Dial<T, C> + Drop + Send,
     T: Transport + Send,
     C: Cut + Send + Sync,
-    L: Pairing<T, C> + Sync,
 >(
     rt: &R,
     alloc: Global,
-    federation: &'a Federation,
-    setting: Setting<'_, G>,
-    pairing: &L,
-) -> Option<Gathered<Coordinator<'a>, Federate<'a>>> {
-    let nodes = nodes_of(alloc, federation)?;
+    federation: &'f Federation,
+    lines: Vec<FederateLines<D>>,
+    arrivals: Vec<Receiver<Accepted<T, C>>>,
+    gate: &G,
+    terms: Terms,
+) -> Option<Gathered<Coordinator<'f>, Federate<'f>>> {
     let lines = FederationLines {
-        federates: lines(alloc, nodes.federates.len(), pairing)?,
+        federates: endpoints(alloc, lines, arrivals)?,
         acceptor: NoAcceptor,
     };
-    let Setting { gate, terms, .. } = setting;
+    let nodes = nodes_of(alloc, federation)?;
     let left = run(rt, alloc, &nodes, lines, gate, terms).ok()?;
     nodes.gather(alloc, left).ok()
 }
 
-/// The same where each node's workers are started by themselves.
-fn ran_apart<
-    'a,
-    R: Runtime,
-    G: Gate + Sync,
-    T: Transport + Send,
-    C: Cut + Send + Sync,
-    L: Pairing<T, C> + Sync,
->(
-    rt: &R,
+// How each federate is connected in a run of all nodes.
+fn endpoints<D: Drop, T: Drop, C: Drop>(
     alloc: Global,
-    federation: &'a Federation,
-    setting: Setting<'_, G>,
-    pairing: &L,
-) -> Option<Gathered<Coordinator<'a>, Federate<'a>>> {
-    let (coordinator, federates) = desks_of(alloc, federation)?;
-    let endpoints = lines(alloc, federates.len(), pairing)?;
-    let Setting { gate, terms, .. } = setting;
-    run_apart(rt, alloc, coordinator, federates, endpoints, gate, terms)
+    lines: Vec<FederateLines<D>>,
+    arrivals: Vec<Receiver<Accepted<T, C>>>,
+) -> Option<Vec<Endpoint<D, T, C>>> {
+    let mut endpoints = Vec::new(alloc);
+    for (line, arrivals) in lines.into_iter().zip(arrivals) {
+        endpoints
+            .push(Endpoint {
+                dial: line.dial,
+                arrivals,
+            })
+            .ok()?;
+    }
+    Some(endpoints)
 }
 
 /// The desks after a run over memory; None where there are none.

@@ -1,13 +1,10 @@
 //! What the nodes of a run say after it, and what an audit answers of that.
-use crate::nodes::has_all_rows;
-use coordinator::Coordinator;
 use desk::Desk;
 use federate::Federate;
 use node_journal::Journal;
 use recorder::{Report, Unproved, audit};
 use std::alloc::Global;
 use tests_samples::Federation;
-use wires::Gathered;
 
 /// What an audit answers of these reports and the coordinator's journal; None where it proves them.
 pub fn told_of(
@@ -27,7 +24,7 @@ pub fn told_of(
     .err()
 }
 
-/// What a desk says, as this federate's.
+// What a desk says, as this federate's.
 fn report(federate: usize, desk: Desk<Federate<'_>>) -> Report {
     let (station, journal) = desk.into_parts();
     Report {
@@ -45,34 +42,4 @@ pub fn reports(alloc: Global, desks: Vec<Desk<Federate<'_>>>) -> Option<Vec<Repo
         reports.push(report(federate, desk)).ok()?;
     }
     Some(reports)
-}
-
-/// Whether an audit proves what the nodes of a run say.
-fn is_proved(
-    alloc: Global,
-    federation: &Federation,
-    gathered: Gathered<Coordinator<'_>, Federate<'_>>,
-) -> bool {
-    let Gathered {
-        coordinator,
-        federates,
-    } = gathered;
-    match reports(alloc, federates) {
-        Some(reports) => { told_of(alloc, federation, &reports, coordinator.journal()).is_none() }
-        None => false,
-    }
-}
-
-/// Whether a run is finished, with each federate's rows of the undivided program, and an audit proves it.
-pub fn is_right(
-    alloc: Global,
-    federation: &Federation,
-    gathered: Option<Gathered<Coordinator<'_>, Federate<'_>>>,
-) -> bool {
-    match gathered {
-        Some(gathered) => {
-            has_all_rows(alloc, federation, &gathered) && is_proved(alloc, federation, gathered)
-        }
-        None => false,
-    }
 }

@@ -15,7 +15,7 @@ pub struct End {
 }
 
 /// What becomes of a send.
-#[derive(Clone, Copy)]
+#[derive(Clone, Copy, Debug)]
 pub struct Fate {
     /// How many of its bytes go, at most.
     pub goes: usize,
@@ -135,7 +135,7 @@ impl<'a, T: Transport, P: Tap> Transport for Tapped<'a, T, P> {
     }
 }
 
-/// Shows the frames that are whole with these bytes.
+// Shows the frames that are whole with these bytes.
 fn show<P: Tap>(tap: &P, end: End, frames: &mut FrameReader, bytes: &[u8]) {
     if frames.feed(bytes).is_err() {
         return;
@@ -162,7 +162,7 @@ pub fn between<'a, T: Drop, C: Drop, P: Tap>(
     }
 }
 
-/// One of its two transports.
+// One of its two transports.
 fn between_calls<'a, T: Drop, P: Tap>(
     alloc: Global,
     end: End,

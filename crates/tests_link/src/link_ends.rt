@@ -5,7 +5,7 @@ use std::alloc::Global;
 use std::test::Fail;
 use tag::{FiniteTag, Time};
 
-/// The signals differ by their connection.
+// The signals differ by their connection.
 fn signal(connection: u16) -> Signal {
     Signal::Msg {
         connection,
@@ -14,7 +14,7 @@ fn signal(connection: u16) -> Signal {
     }
 }
 
-/// Of the first incarnation, as are all frames here but one.
+// Of the first incarnation, as are all frames here but one.
 fn data(number: u64, connection: u16) -> Frame {
     Frame::Data {
         incarnation: 1,
@@ -101,7 +101,7 @@ fn resends(end: &LinkEnd, count: usize, first: Option<Frame>) -> bool {
     }
 }
 
-/// The place of the first step that a fresh end with this much room doesn't do.
+// The place of the first step that a fresh end with this much room doesn't do.
 fn first_wrong(alloc: Global, room: usize, steps: &[Step]) -> Option<usize> {
     let mut end = LinkEnd::new(alloc, 4, 1, room);
     for (place, step) in steps.iter().enumerate() {
@@ -183,7 +183,7 @@ fn is_closed_by_a_refusal(rt: HostRuntime) {
     assert_eq!(rt; first_wrong(rt.alloc(), 3, &steps), None);
 }
 
-/// Whether this many signals are taken one after the other, and each that was refused out of memory the next time.
+// Whether this many signals are taken one after the other, and each that was refused out of memory the next time.
 fn takes_all(end: &mut LinkEnd, signals: u16) -> bool {
     for number in 1..=signals {
         let frame = data(u64::from(number), number);
@@ -198,7 +198,7 @@ fn takes_all(end: &mut LinkEnd, signals: u16) -> bool {
     true
 }
 
-/// Whether the next time what was refused out of memory is done.
+// Whether the next time what was refused out of memory is done.
 fn reserves(end: &mut LinkEnd, signals: usize) -> bool {
     let left = end.room_left();
     match end.reserve(signals) {
@@ -209,7 +209,7 @@ fn reserves(end: &mut LinkEnd, signals: usize) -> bool {
     }
 }
 
-/// How many frames are sent again, the next time if memory was refused.
+// How many frames are sent again, the next time if memory was refused.
 fn resent(end: &LinkEnd) -> Option<usize> {
     let frames = match end.resend() {
         Ok(frames) => frames,
@@ -219,7 +219,7 @@ fn resent(end: &LinkEnd) -> Option<usize> {
     Some(frames.len())
 }
 
-/// Whether signals are taken, room is reserved, and what was taken is sent again.
+// Whether signals are taken, room is reserved, and what was taken is sent again.
 fn does_all(end: &mut LinkEnd) -> bool {
     takes_all(end, 20)
         && end.reserve(usize::MAX) == Err(LinkFault::Memory)
@@ -228,8 +228,8 @@ fn does_all(end: &mut LinkEnd) -> bool {
         && resent(end) == Some(20)
 }
 
-/// Whichever allocation is refused, nothing has changed and the same call succeeds later: `rt try --test --fail-alloc
-/// N`.
+// Whichever allocation is refused, nothing has changed and the same call succeeds later: `rt try --test --fail-alloc
+// N`.
 #[test]
 fn changes_nothing_without_memory(rt: HostRuntime) {
     let mut end = LinkEnd::new(rt.alloc(), 4, 1, 100);

@@ -49,7 +49,7 @@ const LEAST: &[(&str, usize, usize, Option<(u64, u32)>)] = &[
     (WITHOUT_DELAY, 1, 0, None),
 ];
 
-/// The least delay, its time in ns, if there is a path; None where there aren't such federates.
+// The least delay, its time in ns, if there is a path; None where there aren't such federates.
 fn least_between(plan: &Plan, from: usize, to: usize) -> Option<Option<(u64, u32)>> {
     if from >= plan.federate_count() || to >= plan.federate_count() {
         return None;
@@ -60,7 +60,7 @@ fn least_between(plan: &Plan, from: usize, to: usize) -> Option<Option<(u64, u32
     }
 }
 
-/// The same of the federation with these connections; None also where it isn't taken.
+// The same of the federation with these connections; None also where it isn't taken.
 fn least_of(
     alloc: Global,
     connections: &str,

@@ -28,7 +28,7 @@ federate = [
 pub(crate) const TWO_SOURCES: &str =
     r#"connection = [{ from = "a.y", to = "b.x" }, { from = "c.y", to = "b.x" }]"#;
 
-/// Of them: a cycle without delay, entered by its highest federate.
+/// Of them: a zero-delay cycle, entered by its highest federate.
 pub(crate) const CYCLE: &str = r#"connection = [
     { from = "d.y", to = "c.x" },
     { from = "c.y", to = "b.x" },

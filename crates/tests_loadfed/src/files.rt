@@ -5,7 +5,7 @@ use plan::Plan;
 use std::alloc::Global;
 use std::test::Fail;
 
-/// Whether a fault is answered so.
+// Whether a fault is answered so.
 fn is_told(alloc: Global, fault: &LoadFault, text: &str) -> bool {
     match format!(in alloc; "{fault}") {
         Ok(told) => told.as_str() == text,
@@ -13,7 +13,7 @@ fn is_told(alloc: Global, fault: &LoadFault, text: &str) -> bool {
     }
 }
 
-/// Whether a federation file of two parts is answered so; no text where it is taken.
+// Whether a federation file of two parts is answered so; no text where it is taken.
 fn is_answered(alloc: Global, front: &str, back: &str, text: &str) -> bool {
     match loaded(alloc, front, back) {
         Ok(_) => text.is_empty(),
@@ -21,7 +21,7 @@ fn is_answered(alloc: Global, front: &str, back: &str, text: &str) -> bool {
     }
 }
 
-/// The first back that isn't answered so behind this front.
+// The first back that isn't answered so behind this front.
 fn first_wrong<'a>(alloc: Global, front: &str, answers: &[(&'a str, &str)]) -> Option<&'a str> {
     for (back, text) in answers {
         if !is_answered(alloc, front, back, text) {
@@ -225,7 +225,7 @@ fn takes_federations_or_answers_their_fault(rt: HostRuntime) {
     assert_eq!(rt; first_wrong(rt.alloc(), ONE_REACTION, BODIES), None);
 }
 
-/// Whether an input file is answered so; no text where it is taken.
+// Whether an input file is answered so; no text where it is taken.
 fn are_inputs_answered(alloc: Global, plan: &Plan, file: &str, text: &str) -> bool {
     match load_inputs(alloc, file.as_bytes(), plan) {
         Ok(_) => text.is_empty(),
@@ -289,7 +289,7 @@ const INPUTS: &[(&str, &str)] = &[
     ),
 ];
 
-/// The first file that isn't answered so.
+// The first file that isn't answered so.
 fn wrong_inputs(alloc: Global, plan: &Plan) -> Option<&'static str> {
     for (file, text) in INPUTS {
         if !are_inputs_answered(alloc, plan, file, text) {
@@ -299,7 +299,7 @@ fn wrong_inputs(alloc: Global, plan: &Plan) -> Option<&'static str> {
     None
 }
 
-/// Whether this many bytes of an input file are too many.
+// Whether this many bytes of an input file are too many.
 fn are_too_many(alloc: Global, plan: &Plan, count: usize) -> bool {
     match Vec::from_elem(alloc, b'#', count) {
         Ok(long) => matches!(
@@ -310,7 +310,7 @@ fn are_too_many(alloc: Global, plan: &Plan, count: usize) -> bool {
     }
 }
 
-/// The same of a federation file.
+// The same of a federation file.
 fn is_too_long(alloc: Global, count: usize) -> bool {
     match Vec::from_elem(alloc, b'#', count) {
         Ok(long) => matches!(load(alloc, long.as_slice()), Err(LoadFault::OverLimit)),

@@ -24,7 +24,7 @@ fn is_read_as(alloc: Global, body: &str, wanted: Line) -> bool {
     }
 }
 
-/// `n = ..`
+// `n = ..`
 fn assigned(expression: Expression) -> Line {
     Line {
         condition: None,

@@ -6,7 +6,7 @@ use plan::Plan;
 use std::alloc::Global;
 use tests_samples::COUNTER;
 
-/// Whether what a first call answered was right, or out of memory and then right.
+// Whether what a first call answered was right, or out of memory and then right.
 fn is_right(first: u16, again: u16, right: u16) -> bool {
     first == right || (first == LoadFault::Memory.number() && again == right)
 }
@@ -45,7 +45,7 @@ fn told_of_inputs(alloc: Global, plan: &Plan) -> u16 {
     }
 }
 
-/// The same of a fresh plan, or the number that refuses its file.
+// The same of a fresh plan, or the number that refuses its file.
 fn told_of_inputs_of_fresh(alloc: Global) -> u16 {
     match loaded(alloc, ONE_ACTION, "") {
         Ok((plan, _programs)) => told_of_inputs(alloc, &plan),

@@ -13,7 +13,7 @@ use std::sync::Wait;
 use std::test::Fail;
 use std::thread::{Threads, join};
 
-/// A station of which nothing was asked, with one peer.
+// A station of which nothing was asked, with one peer.
 fn opened(alloc: Global) -> Result<Station<Counter>, AllocError>
     ensures { IfOk result (λ station. station ≡ initial_of counting station) }
 {
@@ -22,7 +22,7 @@ fn opened(alloc: Global) -> Result<Station<Counter>, AllocError>
     Ok(Station::new(alloc, Counter::new(), ends))
 }
 
-/// The number by which a reply refuses, or that of the message that it sends; none where it does neither.
+// The number by which a reply refuses, or that of the message that it sends; none where it does neither.
 fn told(reply: &Reply) -> Option<u64> {
     match reply {
         Reply::Nothing => None,
@@ -37,8 +37,8 @@ fn told(reply: &Reply) -> Option<u64> {
     }
 }
 
-/// Hands in advances; the share, where each is answered the number of its place in the journal: the station numbers
-/// them.
+// Hands in advances; the share, where each is answered the number of its place in the journal: the station numbers
+// them.
 fn advance<R: Wait>(rt: &R, alloc: Global, shared: &Shared<Counter>, count: u32) -> Option<Share> {
     let mut share = Share::new(alloc);
     for _ in 0..count {
@@ -50,7 +50,7 @@ fn advance<R: Wait>(rt: &R, alloc: Global, shared: &Shared<Counter>, count: u32)
     Some(share)
 }
 
-/// Two workers hand in advances at once.
+// Two workers hand in advances at once.
 fn by_two<R: Threads + Wait + Sync>(
     rt: &R,
     alloc: Global,
@@ -64,8 +64,7 @@ fn by_two<R: Threads + Wait + Sync>(
     )
 }
 
-/// How many events the journal has that is gathered from these shares; None where they disagree, or there was no
-/// memory.
+// How many events the journal has that is gathered from these shares; None where they disagree, or there was no memory.
 fn gathered(alloc: Global, shared: Shared<Counter>, first: Share, second: Share) -> Option<usize> {
     let mut shares = Vec::with_capacity(alloc, 2).ok()?;
     shares.push(first).ok()?;
@@ -74,7 +73,7 @@ fn gathered(alloc: Global, shared: Shared<Counter>, first: Share, second: Share)
     Some(desk.journal().len())
 }
 
-/// The same of what two workers hand in at once.
+// The same of what two workers hand in at once.
 fn journaled<R: Threads + Wait + Sync>(rt: &R, alloc: Global, count: u32) -> Option<usize> {
     let shared = Shared::new(Desk::new(alloc, opened(alloc).ok()?));
     let (first, second) = by_two(rt, alloc, &shared, count);

@@ -3,18 +3,17 @@ ghost use Rattle.std.specs.Prelude.{◌<◌};
 
 use crate::counter::Counter;
 use link::LinkEnd;
-use node::{Event, Reply, Station};
+use node::{Event, Outgoing, Reply, Station};
 use signal::{Frame, FrameReader, write_frame};
 use std::alloc::{AllocError, Global};
-use std::test::Fail;
 
 /// Numbers made up from a seed.
 #[derive(Clone, Copy)]
-pub(crate) struct Chance(pub(crate) u64);
+struct Chance(u64);
 
 impl Chance {
     /// A number below this one.
-    pub(crate) fn below(&mut self, limit: usize) -> usize
+    fn below(&mut self, limit: usize) -> usize
         requires { 0 < limit }
         ensures { result < limit }
     {
@@ -45,7 +44,7 @@ impl Side {
         })
     }
 
-    /// Whether it has taken a hundred messages, and the other side has all of its own.
+    // Whether it has taken a hundred messages, and the other side has all of its own.
     fn has_all(&self) -> bool {
         match self.station.end(0) {
             Some(end) => self.station.node().taken == 100
@@ -55,23 +54,27 @@ impl Side {
         }
     }
 
-    /// One step. What it sends is on its way to the other side, each frame not at all, once or twice. None where
-    /// something else is refused than a number above the next, or a message for which there is no room.
+    // One step, whose frames are on their way to the other side then. None where something else is refused than a number
+    // above the next, or a message for which there is no room.
     fn step(&mut self, chance: &mut Chance, event: Event, other: &mut Side) -> Option<()> {
-        let frames = match self.station.step(event) {
-            Ok(Reply::Nothing | Reply::Refused(52 | 60, _)) => return Some(()),
-            Ok(Reply::Done(frames)) => frames,
-            _ => return None,
-        };
-        for outgoing in &frames {
+        match self.station.step(event) {
+            Ok(Reply::Nothing | Reply::Refused(52 | 60, _)) => Some(()),
+            Ok(Reply::Done(frames)) => other.add(chance, &frames),
+            _ => None,
+        }
+    }
+
+    // Frames are on their way to it, each not at all, once or twice.
+    fn add(&mut self, chance: &mut Chance, frames: &[Outgoing]) -> Option<()> {
+        for outgoing in frames {
             for _ in 0..chance.below(3) {
-                other.coming.push(outgoing.frame).ok()?;
+                self.coming.push(outgoing.frame).ok()?;
             }
         }
         Some(())
     }
 
-    /// Some of what is on its way, in any order, as bytes.
+    // Some of what is on its way, in any order, as bytes.
     fn arriving(&mut self, alloc: Global, chance: &mut Chance) -> Option<Vec<u8>> {
         let mut bytes = Vec::new(alloc);
         for _ in 0..chance.below(8) {
@@ -84,7 +87,7 @@ impl Side {
         Some(bytes)
     }
 
-    /// Reads bytes in pieces. No frame is shorter than a piece, so that each piece ends one frame at most.
+    // Reads bytes in pieces. No frame is shorter than a piece, so that each piece ends one frame at most.
     fn read(&mut self, chance: &mut Chance, bytes: &[u8], other: &mut Side) -> Option<()> {
         for piece in bytes.chunks(1 + chance.below(11)) {
             self.reader.feed(piece).ok()?;
@@ -95,7 +98,7 @@ impl Side {
         Some(())
     }
 
-    /// What this side does in one round. What it keeps is sent again at times.
+    // What this side does in one round. What it keeps is sent again at times.
     fn turn(&mut self, alloc: Global, chance: &mut Chance, other: &mut Side) -> Option<()> {
         self.step(chance, Event::Advance, other)?;
         if chance.below(4) == 0 {
@@ -109,14 +112,16 @@ impl Side {
     }
 }
 
-/// Whether both sides have taken all within this many rounds. They take messages in order alone.
-fn all_taken(alloc: Global, seed: u64, rounds: u32) -> Option<bool> {
-    let mut chance = Chance(seed);
-    let mut left = Side::new(alloc).ok()?;
-    let mut right = Side::new(alloc).ok()?;
-    for _ in 0..rounds {
-        left.turn(alloc, &mut chance, &mut right)?;
-        right.turn(alloc, &mut chance, &mut left)?;
+// Whether both sides have taken all within 2,000 rounds. They take messages in order alone.
+fn all_taken(
+    alloc: Global,
+    chance: &mut Chance,
+    left: &mut Side,
+    right: &mut Side,
+) -> Option<bool> {
+    for _ in 0..2000 {
+        left.turn(alloc, chance, right)?;
+        right.turn(alloc, chance, left)?;
         if left.has_all() && right.has_all() {
             return Some(true);
         }
@@ -124,11 +129,15 @@ fn all_taken(alloc: Global, seed: u64, rounds: u32) -> Option<bool> {
     Some(false)
 }
 
+// The same of two fresh ones.
+fn all_taken_by_chance(alloc: Global, seed: u64) -> Option<bool> {
+    let mut left = Side::new(alloc).ok()?;
+    let mut right = Side::new(alloc).ok()?;
+    all_taken(alloc, &mut Chance(seed), &mut left, &mut right)
+}
+
 #[test]
-fn takes_all_in_order_over_lossy_lines(rt: HostRuntime) -> Result<(), Fail> {
-    let alloc = rt.alloc();
-    for seed in 1..4 {
-        assert_eq!(rt; all_taken(alloc, seed, 2000), Some(true), "seed {seed}");
-    }
-    Ok(())
+fn takes_all_in_order_over_lossy_lines(rt: HostRuntime) {
+    let taken = [1, 2, 3].map(|seed| all_taken_by_chance(rt.alloc(), seed));
+    assert_eq!(rt; taken, [Some(true); 3]);
 }

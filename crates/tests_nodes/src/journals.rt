@@ -7,7 +7,7 @@ use std::alloc::{AllocError, Global};
 /// Events that come together.
 const TOGETHER: [Event; 3] = [Event::Resend(1), Event::Resend(2), Event::Resend(3)];
 
-/// Adds these turns.
+// Adds these turns.
 fn add_turns(journal: &mut Journal, turns: u32) -> Result<(), AllocError> {
     for _ in 0..turns {
         journal.push(&Event::Announce, None)?;
@@ -16,7 +16,7 @@ fn add_turns(journal: &mut Journal, turns: u32) -> Result<(), AllocError> {
     Ok(())
 }
 
-/// Adds what comes together, as one batch.
+// Adds what comes together, as one batch.
 fn add_together(alloc: Global, journal: &mut Journal) -> Result<(), AllocError> {
     let batch = Batch::new(alloc, &TOGETHER)?;
     for event in &TOGETHER {
@@ -25,7 +25,7 @@ fn add_together(alloc: Global, journal: &mut Journal) -> Result<(), AllocError> 
     Ok(())
 }
 
-/// A journal of twice what comes together, each with this many turns behind it.
+// A journal of twice what comes together, each with this many turns behind it.
 fn twice(alloc: Global, turns: u32) -> Result<Journal, AllocError> {
     let mut journal = Journal::new(alloc);
     for _ in 0..2 {
@@ -35,8 +35,8 @@ fn twice(alloc: Global, turns: u32) -> Result<Journal, AllocError> {
     Ok(journal)
 }
 
-/// How many events such a journal has, and in how many blocks it keeps them; then the same of its copy from the third
-/// event on.
+// How many events such a journal has, and in how many blocks it keeps them; then the same of its copy from the third
+// event on.
 fn kept(alloc: Global, turns: u32) -> Result<[usize; 4], AllocError> {
     let journal = twice(alloc, turns)?;
     let mut copy = Journal::new(alloc);
@@ -51,12 +51,12 @@ fn kept(alloc: Global, turns: u32) -> Result<[usize; 4], AllocError> {
 
 #[test]
 fn keeps_what_came_together_and_the_turns_behind_it_in_one_block(rt: HostRuntime) {
-    assert_eq!(rt; kept(rt.alloc(), 0), Ok([6, 2, 4, 2]));
-    assert_eq!(rt; kept(rt.alloc(), 1), Ok([10, 2, 8, 2]));
-    assert_eq!(rt; kept(rt.alloc(), 500), Ok([2006, 2, 2004, 2]));
+    let kept = [0, 1, 500].map(|turns| kept(rt.alloc(), turns));
+    let expected = [Ok([6, 2, 4, 2]), Ok([10, 2, 8, 2]), Ok([2006, 2, 2004, 2])];
+    assert_eq!(rt; kept, expected);
 }
 
-/// How many events two such journals have in common from a place on, as far as that is seen at once.
+// How many events two such journals have in common from a place on, as far as that is seen at once.
 fn common(alloc: Global, place: usize) -> Option<usize> {
     let journal = twice(alloc, 2).ok()?;
     let other = twice(alloc, 2).ok()?;
@@ -71,15 +71,23 @@ fn common(alloc: Global, place: usize) -> Option<usize> {
 /// Places of them, and how many events are compared at once from there.
 const COMMON: [(usize, usize); 5] = [(0, 7), (1, 1), (6, 1), (7, 7), (8, 1)];
 
-/// Two blocks of seven events: they are compared whole where they begin, and else event by event.
-#[test]
-fn compares_whole_blocks(rt: HostRuntime) {
+// The first of these places from which another count is compared.
+fn first_other_count(alloc: Global) -> Option<usize> {
     for (place, count) in &COMMON {
-        assert_eq!(rt; common(rt.alloc(), *place), Some(*count), "{place}");
+        if common(alloc, *place) != Some(*count) {
+            return Some(*place);
+        }
     }
+    None
 }
 
-/// Blocks of one event each, whose places are these.
+// Two blocks of seven events: they are compared whole where they begin, and else event by event.
+#[test]
+fn compares_whole_blocks(rt: HostRuntime) {
+    assert_eq!(rt; first_other_count(rt.alloc()), None);
+}
+
+// Blocks of one event each, whose places are these.
 fn placed(alloc: Global, places: &[usize]) -> Option<Blocks> {
     let mut blocks = Blocks::new(alloc);
     for place in places {
@@ -89,12 +97,12 @@ fn placed(alloc: Global, places: &[usize]) -> Option<Blocks> {
     Some(blocks)
 }
 
-/// Whether this is the event of a place in such blocks.
+// Whether this is the event of a place in such blocks.
 fn is_of(event: Option<&Event>, place: usize) -> bool {
     matches!(event, Some(Event::Resend(of)) if *of == place)
 }
 
-/// In which block a place is found that is looked for near one.
+// In which block a place is found that is looked for near one.
 fn found_in(alloc: Global, places: &[usize], place: usize, near: usize) -> Option<usize> {
     let blocks = placed(alloc, places)?;
     let mut near = near;
@@ -121,12 +129,19 @@ const LOOKED_FOR: &[(&[usize], usize, usize, usize)] = &[
     (&[9, 5, 5, 1, 1, 1, 1], 5, 9, 1),
 ];
 
-/// A block is looked for beside the one where the last place was, then where it is if places rise, and only then in all
-/// blocks. Where several have a place, the one that is found shows it.
+// The number of the first of these that is found elsewhere.
+fn first_found_elsewhere(alloc: Global) -> Option<usize> {
+    for (number, (places, place, near, found)) in LOOKED_FOR.iter().enumerate() {
+        if found_in(alloc, places, *place, *near) != Some(*found) {
+            return Some(number);
+        }
+    }
+    None
+}
+
+// A block is looked for beside the one where the last place was, then where it is if places rise, and only then in all
+// blocks. Where several have a place, the one that is found shows it.
 #[test]
 fn looks_for_a_place_near_the_last_one(rt: HostRuntime) {
-    for (places, place, near, found) in LOOKED_FOR {
-        let looked = found_in(rt.alloc(), places, *place, *near);
-        assert_eq!(rt; looked, Some(*found), "{places:?}");
-    }
+    assert_eq!(rt; first_found_elsewhere(rt.alloc()), None);
 }

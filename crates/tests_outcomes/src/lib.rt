@@ -1,11 +1,17 @@
-//! What a command answers and writes, over files in memory. No part of the product, and no tests: those of several
-//! crates of tests stand on it.
+//! What a command answers and writes, over files in memory, and tables of such answers. No part of the product, and no
+//! tests: those of several crates of tests stand on it.
 //!
-//! Begin with `outcome_over` in `outcome.rt`; `TwoFiles` are the files that most of these tests name.
+//! Begin with `outcome_over` in `outcome.rt`, then `answered` in `answers.rt`.
 #![tactic(auto)]
 
+pub mod answers;
+pub mod machine;
+pub mod named_files;
 pub mod outcome;
-pub mod two_files;
 
-pub use outcome::{Outcome, given, outcome_of_parts, outcome_over, outcome_told, shown};
-pub use two_files::TwoFiles;
+pub use answers::{ANY, Answer, Case, WrongAnswer, answered, answered_over, is_text};
+pub use machine::CommandMachine;
+pub use named_files::NamedFiles;
+pub use outcome::{
+    Outcome, given, outcome_of, outcome_of_parts, outcome_over, outcome_told, shown, status_into,
+};

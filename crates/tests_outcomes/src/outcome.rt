@@ -1,17 +1,16 @@
 //! What a command answers and writes, over files in memory.
-use crate::two_files::TwoFiles;
+use crate::machine::CommandMachine;
+use crate::named_files::NamedFiles;
 use fedrun_commands::command;
 use fedrun_files::Files;
 use fedrun_progress::{NoProgress, Progress};
 use std::alloc::Global;
+use std::io::Write;
 use std::net::{Net, TcpListener, TcpStream};
-use std::sync::Wait;
-use std::thread::Threads;
-use std::time::Clock;
 use tests_samples::joined;
 
 /// What a command answered and wrote.
-#[derive(Drop)]
+#[derive(Debug, PartialEq, Eq, Drop)]
 pub struct Outcome {
     pub status: u8,
     pub out: String,
@@ -34,35 +33,28 @@ pub fn given(alloc: Global, words: &[&str]) -> Option<Vec<String>> {
     Some(given)
 }
 
-/// What the words give over these files; None where there is no memory for the words, or what is written is no UTF-8.
-pub fn outcome_over<
-    R: AllocGlobal
-        + Threads
-        + Wait
-        + Clock
-        + Net<Stream = TcpStream, Listener = TcpListener>
-        + Sync,
+/// The status of what the words give over these files, into these writers; None where there is no memory for the words.
+pub fn status_into<
+    R: CommandMachine + Net<Stream = TcpStream, Listener = TcpListener>,
     F: Files,
->(rt: &R, words: &[&str], files: &mut F) -> Option<Outcome> {
-    outcome_told(rt, words, files, &NoProgress)
+    O: Write,
+    E: Write,
+    P: Progress + Sync,
+>(rt: &R, words: &[&str], files: &mut F, out: &mut O, err: &mut E, progress: &P) -> Option<u8> {
+    let words = given(rt.alloc(), words)?;
+    Some(command(rt, words.as_slice(), files, out, err, progress))
 }
 
-/// The same, where the command tells how far it is.
+/// What the words give over these files, where the command tells how far it is; None where there is no memory for the
+/// words, or what is written is no UTF-8.
 pub fn outcome_told<
-    R: AllocGlobal
-        + Threads
-        + Wait
-        + Clock
-        + Net<Stream = TcpStream, Listener = TcpListener>
-        + Sync,
+    R: CommandMachine + Net<Stream = TcpStream, Listener = TcpListener>,
     F: Files,
     P: Progress + Sync,
 >(rt: &R, words: &[&str], files: &mut F, progress: &P) -> Option<Outcome> {
-    let alloc = rt.alloc();
-    let words = given(alloc, words)?;
-    let mut out = Vec::new(alloc);
-    let mut err = Vec::new(alloc);
-    let status = command(rt, words.as_slice(), files, &mut out, &mut err, progress);
+    let mut out = Vec::new(rt.alloc());
+    let mut err = Vec::new(rt.alloc());
+    let status = status_into(rt, words, files, &mut out, &mut err, progress)?;
     Some(Outcome {
         status,
         out: String::from_utf8(out).ok()?,
@@ -70,19 +62,38 @@ pub fn outcome_told<
     })
 }
 
-/// What the words give over two files, each of parts; None where there is no memory for these too.
-pub fn outcome_of_parts<
-    R: AllocGlobal
-        + Threads
-        + Wait
-        + Clock
-        + Net<Stream = TcpStream, Listener = TcpListener>
-        + Sync,
->(rt: &R, words: &[&str], federation: &[&str], inputs: &[&str]) -> Option<Outcome> {
+/// The same, where nobody is told.
+pub fn outcome_over<R: CommandMachine + Net<Stream = TcpStream, Listener = TcpListener>, F: Files>(
+    rt: &R,
+    words: &[&str],
+    files: &mut F,
+) -> Option<Outcome> {
+    outcome_told(rt, words, files, &NoProgress)
+}
+
+/// The same over files of these names and bytes.
+pub fn outcome_of<R: CommandMachine + Net<Stream = TcpStream, Listener = TcpListener>>(
+    rt: &R,
+    words: &[&str],
+    files: &[(&str, &[u8])],
+) -> Option<Outcome> {
+    outcome_over(rt, words, &mut NamedFiles::new(rt.alloc(), files))
+}
+
+/// The same over the files `fed.toml` and `in.toml`, each of parts; None where there is no memory for these too.
+pub fn outcome_of_parts<R: CommandMachine + Net<Stream = TcpStream, Listener = TcpListener>>(
+    rt: &R,
+    words: &[&str],
+    federation: &[&str],
+    inputs: &[&str],
+) -> Option<Outcome> {
     let federation = joined(rt.alloc(), federation)?;
     let inputs = joined(rt.alloc(), inputs)?;
-    let mut files = TwoFiles::new(rt.alloc(), federation.as_str(), inputs.as_str());
-    outcome_over(rt, words, &mut files)
+    let files = [
+        ("fed.toml", federation.as_str().as_bytes()),
+        ("in.toml", inputs.as_str().as_bytes()),
+    ];
+    outcome_of(rt, words, &files)
 }
 
 /// The status, and what is on standard output and on standard error; None where there is no outcome.

@@ -18,7 +18,7 @@ const LAST_NUMBER: [u8; 44] = [
     0, 0, 0, 0, 0, 0, 0, 0, 0, 0, 0, 0x02, 0, 0, 0, 0, 0, 0, 0, 0, 0, 0, 0, 0,
 ];
 
-/// The frames that they carry.
+// The frames that they carry.
 fn net_and_ltc(first: u64, second: u64) -> [Frame; 2] {
     let origin = FiniteTag::new(Time::zero(), 0);
     [
@@ -27,7 +27,7 @@ fn net_and_ltc(first: u64, second: u64) -> [Frame; 2] {
     ]
 }
 
-/// Whether the frames are written as these bytes and read from them.
+// Whether the frames are written as these bytes and read from them.
 fn are_spelled(alloc: Global, frames: &[Frame], bytes: &[u8]) -> bool {
     let mut out = Vec::new(alloc);
     let mut reader = FrameReader::new(alloc);
@@ -51,7 +51,7 @@ fn writes_and_reads_the_last_number(rt: HostRuntime) {
 
 // ---- how frames are cut
 
-/// How many frames the spelling at the front carries, and the bytes behind it; None where there is no whole one.
+// How many frames the spelling at the front carries, and the bytes behind it; None where there is no whole one.
 fn first_piece(bytes: &[u8]) -> Option<(usize, &[u8])> {
     let size = match bytes {
         [0, 0, high, low, ..] => 4 + usize::from(*high) * 256 + usize::from(*low),
@@ -64,7 +64,7 @@ fn first_piece(bytes: &[u8]) -> Option<(usize, &[u8])> {
     Some((count, bytes.get(size..)?))
 }
 
-/// Whether the bytes are spellings of this many frames each.
+// Whether the bytes are spellings of this many frames each.
 fn is_cut(bytes: &[u8], counts: &[usize]) -> bool {
     let mut left = bytes;
     for count in counts {
@@ -76,8 +76,8 @@ fn is_cut(bytes: &[u8], counts: &[usize]) -> bool {
     left.is_empty()
 }
 
-/// Whether frames are written as spellings of this many each, and read again. None, here and below, where there was no
-/// memory.
+// Whether frames are written as spellings of this many each, and read again. None, here and below, where there was no
+// memory.
 fn are_cut(alloc: Global, own: u8, peer: u8, frames: &[Frame], counts: &[usize]) -> Option<bool>
     requires { 0 < own }
 {
@@ -86,7 +86,7 @@ fn are_cut(alloc: Global, own: u8, peer: u8, frames: &[Frame], counts: &[usize])
     Some(is_cut(&bytes, counts) && are_read(alloc, &bytes, 7, frames))
 }
 
-/// A NET of this incarnation and number.
+// A NET of this incarnation and number.
 fn net(incarnation: u32, number: u64) -> Frame {
     Frame::Data {
         incarnation,
@@ -95,7 +95,7 @@ fn net(incarnation: u32, number: u64) -> Frame {
     }
 }
 
-/// NETs of these incarnations and numbers.
+// NETs of these incarnations and numbers.
 fn nets(alloc: Global, places: &[(u32, u64)]) -> Option<Vec<Frame>> {
     let mut frames = Vec::new(alloc);
     for (incarnation, number) in places {
@@ -146,7 +146,7 @@ const ROWS: [(u64, &[usize]); 7] = [
     (130, &[64, 64, 2]),
 ];
 
-/// This many messages in a row.
+// This many messages in a row.
 fn row(alloc: Global, count: u64) -> Option<Vec<Frame>> {
     let mut frames = Vec::new(alloc);
     for number in 1..=count {
@@ -201,7 +201,7 @@ fn writes_other_frames_by_themselves(rt: HostRuntime) {
 
 // ---- versions
 
-/// Whether three signals in a row are written one by one to this peer.
+// Whether three signals in a row are written one by one to this peer.
 fn are_written_singly(alloc: Global, own: u8, peer: u8) -> Option<bool>
     requires { 0 < own }
 {
@@ -218,7 +218,7 @@ fn writes_signals_singly_where_one_side_has_version_1(rt: HostRuntime) {
     assert_eq!(rt; are_written_singly(rt.alloc(), 3, 255), Some(false));
 }
 
-/// The version in a Hello that is written with this one.
+// The version in a Hello that is written with this one.
 fn written_version(alloc: Global, own: u8) -> Option<u8>
     requires { 0 < own }
 {
@@ -239,7 +239,7 @@ fn writes_a_hello_of_its_own_version(rt: HostRuntime) {
     }
 }
 
-/// What a reader tells once a Hello of this version was fed, and once it was given.
+// What a reader tells once a Hello of this version was fed, and once it was given.
 fn versions(reader: &mut FrameReader, version: u8) -> Option<(u8, u8)> {
     let mut bytes = HELLO;
     bytes[5] = version;
@@ -269,7 +269,7 @@ fn reads_several_signals_in_any_pieces(rt: HostRuntime) {
     }
 }
 
-/// Whether 64 messages make the longest body, which is read again.
+// Whether 64 messages make the longest body, which is read again.
 fn is_longest(alloc: Global) -> Option<bool> {
     let frames = row(alloc, 64)?;
     let mut bytes = Vec::new(alloc);
@@ -332,7 +332,7 @@ const FAULTS: [(&[(usize, u8)], u16); 16] = [
     (&[(3, 0x27), (19, 0x40)], 40),
 ];
 
-/// The number of the refusal that comes first, and again; None where a frame comes, or nothing.
+// The number of the refusal that comes first, and again; None where a frame comes, or nothing.
 fn refusal(alloc: Global, changes: &[(usize, u8)]) -> Option<u16> {
     let mut bytes = TWO_SIGNALS;
     for (place, byte) in changes {
@@ -357,7 +357,7 @@ fn refuses_all_of_a_faulty_batch(rt: HostRuntime) {
 
 // ---- memory
 
-/// Whether the frames are written, the next time if memory was refused, when nothing was appended.
+// Whether the frames are written, the next time if memory was refused, when nothing was appended.
 fn are_written(frames: &[Frame], stream: &mut Vec<u8>) -> bool {
     let before = stream.len();
     match write_frames(frames, 2, 2, stream) {
@@ -370,7 +370,7 @@ fn are_written(frames: &[Frame], stream: &mut Vec<u8>) -> bool {
     }
 }
 
-/// Passes whichever allocation is refused: the refusal is told, and nothing was appended.
+// Passes whichever allocation is refused: the refusal is told, and nothing was appended.
 #[test]
 fn appends_nothing_without_memory_for_frames(rt: HostRuntime) {
     let frames = [net(1, 1), net(1, 2), net(1, 4), net(1, 5), net(2, 1)];

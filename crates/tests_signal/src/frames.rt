@@ -89,8 +89,8 @@ fn frames() -> [Frame; 7] {
     ]
 }
 
-/// Those of the frames that the reader has still to give when it gives no more; None where it gives another one, or a
-/// fault.
+// Those of the frames that the reader has still to give when it gives no more; None where it gives another one, or a
+// fault.
 fn not_given<'a>(reader: &mut FrameReader, frames: &'a [Frame]) -> Option<&'a [Frame]> {
     let mut left = frames;
     for _ in 0..=frames.len() {
@@ -110,7 +110,7 @@ pub(crate) fn gives(reader: &mut FrameReader, frames: &[Frame]) -> bool {
     matches!(not_given(reader, frames), Some([]))
 }
 
-/// Whether the frame is written as these bytes and read from them.
+// Whether the frame is written as these bytes and read from them.
 fn is_spelled(alloc: Global, frame: &Frame, bytes: &[u8]) -> bool {
     let mut out = Vec::new(alloc);
     let mut reader = FrameReader::new(alloc);
@@ -120,7 +120,7 @@ fn is_spelled(alloc: Global, frame: &Frame, bytes: &[u8]) -> bool {
         && gives(&mut reader, &[*frame])
 }
 
-/// The same of the spelling at this place.
+// The same of the spelling at this place.
 fn is_spelled_there(alloc: Global, frame: &Frame, place: usize) -> bool {
     match SPELLINGS.get(place) {
         Some(bytes) => is_spelled(alloc, frame, bytes),
@@ -153,7 +153,7 @@ pub(crate) fn are_read(alloc: Global, bytes: &[u8], size: usize, frames: &[Frame
     left.is_empty()
 }
 
-/// All spellings, one after the other.
+// All spellings, one after the other.
 fn stream(alloc: Global) -> Result<Vec<u8>, AllocError> {
     let mut stream = Vec::new(alloc);
     for bytes in SPELLINGS {
@@ -254,7 +254,7 @@ const REFUSED: [(&[u8], u16); 16] = [
     ),
 ];
 
-/// The number by which these bytes behind a frame are refused for good; None where they aren't.
+// The number by which these bytes behind a frame are refused for good; None where they aren't.
 fn refusal(alloc: Global, bytes: &[u8]) -> Option<u16> {
     let mut reader = FrameReader::new(alloc);
     if reader.feed(&ACK).is_err() || reader.feed(bytes).is_err() || reader.next().is_err() {
@@ -279,7 +279,7 @@ fn refuses_bytes_for_good(rt: HostRuntime) {
     }
 }
 
-/// How many acknowledgements a reader gives before anything else, at most this many.
+// How many acknowledgements a reader gives before anything else, at most this many.
 fn acknowledgements(reader: &mut FrameReader, most: usize) -> usize {
     for count in 0..most {
         if !matches!(reader.next(), Ok(Some(Frame::Ack { .. }))) {
@@ -289,7 +289,7 @@ fn acknowledgements(reader: &mut FrameReader, most: usize) -> usize {
     most
 }
 
-/// Whether this many acknowledgements, fed in one piece, are read; None where there was no memory for them.
+// Whether this many acknowledgements, fed in one piece, are read; None where there was no memory for them.
 fn are_fed_at_once(alloc: Global, count: usize) -> Option<bool> {
     let mut stream = Vec::new(alloc);
     for _ in 0..count {
@@ -300,7 +300,7 @@ fn are_fed_at_once(alloc: Global, count: usize) -> Option<bool> {
     Some(acknowledgements(&mut reader, count) == count && gives(&mut reader, &[]))
 }
 
-/// They are 1,048,577 bytes. Where an allocation is refused the first time, there is memory the next time.
+// They are 1,048,577 bytes. Where an allocation is refused the first time, there is memory the next time.
 #[test]
 fn takes_a_megabyte_at_once(rt: HostRuntime) {
     let first = are_fed_at_once(rt.alloc(), 61_681);
@@ -311,8 +311,8 @@ fn takes_a_megabyte_at_once(rt: HostRuntime) {
 /// The rest of an acknowledgement, and the first byte of the next one.
 const ACK_AND_NEXT: [u8; 17] = [0, 0, 0x0d, 0x03, 0, 0, 0, 1, 0, 0, 0, 0, 0, 0, 0, 2, 0];
 
-/// How long the text is that a reader is displayed as, with all bytes that it holds, once it read this many
-/// acknowledgements, of which each piece had the rest of one and the beginning of the next.
+// How long the text is that a reader is displayed as, with all bytes that it holds, once it read this many
+// acknowledgements, of which each piece had the rest of one and the beginning of the next.
 fn displayed_length(alloc: Global, count: usize) -> Option<usize> {
     let mut reader = FrameReader::new(alloc);
     reader.feed(&ACK[..1]).ok()?;
@@ -326,8 +326,8 @@ fn displayed_length(alloc: Global, count: usize) -> Option<usize> {
     Some(text.len())
 }
 
-/// Else a stream on which there is always something on its way would fill the memory. Where an allocation is refused
-/// the first time, there is memory the next time.
+// Else a stream on which there is always something on its way would fill the memory. Where an allocation is refused the
+// first time, there is memory the next time.
 #[test]
 fn holds_no_bytes_that_were_read_long_ago(rt: HostRuntime) {
     let first = displayed_length(rt.alloc(), 2_000);
@@ -336,7 +336,7 @@ fn holds_no_bytes_that_were_read_long_ago(rt: HostRuntime) {
     assert!(rt; length.is_some_and(|length| length < 1_000), "{length:?}");
 }
 
-/// Whether a Hello of this version is read.
+// Whether a Hello of this version is read.
 fn is_hello(alloc: Global, version: u8) -> bool {
     let mut bytes = HELLO;
     bytes[5] = version;
@@ -351,7 +351,7 @@ fn reads_a_hello_of_any_version_but_0(rt: HostRuntime) {
     }
 }
 
-/// Whether the frame is written, the next time if memory was refused, when nothing was appended.
+// Whether the frame is written, the next time if memory was refused, when nothing was appended.
 fn is_written(frame: &Frame, stream: &mut Vec<u8>) -> bool {
     let before = stream.len();
     match write_frame(frame, stream) {
@@ -362,7 +362,7 @@ fn is_written(frame: &Frame, stream: &mut Vec<u8>) -> bool {
     }
 }
 
-/// Whether the bytes are fed, the next time if memory was refused.
+// Whether the bytes are fed, the next time if memory was refused.
 fn are_fed(reader: &mut FrameReader, bytes: &[u8]) -> bool {
     match reader.feed(bytes) {
         Ok(()) => true,
@@ -370,13 +370,13 @@ fn are_fed(reader: &mut FrameReader, bytes: &[u8]) -> bool {
     }
 }
 
-/// Whether a frame is written and fed, each at once or the next time.
+// Whether a frame is written and fed, each at once or the next time.
 fn comes_through(alloc: Global, reader: &mut FrameReader, frame: &Frame) -> bool {
     let mut bytes = Vec::new(alloc);
     is_written(frame, &mut bytes) && are_fed(reader, &bytes)
 }
 
-/// Passes whichever allocation is refused: each refusal is answered, and all is as before it.
+// Passes whichever allocation is refused: each refusal is answered, and all is as before it.
 #[test]
 fn changes_nothing_without_memory_for_bytes(rt: HostRuntime) {
     let frames = frames();

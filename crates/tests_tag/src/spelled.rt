@@ -28,7 +28,7 @@ const BAD: &[&str] = &[
     "0x1 s", "1 s s",
 ];
 
-/// The first text that isn't of this many nanoseconds.
+// The first text that isn't of this many nanoseconds.
 fn not_read() -> Option<&'static str> {
     for (text, nanoseconds) in DURATIONS {
         if parse_duration(text) != Ok(*nanoseconds) {
@@ -38,7 +38,7 @@ fn not_read() -> Option<&'static str> {
     None
 }
 
-/// The first of these texts that isn't refused so.
+// The first of these texts that isn't refused so.
 fn not_refused<'a>(texts: &[&'a str], fault: DurationFault) -> Option<&'a str> {
     for text in texts {
         if parse_duration(text) != Err(fault) {

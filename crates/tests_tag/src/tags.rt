@@ -23,7 +23,7 @@ fn delay(of: (u64, u32)) -> Delay {
     }
 }
 
-/// At 0 where the first number is no time.
+// At 0 where the first number is no time.
 fn finite(of: (u64, u32)) -> FiniteTag {
     FiniteTag::new(Time::new(of.0).unwrap_or(Time::zero()), of.1)
 }
@@ -57,12 +57,12 @@ const DELAYS: &[((u64, u32), (u64, u32), (u64, u32))] = &[
     (FOREVER, (0, 0), FOREVER),
 ];
 
-/// The place of the first wrong sum.
+// The place of the first wrong sum.
 fn wrong_sum() -> Option<usize> {
     SUMS.iter().position(|(start, length, sum)| plus(tag(*start), delay(*length)) != tag(*sum))
 }
 
-/// The place of the first two delays that are wrong.
+// The place of the first two delays that are wrong.
 fn wrong_delay() -> Option<usize> {
     DELAYS.iter().position(|(first, second, sum)| then(delay(*first), delay(*second))
         != delay(*sum))
@@ -93,7 +93,7 @@ fn steps_to_the_next_tag_and_back(rt: HostRuntime) {
     assert_eq!(rt; pred(tag((0, 0))), None);
 }
 
-/// Whether a value is printed so.
+// Whether a value is printed so.
 fn prints<T: Display>(alloc: Global, value: &T, text: &str) -> bool {
     match format!(in alloc; "{value}") {
         Ok(printed) => printed.as_str() == text,
@@ -118,7 +118,7 @@ const PRINTED: &[((u64, u32), &str, &str)] = &[
     (FOREVER, "", "FOREVER"),
 ];
 
-/// Whether the time, if it is one, is printed so.
+// Whether the time, if it is one, is printed so.
 fn prints_time(alloc: Global, time: u64, text: &str) -> bool {
     match Time::new(time) {
         Some(time) => prints(alloc, &time, text),
@@ -126,7 +126,7 @@ fn prints_time(alloc: Global, time: u64, text: &str) -> bool {
     }
 }
 
-/// Whether the finite tag, if it is one, is printed so.
+// Whether the finite tag, if it is one, is printed so.
 fn prints_finite(alloc: Global, tag: Tag, text: &str) -> bool {
     match FiniteTag::of(tag) {
         Some(finite) => finite.tag() == tag && prints(alloc, &finite, text),
@@ -134,7 +134,7 @@ fn prints_finite(alloc: Global, tag: Tag, text: &str) -> bool {
     }
 }
 
-/// Whether a time, and the tags and the delay with it, are printed so.
+// Whether a time, and the tags and the delay with it, are printed so.
 fn are_printed(alloc: Global, of: (u64, u32), time: &str, text: &str) -> bool {
     prints_time(alloc, of.0, time)
         && prints(alloc, &tag(of), text)

@@ -1,10 +1,10 @@
 //! Where both ends have version 2 and many signals wait, Batches go over a connection; where one has version 1, none
 //! does.
 use std::sync::atomic::{AtomicU64, Ordering};
-use tests_lines::lines::{AMPLE, EACH_WAY, Nodes, Setting, ran_in_memory};
-use tests_lines::nodes::has_all_rows;
+use tests_lines::lines::{AMPLE, EACH_WAY, Nodes, Setting};
+use tests_lines::outcome::outcome_in_memory;
 use tests_lines::tap::{End, Fate, Tap};
-use tests_samples::{Machine, loaded};
+use tests_samples::Machine;
 use wires::Terms;
 use wires_workers::NoGate;
 
@@ -21,7 +21,7 @@ reaction = [{ triggers = ["t"], body = ["n = n + 1", "out.y = n"] }]
 /// The first byte of a Batch's body.
 const BATCH: u8 = 5;
 
-/// The kind of the frame at the front, and the bytes behind it; None where there is no whole one.
+// The kind of the frame at the front, and the bytes behind it; None where there is no whole one.
 fn first_frame(bytes: &[u8]) -> Option<(u8, &[u8])> {
     let size = match bytes {
         [0, 0, high, low, ..] => 4 + usize::from(*high) * 256 + usize::from(*low),
@@ -30,7 +30,7 @@ fn first_frame(bytes: &[u8]) -> Option<(u8, &[u8])> {
     Some((*bytes.get(4)?, bytes.get(size..)?))
 }
 
-/// How many of these frames are Batches.
+// How many of these frames are Batches.
 fn batches(bytes: &[u8]) -> u64 {
     let mut count: u64 = 0;
     let mut left = bytes;
@@ -61,21 +61,19 @@ impl Tap for Counting {
     }
 }
 
-/// How many Batches are sent in a run of many ticks, where federates write this version of frames; None where it hasn't
-/// its rows.
+// How many Batches are sent in a run of many ticks, where federates write this version of frames; None where it isn't
+// right.
 fn batches_sent<R: Machine>(rt: &R, nodes: Nodes, frames: u8) -> Option<u64> {
-    let federation = loaded(rt.alloc(), MANY_TICKS, "")?;
     let counting = Counting {
         sent: AtomicU64::new(0),
     };
-    let terms = Terms { frames, ..AMPLE };
     let setting = Setting {
         nodes,
         gate: &NoGate,
-        terms,
+        terms: Terms { frames, ..AMPLE },
     };
-    let gathered = ran_in_memory(rt, rt.alloc(), &federation, setting, &counting)?;
-    if has_all_rows(rt.alloc(), &federation, &gathered) {
+    let outcome = outcome_in_memory(rt, rt.alloc(), MANY_TICKS, setting, &counting)?;
+    if outcome.is_right {
         Some(counting.sent.load(Ordering::SeqCst))
     } else {
         None
@@ -83,16 +81,9 @@ fn batches_sent<R: Machine>(rt: &R, nodes: Nodes, frames: u8) -> Option<u64> {
 }
 
 #[test]
-fn sends_no_batch_where_one_end_has_version_1(rt: HostRuntime) {
+fn sends_batches_where_both_ends_have_version_2_and_else_none(rt: HostRuntime) {
     for nodes in EACH_WAY {
-        assert_eq!(rt; batches_sent(&rt, nodes, 1), Some(0), "{nodes:?}");
-    }
-}
-
-#[test]
-fn sends_batches_where_both_ends_have_version_2(rt: HostRuntime) {
-    for nodes in EACH_WAY {
-        let sent = batches_sent(&rt, nodes, 2).unwrap_or(0);
-        assert!(rt; sent > 0, "{nodes:?}: {sent}");
+        let sent = (batches_sent(&rt, nodes, 1), batches_sent(&rt, nodes, 2));
+        assert!(rt; matches!(sent, (Some(0), Some(1..))), "{nodes:?}: {sent:?}");
     }
 }

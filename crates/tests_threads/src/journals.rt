@@ -10,14 +10,12 @@ use tests_lines::nodes::nodes_of;
 use tests_samples::{Machine, SENDER, loaded};
 
 /// What is handed in, and so stands in the journal.
-fn handed_in() -> [Event; 4] {
-    [
-        Event::Hello(0),
-        Event::Announce,
-        Event::Advance,
-        Event::Resend(0),
-    ]
-}
+const HANDED_IN: [Event; 4] = [
+    Event::Hello(0),
+    Event::Announce,
+    Event::Advance,
+    Event::Resend(0),
+];
 
 /// What is in a journal before the events that are copied behind it.
 const BEFORE: Event = Event::Resend(7);
@@ -33,33 +31,31 @@ const COPIED: &[(usize, usize, usize, usize)] = &[
     (9, 5, 0, 0),
 ];
 
-/// Whether these events are copied of the journal, behind what is in the other one before.
-fn copies<R: Wait>(
+// What stands in a journal behind which events were copied so.
+fn copied<R: Wait>(
     rt: &R,
     alloc: Global,
     shared: &Shared<Federate<'_>>,
     place: usize,
     most: usize,
-    wanted: &[Event],
-) -> Option<bool> {
+) -> Option<Vec<Event>> {
     let mut journal = Journal::new(alloc);
     journal.push(&BEFORE, None).ok()?;
     shared.copy_events(rt, place, most, &mut journal).ok()?;
-    let events = events_of(alloc, &journal)?;
-    let (first, copied) = events.as_slice().split_first()?;
-    Some(*first == BEFORE && copied == wanted)
+    events_of(alloc, &journal)
 }
 
-/// Whether all of them are.
-fn copies_each<R: Wait>(rt: &R, alloc: Global, shared: &Shared<Federate<'_>>) -> Option<bool> {
+// Whether these events are copied each time, behind what is in the other journal before.
+fn copies<R: Wait>(rt: &R, alloc: Global, shared: &Shared<Federate<'_>>) -> Option<bool> {
     let mut share = Share::new(alloc);
-    let events = handed_in();
-    for event in &events {
+    let handed_in = HANDED_IN;
+    for event in &handed_in {
         shared.handle(rt, &mut share, *event).ok()?;
     }
     for (place, most, from, to) in COPIED {
-        let wanted = events.get(*from..*to)?;
-        if !copies(rt, alloc, shared, *place, *most, wanted)? {
+        let events = copied(rt, alloc, shared, *place, *most)?;
+        let (first, behind) = events.as_slice().split_first()?;
+        if *first != BEFORE || behind != handed_in.get(*from..*to)? {
             return Some(false);
         }
     }
@@ -69,7 +65,7 @@ fn copies_each<R: Wait>(rt: &R, alloc: Global, shared: &Shared<Federate<'_>>) ->
 fn copies_of_sender<R: Machine>(rt: &R) -> Option<bool> {
     let federation = loaded(rt.alloc(), SENDER, "")?;
     let nodes = nodes_of(rt.alloc(), &federation)?;
-    copies_each(rt, rt.alloc(), nodes.federates.first()?)
+    copies(rt, rt.alloc(), nodes.federates.first()?)
 }
 
 #[test]

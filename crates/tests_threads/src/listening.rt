@@ -50,7 +50,7 @@ impl<'a, R> Net for Offline<'a, R> {
     }
 }
 
-/// Why a run over this machine gives no desks, and whether whoever looks on sees its end.
+// Why a run over this machine gives no desks, and whether whoever looks on sees its end.
 fn ended<R: Threads + Wait + Clock + Net<Stream = TcpStream, Listener = TcpListener> + Sync>(
     rt: &R,
     alloc: Global,
@@ -65,7 +65,7 @@ fn ended<R: Threads + Wait + Clock + Net<Stream = TcpStream, Listener = TcpListe
     Some((results.err(), nodes.ending.is_set()))
 }
 
-/// The same without a network.
+// The same without a network.
 fn ends_offline<R: Machine>(rt: &R) -> Option<(Option<RunFault>, bool)> {
     ended(&Offline { rt }, rt.alloc())
 }
@@ -76,7 +76,7 @@ fn ends_where_it_cannot_listen(rt: HostRuntime) {
     assert_eq!(rt; ends_offline(&rt), Some((Some(fault), true)));
 }
 
-/// The address at which a run listens.
+// The address at which a run listens.
 fn address<R: Net<Stream = TcpStream, Listener = TcpListener>>(rt: &R) -> Option<SocketAddr> {
     listen(rt).ok()?.local_addr().ok()
 }

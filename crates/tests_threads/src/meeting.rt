@@ -1,15 +1,13 @@
 //! Two federates that have nothing to do with each other run at the same time.
 use node::NodeId;
-use std::alloc::Global;
 use std::sync::Wait;
 use std::sync::atomic::{AtomicBool, Ordering};
 use std::thread;
-use std::thread::Threads;
 use std::time::{Clock, Duration};
-use tests_lines::lines::{EACH_WAY, Nodes, Setting, ran_in_memory};
-use tests_lines::nodes::is_finished;
+use tests_lines::lines::{EACH_WAY, Nodes, Setting};
+use tests_lines::outcome::outcome_in_memory;
 use tests_lines::tap::Untouched;
-use tests_samples::{APART, Federation, loaded};
+use tests_samples::{APART, Machine};
 use wires_workers::{Gate, Point};
 
 /// Each of two federates waits before it advances until the other has come too, at most 10,000 times 1 ms.
@@ -20,14 +18,7 @@ struct Meeting {
 }
 
 impl Meeting {
-    fn new() -> Meeting {
-        Meeting {
-            has_come: [AtomicBool::new(false), AtomicBool::new(false)],
-            has_waited_in_vain: AtomicBool::new(false),
-        }
-    }
-
-    /// Whether both came, and neither waited in vain.
+    // Whether both came, and neither waited in vain.
     fn is_held(&self) -> bool {
         let [first, second] = &self.has_come;
         first.load(Ordering::SeqCst)
@@ -63,17 +54,15 @@ impl Gate for Meeting {
     }
 }
 
-/// Whether both pass, and the run finishes.
-fn meets<R: Threads + Wait + Clock + Sync>(
-    rt: &R,
-    alloc: Global,
-    nodes: Nodes,
-    federation: &Federation,
-    meeting: &Meeting,
-) -> bool {
-    let setting = Setting::ample(nodes, meeting);
-    match ran_in_memory(rt, alloc, federation, setting, &Untouched) {
-        Some(gathered) => is_finished(&gathered) && meeting.is_held(),
+// Whether both pass, and the run is right.
+fn meets<R: Machine>(rt: &R, nodes: Nodes) -> bool {
+    let meeting = Meeting {
+        has_come: [AtomicBool::new(false), AtomicBool::new(false)],
+        has_waited_in_vain: AtomicBool::new(false),
+    };
+    let setting = Setting::ample(nodes, &meeting);
+    match outcome_in_memory(rt, rt.alloc(), APART, setting, &Untouched) {
+        Some(outcome) => outcome.is_right && meeting.is_held(),
         None => false,
     }
 }
@@ -81,11 +70,6 @@ fn meets<R: Threads + Wait + Clock + Sync>(
 #[test]
 fn advances_two_unconnected_federates_at_once(rt: HostRuntime) {
     for nodes in EACH_WAY {
-        let meeting = Meeting::new();
-        let met = match loaded(rt.alloc(), APART, "") {
-            Some(federation) => meets(&rt, rt.alloc(), nodes, &federation, &meeting),
-            None => false,
-        };
-        assert!(rt; met, "{nodes:?}");
+        assert!(rt; meets(&rt, nodes), "{nodes:?}");
     }
 }

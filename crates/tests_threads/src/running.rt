@@ -1,14 +1,10 @@
 //! Federations in threads over TCP.
-use coordinator::Coordinator;
-use federate::Federate;
 use std::net::{Net, TcpListener, TcpStream};
-use tests_lines::nodes::{has_all_rows, is_finished, nodes_of};
+use tests_lines::outcome::outcome_of_run;
 use tests_samples::{
-    CHAIN, CHAIN_INPUT, COUNTER, DELAYED_COUNTER, Federation, LOOP, Machine, REPLACED,
-    STARTED_COUNTER, loaded,
+    CHAIN, CHAIN_INPUT, COUNTER, DELAYED_COUNTER, LOOP, Machine, REPLACED, STARTED_COUNTER,
 };
-use wires::{Gathered, Terms, run_over_tcp};
-use wires_workers::NoGate;
+use wires::Terms;
 
 /// The federations that are run, each with its input file.
 const ALL: &[(&str, &str)] = &[
@@ -20,62 +16,29 @@ const ALL: &[(&str, &str)] = &[
     (STARTED_COUNTER, ""),
 ];
 
-/// The desks after a run over TCP; None where there are none.
-fn ran<'a, R: Machine + Net<Stream = TcpStream, Listener = TcpListener>>(
-    rt: &R,
-    federation: &'a Federation,
-    turns: u32,
-) -> Option<Gathered<Coordinator<'a>, Federate<'a>>> {
-    let nodes = nodes_of(rt.alloc(), federation)?;
-    let left = run_over_tcp(rt, rt.alloc(), &nodes, &NoGate, Terms { turns, frames: 2 }).ok()?;
-    nodes.gather(rt.alloc(), left).ok()
-}
+const TERMS: Terms = Terms {
+    turns: 100_000,
+    frames: 2,
+};
 
-/// Whether a run has the rows of the undivided program.
-fn runs<R: Machine + Net<Stream = TcpStream, Listener = TcpListener>>(
-    rt: &R,
-    federation: &Federation,
-) -> bool {
-    match ran(rt, federation, 100_000) {
-        Some(gathered) => has_all_rows(rt.alloc(), federation, &gathered),
-        None => false,
-    }
-}
-
-/// Whether each of five runs has the rows of the undivided program.
+// Whether each of five runs has the rows of the undivided program, and an audit proves them.
 fn runs_each_time<R: Machine + Net<Stream = TcpStream, Listener = TcpListener>>(
     rt: &R,
     federation: &str,
     inputs: &str,
-) -> Option<bool> {
-    let federation = loaded(rt.alloc(), federation, inputs)?;
-    Some((0..5).all(|_| runs(rt, &federation)))
+) -> bool {
+    for _ in 0..5 {
+        match outcome_of_run(rt, rt.alloc(), federation, inputs, TERMS) {
+            Some(outcome) if outcome.is_right => {}
+            _ => return false,
+        }
+    }
+    true
 }
 
 #[test]
 fn has_the_undivided_rows_of_each_federate(rt: HostRuntime) {
     for (federation, inputs) in ALL {
-        assert_eq!(rt;
-            runs_each_time(&rt, federation, inputs),
-            Some(true),
-            "{federation}"
-        );
-    }
-}
-
-/// Whether the counter's run with so few turns finishes.
-fn finishes<R: Machine + Net<Stream = TcpStream, Listener = TcpListener>>(
-    rt: &R,
-    turns: u32,
-) -> Option<bool> {
-    let federation = loaded(rt.alloc(), COUNTER, "")?;
-    let gathered = ran(rt, &federation, turns)?;
-    Some(is_finished(&gathered))
-}
-
-#[test]
-fn is_not_finished_after_too_few_turns(rt: HostRuntime) {
-    for turns in [0, 3] {
-        assert_eq!(rt; finishes(&rt, turns), Some(false), "{turns} turns");
+        assert!(rt; runs_each_time(&rt, federation, inputs), "{federation}");
     }
 }

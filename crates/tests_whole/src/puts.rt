@@ -16,7 +16,7 @@ pub(crate) fn tag(time: u64) -> FiniteTag {
     FiniteTag::new(Time::new(time).unwrap_or(Time::zero()), 0)
 }
 
-/// Whether this value alone is present at 5 ns. None, here and below, where there was no memory.
+// Whether this value alone is present at 5 ns. None, here and below, where there was no memory.
 fn has(alloc: Global, agenda: &Agenda, value: i64) -> Option<bool> {
     let mut present = Vec::new(alloc);
     agenda.at(tag(5).tag(), &mut present).ok()?;
@@ -32,7 +32,7 @@ const PUTS: &[(&[i64], bool, i64)] = &[
     (&[6], false, 6),
 ];
 
-/// These values at 5 ns.
+// These values at 5 ns.
 fn events(alloc: Global, values: &[i64]) -> Option<Vec<PendingEvent>> {
     let mut events = Vec::new(alloc);
     for value in values {
@@ -41,7 +41,7 @@ fn events(alloc: Global, values: &[i64]) -> Option<Vec<PendingEvent>> {
     Some(events)
 }
 
-/// Puts events, and takes them back if asked to.
+// Puts events, and takes them back if asked to.
 fn put(agenda: &mut Agenda, events: &[PendingEvent], is_back: bool) -> Option<()> {
     let put = agenda.put_all(events).ok()?;
     if is_back {
@@ -50,7 +50,7 @@ fn put(agenda: &mut Agenda, events: &[PendingEvent], is_back: bool) -> Option<()
     Some(())
 }
 
-/// Whether this value counts once those are put.
+// Whether this value counts once those are put.
 fn counts(
     alloc: Global,
     agenda: &mut Agenda,
@@ -63,7 +63,7 @@ fn counts(
     has(alloc, agenda, counted)
 }
 
-/// Whether the later value counts each time.
+// Whether the later value counts each time.
 fn all_count(alloc: Global, agenda: &mut Agenda) -> Option<bool> {
     for (values, is_back, counted) in PUTS {
         if !counts(alloc, agenda, values, *is_back, *counted)? {
@@ -79,7 +79,7 @@ fn later_counts(alloc: Global) -> Option<bool> {
     all_count(alloc, &mut agenda)
 }
 
-/// Where an allocation is refused the first time, there is memory the next time.
+// Where an allocation is refused the first time, there is memory the next time.
 #[test]
 fn shows_the_value_that_was_put_last(rt: HostRuntime) {
     let first = later_counts(rt.alloc());

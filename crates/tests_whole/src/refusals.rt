@@ -29,7 +29,7 @@ struct Shown {
 }
 
 impl Shown {
-    /// None where there was no memory for it.
+    // None where there was no memory for it.
     fn of(alloc: Global, agenda: &Agenda) -> Option<Shown> {
         let mut present = Vec::new(alloc);
         let mut entries = Vec::new(alloc);
@@ -48,7 +48,7 @@ impl Shown {
     }
 }
 
-/// This many events at different times, with one value.
+// This many events at different times, with one value.
 fn events(alloc: Global, count: u64, value: i64) -> Option<Vec<PendingEvent>> {
     let mut events = Vec::new(alloc);
     for place in 0..count.min(TIMES) {
@@ -57,7 +57,7 @@ fn events(alloc: Global, count: u64, value: i64) -> Option<Vec<PendingEvent>> {
     Some(events)
 }
 
-/// Whether an agenda shows this, where there is memory to look.
+// Whether an agenda shows this, where there is memory to look.
 fn is_shown(alloc: Global, agenda: &Agenda, shown: &Shown) -> bool {
     match Shown::of(alloc, agenda) {
         Some(now) => now.is(shown),
@@ -65,8 +65,8 @@ fn is_shown(alloc: Global, agenda: &Agenda, shown: &Shown) -> bool {
     }
 }
 
-/// Puts events, at the second call where memory is refused, which is to change nothing. None where it does, or is
-/// refused again.
+// Puts events, at the second call where memory is refused, which is to change nothing. None where it does, or is
+// refused again.
 fn put(alloc: Global, agenda: &mut Agenda, events: &[PendingEvent], before: &Shown) -> Option<Put> {
     match agenda.put_all(events) {
         Ok(put) => Some(put),
@@ -79,7 +79,7 @@ fn put(alloc: Global, agenda: &mut Agenda, events: &[PendingEvent], before: &Sho
     }
 }
 
-/// Whether events are put so; where they are to be taken back, all is to be as before then.
+// Whether events are put so; where they are to be taken back, all is to be as before then.
 fn is_put(
     alloc: Global,
     agenda: &mut Agenda,
@@ -99,7 +99,7 @@ fn is_put(
     }
 }
 
-/// The same of this many events with one value; None where there was no memory for anything else.
+// The same of this many events with one value; None where there was no memory for anything else.
 fn are_put_at_once(
     alloc: Global,
     agenda: &mut Agenda,
@@ -123,7 +123,7 @@ const PUTS: &[(u64, bool)] = &[
     (20, true),
 ];
 
-/// Whether all of these are put so.
+// Whether all of these are put so.
 fn are_put(alloc: Global, agenda: &mut Agenda) -> Option<bool> {
     let mut value = 1;
     for (count, is_back) in PUTS {
@@ -170,12 +170,12 @@ after = "20 us"
 /// How many rows it has.
 const ROWS: usize = 31;
 
-/// What is present of counts that come this many us later.
+// What is present of counts that come this many us later.
 fn late(us: usize, delay: usize) -> Option<i64> {
     i64::try_from(us.checked_sub(delay)?).ok()?.checked_add(1)
 }
 
-/// Whether this is its row at a time in us.
+// Whether this is its row at a time in us.
 fn is_row(row: &RowView<'_>, us: usize) -> bool {
     row.tag().time() == (us as u64).wrapping_mul(1000)
         && value_at(row.inputs(), 1) == late(us, 20)
@@ -185,7 +185,7 @@ fn is_row(row: &RowView<'_>, us: usize) -> bool {
         && value_at(row.outputs(), 0) == late(us, 0)
 }
 
-/// Whether these are the first of its rows, this many.
+// Whether these are the first of its rows, this many.
 fn are_first(rows: &Rows, count: usize) -> bool {
     for us in 0..rows.len().min(ROWS) {
         if !is_row(&rows.row(us), us) {
@@ -195,7 +195,7 @@ fn are_first(rows: &Rows, count: usize) -> bool {
     rows.len() == count
 }
 
-/// Whether all rows come, also after out of memory, which leaves the rows before it.
+// Whether all rows come, also after out of memory, which leaves the rows before it.
 fn makes_all(whole: &mut Whole<'_>) -> bool {
     let stands = match whole.turns(100) {
         Ok(made) => made == ROWS as u32,
@@ -207,7 +207,7 @@ fn makes_all(whole: &mut Whole<'_>) -> bool {
     stands && are_first(whole.rows(), ROWS)
 }
 
-/// The same of a fresh one; None where there was no memory to begin.
+// The same of a fresh one; None where there was no memory to begin.
 fn goes_on(alloc: Global, plan: &Plan, programs: &Programs, inputs: &Inputs) -> Option<bool>
     requires programs { AreProgramsOf plan.now programs.now }
     requires inputs { AreInputsOf plan.now inputs.now }

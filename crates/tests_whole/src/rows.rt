@@ -37,7 +37,7 @@ pub(crate) fn are_first(rows: &Rows, count: usize) -> bool {
     rows.len() == count && count <= ROWS.len() && are(rows, &ROWS[..count])
 }
 
-/// Whether these are the rows.
+// Whether these are the rows.
 fn are(rows: &Rows, expected: &[(usize, u64, i64, i64)]) -> bool {
     for (place, (federate, time, input, output)) in expected.iter().enumerate() {
         if place >= rows.len() {
@@ -50,12 +50,12 @@ fn are(rows: &Rows, expected: &[(usize, u64, i64, i64)]) -> bool {
     rows.len() == expected.len()
 }
 
-/// Whether this many turns at most are made, and then this many rows are there.
+// Whether this many turns at most are made, and then this many rows are there.
 fn makes(whole: &mut Whole<'_>, most: u32, made: u32, count: usize) -> bool {
     whole.turns(most) == Ok(made) && are_first(whole.rows(), count)
 }
 
-/// None where there was no memory for it.
+// None where there was no memory for it.
 fn makes_six(alloc: Global, plan: &Plan, programs: &Programs, inputs: &Inputs) -> Option<bool>
     requires programs { AreProgramsOf plan.now programs.now }
     requires inputs { AreInputsOf plan.now inputs.now }
@@ -70,7 +70,7 @@ fn makes_six(alloc: Global, plan: &Plan, programs: &Programs, inputs: &Inputs) -
     Some(fresh && four && rest && no_more && all_gone)
 }
 
-/// Whether the last two rows stand alone where the four before them were let go. None where there was no memory for it.
+// Whether the last two rows stand alone where the four before them were let go. None where there was no memory for it.
 fn makes_two(alloc: Global, plan: &Plan, programs: &Programs, inputs: &Inputs) -> Option<bool>
     requires programs { AreProgramsOf plan.now programs.now }
     requires inputs { AreInputsOf plan.now inputs.now }
@@ -82,7 +82,7 @@ fn makes_two(alloc: Global, plan: &Plan, programs: &Programs, inputs: &Inputs) -
     Some(four && rest && are(whole.rows(), &ROWS[4..]))
 }
 
-/// Whether the counter's rows are made so.
+// Whether the counter's rows are made so.
 fn are_made(alloc: Global, plan: &Plan, programs: &Programs) -> bool
     requires { AreProgramsOf plan.now programs.now }
 {
@@ -93,7 +93,7 @@ fn are_made(alloc: Global, plan: &Plan, programs: &Programs) -> bool
     }
 }
 
-/// The same of a fresh plan; None where it can't be loaded.
+// The same of a fresh plan; None where it can't be loaded.
 fn are_made_of_the_counter(alloc: Global) -> Option<bool> {
     let (plan, programs) = loaded(alloc, COUNTER)?;
     Some(are_made(alloc, &plan, &programs))

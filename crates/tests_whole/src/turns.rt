@@ -13,7 +13,7 @@ use std::alloc::Global;
 use tests_samples::COUNTER;
 use whole::Whole;
 
-/// Whether all six rows come, after out of memory too, which leaves the rows before it.
+// Whether all six rows come, after out of memory too, which leaves the rows before it.
 fn makes_six(whole: &mut Whole<'_>) -> bool {
     let stands = match whole.turns(100) {
         Ok(made) => made == 6,
@@ -25,7 +25,7 @@ fn makes_six(whole: &mut Whole<'_>) -> bool {
     stands && are_first(whole.rows(), 6)
 }
 
-/// The same of a fresh one; None where there was no memory to begin.
+// The same of a fresh one; None where there was no memory to begin.
 fn goes_on(alloc: Global, plan: &Plan, programs: &Programs, inputs: &Inputs) -> Option<bool>
     requires programs { AreProgramsOf plan.now programs.now }
     requires inputs { AreInputsOf plan.now inputs.now }

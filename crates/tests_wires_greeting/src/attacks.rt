@@ -10,7 +10,7 @@ fn is_not_proved(coordinator: &CoordinatorSide) -> bool {
     coordinator.let_in().is_none() && matches!(coordinator.state(), CoordinatorState::NotProved)
 }
 
-/// All that a federate said once, said again by somebody who listened: the coordinator's random bytes are new.
+// All that a federate said once, said again by somebody who listened: the coordinator's random bytes are new.
 #[test]
 fn a_greeting_played_again_is_not_let_in(rt: HostRuntime) -> Result<(), Fail> {
     let said = said()?;
@@ -22,7 +22,7 @@ fn a_greeting_played_again_is_not_let_in(rt: HostRuntime) -> Result<(), Fail> {
     Ok(())
 }
 
-/// The federate's random bytes are new.
+// The federate's random bytes are new.
 #[test]
 fn a_challenge_of_another_connection_is_not_believed(rt: HostRuntime) -> Result<(), Fail> {
     let said = said()?;
@@ -41,7 +41,7 @@ fn a_proof_of_another_connection_is_not_let_in(rt: HostRuntime) -> Result<(), Fa
     Ok(())
 }
 
-/// Somebody without the secret greets, and sends the coordinator its own proof, or none.
+// Somebody without the secret greets, and sends the coordinator its own proof, or none.
 #[test]
 fn a_proof_that_is_not_the_federates_is_not_let_in(rt: HostRuntime) -> Result<(), Fail> {
     let said = said()?;
@@ -56,7 +56,7 @@ fn a_proof_that_is_not_the_federates_is_not_let_in(rt: HostRuntime) -> Result<()
     Ok(())
 }
 
-/// Somebody without the secret answers, with the federate's proof of an earlier connection, or with none.
+// Somebody without the secret answers, with the federate's proof of an earlier connection, or with none.
 #[test]
 fn a_challenge_without_the_secret_is_not_believed(rt: HostRuntime) -> Result<(), Fail> {
     let said = said()?;
@@ -74,8 +74,8 @@ fn a_challenge_without_the_secret_is_not_believed(rt: HostRuntime) -> Result<(),
     Ok(())
 }
 
-/// Somebody between the two changes one byte of the greeting: the coordinator hears another protocol, or its challenge
-/// isn't the one to what the federate said.
+// Somebody between the two changes one byte of the greeting: the coordinator hears another protocol, or its challenge
+// isn't the one to what the federate said.
 #[test]
 fn each_changed_byte_of_a_greeting_is_seen(rt: HostRuntime) -> Result<(), Fail> {
     let said = said()?;
@@ -109,7 +109,7 @@ fn each_changed_byte_of_a_challenge_is_seen(rt: HostRuntime) -> Result<(), Fail>
     Ok(())
 }
 
-/// Somebody between the two makes another answer of the one to go on.
+// Somebody between the two makes another answer of the one to go on.
 #[test]
 fn an_answer_that_was_exchanged_is_not_believed(rt: HostRuntime) -> Result<(), Fail> {
     let said = said()?;
@@ -138,7 +138,7 @@ fn each_changed_byte_of_a_proof_is_seen(rt: HostRuntime) -> Result<(), Fail> {
     Ok(())
 }
 
-/// A version above or below is another protocol. Nothing is said to it, also where all else is right.
+// A version above or below is another protocol. Nothing is said to it, also where all else is right.
 #[test]
 fn another_version_is_not_spoken(rt: HostRuntime) -> Result<(), Fail> {
     let said = said()?;
@@ -153,7 +153,7 @@ fn another_version_is_not_spoken(rt: HostRuntime) -> Result<(), Fail> {
     Ok(())
 }
 
-/// Neither side goes on with somebody of another secret: not by one byte more, which isn't zero.
+// Neither side goes on with somebody of another secret: not by one byte more, which isn't zero.
 #[test]
 fn another_secret_is_not_let_in(rt: HostRuntime) -> Result<(), Fail> {
     let said = said()?;
@@ -222,7 +222,7 @@ const REFUSALS: [Refusal; 6] = [
     },
 ];
 
-/// Whether the coordinator answers so, and the federate believes that and sends nothing.
+// Whether the coordinator answers so, and the federate believes that and sends nothing.
 fn is_answered(refusal: &Refusal) -> Result<bool, SecretFault> {
     let files = if refusal.same_files { files() } else { [1; 32] };
     let mut federate = federate_with(SECRET, refusal.federate, files, FEDERATE_RANDOM)?;
@@ -251,7 +251,7 @@ fn what_is_refused_is_answered(rt: HostRuntime) -> Result<(), Fail> {
     Ok(())
 }
 
-/// A proof without a challenge before it changes nothing, not even where it is the right one.
+// A proof without a challenge before it changes nothing, not even where it is the right one.
 #[test]
 fn a_proof_before_its_time_is_not_heard(rt: HostRuntime) -> Result<(), Fail> {
     let said = said()?;

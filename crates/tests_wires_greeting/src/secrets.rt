@@ -18,7 +18,7 @@ fn secrets_have_16_to_4096_bytes(rt: HostRuntime) -> Result<(), Fail> {
     Ok(())
 }
 
-/// With zeros behind it a key has the same proofs: sixteen zeros would be as no secret.
+// With zeros behind it a key has the same proofs: sixteen zeros would be as no secret.
 #[test]
 fn zeros_at_the_end_of_a_secret_are_not_counted(rt: HostRuntime) -> Result<(), Fail> {
     let mut bytes = [0; 4096];
@@ -64,7 +64,7 @@ fn another_address_than_loopback_needs_a_secret(rt: HostRuntime) -> Result<(), F
     Ok(())
 }
 
-/// Bytes that move from one file to the other make other files.
+// Bytes that move from one file to the other make other files.
 #[test]
 fn the_digest_tells_the_files_apart(rt: HostRuntime) -> Result<(), Fail> {
     let digest = files_digest(b"federation", b"inputs");

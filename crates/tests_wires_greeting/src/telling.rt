@@ -11,7 +11,7 @@ const CHALLENGE: &str = "04\
 
 const PROOF: &str = "56c576a276f98c66d81671c913180271c25f6300e8f896b7cfb1331fb3223163";
 
-/// The coordinator's challenge to federate 3 on the first connection, once the run is finished.
+// The coordinator's challenge to federate 3 on the first connection, once the run is finished.
 fn finished(coordinator: &mut CoordinatorSide, greeting: &[u8; 74]) -> Option<[u8; 65]> {
     coordinator.greeted(greeting, &COORDINATOR_RANDOM, &ALL, true)
 }
@@ -36,7 +36,7 @@ fn a_federate_counts_as_told_once_it_has_proved_that_it_heard_so(
     Ok(())
 }
 
-/// That the run is finished is answered before that a federate may take part no more.
+// That the run is finished is answered before that a federate may take part no more.
 #[test]
 fn a_federate_that_may_take_part_no_more_is_told_too(rt: HostRuntime) -> Result<(), Fail> {
     let said = said()?;
@@ -49,8 +49,8 @@ fn a_federate_that_may_take_part_no_more_is_told_too(rt: HostRuntime) -> Result<
     Ok(())
 }
 
-/// What a federate proves where frames begin, what the coordinator proves, no bytes but zeros, and what the federate
-/// proves with one byte changed.
+// What a federate proves where frames begin, what the coordinator proves, no bytes but zeros, and what the federate
+// proves with one byte changed.
 #[test]
 fn by_no_other_proof_a_federate_counts_as_told(rt: HostRuntime) -> Result<(), Fail> {
     let said = said()?;

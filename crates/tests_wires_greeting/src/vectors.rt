@@ -53,7 +53,7 @@ fn digests_are_those_published(rt: HostRuntime) -> Result<(), Fail> {
     Ok(())
 }
 
-/// Of one example the first 16 bytes are published.
+// Of one example the first 16 bytes are published.
 #[test]
 fn the_shortened_digest_is_that_published(rt: HostRuntime) -> Result<(), Fail> {
     let digest = hex::encode(

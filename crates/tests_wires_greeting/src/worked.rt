@@ -63,7 +63,7 @@ const BY_KEYS: [ByKey; 3] = [
     },
 ];
 
-/// The key of a secret, or the one of loopback.
+// The key of a secret, or the one of loopback.
 fn key_of(secret: Option<&[u8]>) -> Result<Key, SecretFault> {
     match secret {
         Some(secret) => Key::of_secret(secret),

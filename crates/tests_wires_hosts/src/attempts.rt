@@ -1,67 +1,44 @@
 //! How long attempts to connect wait.
-use crate::entrance::{Entrance, Host, LONG_MS, Machine, Process, Visit, host_of, visited};
+use crate::entrance::{
+    Entrance, Host, LONG_MS, Machine, Process, Visit, host_of, host_to, listener_of, visited,
+    waiting_listener_of,
+};
 use crate::simulated::{Counting, Nothing, Simulated};
 use std::alloc::Global;
 use std::io::Read;
-use std::net::{Net, SocketAddr, TcpListener, TcpStream};
+use std::net::{Net, TcpListener, TcpStream};
 use std::thread;
 use std::time::{Duration, Instant};
-use wires_hosts::{BackOff, DialFault, HostDial, listen_at};
+use wires_hosts::{DialFault, FederateHost, HostDial};
 use wires_transports::Dial;
 
-/// 10 ms before the second attempt, then twice as long each time, up to 1 s; from anew once something was heard.
-#[test]
-fn waits_twice_as_long_each_time(rt: HostRuntime) {
-    let back_off = BackOff::new();
-    for (heard, pause) in [
-        (0, 0),
-        (0, 10),
-        (0, 20),
-        (0, 40),
-        (0, 80),
-        (0, 160),
-        (0, 320),
-        (0, 640),
-        (0, 1000),
-        (0, 1000),
-        (3, 0),
-        (3, 10),
-        (3, 20),
-        (4, 0),
-        (5, 0),
-        (5, 10),
-    ] {
-        assert_eq!(rt; back_off.begin(heard), pause);
-    }
-}
-
-/// An address at which nobody listens.
-fn nowhere<R: Host + Net<Stream = TcpStream, Listener = TcpListener>>(
+// A federate's process that connects to where nobody listens.
+fn host_to_nobody<R: Net<Stream = TcpStream, Listener = TcpListener>>(
     rt: &R,
-) -> Option<SocketAddr> {
-    let listener = listen_at(rt, SocketAddr::from(([127, 0, 0, 1], 0))).ok()?;
-    listener.local_addr().ok()
+) -> Option<FederateHost> {
+    let listener = listener_of(rt)?;
+    host_to(&listener)
 }
 
-/// When each of some attempts that come to nothing was over, in ms: eight in a row, and three behind something that was
-/// heard. An attempt itself takes no time, for nobody is there.
+// When each of some attempts that come to nothing was over, in ms: ten in a row, and three behind something that was
+// heard. An attempt itself takes no time, for nobody is there.
 fn attempted_at<R: Host + Net<Stream = TcpStream, Listener = TcpListener>>(
     rt: &R,
     alloc: Global,
-) -> Option<[u64; 11]> {
+) -> Option<[u64; 13]> {
     let process = Process::new(alloc)?;
     let source = Counting::new();
     let machine = Simulated::new(rt, &source, Nothing);
     let dial = HostDial::new(
         &machine,
-        host_of(nowhere(rt)?, 0)?,
+        host_to_nobody(rt)?,
         &process.heard,
         &process.last,
         &process.ending,
     );
-    let mut times = [0; 11];
+    let mut times = [0; 13];
     for (number, time) in times.iter_mut().enumerate() {
-        if number == 8 {
+        if number == 10 {
             process.heard.hear();
         }
         let is_in_vain = dial.dial(rt, alloc).is_none();
@@ -76,21 +53,24 @@ fn attempted_at<R: Host + Net<Stream = TcpStream, Listener = TcpListener>>(
     Some(times)
 }
 
+// 10 ms before the second attempt, then twice as long each time, up to 1 s; from anew once something was heard.
 #[test]
 fn keeps_the_pauses_between_attempts_that_fail(rt: HostRuntime) {
-    let times = [0, 10, 30, 70, 150, 310, 630, 1270, 1270, 1280, 1300];
+    let times = [
+        0, 10, 30, 70, 150, 310, 630, 1270, 2270, 3270, 3270, 3280, 3300,
+    ];
     assert_eq!(rt; attempted_at(&rt, rt.alloc()), Some(times));
 }
 
-/// Whether no attempt is made once the run is to end.
+// Whether no attempt is made once the run is to end.
 fn is_over<R: Host + Net<Stream = TcpStream, Listener = TcpListener>>(
     rt: &R,
     alloc: Global,
 ) -> Option<bool> {
-    let listener: TcpListener = listen_at(rt, SocketAddr::from(([127, 0, 0, 1], 0))).ok()?;
+    let listener = listener_of(rt)?;
     let process = Process::new(alloc)?;
     process.ending.set();
-    let own = process.dial(rt, alloc, host_of(listener.local_addr().ok()?, 0)?);
+    let own = process.dial(rt, alloc, host_to(&listener)?);
     Some(own.is_none() && process.heard.last_fault().is_none() && listener.accept().is_err())
 }
 
@@ -109,7 +89,7 @@ impl Visit for Forgotten {
     ) -> Option<bool> {
         let alloc = entrance.alloc;
         let process = Process::new(alloc)?;
-        let nobody = host_of(nowhere(rt)?, 0)?;
+        let nobody = host_to_nobody(rt)?;
         let has_failed = process.is_refused(rt, alloc, nobody, DialFault::NotConnected, false);
         let _own = process.dial(rt, alloc, host_of(entrance.address, 0)?)?;
         Some(has_failed && process.heard.last_fault().is_none())
@@ -121,7 +101,7 @@ fn forgets_a_failure_once_it_is_connected(rt: HostRuntime) {
     assert_eq!(rt; visited::<Forgotten, _>(&rt), Some(true));
 }
 
-/// What the next two who connect say first.
+// What the next two who connect say first.
 fn greetings(listener: &TcpListener) -> Option<[[u8; 74]; 2]> {
     let mut greetings = [[0; 74]; 2];
     for greeting in greetings.iter_mut() {
@@ -131,14 +111,13 @@ fn greetings(listener: &TcpListener) -> Option<[[u8; 74]; 2]> {
     Some(greetings)
 }
 
-/// Whether two attempts of one federate say the same but for random bytes, which are new.
+// Whether two attempts of one federate say the same but for random bytes, which are new.
 fn has_new_bytes<R: Machine + Net<Stream = TcpStream, Listener = TcpListener>>(
     rt: &R,
 ) -> Option<bool> {
     let alloc = rt.alloc();
-    let listener = listen_at(rt, SocketAddr::from(([127, 0, 0, 1], 0))).ok()?;
-    listener.set_nonblocking(false).ok()?;
-    let host = host_of(listener.local_addr().ok()?, 0)?;
+    let listener = waiting_listener_of(rt)?;
+    let host = host_to(&listener)?;
     let process = Process::new(alloc)?;
     let (said, own) = thread::join(
         rt,
@@ -160,14 +139,13 @@ fn says_new_random_bytes_at_each_attempt(rt: HostRuntime) {
     assert_eq!(rt; has_new_bytes(&rt), Some(true));
 }
 
-/// Whether an attempt ends by itself where whoever listens says nothing, and closes its connection.
+// Whether an attempt ends by itself where whoever listens says nothing, and closes its connection.
 fn ends_in_silence<R: Machine + Net<Stream = TcpStream, Listener = TcpListener>>(
     rt: &R,
 ) -> Option<bool> {
     let alloc = rt.alloc();
-    let listener = listen_at(rt, SocketAddr::from(([127, 0, 0, 1], 0))).ok()?;
-    listener.set_nonblocking(false).ok()?;
-    let host = host_of(listener.local_addr().ok()?, 0)?;
+    let listener = waiting_listener_of(rt)?;
+    let host = host_to(&listener)?;
     let process = Process::new(alloc)?;
     let (is_closed, is_in_vain) = thread::join(
         rt,
@@ -189,13 +167,13 @@ fn ends_an_attempt_to_which_nothing_is_said(rt: HostRuntime) {
     assert_eq!(rt; ends_in_silence(&rt), Some(true));
 }
 
-/// Whether an attempt ends with the run while whoever listens says nothing.
+// Whether an attempt ends with the run while whoever listens says nothing.
 fn ends_with_the_run<R: Machine + Net<Stream = TcpStream, Listener = TcpListener>>(
     rt: &R,
 ) -> Option<bool> {
     let alloc = rt.alloc();
-    let listener = listen_at(rt, SocketAddr::from(([127, 0, 0, 1], 0))).ok()?;
-    let host = host_of(listener.local_addr().ok()?, 0)?;
+    let listener = listener_of(rt)?;
+    let host = host_to(&listener)?;
     let process = Process::new(alloc)?;
     let begin = Instant::now(rt).ok()?;
     let ((), own) = thread::join(

@@ -97,6 +97,22 @@ impl RandomSource for Known {
     }
 }
 
+/// A listener on loopback, which doesn't wait.
+pub fn listener_of<R: Net<Stream = TcpStream, Listener = TcpListener>>(
+    rt: &R,
+) -> Option<TcpListener> {
+    listen_at(rt, SocketAddr::from(([127, 0, 0, 1], 0))).ok()
+}
+
+/// One that waits until somebody connects.
+pub fn waiting_listener_of<R: Net<Stream = TcpStream, Listener = TcpListener>>(
+    rt: &R,
+) -> Option<TcpListener> {
+    let listener = listener_of(rt)?;
+    listener.set_nonblocking(false).ok()?;
+    Some(listener)
+}
+
 /// Whether a visit sees what it should. None where there is no listener or no memory.
 pub fn visited<V: Visit, R: Machine + Net<Stream = TcpStream, Listener = TcpListener>>(
     rt: &R,
@@ -111,7 +127,7 @@ pub fn visited_by<
     S: RandomSource + Sync,
 >(rt: &R, random: &S) -> Option<bool> {
     let alloc = rt.alloc();
-    let listener = listen_at(rt, SocketAddr::from(([127, 0, 0, 1], 0))).ok()?;
+    let listener = listener_of(rt)?;
     let address = listener.local_addr().ok()?;
     let heard = Heard::new(alloc, 3).ok()?;
     let ending = Ending::new();
@@ -148,7 +164,7 @@ pub fn visited_by<
     Some(seen? && V::is_right(&heard))
 }
 
-/// What a coordinator that listens there has, and how long it tells whoever asks that the run is finished, in ms.
+// What a coordinator that listens there has, and how long it tells whoever asks that the run is finished, in ms.
 fn host_at(listener: TcpListener, patience_ms: u64) -> Option<HostEntrance> {
     Some(HostEntrance {
         listener,
@@ -229,6 +245,11 @@ pub fn host_of(address: SocketAddr, federate: u16) -> Option<FederateHost> {
         files: FILES,
         federate,
     })
+}
+
+/// Such a process of federate 0, where the coordinator listens there.
+pub fn host_to(listener: &TcpListener) -> Option<FederateHost> {
+    host_of(listener.local_addr().ok()?, 0)
 }
 
 /// The next that comes to a reader.

@@ -9,6 +9,21 @@ use std::time::{Duration, Instant};
 use wires_greeting::Greeting;
 use wires_hosts::{DialFault, Heard};
 
+// Whether all federates' processes hear that the run is finished, and end by it.
+fn all_hear<R: Host + Net<Stream = TcpStream, Listener = TcpListener>>(
+    rt: &R,
+    entrance: &Entrance<'_>,
+) -> Option<bool> {
+    for federate in [0, 1, 2] {
+        let process = Process::new(entrance.alloc)?;
+        let host = host_of(entrance.address, federate)?;
+        if !process.is_refused(rt, entrance.alloc, host, DialFault::Finished, true) {
+            return Some(false);
+        }
+    }
+    Some(true)
+}
+
 /// The run is finished: all federates' processes hear it, and end by it.
 struct Told;
 
@@ -19,14 +34,7 @@ impl Visit for Told {
     ) -> Option<bool> {
         entrance.ending.set();
         let no_more = entrance.first.recv(rt).is_err();
-        for federate in [0, 1, 2] {
-            let process = Process::new(entrance.alloc)?;
-            let host = host_of(entrance.address, federate)?;
-            if !process.is_refused(rt, entrance.alloc, host, DialFault::Finished, true) {
-                return Some(false);
-            }
-        }
-        Some(no_more)
+        Some(no_more && all_hear(rt, entrance)?)
     }
 
     fn is_right(heard: &Heard) -> bool {
@@ -34,7 +42,7 @@ impl Visit for Told {
     }
 }
 
-/// Whether that was before the coordinator's patience was over.
+// Whether that was before the coordinator's patience was over.
 fn is_told_at_once<R: Machine + Net<Stream = TcpStream, Listener = TcpListener>>(
     rt: &R,
 ) -> Option<bool> {
@@ -48,7 +56,7 @@ fn tells_each_federate_that_the_run_is_finished_and_ends(rt: HostRuntime) {
     assert_eq!(rt; is_told_at_once(&rt), Some(true));
 }
 
-/// Whoever greets as this federate is answered that the run is finished; the connection.
+// Whoever greets as this federate is answered that the run is finished; the connection.
 fn answered<R: Host + Net<Stream = TcpStream, Listener = TcpListener>>(
     rt: &R,
     entrance: &Entrance<'_>,
@@ -91,14 +99,7 @@ impl Visit for ByStrangers {
                 }
             }
         }
-        for federate in [0, 1, 2] {
-            let process = Process::new(entrance.alloc)?;
-            let host = host_of(entrance.address, federate)?;
-            if !process.is_refused(rt, entrance.alloc, host, DialFault::Finished, true) {
-                return Some(false);
-            }
-        }
-        Some(no_more)
+        Some(no_more && all_hear(rt, entrance)?)
     }
 
     fn is_right(heard: &Heard) -> bool {

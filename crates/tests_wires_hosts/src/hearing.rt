@@ -7,7 +7,7 @@ use wires::Work;
 use wires_hosts::{Heard, HeardTransport, Patience};
 use wires_transports::{Ending, Transport, pair};
 
-/// How often something was heard, as bytes come, then none, and then the end.
+// How often something was heard, as bytes come, then none, and then the end.
 fn heard_of<R: Host>(rt: &R, alloc: Global) -> Option<[u64; 3]> {
     let heard = Heard::new(alloc, 0).ok()?;
     let (mut one, other) = pair(alloc).ok()?;
@@ -30,7 +30,7 @@ fn counts_each_time_that_bytes_come(rt: HostRuntime) {
     assert_eq!(rt; heard_of(&rt, rt.alloc()), Some([1, 2, 2]));
 }
 
-/// Whether a run goes on while somebody speaks, longer than the patience, and is given up behind it.
+// Whether a run goes on while somebody speaks, longer than the patience, and is given up behind it.
 fn is_given_up_behind<R: Machine>(rt: &R) -> Option<bool> {
     let alloc = rt.alloc();
     let heard = Heard::new(alloc, 0).ok()?;
@@ -60,7 +60,7 @@ fn gives_up_where_nobody_speaks_and_not_before(rt: HostRuntime) {
     assert_eq!(rt; is_given_up_behind(&rt), Some(true));
 }
 
-/// Whether nothing is given up in a run that has ended, or whose patience has no end.
+// Whether nothing is given up in a run that has ended, or whose patience has no end.
 fn is_kept<R: Host>(rt: &R, alloc: Global, most: Option<Duration>) -> Option<bool> {
     let heard = Heard::new(alloc, 0).ok()?;
     let ending = Ending::new();
@@ -77,11 +77,10 @@ fn is_kept<R: Host>(rt: &R, alloc: Global, most: Option<Duration>) -> Option<boo
 
 #[test]
 fn gives_up_no_run_that_has_ended(rt: HostRuntime) {
-    for most in [
-        None,
-        Some(Duration::from_millis(0)),
-        Some(Duration::from_millis(100)),
-    ] {
-        assert_eq!(rt; is_kept(&rt, rt.alloc(), most), Some(true));
-    }
+    let kept = [
+        is_kept(&rt, rt.alloc(), None),
+        is_kept(&rt, rt.alloc(), Some(Duration::from_millis(0))),
+        is_kept(&rt, rt.alloc(), Some(Duration::from_millis(100))),
+    ];
+    assert_eq!(rt; kept, [Some(true); 3]);
 }

@@ -120,7 +120,7 @@ fn lets_in_a_federate_among_silent_connections(rt: HostRuntime) {
     assert_eq!(rt; visited_by::<AmongSilent, _, _>(&rt, &oldest), Some(true));
 }
 
-/// How many of these connections are open still.
+// How many of these connections are open still.
 fn open_count(streams: &mut [TcpStream]) -> usize {
     let mut open = 0_usize;
     for stream in streams {
@@ -131,7 +131,7 @@ fn open_count(streams: &mut [TcpStream]) -> usize {
     open
 }
 
-/// How many connections are open still, and which one is closed of one more than are listened to at a time.
+// How many connections are open still, and which one is closed of one more than are listened to at a time.
 fn given_up<R: Host + Net<Stream = TcpStream, Listener = TcpListener>>(
     rt: &R,
     entrance: &Entrance<'_>,
@@ -166,14 +166,17 @@ impl<const PLACE: usize> Visit for Drawn<PLACE> {
     }
 }
 
-/// A number of eight bytes that are all the same is divided by 129: of 0 there is 0 left, of 0x0101010101010101 44, and
-/// of 0x5555555555555555 128.
+// A number of eight bytes that are all the same is divided by 129: of 0 there is 0 left, of 0x0101010101010101 44, and
+// of 0x5555555555555555 128.
 #[test]
 fn gives_up_the_connection_that_is_drawn(rt: HostRuntime) {
     let [first, middle, last] = [Known { byte: 0 }, Known { byte: 1 }, Known { byte: 0x55 }];
-    assert_eq!(rt; visited_by::<Drawn<0>, _, _>(&rt, &first), Some(true));
-    assert_eq!(rt; visited_by::<Drawn<44>, _, _>(&rt, &middle), Some(true));
-    assert_eq!(rt; visited_by::<Drawn<128>, _, _>(&rt, &last), Some(true));
+    let drawn = [
+        visited_by::<Drawn<0>, _, _>(&rt, &first),
+        visited_by::<Drawn<44>, _, _>(&rt, &middle),
+        visited_by::<Drawn<128>, _, _>(&rt, &last),
+    ];
+    assert_eq!(rt; drawn, [Some(true); 3]);
 }
 
 /// Once the run is to end, readers get no more connections at once, though one of them holds a connection; that one is

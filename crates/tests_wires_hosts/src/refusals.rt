@@ -1,14 +1,15 @@
 //! What a federate's process makes of a refusal, and what it doesn't believe.
 use crate::entrance::{
-    Entrance, FILES, Host, Machine, Process, SECRET, Visit, host_of, is_empty, key_of, visited,
+    Entrance, FILES, Host, Machine, Process, SECRET, Visit, host_of, host_to, is_empty, key_of,
+    listener_of, visited, waiting_listener_of,
 };
 use crate::simulated::{Counting, Meanwhile, Simulated, counted};
 use std::alloc::Global;
 use std::io::{Read, Write};
-use std::net::{Net, SocketAddr, TcpListener, TcpStream};
+use std::net::{Net, TcpListener, TcpStream};
 use std::thread;
 use wires_greeting::{CoordinatorSide, Greeting};
-use wires_hosts::{DialFault, FederateHost, listen_at};
+use wires_hosts::{DialFault, FederateHost};
 
 /// Another secret, other files, and a federate that isn't there: nobody is let in, and the run ends only by a refusal
 /// that is proved.
@@ -49,7 +50,7 @@ fn lets_in_nobody_with_another_secret_other_files_or_another_number(rt: HostRunt
 }
 
 /// What whoever listens at the coordinator's address says to a greeting, before it ends the connection.
-#[derive(Clone, Copy, Debug)]
+#[derive(Clone, Copy)]
 enum Says {
     /// The coordinator's challenge, by this secret, where the federate may take part or not and the run is finished or
     /// not.
@@ -60,7 +61,7 @@ enum Says {
     Garbage,
 }
 
-/// Says it to the greeting of the first that connects.
+// Says it to the greeting of the first that connects.
 fn say(listener: &TcpListener, says: Says) -> Option<()> {
     let (mut stream, _) = listener.accept().ok()?;
     let mut greeting = [0; 74];
@@ -80,17 +81,16 @@ fn say(listener: &TcpListener, says: Says) -> Option<()> {
     }
 }
 
-/// Whether the federate's attempt comes to nothing for this, where that is said to it, and whether its run is to end
-/// then.
+// Whether the federate's attempt comes to nothing for this, where that is said to it, and whether its run is to end
+// then.
 fn is_refused_by<R: Machine + Net<Stream = TcpStream, Listener = TcpListener>>(
     rt: &R,
     says: Says,
     fault: DialFault,
     ends: bool,
 ) -> Option<bool> {
-    let listener = listen_at(rt, SocketAddr::from(([127, 0, 0, 1], 0))).ok()?;
-    listener.set_nonblocking(false).ok()?;
-    let host = host_of(listener.local_addr().ok()?, 0)?;
+    let listener = waiting_listener_of(rt)?;
+    let host = host_to(&listener)?;
     let alloc = rt.alloc();
     let process = Process::new(alloc)?;
     let (said, is_refused) = thread::join(
@@ -102,40 +102,50 @@ fn is_refused_by<R: Machine + Net<Stream = TcpStream, Listener = TcpListener>>(
     Some(is_refused)
 }
 
+const OTHER_SECRET: &[u8; 16] = b"fedcba9876543210";
+
+/// What is said, for what the attempt comes to nothing, and whether the run is to end.
+const SAID: &[(Says, DialFault, bool)] = &[
+    (
+        Says::Challenge(SECRET, false, false),
+        DialFault::NotAllowed,
+        true,
+    ),
+    (
+        Says::Challenge(SECRET, true, true),
+        DialFault::Finished,
+        true,
+    ),
+    (
+        Says::Challenge(OTHER_SECRET, true, true),
+        DialFault::NotProved,
+        false,
+    ),
+    (
+        Says::Challenge(OTHER_SECRET, false, false),
+        DialFault::NotProved,
+        false,
+    ),
+    (Says::Garbage, DialFault::NotProved, false),
+    (Says::Part(0), DialFault::NoAnswer, false),
+    (Says::Part(64), DialFault::NoAnswer, false),
+];
+
+// The place of the first by which something else comes of it.
+fn first_wrong<R: Machine + Net<Stream = TcpStream, Listener = TcpListener>>(
+    rt: &R,
+) -> Option<usize> {
+    for (place, (says, fault, ends)) in SAID.iter().enumerate() {
+        if is_refused_by(rt, *says, *fault, *ends) != Some(true) {
+            return Some(place);
+        }
+    }
+    None
+}
+
 #[test]
 fn ends_the_run_by_a_refusal_that_is_proved_alone(rt: HostRuntime) {
-    let other: &'static [u8; 16] = b"fedcba9876543210";
-    for (says, fault, ends) in [
-        (
-            Says::Challenge(SECRET, false, false),
-            DialFault::NotAllowed,
-            true,
-        ),
-        (
-            Says::Challenge(SECRET, true, true),
-            DialFault::Finished,
-            true,
-        ),
-        (
-            Says::Challenge(other, true, true),
-            DialFault::NotProved,
-            false,
-        ),
-        (
-            Says::Challenge(other, false, false),
-            DialFault::NotProved,
-            false,
-        ),
-        (Says::Garbage, DialFault::NotProved, false),
-        (Says::Part(0), DialFault::NoAnswer, false),
-        (Says::Part(64), DialFault::NoAnswer, false),
-    ] {
-        assert_eq!(rt;
-            is_refused_by(&rt, says, fault, ends),
-            Some(true),
-            "{says:?}"
-        );
-    }
+    assert_eq!(rt; first_wrong(&rt), None);
 }
 
 /// A coordinator that says to whoever connects that the run is finished, and breaks the connection off without having
@@ -153,7 +163,7 @@ impl<'a> Meanwhile for BrokenOff<'a> {
     }
 }
 
-/// Says it to federate 0, whose random bytes are known.
+// Says it to federate 0, whose random bytes are known.
 fn say_finished(stream: TcpStream) -> Option<()> {
     let greeting = Greeting {
         federate: 0,
@@ -166,13 +176,13 @@ fn say_finished(stream: TcpStream) -> Option<()> {
     stream.write_all(&challenge).ok()
 }
 
-/// Whether the federate's process believes it though it can't say that it heard so.
+// Whether the federate's process believes it though it can't say that it heard so.
 fn believes_it<R: Host + Net<Stream = TcpStream, Listener = TcpListener>>(
     rt: &R,
     alloc: Global,
 ) -> Option<bool> {
-    let listener = listen_at(rt, SocketAddr::from(([127, 0, 0, 1], 0))).ok()?;
-    let host = host_of(listener.local_addr().ok()?, 0)?;
+    let listener = listener_of(rt)?;
+    let host = host_to(&listener)?;
     let process = Process::new(alloc)?;
     let source = Counting::new();
     let meanwhile = BrokenOff {

@@ -1,6 +1,6 @@
 //! How long a greeting may take. No time goes by in these tests: their clocks are simulated.
 use crate::entrance::{
-    FILES, Host, Known, Process, SECRET, acceptor_at, host_of, is_closed, key_of,
+    FILES, Host, Known, Process, SECRET, acceptor_at, host_to, is_closed, key_of, listener_of,
 };
 use crate::simulated::{Counting, EndsAt, Meanwhile, Simulated, is_over};
 use std::alloc::Global;
@@ -10,15 +10,24 @@ use std::os::fd::OwnedFd;
 use std::sync::atomic::{AtomicU64, Ordering};
 use std::sync::{Mutex, Wait};
 use wires_greeting::{FederateSide, Greeting};
-use wires_hosts::{DialFault, Heard, listen_at};
+use wires_hosts::{DialFault, FederateHost, Heard};
 use wires_transports::{Acceptor, Ending};
 
-/// A listener on loopback, which doesn't wait.
-fn listener_of<R: Net<Stream = TcpStream, Listener = TcpListener>>(rt: &R) -> Option<TcpListener> {
-    listen_at(rt, SocketAddr::from(([127, 0, 0, 1], 0))).ok()
+// When the first attempt of this process is over, to which no answer comes, in ms.
+fn unanswered_until<R: Host + Net<Stream = TcpStream, Listener = TcpListener>, M: Meanwhile>(
+    machine: &Simulated<'_, R, Counting, M>,
+    alloc: Global,
+    process: &Process,
+    host: FederateHost,
+) -> Option<u64> {
+    if process.is_refused(machine, alloc, host, DialFault::NoAnswer, false) {
+        Some(machine.time())
+    } else {
+        None
+    }
 }
 
-/// How long an attempt takes that nobody answers, in ms.
+// How long an attempt takes that nobody answers, in ms.
 fn unanswered_for<R: Host + Net<Stream = TcpStream, Listener = TcpListener>>(
     rt: &R,
     alloc: Global,
@@ -31,12 +40,7 @@ fn unanswered_for<R: Host + Net<Stream = TcpStream, Listener = TcpListener>>(
         ms: 6000,
     };
     let machine = Simulated::new(rt, &source, meanwhile);
-    let host = host_of(listener.local_addr().ok()?, 0)?;
-    if process.is_refused(&machine, alloc, host, DialFault::NoAnswer, false) {
-        Some(machine.time())
-    } else {
-        None
-    }
+    unanswered_until(&machine, alloc, &process, host_to(&listener)?)
 }
 
 #[test]
@@ -79,7 +83,7 @@ impl<'a, R: Wait> Meanwhile for SlowCoordinator<'a, R> {
     }
 }
 
-/// How long an attempt takes that such a coordinator answers, in ms.
+// How long an attempt takes that such a coordinator answers, in ms.
 fn slowly_answered_for<R: Host + Net<Stream = TcpStream, Listener = TcpListener>>(
     rt: &R,
     alloc: Global,
@@ -94,12 +98,7 @@ fn slowly_answered_for<R: Host + Net<Stream = TcpStream, Listener = TcpListener>
         stream: Mutex::new(None),
     };
     let machine = Simulated::new(rt, &source, meanwhile);
-    let host = host_of(listener.local_addr().ok()?, 0)?;
-    if process.is_refused(&machine, alloc, host, DialFault::NoAnswer, false) {
-        Some(machine.time())
-    } else {
-        None
-    }
+    unanswered_until(&machine, alloc, &process, host_to(&listener)?)
 }
 
 #[test]
@@ -107,7 +106,7 @@ fn ends_an_attempt_whose_challenge_takes_longer_than_5_s(rt: HostRuntime) {
     assert_eq!(rt; slowly_answered_for(&rt, rt.alloc()), Some(5000));
 }
 
-/// What federate 0 says first, by hand.
+// What federate 0 says first, by hand.
 fn greeting() -> Greeting {
     Greeting {
         federate: 0,
@@ -116,7 +115,7 @@ fn greeting() -> Greeting {
     }
 }
 
-/// How many of these connections are closed by the other end so far.
+// How many of these connections are closed by the other end so far.
 fn over_count(streams: &[TcpStream]) -> u64 {
     let mut count = 0_u64;
     for stream in streams {
@@ -127,7 +126,7 @@ fn over_count(streams: &[TcpStream]) -> u64 {
     count
 }
 
-/// How many of them are closed, up to the first that isn't.
+// How many of them are closed, up to the first that isn't.
 fn closed_count(streams: &[TcpStream]) -> u64 {
     let mut count = 0_u64;
     for stream in streams {
@@ -191,8 +190,8 @@ impl<'a> Meanwhile for &Strangers<'a> {
     }
 }
 
-/// Connections to an address: nothing is said on the first one, a part of a greeting on the second and third, and a
-/// greeting on the fourth and fifth.
+// Connections to an address: nothing is said on the first one, a part of a greeting on the second and third, and a
+// greeting on the fourth and fifth.
 fn connections<R: Net<Stream = TcpStream, Listener = TcpListener>>(
     rt: &R,
     alloc: Global,
@@ -208,7 +207,7 @@ fn connections<R: Net<Stream = TcpStream, Listener = TcpListener>>(
     Some(streams)
 }
 
-/// How many of such connections were closed early, and how many late. None of them comes to a reader.
+// How many of such connections were closed early, and how many late. None of them comes to a reader.
 fn closed_early_and_late<R: Host + Net<Stream = TcpStream, Listener = TcpListener>>(
     rt: &R,
     alloc: Global,
@@ -273,7 +272,7 @@ impl<'a> Meanwhile for &Full<'a> {
     }
 }
 
-/// How many of three silent connections were closed before none can be taken any more, and how many behind that.
+// How many of three silent connections were closed before none can be taken any more, and how many behind that.
 fn given_up<R: Host + Net<Stream = TcpStream, Listener = TcpListener>>(
     rt: &R,
     alloc: Global,
@@ -304,7 +303,7 @@ fn given_up<R: Host + Net<Stream = TcpStream, Listener = TcpListener>>(
     Some((early, late))
 }
 
-/// As where no more files may be open: one that waits is given up for each that can't be taken.
+// As where no more files may be open: one that waits is given up for each that can't be taken.
 #[test]
 fn gives_up_who_is_not_let_in_where_no_connection_can_be_taken(rt: HostRuntime) {
     assert_eq!(rt; given_up(&rt, rt.alloc()), Some((0, 3)));

@@ -1,20 +1,15 @@
 //! Where random bytes come from, on both sides of a greeting.
 use crate::entrance::{
-    Entrance, FILES, Host, Process, Visit, host_of, is_closed, is_empty, visited_by,
+    Entrance, FILES, Host, Process, Visit, host_to, is_closed, is_empty, listener_of, visited_by,
 };
 use crate::simulated::{Broken, Counting, Nothing, Simulated, counted};
 use std::alloc::Global;
 use std::io::{Read, Write};
 use std::net::{Net, SocketAddr, TcpListener, TcpStream};
 use wires_greeting::Greeting;
-use wires_hosts::{DialFault, listen_at};
+use wires_hosts::DialFault;
 
-/// A listener on loopback, which doesn't wait.
-fn listener_of<R: Net<Stream = TcpStream, Listener = TcpListener>>(rt: &R) -> Option<TcpListener> {
-    listen_at(rt, SocketAddr::from(([127, 0, 0, 1], 0))).ok()
-}
-
-/// Whether a federate's process whose source fails doesn't even connect.
+// Whether a federate's process whose source fails doesn't even connect.
 fn is_silent<R: Host + Net<Stream = TcpStream, Listener = TcpListener>>(
     rt: &R,
     alloc: Global,
@@ -22,7 +17,7 @@ fn is_silent<R: Host + Net<Stream = TcpStream, Listener = TcpListener>>(
     let listener = listener_of(rt)?;
     let process = Process::new(alloc)?;
     let machine = Simulated::new(rt, &Broken, Nothing);
-    let host = host_of(listener.local_addr().ok()?, 0)?;
+    let host = host_to(&listener)?;
     let is_refused = process.is_refused(&machine, alloc, host, DialFault::NoRandom, false);
     Some(is_refused && listener.accept().is_err())
 }
@@ -32,7 +27,7 @@ fn does_not_greet_without_random_bytes(rt: HostRuntime) {
     assert_eq!(rt; is_silent(&rt, rt.alloc()), Some(true));
 }
 
-/// The random bytes of a federate's greeting, which nobody answers. That time is over at once.
+// The random bytes of a federate's greeting, which nobody answers. That time is over at once.
 fn greeted_with<R: Host + Net<Stream = TcpStream, Listener = TcpListener>>(
     rt: &R,
     alloc: Global,
@@ -41,7 +36,7 @@ fn greeted_with<R: Host + Net<Stream = TcpStream, Listener = TcpListener>>(
     let process = Process::new(alloc)?;
     let source = Counting::new();
     let machine = Simulated::new(rt, &source, Nothing);
-    let host = host_of(listener.local_addr().ok()?, 0)?;
+    let host = host_to(&listener)?;
     if !process.is_refused(&machine, alloc, host, DialFault::NoAnswer, false) {
         return None;
     }
@@ -58,7 +53,7 @@ fn greets_with_all_bytes_that_its_source_gave(rt: HostRuntime) {
     assert_eq!(rt; greeted_with(&rt, rt.alloc()), Some(counted(0)));
 }
 
-/// A connection on which a federate has greeted.
+// A connection on which a federate has greeted.
 fn greeted<R: Net<Stream = TcpStream, Listener = TcpListener>>(
     rt: &R,
     address: SocketAddr,

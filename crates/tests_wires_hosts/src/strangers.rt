@@ -7,7 +7,7 @@ use std::io::Write;
 use std::net::{Net, TcpListener, TcpStream};
 use wires_transports::Transport;
 
-/// Whether a federate's process is let in now, and nobody was let in before it.
+// Whether a federate's process is let in now, and nobody was let in before it.
 fn is_first<R: Host + Net<Stream = TcpStream, Listener = TcpListener>>(
     rt: &R,
     entrance: &Entrance<'_>,

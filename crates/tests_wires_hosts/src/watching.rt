@@ -1,19 +1,21 @@
 //! Who ends a federate's last connection, and when. No time goes by in these tests: their clocks are simulated.
-use crate::entrance::{FILES, Machine, Own, Process, SECRET, host_of, is_closed, key_of};
+use crate::entrance::{
+    FILES, Machine, Own, Process, SECRET, host_to, is_closed, key_of, waiting_listener_of,
+};
 use crate::simulated::{Broken, EndsAt, Meanwhile, Simulated, is_over};
 use std::alloc::Global;
 use std::io::{Read, Write};
-use std::net::{Net, SocketAddr, TcpListener, TcpStream};
+use std::net::{Net, TcpListener, TcpStream};
 use std::sync::Wait;
 use std::sync::atomic::{AtomicBool, Ordering};
 use std::thread;
 use std::time::Duration;
 use wires::Work;
 use wires_greeting::CoordinatorSide;
-use wires_hosts::{Heard, Patience, listen_at};
+use wires_hosts::{Heard, Patience};
 use wires_transports::Ending;
 
-/// The coordinator's end of the next connection, which is let in by hand.
+// The coordinator's end of the next connection, which is let in by hand.
 fn let_in_by_hand(listener: &TcpListener) -> Option<TcpStream> {
     let (mut stream, _) = listener.accept().ok()?;
     let mut greeting = [0; 74];
@@ -26,14 +28,13 @@ fn let_in_by_hand(listener: &TcpListener) -> Option<TcpStream> {
     Some(stream)
 }
 
-/// Both ends of a connection of this process.
+// Both ends of a connection of this process.
 fn connected<'a, R: Machine + Net<Stream = TcpStream, Listener = TcpListener>>(
     rt: &'a R,
     process: &'a Process,
 ) -> Option<(Own<'a>, TcpStream)> {
-    let listener = listen_at(rt, SocketAddr::from(([127, 0, 0, 1], 0))).ok()?;
-    listener.set_nonblocking(false).ok()?;
-    let host = host_of(listener.local_addr().ok()?, 0)?;
+    let listener = waiting_listener_of(rt)?;
+    let host = host_to(&listener)?;
     let (other, own) = thread::join(
         rt,
         || let_in_by_hand(&listener),
@@ -64,7 +65,7 @@ impl<'a> Meanwhile for &Course<'a> {
 }
 
 /// How a process's last connection is watched.
-#[derive(Clone, Copy, Debug)]
+#[derive(Clone, Copy)]
 struct Case {
     /// How long nothing has to be heard until the run is given up, in ms.
     patience: Option<u64>,
@@ -76,12 +77,12 @@ struct Case {
     ended_ms: u64,
 }
 
-/// A connection that a worker has still, or not.
+// A connection that a worker has still, or not.
 fn held_if<'a>(is_held: bool, own: Own<'a>) -> Option<Own<'a>> {
     if is_held { Some(own) } else { None }
 }
 
-/// Whether the last connection is ended then, and is open 100 ms before.
+// Whether the last connection is ended then, and is open 100 ms before.
 fn is_ended_then<R: Machine + Net<Stream = TcpStream, Listener = TcpListener>>(
     rt: &R,
     case: Case,
@@ -110,53 +111,66 @@ fn is_ended_then<R: Machine + Net<Stream = TcpStream, Listener = TcpListener>>(
     Some(is_then && is_ended)
 }
 
+// The place of the first of these that is ended at another time.
+fn first_wrong<R: Machine + Net<Stream = TcpStream, Listener = TcpListener>>(
+    rt: &R,
+    cases: &[Case],
+) -> Option<usize> {
+    for (place, case) in cases.iter().enumerate() {
+        if is_ended_then(rt, *case) != Some(true) {
+            return Some(place);
+        }
+    }
+    None
+}
+
+const HELD: &[Case] = &[
+    Case {
+        patience: None,
+        end_ms: 5000,
+        is_held: true,
+        ended_ms: 6000,
+    },
+    Case {
+        patience: Some(60_000),
+        end_ms: 5000,
+        is_held: true,
+        ended_ms: 6000,
+    },
+    Case {
+        patience: Some(3000),
+        end_ms: 60_000,
+        is_held: true,
+        ended_ms: 4000,
+    },
+];
+
 #[test]
 fn ends_the_last_connection_1_s_behind_the_run(rt: HostRuntime) {
-    for case in [
-        Case {
-            patience: None,
-            end_ms: 5000,
-            is_held: true,
-            ended_ms: 6000,
-        },
-        Case {
-            patience: Some(60_000),
-            end_ms: 5000,
-            is_held: true,
-            ended_ms: 6000,
-        },
-        Case {
-            patience: Some(3000),
-            end_ms: 60_000,
-            is_held: true,
-            ended_ms: 4000,
-        },
-    ] {
-        assert_eq!(rt; is_ended_then(&rt, case), Some(true), "{case:?}");
-    }
+    assert_eq!(rt; first_wrong(&rt, HELD), None);
 }
+
+const NOT_HELD: &[Case] = &[
+    Case {
+        patience: None,
+        end_ms: 5000,
+        is_held: false,
+        ended_ms: 5000,
+    },
+    Case {
+        patience: Some(3000),
+        end_ms: 60_000,
+        is_held: false,
+        ended_ms: 3000,
+    },
+];
 
 #[test]
 fn ends_the_last_connection_with_the_run_where_no_worker_has_it(rt: HostRuntime) {
-    for case in [
-        Case {
-            patience: None,
-            end_ms: 5000,
-            is_held: false,
-            ended_ms: 5000,
-        },
-        Case {
-            patience: Some(3000),
-            end_ms: 60_000,
-            is_held: false,
-            ended_ms: 3000,
-        },
-    ] {
-        assert_eq!(rt; is_ended_then(&rt, case), Some(true), "{case:?}");
-    }
+    assert_eq!(rt; first_wrong(&rt, NOT_HELD), None);
 }
 
-/// How long a process is watched that never had a connection, and whose run is to end at this time, in ms.
+// How long a process is watched that never had a connection, and whose run is to end at this time, in ms.
 fn watched_for<R: Machine>(rt: &R, end_ms: u64) -> Option<u64> {
     let process = Process::new(rt.alloc())?;
     if end_ms == 0 {
@@ -179,9 +193,8 @@ fn watched_for<R: Machine>(rt: &R, end_ms: u64) -> Option<u64> {
 
 #[test]
 fn watches_no_longer_than_the_run_where_there_is_no_connection(rt: HostRuntime) {
-    for end_ms in [0, 5000] {
-        assert_eq!(rt; watched_for(&rt, end_ms), Some(end_ms));
-    }
+    let watched = [watched_for(&rt, 0), watched_for(&rt, 5000)];
+    assert_eq!(rt; watched, [Some(0), Some(5000)]);
 }
 
 /// A run that is given up, and whether somebody looks on.
@@ -209,7 +222,7 @@ impl<'a, R: Wait> Meanwhile for OnceWatched<'a, R> {
     }
 }
 
-/// Gives a run up in which nothing is heard.
+// Gives a run up in which nothing is heard.
 fn give_up<R: Machine>(rt: &R, run: &Watched) {
     let machine = Simulated::new(rt, &Broken, OnceWatched { rt, run });
     let patience = Patience {
@@ -221,7 +234,7 @@ fn give_up<R: Machine>(rt: &R, run: &Watched) {
     let _ = patience.work(&machine, rt.alloc());
 }
 
-/// Looks on until the run is to end; whether it never looked finished.
+// Looks on until the run is to end; whether it never looked finished.
 fn never_looks_finished<R: Machine>(rt: &R, run: &Watched) -> bool {
     run.is_watched.store(true, Ordering::SeqCst);
     for _ in rt.forever() {
@@ -235,7 +248,7 @@ fn never_looks_finished<R: Machine>(rt: &R, run: &Watched) -> bool {
     true
 }
 
-/// Many runs that are given up, one after the other.
+// Many runs that are given up, one after the other.
 fn runs(alloc: Global) -> Option<Vec<Watched>> {
     let mut runs = Vec::new(alloc);
     for _ in 0..500 {
@@ -249,14 +262,14 @@ fn runs(alloc: Global) -> Option<Vec<Watched>> {
     Some(runs)
 }
 
-/// Gives all of them up.
+// Gives all of them up.
 fn give_all_up<R: Machine>(rt: &R, runs: &[Watched]) {
     for run in runs {
         give_up(rt, run);
     }
 }
 
-/// Looks on at all of them; whether none ever looked finished.
+// Looks on at all of them; whether none ever looked finished.
 fn none_looks_finished<R: Machine>(rt: &R, runs: &[Watched]) -> bool {
     let mut is_right = true;
     for run in runs {
@@ -267,7 +280,7 @@ fn none_looks_finished<R: Machine>(rt: &R, runs: &[Watched]) -> bool {
     is_right
 }
 
-/// Whether none of many runs looks finished to another thread, even for a moment.
+// Whether none of many runs looks finished to another thread, even for a moment.
 fn are_given_up_first<R: Machine>(rt: &R) -> Option<bool> {
     let runs = runs(rt.alloc())?;
     let ((), is_right) = thread::join(

@@ -43,7 +43,7 @@ trait Visit {
     ) -> Option<bool>;
 }
 
-/// What a visit sees, while the acceptor of one federate lets in what comes. None where there is no listener.
+// What a visit sees, while the acceptor of one federate lets in what comes. None where there is no listener.
 fn visited<V: Visit, R: Machine + Net<Stream = TcpStream, Listener = TcpListener>>(
     rt: &R,
 ) -> Option<bool> {
@@ -73,14 +73,14 @@ fn visited<V: Visit, R: Machine + Net<Stream = TcpStream, Listener = TcpListener
     seen
 }
 
-/// A list of one.
+// A list of one.
 fn alone<T: Drop>(alloc: Global, item: T) -> Option<Vec<T>> {
     let mut items = Vec::new(alloc);
     items.push(item).ok()?;
     Some(items)
 }
 
-/// The federate's connection, on which this was sent.
+// The federate's connection, on which this was sent.
 fn dialed<R: Wait + Clock + Net<Stream = TcpStream, Listener = TcpListener>>(
     rt: &R,
     entrance: &Entrance<'_>,
@@ -97,26 +97,26 @@ fn dialed<R: Wait + Clock + Net<Stream = TcpStream, Listener = TcpListener>>(
     Some(connection)
 }
 
-/// The next that comes to the reader.
+// The next that comes to the reader.
 fn next<R: Wait + Clock>(rt: &R, arrivals: &Arrivals) -> Option<Accepted<TcpTransport, TcpCut>> {
     arrivals
         .recv_timeout(rt, Duration::from_millis(LONG_MS))
         .ok()
 }
 
-/// Whether what is sent at one end comes out at the other.
+// Whether what is sent at one end comes out at the other.
 fn are_joined<R: Wait>(rt: &R, sender: &mut TcpTransport, receiver: &mut TcpTransport) -> bool {
     let mut room = [0; 8];
     sender.send(rt, &[42]).is_ok() && receiver.recv(rt, &mut room) == Ok(1) && room[0] == 42
 }
 
-/// Whether nothing more comes, for the other end has ended.
+// Whether nothing more comes, for the other end has ended.
 fn is_ended<R: Wait>(rt: &R, incoming: &mut TcpTransport) -> bool {
     let mut room = [0; 8];
     !matches!(incoming.recv(rt, &mut room), Ok(1..))
 }
 
-/// Whether a stranger's connection was closed.
+// Whether a stranger's connection was closed.
 fn is_closed(stream: &mut TcpStream) -> bool {
     let mut room = [0; 8];
     let limit = Some(Duration::from_millis(LONG_MS));
@@ -127,7 +127,7 @@ fn is_closed(stream: &mut TcpStream) -> bool {
     }
 }
 
-/// This many connections that no federate makes, each second of which says that it is federate 0.
+// This many connections that no federate makes, each second of which says that it is federate 0.
 fn strangers<R: Wait + Clock + Net<Stream = TcpStream, Listener = TcpListener>>(
     rt: &R,
     entrance: &Entrance<'_>,

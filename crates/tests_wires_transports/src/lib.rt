@@ -2,4 +2,10 @@
 #![tactic(auto)]
 
 #[cfg(test)]
+mod crowded;
+#[cfg(test)]
+mod held;
+#[cfg(test)]
 mod letting_in;
+#[cfg(test)]
+mod streams;

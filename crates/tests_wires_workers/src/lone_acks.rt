@@ -1,142 +1,97 @@
 //! Acks are written also where nothing else goes to their peer: a little later, and at the end.
-use node::Outgoing;
-use signal::{Frame, FrameReader};
+use crate::counting::{Queue, Seen, ack, side};
 use std::alloc::Global;
+use std::io;
+use std::io::ErrorKind;
 use std::sync::Wait;
-use std::sync::atomic::{AtomicU64, Ordering};
-use std::thread::Threads;
-use std::time::Clock;
-use wires::{Work, WorkerResult, start};
-use wires_transports::{Connection, Ending, MemoryCut, MemoryTransport, Transport, pair};
-use wires_workers::{Side, WriterQueue, write};
+use std::sync::atomic::{AtomicU32, Ordering};
+use std::time::{Clock, Duration};
+use wires_workers::{WriterQueue, write};
 
-/// What a writer is asked over memory.
-type Queue = WriterQueue<MemoryTransport, MemoryCut>;
+/// How often a writer looks at the clock before the test gives it up.
+const MOST_LOOKS: u32 = 1_000;
 
-/// What one of two threads does.
+/// A machine whose clock can't be read, so that each wait for a wake-up is over at once. Whenever the writer is to wait
+/// there, it is asked for an Ack, if the one before was sent. The run is to end behind the last one: once that was
+/// sent, or right away.
 #[derive(Drop)]
-enum Part<'a> {
-    /// Writes what is asked.
-    Write(&'a Queue, &'a Ending),
-    /// Asks for Acks, each when the one before has come, and counts them.
-    OneByOne(&'a Queue, &'a Ending, MemoryTransport, &'a AtomicU64),
-    /// Asks for an Ack right before the end, and counts what has come at the end.
-    AtTheEnd(&'a Queue, &'a Ending, MemoryTransport, &'a AtomicU64),
+struct Asking<'q, 's, R> {
+    rt: &'q R,
+    queue: &'q Queue<'s>,
+    seen: &'s Seen,
+    // How many Acks are asked for.
+    count: u32,
+    ends_at_once: bool,
+    asked: AtomicU32,
+    looks: AtomicU32,
 }
 
-impl<'a> Work for Part<'a> {
-    fn work<R: Wait + Clock>(self, rt: &R, alloc: Global) -> WorkerResult {
-        match self {
-            Part::Write(queue, ending) => write(rt, alloc, queue, ending, 2),
-            Part::OneByOne(queue, ending, mut incoming, came) => {
-                one_by_one(rt, alloc, queue, &mut incoming, came);
-                ending.set();
-                queue.notify(rt);
-            }
-            Part::AtTheEnd(queue, ending, mut incoming, came) => {
-                let mut frames = FrameReader::new(alloc);
-                queue.put(rt, &[ack(1)], false);
-                queue.send(rt);
-                ending.set();
-                queue.notify(rt);
-                if next_ack(rt, &mut incoming, &mut frames) == Some(1) {
-                    came.fetch_add(1, Ordering::SeqCst);
-                }
-            }
+impl<'q, 's, R: Wait> Asking<'q, 's, R> {
+    fn go_on(&self) {
+        let looks = self.looks.fetch_add(1, Ordering::SeqCst);
+        let asked = self.asked.load(Ordering::SeqCst);
+        if asked < self.count && self.seen.sends() == asked {
+            self.ask(asked.saturating_add(1));
+        } else if looks > MOST_LOOKS || self.seen.sends() == self.count {
+            self.seen.ending.set();
         }
-        WorkerResult::none()
+    }
+
+    // Asks for the Ack of this number.
+    fn ask(&self, number: u32) {
+        self.asked.store(number, Ordering::SeqCst);
+        self.queue.put(self.rt, &[ack(u64::from(number))], false);
+        self.queue.send(self.rt);
+        if self.ends_at_once && number == self.count {
+            self.seen.ending.set();
+        }
     }
 }
 
-fn ack(last_taken: u64) -> Outgoing {
-    Outgoing {
-        peer: 0,
-        frame: Frame::Ack {
-            incarnation: 1,
-            last_taken,
-        },
+impl<'q, 's, R: Wait> Wait for Asking<'q, 's, R> {}
+
+impl<'q, 's, R: Wait> Clock for Asking<'q, 's, R> {
+    fn monotonic(&self) -> io::Result<Duration> {
+        self.go_on();
+        Err(io::Error::from(ErrorKind::Unsupported))
+    }
+
+    fn since_1970(&self) -> io::Result<Duration> {
+        self.monotonic()
     }
 }
 
-/// How many Acks are asked for.
-const ACKS: u64 = 5;
-
-/// Asks for each Ack when the one before has come, and nothing besides; counts those that came.
-fn one_by_one<R: Wait>(
+// How many sends there are where so many Acks are asked for.
+fn sends<R: Wait>(
     rt: &R,
     alloc: Global,
-    queue: &Queue,
-    incoming: &mut MemoryTransport,
-    came: &AtomicU64,
-) {
-    let mut frames = FrameReader::new(alloc);
-    for last_taken in 1..=ACKS {
-        queue.put(rt, &[ack(last_taken)], false);
-        queue.send(rt);
-        if next_ack(rt, incoming, &mut frames) == Some(last_taken) {
-            came.fetch_add(1, Ordering::SeqCst);
-        }
-    }
-}
-
-/// Up to where the Ack that comes next says that signals were taken; none where something else comes, or the end.
-fn next_ack<R: Wait>(
-    rt: &R,
-    incoming: &mut MemoryTransport,
-    frames: &mut FrameReader,
-) -> Option<u64> {
-    let mut room = [0; 64];
-    for _ in 0..64 {
-        match frames.next() {
-            Ok(Some(Frame::Ack { last_taken, .. })) => return Some(last_taken),
-            Ok(None) => {}
-            _ => return None,
-        }
-        match incoming.recv(rt, &mut room) {
-            Ok(0) | Err(_) => return None,
-            Ok(count) => frames.feed(&room[..count]).ok()?,
-        }
-    }
-    None
-}
-
-/// How the other thread asks.
-#[derive(Clone, Copy)]
-enum Way {
-    OneByOne,
-    AtTheEnd,
-}
-
-/// How many Acks come that are asked for so.
-fn came<R: Threads + Wait + Clock + Sync>(rt: &R, alloc: Global, way: Way) -> Option<u64> {
-    let (own, other) = pair(alloc).ok()?;
-    let Connection { outgoing, cut, .. } = own;
-    let Connection { incoming, .. } = other;
+    seen: &Seen,
+    count: u32,
+    ends_at_once: bool,
+) -> Option<u32> {
     let queue = WriterQueue::new(alloc).ok()?;
-    let side = Side {
-        transport: outgoing,
-        cut,
+    queue.begin(rt, side(alloc, seen)?, Vec::new(alloc));
+    let machine = Asking {
+        rt,
+        queue: &queue,
+        seen,
+        count,
+        ends_at_once,
+        asked: AtomicU32::new(0),
+        looks: AtomicU32::new(0),
     };
-    queue.begin(rt, side, Vec::new(alloc));
-    let ending = Ending::new();
-    let came = AtomicU64::new(0);
-    let mut parts = Vec::new(alloc);
-    parts.push(Part::Write(&queue, &ending)).ok()?;
-    let asking = match way {
-        Way::OneByOne => Part::OneByOne(&queue, &ending, incoming, &came),
-        Way::AtTheEnd => Part::AtTheEnd(&queue, &ending, incoming, &came),
-    };
-    parts.push(asking).ok()?;
-    start(rt, alloc, parts, &ending).ok()?;
-    Some(came.load(Ordering::SeqCst))
+    write(&machine, alloc, &queue, &seen.ending, 2);
+    Some(seen.sends())
 }
 
 #[test]
 fn writes_each_ack_though_nothing_else_is_sent(rt: HostRuntime) {
-    assert_eq!(rt; came(&rt, rt.alloc(), Way::OneByOne), Some(ACKS));
+    let seen = Seen::new(false);
+    assert_eq!(rt; sends(&rt, rt.alloc(), &seen, 5, false), Some(5));
 }
 
 #[test]
 fn writes_an_ack_at_the_end(rt: HostRuntime) {
-    assert_eq!(rt; came(&rt, rt.alloc(), Way::AtTheEnd), Some(1));
+    let seen = Seen::new(false);
+    assert_eq!(rt; sends(&rt, rt.alloc(), &seen, 1, true), Some(1));
 }

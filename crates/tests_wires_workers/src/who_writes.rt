@@ -1,217 +1,92 @@
-//! Who made the steps writes what waits for a peer, unless that is behind: then it is left to the writer.
-use desk::Share;
+//! Who made the steps writes what waits for a peer, unless that is behind: then it is left to the writer. On a
+//! connection on which a send failed nobody writes.
+use crate::counting::{Seen, begin};
+use crate::nodes::{at, context_alone, federate};
+use crate::said::{acknowledgement, came};
+use crate::steps::{Step, right_steps};
+use crate::taking_in::{TICKS, Workers, grant};
+use desk::{Share, Shared};
 use federate::Federate;
-use node::{Event, NodeId, Outgoing};
-use signal::{Frame, Signal};
+use node::NodeId;
 use std::alloc::Global;
-use std::sync::atomic::{AtomicU32, Ordering};
-use std::sync::{Arc, Wait};
+use std::sync::Wait;
 use std::time::Clock;
-use tests_lines::nodes::nodes_of;
-use tests_lines::tags::at;
 use tests_samples::{Machine, loaded};
-use wires::NodeWorkers;
-use wires_transports::{Broken, Cut, Ending, Failures, Transport};
-use wires_workers::{Context, NoGate, RetryState, Side, WriterQueue};
+use wires_workers::{RetryState, WriterQueue};
 
-/// An end on which sends are counted.
-#[derive(Drop)]
-struct Counting<'a> {
-    sends: &'a AtomicU32,
-    failures: Failures,
-}
-
-impl<'a> Transport for Counting<'a> {
-    ghost failures = { λ t. t.failures };
-
-    fn send<R: Wait>(&mut self, _rt: &R, _bytes: &[u8]) -> Result<(), Broken> {
-        self.sends.fetch_add(1, Ordering::SeqCst);
-        Ok(())
-    }
-
-    fn recv<R: Wait>(&mut self, _rt: &R, _room: &mut [u8]) -> Result<usize, Broken> {
-        self.failures.tell(0)
-    }
-
-    fn finish<R: Wait>(&mut self, _rt: &R) {}
-}
-
-/// Nothing is cut.
-#[derive(Drop)]
-struct NoCut;
-
-impl Cut for NoCut {
-    fn cut<R: Wait>(&self, _rt: &R) {}
-}
-
-/// What is asked of a writer whose sends are counted.
-type Queue<'a> = WriterQueue<Counting<'a>, NoCut>;
-
-/// What the workers of a federate are passed.
-type Workers<'a, 'f, 's> = Context<'a, Federate<'f>, NoGate, Counting<'s>, NoCut>;
-
-/// The writer begins, and has a connection, on which nothing waits.
-fn begin<'s, R: Wait>(
-    rt: &R,
-    alloc: Global,
-    queue: &Queue<'s>,
-    sends: &'s AtomicU32,
-) -> Option<()> {
-    let transport = Counting {
-        sends,
-        failures: Failures::new(),
-    };
-    let cut = Arc::new(alloc, NoCut).ok()?;
-    queue.open(rt, alloc, 2);
-    queue.begin(rt, Side { transport, cut }, Vec::new(alloc));
-    queue.catch_up(rt);
-    queue.send_all(rt, false);
-    Some(())
-}
-
-fn refusal() -> Outgoing {
-    Outgoing {
-        peer: 0,
-        frame: Frame::Refuse {
-            incarnation: 1,
-            refusal: 63,
-        },
-    }
-}
-
-fn ack(last_taken: u64) -> Frame {
-    Frame::Ack {
-        incarnation: 1,
-        last_taken,
-    }
-}
-
-fn outgoing_ack() -> Outgoing {
-    Outgoing {
-        peer: 0,
-        frame: ack(1),
-    }
-}
-
-/// What is done about a frame.
-#[derive(Clone, Copy)]
-enum Step {
-    /// Who made the steps puts it, for a peer that is behind or not, and sends what waits.
-    Send(Outgoing, bool),
-    /// The writer sends what waits.
-    Write,
-}
-
-/// How many sends there were after each of these steps.
-fn sends_after<R: Machine>(rt: &R, steps: &[Step]) -> Option<Vec<u32>> {
-    let sends = AtomicU32::new(0);
-    let queue = WriterQueue::new(rt.alloc()).ok()?;
-    begin(rt, rt.alloc(), &queue, &sends)?;
-    let mut counts = Vec::new(rt.alloc());
-    for step in steps {
-        match *step {
-            Step::Send(outgoing, is_behind) => {
-                queue.put(rt, &[outgoing], is_behind);
-                queue.send(rt);
-            }
-            Step::Write => {
-                queue.send_all(rt, true);
-            }
-        }
-        counts.push(sends.load(Ordering::SeqCst)).ok()?;
-    }
-    Some(counts)
-}
-
-/// Nothing goes to a peer that is behind before the writer sends it, and no Ack alone before other frames.
+// Nothing goes to a peer that is behind before the writer sends it, and no Ack alone before other frames.
 #[test]
 fn is_sent_by_who_asks_unless_the_peer_is_behind(rt: HostRuntime) {
     let steps = [
-        Step::Send(refusal(), false),
-        Step::Send(refusal(), true),
-        Step::Send(refusal(), true),
-        Step::Write,
-        Step::Send(outgoing_ack(), false),
-        Step::Send(refusal(), false),
-        Step::Send(outgoing_ack(), false),
-        Step::Write,
+        (Step::Put, 1),
+        (Step::PutBehind, 1),
+        (Step::PutBehind, 1),
+        (Step::Write, 2),
+        (Step::PutAck, 2),
+        (Step::Put, 3),
+        (Step::PutAck, 3),
+        (Step::Write, 4),
     ];
-    let expected = [1, 1, 1, 2, 2, 3, 3, 4];
-    let found = sends_after(&rt, &steps);
-    assert_eq!(rt; found.as_ref().map_or(0, Vec::len), expected.len());
-    for (sends, count) in found.iter().flatten().zip(expected) {
-        assert_eq!(rt; *sends, count);
-    }
+    let seen = Seen::new(false);
+    assert_eq!(rt;
+        right_steps(&rt, rt.alloc(), &seen, &steps),
+        Some(steps.len())
+    );
 }
 
-/// Each of src's 1,001 ticks sends.
-const TICKS: &str = r#"stop = "1 s"
-[[federate]]
-name = "src"
-outputs = ["y"]
-timers = [{ name = "t", period = "1 ms" }]
-state = [{ name = "n", value = 0 }]
-reaction = [{ triggers = ["t"], body = ["n = n + 1", "out.y = n"] }]
-[[federate]]
-name = "snk"
-inputs = ["x"]
-state = [{ name = "n", value = 0 }]
-reaction = [{ triggers = ["x"], body = ["n = in.x"] }]
-[[connection]]
-from = "src.y"
-to = "snk.x"
-"#;
-
-/// The grant up to the stop time.
-fn grant() -> Frame {
-    Frame::Data {
-        incarnation: 1,
-        number: 1,
-        signal: Signal::Tag(at(1000)),
-    }
+#[test]
+fn cuts_a_connection_on_which_a_send_failed(rt: HostRuntime) {
+    let steps = [(Step::Put, 1), (Step::Put, 1)];
+    let seen = Seen::new(true);
+    assert_eq!(rt;
+        right_steps(&rt, rt.alloc(), &seen, &steps),
+        Some(steps.len())
+    );
+    assert_eq!(rt; seen.cuts(), 1);
 }
 
-/// How many sends there were after each of four times 64 turns, and once more behind an Ack of 700 signals.
+// How many sends there were after each of four times 64 turns, and once more behind an Ack of 700 signals.
 fn sends_of<R: Wait + Clock>(
     rt: &R,
     alloc: Global,
     context: &Workers<'_, '_, '_>,
-    sends: &AtomicU32,
-) -> Option<Vec<u32>> {
+    seen: &Seen,
+) -> [u32; 5] {
     let mut share = Share::new(alloc);
-    let mut counts = Vec::new(alloc);
-    context.hand_in(rt, alloc, &mut share, &[Event::Frame(0, grant())]);
+    let mut counts = [0; 5];
+    context.hand_in(rt, alloc, &mut share, &[grant(at(1000))]);
     for time in 0..5 {
         if time == 4 {
-            context.hand_in(rt, alloc, &mut share, &[Event::Frame(0, ack(700))]);
+            context.hand_in(rt, alloc, &mut share, &[came(0, acknowledgement(700))]);
         }
         context.take_turns(rt, alloc, &mut share, &mut RetryState::new(64));
-        counts.push(sends.load(Ordering::SeqCst)).ok()?;
+        counts[time] = seen.sends();
     }
-    Some(counts)
+    counts
 }
 
-/// The same of src.
-fn sends_of_src<R: Machine>(rt: &R) -> Option<Vec<u32>> {
+// The same of src.
+fn sends_by<R: Wait + Clock>(
+    rt: &R,
+    alloc: Global,
+    shared: &Shared<Federate<'_>>,
+) -> Option<[u32; 5]> {
+    let seen = Seen::new(false);
+    let writers = [WriterQueue::new(alloc).ok()?];
+    begin(rt, alloc, &writers[0], &seen)?;
+    let context = context_alone(NodeId::Federate(0), shared, &writers, &seen.ending);
+    Some(sends_of(rt, alloc, &context, &seen))
+}
+
+fn sends_of_src<R: Machine>(rt: &R) -> Option<[u32; 5]> {
     let federation = loaded(rt.alloc(), TICKS, "")?;
-    let nodes = nodes_of(rt.alloc(), &federation)?;
-    let shared = nodes.federates.first()?;
-    let sends = AtomicU32::new(0);
-    let workers = NodeWorkers::new(rt.alloc(), NodeId::Federate(0), shared, 1, false).ok()?;
-    begin(rt, rt.alloc(), workers.writers.first()?, &sends)?;
-    let ending = Ending::new();
-    let context = workers.context(&NoGate, &ending);
-    sends_of(rt, rt.alloc(), &context, &sends)
+    let shared = federate(rt.alloc(), &federation)?;
+    sends_by(rt, rt.alloc(), &shared)
 }
 
-/// A turn says three signals, NET, MSG and LTC: so after the third time 576 aren't acknowledged, and after the last one
-/// 260.
+// A turn says three signals, NET, MSG and LTC: so after the third time 576 aren't acknowledged, and after the last one
+// 260.
 #[test]
 fn leaves_what_is_for_a_peer_with_512_signals_to_the_writer(rt: HostRuntime) {
-    let expected = [1, 2, 2, 2, 3];
-    let found = sends_of_src(&rt);
-    assert_eq!(rt; found.as_ref().map_or(0, Vec::len), expected.len());
-    for (sends, count) in found.iter().flatten().zip(expected) {
-        assert_eq!(rt; *sends, count);
-    }
+    assert_eq!(rt; sends_of_src(&rt), Some([1, 2, 2, 2, 3]));
 }

@@ -23,7 +23,7 @@ use Rattle.plan.specs.Federation.{Found, federate_count, stop_of}
 use Rattle.plan.proofs.Outside.{external_parts}
 use Rattle.reactor_agenda.specs.Agenda.{Agenda, IsAgenda, own_undone, in_time}
 use Rattle.reactor_agenda.proofs.Putting.{put_all-append}
-use Rattle.whole.specs.Schedule.{initial_undone}
+use Rattle.whole.specs.Agendas.{initial_undone}
 use Rattle.whole.specs.Initial.{IsOpenWith, AreOpenWith}
 use Rattle.network.proofs.Items.{get_set_within, get_set_other}
 use Rattle.whole.proofs.Filled.{get_early, get_last, get_beyond}

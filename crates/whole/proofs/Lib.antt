@@ -14,8 +14,8 @@ pub mod Filled
 pub mod Joined
 -- how many turns there can be
 pub mod Few
--- a schedule after a turn
-pub mod Schedules
+-- all agendas after a turn
+pub mod AllAgendas
 -- agendas before the first turn
 pub mod InitialAgendas
 -- what a turn puts is what it makes

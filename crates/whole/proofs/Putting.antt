@@ -13,7 +13,7 @@ use Rattle.network.proofs.Items.{get_set_within, get_set_other}
 use Rattle.network.specs.Undone.{PendingEvent, put_all, drop_up_to}
 use Rattle.reactor_agenda.specs.Agenda.{Agenda, in_time}
 use Rattle.whole.specs.declared.targets.Target.{Target}
-use Rattle.whole.specs.Targets.{shown, all_shown, AreApart}
+use Rattle.whole.specs.Targets.{shown, all_shown, AreOfDifferentFederates}
 use Rattle.whole.specs.Construction.{TurnMade, Kept, put_to, has_target, kept_on, dropped, after_put, after_puts, after_turn}
 
 same_map : {X Y : Type 0} (f g : X → Y) → ((x : X) → f x ≡ g x) → (o : Option X) → option_map f o ≡ option_map g o
@@ -56,7 +56,7 @@ abbrev pub all_but_first : List Target → List Target
 all_but_first targets = take (length targets - 1) (drop 1 targets)
 
 -- the first target isn't among the others
-pub first_apart : (targets : List Target) (t : Target) → 1 ≤ length targets → t ≡ get_or targets 0 t → AreApart (all_shown targets) → has_target t.federate (all_shown (all_but_first targets)) ≡ false
+pub first_apart : (targets : List Target) (t : Target) → 1 ≤ length targets → t ≡ get_or targets 0 t → AreOfDifferentFederates (all_shown targets) → has_target t.federate (all_shown (all_but_first targets)) ≡ false
 first_apart [] t some is apart = absurd (omega arith)
 first_apart (x ∷ rest) t some is apart = ap (λ ts. has_target t.federate (all_shown ts)) (others_are x rest) ∙ ap (λ (y : Target). has_target y.federate (all_shown rest)) is ∙ not_among x.federate (all_shown rest) apart.0
 

@@ -40,7 +40,7 @@ use Rattle.whole.specs.Progress.{Progress, later_by}
 use Rattle.whole.specs.Invariant.{states_of, states_in, programs_in, HoldsPending, IsAfterTurns, HasSlotsOf}
 use Rattle.whole.specs.Construction.{TurnMade, put_to}
 use Rattle.whole.specs.Targets.{between}
-use Rattle.whole.specs.Schedule.{Schedule, undone_of, initial_undone, IsDueFirst, IsDone, found_after, IsAfterTurn}
+use Rattle.whole.specs.Agendas.{Agendas, undone_of, initial_undone, IsDueFirst, IsDone, found_after, IsAfterTurn}
 use Rattle.whole.proofs.Few.{turns_are_few}
 use Rattle.whole.proofs.Joined.{carried-agrees}
 use Rattle.reactor_agenda.proofs.Listed.{listed_value}
@@ -103,18 +103,18 @@ ports-given None s is = absurd cc
 ports-given (Some f) s is = let same : f.slots ≡ s = cc in ap (λ (s : Slots). length s.outputs) same
 
 -- the turn of this reactor, of what is undone for its federate
-abbrev pub effect_on : Reactor → Schedule → ℕ → LogicalTime → Effect
+abbrev pub effect_on : Reactor → Agendas → ℕ → LogicalTime → Effect
 effect_on r s federate tag = effect_of r.behaviour r.states (look (undone_of s federate) tag)
 
 -- how a turn of a reactor reads: what was present, and what it made
-pub record IsTurnMade (d : Draft) (r : Reactor) (s : Schedule) (t : TurnMade) (states : List ℤ) : Type 0 where
+pub record IsTurnMade (d : Draft) (r : Reactor) (s : Agendas) (t : TurnMade) (states : List ℤ) : Type 0 where
   pub stop : t.stop ≡ stop_of d
   pub inputs : t.inputs ≡ listed (slot_count r.behaviour.slots) (look (undone_of s t.federate) t.tag)
   pub outputs : t.outputs ≡ listed (length r.behaviour.slots.outputs) (effect_on r s t.federate t.tag).outputs
   pub schedulings : t.schedulings ≡ (effect_on r s t.federate t.tag).schedulings
   pub new_states : states ≡ (effect_on r s t.federate t.tag).states
 
-module _ (d : Draft) (inputs : List Input) (reactors : List Reactor) (s : Schedule) (discarded : ℕ) (rows : List Row) (kept : IsAfterTurns d inputs reactors s discarded rows) where
+module _ (d : Draft) (inputs : List Input) (reactors : List Reactor) (s : Agendas) (discarded : ℕ) (rows : List Row) (kept : IsAfterTurns d inputs reactors s discarded rows) where
   abbrev programs : List Behaviour
   programs = programs_in reactors
 
@@ -154,7 +154,7 @@ module _ (d : Draft) (inputs : List Input) (reactors : List Reactor) (s : Schedu
   pub undone_within : (f : ℕ) → f < federate_count d → AllByRecursion (λ e. e.slot < n.slots f) (undone_of s f)
   undone_within f h = each_more (λ e. (v : ℤ) × (look (undone_of s f) e.tag e.slot ≡ Some v)) (λ e. e.slot < n.slots f) (found_within f h) (undone_of s f) (all_found (undone_of s f))
 
-  module _ (t : TurnMade) (after : Schedule) (r : Reactor) (states : List ℤ) (due : IsDueFirst s t.federate t.tag) (changed : IsAfterTurn t s after)
+  module _ (t : TurnMade) (after : Agendas) (r : Reactor) (states : List ℤ) (due : IsDueFirst s t.federate t.tag) (changed : IsAfterTurn t s after)
       (mine : slice_get reactors t.federate ≡ Some r) (made : IsTurnMade d r s t states) where
     abbrev next : Reactor
     next = record { behaviour = r.behaviour; states = states }
@@ -294,7 +294,7 @@ opened-programs programs reactors is = ap (λ rs. programs_in rs) is ∙ program
 
 -- before the first turn
 pub kept_initial :
-    (d : Draft) (inputs : List Input) (behaviours : List Behaviour) (reactors : List Reactor) (s : Schedule) (rows : List Row) →
+    (d : Draft) (inputs : List Input) (behaviours : List Behaviour) (reactors : List Reactor) (s : Agendas) (rows : List Row) →
     HaveSlotsOf d.federates behaviours → IsLawful (network_of d behaviours inputs) → reactors ≡ map opened behaviours → s.draft ≡ d →
     ((federate : ℕ) (tag : LogicalTime) (slot : ℕ) → federate < federate_count d → look (undone_of s federate) tag slot ≡ look (initial_undone d inputs federate) tag slot) →
     rows ≡ [] → IsAfterTurns d inputs reactors s 0 rows
@@ -317,7 +317,7 @@ kept_initial d inputs behaviours reactors s rows are lawful is_reactors is_draft
     }
 
 -- all rows are let go
-pub kept_let_go : (d : Draft) (inputs : List Input) (reactors : List Reactor) (s : Schedule) (discarded : ℕ) (rows : List Row) →
+pub kept_let_go : (d : Draft) (inputs : List Input) (reactors : List Reactor) (s : Agendas) (discarded : ℕ) (rows : List Row) →
     IsAfterTurns d inputs reactors s discarded rows → IsAfterTurns d inputs reactors s (discarded + length rows) []
 kept_let_go d inputs reactors s discarded rows kept =
     let all : List Row = kept.discard ++ rows in

@@ -1,5 +1,5 @@
 -- What a turn of a federate puts on agendas. From `Kept` on it is for proofs: what the loop of `put_made` has put so
--- far. What a turn means is `IsAfterTurn` of `Schedule`.
+-- far. What a turn means is `IsAfterTurn` of `Agendas`.
 use Rattle.std.specs.Prelude.{ℕ, ℤ, Bool, false, ◌||◌, nat_eq, if◌then◌else◌, List, [], ◌∷◌, ◌++◌, Option, None, Some}
 use Rattle.std.specs.List.{flat_map}
 use Rattle.tag.specs.LogicalTime.{LogicalTime, forever, sum_of}

@@ -6,7 +6,7 @@ use Rattle.plan.specs.declared.draft.Draft.{Draft}
 use Rattle.plan.specs.declared.input.Input.{Input}
 use Rattle.plan.specs.Federation.{federate_count, stop_of}
 use Rattle.reactor_agenda.specs.Agenda.{Agenda}
-use Rattle.whole.specs.Schedule.{initial_undone, IsAgendaUpTo}
+use Rattle.whole.specs.Agendas.{initial_undone, IsAgendaUpTo}
 
 -- the agenda of a federate, with these recorded inputs
 pub record IsOpenWith (d : Draft) (inputs : List Input) (federate : ℕ) (a : Agenda) : Type 0 where

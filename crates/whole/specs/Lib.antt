@@ -6,7 +6,7 @@ pub mod Construction
 -- which turn is next
 pub mod Next
 -- what is undone of each federate, and how a turn changes it
-pub mod Schedule
+pub mod Agendas
 -- agendas before the first turn
 pub mod Initial
 -- what such a program shows

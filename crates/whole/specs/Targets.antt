@@ -10,13 +10,13 @@ abbrev pub between : ℕ → ℕ → List Connection → List Connection
 between source target connections = filter (λ c. nat_eq c.source source && nat_eq c.target target) connections
 
 -- there is one at least
-abbrev pub is_some : List Connection → Bool
-is_some [] = false
-is_some (c ∷ rest) = true
+abbrev pub is_nonempty : List Connection → Bool
+is_nonempty [] = false
+is_nonempty (c ∷ rest) = true
 
 -- a turn of the first can put events to the second
 abbrev pub is_target : List Connection → ℕ → ℕ → Bool
-is_target connections source target = nat_eq target source || is_some (between source target connections)
+is_target connections source target = nat_eq target source || is_nonempty (between source target connections)
 
 -- a target, if it is one
 abbrev pub target_if : List Connection → ℕ → ℕ → List (ℕ × List Connection)
@@ -37,6 +37,6 @@ abbrev pub all_shown : List Target → List (ℕ × List Connection)
 all_shown targets = map shown targets
 
 -- no two are one federate
-abbrev pub AreApart : List (ℕ × List Connection) → Type 0
-AreApart [] = Unit {0}
-AreApart (t ∷ rest) = AllByRecursion (λ other. t.0 ≢ other.0) rest × AreApart rest
+abbrev pub AreOfDifferentFederates : List (ℕ × List Connection) → Type 0
+AreOfDifferentFederates [] = Unit {0}
+AreOfDifferentFederates (t ∷ rest) = AllByRecursion (λ other. t.0 ≢ other.0) rest × AreOfDifferentFederates rest

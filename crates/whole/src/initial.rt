@@ -47,7 +47,7 @@ pub fn put_inputs(
     Ok(())
 }
 
-/// Puts a recorded input, if its action is there. `events` is room.
+// Puts a recorded input, if its action is there. `events` is room.
 fn put_input(
     agendas: &mut [Agenda],
     events: &mut Vec<PendingEvent>,

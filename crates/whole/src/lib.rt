@@ -4,10 +4,10 @@
 //! `specs/Progress`.
 #![tactic(auto)]
 
+mod agendas;
 mod initial;
 mod made;
 mod nexts;
-mod schedule;
 mod targets;
 pub mod whole;
 

@@ -4,7 +4,7 @@ ghost use Rattle.std.specs.Option.{option_map};
 ghost use Rattle.reactor_agenda.specs.Agenda.{in_time};
 ghost use Rattle.whole.specs.Construction.{held_if, carried_over, deferred_by, own_deferred, put_to, after_puts};
 ghost use Rattle.whole.specs.Construction.{has_target, kept_on};
-ghost use Rattle.whole.specs.Targets.{shown, all_shown, AreApart};
+ghost use Rattle.whole.specs.Targets.{shown, all_shown, AreOfDifferentFederates};
 
 use crate::targets::Target;
 use plan_paths::Connection;
@@ -51,7 +51,7 @@ pub fn put_made(
     turn: &TurnMade<'_>,
 ) -> Result<(), Memory>
     requires there { All (λ t. t.federate < length agendas.old) targets.now }
-    requires apart { AreApart (all_shown targets.now) }
+    requires apart { AreOfDifferentFederates (all_shown targets.now) }
     ensures length { length agendas.new ≡ length agendas.old }
     ensures put { OnOk result ((federate : ℕ)
         → slice_get (map kept_on agendas.new) federate
@@ -92,7 +92,7 @@ pub fn put_made(
     }
 }
 
-/// What a turn puts to a target, in place of what `events` held.
+// What a turn puts to a target, in place of what `events` held.
 fn made_for(
     events: &mut Vec<PendingEvent>,
     turn: &TurnMade<'_>,
@@ -121,7 +121,7 @@ fn add_carried(
     Ok(())
 }
 
-/// Adds what a connection carries of a turn's outputs.
+// Adds what a connection carries of a turn's outputs.
 fn add_carried_over(
     events: &mut Vec<PendingEvent>,
     turn: &TurnMade<'_>,
@@ -146,7 +146,7 @@ fn add_deferred(events: &mut Vec<PendingEvent>, turn: &TurnMade<'_>) -> Result<(
     Ok(())
 }
 
-/// Adds the event of a scheduling.
+// Adds the event of a scheduling.
 fn add_deferred_by(
     events: &mut Vec<PendingEvent>,
     turn: &TurnMade<'_>,
@@ -164,7 +164,7 @@ fn add_deferred_by(
     )
 }
 
-/// Adds an event, unless it is later than stop.
+// Adds an event, unless it is later than stop.
 fn add(
     events: &mut Vec<PendingEvent>,
     stop: FiniteTag,

@@ -5,7 +5,7 @@ ghost use Rattle.whole.specs.declared.nexts.Next.{Next as NextOf};
 ghost use Rattle.whole.specs.Construction.{has_target, least_on};
 ghost use Rattle.whole.specs.Next.{is_earlier, IsFirstAmong, AreFirsts, renewed};
 ghost use Rattle.whole.specs.Targets.{all_shown};
-ghost use Rattle.whole.specs.Schedule.{next_on, for_each};
+ghost use Rattle.whole.specs.Agendas.{next_on, for_each};
 ghost use Rattle.reactor_agenda.specs.Agenda.{Agenda as AgendaOf, IsAgenda};
 ghost use Rattle.plan.specs.Federation.{federate_count};
 
@@ -69,7 +69,7 @@ impl Nexts {
         first_among(firsts, 0, firsts.len())
     }
 
-    /// Gives a federate the tag of its next event.
+    // Gives a federate the tag of its next event.
     fn set_tag(&mut self, federate: usize, tag: Tag)
         requires { federate < length self.old }
         ensures { (next : NextOf) → slice_get self.old federate ≡ Some next
@@ -87,7 +87,7 @@ impl Nexts {
     }
 }
 
-/// When each federate of a plan is next.
+// When each federate of a plan is next.
 fn nexts_of(alloc: Global, plan: &Plan, agendas: &[Agenda]) -> Result<Vec<Next>, Memory>
     requires { length agendas.now ≡ federate_count plan.now }
     ensures { IfOk result (λ nexts. (federate : ℕ)
@@ -104,14 +104,14 @@ fn nexts_of(alloc: Global, plan: &Plan, agendas: &[Agenda]) -> Result<Vec<Next>,
     Ok(nexts)
 }
 
-/// By tag, then by rank.
+// By tag, then by rank.
 fn is_earlier(first: &Next, second: &Next) -> bool
     ensures { result ≡ is_earlier first.now second.now }
 {
     first.tag < second.tag || (first.tag == second.tag && first.rank < second.rank)
 }
 
-/// The first of those from one place up to another.
+// The first of those from one place up to another.
 fn first_among(nexts: &[Next], low: usize, high: usize) -> Next
     requires some { low < high }
     requires there { high ≤ length nexts.now }
@@ -127,7 +127,7 @@ fn first_among(nexts: &[Next], low: usize, high: usize) -> Next
     first
 }
 
-/// The first of each block.
+// The first of each block.
 fn firsts_of(alloc: Global, nexts: &[Next]) -> Result<Vec<Next>, Memory>
     ensures { IfOk result (λ firsts. AreFirsts nexts.now firsts.items) }
 {
@@ -138,7 +138,7 @@ fn firsts_of(alloc: Global, nexts: &[Next]) -> Result<Vec<Next>, Memory>
     Ok(firsts)
 }
 
-/// The first of a block.
+// The first of a block.
 fn first_of_block(nexts: &[Next], block: usize) -> Next
     requires { block * 8 < length nexts.now }
     ensures { IsFirstAmong nexts.now (block * 8) (block * 8 + 8) result }
@@ -147,7 +147,7 @@ fn first_of_block(nexts: &[Next], block: usize) -> Next
     first_among(nexts, low, nexts.len().min(low + BLOCK))
 }
 
-/// Whether a federate's next event has this tag already.
+// Whether a federate's next event has this tag already.
 fn is_at(nexts: &[Next], federate: usize, tag: Tag) -> bool
     requires { federate < length nexts.now }
     ensures { IsTrue result → (next : NextOf) → slice_get nexts.now federate ≡ Some next → next.tag ≡ tag }
@@ -171,8 +171,8 @@ fn set_tag(nexts: &mut [Next], firsts: &mut [Next], federate: usize, tag: Tag)
     firsts[block] = first_after(nexts, block, &firsts[block], &was, &next);
 }
 
-/// The first of a block in which one is replaced by another; before that `first` was the first. The block is read only
-/// where the one that was replaced may have been the first.
+// The first of a block in which one is replaced by another; before that `first` was the first. The block is read only
+// where the one that was replaced may have been the first.
 fn first_after(nexts: &[Next], block: usize, first: &Next, was: &Next, next: &Next) -> Next
     requires { block * 8 < length nexts.now }
     ensures { (before : List NextOf) (federate : ℕ) → federate < length before → federate / 8 ≡ block

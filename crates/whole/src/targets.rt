@@ -1,8 +1,8 @@
 ghost use Rattle.std.specs.Prelude.{◌≡◌, ℕ, IfOk, slice_get};
 ghost use Rattle.std.specs.Option.{option_map};
-ghost use Rattle.whole.specs.Schedule.{for_each};
+ghost use Rattle.whole.specs.Agendas.{for_each};
 ghost use Rattle.plan.specs.Federation.{federate_count, connections_of};
-ghost use Rattle.whole.specs.Targets.{between, is_some, all_shown, targets_below};
+ghost use Rattle.whole.specs.Targets.{between, is_nonempty, all_shown, targets_below};
 
 use plan::Plan;
 use plan_paths::Connection;
@@ -30,7 +30,7 @@ pub fn all_targets(alloc: Global, plan: &Plan) -> Result<Vec<Vec<Target>>, Memor
     Ok(targets)
 }
 
-/// The targets of a federate's turns, by number.
+// The targets of a federate's turns, by number.
 fn targets_of(alloc: Global, plan: &Plan, source: usize) -> Result<Vec<Target>, Memory>
     ensures { IfOk result (λ targets. all_shown targets.items
         ≡ targets_below (connections_of plan.now) source (federate_count plan.now)) }
@@ -38,7 +38,7 @@ fn targets_of(alloc: Global, plan: &Plan, source: usize) -> Result<Vec<Target>, 
     let mut targets = Vec::new(alloc);
     for federate in 0..plan.federate_count() {
         let connections = between(alloc, plan.connections(), source, federate)?;
-        if federate == source || is_some(connections.as_slice()) {
+        if federate == source || is_nonempty(connections.as_slice()) {
             targets.push(Target {
                 federate,
                 connections,
@@ -48,7 +48,7 @@ fn targets_of(alloc: Global, plan: &Plan, source: usize) -> Result<Vec<Target>, 
     Ok(targets)
 }
 
-/// The connections from one federate to another.
+// The connections from one federate to another.
 fn between(
     alloc: Global,
     connections: &[Connection],
@@ -65,8 +65,8 @@ fn between(
     Ok(found)
 }
 
-fn is_some(connections: &[Connection]) -> bool
-    ensures { result ≡ is_some connections.now }
+fn is_nonempty(connections: &[Connection]) -> bool
+    ensures { result ≡ is_nonempty connections.now }
 {
     match connections {
         [_first, ..] => true,

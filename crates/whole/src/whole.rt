@@ -2,8 +2,8 @@ ghost use Rattle.std.specs.Prelude.{◌≡◌, ◌≢◌, ℕ, ◌+◌, ◌<◌,
 ghost use Rattle.plan.specs.External.{AreInputsOf};
 ghost use Rattle.reactor_programs.specs.Programs.{AreProgramsOf};
 
+use crate::agendas::Agendas;
 use crate::made::TurnMade;
-use crate::schedule::Schedule;
 use plan::{Inputs, Plan};
 use reactor::{Memory, Reactor, Rows, TurnRoom};
 use reactor_program::Entry;
@@ -18,7 +18,7 @@ pub struct Whole<'a> {
     plan: &'a Plan,
     inputs: &'a Inputs,
     reactors: Vec<Reactor<'a>>,
-    schedule: Schedule<'a>,
+    agendas: Agendas<'a>,
     /// Room for what is present at a turn, and for what it makes.
     present: Vec<Entry>,
     room: TurnRoom,
@@ -43,7 +43,7 @@ impl<'a> Model for Whole<'a> {
       discarded = w.discarded;
     } };
 
-    ghost invariant = { λ w. IsAfterTurns w.plan.now w.inputs.now w.reactors.items w.schedule w.discarded w.rows };
+    ghost invariant = { λ w. IsAfterTurns w.plan.now w.inputs.now w.reactors.items w.agendas w.discarded w.rows };
 }
 
 impl<'a> Whole<'a> {
@@ -71,7 +71,7 @@ impl<'a> Whole<'a> {
             plan,
             inputs,
             reactors,
-            schedule: Schedule::new(alloc, plan, inputs)?,
+            agendas: Agendas::new(alloc, plan, inputs)?,
             present: Vec::new(alloc),
             room: TurnRoom::new(alloc),
             rows: Rows::new(alloc),
@@ -112,19 +112,19 @@ impl<'a> Whole<'a> {
         self.rows.clear();
     }
 
-    /// One turn, if anything is pending. Where memory is refused, something is, and nothing changes.
+    // One turn, if anything is pending. Where memory is refused, something is, and nothing changes.
     fn turn(&mut self) -> Result<bool, Memory>
         ensures made { IfOk result (λ more.
             MatchBool more (self.new ≡ later_by 1 self.old) ((self.new ≡ self.old) × (pending_in self.old ≡ []))) }
         ensures err { OnErr result (self.new ≡ self.old) }
         ensures pending { OnErr result (pending_in self.old ≢ []) }
     {
-        let Some(next) = self.schedule.first() else {
+        let Some(next) = self.agendas.first() else {
             return Ok(false);
         };
         let federate = next.federate;
         self.plan.invariant();
-        self.schedule.at(federate, next.tag, &mut self.present)?;
+        self.agendas.at(federate, next.tag, &mut self.present)?;
         let reactor = &self.reactors[federate];
         reactor.run_in(self.present.as_slice(), &mut self.room)?;
         let turn = TurnMade {
@@ -135,7 +135,7 @@ impl<'a> Whole<'a> {
             outputs: self.room.outputs(),
             schedulings: self.room.schedulings(),
         };
-        self.schedule.put(&mut self.rows, &turn)?;
+        self.agendas.put(&mut self.rows, &turn)?;
         let reactor = &mut self.reactors[federate];
         reactor.commit_from(&self.room);
         Ok(true)

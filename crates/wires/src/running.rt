@@ -84,7 +84,7 @@ fn run_lines<
         false,
     )?;
     let federates = workers_of(alloc, nodes)?;
-    let own: Vec<Job<'_, H, G, T, C, NoDial, E, NoWatcher>> = jobs_of_coordinator(
+    let coordinator_jobs: Vec<Job<'_, H, G, T, C, NoDial, E, NoWatcher>> = jobs_of_coordinator(
         alloc,
         &coordinator,
         &arrivals,
@@ -93,8 +93,8 @@ fn run_lines<
         gate,
         ending,
     )?;
-    let others = jobs_of_federates(alloc, &federates, dials, terms, gate, ending)?;
-    start_all(rt, alloc, own, others, ending)
+    let federate_jobs = jobs_of_federates(alloc, &federates, dials, terms, gate, ending)?;
+    start_all(rt, alloc, coordinator_jobs, federate_jobs, ending)
 }
 
 // How the federates connect, and where the coordinator's ends of their connections come.

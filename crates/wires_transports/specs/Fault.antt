@@ -1,4 +1,4 @@
--- How a connection's refusals are printed.
+-- How a connection's faults are printed.
 use Rattle.std.specs.Prelude.{ℕ, List, codes}
 use Rattle.signal.specs.Fault.{printed_fault}
 

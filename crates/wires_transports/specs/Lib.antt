@@ -1,4 +1,4 @@
--- How a connection's refusals are printed.
+-- How a connection's faults are printed.
 pub mod Fault
 -- Bytes on their way in one direction.
 pub mod Pipe

@@ -22,8 +22,8 @@ pub struct TcpTransport {
 }
 
 impl TcpTransport {
-    // Reads what has come, without waiting. Returns how many bytes, or None where nothing has come. It is asked before
-    // the workers have the connection, since it changes for a moment how both ends of the stream wait.
+    /// Reads what has come, without waiting. Returns how many bytes, or None where nothing has come. It is asked before
+    /// the workers have the connection, since it changes for a moment how both ends of the stream wait.
     pub(crate) fn read_now(&mut self, room: &mut [u8]) -> io::Result<Option<usize>>
         ensures room { length room.new ≡ length room.old }
         ensures came { IfOk result (λ read. IfSome read (λ count. count ≤ length room.new)) }

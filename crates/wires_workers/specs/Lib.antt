@@ -8,6 +8,8 @@ pub mod HandedIn
 pub mod AreRead
 -- Which frames go to which peer.
 pub mod ByPeer
+-- Which frames needn't be handed on to the peer that they are for.
+pub mod LeavingOut
 -- The frames that wait for a writer's next send.
 pub mod Waiting
 -- Which frames are Acks, and may wait until there are others for their peer; and which are signals.

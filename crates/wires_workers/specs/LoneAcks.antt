@@ -1,5 +1,5 @@
 -- Which frames are Acks, and may wait until there are others for their peer; and which are signals.
-use Rattle.std.specs.Prelude.{Bool, true, false, not, ◌&&◌, nat_lt, List, length}
+use Rattle.std.specs.Prelude.{ℕ, ◌+◌, Bool, true, false, not, ◌&&◌, nat_lt, List, length}
 use Rattle.std.specs.List.{list_all}
 use Rattle.signal.specs.declared.frame.Frame.{Frame}
 use Rattle.signal.specs.declared.frame.Frame.TheVariants.{Hello, Data, Ack, Refuse}
@@ -24,10 +24,10 @@ is_data (Refuse incarnation refusal) = false
 abbrev pub are_acks : List Outgoing → Bool
 are_acks frames = list_all (λ outgoing. is_ack outgoing.frame) frames
 
--- Acks alone, fewer than are sent without other frames
-abbrev pub are_few_acks : List Outgoing → Bool
-are_few_acks frames = nat_lt (length frames) ACKS_AT_ONCE && are_acks frames
+-- Acks alone, fewer than are sent without other frames; those count too that were left out, since these cover them
+abbrev pub are_few_acks : (left_out : ℕ) → List Outgoing → Bool
+are_few_acks left_out frames = nat_lt (length frames + left_out) ACKS_AT_ONCE && are_acks frames
 
 -- whether what waits stays in the queue: a few Acks or nothing, without a new connection, and it isn't late
-abbrev pub is_left : (is_late is_new : Bool) → List Outgoing → Bool
-is_left is_late is_new frames = not is_late && (not is_new && are_few_acks frames)
+abbrev pub is_left : (is_late is_new : Bool) → (left_out : ℕ) → List Outgoing → Bool
+is_left is_late is_new left_out frames = not is_late && (not is_new && are_few_acks left_out frames)

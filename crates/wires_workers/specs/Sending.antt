@@ -19,8 +19,8 @@ waits is_new frames = is_new || not (nat_eq (length frames) 0)
 -- what to do about what waits. A few Acks and nothing else: leave them, if the writer looks soon anyway; else notify
 -- it. Where nothing waits: leave it so. With a new connection, or a peer that is behind: notify the writer. All else is
 -- written by whoever made the steps
-abbrev pub task_of : (is_new is_behind looks_soon : Bool) → List Outgoing → Task
-task_of is_new is_behind looks_soon frames =
-    if not is_new && are_few_acks frames
+abbrev pub task_of : (is_new is_behind looks_soon : Bool) → (left_out : ℕ) → List Outgoing → Task
+task_of is_new is_behind looks_soon left_out frames =
+    if not is_new && are_few_acks left_out frames
     then (if looks_soon || nat_eq (length frames) 0 then Leave else Notify)
     else (if is_new || is_behind then Notify else Write)

@@ -4,7 +4,7 @@ use Rattle.std.specs.Prelude.{Some}
 use Rattle.signal.specs.declared.frame.Frame.{Frame}
 use Rattle.signal.specs.declared.frame.Frame.TheVariants.{Hello, Data, Ack, Refuse}
 use Rattle.signal.specs.declared.wire.TheConstants.{FIRST_VERSION}
-use Rattle.signal.specs.Cut.{written}
+use Rattle.signal.specs.Pieces.{written}
 
 -- the node's own version, that of the peer's last Hello on this connection, the frames that wait, and behind them the
 -- last Ack, if one waits

@@ -6,6 +6,7 @@ ghost use Rattle.wires_workers.specs.declared.turns.TheConstants.{TURNS_AT_ONCE}
 
 use crate::context::Context;
 use crate::gate::{Gate, Point};
+use crate::leaving::HandedOn;
 use crate::retry_state::RetryState;
 use crate::session::Session;
 use crate::turns::Turns;
@@ -79,11 +80,11 @@ impl<'a, N: Node, G: Gate, T: Transport, C: Cut> Context<'a, N, G, T, C> {
         if self.gate.is_open() {
             // Where there is no memory for a batch, each event is kept by itself.
             let batch = Batch::new(alloc, events).ok();
-            let mut session = Session::begin(rt, alloc, self.shared);
+            let mut session = Session::begin(rt, alloc, self.shared, events.len());
             session.enter_all(share, events, batch.as_ref());
             let Turns { made, is_idle } = self.follow(&mut session, share);
             let shows_other_history = session.replies.shows_other_history;
-            let behind = self.leave(rt, session, events);
+            let HandedOn { behind, .. } = self.leave(rt, session, events);
             if !is_idle {
                 self.wake_up(rt, WakeUp::Done);
             }
@@ -122,7 +123,8 @@ impl<'a, N: Node, G: Gate, T: Transport, C: Cut> Context<'a, N, G, T, C> {
             return Turns::none(false);
         }
         if self.gate.is_open() {
-            let mut session = Session::begin(rt, alloc, self.shared);
+            // How many turns are made isn't known yet, and mostly they are few.
+            let mut session = Session::begin(rt, alloc, self.shared, 1);
             let turns = session.enter_turns(share, state);
             self.leave(rt, session, &[]);
             turns
@@ -179,7 +181,7 @@ impl<'a, N: Node, G: Gate, T: Transport, C: Cut> Context<'a, N, G, T, C> {
     {
         // Where there is no memory for a batch, each event is kept by itself.
         let batch = Batch::new(alloc, events).ok();
-        let mut session = Session::begin(rt, alloc, self.shared);
+        let mut session = Session::begin(rt, alloc, self.shared, events.len());
         session.enter_all(share, events, batch.as_ref());
         let outcome = Outcome {
             has_done: session.replies.has_done,

@@ -19,7 +19,8 @@
 //!        |  gate                     passed before each event; where it is open, not at all
 //!        +-> Session::begin          the desk's lock
 //!        +-> Session::enter_all, enter_turns     steps; the replies are gathered
-//!        +-> Context::leave          frames into each peer's WriterQueue, the lock given up, WriterQueue::send
+//!        +-> Context::leave          frames into each peer's WriterQueue (`covered_acks` and `by_peer` say which), the
+//!        |                           lock given up, WriterQueue::send
 //!        +-> Context::wake_up        the runner, where something was done in its absence
 //!
 //! A run ends where `Ending` is set: runners stop and tell their writers, writers end what they send, readers come to
@@ -30,11 +31,13 @@
 mod behind;
 mod by_peer;
 pub mod context;
+mod covered_acks;
 pub mod dialed;
 pub mod gate;
 mod greeted;
 pub mod handing_in;
 mod leaving;
+mod peer_lists;
 mod queue_state;
 pub mod reader;
 pub mod retry_state;

@@ -3,8 +3,8 @@
 //! An Ack says nothing that its peer waits for. So Acks alone, while they are few, are left until other frames are put
 //! for the same peer or the writer has waited a little; and they don't wake a writer that looks soon by itself. Who
 //! sends the rest is `specs/Sending`.
-ghost use Rattle.std.specs.Prelude.{◌≡◌, ◌↔◌, ◌+◌, ◌≤◌, length, IsTrue, None, Some, [], ◌++◌, ◌&&◌, not, is_some, true, false};
-ghost use Rattle.std.specs.Prelude.{if◌then◌else◌, OnOk, OnErr, IfOk, IfErr};
+ghost use Rattle.std.specs.Prelude.{◌≡◌, ◌↔◌, ◌+◌, ◌≤◌, length, IsTrue, None, Some, [], ◌++◌, ◌&&◌, not, is_some};
+ghost use Rattle.std.specs.Prelude.{true, false, if◌then◌else◌, OnOk, OnErr, IfOk, IfErr};
 ghost use Rattle.signal.specs.declared.wire.TheConstants.{FIRST_VERSION};
 ghost use Rattle.wires_workers.specs.LoneAcks.{is_ack, is_data, are_acks, are_few_acks, is_left};
 ghost use Rattle.wires_workers.specs.Sending.{task_of, waits};
@@ -35,6 +35,8 @@ pub(crate) struct QueueState<T: Drop, C: Drop> {
     is_caught_up: bool,
     // What is to be written, oldest first.
     frames: Vec<Outgoing>,
+    // How many Acks were left out of that, since these say all that they said.
+    left_out: usize,
     // Whether the writer looks soon by itself: something waited when it looked last.
     looks_soon: bool,
     // Whether the peer was behind when frames were put last: then a send may have to wait until it reads.
@@ -68,12 +70,14 @@ impl<T: Drop, C: Drop> QueueState<T, C> {
         ensures peer { result.peer ≡ FIRST_VERSION }
         ensures frames { result.frames.items ≡ [] }
         ensures caught_up { result.is_caught_up ≡ false }
+        ensures left_out { result.left_out ≡ 0 }
     {
         QueueState {
             side: None,
             peer: FIRST_VERSION,
             is_caught_up: false,
             frames: Vec::new(alloc),
+            left_out: 0,
             looks_soon: false,
             is_behind: false,
         }
@@ -86,11 +90,13 @@ impl<T: Drop, C: Drop> QueueState<T, C> {
         ensures peer { self.new.peer ≡ FIRST_VERSION }
         ensures frames { self.new.frames.items ≡ greeting.items }
         ensures caught_up { self.new.is_caught_up ≡ false }
+        ensures left_out { self.new.left_out ≡ 0 }
     {
         self.side = Some(side);
         self.peer = FIRST_VERSION;
         self.is_caught_up = false;
         self.frames = greeting;
+        self.left_out = 0;
     }
 
     /// What is put next has all signals that the peer hasn't acknowledged.
@@ -98,6 +104,7 @@ impl<T: Drop, C: Drop> QueueState<T, C> {
         ensures side { self.new.side ≡ self.old.side }
         ensures peer { self.new.peer ≡ self.old.peer }
         ensures frames { self.new.frames.items ≡ self.old.frames.items }
+        ensures left_out { self.new.left_out ≡ self.old.left_out }
         ensures caught_up { self.new.is_caught_up ≡ true }
     {
         self.is_caught_up = true;
@@ -116,6 +123,7 @@ impl<T: Drop, C: Drop> QueueState<T, C> {
         ensures side { self.new.side ≡ self.old.side }
         ensures peer { self.new.peer ≡ version }
         ensures frames { self.new.frames.items ≡ self.old.frames.items }
+        ensures left_out { self.new.left_out ≡ self.old.left_out }
     {
         self.peer = version;
     }
@@ -128,30 +136,39 @@ impl<T: Drop, C: Drop> QueueState<T, C> {
         waiting <= WAITING_MOST && more <= WAITING_MOST - waiting
     }
 
-    /// Adds frames behind those that wait, and notes whether their peer is behind.
-    pub fn add(&mut self, frames: &[Outgoing], is_behind: bool) -> Result<(), AllocError>
+    /// Adds frames behind those that wait, of which this many Acks were left out, and notes whether their peer is
+    /// behind.
+    pub fn add(
+        &mut self,
+        frames: &[Outgoing],
+        left_out: usize,
+        is_behind: bool,
+    ) -> Result<(), AllocError>
         ensures side { self.new.side ≡ self.old.side }
         ensures peer { self.new.peer ≡ self.old.peer }
         ensures frames { OnOk result (self.new.frames.items ≡ self.old.frames.items ++ frames.now) }
         ensures unchanged { OnErr result (self.new.frames.items ≡ self.old.frames.items) }
+        ensures left_out { self.old.left_out + left_out ≤ usize.MAX
+            → self.new.left_out ≡ self.old.left_out + left_out }
         ensures behind { self.new.is_behind ≡ is_behind }
         ensures soon { self.new.looks_soon ≡ self.old.looks_soon }
         ensures caught_up { self.new.is_caught_up ≡ self.old.is_caught_up }
     {
         self.is_behind = is_behind;
+        self.left_out = self.left_out.saturating_add(left_out);
         self.frames.extend_from_slice(frames)
     }
 
     // Whether all that waits may wait for more: there is no new connection, and of frames Acks alone, and few.
     fn may_wait(&self) -> bool
-        ensures { result ≡ not (is_some self.now.side) && are_few_acks self.now.frames.items }
+        ensures { result ≡ not (is_some self.now.side) && are_few_acks self.now.left_out self.now.frames.items }
     {
-        self.side.is_none() && are_few_acks(&self.frames)
+        self.side.is_none() && are_few_acks(self.left_out, &self.frames)
     }
 
     /// What is to be done about what waits.
     pub fn task(&self) -> Task
-        ensures { result ≡ task_of (is_some self.now.side) self.now.is_behind self.now.looks_soon
+        ensures { result ≡ task_of (is_some self.now.side) self.now.is_behind self.now.looks_soon self.now.left_out
             self.now.frames.items }
     {
         if self.may_wait() {
@@ -172,6 +189,7 @@ impl<T: Drop, C: Drop> QueueState<T, C> {
         ensures side { self.new.side ≡ self.old.side }
         ensures peer { self.new.peer ≡ self.old.peer }
         ensures frames { self.new.frames.items ≡ self.old.frames.items }
+        ensures left_out { self.new.left_out ≡ self.old.left_out }
         ensures behind { self.new.is_behind ≡ self.old.is_behind }
         ensures soon { result ≡ waits (is_some self.old.side) self.old.frames.items }
         ensures noted { self.new.looks_soon ≡ result }
@@ -183,11 +201,11 @@ impl<T: Drop, C: Drop> QueueState<T, C> {
     /// Takes all that waits, where whoever asks is to write it; else answers what is to be done.
     pub fn take_to_write(&mut self, frames: &mut Vec<Outgoing>) -> Result<Asked<T, C>, Task>
         requires { frames.old.items ≡ [] }
-        ensures write { IfOk result (λ _.
-            task_of (is_some self.old.side) self.old.is_behind self.old.looks_soon self.old.frames.items ≡ Task.Write) }
+        ensures write { IfOk result (λ _. task_of (is_some self.old.side) self.old.is_behind self.old.looks_soon
+            self.old.left_out self.old.frames.items ≡ Task.Write) }
         ensures taken { OnOk result (frames.new.items ≡ self.old.frames.items) }
-        ensures other { IfErr result (λ task.
-            task_of (is_some self.old.side) self.old.is_behind self.old.looks_soon self.old.frames.items ≡ task) }
+        ensures other { IfErr result (λ task. task_of (is_some self.old.side) self.old.is_behind self.old.looks_soon
+            self.old.left_out self.old.frames.items ≡ task) }
         ensures unchanged { OnErr result (self.new.frames.items ≡ self.old.frames.items) }
     {
         match self.task() {
@@ -202,12 +220,14 @@ impl<T: Drop, C: Drop> QueueState<T, C> {
         requires { frames.old.items ≡ [] }
         ensures side { result.side ≡ self.old.side }
         ensures peer { result.peer ≡ self.old.peer }
-        ensures frames { frames.new.items
-            ≡ (if is_left is_late (is_some self.old.side) self.old.frames.items then [] else self.old.frames.items) }
+        ensures frames { frames.new.items ≡ (if is_left is_late (is_some self.old.side) self.old.left_out
+            self.old.frames.items then [] else self.old.frames.items) }
         ensures no_side { self.new.side ≡ None }
         ensures same_peer { self.new.peer ≡ self.old.peer }
-        ensures left { self.new.frames.items
-            ≡ (if is_left is_late (is_some self.old.side) self.old.frames.items then self.old.frames.items else []) }
+        ensures left { self.new.frames.items ≡ (if is_left is_late (is_some self.old.side) self.old.left_out
+            self.old.frames.items then self.old.frames.items else []) }
+        ensures left_out { self.new.left_out ≡ (if is_left is_late (is_some self.old.side) self.old.left_out
+            self.old.frames.items then self.old.left_out else 0) }
     {
         let stays = !is_late && self.may_wait();
         let asked = Asked {
@@ -216,16 +236,17 @@ impl<T: Drop, C: Drop> QueueState<T, C> {
         };
         if !stays {
             mem::swap(&mut self.frames, frames);
+            self.left_out = 0;
         }
         asked
     }
 }
 
-// Whether they are Acks alone, fewer than are sent without other frames.
-fn are_few_acks(frames: &[Outgoing]) -> bool
-    ensures { result ≡ are_few_acks frames.now }
+// Whether they are Acks alone, and with this many that were left out fewer than are sent without other frames.
+fn are_few_acks(left_out: usize, frames: &[Outgoing]) -> bool
+    ensures { result ≡ are_few_acks left_out frames.now }
 {
-    frames.len() < ACKS_AT_ONCE && are_acks(frames)
+    frames.len() < ACKS_AT_ONCE && left_out < ACKS_AT_ONCE - frames.len() && are_acks(frames)
 }
 
 // Whether they are Acks alone.

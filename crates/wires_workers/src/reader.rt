@@ -62,6 +62,8 @@ struct Received {
     heard: u8,
     // How many events are handed in next, at most.
     most: usize,
+    // Room for these events.
+    events: Vec<Event>,
     // Whether the peer acknowledged a signal that was never offered to it.
     shows_other_history: bool,
 }
@@ -85,7 +87,7 @@ pub fn read<R: Wait + Clock, N: Node, G: Gate, T: Transport, C: Cut>(
     share
 }
 
-// Greets the peer on a new connection, and reads that to its end.
+/// Greets the peer on a new connection, and reads that to its end.
 pub(crate) fn read_connection<R: Wait + Clock, N: Node, G: Gate, T: Transport, C: Cut>(
     rt: &R,
     alloc: Global,
@@ -182,6 +184,7 @@ fn read_begun<R: Wait + Clock, N: Node, G: Gate, T: Transport, C: Cut>(
         heard: frames.version(),
         frames,
         most: AT_ONCE,
+        events: Vec::new(alloc),
         shows_other_history: false,
     };
     let before = share.slips().len();
@@ -252,12 +255,12 @@ fn take_some<R: Wait + Clock, N: Node, G: Gate, T: Transport, C: Cut>(
     ensures heard { received.new.heard ≡ received.new.frames.version }
     ensures peer { received.new.peer ≡ received.old.peer }
 {
-    let mut events = Vec::new(alloc);
+    received.events.clear();
     let step = collect(
         received.peer,
         &mut received.frames,
         received.most,
-        &mut events,
+        &mut received.events,
     );
     let version = received.frames.version();
     if version != received.heard {
@@ -268,7 +271,7 @@ fn take_some<R: Wait + Clock, N: Node, G: Gate, T: Transport, C: Cut>(
         behind,
         shows_other_history,
         ..
-    } = context.take_in(rt, alloc, share, &events);
+    } = context.take_in(rt, alloc, share, &received.events);
     received.most = pace(rt, context, received.peer, behind);
     received.shows_other_history = shows_other_history && context.runner.is_some();
     if received.shows_other_history {

@@ -7,25 +7,35 @@ ghost use Rattle.wires_workers.specs.declared.turns.TheConstants.{TURNS_AT_ONCE}
 
 use crate::retry_state::RetryState;
 use crate::turns::{TURNS_AT_ONCE, Turns};
-use desk::{BatchReply, Locked, Share, Shared, is_done};
+use desk::{BatchReply, DeskGuard, Share, Shared, is_done};
 use node::{Event, Node};
 use node_journal::Batch;
 use std::alloc::Global;
 use std::sync::Wait;
 
+// The frames of one event, mostly: its acknowledgement, and what it makes its node say.
+const FRAMES_OF_EVENT: usize = 2;
+
 /// A desk whose lock a worker holds, and the replies to the steps that it makes there. `Context::leave` ends it: only
 /// there the lock is given up.
 pub(crate) struct Session<'d, N: Node> {
-    pub desk: Locked<'d, N>,
+    pub desk: DeskGuard<'d, N>,
     pub replies: BatchReply,
 }
 
 impl<'d, N: Node> Session<'d, N> {
-    /// Waits for the desk's lock.
-    pub fn begin<R: Wait>(rt: &R, alloc: Global, shared: &'d Shared<N>) -> Session<'d, N> {
+    /// Waits for the desk's lock. Room for the frames of this many events is asked for before that, so that it isn't
+    /// asked for again and again while others wait.
+    pub fn begin<R: Wait>(
+        rt: &R,
+        alloc: Global,
+        shared: &'d Shared<N>,
+        events: usize,
+    ) -> Session<'d, N> {
+        let replies = BatchReply::with_room(alloc, events.saturating_mul(FRAMES_OF_EVENT));
         Session {
             desk: shared.lock(rt),
-            replies: BatchReply::new(alloc),
+            replies,
         }
     }
 

@@ -7,9 +7,9 @@
 //! than a send. The writer does all else: new connections, Acks alone, what goes to a peer that is behind, what comes
 //! while somebody writes, and the end. `queue_state` decides it.
 //!
-//! Of the two locks the pen's is taken first, and the list's is never held over a send. Whoever put frames looks at the
-//! list once more, and where somebody else has the pen notifies the writer, which waits for it: so nothing stays that
-//! nobody looks at.
+//! Of the two locks the active writer's is taken first, and the list's is never held over a send. Whoever put frames
+//! looks at the list once more, and where somebody else writes notifies the writer, which waits for it: so nothing
+//! stays that nobody looks at.
 ghost use Rattle.std.specs.Prelude.{◌≡◌, ◌<◌, []};
 
 use crate::queue_state::{Asked, QueueState, Task, is_data};
@@ -30,7 +30,7 @@ use wires_transports::{Cut, Transport};
 pub struct WriterQueue<T: Drop, C: Drop> {
     waiting: Mutex<QueueState<T, C>>,
     // Whoever writes has it. None before the writer begins.
-    pen: Mutex<Option<Pen<T, C>>>,
+    active: Mutex<Option<ActiveWriter<T, C>>>,
     notifier: Sender<()>,
     notifications: Receiver<()>,
     // Whether the writer was notified since it last looked.
@@ -39,7 +39,7 @@ pub struct WriterQueue<T: Drop, C: Drop> {
 
 // A writer, with room for the frames that it is asked to write.
 #[derive(Drop)]
-struct Pen<T: Drop, C: Drop> {
+struct ActiveWriter<T: Drop, C: Drop> {
     writer: Writer<T, C>,
     frames: Vec<Outgoing>,
 }
@@ -50,7 +50,7 @@ impl<T: Drop, C: Drop> WriterQueue<T, C> {
         let (notifier, notifications) = unbounded(alloc)?;
         Ok(WriterQueue {
             waiting: Mutex::new(QueueState::new(alloc)),
-            pen: Mutex::new(None),
+            active: Mutex::new(None),
             notifier,
             notifications,
             is_notified: AtomicBool::new(false),
@@ -85,13 +85,25 @@ impl<T: Drop, C: Drop> WriterQueue<T, C> {
     /// Whether the peer is behind is said of the frames that it hasn't acknowledged. They wait until `send` or the
     /// writer sends them.
     pub fn put<R: Wait>(&self, rt: &R, frames: &[Outgoing], is_behind: bool) {
+        self.put_without(rt, frames, 0, is_behind);
+    }
+
+    /// The same where this many Acks were left out, which these cover: how long Acks alone wait goes by all of them.
+    pub fn put_without<R: Wait>(
+        &self,
+        rt: &R,
+        frames: &[Outgoing],
+        left_out: usize,
+        is_behind: bool,
+    ) {
         let mut waiting = self.waiting.lock(rt);
         if waiting.is_caught_up() {
-            put_all(&mut waiting, frames, is_behind);
+            put_all(&mut waiting, frames, left_out, is_behind);
         } else {
+            // These are few, and Acks among them wait no longer than a little.
             for outgoing in frames {
                 if !is_data(&outgoing.frame) {
-                    put_all(&mut waiting, &[*outgoing], is_behind);
+                    put_all(&mut waiting, &[*outgoing], 0, is_behind);
                 }
             }
         }
@@ -127,22 +139,22 @@ impl<T: Transport, C: Cut> WriterQueue<T, C> {
     pub fn open<R: Wait>(&self, rt: &R, alloc: Global, own: u8)
         requires { 0 < own }
     {
-        let pen = Pen {
+        let active = ActiveWriter {
             writer: Writer::new(alloc, own),
             frames: Vec::new(alloc),
         };
-        let mut place = self.pen.lock(rt);
-        *place = Some(pen);
+        let mut place = self.active.lock(rt);
+        *place = Some(active);
     }
 
     /// Sends what waits, where nobody does and the peer isn't behind; else the writer sends it. Acks alone, while they
     /// are few, wait a little for other frames.
     pub fn send<R: Wait>(&self, rt: &R) {
-        let is_left = match self.pen.try_lock() {
+        let needs_writer = match self.active.try_lock() {
             Some(mut place) => self.leaves_some(rt, &mut place),
             None => self.task(rt) != Task::Leave,
         };
-        if is_left {
+        if needs_writer {
             self.notify(rt);
         }
     }
@@ -155,13 +167,13 @@ impl<T: Transport, C: Cut> WriterQueue<T, C> {
 
     // Writes what waits, if whoever asks is to write it. Returns whether something is left to the writer. All is left
     // to it before it begins, and after its end.
-    fn leaves_some<R: Wait>(&self, rt: &R, place: &mut Option<Pen<T, C>>) -> bool {
+    fn leaves_some<R: Wait>(&self, rt: &R, place: &mut Option<ActiveWriter<T, C>>) -> bool {
         match place {
-            Some(pen) => {
-                pen.frames.clear();
-                match self.take_to_write(rt, &mut pen.frames) {
+            Some(active) => {
+                active.frames.clear();
+                match self.take_to_write(rt, &mut active.frames) {
                     Ok(asked) => {
-                        pen.send(rt, asked);
+                        active.send(rt, asked);
                         false
                     }
                     Err(task) => task == Task::Notify,
@@ -186,12 +198,12 @@ impl<T: Transport, C: Cut> WriterQueue<T, C> {
     /// The writer looks, and sends all that waits, once nobody else does. A few Acks alone stay until it is late,
     /// unless the connection is new. Returns whether the writer is to look again soon.
     pub fn send_all<R: Wait>(&self, rt: &R, is_late: bool) -> bool {
-        let mut pen = self.pen.lock(rt);
-        match &mut *pen {
-            Some(pen) => {
-                pen.frames.clear();
-                let (asked, looks_soon) = self.look_and_take(rt, is_late, &mut pen.frames);
-                pen.send(rt, asked);
+        let mut active = self.active.lock(rt);
+        match &mut *active {
+            Some(active) => {
+                active.frames.clear();
+                let (asked, looks_soon) = self.look_and_take(rt, is_late, &mut active.frames);
+                active.send(rt, asked);
                 looks_soon
             }
             None => false,
@@ -214,14 +226,14 @@ impl<T: Transport, C: Cut> WriterQueue<T, C> {
 
     /// The writer ends what is sent, and lets the connection go: nobody sends any more.
     pub fn finish<R: Wait>(&self, rt: &R) {
-        let mut place = self.pen.lock(rt);
-        if let Some(mut pen) = place.take() {
-            pen.writer.finish(rt);
+        let mut place = self.active.lock(rt);
+        if let Some(mut active) = place.take() {
+            active.writer.finish(rt);
         }
     }
 }
 
-impl<T: Transport, C: Cut> Pen<T, C> {
+impl<T: Transport, C: Cut> ActiveWriter<T, C> {
     // Sends its frames, on the connection that is asked.
     fn send<R: Wait>(&mut self, rt: &R, asked: Asked<T, C>) {
         let Asked { side, peer } = asked;
@@ -235,8 +247,13 @@ impl<T: Transport, C: Cut> Pen<T, C> {
 }
 
 // Puts frames behind those that wait, where there is room for all of them.
-fn put_all<T: Drop, C: Drop>(waiting: &mut QueueState<T, C>, frames: &[Outgoing], is_behind: bool) {
+fn put_all<T: Drop, C: Drop>(
+    waiting: &mut QueueState<T, C>,
+    frames: &[Outgoing],
+    left_out: usize,
+    is_behind: bool,
+) {
     if waiting.has_room(frames.len()) {
-        let _ = waiting.add(frames, is_behind);
+        let _ = waiting.add(frames, left_out, is_behind);
     }
 }

@@ -7,14 +7,14 @@ use Rattle.node_cores.specs.CoordinatorCore.{coordinator_core}
 use Rattle.world_stations.specs.declared.limits.TheConstants.{LINK_ROOM}
 use Rattle.world_stations.specs.declared.step.Step.{Step}
 use Rattle.world_stations.specs.declared.outcome.Outcome.{Outcome}
-use Rattle.world_stations.specs.Federation.{initial_coordinator, initial_member, step_in, IsPlain}
+use Rattle.world_stations.specs.Federation.{initial_coordinator, initial_member, step_in, IsHarmless}
 use Rattle.world_stations.proofs.InOrder.{taken_in_order}
 use Rattle.world_stations.proofs.Late.{nothing_late}
 use Rattle.world_stations.proofs.Rows.{rows_begin, stuck_rows, finished_rows}
-use Rattle.world_stations.proofs.Worlds.{refusals_are_plain}
+use Rattle.world_stations.proofs.Worlds.{refusals_are_harmless}
 use Rattle.world.specs.Invariant.{IsFederation}
 use Rattle.world.specs.World.{WorldView, stations_of, with_steps}
-use Rattle.world.specs.Faithful.{IsFaithful, ArePlain}
+use Rattle.world.specs.Faithful.{IsFaithful, AreHarmless}
 
 pub faithful : (w : WorldView) → IsFederation w → IsFaithful w
 faithful w fit =
@@ -27,14 +27,14 @@ faithful w fit =
       in_order = taken_in_order coordinator_core federate_core (initial_coordinator w.draft) (federate_count w.draft) (initial_member w.draft w.programs w.inputs) LINK_ROOM w.steps;
     }
 
-pub plain : (w : WorldView) → IsFederation w → ArePlain w
-plain w fit before after step is = refusals_are_plain w.draft w.programs w.inputs before step (gives_lawful_with w.draft w.programs w.inputs fit.legal fit.programs_fit fit.inputs_fit)
+pub harmless : (w : WorldView) → IsFederation w → AreHarmless w
+harmless w fit before after step is = refusals_are_harmless w.draft w.programs w.inputs before step (gives_lawful_with w.draft w.programs w.inputs fit.legal fit.programs_fit fit.inputs_fit)
 
 -- nor is the next step refused otherwise
-pub plain_next : (w : WorldView) (step : Step) (o : Outcome) → IsFederation w → o ≡ (step_in (stations_of w) step).outcome → IsPlain o
-plain_next w step o fit told =
-    subst IsPlain (sym told)
-    (refusals_are_plain w.draft w.programs w.inputs w.steps step (gives_lawful_with w.draft w.programs w.inputs fit.legal fit.programs_fit fit.inputs_fit))
+pub harmless_next : (w : WorldView) (step : Step) (o : Outcome) → IsFederation w → o ≡ (step_in (stations_of w) step).outcome → IsHarmless o
+harmless_next w step o fit told =
+    subst IsHarmless (sym told)
+    (refusals_are_harmless w.draft w.programs w.inputs w.steps step (gives_lawful_with w.draft w.programs w.inputs fit.legal fit.programs_fit fit.inputs_fit))
 
 -- through steps the plan stays, with its programs and inputs
 pub still_fit : (w later : WorldView) (steps : List Step) → IsFederation w → later ≡ with_steps w steps → IsFederation later

@@ -6,7 +6,7 @@ use Rattle.node_cores.specs.CoordinatorCore.{coordinator_core}
 use Rattle.world_stations.specs.declared.step.Step.{Step}
 use Rattle.world_stations.specs.Kept.{is_kept}
 use Rattle.world_stations.specs.Taken.{TakesInOrder}
-use Rattle.world_stations.specs.Federation.{initial_world, step_in, IsPlain, TakesNothingLate, IsPrefix, IsWhole}
+use Rattle.world_stations.specs.Federation.{initial_world, step_in, IsHarmless, TakesNothingLate, IsPrefix, IsWhole}
 use Rattle.world_stations.specs.Federation.{IsStuck, IsFinished}
 use Rattle.world.specs.World.{WorldView, stations_of}
 
@@ -28,7 +28,7 @@ pub record IsFaithful (w : WorldView) : Type 0 where
 
 -- no step was refused but for a frame of another incarnation, one ahead of its turn, one at a closed end, or a link
 -- without room
-abbrev pub ArePlain : WorldView → Type 0
-ArePlain w =
+abbrev pub AreHarmless : WorldView → Type 0
+AreHarmless w =
     (before after : List Step) (step : Step) → w.steps ≡ before ++ step ∷ after →
-    IsPlain (step_in (stations_of (record w { steps = before })) step).outcome
+    IsHarmless (step_in (stations_of (record w { steps = before })) step).outcome

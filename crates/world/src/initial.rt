@@ -72,7 +72,7 @@ pub fn new_federate<'a>(
     Ok(Station::new(alloc, federate, ends))
 }
 
-// All federates' stations, by number.
+/// All federates' stations, by number.
 pub(crate) fn new_federates<'a>(
     alloc: Global,
     plan: &'a Plan,

@@ -5,13 +5,13 @@ ghost use Rattle.plan.specs.External.{AreInputsOf};
 ghost use Rattle.plan.specs.Federation.{federate_count};
 ghost use Rattle.reactor_programs.specs.Programs.{AreProgramsOf};
 ghost use Rattle.node_cores.specs.CoordinatorCore.{coordinator_core};
-ghost use Rattle.world_stations.specs.Federation.{step_in, IsPlain, IsStuck};
+ghost use Rattle.world_stations.specs.Federation.{step_in, IsHarmless, IsStuck};
 ghost use Rattle.world_stations.specs.Kept.{is_kept, is_forget};
 ghost use Rattle.world_stations.specs.Taken.{sender};
 ghost use Rattle.world_stations.specs.World.{frames_in, frame_at};
 ghost use Rattle.world.specs.World.{stations_of, with_step, with_steps};
 ghost use Rattle.world.specs.Invariant.{IsFederation};
-ghost use Rattle.world.specs.Faithful.{IsFaithful, ArePlain};
+ghost use Rattle.world.specs.Faithful.{IsFaithful, AreHarmless};
 ghost use Rattle.world.specs.Quiet.{IsQuiet, IsSilent};
 
 use crate::initial::{new_coordinator, new_federates};
@@ -94,7 +94,7 @@ impl<'a> World<'a> {
     pub fn apply(&mut self, step: Step) -> Result<Outcome, Memory>
         ensures done { OnOk result (self.new ≡ with_step self.old step) }
         ensures outcome { IfOk result (λ outcome. outcome ≡ (step_in (stations_of self.old) step).outcome) }
-        ensures plain { IfOk result IsPlain }
+        ensures harmless { IfOk result IsHarmless }
         ensures unchanged { OnErr result (self.new ≡ self.old) }
         ensures faithful { IsFaithful self.new }
     {
@@ -109,7 +109,7 @@ impl<'a> World<'a> {
         ensures done { OnOk result (self.new ≡ with_steps self.old steps.now) }
         ensures refused { OnErr result
             ((n : ℕ) × (n < length steps.now) × (self.new ≡ with_steps self.old (take n steps.now))) }
-        ensures plain { ArePlain self.new }
+        ensures harmless { AreHarmless self.new }
         ensures faithful { IsFaithful self.new }
     {
         // For the prover: through all steps the plan stays legal.

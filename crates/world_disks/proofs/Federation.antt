@@ -27,12 +27,12 @@ use Rattle.world_stations.specs.declared.step.Step.{Step}
 use Rattle.world_stations.specs.World.{Applied, Occurrence, occurrence_of, outcome_of}
 use Rattle.world_stations.specs.Taken.{own_end, number_taken, brought_by, newly_taken}
 use Rattle.world_stations.specs.Kept.{is_forget, is_kept}
-use Rattle.world_stations.specs.Federation.{Federation, initial_world, world_after, step_in, rows_at, IsPlain}
+use Rattle.world_stations.specs.Federation.{Federation, initial_world, world_after, step_in, rows_at, IsHarmless}
 use Rattle.world_stations.specs.Federation.{IsLaterThan, TakesNothingLate, IsPrefix, IsWhole, IsStuck}
 use Rattle.world_stations.proofs.Rows as rows
 use Rattle.world_stations.proofs.Rows.{rows_begin, stuck_rows, finished_rows}
 use Rattle.world_stations.proofs.Late.{nothing_late}
-use Rattle.world_stations.proofs.Worlds.{refusals_are_plain, listed_so}
+use Rattle.world_stations.proofs.Worlds.{refusals_are_harmless, listed_so}
 use Rattle.world_disks.specs.Machine.{StepsAreLocal}
 use Rattle.world_disks.specs.Disks.{Disks, Move, nothing_pending, moved, events_at, replay}
 use Rattle.world_disks.specs.Disks.Move.{Live, Keep, Crash}
@@ -254,19 +254,19 @@ module _ (d : Draft) (programs : List Behaviour) (inputs : List Input) where
               ]
 
       -- what a process refuses
-      pub live_refusals_are_plain : (step : Step) (o : Occurrence) →
+      pub live_refusals_are_harmless : (step : Step) (o : Occurrence) →
           occurrence_of (disks_after d programs inputs moves).world step ≡ Some o →
-          IsPlain (outcome_of (answered_by coordinator_core federate_core
+          IsHarmless (outcome_of (answered_by coordinator_core federate_core
           (live_in (disks_after d programs inputs moves) o.node) o.event))
-      live_refusals_are_plain step o is =
+      live_refusals_are_harmless step o is =
           let up = caught_up o.node in
           let w = world_after d programs inputs up.steps in
-          subst IsPlain
+          subst IsHarmless
           (ap (λ (a : Applied CoordinatorNode FederateNode). a.outcome)
           (does_event coordinator_core federate_core w step o (up.stays step o is))
           ∙ outcome_at coordinator_core federate_core w o.node o.event
           ∙ ap (λ s. outcome_of (answered_by coordinator_core federate_core s o.event)) (sym up.own))
-          (refusals_are_plain d programs inputs up.steps step lawful)
+          (refusals_are_harmless d programs inputs up.steps step lawful)
 
       -- where what disks keep is stuck
       pub kept_stuck_rows : (j : ℕ) → j < federate_count d →

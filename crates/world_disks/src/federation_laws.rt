@@ -16,7 +16,8 @@ ghost use Rattle.node_cores.specs.CoordinatorCore.{CoordinatorNode, coordinator_
 ghost use Rattle.world_stations.specs.declared.step.Step.{Step};
 ghost use Rattle.world_stations.specs.World.{Occurrence, occurrence_of, outcome_of};
 ghost use Rattle.world_stations.specs.Kept.{is_forget};
-ghost use Rattle.world_stations.specs.Federation.{initial_world, world_after, IsPlain, IsLaterThan, TakesNothingLate};
+ghost use Rattle.world_stations.specs.Federation.{initial_world, world_after, IsHarmless, IsLaterThan};
+ghost use Rattle.world_stations.specs.Federation.{TakesNothingLate};
 ghost use Rattle.world_stations.specs.Federation.{IsPrefix, IsWhole, IsStuck};
 ghost use Rattle.world_disks.specs.Disks.{Move, events_at, replay};
 ghost use Rattle.world_disks.specs.Disks.Move.{Live, Keep, Crash};
@@ -84,7 +85,7 @@ pub fn no_process_refuses_a_signal()
     ensures { (d : Draft) (programs : List Behaviour) (inputs : List Input) (moves : List Move) (step : Step)
         (o : Occurrence) → IsLegal d → AreProgramsOf d programs → AreInputsOf d inputs →
         occurrence_of (disks_after d programs inputs moves).world step ≡ Some o →
-        IsPlain (outcome_of (answered_by coordinator_core federate_core
+        IsHarmless (outcome_of (answered_by coordinator_core federate_core
         (live_in (disks_after d programs inputs moves) o.node) o.event)) }
 {}
 

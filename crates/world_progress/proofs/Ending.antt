@@ -6,7 +6,7 @@ use Rattle.tag.specs.LogicalTime.{LogicalTime, forever, is_at_most, is_same, is_
 use Rattle.network.specs.Connection.{Connection}
 use Rattle.network.specs.Network.{Network}
 use Rattle.network.specs.Lawful.{IsLawful}
-use Rattle.network.specs.Tables.{Table, IsTable}
+use Rattle.network.specs.Tables.{Table, IsAtMostEveryPath}
 use Rattle.signal.specs.declared.signal.Signal.{Signal}
 use Rattle.signal.specs.declared.signal.Signal.TheVariants.{Net, Ltc, Tag, Msg}
 use Rattle.protocol.specs.declared.refusal.Refusal.{Refusal}
@@ -142,7 +142,7 @@ nothing_to_do members i rest Nothing false kept f e = refl
 nothing_to_do members i rest (Done made) false kept f e = cc
 
 -- so all are stuck
-pub stuck_where_quiet : (n : Network) (table : Table) (rules : ℕ → Rule) → IsLawful n → IsTable n table → ((k : ℕ) → IsSafeRule n table (rules k)) → (moves : List Move) → AreOfMembers n moves → NothingDoes n rules moves → (j : ℕ) → j < n.reactors → IsStuck n j (after_moves n rules moves j)
+pub stuck_where_quiet : (n : Network) (table : Table) (rules : ℕ → Rule) → IsLawful n → IsAtMostEveryPath n table → ((k : ℕ) → IsSafeRule n table (rules k)) → (moves : List Move) → AreOfMembers n moves → NothingDoes n rules moves → (j : ℕ) → j < n.reactors → IsStuck n j (after_moves n rules moves j)
 stuck_where_quiet n table rules lawful facts safe moves there quiet j l =
     let M = after_moves n rules moves in
     let kept = nobody_lost n rules moves there j in
@@ -217,17 +217,17 @@ falls : (left next taken : ℕ) (done : Bool) → where_so done 1 + (where_so do
 falls left next taken true h e = omega arith
 falls left next taken false h e = cc
 
-left_falls : (n : Network) (table : Table) (rules : ℕ → Rule) → IsLawful n → IsTable n table → ((k : ℕ) → IsSafeRule n table (rules k)) → ((k : ℕ) → IsSparing (rules k)) → (moves : List Move) (g : GoesOn n rules moves) → left_of n (after_moves n rules (g.move ∷ moves)) < left_of n (after_moves n rules moves)
+left_falls : (n : Network) (table : Table) (rules : ℕ → Rule) → IsLawful n → IsAtMostEveryPath n table → ((k : ℕ) → IsSafeRule n table (rules k)) → ((k : ℕ) → IsSparing (rules k)) → (moves : List Move) (g : GoesOn n rules moves) → left_of n (after_moves n rules (g.move ∷ moves)) < left_of n (after_moves n rules moves)
 left_falls n table rules lawful facts safe sparing moves g =
     let M = after_moves n rules moves in
     let o = outcome_after n rules moves g.move in
     let cost = move_costs n table rules lawful facts safe sparing moves g.move g.there in
     falls (left_of n M) (left_of n (made_or M o)) (takes g.move) (is_done o) (made_costs n (takes g.move) M o cost) g.done
 
-ends_here : (n : Network) (table : Table) (rules : ℕ → Rule) → IsLawful n → IsTable n table → ((k : ℕ) → IsSafeRule n table (rules k)) → (most : ℕ) (moves : List Move) → AreOfMembers n moves → NothingDoes n rules moves → EndsStuck n rules moves most
+ends_here : (n : Network) (table : Table) (rules : ℕ → Rule) → IsLawful n → IsAtMostEveryPath n table → ((k : ℕ) → IsSafeRule n table (rules k)) → (most : ℕ) (moves : List Move) → AreOfMembers n moves → NothingDoes n rules moves → EndsStuck n rules moves most
 ends_here n table rules lawful facts safe most moves there quiet = record { more = []; there = there; few = omega arith; stuck = stuck_where_quiet n table rules lawful facts safe moves there quiet }
 
-ends : (n : Network) (table : Table) (rules : ℕ → Rule) → IsLawful n → IsTable n table → ((k : ℕ) → IsSafeRule n table (rules k)) → ((k : ℕ) → IsSparing (rules k)) → (most : ℕ) (moves : List Move) → AreOfMembers n moves → left_of n (after_moves n rules moves) ≤ most → EndsStuck n rules moves most
+ends : (n : Network) (table : Table) (rules : ℕ → Rule) → IsLawful n → IsAtMostEveryPath n table → ((k : ℕ) → IsSafeRule n table (rules k)) → ((k : ℕ) → IsSparing (rules k)) → (most : ℕ) (moves : List Move) → AreOfMembers n moves → left_of n (after_moves n rules moves) ≤ most → EndsStuck n rules moves most
 ends n table rules lawful facts safe sparing zero moves there few = elim (goes_on n rules moves) [
   | inl quiet ↦ ends_here n table rules lawful facts safe zero moves there quiet
   | inr g ↦ (let less = left_falls n table rules lawful facts safe sparing moves g in absurd (omega arith))
@@ -239,7 +239,7 @@ ends n table rules lawful facts safe sparing (suc most) moves there few = elim (
       one_more n rules moves g.move most (ends n table rules lawful facts safe sparing most (g.move ∷ moves) (g.there, there) (omega arith)))
 ]
 
-pub runs_end : (n : Network) (table : Table) (rules : ℕ → Rule) → IsLawful n → IsTable n table → ((k : ℕ) → IsSafeRule n table (rules k)) → ((k : ℕ) → IsSparing (rules k)) → (moves : List Move) → AreOfMembers n moves → EndsStuck n rules moves (fuel_of n)
+pub runs_end : (n : Network) (table : Table) (rules : ℕ → Rule) → IsLawful n → IsAtMostEveryPath n table → ((k : ℕ) → IsSafeRule n table (rules k)) → ((k : ℕ) → IsSparing (rules k)) → (moves : List Move) → AreOfMembers n moves → EndsStuck n rules moves (fuel_of n)
 runs_end n table rules lawful facts safe sparing moves there =
     let all = spent n table rules lawful facts safe sparing moves there in
     ends n table rules lawful facts safe sparing (fuel_of n) moves there (omega arith)

@@ -12,7 +12,7 @@ use Rattle.plan_network.specs.Network.{network_of}
 use Rattle.protocol.specs.Machine.{Member, Move}
 use Rattle.node.specs.Step.{Station}
 use Rattle.node_cores.specs.FederateCore.{FederateNode}
-use Rattle.link_laws.specs.Way.{offered_in}
+use Rattle.link_laws.specs.Direction.{offered_in}
 use Rattle.link_laws.specs.Link.{Side, Link}
 use Rattle.link_laws.proofs.Places.{length_of_rest}
 use Rattle.link_laws.proofs.Taken.{last_is_offered}

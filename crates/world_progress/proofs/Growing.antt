@@ -12,7 +12,8 @@ use Rattle.link.specs.declared.arrival.Arrival.{Arrival}
 use Rattle.link.specs.declared.arrival.Arrival.TheVariants as arrival
 use Rattle.link.specs.declared.fault.LinkFault.{LinkFault}
 use Rattle.link.specs.Image.{last_number, answer_of, after_frame, ack_of, hello_of, resent_by}
-use Rattle.link_laws.specs.Link.{Side, Link, says, lets_in, hears, gets, greeting, side_after, Act, Gets, Offers, Resends, Greets, Closes, TurnsAway}
+use Rattle.link_laws.specs.Link.{Side, Link, says, admits, hears, gets, greeting, side_after, Act, Gets, Offers}
+use Rattle.link_laws.specs.Link.{Resends, Greets, Closes, TurnsAway}
 use Rattle.world_stations.proofs.Course.{acted}
 use Rattle.world_stations.proofs.Courses.{data_is}
 use Rattle.world_stations.proofs.Site.{in_turn_is}
@@ -40,27 +41,27 @@ grown_on s t u a b =
       sent = b.sent ∙ ap (λ (x : List Frame). x ++ b.more) a.sent ∙ append_assoc s.sent a.more b.more;
     }
 
-lets_grown : (s : Side) (frame : Frame) (arrived : Arrival) (is_taken : Bool) → Grown s (lets_in is_taken s frame arrived)
-lets_grown s (Data k n signal) arrival.Signal true = record { taken = omega arith; acknowledged = omega arith; room = refl; more = ack_of (after_frame s.end (Data k n signal)) ∷ []; sent = refl }
-lets_grown s (Data k n signal) arrival.Signal false = unchanged_grown s
-lets_grown s (Data k n signal) arrival.Repeated true = record { taken = omega arith; acknowledged = omega arith; room = refl; more = ack_of s.end ∷ []; sent = refl }
-lets_grown s (Data k n signal) arrival.Repeated false = record { taken = omega arith; acknowledged = omega arith; room = refl; more = ack_of s.end ∷ []; sent = refl }
-lets_grown s (Data k n signal) arrival.Acked true = record { taken = omega arith; acknowledged = omega arith; room = refl; more = ack_of s.end ∷ []; sent = refl }
-lets_grown s (Data k n signal) arrival.Acked false = record { taken = omega arith; acknowledged = omega arith; room = refl; more = ack_of s.end ∷ []; sent = refl }
-lets_grown s (Data k n signal) arrival.Resume true = record { taken = omega arith; acknowledged = omega arith; room = refl; more = ack_of s.end ∷ []; sent = refl }
-lets_grown s (Data k n signal) arrival.Resume false = record { taken = omega arith; acknowledged = omega arith; room = refl; more = ack_of s.end ∷ []; sent = refl }
-lets_grown s (Data k n signal) arrival.Closed true = record { taken = omega arith; acknowledged = omega arith; room = refl; more = ack_of s.end ∷ []; sent = refl }
-lets_grown s (Data k n signal) arrival.Closed false = record { taken = omega arith; acknowledged = omega arith; room = refl; more = ack_of s.end ∷ []; sent = refl }
-lets_grown s (Hello hello) arrived is_taken = record { taken = omega arith; acknowledged = omega arith; room = refl; more = resent_by (after_frame s.end (Hello hello)); sent = refl }
-lets_grown s (Ack k n) arrived is_taken = record { taken = omega arith; acknowledged = omega arith; room = refl; more = []; sent = sym (append-nil s.sent) }
-lets_grown s (Refuse k n) arrived is_taken = record { taken = omega arith; acknowledged = omega arith; room = refl; more = []; sent = sym (append-nil s.sent) }
+admits_grown : (s : Side) (frame : Frame) (arrived : Arrival) (is_taken : Bool) → Grown s (admits is_taken s frame arrived)
+admits_grown s (Data k n signal) arrival.Signal true = record { taken = omega arith; acknowledged = omega arith; room = refl; more = ack_of (after_frame s.end (Data k n signal)) ∷ []; sent = refl }
+admits_grown s (Data k n signal) arrival.Signal false = unchanged_grown s
+admits_grown s (Data k n signal) arrival.Repeated true = record { taken = omega arith; acknowledged = omega arith; room = refl; more = ack_of s.end ∷ []; sent = refl }
+admits_grown s (Data k n signal) arrival.Repeated false = record { taken = omega arith; acknowledged = omega arith; room = refl; more = ack_of s.end ∷ []; sent = refl }
+admits_grown s (Data k n signal) arrival.Acked true = record { taken = omega arith; acknowledged = omega arith; room = refl; more = ack_of s.end ∷ []; sent = refl }
+admits_grown s (Data k n signal) arrival.Acked false = record { taken = omega arith; acknowledged = omega arith; room = refl; more = ack_of s.end ∷ []; sent = refl }
+admits_grown s (Data k n signal) arrival.Resume true = record { taken = omega arith; acknowledged = omega arith; room = refl; more = ack_of s.end ∷ []; sent = refl }
+admits_grown s (Data k n signal) arrival.Resume false = record { taken = omega arith; acknowledged = omega arith; room = refl; more = ack_of s.end ∷ []; sent = refl }
+admits_grown s (Data k n signal) arrival.Closed true = record { taken = omega arith; acknowledged = omega arith; room = refl; more = ack_of s.end ∷ []; sent = refl }
+admits_grown s (Data k n signal) arrival.Closed false = record { taken = omega arith; acknowledged = omega arith; room = refl; more = ack_of s.end ∷ []; sent = refl }
+admits_grown s (Hello hello) arrived is_taken = record { taken = omega arith; acknowledged = omega arith; room = refl; more = resent_by (after_frame s.end (Hello hello)); sent = refl }
+admits_grown s (Ack k n) arrived is_taken = record { taken = omega arith; acknowledged = omega arith; room = refl; more = []; sent = sym (append-nil s.sent) }
+admits_grown s (Refuse k n) arrived is_taken = record { taken = omega arith; acknowledged = omega arith; room = refl; more = []; sent = sym (append-nil s.sent) }
 
 gets_grown : (s : Side) (o : Option Frame) (is_taken : Bool) → Grown s (gets is_taken s o)
 gets_grown s None is_taken = unchanged_grown s
 gets_grown s (Some frame) is_taken = by_answer (answer_of s.end frame)
   where
     by_answer : (r : Result Arrival LinkFault) → Grown s (hears is_taken s frame r)
-    by_answer (Ok arrived) = lets_grown s frame arrived is_taken
+    by_answer (Ok arrived) = admits_grown s frame arrived is_taken
     by_answer (Err fault) = unchanged_grown s
 
 offers_grown : (s : Side) (signals : List Signal) (b : Bool) → Grown s (if b then s else record { end = record s.end { kept = s.end.kept ++ signals }; sent = s.sent ++ numbered s.end.incarnation (last_number s.end + 1) signals; took = s.took })
@@ -83,12 +84,12 @@ acts_grown s coming [] = unchanged_grown s
 acts_grown s coming (act ∷ rest) = grown_on s (side_after s coming act) (acted (side_after s coming act) coming rest) (act_grown s coming act) (acts_grown (side_after s coming act) coming rest)
 
 -- at most one signal is taken of a frame
-lets_one : (s : Side) (frame : Frame) (arrived : Arrival) → answer_of s.end frame ≡ Ok arrived → (lets_in true s frame arrived).end.taken ≤ s.end.taken + 1
-lets_one s (Hello hello) arrived is = omega arith
-lets_one s (Ack k n) arrived is = omega arith
-lets_one s (Refuse k n) arrived is = omega arith
-lets_one s (Data k n signal) arrived is =
-    let P : Arrival → Type 0 = λ a. (lets_in true s (Data k n signal) a).end.taken ≤ s.end.taken + 1 in
+admits_one : (s : Side) (frame : Frame) (arrived : Arrival) → answer_of s.end frame ≡ Ok arrived → (admits true s frame arrived).end.taken ≤ s.end.taken + 1
+admits_one s (Hello hello) arrived is = omega arith
+admits_one s (Ack k n) arrived is = omega arith
+admits_one s (Refuse k n) arrived is = omega arith
+admits_one s (Data k n signal) arrived is =
+    let P : Arrival → Type 0 = λ a. (admits true s (Data k n signal) a).end.taken ≤ s.end.taken + 1 in
     let Q : Arrival → Type 0 = λ a. answer_of s.end (Data k n signal) ≡ Ok a in
     elim (data_is s.end k n signal arrived is) [
       | inl old ↦ (let least = old.1 in let same : max s.end.taken n ≤ s.end.taken + 1 = omega arith in subst P (sym old.0) same)
@@ -104,7 +105,7 @@ gets_one s None = omega arith
 gets_one s (Some frame) = by_answer (answer_of s.end frame) refl
   where
     by_answer : (r : Result Arrival LinkFault) → answer_of s.end frame ≡ r → (hears true s frame r).end.taken ≤ s.end.taken + 1
-    by_answer (Ok arrived) is = lets_one s frame arrived is
+    by_answer (Ok arrived) is = admits_one s frame arrived is
     by_answer (Err fault) is = omega arith
 
 act_takes : (s : Side) (coming : List Frame) (act : Act) → (side_after s coming act).end.taken ≤ s.end.taken + count_taking (act ∷ [])

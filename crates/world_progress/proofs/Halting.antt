@@ -91,9 +91,9 @@ empty_of (signal ∷ rest) e = absurd (omega arith)
 module _ (d : Draft) (programs : List Behaviour) (inputs : List Input) (legal : IsLegal d) (lawful : IsLawfulWith (network_of d programs inputs) (least_of d)) (small : fuel_of (network_of d programs inputs) < 2 ^ 63) where
   -- a federate takes its next signal, as it sends nothing then
   takes_down_at : (v : Federation) (s : Reached d programs inputs v) (j : ℕ) → j < federate_count d → Takes d programs inputs v s (Down j)
-  takes_down_at v s j below w r same place n signal found in_turn plain =
+  takes_down_at v s j below w r same place n signal found in_turn harmless =
       let at = r.run.shown.each j below in
-      taken_by_federate d programs inputs w r j place 1 n signal at.station at.there below found in_turn (λ m does. room m does) plain
+      taken_by_federate d programs inputs w r j place 1 n signal at.station at.there below found in_turn (λ m does. room m does) harmless
     where
       room : (m : Made FederateNode) → federate_core.accept (r.run.shown.each j below).station.node 0 signal ≡ machine.Done m → lacks_room (r.run.shown.each j below).station.ends m.sent ≡ false
       room m does =
@@ -111,10 +111,10 @@ module _ (d : Draft) (programs : List Behaviour) (inputs : List Input) (legal : 
 
   -- the coordinator takes its next signal, where its ends keep nothing
   takes_up_at : (v : Federation) (s : Reached d programs inputs v) → ((j : ℕ) → j < federate_count d → length (s.links j).first.end.kept ≡ 0) → (j : ℕ) → j < federate_count d → Takes d programs inputs v s (Up j)
-  takes_up_at v s none j below w r same place n signal found in_turn plain =
+  takes_up_at v s none j below w r same place n signal found in_turn harmless =
       taken_by_coordinator d programs inputs w r j place 1 n signal below found in_turn
       (λ m does. coordinator_fits d programs inputs w.coordinator.node w.coordinator.ends j signal m r.run.draft does
-      (room_at_coordinator d programs inputs w r small (λ k l. kept_same d programs inputs v s w r (Down k) l same ∙ none k l))) plain
+      (room_at_coordinator d programs inputs w r small (λ k l. kept_same d programs inputs v s w r (Down k) l same ∙ none k l))) harmless
 
   -- a world whose ends keep nothing, and whose federates have nothing to announce or to run, is stuck
   settled_at : (w : Federation) (s : Reached d programs inputs w) → ((j : ℕ) → j < federate_count d → length (s.links j).first.end.kept ≡ 0) → ((j : ℕ) → j < federate_count d → length (s.links j).second.end.kept ≡ 0) → (dir : Dir) → All (IsSettled w dir) (frames_in w dir)

@@ -24,7 +24,9 @@ use Rattle.node.specs.declared.node_id.NodeId.TheVariants.{Coordinator, Federate
 use Rattle.node.specs.Numbers.{closes}
 use Rattle.node.specs.Mail.{Mail, all_posted, bare, lacks_room}
 use Rattle.node.specs.Core.{Core, Made, LacksRoom, Moves, ending_of}
-use Rattle.node.specs.Step.{Station, Answer, Silent, Says, Declines, Stepped, addressed, answer_with, received, received_at, refused, takes, acknowledging, returned, changes, noted, lets_in, comes, frame_comes, resends, step_of}
+use Rattle.node.specs.Step.{Station, Answer, Silent, Says, Declines, Stepped, addressed, answer_with, received}
+use Rattle.node.specs.Step.{received_at, refused, takes, acknowledging, returned, changes, noted, admits, comes}
+use Rattle.node.specs.Step.{frame_comes, resends, step_of}
 use Rattle.node.proofs.Posts.{all_posted_bare, bare_at}
 use Rattle.node_cores.specs.FederateCore.{FederateNode, federate_core}
 use Rattle.node_cores.specs.CoordinatorCore.{CoordinatorNode, coordinator_core}
@@ -33,9 +35,9 @@ use Rattle.world_stations.specs.declared.dir.Dir.TheVariants.{Up, Down}
 use Rattle.world_stations.specs.declared.step.Step.TheVariants.{Deliver, Resend}
 use Rattle.world_stations.specs.World.{frames_in, federate_of, delivered, Occurrence, if_there, frames_of, sent_out, Applied, after_coordinator, after_federate, at_federate, happens, outcome_of}
 use Rattle.world_stations.specs.Taken.{own_end, receiver, sender}
-use Rattle.world_stations.specs.Federation.{Federation, IsPlain, is_plain, step_in}
+use Rattle.world_stations.specs.Federation.{Federation, IsHarmless, is_harmless, step_in}
 use Rattle.world_stations.proofs.Posting.{frames_to, to_itself}
-use Rattle.world_stations.proofs.Course.{IsPlainAnswer}
+use Rattle.world_stations.proofs.Course.{IsHarmlessAnswer}
 use Rattle.world_stations.proofs.Courses.{frames_with, some_of}
 use Rattle.world_stations.proofs.Shown.{got, sent_out_at}
 use Rattle.world_progress.proofs.Reached.{Reached}
@@ -74,7 +76,7 @@ frame_at_own : (w : Federation) (j k : ℕ) (s : Station FederateNode) (frame : 
 frame_at_own w j k s frame there found = ap (λ (o : Option Frame). happens coordinator_core federate_core w (delivered (Down j) o)) found ∙ at_own w j s (event.Frame 0 frame) there
 
 -- a station's step at a frame that its end takes in by itself
-comes_at : {View Row : Type 0} (core : Core View Row) (is_coordinator : Bool) (s : Station View) (q : ℕ) (e : Image) (frame : Frame) (arrived : Arrival) → slice_get s.ends q ≡ Some e → answer_of e frame ≡ Ok arrived → step_of core is_coordinator s (event.Frame q frame) ≡ lets_in core s q e frame arrived
+comes_at : {View Row : Type 0} (core : Core View Row) (is_coordinator : Bool) (s : Station View) (q : ℕ) (e : Image) (frame : Frame) (arrived : Arrival) → slice_get s.ends q ≡ Some e → answer_of e frame ≡ Ok arrived → step_of core is_coordinator s (event.Frame q frame) ≡ admits core s q e frame arrived
 comes_at core is_coordinator s q e frame arrived found is = ap (frame_comes core is_coordinator s q frame) found ∙ ap (comes core is_coordinator s q e frame) is
 
 noted_frames : {View : Type 0} (s : Station View) (q : ℕ) (e : Image) (frame : Frame) → frames_of (noted s q e frame).answer ≡ addressed q (returned (after_frame e frame) frame)
@@ -147,20 +149,20 @@ acknowledges d programs inputs w r (Down j) place k n below found is =
 never_true : false ≡ true → ⊥
 never_true e = cc
 
-not_plain : (refusal : Refusal) → IsTrue (is_plain (number_of refusal)) → ⊥
-not_plain Late h = never_true h
-not_plain OldGrant h = never_true h
-not_plain WrongSignal h = never_true h
-not_plain NotYours h = never_true h
-not_plain BelowGrant h = never_true h
-not_plain NotRising h = never_true h
-not_plain AfterStop h = never_true h
-not_plain NotForCoordinator h = never_true h
+not_harmless : (refusal : Refusal) → IsTrue (is_harmless (number_of refusal)) → ⊥
+not_harmless Late h = never_true h
+not_harmless OldGrant h = never_true h
+not_harmless WrongSignal h = never_true h
+not_harmless NotYours h = never_true h
+not_harmless BelowGrant h = never_true h
+not_harmless NotRising h = never_true h
+not_harmless AfterStop h = never_true h
+not_harmless NotForCoordinator h = never_true h
 
-plain_answer : (answer : Answer) → IsPlain (outcome_of answer) → IsPlainAnswer answer
-plain_answer Silent h = tt
-plain_answer (Says frames) h = tt
-plain_answer (Declines number frames) h = h
+harmless_answer : (answer : Answer) → IsHarmless (outcome_of answer) → IsHarmlessAnswer answer
+harmless_answer Silent h = tt
+harmless_answer (Says frames) h = tt
+harmless_answer (Declines number frames) h = h
 
 -- a signal in its turn is taken, where there is room for what the node sends
 record IsRisen (e : Image) (ends : List Image) (q n : ℕ) : Type 0 where
@@ -177,15 +179,15 @@ received_there m q k n signal e y found same =
     }
 
 signal_taken : {View Row : Type 0} (core : Core View Row) (s : Station View) (q k n : ℕ) (signal : Signal) (e : Image) (o : machine.Outcome (Made View)) → slice_get s.ends q ≡ Some e → ((m : Made View) → o ≡ machine.Done m → lacks_room s.ends m.sent ≡ false)
-    → IsPlainAnswer (takes s q e (Data k n signal) (acknowledging s q e (Data k n signal)) (ending_of (acknowledging s q e (Data k n signal)) o)).answer
+    → IsHarmlessAnswer (takes s q e (Data k n signal) (acknowledging s q e (Data k n signal)) (ending_of (acknowledging s q e (Data k n signal)) o)).answer
     → IsRisen e (takes s q e (Data k n signal) (acknowledging s q e (Data k n signal)) (ending_of (acknowledging s q e (Data k n signal)) o)).station.ends q n
-signal_taken core s q k n signal e (machine.Refused refusal) found room plain = absurd (by_closing (closes refusal) plain)
+signal_taken core s q k n signal e (machine.Refused refusal) found room harmless = absurd (by_closing (closes refusal) harmless)
   where
-    by_closing : (b : Bool) → IsPlainAnswer (refused s q e (number_of refusal) b).answer → ⊥
-    by_closing true h = not_plain refusal h
-    by_closing false h = not_plain refusal h
-signal_taken core s q k n signal e machine.Nothing found room plain = received_there (acknowledging s q e (Data k n signal)) q k n signal e e found refl
-signal_taken core s q k n signal e (machine.Done m) found room plain =
+    by_closing : (b : Bool) → IsHarmlessAnswer (refused s q e (number_of refusal) b).answer → ⊥
+    by_closing true h = not_harmless refusal h
+    by_closing false h = not_harmless refusal h
+signal_taken core s q k n signal e machine.Nothing found room harmless = received_there (acknowledging s q e (Data k n signal)) q k n signal e e found refl
+signal_taken core s q k n signal e (machine.Done m) found room harmless =
     let none = room m refl in
     let mail = all_posted (acknowledging s q e (Data k n signal)) m.sent in
     let at = bare_at s.ends (all_posted (acknowledging s q e (Data k n signal)) m.sent).ends (sym (all_posted_bare (acknowledging s q e (Data k n signal)) m.sent)) q e found in
@@ -193,12 +195,12 @@ signal_taken core s q k n signal e (machine.Done m) found room plain =
     subst P (sym none) (received_there (all_posted (acknowledging s q e (Data k n signal)) m.sent) q k n signal e at.0 at.1 at.2)
 
 in_turn_taken : {View Row : Type 0} (core : Core View Row) (is_coordinator : Bool) (s : Station View) (q k n : ℕ) (signal : Signal) (e : Image) → slice_get s.ends q ≡ Some e → answer_of e (Data k n signal) ≡ Ok arrival.Signal → ((m : Made View) → core.accept s.node q signal ≡ machine.Done m → lacks_room s.ends m.sent ≡ false)
-    → IsPlainAnswer (step_of core is_coordinator s (event.Frame q (Data k n signal))).answer → IsRisen e (step_of core is_coordinator s (event.Frame q (Data k n signal))).station.ends q n
-in_turn_taken {View = View} core is_coordinator s q k n signal e found is room plain =
+    → IsHarmlessAnswer (step_of core is_coordinator s (event.Frame q (Data k n signal))).answer → IsRisen e (step_of core is_coordinator s (event.Frame q (Data k n signal))).station.ends q n
+in_turn_taken {View = View} core is_coordinator s q k n signal e found is room harmless =
     let step = comes_at core is_coordinator s q e (Data k n signal) arrival.Signal found is in
-    let P : Stepped View → Type 0 = λ x. IsPlainAnswer x.answer in
+    let P : Stepped View → Type 0 = λ x. IsHarmlessAnswer x.answer in
     let Q : Stepped View → Type 0 = λ x. IsRisen e x.station.ends q n in
-    subst Q (sym step) (signal_taken core s q k n signal e (core.accept s.node q signal) found room (subst P step plain))
+    subst Q (sym step) (signal_taken core s q k n signal e (core.accept s.node q signal) found room (subst P step harmless))
 
 -- what is taken is more by then
 pub record IsTaken (w : Federation) (dir : Dir) (e : Image) (n : ℕ) : Type 0 where
@@ -207,13 +209,13 @@ pub record IsTaken (w : Federation) (dir : Dir) (e : Image) (n : ℕ) : Type 0 w
   pub taken : end.taken ≡ max e.taken n
 
 pub taken_by_coordinator : (d : Draft) (programs : List Behaviour) (inputs : List Input) (w : Federation) (r : Reached d programs inputs w) (j place k n : ℕ) (signal : Signal) → j < federate_count d → slice_get (frames_in w (Up j)) place ≡ Some (Data k n signal) → answer_of (r.links j).first.end (Data k n signal) ≡ Ok arrival.Signal
-    → ((m : Made CoordinatorNode) → coordinator_core.accept w.coordinator.node j signal ≡ machine.Done m → lacks_room w.coordinator.ends m.sent ≡ false) → IsPlain (step_in w (Deliver (Up j) (suc place))).outcome → IsTaken (step_in w (Deliver (Up j) (suc place))).world (Up j) (r.links j).first.end n
-taken_by_coordinator d programs inputs w r j place k n signal below found is room plain =
+    → ((m : Made CoordinatorNode) → coordinator_core.accept w.coordinator.node j signal ≡ machine.Done m → lacks_room w.coordinator.ends m.sent ≡ false) → IsHarmless (step_in w (Deliver (Up j) (suc place))).outcome → IsTaken (step_in w (Deliver (Up j) (suc place))).world (Up j) (r.links j).first.end n
+taken_by_coordinator d programs inputs w r j place k n signal below found is room harmless =
     let at = r.run.shown.each j below in
     let does = frame_at_coordinator w j place (Data k n signal) found in
-    let P : Applied CoordinatorNode FederateNode → Type 0 = λ x. IsPlain x.outcome in
+    let P : Applied CoordinatorNode FederateNode → Type 0 = λ x. IsHarmless x.outcome in
     let made = step_of coordinator_core true w.coordinator (event.Frame j (Data k n signal)) in
-    let risen = in_turn_taken coordinator_core true w.coordinator j k n signal (r.links j).first.end at.first is room (plain_answer (step_of coordinator_core true w.coordinator (event.Frame j (Data k n signal))).answer (subst P does plain)) in
+    let risen = in_turn_taken coordinator_core true w.coordinator j k n signal (r.links j).first.end at.first is room (harmless_answer (step_of coordinator_core true w.coordinator (event.Frame j (Data k n signal))).answer (subst P does harmless)) in
     record {
       end = risen.end;
       receiving = ap (λ (x : Applied CoordinatorNode FederateNode). receiver x.world (Up j)) does ∙ risen.found;
@@ -221,15 +223,15 @@ taken_by_coordinator d programs inputs w r j place k n signal below found is roo
     }
 
 pub taken_by_federate : (d : Draft) (programs : List Behaviour) (inputs : List Input) (w : Federation) (r : Reached d programs inputs w) (j place k n : ℕ) (signal : Signal) (s : Station FederateNode) → slice_get w.federates j ≡ Some s → j < federate_count d → slice_get (frames_in w (Down j)) place ≡ Some (Data k n signal) → answer_of (r.links j).second.end (Data k n signal) ≡ Ok arrival.Signal
-    → ((m : Made FederateNode) → federate_core.accept s.node 0 signal ≡ machine.Done m → lacks_room s.ends m.sent ≡ false) → IsPlain (step_in w (Deliver (Down j) (suc place))).outcome → IsTaken (step_in w (Deliver (Down j) (suc place))).world (Down j) (r.links j).second.end n
-taken_by_federate d programs inputs w r j place k n signal s there below found is room plain =
+    → ((m : Made FederateNode) → federate_core.accept s.node 0 signal ≡ machine.Done m → lacks_room s.ends m.sent ≡ false) → IsHarmless (step_in w (Deliver (Down j) (suc place))).outcome → IsTaken (step_in w (Deliver (Down j) (suc place))).world (Down j) (r.links j).second.end n
+taken_by_federate d programs inputs w r j place k n signal s there below found is room harmless =
     let at = r.run.shown.each j below in
     let same : at.station ≡ s = some_of at.station s (sym at.there ∙ there) in
     let E : Station FederateNode → Type 0 = λ x. slice_get x.ends 0 ≡ Some (r.links j).second.end in
     let place_of = subst E same (own_place d programs inputs w r j below) in
     let does = frame_at_own w j place s (Data k n signal) there found in
-    let P : Applied CoordinatorNode FederateNode → Type 0 = λ x. IsPlain x.outcome in
-    let risen = in_turn_taken federate_core false s 0 k n signal (r.links j).second.end place_of is room (plain_answer (step_of federate_core false s (event.Frame 0 (Data k n signal))).answer (subst P does plain)) in
+    let P : Applied CoordinatorNode FederateNode → Type 0 = λ x. IsHarmless x.outcome in
+    let risen = in_turn_taken federate_core false s 0 k n signal (r.links j).second.end place_of is room (harmless_answer (step_of federate_core false s (event.Frame 0 (Data k n signal))).answer (subst P does harmless)) in
     record {
       end = risen.end;
       receiving = ap (λ (x : Applied CoordinatorNode FederateNode). receiver x.world (Down j)) does ∙ ap own_end (get_set_here w.federates j s (step_of federate_core false s (event.Frame 0 (Data k n signal))).station there) ∙ risen.found;

@@ -5,7 +5,7 @@ use Rattle.std.proofs.lemmas.Bool.{eqb-true, eq-eqb}
 use Rattle.tag.specs.LogicalTime.{place}
 use Rattle.network.specs.Network.{Network}
 use Rattle.network.specs.Lawful.{IsLawful}
-use Rattle.network.specs.Tables.{Table, IsTable}
+use Rattle.network.specs.Tables.{Table, IsAtMostEveryPath}
 use Rattle.network.specs.Undivided.{Row, whole, part}
 use Rattle.signal.specs.declared.signal.Signal.{Signal}
 use Rattle.protocol.specs.Outcome.{Outcome, Refused, Nothing, Done, made_or, with_made}
@@ -68,7 +68,7 @@ few_rows all rows rest e =
     let same : length all ≡ length (rows ++ rest) = ap length e in
     omega arith
 
-rows_within : (n : Network) (table : Table) (rules : ℕ → Rule) (moves : List Move) (i : ℕ) (made : Stepped) → IsLawful n → IsTable n table → ((k : ℕ) → IsSafeRule n table (rules k)) → i < n.reactors → (after_moves n rules moves i).lost ≡ false → federate_advances n i (after_moves n rules moves i).federate ≡ Done made → length made.after.rows ≤ rows_of_part n i
+rows_within : (n : Network) (table : Table) (rules : ℕ → Rule) (moves : List Move) (i : ℕ) (made : Stepped) → IsLawful n → IsAtMostEveryPath n table → ((k : ℕ) → IsSafeRule n table (rules k)) → i < n.reactors → (after_moves n rules moves i).lost ≡ false → federate_advances n i (after_moves n rules moves i).federate ≡ Done made → length made.after.rows ≤ rows_of_part n i
 rows_within n table rules moves i made lawful facts safe there kept is =
     let enough : place n.stop * 64 + 64 ≤ enough_turns n = omega arith in
     let begins = rows_begin n table rules lawful facts safe (Advance i ∷ moves) i there (enough_turns n) enough in
@@ -76,7 +76,7 @@ rows_within n table rules moves i made lawful facts safe there kept is =
     subst P (rows_after n rules moves i made kept is) (few_rows (part i (whole n (enough_turns n))) (rows_of_run n rules (Advance i ∷ moves) i) begins.0 begins.1)
 
 -- each move
-pub move_costs : (n : Network) (table : Table) (rules : ℕ → Rule) → IsLawful n → IsTable n table → ((k : ℕ) → IsSafeRule n table (rules k)) → ((k : ℕ) → IsSparing (rules k)) → (moves : List Move) (move : Move) → IsOfMember n move
+pub move_costs : (n : Network) (table : Table) (rules : ℕ → Rule) → IsLawful n → IsAtMostEveryPath n table → ((k : ℕ) → IsSafeRule n table (rules k)) → ((k : ℕ) → IsSparing (rules k)) → (moves : List Move) (move : Move) → IsOfMember n move
     → CostsSo n (1 + takes move) (after_moves n rules moves) (outcome_after n rules moves move)
 move_costs n table rules lawful facts safe sparing moves (ToCoordinator i) there =
     let M = after_moves n rules moves in

@@ -21,7 +21,7 @@ use Rattle.world_stations.specs.declared.limits.TheConstants.{LINK_ROOM}
 use Rattle.world_stations.specs.declared.step.Step.{Step}
 use Rattle.world_stations.specs.World.{does}
 use Rattle.world_stations.specs.Kept.{is_forget}
-use Rattle.world_stations.specs.Federation.{Federation, IsPlain, initial_world, step_in, world_after}
+use Rattle.world_stations.specs.Federation.{Federation, IsHarmless, initial_world, step_in, world_after}
 use Rattle.world_stations.proofs.Moves.{rule_of}
 use Rattle.world_stations.proofs.Runs.{IsRun}
 use Rattle.world_stations.proofs.Shown.{shown_listed}
@@ -101,7 +101,7 @@ pub record Next (d : Draft) (programs : List Behaviour) (inputs : List Input) (w
   pub ahead_falls : ahead d programs inputs (step_in w step).world now ≤ ahead d programs inputs w r
   pub grown : (j : ℕ) → Grown (r.links j).first (now.links j).first × Grown (r.links j).second (now.links j).second
   pub same : ahead d programs inputs w r ≤ ahead d programs inputs (step_in w step).world now → now.moves ≡ r.moves
-  pub plain : IsPlain (step_in w step).outcome
+  pub harmless : IsHarmless (step_in w step).outcome
 
 -- a world is such a one at first
 pub initial_reached : (d : Draft) (programs : List Behaviour) (inputs : List Input) → Reached d programs inputs (initial_world d programs inputs)
@@ -210,7 +210,7 @@ next d programs inputs lawful w r step not_forget =
     let n = network_of d programs inputs in
     let made = does coordinator_core federate_core w step in
     let g = walks d programs inputs w r.links r.moves step lawful not_forget (nobody_lost (network_of d programs inputs) (λ k. rule_of d programs inputs) r.moves r.there) r.run in
-    let plain = (step_goes d programs inputs w r.links r.moves step lawful r.run).plain in
+    let harmless = (step_goes d programs inputs w r.links r.moves step lawful r.run).harmless in
     let run = run_listed d programs inputs made.world g.links (members_after d programs inputs g.moved) (made.world.steps ++ step ∷ []) g.run in
     let is : (step_in w step).world ≡ world_after d programs inputs (r.steps ++ step ∷ []) = ap (λ (x : Federation). (step_in x step).world) r.is ∙ sym (one_more d programs inputs r.steps step) in
     let unforgot = any_more r.steps step r.unforgot not_forget in
@@ -226,7 +226,7 @@ next d programs inputs lawful w r step not_forget =
             ahead_falls = omega arith;
             grown = grown;
             same = λ h. same;
-            plain = plain;
+            harmless = harmless;
           }
       | moves_on move made_then of is_made same acts ↦
           let grown = links_grown r.links g.links (federate_count d) (takes_up move) (takes_down move) acts in
@@ -241,6 +241,6 @@ next d programs inputs lawful w r step not_forget =
             ahead_falls = omega arith;
             grown = grown;
             same = λ h. absurd (omega arith);
-            plain = plain;
+            harmless = harmless;
           }
     ]

@@ -2,7 +2,7 @@
 use Rattle.std.proofs.Common.{◌≡◌, ℕ, ◌+◌, ◌*◌, ◌-◌, ◌≤◌, List, [], ◌∷◌, length, refl, ap, arith}
 use Rattle.network.specs.Network.{Network}
 use Rattle.network.specs.Lawful.{IsLawful}
-use Rattle.network.specs.Tables.{Table, IsTable}
+use Rattle.network.specs.Tables.{Table, IsAtMostEveryPath}
 use Rattle.protocol.specs.Outcome.{Outcome, Refused, Nothing, Done, made_or}
 use Rattle.protocol.specs.Grant.{Rule, IsSafeRule}
 use Rattle.protocol.specs.Machine.{Member, Move, initial_member, after_moves}
@@ -35,7 +35,7 @@ made_costs n taken members (Refused refusal) h = omega arith
 made_costs n taken members Nothing h = omega arith
 made_costs n taken members (Done after) h = omega arith
 
-pub spent : (n : Network) (table : Table) (rules : ℕ → Rule) → IsLawful n → IsTable n table → ((k : ℕ) → IsSafeRule n table (rules k)) → ((k : ℕ) → IsSparing (rules k)) → (moves : List Move) → AreOfMembers n moves
+pub spent : (n : Network) (table : Table) (rules : ℕ → Rule) → IsLawful n → IsAtMostEveryPath n table → ((k : ℕ) → IsSafeRule n table (rules k)) → ((k : ℕ) → IsSparing (rules k)) → (moves : List Move) → AreOfMembers n moves
     → count_done n rules moves + (count_taken n rules moves + left_of n (after_moves n rules moves)) ≤ fuel_of n
 spent n table rules lawful facts safe sparing [] there = let first = initial_left n in omega arith
 spent n table rules lawful facts safe sparing (move ∷ earlier) there =
@@ -44,7 +44,7 @@ spent n table rules lawful facts safe sparing (move ∷ earlier) there =
     let now = made_costs n (takes move) (after_moves n rules earlier) (outcome_after n rules earlier move) cost in
     omega arith
 
-pub few_moves : (n : Network) (table : Table) (rules : ℕ → Rule) → IsLawful n → IsTable n table → ((k : ℕ) → IsSafeRule n table (rules k)) → ((k : ℕ) → IsSparing (rules k)) → (moves : List Move) → AreOfMembers n moves → count_done n rules moves ≤ fuel_of n
+pub few_moves : (n : Network) (table : Table) (rules : ℕ → Rule) → IsLawful n → IsAtMostEveryPath n table → ((k : ℕ) → IsSafeRule n table (rules k)) → ((k : ℕ) → IsSparing (rules k)) → (moves : List Move) → AreOfMembers n moves → count_done n rules moves ≤ fuel_of n
 few_moves n table rules lawful facts safe sparing moves there = let all = spent n table rules lawful facts safe sparing moves there in omega arith
 
 -- what waits is no more than what is left
@@ -59,7 +59,7 @@ waiting_at_most n members =
     queues_at_most (turn_worth n j) (rows_of_part n j - length m.federate.rows) (untold m.federate) (ungranted m.federate_record) (all_worth worth_up m.up) (all_worth worth_down m.down) (length m.up) (length m.down)
     (length_up m.up) (length_down m.down)))
 
-pub few_signals : (n : Network) (table : Table) (rules : ℕ → Rule) → IsLawful n → IsTable n table → ((k : ℕ) → IsSafeRule n table (rules k)) → ((k : ℕ) → IsSparing (rules k)) → (moves : List Move) → AreOfMembers n moves
+pub few_signals : (n : Network) (table : Table) (rules : ℕ → Rule) → IsLawful n → IsAtMostEveryPath n table → ((k : ℕ) → IsSafeRule n table (rules k)) → ((k : ℕ) → IsSparing (rules k)) → (moves : List Move) → AreOfMembers n moves
     → count_taken n rules moves + count_waiting n (after_moves n rules moves) ≤ fuel_of n
 few_signals n table rules lawful facts safe sparing moves there =
     let all = spent n table rules lawful facts safe sparing moves there in

@@ -21,7 +21,7 @@ use Rattle.link_laws.proofs.Taken.{last_is_offered}
 use Rattle.world_stations.specs.declared.dir.Dir.{Dir}
 use Rattle.world_stations.specs.declared.step.Step.TheVariants.{Deliver, Resend}
 use Rattle.world_stations.specs.World.{frames_in, federate_of}
-use Rattle.world_stations.specs.Federation.{Federation, IsPlain, step_in}
+use Rattle.world_stations.specs.Federation.{Federation, IsHarmless, step_in}
 use Rattle.world_stations.proofs.Courses.{some_of}
 use Rattle.world_progress.specs.Rounds.{Playing, with_cursor, sent_in, with_made, delivers, Task, makes, brings, skips, after_task, after_tasks}
 use Rattle.world_progress.proofs.Reached.{Reached, Next}
@@ -40,7 +40,7 @@ pub data Claim (d : Draft) (programs : List Behaviour) (inputs : List Input) (v 
 abbrev pub Takes : (d : Draft) (programs : List Behaviour) (inputs : List Input) (v : Federation) (s : Reached d programs inputs v) (dir : Dir) → Type 0
 Takes d programs inputs v s dir =
     (w : Federation) (r : Reached d programs inputs w) → IsSame d programs inputs v s w r → (place n : ℕ) (signal : Signal) → slice_get (frames_in w dir) place ≡ Some (Data 1 n signal) → answer_of (side_in dir r.links).end (Data 1 n signal) ≡ Ok arrival.Signal
-    → IsPlain (step_in w (Deliver dir (suc place))).outcome → IsTaken (step_in w (Deliver dir (suc place))).world dir (side_in dir r.links).end n
+    → IsHarmless (step_in w (Deliver dir (suc place))).outcome → IsTaken (step_in w (Deliver dir (suc place))).world dir (side_in dir r.links).end n
 
 module _ (d : Draft) (programs : List Behaviour) (inputs : List Input) (lawful : IsLawfulWith (network_of d programs inputs) (least_of d)) (v : Federation) (s : Reached d programs inputs v) (dir : Dir) (below : federate_of dir < federate_count d) (taking : Takes d programs inputs v s dir) where
   abbrev Claims : Bool → Bool → Playing → Type 0
@@ -121,7 +121,7 @@ module _ (d : Draft) (programs : List Behaviour) (inputs : List Input) (lawful :
             let within_taken = at.linked.out.acknowledged_taken in
             let number : (side_out dir s.links).end.acknowledged + 1 ≡ (side_in dir r.links).end.taken + 1 = omega arith in
             let in_turn = next_answer ((side_out dir s.links).end.acknowledged + 1) (side_in dir r.links).end.taken number in
-            let risen = taking w r same place ((side_out dir s.links).end.acknowledged + 1) signal found (answer ∙ in_turn) x.plain in
+            let risen = taking w r same place ((side_out dir s.links).end.acknowledged + 1) signal found (answer ∙ in_turn) x.harmless in
             let after = direction d programs inputs (step_in w (Deliver dir (suc place))).world x.now dir below in
             let one : risen.end ≡ (side_in dir x.now.links).end = some_of risen.end (side_in dir x.now.links).end (sym risen.receiving ∙ after.receiving) in
             let stays_taken = stays.taken dir below in

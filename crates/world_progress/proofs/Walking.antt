@@ -24,7 +24,7 @@ use Rattle.node.specs.Step.{Station, step_of}
 use Rattle.node_cores.specs.FederateCore as of_federate
 use Rattle.node_cores.specs.FederateCore.{FederateNode, federate_core}
 use Rattle.node_cores.specs.CoordinatorCore.{CoordinatorNode, coordinator_core}
-use Rattle.link_laws.specs.Way.{offered_in}
+use Rattle.link_laws.specs.Direction.{offered_in}
 use Rattle.link_laws.specs.Link.{Link, Act, Gets, Offers, Resends, Greets, Closes, TurnsAway}
 use Rattle.link_laws.proofs.Forgotten.{AreOf}
 use Rattle.world_stations.specs.declared.step.Step.{Step}
@@ -184,11 +184,11 @@ walks_at_coordinator d programs inputs w links moves e place c lawful comes run 
     let after : ℕ → Link = with_firsts links (λ p. acted (links p).first (ups_of links p) (c.acts p)) in
     let wired = lawful_is_wired (network_of d programs inputs) lawful.lawful in
     elim c.kind [
-      | quiet node plain acts ↦
+      | quiet node harmless acts ↦
           by_none d programs inputs (after_coordinator w made) links after moves
           (firsts_act links (federate_count d) c.acts (λ j. 0) (λ j. 0) (quiet_counted d programs inputs w links members c.acts acts run))
           (quiet_coordinator d programs inputs w links members e place c node acts run)
-      | takes q m handed node plain acts ↦
+      | takes q m handed node harmless acts ↦
           let placed = place_there w.coordinator.ends q handed.image handed.found in
           let size = run.shown.ends in
           by_move d programs inputs (after_coordinator w made) links after moves (ToCoordinator q) (omega arith)
@@ -198,7 +198,7 @@ walks_at_coordinator d programs inputs w links moves e place c lawful comes run 
       | notes q handed acts ↦
           absurd (coordinator_answers (network_of d programs inputs) (rule_of d programs inputs) (federate_records_of members) q handed.signal
           (nothing_of (coordinator_makes (network_of d programs inputs) w.coordinator.node) _ (sym (coordinator_accepts_listed d programs inputs w.coordinator.node (federate_records_of members) q handed.signal run.draft run.federate_records) ∙ handed.node)))
-      | says m speaks node plain acts ↦ absurd (elim speaks [ announces is does ↦ cc | advances is does ↦ cc ])
+      | says m speaks node harmless acts ↦ absurd (elim speaks [ announces is does ↦ cc | advances is does ↦ cc ])
       | declines q refusal handed acts ↦ absurd (refuses_no d programs inputs moves (ToCoordinator q) refusal lawful (coordinator_refuses d programs inputs w links members e place q refusal comes handed run))
       | cannot refusal speaks acts ↦ absurd (elim speaks [ announces is does ↦ cc | advances is does ↦ cc ])
     ]
@@ -226,20 +226,20 @@ walks_at_federate d programs inputs w links moves j s e place c lawful not_lost 
     let ends = own_ends d programs inputs w links members j s below there run in
     let mine = own_of d programs inputs j (links j) (members_after d programs inputs moves j) s.node not_lost site in
     elim c.kind [
-      | quiet node plain acts ↦
+      | quiet node harmless acts ↦
           let found : slice_get s.ends 0 ≡ Some (links j).second.end = ap (λ (x : List Image). slice_get x 0) ends in
           let still = quiet_second d programs inputs j (links j) (members j) s.node (c.acts 0) (acts 0 (links j).second.end found) site in
           let N : FederateNode → Type 0 = λ x. IsSite d programs inputs j (record { first = (links j).first; second = acted (links j).second (links j).first.sent (c.acts 0) }) (members j) x in
           by_none d programs inputs (after_federate w j made) links _ moves
           (seconds_act links (federate_count d) j (c.acts 0) (λ k. 0) (λ k. 0) (none_taking (c.acts 0) (quiet_none false (links j).second.end.incarnation (c.acts 0) (acts 0 (links j).second.end found))))
           (unmoved d programs inputs w links members j s e place c below there (subst N (sym node) still) run)
-      | takes q m handed node plain acts ↦
+      | takes q m handed node harmless acts ↦
           by_move d programs inputs (after_federate w j made) links _ moves (ToFederate j) below
           (seconds_act links (federate_count d) j (c.acts 0) (takes_up (ToFederate j)) (takes_down (ToFederate j)) (own_counted j (c.acts 0) q place (sent_to 0 m.sent) (acts 0)))
           (kept_takes d programs inputs w links members j s e place q m c below there comes handed node (acts 0) mine.incarnation not_lost mine.node mine.down mine.frames run)
       | notes q handed acts ↦
           absurd (federate_answers n j (members j).federate handed.signal (nothing_of (of_federate.made_by (node_with d programs inputs j (members j).federate)) _ (accepts_as d programs inputs j (members j) s.node q handed.signal Nothing mine.node handed.node)))
-      | says m speaks node_after plain acts ↦
+      | says m speaks node_after harmless acts ↦
           elim speaks [
             | announces is_event does ↦
                 let done = done_of (of_federate.made_by (node_with d programs inputs j (members j).federate)) (federate_announces (members j).federate) m (announces_as d programs inputs j (members j) s.node (Done m) mine.node does) in

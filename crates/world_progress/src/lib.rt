@@ -12,7 +12,7 @@ ghost use Rattle.std.specs.List.{list_any};
 ghost use Rattle.network.specs.Network.{Network};
 ghost use Rattle.network.specs.Lawful.{IsLawful};
 ghost use Rattle.network.specs.Wiring.{IsWired};
-ghost use Rattle.network.specs.Tables.{Table, IsTable};
+ghost use Rattle.network.specs.Tables.{Table, IsAtMostEveryPath};
 ghost use Rattle.network.specs.Undivided.{whole, part};
 ghost use Rattle.network_laws.specs.Settled.{IsEnough};
 ghost use Rattle.signal.specs.declared.signal.Signal.{Signal};
@@ -49,14 +49,14 @@ ghost use Rattle.world_progress.specs.Runs.{count_taken, count_waiting, NothingD
 /// By rules that grant what is safe, and only to who asked for it, only a bounded number of a run's moves do anything.
 /// (Nobody is lost in it.)
 pub fn few_moves_do_anything()
-    ensures { (n : Network) (table : Table) (rules : ℕ → Rule) → IsLawful n → IsTable n table →
+    ensures { (n : Network) (table : Table) (rules : ℕ → Rule) → IsLawful n → IsAtMostEveryPath n table →
         ((move : ℕ) → IsSafeRule n table (rules move)) → ((move : ℕ) → IsSparing (rules move)) →
         (moves : List Move) → AreOfMembers n moves → count_done n rules moves ≤ fuel_of n }
 {}
 
 /// In such a run only a bounded number of signals are sent: those that were taken, and those that wait in a queue.
 pub fn few_signals_are_sent()
-    ensures { (n : Network) (table : Table) (rules : ℕ → Rule) → IsLawful n → IsTable n table →
+    ensures { (n : Network) (table : Table) (rules : ℕ → Rule) → IsLawful n → IsAtMostEveryPath n table →
         ((move : ℕ) → IsSafeRule n table (rules move)) → ((move : ℕ) → IsSparing (rules move)) →
         (moves : List Move) → AreOfMembers n moves
         → count_taken n rules moves + count_waiting n (after_moves n rules moves) ≤ fuel_of n }
@@ -66,7 +66,7 @@ pub fn few_signals_are_sent()
 /// 2 where that move takes a signal.
 pub fn each_move_leaves_less()
     ensures initial { (n : Network) → left_of n (initial_member n) ≡ fuel_of n }
-    ensures each { (n : Network) (table : Table) (rules : ℕ → Rule) → IsLawful n → IsTable n table →
+    ensures each { (n : Network) (table : Table) (rules : ℕ → Rule) → IsLawful n → IsAtMostEveryPath n table →
         ((move : ℕ) → IsSafeRule n table (rules move)) → ((move : ℕ) → IsSparing (rules move)) →
         (moves : List Move) (move : Move) → IsOfMember n move →
         IfDone (outcome_after n rules moves move)
@@ -116,10 +116,10 @@ pub fn fuel_by_all_rows()
 /// there. (By `a_stuck_run_has_every_row` of `protocol_laws` no row is missing then, where the rules leave no eligible
 /// federate without a grant.)
 pub fn runs_end_stuck()
-    ensures stuck { (n : Network) (table : Table) (rules : ℕ → Rule) → IsLawful n → IsTable n table →
+    ensures stuck { (n : Network) (table : Table) (rules : ℕ → Rule) → IsLawful n → IsAtMostEveryPath n table →
         ((move : ℕ) → IsSafeRule n table (rules move)) → (moves : List Move) → AreOfMembers n moves →
         NothingDoes n rules moves → (j : ℕ) → j < n.reactors → IsStuck n j (after_moves n rules moves j) }
-    ensures more { (n : Network) (table : Table) (rules : ℕ → Rule) → IsLawful n → IsTable n table →
+    ensures more { (n : Network) (table : Table) (rules : ℕ → Rule) → IsLawful n → IsAtMostEveryPath n table →
         ((move : ℕ) → IsSafeRule n table (rules move)) → ((move : ℕ) → IsSparing (rules move)) →
         (moves : List Move) → AreOfMembers n moves → EndsStuck n rules moves (fuel_of n) }
 {}

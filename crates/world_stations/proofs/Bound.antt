@@ -25,7 +25,8 @@ use Rattle.protocol.specs.Refusals.{number_of}
 use Rattle.node.specs.Numbers.{closes}
 use Rattle.node.specs.Core.{Core, Made, Ending, Refuses, LacksRoom, Stays, Moves, ending_of}
 use Rattle.node.specs.Mail.{Mail, posted, offered_at, all_posted, framed, lacks_room}
-use Rattle.node.specs.Step.{Station, Stepped, refused, acknowledging, unsent, addressed, step_of, frame_comes, comes, lets_in, takes, noted, acts, resends, greets, greeting, turned_away, returned, changes}
+use Rattle.node.specs.Step.{Station, Stepped, refused, acknowledging, unsent, addressed, step_of, frame_comes, comes}
+use Rattle.node.specs.Step.{admits, takes, noted, acts, resends, greets, greeting, turned_away, returned, changes}
 use Rattle.network.proofs.Items.{get_set_here, get_set_other}
 use Rattle.world_stations.specs.World.{frames_of}
 use Rattle.world_stations.specs.Room.{count_to, most_of, most_to}
@@ -224,13 +225,13 @@ noted_within s peer e frame found = record {
   ends_stay = length-set s.ends peer (after_frame e frame);
 }
 
-lets_in_within : {View Row : Type 0} (core : Core View Row) (s : Station View) (peer : ℕ) (e : Image) (frame : Frame) (arrival : Arrival) → slice_get s.ends peer ≡ Some e →
-    IsWithin s.ends (lets_in core s peer e frame arrival)
-lets_in_within core s peer e (Data i n signal) arrival.Signal found =
+admits_within : {View Row : Type 0} (core : Core View Row) (s : Station View) (peer : ℕ) (e : Image) (frame : Frame) (arrival : Arrival) → slice_get s.ends peer ≡ Some e →
+    IsWithin s.ends (admits core s peer e frame arrival)
+admits_within core s peer e (Data i n signal) arrival.Signal found =
     takes_within s peer e (Data i n signal) (ending_of (acknowledging s peer e (Data i n signal)) (core.accept s.node peer signal)) found
     (ending_within s.ends (addressed peer (ack_of (after_frame e (Data i n signal)) ∷ [])) (core.accept s.node peer signal)
     (λ p. one_and_room s.ends peer p e (ack_of (after_frame e (Data i n signal))) (nat_eq peer p) refl found))
-lets_in_within core s peer e frame arrival found = noted_within s peer e frame found
+admits_within core s peer e frame arrival found = noted_within s peer e frame found
 
 turned_if : (ends : List Image) (peer : ℕ) (e : Image) (i n : ℕ) (b : Bool) → slice_get ends peer ≡ Some e → IsBounded ends (if b then addressed peer (Refuse i n ∷ []) else [])
 turned_if ends peer e i n true found = to_one ends peer e (Refuse i n ∷ []) found (omega arith)
@@ -244,7 +245,7 @@ turned_few is_coordinator s peer e (Refuse i n) found = no_frames s
 
 comes_within : {View Row : Type 0} (core : Core View Row) (is_coordinator : Bool) (s : Station View) (peer : ℕ) (e : Image) (frame : Frame) (r : Result Arrival LinkFault) →
     slice_get s.ends peer ≡ Some e → IsWithin s.ends (comes core is_coordinator s peer e frame r)
-comes_within core is_coordinator s peer e frame (Ok arrival) found = lets_in_within core s peer e frame arrival found
+comes_within core is_coordinator s peer e frame (Ok arrival) found = admits_within core s peer e frame arrival found
 comes_within core is_coordinator s peer e frame (Err fault) found = record { bounded = turned_few is_coordinator s.ends peer e frame found; ends_stay = refl }
 
 frame_within : {View Row : Type 0} (core : Core View Row) (is_coordinator : Bool) (s : Station View) (peer : ℕ) (frame : Frame) (o : Option Image) → slice_get s.ends peer ≡ o →

@@ -17,7 +17,7 @@ use Rattle.node.specs.Core.{Core, Made}
 use Rattle.node.specs.Step.{Station, Answer, Silent, Says, Declines, Stepped}
 use Rattle.link_laws.specs.Link.{Side, side_after, Act, Gets, Offers, Resends, Greets, Closes, TurnsAway}
 use Rattle.world_stations.specs.World.{frames_of}
-use Rattle.world_stations.specs.Federation.{is_plain}
+use Rattle.world_stations.specs.Federation.{is_harmless}
 use Rattle.world_stations.proofs.Posting.{IsSeen}
 
 -- a side after acts, oldest first
@@ -35,10 +35,10 @@ IsQuiet is_coordinator i (Closes number) = ⊥
 IsQuiet is_coordinator i (TurnsAway k number) = (is_coordinator ≡ true) × (k ≢ i)
 
 -- an answer with no refusal but those that may come
-abbrev pub IsPlainAnswer : Answer → Type 0
-IsPlainAnswer Silent = Unit {0}
-IsPlainAnswer (Says frames) = Unit {0}
-IsPlainAnswer (Declines number frames) = IsTrue (is_plain number)
+abbrev pub IsHarmlessAnswer : Answer → Type 0
+IsHarmlessAnswer Silent = Unit {0}
+IsHarmlessAnswer (Says frames) = Unit {0}
+IsHarmlessAnswer (Declines number frames) = IsTrue (is_harmless number)
 
 -- an act by which no signal is taken
 abbrev pub TakesNone : Act → Type 0
@@ -84,10 +84,10 @@ pub record IsHandedOn {View Row : Type 0} (core : Core View Row) (s : Station Vi
 
 -- what kind of step it is: the node is left as it was; it takes a signal; it says or runs something by itself; or it refuses
 pub data Kind {View Row : Type 0} (core : Core View Row) (is_coordinator : Bool) (s : Station View) (e : Event) (place : ℕ) (made : Stepped View) (acts : ℕ → List Act) : Type 0 where
-  quiet : made.station.node ≡ s.node → IsPlainAnswer made.answer → ((p : ℕ) (i : Image) → slice_get s.ends p ≡ Some i → AllByRecursion (IsQuiet is_coordinator i.incarnation) (acts p)) → Kind core is_coordinator s e place made acts
-  takes : (q : ℕ) (m : Made View) → IsHandedOn core s e q (outcome.Done m) → made.station.node ≡ m.after → IsPlainAnswer made.answer → ((p : ℕ) → acts p ≡ taking q place p (sent_to p m.sent)) → Kind core is_coordinator s e place made acts
+  quiet : made.station.node ≡ s.node → IsHarmlessAnswer made.answer → ((p : ℕ) (i : Image) → slice_get s.ends p ≡ Some i → AllByRecursion (IsQuiet is_coordinator i.incarnation) (acts p)) → Kind core is_coordinator s e place made acts
+  takes : (q : ℕ) (m : Made View) → IsHandedOn core s e q (outcome.Done m) → made.station.node ≡ m.after → IsHarmlessAnswer made.answer → ((p : ℕ) → acts p ≡ taking q place p (sent_to p m.sent)) → Kind core is_coordinator s e place made acts
   notes : (q : ℕ) → IsHandedOn core s e q outcome.Nothing → ((p : ℕ) → acts p ≡ taking q place p []) → Kind core is_coordinator s e place made acts
-  says : (m : Made View) → Speaks core s.node e (outcome.Done m) → made.station.node ≡ m.after → IsPlainAnswer made.answer → ((p : ℕ) → acts p ≡ Offers (sent_to p m.sent) ∷ []) → Kind core is_coordinator s e place made acts
+  says : (m : Made View) → Speaks core s.node e (outcome.Done m) → made.station.node ≡ m.after → IsHarmlessAnswer made.answer → ((p : ℕ) → acts p ≡ Offers (sent_to p m.sent) ∷ []) → Kind core is_coordinator s e place made acts
   declines : (q : ℕ) (refusal : Refusal) → IsHandedOn core s e q (outcome.Refused refusal) → ((p : ℕ) → AllByRecursion TakesNone (acts p)) → Kind core is_coordinator s e place made acts
   cannot : (refusal : Refusal) → Speaks core s.node e (outcome.Refused refusal) → ((p : ℕ) → AllByRecursion TakesNone (acts p)) → Kind core is_coordinator s e place made acts
 

@@ -25,7 +25,9 @@ use Rattle.node.specs.declared.event.Event.TheVariants as event
 use Rattle.node.specs.Numbers.{closes}
 use Rattle.node.specs.Mail.{Mail, posted, offered_at, all_posted, framed, lacks_room}
 use Rattle.node.specs.Core.{Core, Made, ending_of, Moves, LacksRoom}
-use Rattle.node.specs.Step.{Station, Answer, Silent, Declines, Stepped, addressed, answer_with, same, acts, received_at, received, refused, takes, acknowledging, changes, returned, noted, lets_in, turned_away, comes, frame_comes, resends, greets, greeting, unsent, step_of}
+use Rattle.node.specs.Step.{Station, Answer, Silent, Declines, Stepped, addressed, answer_with, same, acts, received_at}
+use Rattle.node.specs.Step.{received, refused, takes, acknowledging, changes, returned, noted, admits, turned_away}
+use Rattle.node.specs.Step.{comes, frame_comes, resends, greets, greeting, unsent, step_of}
 use Rattle.network.proofs.Items.{get_set_here, get_set_other}
 use Rattle.node.proofs.Ends.{no_posts}
 use Rattle.node.proofs.Notes.{open_for}
@@ -33,9 +35,11 @@ use Rattle.link_laws.specs.Link as link
 use Rattle.link_laws.specs.Link.{Side, says, hears, gets, side_after, Act, Gets, Offers, Resends, Greets, Closes, TurnsAway, offers}
 use Rattle.link_laws.proofs.Offers.{offers_open}
 use Rattle.world_stations.specs.World.{frames_of}
-use Rattle.world_stations.specs.Federation.{is_plain}
+use Rattle.world_stations.specs.Federation.{is_harmless}
 use Rattle.world_stations.proofs.Posting.{IsSeen, SeenIn, all_seen, to_itself, to_others}
-use Rattle.world_stations.proofs.Course.{acted, IsQuiet, TakesNone, IsPlainAnswer, only, taking, Comes, Speaks, announces, advances, IsHandedOn, quiet, takes as takes_kind, notes, says as says_kind, declines, cannot, IsCourse}
+use Rattle.world_stations.proofs.Course.{acted, IsQuiet, TakesNone, IsHarmlessAnswer, only, taking, Comes, Speaks}
+use Rattle.world_stations.proofs.Course.{announces, advances, IsHandedOn, quiet, takes as takes_kind, notes}
+use Rattle.world_stations.proofs.Course.{says as says_kind, declines, cannot, IsCourse}
 
 pub some_of : {X : Type 0} (x y : X) → Some x ≡ Some y → x ≡ y
 some_of x y same = cc
@@ -90,14 +94,14 @@ frames_with true frames = refl
 frames_with false [] = refl
 frames_with false (x ∷ xs) = refl
 
-plain_with : (b : Bool) (frames : List Outgoing) → IsPlainAnswer (answer_with b frames)
-plain_with true frames = tt
-plain_with false [] = tt
-plain_with false (x ∷ xs) = tt
+harmless_with : (b : Bool) (frames : List Outgoing) → IsHarmlessAnswer (answer_with b frames)
+harmless_with true frames = tt
+harmless_with false [] = tt
+harmless_with false (x ∷ xs) = tt
 
 -- a step by which the node isn't asked: at one peer's end
-quiet_course : {View Row : Type 0} (core : Core View Row) (is_coordinator : Bool) (s : Station View) (event : Event) (came : ℕ → List Frame) (place : ℕ) (made : Stepped View) (q : ℕ) (e : Image) (frames : List Frame) (own : List Act) → slice_get s.ends q ≡ Some e → made.station.node ≡ s.node → length made.station.ends ≡ length s.ends → ((p : ℕ) → p ≢ q → slice_get made.station.ends p ≡ slice_get s.ends p) → OwnSeen s.ends made.station.ends q (came q) frames own → frames_of made.answer ≡ addressed q frames → IsPlainAnswer made.answer → AllByRecursion (IsQuiet is_coordinator e.incarnation) own → IsCourse core is_coordinator s event came place made
-quiet_course core is_coordinator s event came place made q e frames own found node size others mine answered plain are =
+quiet_course : {View Row : Type 0} (core : Core View Row) (is_coordinator : Bool) (s : Station View) (event : Event) (came : ℕ → List Frame) (place : ℕ) (made : Stepped View) (q : ℕ) (e : Image) (frames : List Frame) (own : List Act) → slice_get s.ends q ≡ Some e → made.station.node ≡ s.node → length made.station.ends ≡ length s.ends → ((p : ℕ) → p ≢ q → slice_get made.station.ends p ≡ slice_get s.ends p) → OwnSeen s.ends made.station.ends q (came q) frames own → frames_of made.answer ≡ addressed q frames → IsHarmlessAnswer made.answer → AllByRecursion (IsQuiet is_coordinator e.incarnation) own → IsCourse core is_coordinator s event came place made
+quiet_course core is_coordinator s event came place made q e frames own found node size others mine answered harmless are =
     let P : List Outgoing → Type 0 = λ x. (p : ℕ) (side : Side) → slice_get s.ends p ≡ Some side.end → IsSeen side.sent made.station.ends x p (acted side (came p) (only q own p)) in
     let Q : List Outgoing → Type 0 = λ x. AllByRecursion (λ (o : Outgoing). o.peer < length s.ends) x in
     record {
@@ -105,20 +109,20 @@ quiet_course core is_coordinator s event came place made q e frames own found no
       seen = subst P (sym answered) (one_seen s.ends made.station.ends came q frames own others mine);
       within = subst Q (sym answered) (to_one q (length s.ends) frames (place_there s.ends q e found));
       size = size;
-      kind = quiet node plain (quiet_only is_coordinator s.ends q e own found are);
+      kind = quiet node harmless (quiet_only is_coordinator s.ends q e own found are);
     }
 
 -- a step by which nothing changes and these frames go out
-same_course : {View Row : Type 0} (core : Core View Row) (is_coordinator : Bool) (s : Station View) (event : Event) (came : ℕ → List Frame) (place : ℕ) (answer : Answer) (q : ℕ) (e : Image) (frames : List Frame) (own : List Act) → slice_get s.ends q ≡ Some e → ((t : Side) → t.end ≡ e → ((acted t (came q) own).end ≡ t.end) × ((acted t (came q) own).sent ≡ t.sent ++ frames)) → frames_of answer ≡ addressed q frames → IsPlainAnswer answer → AllByRecursion (IsQuiet is_coordinator e.incarnation) own → IsCourse core is_coordinator s event came place (same s answer)
-same_course core is_coordinator s event came place answer q e frames own found mine answered plain are =
+same_course : {View Row : Type 0} (core : Core View Row) (is_coordinator : Bool) (s : Station View) (event : Event) (came : ℕ → List Frame) (place : ℕ) (answer : Answer) (q : ℕ) (e : Image) (frames : List Frame) (own : List Act) → slice_get s.ends q ≡ Some e → ((t : Side) → t.end ≡ e → ((acted t (came q) own).end ≡ t.end) × ((acted t (came q) own).sent ≡ t.sent ++ frames)) → frames_of answer ≡ addressed q frames → IsHarmlessAnswer answer → AllByRecursion (IsQuiet is_coordinator e.incarnation) own → IsCourse core is_coordinator s event came place (same s answer)
+same_course core is_coordinator s event came place answer q e frames own found mine answered harmless are =
     quiet_course core is_coordinator s event came place (same s answer) q e frames own found refl refl (λ p o. refl)
     (λ t there. (
     let is = mine t (some_end s.ends q t.end e there found) in
-    (there ∙ ap (λ (x : Image). Some x) (sym is.0), is.1))) answered plain are
+    (there ∙ ap (λ (x : Image). Some x) (sym is.0), is.1))) answered harmless are
 
 -- a step by which nothing at all happens
-still : {View Row : Type 0} (core : Core View Row) (is_coordinator : Bool) (s : Station View) (event : Event) (came : ℕ → List Frame) (place : ℕ) (answer : Answer) → frames_of answer ≡ [] → IsPlainAnswer answer → IsCourse core is_coordinator s event came place (same s answer)
-still core is_coordinator s event came place answer answered plain =
+still : {View Row : Type 0} (core : Core View Row) (is_coordinator : Bool) (s : Station View) (event : Event) (came : ℕ → List Frame) (place : ℕ) (answer : Answer) → frames_of answer ≡ [] → IsHarmlessAnswer answer → IsCourse core is_coordinator s event came place (same s answer)
+still core is_coordinator s event came place answer answered harmless =
     let P : List Outgoing → Type 0 = λ x. (p : ℕ) (side : Side) → slice_get s.ends p ≡ Some side.end → IsSeen side.sent s.ends x p side in
     let Q : List Outgoing → Type 0 = λ x. AllByRecursion (λ (o : Outgoing). o.peer < length s.ends) x in
     record {
@@ -126,38 +130,38 @@ still core is_coordinator s event came place answer answered plain =
       seen = subst P (sym answered) (λ p side found. record { end = found; frames = sym (append-nil side.sent) });
       within = subst Q (sym answered) tt;
       size = refl;
-      kind = quiet refl plain (λ p i found. tt);
+      kind = quiet refl harmless (λ p i found. tt);
     }
 
 -- an end's refusals may come, but for an acknowledgement of what was never sent
-abbrev PlainFault : Result Arrival LinkFault → Type 0
-PlainFault (Ok arrived) = Unit {0}
-PlainFault (Err fault) = fault ≢ LinkFault.AckOfUnsent → IsTrue (is_plain (number_of fault))
+abbrev HarmlessFault : Result Arrival LinkFault → Type 0
+HarmlessFault (Ok arrived) = Unit {0}
+HarmlessFault (Err fault) = fault ≢ LinkFault.AckOfUnsent → IsTrue (is_harmless (number_of fault))
 
-if_open : (own closed : Bool) (r : Result Arrival LinkFault) → PlainFault r → PlainFault (if own then (if closed then Err LinkFault.Closed else r) else Err LinkFault.Stranger)
+if_open : (own closed : Bool) (r : Result Arrival LinkFault) → HarmlessFault r → HarmlessFault (if own then (if closed then Err LinkFault.Closed else r) else Err LinkFault.Stranger)
 if_open true true r h = λ o. refl
 if_open true false r h = h
 if_open false closed r h = λ o. refl
 
-if_unsent : (b : Bool) (arrived : Arrival) → PlainFault (if b then Err LinkFault.AckOfUnsent else Ok arrived)
+if_unsent : (b : Bool) (arrived : Arrival) → HarmlessFault (if b then Err LinkFault.AckOfUnsent else Ok arrived)
 if_unsent true arrived = λ o. absurd (o refl)
 if_unsent false arrived = tt
 
-if_ahead : (le eq : Bool) → PlainFault (if le then Ok arrival.Repeated else if eq then Ok arrival.Signal else Err LinkFault.Gap)
+if_ahead : (le eq : Bool) → HarmlessFault (if le then Ok arrival.Repeated else if eq then Ok arrival.Signal else Err LinkFault.Gap)
 if_ahead true eq = tt
 if_ahead false true = tt
 if_ahead false false = λ o. refl
 
-open_plain : (offered taken : ℕ) (frame : Frame) → PlainFault (answer_when_open offered taken frame)
-open_plain offered taken (Hello hello) = if_unsent (nat_lt offered hello.last_taken) arrival.Resume
-open_plain offered taken (Data k n signal) = if_ahead (nat_le n taken) (nat_eq n (taken + 1))
-open_plain offered taken (Ack k n) = if_unsent (nat_lt offered n) arrival.Acked
-open_plain offered taken (Refuse k n) = tt
+open_harmless : (offered taken : ℕ) (frame : Frame) → HarmlessFault (answer_when_open offered taken frame)
+open_harmless offered taken (Hello hello) = if_unsent (nat_lt offered hello.last_taken) arrival.Resume
+open_harmless offered taken (Data k n signal) = if_ahead (nat_le n taken) (nat_eq n (taken + 1))
+open_harmless offered taken (Ack k n) = if_unsent (nat_lt offered n) arrival.Acked
+open_harmless offered taken (Refuse k n) = tt
 
-plain_fault : (e : Image) (frame : Frame) (fault : LinkFault) → answer_of e frame ≡ Err fault → answer_of e frame ≢ Err LinkFault.AckOfUnsent → IsTrue (is_plain (number_of fault))
-plain_fault e frame fault is sent =
-    let P : Result Arrival LinkFault → Type 0 = λ r. PlainFault r in
-    subst P is (if_open (is_own e.federate e.incarnation frame) e.closed (answer_when_open (last_number e) e.taken frame) (open_plain (last_number e) e.taken frame))
+harmless_fault : (e : Image) (frame : Frame) (fault : LinkFault) → answer_of e frame ≡ Err fault → answer_of e frame ≢ Err LinkFault.AckOfUnsent → IsTrue (is_harmless (number_of fault))
+harmless_fault e frame fault is sent =
+    let P : Result Arrival LinkFault → Type 0 = λ r. HarmlessFault r in
+    subst P is (if_open (is_own e.federate e.incarnation frame) e.closed (answer_when_open (last_number e) e.taken frame) (open_harmless (last_number e) e.taken frame))
     (λ same. sent (is ∙ ap (λ (x : LinkFault). Err x) same))
 
 -- what an end that takes in a signal's frame answers
@@ -175,7 +179,7 @@ gets_frame s coming place is_taken frame r found is =
 
 -- a frame that the end takes in by itself
 abbrev Notes : Image → Frame → Arrival → Type 0
-Notes e frame arrived = (t : Side) → t.end ≡ e → (link.lets_in false t frame arrived).end ≡ after_frame t.end frame × ((link.lets_in false t frame arrived).sent ≡ t.sent ++ returned (after_frame t.end frame) frame)
+Notes e frame arrived = (t : Side) → t.end ≡ e → (link.admits false t frame arrived).end ≡ after_frame t.end frame × ((link.admits false t frame arrived).sent ≡ t.sent ++ returned (after_frame t.end frame) frame)
 
 notes_hello : (e : Image) (hello : declared.Hello) (arrived : Arrival) → Notes e (Hello hello) arrived
 notes_hello e hello arrived t is = (refl, refl)
@@ -202,13 +206,13 @@ noted_course core is_coordinator s came place q e frame arrived found at is note
     let P : Image → Type 0 = λ x. answer_of x frame ≡ Ok arrived in
     let heard = gets_frame t (came q) place false frame (Ok arrived) at (subst P same is) in
     let so = notes_so t (sym same) in
-    let Q : Image → Type 0 = λ x. (link.lets_in false t frame arrived).sent ≡ t.sent ++ returned (after_frame x frame) frame in
+    let Q : Image → Type 0 = λ x. (link.admits false t frame arrived).sent ≡ t.sent ++ returned (after_frame x frame) frame in
     let R : Image → Type 0 = λ x. Some (after_frame x frame) ≡ Some (side_after t (came q) (Gets place false)).end in (
       get_set_here s.ends q e (after_frame e frame) found ∙
           subst R (sym same) (ap (λ (x : Image). Some x) (sym so.0) ∙ ap (λ (x : Side). Some x.end) (sym heard)),
       ap (λ (x : Side). x.sent) heard ∙ subst Q (sym same) so.1,
     )))
-    (frames_with (changes e frame) (addressed q (returned (after_frame e frame) frame))) (plain_with (changes e frame) (addressed q (returned (after_frame e frame) frame))) (refl, tt)
+    (frames_with (changes e frame) (addressed q (returned (after_frame e frame) frame))) (harmless_with (changes e frame) (addressed q (returned (after_frame e frame) frame))) (refl, tt)
 
 -- posts keep the number of ends, and go to peers that are there
 abbrev AreWithin : ℕ → List Outgoing → Type 0
@@ -391,8 +395,8 @@ signal_course core is_coordinator s came place q e k n signal (outcome.Done made
         }
 
 -- a frame that its end refuses
-turned_course : {View Row : Type 0} (core : Core View Row) (is_coordinator : Bool) (s : Station View) (came : ℕ → List Frame) (place q : ℕ) (e : Image) (frame : Frame) (fault : LinkFault) → slice_get s.ends q ≡ Some e → IsTrue (is_plain (number_of fault)) → IsCourse core is_coordinator s (event.Frame q frame) came place (same s (Declines (number_of fault) (turned_away is_coordinator q e frame)))
-turned_course core is_coordinator s came place q e (Hello hello) fault found plain = by_stranger (is_coordinator && not (nat_eq hello.incarnation e.incarnation)) refl
+turned_course : {View Row : Type 0} (core : Core View Row) (is_coordinator : Bool) (s : Station View) (came : ℕ → List Frame) (place q : ℕ) (e : Image) (frame : Frame) (fault : LinkFault) → slice_get s.ends q ≡ Some e → IsTrue (is_harmless (number_of fault)) → IsCourse core is_coordinator s (event.Frame q frame) came place (same s (Declines (number_of fault) (turned_away is_coordinator q e frame)))
+turned_course core is_coordinator s came place q e (Hello hello) fault found harmless = by_stranger (is_coordinator && not (nat_eq hello.incarnation e.incarnation)) refl
   where
     both : (a b : Bool) → (a && not b) ≡ true → (a ≡ true) × (b ≡ false)
     both true false h = (refl, refl)
@@ -403,11 +407,11 @@ turned_course core is_coordinator s came place q e (Hello hello) fault found pla
     by_stranger true is =
         let stranger = both is_coordinator (nat_eq hello.incarnation e.incarnation) is in
         same_course core is_coordinator s (event.Frame q (Hello hello)) came place (Declines (number_of fault) (addressed q (Refuse hello.incarnation 51 ∷ []))) q e (Refuse hello.incarnation 51 ∷ []) (TurnsAway hello.incarnation 51 ∷ []) found
-        (λ t there. (refl, refl)) refl plain ((stranger.0, eqb-false hello.incarnation e.incarnation stranger.1), tt)
-    by_stranger false is = still core is_coordinator s (event.Frame q (Hello hello)) came place (Declines (number_of fault) []) refl plain
-turned_course core is_coordinator s came place q e (Data k n signal) fault found plain = still core is_coordinator s (event.Frame q (Data k n signal)) came place (Declines (number_of fault) []) refl plain
-turned_course core is_coordinator s came place q e (Ack k n) fault found plain = still core is_coordinator s (event.Frame q (Ack k n)) came place (Declines (number_of fault) []) refl plain
-turned_course core is_coordinator s came place q e (Refuse k n) fault found plain = still core is_coordinator s (event.Frame q (Refuse k n)) came place (Declines (number_of fault) []) refl plain
+        (λ t there. (refl, refl)) refl harmless ((stranger.0, eqb-false hello.incarnation e.incarnation stranger.1), tt)
+    by_stranger false is = still core is_coordinator s (event.Frame q (Hello hello)) came place (Declines (number_of fault) []) refl harmless
+turned_course core is_coordinator s came place q e (Data k n signal) fault found harmless = still core is_coordinator s (event.Frame q (Data k n signal)) came place (Declines (number_of fault) []) refl harmless
+turned_course core is_coordinator s came place q e (Ack k n) fault found harmless = still core is_coordinator s (event.Frame q (Ack k n)) came place (Declines (number_of fault) []) refl harmless
+turned_course core is_coordinator s came place q e (Refuse k n) fault found harmless = still core is_coordinator s (event.Frame q (Refuse k n)) came place (Declines (number_of fault) []) refl harmless
 
 pub data_is : (e : Image) (k n : ℕ) (signal : Signal) (a : Arrival) → answer_of e (Data k n signal) ≡ Ok a → ((a ≡ arrival.Repeated) × (n ≤ e.taken)) ⊎ (a ≡ arrival.Signal)
 data_is e k n signal a is =
@@ -417,12 +421,12 @@ data_is e k n signal a is =
     ]
 
 -- a frame that its end doesn't refuse
-let_in_course : {View Row : Type 0} (core : Core View Row) (is_coordinator : Bool) (s : Station View) (came : ℕ → List Frame) (place q : ℕ) (e : Image) (frame : Frame) (arrived : Arrival) → slice_get s.ends q ≡ Some e → slice_get (came q) place ≡ Some frame → answer_of e frame ≡ Ok arrived → IsCourse core is_coordinator s (event.Frame q frame) came place (lets_in core s q e frame arrived)
-let_in_course core is_coordinator s came place q e (Hello hello) arrived found at is = noted_course core is_coordinator s came place q e (Hello hello) arrived found at is (notes_hello e hello arrived)
-let_in_course core is_coordinator s came place q e (Ack k n) arrived found at is = noted_course core is_coordinator s came place q e (Ack k n) arrived found at is (notes_ack e k n arrived)
-let_in_course core is_coordinator s came place q e (Refuse k n) arrived found at is = noted_course core is_coordinator s came place q e (Refuse k n) arrived found at is (notes_refuse e k n arrived)
-let_in_course core is_coordinator s came place q e (Data k n signal) arrived found at is =
-    let P : Arrival → Type 0 = λ a. IsCourse core is_coordinator s (event.Frame q (Data k n signal)) came place (lets_in core s q e (Data k n signal) a) in
+admitted_course : {View Row : Type 0} (core : Core View Row) (is_coordinator : Bool) (s : Station View) (came : ℕ → List Frame) (place q : ℕ) (e : Image) (frame : Frame) (arrived : Arrival) → slice_get s.ends q ≡ Some e → slice_get (came q) place ≡ Some frame → answer_of e frame ≡ Ok arrived → IsCourse core is_coordinator s (event.Frame q frame) came place (admits core s q e frame arrived)
+admitted_course core is_coordinator s came place q e (Hello hello) arrived found at is = noted_course core is_coordinator s came place q e (Hello hello) arrived found at is (notes_hello e hello arrived)
+admitted_course core is_coordinator s came place q e (Ack k n) arrived found at is = noted_course core is_coordinator s came place q e (Ack k n) arrived found at is (notes_ack e k n arrived)
+admitted_course core is_coordinator s came place q e (Refuse k n) arrived found at is = noted_course core is_coordinator s came place q e (Refuse k n) arrived found at is (notes_refuse e k n arrived)
+admitted_course core is_coordinator s came place q e (Data k n signal) arrived found at is =
+    let P : Arrival → Type 0 = λ a. IsCourse core is_coordinator s (event.Frame q (Data k n signal)) came place (admits core s q e (Data k n signal) a) in
     let Q : Arrival → Type 0 = λ a. answer_of e (Data k n signal) ≡ Ok a in
     elim (data_is e k n signal arrived is) [
       | inl old ↦ subst P (sym old.0) (noted_course core is_coordinator s came place q e (Data k n signal) arrival.Repeated found at (subst Q old.0 is) (notes_repeated e k n signal old.1))
@@ -430,8 +434,8 @@ let_in_course core is_coordinator s came place q e (Data k n signal) arrived fou
     ]
 
 comes_course : {View Row : Type 0} (core : Core View Row) (is_coordinator : Bool) (s : Station View) (came : ℕ → List Frame) (place q : ℕ) (e : Image) (frame : Frame) (r : Result Arrival LinkFault) → slice_get s.ends q ≡ Some e → slice_get (came q) place ≡ Some frame → answer_of e frame ≡ r → answer_of e frame ≢ Err LinkFault.AckOfUnsent → IsCourse core is_coordinator s (event.Frame q frame) came place (comes core is_coordinator s q e frame r)
-comes_course core is_coordinator s came place q e frame (Ok arrived) found at is sent = let_in_course core is_coordinator s came place q e frame arrived found at is
-comes_course core is_coordinator s came place q e frame (Err fault) found at is sent = turned_course core is_coordinator s came place q e frame fault found (plain_fault e frame fault is sent)
+comes_course core is_coordinator s came place q e frame (Ok arrived) found at is sent = admitted_course core is_coordinator s came place q e frame arrived found at is
+comes_course core is_coordinator s came place q e frame (Err fault) found at is sent = turned_course core is_coordinator s came place q e frame fault found (harmless_fault e frame fault is sent)
 
 frame_course : {View Row : Type 0} (core : Core View Row) (is_coordinator : Bool) (s : Station View) (came : ℕ → List Frame) (place q : ℕ) (frame : Frame) (o : Option Image) → slice_get s.ends q ≡ o → Comes s came place (event.Frame q frame) → IsCourse core is_coordinator s (event.Frame q frame) came place (frame_comes core is_coordinator s q frame o)
 frame_course core is_coordinator s came place q frame None found h = still core is_coordinator s (event.Frame q frame) came place (Declines 51 []) refl refl
@@ -441,13 +445,13 @@ resends_course : {View Row : Type 0} (core : Core View Row) (is_coordinator : Bo
 resends_course core is_coordinator s came place q None found = still core is_coordinator s (event.Resend q) came place (Declines 51 []) refl refl
 resends_course core is_coordinator s came place q (Some e) found =
     same_course core is_coordinator s (event.Resend q) came place (answer_with false (addressed q (resent_by e))) q e (resent_by e) (Resends ∷ []) found
-    (λ t there. (refl, ap (λ (x : Image). t.sent ++ resent_by x) there)) (frames_with false (addressed q (resent_by e))) (plain_with false (addressed q (resent_by e))) (tt, tt)
+    (λ t there. (refl, ap (λ (x : Image). t.sent ++ resent_by x) there)) (frames_with false (addressed q (resent_by e))) (harmless_with false (addressed q (resent_by e))) (tt, tt)
 
 greets_course : {View Row : Type 0} (core : Core View Row) (is_coordinator : Bool) (s : Station View) (came : ℕ → List Frame) (place q : ℕ) (o : Option Image) → slice_get s.ends q ≡ o → IsCourse core is_coordinator s (event.Hello q) came place (greets s q o)
 greets_course core is_coordinator s came place q None found = still core is_coordinator s (event.Hello q) came place (Declines 51 []) refl refl
 greets_course core is_coordinator s came place q (Some e) found =
     same_course core is_coordinator s (event.Hello q) came place (answer_with false (greeting q (hello_of e))) q e (link.greeting (hello_of e)) (Greets ∷ []) found
-    (λ t there. (refl, ap (λ (x : Image). t.sent ++ link.greeting (hello_of x)) there)) (frames_with false (greeting q (hello_of e)) ∙ as_frames (hello_of e)) (plain_with false (greeting q (hello_of e))) (tt, tt)
+    (λ t there. (refl, ap (λ (x : Image). t.sent ++ link.greeting (hello_of x)) there)) (frames_with false (greeting q (hello_of e)) ∙ as_frames (hello_of e)) (harmless_with false (greeting q (hello_of e))) (tt, tt)
   where
     as_frames : (o : Option Frame) → greeting q o ≡ addressed q (link.greeting o)
     as_frames None = refl

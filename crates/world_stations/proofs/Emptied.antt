@@ -14,7 +14,7 @@ use Rattle.plan.specs.Federation.{federate_count}
 use Rattle.plan.specs.Least.{least_of}
 use Rattle.reactor_program.specs.Behaviour.{Behaviour}
 use Rattle.plan_network.specs.Network.{network_of}
-use Rattle.link_laws.specs.Way.{offered_in, IsGenuine}
+use Rattle.link_laws.specs.Direction.{offered_in, IsGenuine}
 use Rattle.link_laws.specs.Link.{Side}
 use Rattle.link_laws.proofs.Places.{length_of_rest, get_below}
 use Rattle.link_laws.proofs.Ways.{AreGenuine}

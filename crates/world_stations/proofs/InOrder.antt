@@ -14,7 +14,7 @@ use Rattle.node.specs.declared.event.Event.{Event}
 use Rattle.node.specs.declared.event.Event.TheVariants as event
 use Rattle.node.specs.Core.{Core}
 use Rattle.node.specs.Step.{Station, Stepped, step_of}
-use Rattle.link_laws.specs.Way.{with_offered, offered_with, offered_in}
+use Rattle.link_laws.specs.Direction.{with_offered, offered_with, offered_in}
 use Rattle.link_laws.specs.Link.{Side, Link, replaced, initial_link}
 use Rattle.link_laws.proofs.Ways.{offered-append}
 use Rattle.link_laws.proofs.Acts.{IsHeld, forgets, held, first_in_order, second_in_order}

@@ -126,8 +126,8 @@ late_at_own d programs inputs w links moves step j i s e place c lawful below th
     let A : List Act → Type 0 = λ x. AllByRecursion TakesNone x in
     let found : slice_get s.ends 0 ≡ Some (links j).second.end = ap (λ (x : List Image). slice_get x 0) ends in
     elim c.kind [
-      | quiet node plain acts ↦ none (quiet_none false (links j).second.end.incarnation (c.acts 0) (acts 0 (links j).second.end found))
-      | takes q m handed node plain acts ↦
+      | quiet node harmless acts ↦ none (quiet_none false (links j).second.end.incarnation (c.acts 0) (acts 0 (links j).second.end found))
+      | takes q m handed node harmless acts ↦
           elim site.own [
             | keeps is opened not_lost node_is queue frames ↦
                 let done = done_of (of_federate.made_by (node_with d programs inputs j (members j).federate)) (federate_accepts n j (members j).federate handed.signal) m (accepts_as d programs inputs j (members j) s.node q handed.signal (Done m) node_is handed.node) in
@@ -146,7 +146,7 @@ late_at_own d programs inputs w links moves step j i s e place c lawful below th
                 absurd (federate_answers n j (members j).federate handed.signal (nothing_of (of_federate.made_by (node_with d programs inputs j (members j).federate)) _ (accepts_as d programs inputs j (members j) s.node q handed.signal Nothing node_is handed.node)))
             | loses later lost ↦ absurd (never_handed d programs inputs j (links j) (members j) s.node place handed.incarnation handed.number handed.signal q site later (handed_at w (links j) s e place q Nothing ends comes handed))
           ]
-      | says m speaks node plain acts ↦ none (subst A (sym (acts 0)) (tt, tt))
+      | says m speaks node harmless acts ↦ none (subst A (sym (acts 0)) (tt, tt))
       | declines q refusal handed acts ↦ none (acts 0)
       | cannot refusal speaks acts ↦ none (acts 0)
     ]

@@ -21,7 +21,7 @@ use Rattle.node.specs.Core.{Made}
 use Rattle.node.specs.Step.{Station, step_of}
 use Rattle.node_cores.specs.FederateCore as of_federate
 use Rattle.node_cores.specs.FederateCore.{FederateNode, federate_core, to_coordinator}
-use Rattle.link_laws.specs.Way.{offered_in}
+use Rattle.link_laws.specs.Direction.{offered_in}
 use Rattle.link_laws.specs.Link.{Link, Act, Gets, Offers, replaced}
 use Rattle.link_laws.proofs.Carried.{linked_back}
 use Rattle.link_laws.proofs.Taken.{at_place}

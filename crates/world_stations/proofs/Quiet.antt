@@ -13,8 +13,9 @@ use Rattle.link.specs.declared.arrival.Arrival.TheVariants as arrival
 use Rattle.link.specs.declared.fault.LinkFault.{LinkFault}
 use Rattle.signal.specs.Batch.{numbered}
 use Rattle.link.specs.Image.{Image, last_number, answer_of, after_frame, acknowledge, ack_of, hello_by, resent_by}
-use Rattle.link_laws.specs.Way.{offered_in}
-use Rattle.link_laws.specs.Link.{Side, says, lets_in, hears, gets, greeting, side_after, Act, Gets, Offers, Resends, Greets, Closes, TurnsAway, offers}
+use Rattle.link_laws.specs.Direction.{offered_in}
+use Rattle.link_laws.specs.Link.{Side, says, admits, hears, gets, greeting, side_after, Act, Gets, Offers, Resends}
+use Rattle.link_laws.specs.Link.{Greets, Closes, TurnsAway, offers}
 use Rattle.link_laws.proofs.Offers.{offers_open}
 use Rattle.link_laws.proofs.Ways.{AreOld, offers_more, offers_same, resent_old}
 use Rattle.link_laws.proofs.Carried.{IsLinked, linked_acknowledges}
@@ -52,25 +53,25 @@ resent_calm : (i k n : ℕ) (signals : List Signal) (b : Bool) → AreCalm i (if
 resent_calm i k n signals true = tt
 resent_calm i k n signals false = numbered_calm i k n signals
 
-lets_calm : (i : ℕ) (s : Side) (frame : Frame) (arrived : Arrival) (is_taken : Bool) → AreCalm i s.sent → AreCalm i (lets_in is_taken s frame arrived).sent
-lets_calm i s (Data k n signal) arrival.Signal true h = sends_calm i s.sent (ack_of (after_frame s.end (Data k n signal)) ∷ []) h (tt, tt)
-lets_calm i s (Data k n signal) arrival.Signal false h = h
-lets_calm i s (Data k n signal) arrival.Repeated true h = sends_calm i s.sent (ack_of s.end ∷ []) h (tt, tt)
-lets_calm i s (Data k n signal) arrival.Repeated false h = sends_calm i s.sent (ack_of s.end ∷ []) h (tt, tt)
-lets_calm i s (Data k n signal) arrival.Acked true h = sends_calm i s.sent (ack_of s.end ∷ []) h (tt, tt)
-lets_calm i s (Data k n signal) arrival.Acked false h = sends_calm i s.sent (ack_of s.end ∷ []) h (tt, tt)
-lets_calm i s (Data k n signal) arrival.Resume true h = sends_calm i s.sent (ack_of s.end ∷ []) h (tt, tt)
-lets_calm i s (Data k n signal) arrival.Resume false h = sends_calm i s.sent (ack_of s.end ∷ []) h (tt, tt)
-lets_calm i s (Data k n signal) arrival.Closed true h = sends_calm i s.sent (ack_of s.end ∷ []) h (tt, tt)
-lets_calm i s (Data k n signal) arrival.Closed false h = sends_calm i s.sent (ack_of s.end ∷ []) h (tt, tt)
-lets_calm i s (Hello hello) arrived is_taken h =
+admits_calm : (i : ℕ) (s : Side) (frame : Frame) (arrived : Arrival) (is_taken : Bool) → AreCalm i s.sent → AreCalm i (admits is_taken s frame arrived).sent
+admits_calm i s (Data k n signal) arrival.Signal true h = sends_calm i s.sent (ack_of (after_frame s.end (Data k n signal)) ∷ []) h (tt, tt)
+admits_calm i s (Data k n signal) arrival.Signal false h = h
+admits_calm i s (Data k n signal) arrival.Repeated true h = sends_calm i s.sent (ack_of s.end ∷ []) h (tt, tt)
+admits_calm i s (Data k n signal) arrival.Repeated false h = sends_calm i s.sent (ack_of s.end ∷ []) h (tt, tt)
+admits_calm i s (Data k n signal) arrival.Acked true h = sends_calm i s.sent (ack_of s.end ∷ []) h (tt, tt)
+admits_calm i s (Data k n signal) arrival.Acked false h = sends_calm i s.sent (ack_of s.end ∷ []) h (tt, tt)
+admits_calm i s (Data k n signal) arrival.Resume true h = sends_calm i s.sent (ack_of s.end ∷ []) h (tt, tt)
+admits_calm i s (Data k n signal) arrival.Resume false h = sends_calm i s.sent (ack_of s.end ∷ []) h (tt, tt)
+admits_calm i s (Data k n signal) arrival.Closed true h = sends_calm i s.sent (ack_of s.end ∷ []) h (tt, tt)
+admits_calm i s (Data k n signal) arrival.Closed false h = sends_calm i s.sent (ack_of s.end ∷ []) h (tt, tt)
+admits_calm i s (Hello hello) arrived is_taken h =
     let again : Image = after_frame s.end (Hello hello) in
     sends_calm i s.sent (resent_by (after_frame s.end (Hello hello))) h (resent_calm i s.end.incarnation (again.acknowledged + 1) again.kept s.end.closed)
-lets_calm i s (Ack k n) arrived is_taken h = h
-lets_calm i s (Refuse k n) arrived is_taken h = h
+admits_calm i s (Ack k n) arrived is_taken h = h
+admits_calm i s (Refuse k n) arrived is_taken h = h
 
 hears_calm : (i : ℕ) (s : Side) (frame : Frame) (a : Result Arrival LinkFault) (is_taken : Bool) → AreCalm i s.sent → AreCalm i (hears is_taken s frame a).sent
-hears_calm i s frame (Ok arrived) is_taken h = lets_calm i s frame arrived is_taken h
+hears_calm i s frame (Ok arrived) is_taken h = admits_calm i s frame arrived is_taken h
 hears_calm i s frame (Err fault) is_taken h = h
 
 gets_calm : (i : ℕ) (s : Side) (o : Option Frame) (is_taken : Bool) → AreCalm i s.sent → AreCalm i (gets is_taken s o).sent
@@ -102,19 +103,19 @@ pub record TookNothing (s after : Side) : Type 0 where
 pub as_it_was : (s : Side) → TookNothing s s
 as_it_was s = record { taken = refl; took = refl; incarnation = refl }
 
-lets_nothing : (s : Side) (frame : Frame) (arrived : Arrival) → answer_of s.end frame ≡ Ok arrived → TookNothing s (lets_in false s frame arrived)
-lets_nothing s (Hello hello) arrived is = record { taken = refl; took = refl; incarnation = refl }
-lets_nothing s (Ack k n) arrived is = record { taken = refl; took = refl; incarnation = refl }
-lets_nothing s (Refuse k n) arrived is = record { taken = refl; took = refl; incarnation = refl }
-lets_nothing s (Data k n signal) arrived is =
-    let P : Arrival → Type 0 = λ a. TookNothing s (lets_in false s (Data k n signal) a) in
+admits_nothing : (s : Side) (frame : Frame) (arrived : Arrival) → answer_of s.end frame ≡ Ok arrived → TookNothing s (admits false s frame arrived)
+admits_nothing s (Hello hello) arrived is = record { taken = refl; took = refl; incarnation = refl }
+admits_nothing s (Ack k n) arrived is = record { taken = refl; took = refl; incarnation = refl }
+admits_nothing s (Refuse k n) arrived is = record { taken = refl; took = refl; incarnation = refl }
+admits_nothing s (Data k n signal) arrived is =
+    let P : Arrival → Type 0 = λ a. TookNothing s (admits false s (Data k n signal) a) in
     elim (data_is s.end k n signal arrived is) [
       | inl old ↦ (let least = old.1 in let same : max s.end.taken n ≡ s.end.taken = omega arith in subst P (sym old.0) (record { taken = same; took = refl; incarnation = refl }))
       | inr next ↦ subst P (sym next) (as_it_was s)
     ]
 
 hears_nothing : (s : Side) (frame : Frame) (r : Result Arrival LinkFault) → answer_of s.end frame ≡ r → TookNothing s (hears false s frame r)
-hears_nothing s frame (Ok arrived) is = lets_nothing s frame arrived is
+hears_nothing s frame (Ok arrived) is = admits_nothing s frame arrived is
 hears_nothing s frame (Err fault) is = as_it_was s
 
 gets_nothing : (s : Side) (o : Option Frame) → TookNothing s (gets false s o)
@@ -166,25 +167,25 @@ refuse_within : (own closed : Bool) (arrived : Arrival) → (if own then (if clo
 refuse_within true closed arrived is = refl
 refuse_within false closed arrived is = cc
 
-lets_left : (i : ℕ) (s r : Side) (frame : Frame) (arrived : Arrival) (place : ℕ) → slice_get r.sent place ≡ Some frame → answer_of s.end frame ≡ Ok arrived → IsCalm i frame → IsLinked i s r → LeftOpen i s (lets_in false s frame arrived)
-lets_left i s r (Hello hello) arrived place at is calm l =
+admits_left : (i : ℕ) (s r : Side) (frame : Frame) (arrived : Arrival) (place : ℕ) → slice_get r.sent place ≡ Some frame → answer_of s.end frame ≡ Ok arrived → IsCalm i frame → IsLinked i s r → LeftOpen i s (admits false s frame arrived)
+admits_left i s r (Hello hello) arrived place at is calm l =
     let genuine = at_place _ r.sent place (Hello hello) l.back.genuine at in
     let within : hello.last_taken ≤ r.end.taken = hello_within i s r hello.federate hello.incarnation hello.last_taken (nat_eq hello.incarnation s.end.incarnation && nat_eq hello.federate s.end.federate) s.end.closed (nat_lt (last_number s.end) hello.last_taken) arrived (λ own. genuine (own_hello s.end.incarnation hello.incarnation hello.federate s.end.federate own ∙ l.here)) is in
     let after = linked_acknowledges i s r hello.last_taken within l in
     let old = old_again i (record s { end = acknowledge s.end hello.last_taken }) r s.end.closed after in
     record { closed = refl; offered = offers_same i s.sent (resent_by (after_frame s.end (Hello hello))) old }
-lets_left i s r (Data k n signal) arrival.Signal place at is calm l = left i s
-lets_left i s r (Data k n signal) arrival.Repeated place at is calm l = record { closed = refl; offered = offers_same i s.sent (ack_of s.end ∷ []) (refl, tt) }
-lets_left i s r (Data k n signal) arrival.Acked place at is calm l = record { closed = refl; offered = offers_same i s.sent (ack_of s.end ∷ []) (refl, tt) }
-lets_left i s r (Data k n signal) arrival.Resume place at is calm l = record { closed = refl; offered = offers_same i s.sent (ack_of s.end ∷ []) (refl, tt) }
-lets_left i s r (Data k n signal) arrival.Closed place at is calm l = record { closed = refl; offered = offers_same i s.sent (ack_of s.end ∷ []) (refl, tt) }
-lets_left i s r (Ack k n) arrived place at is calm l = record { closed = refl; offered = refl }
-lets_left i s r (Refuse k n) arrived place at is calm l =
+admits_left i s r (Data k n signal) arrival.Signal place at is calm l = left i s
+admits_left i s r (Data k n signal) arrival.Repeated place at is calm l = record { closed = refl; offered = offers_same i s.sent (ack_of s.end ∷ []) (refl, tt) }
+admits_left i s r (Data k n signal) arrival.Acked place at is calm l = record { closed = refl; offered = offers_same i s.sent (ack_of s.end ∷ []) (refl, tt) }
+admits_left i s r (Data k n signal) arrival.Resume place at is calm l = record { closed = refl; offered = offers_same i s.sent (ack_of s.end ∷ []) (refl, tt) }
+admits_left i s r (Data k n signal) arrival.Closed place at is calm l = record { closed = refl; offered = offers_same i s.sent (ack_of s.end ∷ []) (refl, tt) }
+admits_left i s r (Ack k n) arrived place at is calm l = record { closed = refl; offered = refl }
+admits_left i s r (Refuse k n) arrived place at is calm l =
     let own = refuse_within (nat_eq k s.end.incarnation) s.end.closed arrived is in
     absurd (calm (eqb-true k s.end.incarnation own ∙ l.here))
 
 hears_left : (i : ℕ) (s r : Side) (frame : Frame) (a : Result Arrival LinkFault) (place : ℕ) → slice_get r.sent place ≡ Some frame → answer_of s.end frame ≡ a → IsCalm i frame → IsLinked i s r → LeftOpen i s (hears false s frame a)
-hears_left i s r frame (Ok arrived) place at is calm l = lets_left i s r frame arrived place at is calm l
+hears_left i s r frame (Ok arrived) place at is calm l = admits_left i s r frame arrived place at is calm l
 hears_left i s r frame (Err fault) place at is calm l = left i s
 
 gets_left : (i : ℕ) (s r : Side) (o : Option Frame) (place : ℕ) → slice_get r.sent place ≡ o → AreCalm i r.sent → IsLinked i s r → LeftOpen i s (gets false s o)

@@ -18,7 +18,8 @@ use Rattle.node.specs.declared.event.Event.TheVariants as event
 use Rattle.node.specs.Numbers.{closes}
 use Rattle.node.specs.Core.{Core, Made, Ending, Refuses, LacksRoom, Stays, Moves, ending_of}
 use Rattle.node.specs.Mail.{Mail, posted, offered_at, all_posted, framed, lacks_room}
-use Rattle.node.specs.Step.{Station, received_at, refused, acknowledging, unsent, step_of, frame_comes, comes, lets_in, takes, noted, acts, resends, greets}
+use Rattle.node.specs.Step.{Station, received_at, refused, acknowledging, unsent, step_of, frame_comes, comes, admits}
+use Rattle.node.specs.Step.{takes, noted, acts, resends, greets}
 use Rattle.world_stations.specs.Room.{most_ever_of, most_ever_to}
 use Rattle.world_stations.proofs.Bound.{offer_takes}
 
@@ -105,16 +106,16 @@ takes_ever s peer p e frame (Moves after mail) found less =
 noted_ever : {View : Type 0} (s : Station View) (peer p : ℕ) (e : Image) (frame : Frame) → slice_get s.ends peer ≡ Some e → ever_at (noted s peer e frame).station.ends p ≤ ever_at s.ends p
 noted_ever s peer p e frame found = ever_set s.ends peer p e (after_frame e frame) found (frame_ever e frame)
 
-lets_in_ever : {View Row : Type 0} (core : Core View Row) (s : Station View) (peer p : ℕ) (e : Image) (frame : Frame) (arrival : Arrival) → slice_get s.ends peer ≡ Some e →
-    ever_at (lets_in core s peer e frame arrival).station.ends p ≤ ever_at s.ends p
-lets_in_ever core s peer p e (Data i n signal) arrival.Signal found =
+admits_ever : {View Row : Type 0} (core : Core View Row) (s : Station View) (peer p : ℕ) (e : Image) (frame : Frame) (arrival : Arrival) → slice_get s.ends peer ≡ Some e →
+    ever_at (admits core s peer e frame arrival).station.ends p ≤ ever_at s.ends p
+admits_ever core s peer p e (Data i n signal) arrival.Signal found =
     takes_ever s peer p e (Data i n signal) (ending_of (acknowledging s peer e (Data i n signal)) (core.accept s.node peer signal)) found
     (ended_ever (acknowledging s peer e (Data i n signal)) (core.accept s.node peer signal) p)
-lets_in_ever core s peer p e frame arrival found = noted_ever s peer p e frame found
+admits_ever core s peer p e frame arrival found = noted_ever s peer p e frame found
 
 comes_ever : {View Row : Type 0} (core : Core View Row) (is_coordinator : Bool) (s : Station View) (peer p : ℕ) (e : Image) (frame : Frame) (r : Result Arrival LinkFault) →
     slice_get s.ends peer ≡ Some e → ever_at (comes core is_coordinator s peer e frame r).station.ends p ≤ ever_at s.ends p
-comes_ever core is_coordinator s peer p e frame (Ok arrival) found = lets_in_ever core s peer p e frame arrival found
+comes_ever core is_coordinator s peer p e frame (Ok arrival) found = admits_ever core s peer p e frame arrival found
 comes_ever core is_coordinator s peer p e frame (Err fault) found = omega arith
 
 frame_comes_ever : {View Row : Type 0} (core : Core View Row) (is_coordinator : Bool) (s : Station View) (peer p : ℕ) (frame : Frame) (o : Option Image) → slice_get s.ends peer ≡ o →

@@ -41,7 +41,7 @@ use Rattle.node.specs.declared.node_id.NodeId.TheVariants.{Federate}
 use Rattle.node_cores.specs.FederateCore as of_federate
 use Rattle.node_cores.specs.FederateCore.{FederateNode, federate_core}
 use Rattle.node_cores.specs.CoordinatorCore.{wiring_in, coordinator_core}
-use Rattle.link_laws.specs.Way.{with_offered, offered_with, offered_in}
+use Rattle.link_laws.specs.Direction.{with_offered, offered_with, offered_in}
 use Rattle.link_laws.specs.Link.{Link}
 use Rattle.link_laws.proofs.Forgotten.{AreOf}
 use Rattle.world_stations.specs.declared.dir.Dir.{Dir}

@@ -27,7 +27,7 @@ use Rattle.node.specs.Core.{Made}
 use Rattle.node.specs.Step.{Station, step_of}
 use Rattle.node_cores.specs.FederateCore.{FederateNode, federate_core}
 use Rattle.node_cores.specs.CoordinatorCore.{CoordinatorNode, coordinator_core}
-use Rattle.link_laws.specs.Way.{offered_in}
+use Rattle.link_laws.specs.Direction.{offered_in}
 use Rattle.link_laws.specs.Link.{Side, Link, Act, Gets, Offers, offers}
 use Rattle.world_stations.specs.World.{after_coordinator, after_federate}
 use Rattle.world_stations.specs.Federation.{Federation}

@@ -16,7 +16,7 @@ use Rattle.reactor_program.specs.Behaviour.{Behaviour}
 use Rattle.protocol.specs.Federate.{Federate}
 use Rattle.protocol.specs.Machine.{Member}
 use Rattle.node_cores.specs.FederateCore.{FederateNode}
-use Rattle.link_laws.specs.Way.{offered_in, IsGenuine}
+use Rattle.link_laws.specs.Direction.{offered_in, IsGenuine}
 use Rattle.link_laws.specs.Link.{Side, Link, side_after, Act, Gets, Offers, Resends, Greets, Closes, TurnsAway, offers, takes}
 use Rattle.link_laws.proofs.Offers.{offers_open}
 use Rattle.link_laws.proofs.Places.{drop_at}

@@ -30,8 +30,9 @@ use Rattle.world_stations.specs.declared.step.Step.TheVariants.{Forget}
 use Rattle.world_stations.specs.declared.outcome.Outcome.TheVariants as outcome
 use Rattle.world_stations.specs.World.{outcome_of as told_by, Applied, unchanged, after_coordinator, after_federate, forgotten, does}
 use Rattle.world_stations.specs.Kept.{is_forget_of}
-use Rattle.world_stations.specs.Federation.{Federation, IsPlain}
-use Rattle.world_stations.proofs.Course.{acted, Comes, IsPlainAnswer, announces, advances, quiet, takes, notes, says, declines, cannot, IsCourse}
+use Rattle.world_stations.specs.Federation.{Federation, IsHarmless}
+use Rattle.world_stations.proofs.Course.{acted, Comes, IsHarmlessAnswer, announces, advances, quiet, takes, notes, says}
+use Rattle.world_stations.proofs.Course.{declines, cannot, IsCourse}
 use Rattle.world_stations.proofs.Shown.{ups_of, with_firsts, nowhere, happened_at_coordinator, happened_at_federate, lost as loses_all, happened, at_other}
 use Rattle.world_stations.proofs.Site.{node_with, IsSite, keeps, loses, quiet_second, lost_second}
 use Rattle.world_stations.proofs.Moves.{done_of, refused_of, nothing_of, coordinator_answers, federate_answers, announces_freely, advances_freely, rule_of, coordinator_makes, coordinator_accepts_listed, moved_to, announce_move, advance_move}
@@ -47,25 +48,25 @@ pub record Goes (d : Draft) (programs : List Behaviour) (inputs : List Input) (m
   pub links : ℕ → Link
   pub moved : List Move
   pub run : IsRun d programs inputs made.world links (members_after d programs inputs moved)
-  pub plain : IsPlain made.outcome
+  pub harmless : IsHarmless made.outcome
   pub lost : (j : ℕ) → is_forget_of j step ≡ false → (members_after d programs inputs moved j).lost ≡ (members_after d programs inputs moves j).lost
 
-plain_told : (answer : Answer) → IsPlainAnswer answer → IsPlain (told_by answer)
-plain_told Silent h = tt
-plain_told (Says frames) h = tt
-plain_told (Declines number frames) h = h
+harmless_told : (answer : Answer) → IsHarmlessAnswer answer → IsHarmless (told_by answer)
+harmless_told Silent h = tt
+harmless_told (Says frames) h = tt
+harmless_told (Declines number frames) h = h
 
 -- after one move
-by_move : (d : Draft) (programs : List Behaviour) (inputs : List Input) (made : Applied CoordinatorNode FederateNode) (links : ℕ → Link) (step : Step) (moves : List Move) (move : Move) → IsPlain made.outcome → IsMoved d programs inputs made.world links (members_after d programs inputs moves) move → Goes d programs inputs made step moves
-by_move d programs inputs made links step moves move plain m =
+by_move : (d : Draft) (programs : List Behaviour) (inputs : List Input) (made : Applied CoordinatorNode FederateNode) (links : ℕ → Link) (step : Step) (moves : List Move) (move : Move) → IsHarmless made.outcome → IsMoved d programs inputs made.world links (members_after d programs inputs moves) move → Goes d programs inputs made step moves
+by_move d programs inputs made links step moves move harmless m =
     let is = moved_to (network_of d programs inputs) (rule_of d programs inputs) moves move m.after m.is_made in
     let P : (ℕ → Member) → Type 0 = λ x. IsRun d programs inputs made.world links x in
     let Q : (ℕ → Member) → Type 0 = λ x. (j : ℕ) → is_forget_of j step ≡ false → (x j).lost ≡ (members_after d programs inputs moves j).lost in
-    record { links = links; moved = move ∷ moves; run = subst P (sym is) m.run; plain = plain; lost = subst Q (sym is) (λ j other. m.lost j) }
+    record { links = links; moved = move ∷ moves; run = subst P (sym is) m.run; harmless = harmless; lost = subst Q (sym is) (λ j other. m.lost j) }
 
 -- without a move
-by_none : (d : Draft) (programs : List Behaviour) (inputs : List Input) (made : Applied CoordinatorNode FederateNode) (links : ℕ → Link) (step : Step) (moves : List Move) → IsPlain made.outcome → IsRun d programs inputs made.world links (members_after d programs inputs moves) → Goes d programs inputs made step moves
-by_none d programs inputs made links step moves plain run = record { links = links; moved = moves; run = run; plain = plain; lost = λ j other. refl }
+by_none : (d : Draft) (programs : List Behaviour) (inputs : List Input) (made : Applied CoordinatorNode FederateNode) (links : ℕ → Link) (step : Step) (moves : List Move) → IsHarmless made.outcome → IsRun d programs inputs made.world links (members_after d programs inputs moves) → Goes d programs inputs made step moves
+by_none d programs inputs made links step moves harmless run = record { links = links; moved = moves; run = run; harmless = harmless; lost = λ j other. refl }
 
 -- no move is refused
 pub refuses_no : (d : Draft) (programs : List Behaviour) (inputs : List Input) (moves : List Move) (move : Move) (refusal : Refusal) → IsLawfulWith (network_of d programs inputs) (least_of d) → outcome_of (network_of d programs inputs) (rule_of d programs inputs) (members_after d programs inputs moves) move ≡ Refused refusal → ⊥
@@ -83,27 +84,27 @@ goes_at_coordinator d programs inputs w links moves step e place c lawful comes 
     let after : ℕ → Link = with_firsts links (λ p. acted (links p).first (ups_of links p) (c.acts p)) in
     let wired = lawful_is_wired (network_of d programs inputs) lawful.lawful in
     elim c.kind [
-      | quiet node plain acts ↦ by_none d programs inputs (after_coordinator w made) after step moves (plain_told made.answer plain) (quiet_coordinator d programs inputs w links members e place c node acts run)
-      | takes q m handed node plain acts ↦ by_move d programs inputs (after_coordinator w made) after step moves (ToCoordinator q) (plain_told made.answer plain) (takes_coordinator d programs inputs w links members e place q m c wired comes handed node acts run)
+      | quiet node harmless acts ↦ by_none d programs inputs (after_coordinator w made) after step moves (harmless_told made.answer harmless) (quiet_coordinator d programs inputs w links members e place c node acts run)
+      | takes q m handed node harmless acts ↦ by_move d programs inputs (after_coordinator w made) after step moves (ToCoordinator q) (harmless_told made.answer harmless) (takes_coordinator d programs inputs w links members e place q m c wired comes handed node acts run)
       | notes q handed acts ↦
           absurd (coordinator_answers (network_of d programs inputs) (rule_of d programs inputs) (federate_records_of members) q handed.signal
           (nothing_of (coordinator_makes (network_of d programs inputs) w.coordinator.node) _ (sym (coordinator_accepts_listed d programs inputs w.coordinator.node (federate_records_of members) q handed.signal run.draft run.federate_records) ∙ handed.node)))
-      | says m speaks node plain acts ↦ absurd (elim speaks [ announces is does ↦ cc | advances is does ↦ cc ])
+      | says m speaks node harmless acts ↦ absurd (elim speaks [ announces is does ↦ cc | advances is does ↦ cc ])
       | declines q refusal handed acts ↦ absurd (refuses_no d programs inputs moves (ToCoordinator q) refusal lawful (coordinator_refuses d programs inputs w links members e place q refusal comes handed run))
       | cannot refusal speaks acts ↦ absurd (elim speaks [ announces is does ↦ cc | advances is does ↦ cc ])
     ]
 
 -- a lost federate does something
 lost_goes : (d : Draft) (programs : List Behaviour) (inputs : List Input) (w : Federation) (links : ℕ → Link) (moves : List Move) (step : Step) (j : ℕ) (s : Station FederateNode) (e : Event) (place : ℕ) (m : Made FederateNode) (c : IsCourse federate_core false s e (λ p. (links j).first.sent) place (step_of federate_core false s e))
-    → j < federate_count d → slice_get w.federates j ≡ Some s → IsPlainAnswer (step_of federate_core false s e).answer → c.acts 0 ≡ Offers (sent_to 0 m.sent) ∷ [] → 1 < (links j).second.end.incarnation → (members_after d programs inputs moves j).lost ≡ true → IsRun d programs inputs w links (members_after d programs inputs moves)
+    → j < federate_count d → slice_get w.federates j ≡ Some s → IsHarmlessAnswer (step_of federate_core false s e).answer → c.acts 0 ≡ Offers (sent_to 0 m.sent) ∷ [] → 1 < (links j).second.end.incarnation → (members_after d programs inputs moves j).lost ≡ true → IsRun d programs inputs w links (members_after d programs inputs moves)
     → Goes d programs inputs (after_federate w j (step_of federate_core false s e)) step moves
-lost_goes d programs inputs w links moves step j s e place m c below there plain acts later lost run =
+lost_goes d programs inputs w links moves step j s e place m c below there harmless acts later lost run =
     let made = step_of federate_core false s e in
     let members = members_after d programs inputs moves in
     let site = run.site j below s there in
     let A : List Act → Type 0 = λ x. IsSite d programs inputs j (record { first = (links j).first; second = acted (links j).second (links j).first.sent x }) (members j) made.station.node in
     let after = subst A (sym acts) (lost_second d programs inputs j (links j) (members j) s.node made.station.node (Offers (sent_to 0 m.sent) ∷ []) (tt, tt) later lost site) in
-    by_none d programs inputs (after_federate w j made) _ step moves (plain_told made.answer plain) (unmoved d programs inputs w links members j s e place c below there after run)
+    by_none d programs inputs (after_federate w j made) _ step moves (harmless_told made.answer harmless) (unmoved d programs inputs w links members j s e place c below there after run)
 
 -- a federate's station does something
 goes_at_federate : (d : Draft) (programs : List Behaviour) (inputs : List Input) (w : Federation) (links : ℕ → Link) (moves : List Move) (step : Step) (j : ℕ) (s : Station FederateNode) (e : Event) (place : ℕ) (c : IsCourse federate_core false s e (λ p. (links j).first.sent) place (step_of federate_core false s e))
@@ -118,15 +119,15 @@ goes_at_federate d programs inputs w links moves step j s e place c lawful below
     let ends = own_ends d programs inputs w links members j s below there run in
     let node = node_with d programs inputs j (members j).federate in
     elim c.kind [
-      | quiet node plain acts ↦
+      | quiet node harmless acts ↦
           let found : slice_get s.ends 0 ≡ Some (links j).second.end = ap (λ (x : List Image). slice_get x 0) ends in
           let still = quiet_second d programs inputs j (links j) (members j) s.node (c.acts 0) (acts 0 (links j).second.end found) site in
           let N : FederateNode → Type 0 = λ x. IsSite d programs inputs j (record { first = (links j).first; second = acted (links j).second (links j).first.sent (c.acts 0) }) (members j) x in
-          by_none d programs inputs (after_federate w j made) _ step moves (plain_told made.answer plain) (unmoved d programs inputs w links members j s e place c below there (subst N (sym node) still) run)
-      | takes q m handed node plain acts ↦
+          by_none d programs inputs (after_federate w j made) _ step moves (harmless_told made.answer harmless) (unmoved d programs inputs w links members j s e place c below there (subst N (sym node) still) run)
+      | takes q m handed node harmless acts ↦
           elim site.own [
             | keeps is opened not_lost node_is queue frames ↦
-                by_move d programs inputs (after_federate w j made) _ step moves (ToFederate j) (plain_told made.answer plain)
+                by_move d programs inputs (after_federate w j made) _ step moves (ToFederate j) (harmless_told made.answer harmless)
                 (kept_takes d programs inputs w links members j s e place q m c below there comes handed node (acts 0) is not_lost node_is queue frames run)
             | loses later lost ↦ absurd (never_handed d programs inputs j (links j) (members j) s.node place handed.incarnation handed.number handed.signal q site later (handed_at w (links j) s e place q (Done m) ends comes handed))
           ]
@@ -136,22 +137,22 @@ goes_at_federate d programs inputs w links moves step j s e place c lawful below
                 absurd (federate_answers n j (members j).federate handed.signal (nothing_of (of_federate.made_by (node_with d programs inputs j (members j).federate)) _ (accepts_as d programs inputs j (members j) s.node q handed.signal Nothing node_is handed.node)))
             | loses later lost ↦ absurd (never_handed d programs inputs j (links j) (members j) s.node place handed.incarnation handed.number handed.signal q site later (handed_at w (links j) s e place q Nothing ends comes handed))
           ]
-      | says m speaks node_after plain acts ↦
+      | says m speaks node_after harmless acts ↦
           elim site.own [
             | keeps is opened not_lost node_is queue frames ↦
                 elim speaks [
                   | announces is_event does ↦
                       let done = done_of (of_federate.made_by (node_with d programs inputs j (members j).federate)) (federate_announces (members j).federate) m (announces_as d programs inputs j (members j) s.node (Done m) node_is does) in
-                      by_move d programs inputs (after_federate w j made) _ step moves (Announce j) (plain_told made.answer plain)
+                      by_move d programs inputs (after_federate w j made) _ step moves (Announce j) (harmless_told made.answer harmless)
                       (kept_says d programs inputs w links members j s e place m done.0 (Announce j) c below there node_after (acts 0) done.2
                       (announce_move n rule members j not_lost ∙ ap (with_made (λ made. with_member members j (stepped (members j) (members j).down made))) done.1) is opened not_lost queue frames run)
                   | advances is_event does ↦
                       let done = done_of (of_federate.made_by (node_with d programs inputs j (members j).federate)) (federate_advances n j (members j).federate) m (advances_as d programs inputs j (members j) s.node (Done m) node_is does) in
-                      by_move d programs inputs (after_federate w j made) _ step moves (Advance j) (plain_told made.answer plain)
+                      by_move d programs inputs (after_federate w j made) _ step moves (Advance j) (harmless_told made.answer harmless)
                       (kept_says d programs inputs w links members j s e place m done.0 (Advance j) c below there node_after (acts 0) done.2
                       (advance_move n rule members j not_lost ∙ ap (with_made (λ made. with_member members j (stepped (members j) (members j).down made))) done.1) is opened not_lost queue frames run)
                 ]
-            | loses later lost ↦ lost_goes d programs inputs w links moves step j s e place m c below there plain (acts 0) later lost run
+            | loses later lost ↦ lost_goes d programs inputs w links moves step j s e place m c below there harmless (acts 0) later lost run
           ]
       | declines q refusal handed acts ↦
           elim site.own [
@@ -180,7 +181,7 @@ goes_lost d programs inputs w links moves step j s made below there is_step is r
       links = with_one links j (record { first = (links j).first; second = replaced (links j).second });
       moved = Lose j ∷ moves;
       run = subst P (sym moved) all;
-      plain = tt;
+      harmless = tt;
       lost = subst Q (sym moved)
           (λ k other. (
           let S : Step → Type 0 = λ x. is_forget_of k x ≡ false in

@@ -111,10 +111,10 @@ course_took core is_coordinator s e came place made c brought comes brings p sid
     let T : List Act → Type 0 = λ x. Took side (acted side (came p) x) brought in
     let A : List Act → Type 0 = λ x. AllByRecursion TakesNone x in
     elim c.kind [
-      | quiet node plain acts ↦ none (quiet_none is_coordinator side.end.incarnation (c.acts p) (acts p side.end found))
-      | takes_kind q m handed node plain acts ↦ subst T (sym (acts p)) (handed_took core s e came place q (outcome.Done m) (sent_to p m.sent) brought handed comes brings p side found)
+      | quiet node harmless acts ↦ none (quiet_none is_coordinator side.end.incarnation (c.acts p) (acts p side.end found))
+      | takes_kind q m handed node harmless acts ↦ subst T (sym (acts p)) (handed_took core s e came place q (outcome.Done m) (sent_to p m.sent) brought handed comes brings p side found)
       | notes q handed acts ↦ subst T (sym (acts p)) (handed_took core s e came place q outcome.Nothing [] brought handed comes brings p side found)
-      | says_kind m speaks node plain acts ↦ none (subst A (sym (acts p)) (tt, tt))
+      | says_kind m speaks node harmless acts ↦ none (subst A (sym (acts p)) (tt, tt))
       | declines q refusal handed acts ↦ none (acts p)
       | cannot refusal speaks acts ↦ none (acts p)
     ]

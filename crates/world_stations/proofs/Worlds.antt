@@ -29,7 +29,8 @@ use Rattle.world_stations.specs.declared.step.Step.{Step}
 use Rattle.world_stations.specs.declared.step.Step.TheVariants.{Deliver, Resend, Reconnect, Announce, Advance, Forget}
 use Rattle.world_stations.specs.World.{Occurrence, occurrence_of, unchanged, at_federate, at_node, happens, has_next, forgotten, forgets, does, after_steps}
 use Rattle.world_stations.specs.Kept.{is_forget_of, is_kept}
-use Rattle.world_stations.specs.Federation.{Federation, IsPlain, initial_world, initial_coordinator, initial_member, world_after, step_in}
+use Rattle.world_stations.specs.Federation.{Federation, IsHarmless, initial_world, initial_coordinator, initial_member}
+use Rattle.world_stations.specs.Federation.{world_after, step_in}
 use Rattle.world_stations.proofs.Shown.{shown_listed, opened_shown, made_at}
 use Rattle.world_stations.proofs.Courses.{some_of}
 use Rattle.world_stations.proofs.Site.{IsSite, keeps}
@@ -49,7 +50,7 @@ step_goes d programs inputs w links moves step lawful run =
       links = g.links;
       moved = g.moved;
       run = run_listed d programs inputs made.world g.links (members_after d programs inputs g.moved) (made.world.steps ++ step ∷ []) g.run;
-      plain = g.plain;
+      harmless = g.harmless;
       lost = g.lost;
     }
 
@@ -113,10 +114,10 @@ pub stands : (d : Draft) (programs : List Behaviour) (inputs : List Input) (step
 stands d programs inputs steps lawful = all_go d programs inputs (initial_world d programs inputs) open_link [] steps lawful (initial_run d programs inputs)
 
 -- no step is refused but by a link
-pub refusals_are_plain : (d : Draft) (programs : List Behaviour) (inputs : List Input) (steps : List Step) (step : Step) → IsLawfulWith (network_of d programs inputs) (least_of d) → IsPlain (step_in (world_after d programs inputs steps) step).outcome
-refusals_are_plain d programs inputs steps step lawful =
+pub refusals_are_harmless : (d : Draft) (programs : List Behaviour) (inputs : List Input) (steps : List Step) (step : Step) → IsLawfulWith (network_of d programs inputs) (least_of d) → IsHarmless (step_in (world_after d programs inputs steps) step).outcome
+refusals_are_harmless d programs inputs steps step lawful =
     let s = (stands d programs inputs steps lawful).stands in
-    (step_goes d programs inputs (world_after d programs inputs steps) s.links s.moves step lawful s.run).plain
+    (step_goes d programs inputs (world_after d programs inputs steps) s.links s.moves step lawful s.run).harmless
 
 -- an event lists no step
 happens_steps : (w : Federation) (o : Option Occurrence) → (happens coordinator_core federate_core w o).world.steps ≡ w.steps

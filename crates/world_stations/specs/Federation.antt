@@ -74,14 +74,14 @@ rows_in w j = rows_at (slice_get w.federates j)
 
 -- a refusal that may come: a frame of another incarnation (51), one that is ahead of its turn (52), one at a closed end
 -- (55), and a link without room (60)
-abbrev pub is_plain : ℕ → Bool
-is_plain number = nat_eq number 51 || nat_eq number 52 || nat_eq number 55 || nat_eq number 60
+abbrev pub is_harmless : ℕ → Bool
+is_harmless number = nat_eq number 51 || nat_eq number 52 || nat_eq number 55 || nat_eq number 60
 
 -- an outcome with none but such a refusal: no signal is refused by a node, and nothing is acknowledged that wasn't sent
-abbrev pub IsPlain : Outcome → Type 0
-IsPlain Nothing = Unit {0}
-IsPlain Done = Unit {0}
-IsPlain (Refused number) = IsTrue (is_plain number)
+abbrev pub IsHarmless : Outcome → Type 0
+IsHarmless Nothing = Unit {0}
+IsHarmless Done = Unit {0}
+IsHarmless (Refused number) = IsTrue (is_harmless number)
 
 -- a message that is later than the tags of these rows
 abbrev pub IsLaterThan : List Row → Signal → Type 0

@@ -5,7 +5,7 @@ use Rattle.signal.specs.declared.frame.Frame.{Frame}
 use Rattle.network_laws.specs.Settled.{BeginsWith}
 use Rattle.link.specs.Image.{Image}
 use Rattle.link.specs.Taken.{carried_by}
-use Rattle.link_laws.specs.Way.{offered_in}
+use Rattle.link_laws.specs.Direction.{offered_in}
 use Rattle.node.specs.Core.{Core}
 use Rattle.node.specs.Step.{Station}
 use Rattle.world_stations.specs.declared.dir.Dir.{Dir}

@@ -16,7 +16,7 @@ fn next_end(alloc: Global, end: &LinkEnd) -> Option<LinkEnd>
     Some(LinkEnd::new(alloc, end.federate(), incarnation, end.room()))
 }
 
-// A blank station in the place of a federate's, with the next incarnation, or None where there is no next one.
+/// A blank station in the place of a federate's, with the next incarnation, or None where there is no next one.
 pub(crate) fn forgotten<M: Blank>(
     alloc: Global,
     station: &Station<M>,

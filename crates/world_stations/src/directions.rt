@@ -45,8 +45,8 @@ fn most_ever<N: Node>(station: &Station<N>, peers: usize) -> Result<usize, Memor
     Ok(most)
 }
 
-// Memory for this many frames in each direction. Where there is less, it is taken twice over, so that it is seldom
-// asked for. The answer is for how many there is now.
+/// Memory for this many frames in each direction. Where there is less, it is taken twice over, so that it is seldom
+/// asked for. The answer is for how many there is now.
 pub(crate) fn reserve_ahead(
     sent: &mut Vec<Sent>,
     most: usize,
@@ -80,7 +80,7 @@ fn reserve_each(sent: &mut Vec<Sent>, count: usize) -> Result<(), Memory>
     Ok(())
 }
 
-// Memory for this many frames in one direction.
+/// Memory for this many frames in one direction.
 pub(crate) fn reserve_at(sent: &mut Vec<Sent>, place: usize, count: usize) -> Result<(), Memory>
     ensures spare { OnOk result (place < length sent.new.items → count ≤ spare_at sent.new.items place) }
     ensures none_lost { NoneLost sent.old.items sent.new.items }
@@ -93,7 +93,7 @@ pub(crate) fn reserve_at(sent: &mut Vec<Sent>, place: usize, count: usize) -> Re
     Ok(())
 }
 
-// Memory for all that the station may send to its first peer in one step.
+/// Memory for all that the station may send to its first peer in one step.
 pub(crate) fn reserve_first<N: Node>(
     sent: &mut Vec<Sent>,
     place: usize,
@@ -121,7 +121,7 @@ fn append(sent: &mut Vec<Sent>, place: usize, frame: Frame)
     }
 }
 
-// Each frame in the direction of its peer.
+/// Each frame in the direction of its peer.
 pub(crate) fn append_each(sent: &mut Vec<Sent>, outgoing: &[Outgoing])
     requires { Fits outgoing.now sent.old.items }
     ensures frames { frames_of_each sent.new.items ≡ sent_out (frames_of_each sent.old.items) outgoing.now }
@@ -133,7 +133,7 @@ pub(crate) fn append_each(sent: &mut Vec<Sent>, outgoing: &[Outgoing])
     }
 }
 
-// All frames in one direction.
+/// All frames in one direction.
 pub(crate) fn append_all(sent: &mut Vec<Sent>, place: usize, outgoing: &[Outgoing])
     requires { place < length sent.old.items → length outgoing.now ≤ spare_at sent.old.items place }
     ensures { frames_of_each sent.new.items
@@ -154,7 +154,7 @@ pub(crate) struct Directions {
     pub(crate) most: usize,
 }
 
-// No frame in each direction from and to this many federates.
+/// No frame in each direction from and to this many federates.
 pub(crate) fn none_used<N: Node>(
     alloc: Global,
     coordinator: &Station<N>,
@@ -182,14 +182,14 @@ fn none_sent(alloc: Global, count: usize) -> Result<Vec<Sent>, Memory>
     Ok(sent)
 }
 
-// The k-th frame in a direction, counted from 1.
+/// The k-th frame in a direction, counted from 1.
 pub(crate) fn nth(sent: &[Sent], place: usize, k: usize) -> Option<Frame>
     ensures { result ≡ frame_at (get_or (frames_of_each sent.now) place []) k }
 {
     sent.get(place)?.nth(k)
 }
 
-// How many frames were sent in a direction.
+/// How many frames were sent in a direction.
 pub(crate) fn count(sent: &[Sent], place: usize) -> usize
     ensures { result ≡ length (get_or (frames_of_each sent.now) place []) }
 {

@@ -133,8 +133,8 @@ impl MadeSteps {
     }
 }
 
-/// The one after this many others, where all from the first one on whose numbers aren't small stand behind the small
-/// ones.
+// The one after this many others, where all from the first one on whose numbers aren't small stand behind the small
+// ones.
 fn step_at(small: &[SmallStep], rest: &[Step], place: usize) -> Option<Step>
     ensures { result ≡ slice_get (map shown small.now ++ rest.now) place }
 {
@@ -144,7 +144,7 @@ fn step_at(small: &[SmallStep], rest: &[Step], place: usize) -> Option<Step>
     }
 }
 
-/// Puts a step after all others.
+// Puts a step after all others.
 fn put_last(small: &mut Vec<SmallStep>, rest: &mut Vec<Step>, step: Step)
     requires small { vec_len small.old < vec_capacity small.old }
     requires rest { vec_len rest.old < vec_capacity rest.old }
@@ -158,7 +158,7 @@ fn put_last(small: &mut Vec<SmallStep>, rest: &mut Vec<Step>, step: Step)
     }
 }
 
-/// Whether one of these or of those makes this federate forget.
+// Whether one of these or of those makes this federate forget.
 #[tactic(auto, using(crate::proofs::Made::any_of_both))]
 fn is_among_all(federate: usize, small: &[SmallStep], rest: &[Step]) -> bool
     ensures { result ≡ list_any (is_forget_of federate) (map shown small.now ++ rest.now) }
@@ -166,14 +166,14 @@ fn is_among_all(federate: usize, small: &[SmallStep], rest: &[Step]) -> bool
     is_among_small(federate, small) || is_among(federate, rest)
 }
 
-/// Whether one of these makes this federate forget.
+// Whether one of these makes this federate forget.
 fn is_among_small(federate: usize, steps: &[SmallStep]) -> bool
     ensures { result ≡ list_any (λ step. is_forget_of federate (shown step)) steps.now }
 {
     steps.iter().any(|step| forgets_in(federate, *step))
 }
 
-/// Whether this one makes this federate forget.
+// Whether this one makes this federate forget.
 fn forgets_in(federate: usize, step: SmallStep) -> bool
     ensures { result ≡ is_forget_of federate (shown step) }
 {
@@ -183,14 +183,14 @@ fn forgets_in(federate: usize, step: SmallStep) -> bool
     }
 }
 
-/// Whether one of these makes this federate forget.
+// Whether one of these makes this federate forget.
 fn is_among(federate: usize, steps: &[Step]) -> bool
     ensures { result ≡ list_any (is_forget_of federate) steps.now }
 {
     steps.iter().any(|step| forgets(federate, *step))
 }
 
-/// Whether this one makes this federate forget.
+// Whether this one makes this federate forget.
 fn forgets(federate: usize, step: Step) -> bool
     ensures { result ≡ is_forget_of federate step }
 {
@@ -200,7 +200,7 @@ fn forgets(federate: usize, step: Step) -> bool
     }
 }
 
-/// The step.
+// The step.
 fn step_of(step: SmallStep) -> Step
     ensures { result ≡ shown step }
 {
@@ -229,7 +229,7 @@ fn down(federate: u16) -> Dir
     Dir::Down(usize::from(federate))
 }
 
-/// The step with small numbers, where they are small.
+// The step with small numbers, where they are small.
 fn small_of(step: Step) -> Option<SmallStep>
     ensures { IfSome result (λ small. shown small ≡ step) }
 {
@@ -273,7 +273,7 @@ fn reconnected(dir: Dir) -> Option<SmallStep>
     }
 }
 
-/// A federate's number, where it is small.
+// A federate's number, where it is small.
 fn small_number(federate: usize) -> Option<u16>
     ensures { IfSome result (λ number. number ≡ federate) }
 {

@@ -13,7 +13,7 @@ pub(crate) struct Occurrence {
     pub(crate) event: Event,
 }
 
-// The federate of a direction.
+/// The federate of a direction.
 pub(crate) fn federate_of(dir: Dir) -> usize
     ensures { result ≡ federate_of dir }
 {
@@ -22,7 +22,7 @@ pub(crate) fn federate_of(dir: Dir) -> usize
     }
 }
 
-// A frame of a direction comes to its receiver.
+/// A frame of a direction comes to its receiver.
 pub(crate) fn comes(dir: Dir, frame: Frame) -> Occurrence
     ensures { record { node = result.node; event = result.event } ≡ comes dir frame }
 {
@@ -38,7 +38,7 @@ pub(crate) fn comes(dir: Dir, frame: Frame) -> Occurrence
     }
 }
 
-// The sender of a direction sends again what isn't acknowledged.
+/// The sender of a direction sends again what isn't acknowledged.
 pub(crate) fn sends_again(dir: Dir) -> Occurrence
     ensures { record { node = result.node; event = result.event } ≡ sends_again dir }
 {
@@ -54,7 +54,7 @@ pub(crate) fn sends_again(dir: Dir) -> Occurrence
     }
 }
 
-// The sender of a direction greets.
+/// The sender of a direction greets.
 pub(crate) fn greets(dir: Dir) -> Occurrence
     ensures { record { node = result.node; event = result.event } ≡ greets dir }
 {

@@ -6,7 +6,7 @@ ghost use Rattle.world_stations.specs.World.{outcome_of, frames_of};
 use crate::Outcome;
 use node::{Outgoing, Reply};
 
-// How it is printed.
+/// How it is printed.
 pub(crate) fn outcome_of(reply: &Reply) -> Outcome
     ensures { result ≡ outcome_of (answer_in reply.now) }
 {
@@ -17,7 +17,7 @@ pub(crate) fn outcome_of(reply: &Reply) -> Outcome
     }
 }
 
-// The frames that go out.
+/// The frames that go out.
 pub(crate) fn frames_of(reply: &Reply) -> &[Outgoing]
     ensures { result.now ≡ frames_of (answer_in reply.now) }
 {

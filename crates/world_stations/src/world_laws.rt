@@ -15,7 +15,7 @@ ghost use Rattle.world_stations.specs.Kept.{is_forget, is_kept, IsSettled, Keeps
 ghost use Rattle.std.specs.List.{list_any};
 ghost use Rattle.world_stations.specs.Taken.{TakesInOrder};
 ghost use Rattle.world_stations.specs.World.{opened, frames_in};
-ghost use Rattle.world_stations.specs.Federation.{initial_world, world_after, step_in, IsPlain, TakesNothingLate};
+ghost use Rattle.world_stations.specs.Federation.{initial_world, world_after, step_in, IsHarmless, TakesNothingLate};
 ghost use Rattle.world_stations.specs.Federation.{IsPrefix, IsWhole, IsStuck, IsFinished};
 
 use node::Node;
@@ -37,7 +37,7 @@ pub fn steps_are_made_in_order()
 pub fn no_node_refuses_a_signal()
     ensures { (d : Draft) (programs : List Behaviour) (inputs : List Input) (steps : List Step) (step : Step)
         → IsLegal d → AreProgramsOf d programs →
-        AreInputsOf d inputs → IsPlain (step_in (world_after d programs inputs steps) step).outcome }
+        AreInputsOf d inputs → IsHarmless (step_in (world_after d programs inputs steps) step).outcome }
 {}
 
 /// Whatever steps were made, the rows of each federate that kept its state are a prefix of its part of the undivided

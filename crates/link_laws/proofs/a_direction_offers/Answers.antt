@@ -1,7 +1,7 @@
 use Rattle.std.proofs.Common.{IsTrue}
 use Rattle.std.specs.Prelude.{length}
 use Rattle.network_laws.proofs.Lists.{each, from_each}
-use Rattle.link_laws.specs.Way.{offered_in, is_old}
+use Rattle.link_laws.specs.Direction.{offered_in, is_old}
 use Rattle.signal.specs.Batch.{numbered}
 use Rattle.std.proofs.Common.{◌+◌, drop}
 use Rattle.link_laws.proofs.Ways.{offers_more, offers_same, resent_old}

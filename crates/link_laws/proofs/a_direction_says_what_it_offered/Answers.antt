@@ -1,6 +1,6 @@
 use Rattle.std.proofs.Common.{◌+◌, drop}
 use Rattle.network_laws.proofs.Lists.{from_each}
-use Rattle.link_laws.specs.Way.{IsGenuine}
+use Rattle.link_laws.specs.Direction.{IsGenuine}
 use Rattle.signal.specs.Batch.{numbered}
 use Rattle.link_laws.proofs.Ways.{way_with_more, way_with_old, resent_genuine}
 use Rattle.link_laws.proofs.a_direction_says_what_it_offered.Goals as goal

@@ -31,7 +31,7 @@ pub(super) fn line(slots: &Slots, states: &[State], text: &[u8]) -> Result<Line,
     })
 }
 
-/// The line that begins with `when`: a condition, `:` and a statement.
+// The line that begins with `when`: a condition, `:` and a statement.
 fn guarded(slots: &Slots, states: &[State], text: &[u8]) -> Result<Line, LineFault>
     requires { IsWithinLimits slots.now }
     ensures { IsReading (λ w. SpellsLine w (codes "when" ∷ tokens_of text.now)) (line_of slots.now states.now) result }

@@ -33,7 +33,7 @@ pub(super) fn operand(slots: &Slots, states: &[State], token: &[u8]) -> Result<O
     }
 }
 
-/// The value at a slot; startup and timers have none, which reads as 0.
+// The value at a slot; startup and timers have none, which reads as 0.
 fn value_at_slot(slots: &Slots, slot: usize) -> Operand
     ensures { result ≡ value_at_slot slots.now slot }
 {
@@ -44,7 +44,7 @@ fn value_at_slot(slots: &Slots, slot: usize) -> Operand
     }
 }
 
-/// The slot of a name after `in.` or `has.`.
+// The slot of a name after `in.` or `has.`.
 fn slot(slots: &Slots, name: &[u8]) -> Result<usize, LineFault>
     requires { IsWithinLimits slots.now }
     ensures { result ≡ slot_read slots.now name.now }

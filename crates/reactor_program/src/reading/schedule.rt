@@ -37,7 +37,7 @@ pub(super) fn schedule(slots: &Slots, states: &[State], text: &[u8]) -> Result<S
     Ok(Statement::Schedule(action, Delay::after(time), value))
 }
 
-/// The duration that a text begins with, in one token or in two, and the one token after it.
+// The duration that a text begins with, in one token or in two, and the one token after it.
 fn timed(text: &[u8]) -> Option<(Time, &[u8])>
     ensures { MatchOption result ((time : ℕ) (token : List ℕ) → IsTimed text.now time token → ⊥)
         (λ parts. IsTimed text.now parts.0 parts.1.now) }
@@ -51,7 +51,7 @@ fn timed(text: &[u8]) -> Option<(Time, &[u8])>
     Some((duration(both)?, value))
 }
 
-/// The time that a text as `10 ms` or `0` spells, or None for 2^62 ns or more.
+// The time that a text as `10 ms` or `0` spells, or None for 2^62 ns or more.
 fn duration(text: &[u8]) -> Option<Time>
     ensures { MatchOption result ((time : ℕ) → Spells text.now time → time < 2 ^ 62 → ⊥)
         (λ time. Spells text.now time × (time < 2 ^ 62)) }

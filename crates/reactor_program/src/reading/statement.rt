@@ -43,7 +43,7 @@ pub(super) fn statement(
     }
 }
 
-/// The statement that begins with `out.`, this port and `=`.
+// The statement that begins with `out.`, this port and `=`.
 fn output(slots: &Slots, states: &[State], port: &[u8], rest: &[u8]) -> Result<Statement, LineFault>
     requires { IsWithinLimits slots.now }
     ensures { IsReading (λ w. SpellsStatement w ((codes "out." ++ port.now) ∷ codes "=" ∷ tokens_of rest.now))
@@ -58,7 +58,7 @@ fn output(slots: &Slots, states: &[State], port: &[u8], rest: &[u8]) -> Result<S
     Ok(Statement::Output(port, value))
 }
 
-/// The statement that begins with this state and `=`.
+// The statement that begins with this state and `=`.
 fn assignment(
     slots: &Slots,
     states: &[State],

@@ -10,12 +10,12 @@ loop-post-preserved c =
     grind (arith, take_more c.args.posts.now c.loop-post.post-index c.post-item.result, c.post-item.is) in
     elim c.match-post.branch [
       | in-Tag w ↦ record {
-        wires = ap (λ r. r.wires) (w.table-is ∙ w.set_granted.ensures.value) ∙ c.loop-post.invariant.wires;
+        wiring = ap (λ r. r.wiring) (w.table-is ∙ w.set_granted.ensures.value) ∙ c.loop-post.invariant.wiring;
         federate_records = noted_tag c.args.table.now.federate_records c.loop-post.table c.match-post.table c.args.posts.now c.loop-post.post-index w.set_granted.new.self.looks
             c.post-item.result w.in-Tag.tag c.loop-post.invariant.federate_records more w.in-Tag.is (w.table-is ∙ w.set_granted.ensures.value);
       }
       | in_default w ↦ record {
-        wires = ap (λ r. r.wires) w.table-is ∙ c.loop-post.invariant.wires;
+        wiring = ap (λ r. r.wiring) w.table-is ∙ c.loop-post.invariant.wiring;
         federate_records = ap (λ r. r.federate_records) w.table-is ∙
             noted_other c.args.table.now.federate_records c.loop-post.table c.args.posts.now c.loop-post.post-index c.post-item.result c.loop-post.invariant.federate_records more w.in_default.not-Tag;
       }

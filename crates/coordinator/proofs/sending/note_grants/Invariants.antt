@@ -5,6 +5,6 @@ use Rattle.coordinator.proofs.sending.note_grants.Given as goal
 -- the posts so far are noted
 abbrev pub invariant-loop-post : goal.invariant-loop-post
 invariant-loop-post l = record {
-  wires : l.table.wires ≡ l.fn.table.wires;
+  wiring : l.table.wiring ≡ l.fn.table.wiring;
   federate_records : l.table.federate_records ≡ all_granted l.fn.table.federate_records (take l.post-index l.posts);
 }

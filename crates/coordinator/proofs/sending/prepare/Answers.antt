@@ -1,5 +1,5 @@
-use Rattle.coordinator.proofs.Sent.{looked_at_are_there}
+use Rattle.coordinator.proofs.Sent.{affected_are_there}
 use Rattle.coordinator.proofs.sending.prepare.Goals as goal
 
 pub push_grants-requires : goal.push_grants-requires
-push_grants-requires c = rw c.affected_by.ensures (looked_at_are_there c.args.table.now.wires c.args.changed)
+push_grants-requires c = rw c.affected_by.ensures (affected_are_there c.args.table.now.wiring c.args.changed)

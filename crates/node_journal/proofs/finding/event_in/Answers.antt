@@ -1,5 +1,5 @@
 use Rattle.std.proofs.Common.{◌∙◌, ap, Option, None, Some}
-use Rattle.node_journal.specs.declared.placed.Placed.{Placed}
+use Rattle.node_journal.specs.declared.placed_block.PlacedBlock.{PlacedBlock}
 use Rattle.node_journal.specs.Slips.{event_if}
 use Rattle.node_journal.proofs.Places.{lent_in}
 use Rattle.node_journal.proofs.finding.event_in.Goals as goal
@@ -7,7 +7,7 @@ use Rattle.node_journal.proofs.finding.event_in.Goals as goal
 pub returns-in-Some : goal.returns-in-Some
 returns-in-Some c =
     c.event_of.ensures
-    ∙ ap (λ (found : Option Placed). event_if found c.args.place) (lent_in c.args.blocks.now c.args.position (Some c.in-Some.placed) c.in-Some.ensures.lookup)
+    ∙ ap (λ (found : Option PlacedBlock). event_if found c.args.place) (lent_in c.args.blocks.now c.args.position (Some c.in-Some.placed) c.in-Some.ensures.lookup)
 
 pub returns-in-None : goal.returns-in-None
-returns-in-None c = ap (λ (found : Option Placed). event_if found c.args.place) (lent_in c.args.blocks.now c.args.position None c.in-None.ensures.lookup)
+returns-in-None c = ap (λ (found : Option PlacedBlock). event_if found c.args.place) (lent_in c.args.blocks.now c.args.position None c.in-None.ensures.lookup)

@@ -1,6 +1,6 @@
 use Rattle.std.proofs.Common.{arith, rules, refl, ◌≡◌, ◌≢◌, ◌∷◌, ◌<◌, ap, sym, subst, length}
 use Rattle.std.specs.Prelude.{All, Contains}
-use Rattle.plan_paths.specs.Cycles.{JoinsTree, IsTree, IsWay}
+use Rattle.plan_paths.specs.Cycles.{JoinsTree, IsTree, IsSimpleZeroDelayPath}
 use Rattle.plan_paths.proofs.Cycles.{IsGrown, grown_none, grown_more, none_from_closed, cycle_found, tree_is_small}
 use Rattle.plan_paths.proofs.cycle.cycle_from.Goals as goal
 
@@ -22,8 +22,8 @@ returns-then-source-start c =
     let source : c.in-Some.branch.source ≡ c.args.start = search rules in
     let same = c.as_slice-then-source-start.ensures.value in
     let joined : JoinsTree c.args.start tree branch = subst (λ ts. JoinsTree c.args.start ts branch) c.as_slice.ensures.value given.1 in
-    let way : IsWay (branch ∷ tree) branch.source c.in_ok-path.path.items c.args.start
-    = subst (λ ts. IsWay (branch ∷ ts) branch.source c.in_ok-path.path.items c.args.start) same
+    let way : IsSimpleZeroDelayPath (branch ∷ tree) branch.source c.in_ok-path.path.items c.args.start
+    = subst (λ ts. IsSimpleZeroDelayPath (branch ∷ ts) branch.source c.in_ok-path.path.items c.args.start) same
     (c.in_ok-path.ensures c.args.start (subst (λ ts. JoinsTree c.args.start ts branch) (sym same) joined)
     (subst (λ ts. IsTree c.args.start ts) (sym same) c.loop-branches.invariant.grown.is_tree)) in
     cycle_found cs c.args.start tree branch c.in_ok-path.path.items c.requires.none_lower c.loop-branches.invariant.grown given.0 source way

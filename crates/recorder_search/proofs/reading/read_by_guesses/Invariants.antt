@@ -5,8 +5,8 @@ use Rattle.recorder_search.proofs.reading.read_by_guesses.Given as goal
 -- what was read so far
 abbrev pub invariant-loop : goal.invariant-loop
 invariant-loop g l =
-    (initial : _) → IsReading g.M.Machine.motion initial (map (λ j. j.now) l.journals) (record { state = l.fn.machine; read = l.fn.read }) →
-    IsReading g.M.Machine.motion initial (map (λ j. j.now) l.journals) (record { state = l.machine; read = l.read })
+    (initial : _) → IsReading g.M.StepMaker.motion initial (map (λ j. j.now) l.journals) (record { state = l.fn.step_maker; read = l.fn.read }) →
+    IsReading g.M.StepMaker.motion initial (map (λ j. j.now) l.journals) (record { state = l.step_maker; read = l.read })
 
 -- how much isn't read
 abbrev pub decreases-loop : goal.decreases-loop

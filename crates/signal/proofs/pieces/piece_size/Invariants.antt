@@ -1,5 +1,5 @@
 use Rattle.std.proofs.Common.{◌<◌, ◌≤◌, ◌-◌, length, take}
-use Rattle.signal.specs.Cut.{IsStretch}
+use Rattle.signal.specs.Pieces.{IsStretch}
 use Rattle.signal.proofs.pieces.piece_size.Given as goal
 
 -- the frames so far are a piece

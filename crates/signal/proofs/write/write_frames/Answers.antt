@@ -3,7 +3,7 @@ use Rattle.std.specs.Prelude.{OnOk}
 use Rattle.std.proofs.lemmas.Result.{on_ok_weaker}
 use Rattle.std.specs.List.{AllByRecursion}
 use Rattle.signal.specs.Frame.{IsFrame}
-use Rattle.signal.specs.Cut.{written}
+use Rattle.signal.specs.Pieces.{written}
 use Rattle.signal.proofs.Appended.{Answer, all_written, as_before}
 use Rattle.signal.proofs.Readable.{written_splits}
 use Rattle.signal.proofs.write.write_frames.Goals as goal

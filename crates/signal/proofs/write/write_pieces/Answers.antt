@@ -1,7 +1,7 @@
 use Rattle.std.proofs.Common.{◌≡◌, ◌++◌, length, refl, arith}
 use Rattle.std.proofs.lemmas.Bool.Decides.{nat_tests}
 use Rattle.std.specs.List.{flat_map}
-use Rattle.signal.specs.Cut.{piece_bytes}
+use Rattle.signal.specs.Pieces.{piece_bytes}
 use Rattle.signal.proofs.Cutting.{cut_from}
 use Rattle.signal.proofs.Appended.{nothing_more, extends_both}
 use Rattle.signal.proofs.Taken.{piece_written, frames_join, all_done}

@@ -1,7 +1,7 @@
 use Rattle.std.proofs.Common.{◌≡◌, ◌++◌, length}
 use Rattle.std.specs.List.{flat_map, AllByRecursion}
 use Rattle.signal.specs.Frame.{IsFrame}
-use Rattle.signal.specs.Cut.{piece_bytes, Extends}
+use Rattle.signal.specs.Pieces.{piece_bytes, Extends}
 use Rattle.signal.proofs.Cutting.{cut_from, most_of}
 use Rattle.signal.proofs.write.write_pieces.Given as goal
 

@@ -1,7 +1,7 @@
 use Rattle.std.proofs.Common.{◌≡◌, ◌+◌, ◌*◌, ◌≤◌, length, drop}
 use Rattle.std.specs.List.{flat_map}
 use Rattle.signal.specs.Signal.{signal_bytes}
-use Rattle.signal.specs.Cut.{signals_of}
+use Rattle.signal.specs.Pieces.{signals_of}
 use Rattle.signal.proofs.writing.signals_size.Given as goal
 
 -- the size of what is left completes it

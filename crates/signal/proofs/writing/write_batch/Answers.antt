@@ -1,6 +1,6 @@
 use Rattle.std.proofs.Common.{◌+◌, ◌<◌, ◌++◌, List, ℕ, length, sym, ap, ◌∙◌, arith}
 use Rattle.std.proofs.lemmas.Result.{on_ok_weaker}
-use Rattle.signal.specs.Cut.{signals_of}
+use Rattle.signal.specs.Pieces.{signals_of}
 use Rattle.signal.proofs.Readable.{signals_many, batch_by_first}
 use Rattle.signal.proofs.Appended.{batch_whole}
 use Rattle.signal.proofs.writing.write_batch.Goals as goal

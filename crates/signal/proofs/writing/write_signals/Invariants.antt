@@ -2,7 +2,7 @@ use Rattle.std.proofs.Common.{◌≡◌, ◌++◌, drop}
 use Rattle.std.specs.List.{flat_map, AllByRecursion}
 use Rattle.signal.specs.Signal.{signal_bytes}
 use Rattle.signal.specs.Frame.{IsFrame}
-use Rattle.signal.specs.Cut.{signals_of, Extends}
+use Rattle.signal.specs.Pieces.{signals_of, Extends}
 use Rattle.signal.proofs.writing.write_signals.Given as goal
 
 -- what is left completes what was written

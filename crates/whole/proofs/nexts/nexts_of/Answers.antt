@@ -2,7 +2,7 @@ use Rattle.std.proofs.Common.{◌≡◌, ◌<◌, length, slice_get, sym, ap, �
 use Rattle.std.proofs.lemmas.Option.{slice_get-get_or}
 use Rattle.reactor_agenda.specs.Agenda.{Agenda, least_in}
 use Rattle.whole.specs.Construction.{least_on}
-use Rattle.whole.specs.Schedule.{next_on}
+use Rattle.whole.specs.Agendas.{next_on}
 use Rattle.whole.proofs.Filled.{filled_more}
 use Rattle.whole.proofs.nexts.nexts_of.Goals as goal
 

@@ -1,4 +1,4 @@
-use Rattle.whole.specs.Schedule.{next_on}
+use Rattle.whole.specs.Agendas.{next_on}
 use Rattle.whole.proofs.Filled.{IsFilled}
 use Rattle.whole.proofs.nexts.nexts_of.Given as goal
 

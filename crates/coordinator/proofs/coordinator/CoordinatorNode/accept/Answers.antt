@@ -13,7 +13,7 @@ pub returns-clause-call : goal.returns-clause-call
 returns-clause-call c unless =
     let P : CoordinatorNode → Type 0 = λ v. IsCall v (node_with c.self.inside.plan.now c.take.new.self.table.federate_records) c.args.outbox.now.mail c.take.new.outbox.mail c.take.result (accepts v c.args.peer c.args.signal) in
     subst P c.self.view_is
-    (call_lifts c.self.inside.plan.now c.self.inside.state.table c.take.new.self.table c.args.outbox.now.mail c.take.new.outbox.mail c.take.result c.args.peer c.args.signal c.self.invariant.wires c.take.ensures unless)
+    (call_lifts c.self.inside.plan.now c.self.inside.state.table c.take.new.self.table c.args.outbox.now.mail c.take.new.outbox.mail c.take.result c.args.peer c.args.signal c.self.invariant.wiring c.take.ensures unless)
 
 pub returns-clause-lawful : goal.returns-clause-lawful
 returns-clause-lawful c =

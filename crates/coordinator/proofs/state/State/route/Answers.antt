@@ -4,7 +4,7 @@ use Rattle.protocol.specs.FederateRecord.{after_message}
 use Rattle.protocol.specs.FederateRecords.{federate_record_at}
 use Rattle.signal.specs.declared.signal.Signal.TheVariants.{Msg}
 use Rattle.node.specs.Mail.{lacks_room}
-use Rattle.grants.specs.Routes.{looked_at}
+use Rattle.grants.specs.Routes.{affected_by}
 use Rattle.coordinator.specs.Sending.{grants_in}
 use Rattle.std.proofs.Common.{w64, to_z, of_z}
 use Rattle.std.proofs.lemmas.Int.{to_z-of_z}
@@ -29,21 +29,21 @@ prepare-requires c =
     let r = c.args.self.now.table in
     let j = c.target-target.result in
     let there = target_is_there r c.args.number j c.args.over c.in-Some.connection c.invariant.ensures c.requires.over c.in-Some.is c.target-target.ensures in
-    rw (ap (λ x. x.wires.federates) c.note_next.ensures) there
+    rw (ap (λ x. x.wiring.federates) c.note_next.ensures) there
 
 pub set_next-requires : goal.set_next-requires
 set_next-requires c =
     let r = c.args.self.now.table in
     let j = c.target-target.result in
     let there = target_is_there r c.args.number j c.args.over c.in-Some.connection c.invariant.ensures c.requires.over c.in-Some.is c.target-target.ensures in
-    rw (ap (λ x. x.wires.federates) c.note_next.ensures) there
+    rw (ap (λ x. x.wiring.federates) c.note_next.ensures) there
 
 pub add_transit-requires : goal.add_transit-requires
 add_transit-requires c =
     let r = c.args.self.now.table in
     let j = c.target-target.result in
     let there = target_is_there r c.args.number j c.args.over c.in-Some.connection c.invariant.ensures c.requires.over c.in-Some.is c.target-target.ensures in
-    rw (ap (λ x. x.wires.federates) c.note_next.ensures) there
+    rw (ap (λ x. x.wiring.federates) c.note_next.ensures) there
 
 pub set_next-requires-then-is_err : goal.set_next-requires-then-is_err
 set_next-requires-then-is_err c =
@@ -51,7 +51,7 @@ set_next-requires-then-is_err c =
     let j = c.target-target.result in
     let there = target_is_there r c.args.number j c.args.over c.in-Some.connection c.invariant.ensures c.requires.over c.in-Some.is c.target-target.ensures in
     let same = err_of c.add_transit.result (sym c.is_err.ensures.value ∙ c.if-is_err.true) c.add_transit.ensures.err in
-    rw (ap (λ x. x.wires.federates) same, ap (λ x. x.wires.federates) c.note_next.ensures) there
+    rw (ap (λ x. x.wiring.federates) same, ap (λ x. x.wiring.federates) c.note_next.ensures) there
 
 pub returns-in-Err : goal.returns-in-Err
 returns-in-Err c =
@@ -67,7 +67,7 @@ returns-in-Err c =
     let first = c.in_ok-push.ensures.items ∙
     (ap (λ xs. xs ++ record { peer = j; signal = Msg c.args.number c.args.tag (to_z w64 (of_z w64 c.args.value)) } ∷ []) c.clear.ensures.items ∙
     ap (λ v. record { peer = c.target-target.result; signal = Msg c.args.number c.args.tag v } ∷ []) (to_z-of_z w64 c.args.value c.ranges.value)) in
-    let back = message_back r c.note_next.new.table c.set_next.new.self j c.set_next.new.self.looks c.args.tag c.next-next.result c.invariant.ensures there taken.wires taken.federate_records
+    let back = message_back r c.note_next.new.table c.set_next.new.self j c.set_next.new.self.looks c.args.tag c.next-next.result c.invariant.ensures there taken.wiring taken.federate_records
     c.next-next.ensures c.set_next.ensures.value in
     failed_step r c.note_next.new.table c.set_next.new.self c.args.outbox.now.mail c.prepare.new.outbox.mail c.args.peer j message
     (routed (federate_record_at r.federate_records) message j c.args.tag) (record s { next = lesser s.next c.args.tag }) (after_message s c.args.tag) c.push.new.self.items c.in-Err.fault taken first
@@ -89,7 +89,7 @@ returns-then-is_err c =
     ap (λ v. record { peer = c.target-target.result; signal = Msg c.args.number c.args.tag v } ∷ []) (to_z-of_z w64 c.args.value c.ranges.value)) in
     let same = err_of c.add_transit.result (sym c.is_err.ensures.value ∙ c.if-is_err.true) c.add_transit.ensures.err in
     let back = message_back r c.add_transit.new.self c.set_next-then-is_err.new.self j c.set_next-then-is_err.new.self.looks c.args.tag c.next-next.result c.invariant.ensures there
-    (ap (λ x. x.wires) same ∙ taken.wires) (ap (λ x. x.federate_records) same ∙ taken.federate_records) c.next-next.ensures c.set_next-then-is_err.ensures.value in
+    (ap (λ x. x.wiring) same ∙ taken.wiring) (ap (λ x. x.federate_records) same ∙ taken.federate_records) c.next-next.ensures c.set_next-then-is_err.ensures.value in
     failed_step r c.note_next.new.table c.set_next-then-is_err.new.self c.args.outbox.now.mail c.prepare.new.outbox.mail c.args.peer j message
     (routed (federate_record_at r.federate_records) message j c.args.tag) (record s { next = lesser s.next c.args.tag }) (after_message s c.args.tag) c.push.new.self.items fault.Memory taken first
     back.0 back.1 c.prepare.ensures.mail (λ unless. absurd (unless refl))
@@ -102,12 +102,12 @@ send-requires-clause-peers c =
     let message = Msg c.args.number c.args.tag c.args.value in
     let there = target_is_there r c.args.number j c.args.over c.in-Some.connection c.invariant.ensures c.requires.over c.in-Some.is c.target-target.ensures in
     let add = ok_of c.add_transit.result (sym c.is_err.ensures.value ∙ c.if-is_err.false) c.add_transit.ensures.ok in
-    let many : c.add_transit.new.self.wires.federates ≡ c.args.self.now.table.wires.federates = ap (λ x. x.wires.federates) add ∙ ap (λ x. x.wires.federates) c.note_next.ensures in
+    let many : c.add_transit.new.self.wiring.federates ≡ c.args.self.now.table.wiring.federates = ap (λ x. x.wiring.federates) add ∙ ap (λ x. x.wiring.federates) c.note_next.ensures in
     let put = c.in_ok-push.ensures.items ∙ ap (λ xs. xs ++ record { peer = j; signal = Msg c.args.number c.args.tag (to_z w64 (of_z w64 c.args.value)) } ∷ []) c.clear.ensures.items in
-    let within : c.target-target.result < c.add_transit.new.self.wires.federates = rw many there in
-    peers_are_there c.note_next.new.table j c.add_transit.new.self.wires.federates (record { peer = j; signal = Msg c.args.number c.args.tag (to_z w64 (of_z w64 c.args.value)) } ∷ []) c.as_slice.result.now (within, tt)
-    (c.as_slice.ensures.value ∙ (c.in_default-prepare.ensures.posts ∙ ap (λ xs. xs ++ grants_in c.note_next.new.table (looked_at c.note_next.new.table.wires j)) put))
-    (ap (λ x. x.wires.federates) (sym add))
+    let within : c.target-target.result < c.add_transit.new.self.wiring.federates = rw many there in
+    peers_are_there c.note_next.new.table j c.add_transit.new.self.wiring.federates (record { peer = j; signal = Msg c.args.number c.args.tag (to_z w64 (of_z w64 c.args.value)) } ∷ []) c.as_slice.result.now (within, tt)
+    (c.as_slice.ensures.value ∙ (c.in_default-prepare.ensures.posts ∙ ap (λ xs. xs ++ grants_in c.note_next.new.table (affected_by c.note_next.new.table.wiring j)) put))
+    (ap (λ x. x.wiring.federates) (sym add))
 
 pub returns : goal.returns
 returns c =
@@ -124,9 +124,9 @@ returns c =
     (ap (λ xs. xs ++ record { peer = j; signal = Msg c.args.number c.args.tag (to_z w64 (of_z w64 c.args.value)) } ∷ []) c.clear.ensures.items ∙
     ap (λ v. record { peer = c.target-target.result; signal = Msg c.args.number c.args.tag v } ∷ []) (to_z-of_z w64 c.args.value c.ranges.value)) in
     let add = ok_of c.add_transit.result (sym c.is_err.ensures.value ∙ c.if-is_err.false) c.add_transit.ensures.ok in
-    let added = message_added r c.note_next.new.table c.add_transit.new.self j c.args.tag c.invariant.ensures there taken.wires taken.federate_records add in
+    let added = message_added r c.note_next.new.table c.add_transit.new.self j c.args.tag c.invariant.ensures there taken.wiring taken.federate_records add in
     finished_step r c.note_next.new.table c.add_transit.new.self c.send.new.table c.args.outbox.now.mail c.prepare.new.outbox.mail c.send.new.outbox.mail c.args.peer j message
     (routed (federate_record_at r.federate_records) message j c.args.tag) (record s { next = lesser s.next c.args.tag }) (after_message s c.args.tag) c.push.new.self.items c.as_slice.result.now taken first (message_first j c.args.number c.args.tag c.args.value)
     added.0 added.1 (c.as_slice.ensures.value ∙ c.in_default-prepare.ensures.posts) c.prepare.ensures.mail
     (ap (λ xs. lacks_room c.prepare.new.outbox.mail.ends xs) c.as_slice.ensures.value ∙ c.in_default-prepare.ensures.ready.room)
-    c.send.ensures.wires c.send.ensures.federate_records c.send.ensures.mail
+    c.send.ensures.wiring c.send.ensures.federate_records c.send.ensures.mail

@@ -7,7 +7,7 @@ use Rattle.reactor_program.proofs.Zips.{all_zip_lengths}
 use Rattle.plan_network.proofs.LawfulNetwork.{gives_lawful}
 use Rattle.plan.specs.declared.draft.Federate as declared
 use Rattle.protocol.specs.Federate as protocol
-use Rattle.protocol.specs.Alone.{IsFederate}
+use Rattle.protocol.specs.KeptAlone.{IsFederate}
 use Rattle.protocol_laws.proofs.FederateAlone.{initial_is_federate}
 use Rattle.node_cores.specs.FederateCore.{FederateNode}
 use Rattle.reactor_agenda.specs.Agenda.{Agenda, own_undone}

@@ -1,7 +1,7 @@
 use Rattle.std.proofs.Common.{◌≡◌, length, take}
 use Rattle.protocol.specs.Grant.{is_eligible}
 use Rattle.protocol.specs.FederateRecords.{federate_record_at}
-use Rattle.grants.specs.Wires.{least_by, network_by}
+use Rattle.grants.specs.Wiring.{least_by, network_by}
 use Rattle.grants.specs.Looks.{counted}
 use Rattle.grants.specs.Invariant.{flags_after}
 use Rattle.grants.proofs.affected.AffectedFederates.look_at_each.Given as goal

@@ -2,7 +2,7 @@ use Rattle.std.proofs.Common.{◌∙◌, ap}
 use Rattle.tag.specs.LogicalTime.{is_before, lesser, origin, predecessor_of}
 use Rattle.protocol.specs.FederateRecords.{federate_record_at}
 use Rattle.protocol.specs.Grant.{bound_of}
-use Rattle.grants.specs.Wires.{least_by, network_by}
+use Rattle.grants.specs.Wiring.{least_by, network_by}
 use Rattle.grants.proofs.Tables.{bound_is_late, widest}
 use Rattle.grants.proofs.table.Table.grant.Goals as goal
 

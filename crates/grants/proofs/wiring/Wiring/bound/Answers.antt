@@ -1,6 +1,6 @@
 use Rattle.std.proofs.Common.{◌∙◌, ap, subst}
 use Rattle.protocol.specs.FederateRecords.{federate_record_at}
-use Rattle.grants.specs.Wires.{AreWires}
+use Rattle.grants.specs.Wiring.{IsWiring}
 use Rattle.grants.specs.Routes.{Routed}
 use Rattle.grants.proofs.Arrivals.{bound_is}
 use Rattle.grants.proofs.Routed.{routes_are, upstream_there, incoming_there}
@@ -18,7 +18,7 @@ first_incoming-by_connections-requires c =
     let w = c.self.inside in
     let at = routes_are w.routes.items w.connections.items w.stop c.args.self.now c.args.federate c.index-routes.result.now c.self.view_is c.self.invariant.1 c.requires.federate
     c.index-routes.ensures in
-    incoming_there c.args.self.now c.args.federate _ c.index-routes.result.now c.incoming.result.now (subst AreWires c.self.view_is c.self.invariant.0) at
+    incoming_there c.args.self.now c.args.federate _ c.index-routes.result.now c.incoming.result.now (subst IsWiring c.self.view_is c.self.invariant.0) at
     c.incoming.ensures c.requires.count
 
 pub returns : goal.returns

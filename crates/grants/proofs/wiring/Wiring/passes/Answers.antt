@@ -3,7 +3,7 @@ use Rattle.tag.specs.LogicalTime.{is_before, greater}
 use Rattle.protocol.specs.Grant.{bound_of}
 use Rattle.protocol.specs.FederateRecords.{federate_record_at}
 use Rattle.grants.specs.Bounds.{first_incoming, first_upstream}
-use Rattle.grants.specs.Wires.{AreWires, least_by, network_by}
+use Rattle.grants.specs.Wiring.{IsWiring, least_by, network_by}
 use Rattle.grants.specs.Routes.{Routed, upstream_of}
 use Rattle.grants.proofs.Arrivals.{bound_is}
 use Rattle.protocol_laws.proofs.SafeGrants.{greater_from_second}
@@ -16,7 +16,7 @@ passes_incoming-requires c =
     let w = c.self.inside in
     let at = routes_are w.routes.items w.connections.items w.stop c.args.self.now c.args.federate c.index-routes.result.now c.self.view_is c.self.invariant.1 c.requires.federate
     c.index-routes.ensures in
-    incoming_there c.args.self.now c.args.federate _ c.index-routes.result.now c.incoming.result.now (subst AreWires c.self.view_is c.self.invariant.0) at
+    incoming_there c.args.self.now c.args.federate _ c.index-routes.result.now c.incoming.result.now (subst IsWiring c.self.view_is c.self.invariant.0) at
     c.incoming.ensures c.requires.count
 
 pub passes_upstream-requires : goal.passes_upstream-requires

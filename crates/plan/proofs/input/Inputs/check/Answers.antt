@@ -3,7 +3,7 @@ use Rattle.std.specs.Prelude.{All, AllPairs, Some}
 use Rattle.tag.specs.LogicalTime.{IsFinite}
 use Rattle.plan.specs.declared.input.Input.{Input}
 use Rattle.plan.specs.declared.input.Occurrence.{Occurrence}
-use Rattle.plan.specs.External.{AreApart}
+use Rattle.plan.specs.External.{AreForDifferentActions}
 use Rattle.plan.specs.Occurrences.{occurrence_of}
 use Rattle.plan.proofs.Occurrences.{all_known, apart_from_distinct, distinct_from_apart}
 use Rattle.plan.proofs.input.Inputs.check.Goals as goal
@@ -22,7 +22,7 @@ pub returns-then-not-branch-clause-repeated : goal.returns-then-not-branch-claus
 returns-then-not-branch-clause-repeated c = λ _.
     let are_those : map (λ (o : Occurrence). Some o) c.in_ok-occurrences.occurrences.items ≡ map (occurrence_of c.args.plan.now.federates) c.args.inputs.items
     = rw c.federates.ensures at (rw c.as_slice.ensures.value at c.in_ok-occurrences.ensures.ok) in
-    let repeated : ¬ (AllPairs AreApart c.args.inputs.items)
+    let repeated : ¬ (AllPairs AreForDifferentActions c.args.inputs.items)
     = λ apart.
     let distinct : AllPairs (λ a b. a ≢ b) c.as_slice-2.result.now
     = subst (λ (os : List Occurrence). AllPairs (λ a b. a ≢ b) os) (sym c.as_slice-2.ensures.value)

@@ -3,7 +3,7 @@ use Rattle.std.proofs.lemmas.List.{length-replicate}
 use Rattle.network.specs.Event.{Entry, listed, value_at}
 use Rattle.network.specs.Network.{Scheduling}
 use Rattle.reactor.specs.Entries.{value_in}
-use Rattle.reactor.specs.Running.{machine_of, turn_made}
+use Rattle.reactor.specs.Running.{registers_of, turn_made}
 use Rattle.reactor.specs.Turn.{Turn}
 use Rattle.reactor.proofs.Registers.{operands_length}
 use Rattle.reactor.proofs.Initial.{behind, states_in, all_registers}
@@ -35,8 +35,8 @@ returns-clause-turn c =
     let count : length (take states c.args.registers.now) ≡ states = states_in states c.args.slots c.args.registers.now c.requires.begins in
     let turn : ListedAs c.list_into.new.entries.items done.outputs.items = c.in_ok-list_into.ensures ∙ ap (λ values. listed (length values) (value_in values)) c.as_slice.ensures.value in
     record {
-      before = machine_of c.begin.new.self;
+      before = registers_of c.begin.new.self;
       begun = c.in_ok-begin.ensures;
       made = ap (λ entries. shown (take states done.registers.items) entries done.schedulings.items) turn
-          ∙ ap (λ n. turn_made n (machine_of done)) (sym count) ∙ ap (turn_made (length (take states c.args.registers.now))) c.in_ok-reactions.ensures.made;
+          ∙ ap (λ n. turn_made n (registers_of done)) (sym count) ∙ ap (turn_made (length (take states c.args.registers.now))) c.in_ok-reactions.ensures.made;
     }

@@ -14,7 +14,7 @@ use Rattle.reactor.specs.Turn.{Reactor, turn_of}
 use Rattle.whole.specs.Invariant.{programs_in, HasSlotsOf}
 use Rattle.whole.specs.Construction.{TurnMade}
 use Rattle.whole.specs.Progress.{Progress, pending_in, later_by}
-use Rattle.whole.specs.Schedule.{undone_of}
+use Rattle.whole.specs.Agendas.{undone_of}
 use Rattle.reactor_agenda.proofs.Listed.{listed_value}
 use Rattle.whole.proofs.Turns.{IsTurnMade, done_is_done, due_is_pending, on_err, undone_within, kept_turn, reactor_count, has_slots, slots-given, same-element, programs_in-set}
 use Rattle.whole.proofs.whole.Whole.turn.Goals as goal
@@ -24,7 +24,7 @@ returns-in_default-clause-made c =
     let IsOver : Progress → Type 0 = λ p. pending_in p ≡ [] in (
       refl,
       subst IsOver c.self.view_is
-          (done_is_done c.self.inside.plan.now c.self.inside.inputs.now c.self.inside.reactors.items c.self.inside.schedule c.self.inside.discarded c.self.inside.rows c.self.invariant c.in_default.ensures),
+          (done_is_done c.self.inside.plan.now c.self.inside.inputs.now c.self.inside.reactors.items c.self.inside.agendas c.self.inside.discarded c.self.inside.rows c.self.invariant c.in_default.ensures),
     )
 
 pub returns-in_err-at-clause-pending : goal.returns-in_err-at-clause-pending
@@ -32,7 +32,7 @@ returns-in_err-at-clause-pending c =
     let IsPending : Progress → Type 0 = λ p. pending_in p ≢ [] in
     on_err c.from_residual.result
     (subst IsPending c.self.view_is
-    (due_is_pending c.self.inside.plan.now c.self.inside.inputs.now c.self.inside.reactors.items c.self.inside.schedule c.self.inside.discarded c.self.inside.rows c.self.invariant
+    (due_is_pending c.self.inside.plan.now c.self.inside.inputs.now c.self.inside.reactors.items c.self.inside.agendas c.self.inside.discarded c.self.inside.rows c.self.invariant
     c.in-Some.next.federate c.in-Some.next.tag c.in-Some.ensures))
 
 pub returns-in_err-run_in-clause-pending : goal.returns-in_err-run_in-clause-pending
@@ -40,7 +40,7 @@ returns-in_err-run_in-clause-pending c =
     let IsPending : Progress → Type 0 = λ p. pending_in p ≢ [] in
     on_err c.from_residual-in_err-run_in.result
     (subst IsPending c.self.view_is
-    (due_is_pending c.self.inside.plan.now c.self.inside.inputs.now c.self.inside.reactors.items c.self.inside.schedule c.self.inside.discarded c.self.inside.rows c.self.invariant
+    (due_is_pending c.self.inside.plan.now c.self.inside.inputs.now c.self.inside.reactors.items c.self.inside.agendas c.self.inside.discarded c.self.inside.rows c.self.invariant
     c.in-Some.next.federate c.in-Some.next.tag c.in-Some.ensures))
 
 pub returns-in_err-put-clause-pending : goal.returns-in_err-put-clause-pending
@@ -48,7 +48,7 @@ returns-in_err-put-clause-pending c =
     let IsPending : Progress → Type 0 = λ p. pending_in p ≢ [] in
     on_err c.from_residual-in_err-put.result
     (subst IsPending c.self.view_is
-    (due_is_pending c.self.inside.plan.now c.self.inside.inputs.now c.self.inside.reactors.items c.self.inside.schedule c.self.inside.discarded c.self.inside.rows c.self.invariant
+    (due_is_pending c.self.inside.plan.now c.self.inside.inputs.now c.self.inside.reactors.items c.self.inside.agendas c.self.inside.discarded c.self.inside.rows c.self.invariant
     c.in-Some.next.federate c.in-Some.next.tag c.in-Some.ensures))
 
 pub index-reactor-requires : goal.index-reactor-requires
@@ -79,7 +79,7 @@ pub invariant_of-self-2 : goal.invariant_of-self-2
 invariant_of-self-2 c =
     let d = c.self.inside.plan.now in
     let reactors = c.self.inside.reactors.items in
-    let s = c.self.inside.schedule in
+    let s = c.self.inside.agendas in
     let f = c.in-Some.next.federate in
     let g = c.in-Some.next.tag in
     let r : Reactor = c.index-reactor.result.now in

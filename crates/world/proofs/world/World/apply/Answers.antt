@@ -4,7 +4,7 @@ use Rattle.node_cores.specs.CoordinatorCore.{CoordinatorNode}
 use Rattle.world_stations.specs.World.{Applied}
 use Rattle.world_stations.specs.Federation.{Federation, step_in}
 use Rattle.world.specs.World.{stations_of}
-use Rattle.world.proofs.Headline.{faithful, plain_next}
+use Rattle.world.proofs.Headline.{faithful, harmless_next}
 use Rattle.world.proofs.After.{made_after}
 use Rattle.world.proofs.Seen.{seen}
 use Rattle.world.proofs.world.World.apply.Goals as goal
@@ -23,13 +23,13 @@ returns-clause-outcome c =
     ap (λ (w : Federation). (step_in w c.args.step).outcome) c.deref_mut.ensures.value ∙
     ap (λ (w : Federation). (step_in w c.args.step).outcome) (seen c.self.view_is c.self.invariant).stations_are
 
-pub returns-clause-plain : goal.returns-clause-plain
-returns-clause-plain c =
+pub returns-clause-harmless : goal.returns-clause-harmless
+returns-clause-harmless c =
     let told : c.in_ok-outcome.outcome ≡ (step_in (stations_of c.args.self.now) c.args.step).outcome =
     ap (λ (a : Applied CoordinatorNode FederateNode). a.outcome) c.in_ok-outcome.ensures.done ∙
     ap (λ (w : Federation). (step_in w c.args.step).outcome) c.deref_mut.ensures.value ∙
     ap (λ (w : Federation). (step_in w c.args.step).outcome) (seen c.self.view_is c.self.invariant).stations_are in
-    plain_next c.args.self.now c.args.step c.in_ok-outcome.outcome (seen c.self.view_is c.self.invariant).fit told
+    harmless_next c.args.self.now c.args.step c.in_ok-outcome.outcome (seen c.self.view_is c.self.invariant).fit told
 
 pub returns-clause-faithful : goal.returns-clause-faithful
 returns-clause-faithful c = faithful _ (record { legal = c.self.invariant.legal; programs_fit = c.self.invariant.programs_fit; inputs_fit = c.self.invariant.inputs_fit })

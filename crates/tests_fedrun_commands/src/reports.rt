@@ -1,0 +1,189 @@
+//! Report files of a run that is made on one thread, round by round, in the world of a replay: each federate announces
+//! and advances, and then all that was sent comes.
+use fedrun_replay::Player;
+use files_reports::{FileDigests, NodeReport, write_report};
+use files_script::{Command, ScheduleLine};
+use node::Event;
+use node_journal::Journal;
+use reactor::Rows;
+use recorder_reports::Report;
+use sha2::{Digest, Sha256};
+use std::alloc::Global;
+use tests_samples::{Federation, loaded};
+use world::World;
+use world_stations::{Dir, Step};
+
+/// More rounds than any of these federations has until it is finished.
+const ALL_ROUNDS: usize = 100;
+
+/// Bytes of the digest at the end of a report file.
+const SEAL: usize = 32;
+
+/// How a report file differs from what its node did.
+#[derive(Clone, Copy)]
+pub enum Flaw {
+    /// It doesn't.
+    Honest,
+    /// It is of the node after so many rounds.
+    Rounds(usize),
+    /// It has none of the rows.
+    Rowless,
+    /// This byte of it is one more, under a digest that fits.
+    Changed(usize),
+    /// Its last byte isn't there.
+    Cut,
+}
+
+/// A report file: its name, whose it is, that is, which federate's or the coordinator's, and how it differs from what
+/// that node did.
+pub type ReportFile = (&'static str, Option<usize>, Flaw);
+
+/// A file of a run of these files.
+pub fn report_file(
+    alloc: Global,
+    federation: &str,
+    inputs: &str,
+    node: Option<usize>,
+    flaw: Flaw,
+) -> Option<Vec<u8>> {
+    let digests = FileDigests::new(federation.as_bytes(), inputs.as_bytes());
+    let federation = loaded(alloc, federation, inputs)?;
+    let report = report_after(alloc, &federation, node, flaw)?;
+    let mut file = write_report(alloc, &digests, &report).ok()?;
+    spoil(&mut file, flaw)?;
+    Some(file)
+}
+
+// What a node says after a run.
+fn report_after(
+    alloc: Global,
+    federation: &Federation,
+    node: Option<usize>,
+    flaw: Flaw,
+) -> Option<NodeReport> {
+    let mut player = Player::new(
+        alloc,
+        federation.plan(),
+        federation.programs(),
+        federation.inputs(),
+    )
+    .ok()?;
+    let rounds = match flaw {
+        Flaw::Rounds(rounds) => rounds,
+        _ => ALL_ROUNDS,
+    };
+    play(alloc, &mut player, rounds)?;
+    report_of(alloc, player.world(), node, flaw)
+}
+
+// Plays so many rounds, or until the coordinator says that all is finished.
+fn play(alloc: Global, player: &mut Player<'_>, rounds: usize) -> Option<()> {
+    let line = ScheduleLine {
+        number: 1,
+        command: Command::Round,
+    };
+    let mut refused = Vec::new(alloc);
+    for _round in 0..rounds {
+        if player.world().finished() {
+            break;
+        }
+        player.obey(&mut refused, line).ok()?;
+    }
+    Some(())
+}
+
+// What a node says of a world. One that isn't there says that nothing came to it.
+fn report_of(
+    alloc: Global,
+    world: &World<'_>,
+    node: Option<usize>,
+    flaw: Flaw,
+) -> Option<NodeReport> {
+    let journal = journal_of(alloc, world, node)?;
+    let Some(federate) = node else {
+        return Some(NodeReport::Coordinator(journal));
+    };
+    let rows = match (flaw, world.rows(federate)) {
+        (Flaw::Rowless, _) | (_, None) => Rows::new(alloc),
+        (_, Some(rows)) => copy_of(alloc, rows)?,
+    };
+    Some(NodeReport::Federate(Report {
+        federate,
+        rows,
+        journal,
+    }))
+}
+
+// The same rows.
+fn copy_of(alloc: Global, rows: &Rows) -> Option<Rows> {
+    let mut copy = Rows::new(alloc);
+    for place in 0..rows.len() {
+        let row = rows.row(place);
+        copy.push(row.federate(), row.tag(), row.inputs(), row.outputs())
+            .ok()?;
+    }
+    Some(copy)
+}
+
+// All that came to a node of a world.
+fn journal_of(alloc: Global, world: &World<'_>, node: Option<usize>) -> Option<Journal> {
+    let mut journal = Journal::new(alloc);
+    for place in 0..world.steps().len() {
+        let step = world.steps().get(place)?;
+        if let Some(event) = event_at(world, node, step) {
+            journal.push(&event, None).ok()?;
+        }
+    }
+    Some(journal)
+}
+
+// What a step brings to a node, if it is one of this node.
+fn event_at(world: &World<'_>, node: Option<usize>, step: Step) -> Option<Event> {
+    let (at, event) = match step {
+        Step::Announce(federate) => (Some(federate), Event::Announce),
+        Step::Advance(federate) => (Some(federate), Event::Advance),
+        Step::Deliver(Dir::Up(federate), k) => (
+            None,
+            Event::Frame(federate, world.frame(Dir::Up(federate), k)?),
+        ),
+        Step::Deliver(Dir::Down(federate), k) => (
+            Some(federate),
+            Event::Frame(0, world.frame(Dir::Down(federate), k)?),
+        ),
+        _ => return None,
+    };
+    if at == node { Some(event) } else { None }
+}
+
+// Makes the file wrong.
+fn spoil(file: &mut Vec<u8>, flaw: Flaw) -> Option<()> {
+    match flaw {
+        Flaw::Changed(place) => change(file, place),
+        Flaw::Cut => {
+            file.pop();
+            Some(())
+        }
+        _ => Some(()),
+    }
+}
+
+// Makes a byte of a file one more, under a digest that fits.
+fn change(file: &mut Vec<u8>, place: usize) -> Option<()> {
+    let byte = file.get_mut(place)?;
+    *byte = byte.wrapping_add(1);
+    file.truncate(said(file));
+    let digest = Sha256::digest(file.as_slice());
+    file.extend_from_slice(&digest).ok()
+}
+
+/// How many bytes a file has before its digest.
+pub fn said(file: &[u8]) -> usize {
+    file.len().saturating_sub(SEAL)
+}
+
+/// A file of which a byte is one more, under a digest that fits.
+pub fn changed(alloc: Global, file: &[u8], place: usize) -> Option<Vec<u8>> {
+    let mut bytes = Vec::from_slice(alloc, file).ok()?;
+    change(&mut bytes, place)?;
+    Some(bytes)
+}
