@@ -1,0 +1,3 @@
+-- Lemmas.
+-- the tasks of lists of jobs
+pub mod More
