@@ -1,3 +1,0 @@
--- Lemmas.
--- the tasks of lists of jobs
-pub mod More

@@ -1,7 +1,0 @@
-//! The order in which a node's threads are started.
-#![tactic(auto)]
-
-pub mod job;
-pub mod jobs;
-pub mod stand;
-pub mod task;
