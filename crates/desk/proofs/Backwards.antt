@@ -1,7 +1,7 @@
 -- Slips that are taken off the ends of shares, as their journal is walked backwards.
 use Rattle.std.proofs.Common.{◌≡◌, ◌≢◌, ◌↔◌, ℕ, suc, zero, ◌+◌, ◌<◌, ◌≤◌, Bool, true, false, cond, nat_eq, List, [], ◌∷◌, ◌++◌, length, set, get_or, slice_get, Some, All, refl, sym, ap, ◌∙◌, arith}
 use Rattle.std.specs.List.{count_by, list_all}
-use Rattle.std.proofs.lemmas.List.{length_push, get_or_append_left}
+use Rattle.std.proofs.lemmas.List.{length_push, get_or_append_left, append-nil, append_assoc}
 use Rattle.std.proofs.lemmas.List.Elements.{All-nil, All-cons, All-head, All-tail, All-append}
 use Rattle.std.proofs.lemmas.List.Quantifiers.{all_pairs_push}
 use Rattle.std.proofs.lemmas.List.Sums.{sum_by-append, sum_by-cons}
@@ -9,6 +9,7 @@ use Rattle.std.proofs.lemmas.Bool.Decides.{nat_tests}
 use Rattle.std.proofs.lemmas.Option.{slice_get_within}
 use Rattle.node.specs.declared.event.Event.{Event}
 use Rattle.node_journal.specs.declared.slip.Slip.{Slip}
+use Rattle.node_journal.specs.Slips.{slips_from}
 use Rattle.desk.specs.Shares.{all_slips, PlacesRise, IsTrueOf, is_for, Agree}
 
 -- what a journal has at a place, with one event more
@@ -252,6 +253,42 @@ pub step_back : (journal : List Event) (slip : Slip) (shares : List (List Slip))
 step_back journal slip shares k front here is =
     let there = here ∙ ap Some (place_is front slip (length journal) is) in
     (backwards journal slip.event shares k front there, onwards journal slip.event shares k front there)
+
+-- a share at its place
+put_back : (shares : List (List Slip)) (k : ℕ) (slips : List Slip) → slice_get shares k ≡ Some slips → set shares k slips ≡ shares
+put_back [] k slips found = refl
+put_back (first ∷ shares) zero slips found = let same : first ≡ slips = grind arith in ap (λ x. x ∷ shares) (sym same)
+put_back (first ∷ shares) (suc k) slips found = ap (λ xs. first ∷ xs) (put_back shares k slips found)
+
+set_twice : (shares : List (List Slip)) (k : ℕ) (one two : List Slip) → set (set shares k one) k two ≡ set shares k two
+set_twice [] k one two = refl
+set_twice (first ∷ shares) zero one two = refl
+set_twice (first ∷ shares) (suc k) one two = ap (λ xs. first ∷ xs) (set_twice shares k one two)
+
+get_set : (shares : List (List Slip)) (k : ℕ) (before slips : List Slip) → slice_get shares k ≡ Some before → slice_get (set shares k slips) k ≡ Some slips
+get_set [] k before slips found = let bad : ⊥ = grind arith in absurd bad
+get_set (first ∷ shares) zero before slips found = refl
+get_set (first ∷ shares) (suc k) before slips found = get_set shares k before slips found
+
+-- the slips of the last events, which follow one another, are taken off a share
+pub block_back : (events journal : List Event) (place : ℕ) (shares : List (List Slip)) (k : ℕ) (front : List Slip) → slice_get shares k ≡ Some (front ++ slips_from place events) →
+    length journal ≡ place → Agree (journal ++ events) shares ↔ Agree journal (set shares k front)
+block_back [] journal place shares k front here is =
+    let whole : journal ++ [] ≡ journal = append-nil journal in
+    let same : set shares k front ≡ shares = put_back shares k front (here ∙ ap Some (append-nil front)) in
+    rw (whole, same) ((λ agree. agree), (λ agree. agree))
+block_back (event ∷ events) journal place shares k front here is =
+    let slip : Slip = record { place = place; event = event } in
+    let more : List Slip = front ++ slip ∷ [] in
+    let long : length (journal ++ event ∷ []) ≡ suc place = length_push journal event ∙ (let next : length journal + 1 ≡ suc place = omega (arith, is) in next) in
+    let there : slice_get shares k ≡ Some (more ++ slips_from (suc place) events) = here ∙ ap Some (sym (append_assoc front (slip ∷ []) (slips_from (suc place) events))) in
+    let rest = block_back events (journal ++ event ∷ []) (suc place) shares k more there long in
+    let one = step_back journal slip (set shares k more) k front (get_set shares k (front ++ slips_from place (event ∷ events)) more here) is in
+    let joined : (journal ++ event ∷ []) ++ events ≡ journal ++ event ∷ events = append_assoc journal (event ∷ []) events in
+    let twice : set (set shares k more) k front ≡ set shares k front = set_twice shares k more front in
+    let all = rw joined at rest in
+    let last = rw twice at one in
+    ((λ agree. last.0 (all.0 agree)), (λ agree. all.1 (last.1 agree)))
 
 -- no share ends with the last event's slip
 pub no_step_back : (journal : List Event) (slip : Slip) (shares : List (List Slip)) → ((k : ℕ) (front : List Slip) → slice_get shares k ≢ Some (front ++ slip ∷ [])) →

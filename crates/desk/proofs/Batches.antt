@@ -1,10 +1,13 @@
 -- Events that are handled one after the other.
-use Rattle.std.proofs.Common.{arith, ◌≡◌, ◌∙◌, sym, ap, refl, subst, ℕ, ◌+◌, ◌-◌, ◌<◌, ◌≤◌, zero, suc, length-append, Bool, ◌||◌, inl, inr, List, [], ◌∷◌, ◌++◌, length, take, drop, get_or, Result, Ok, Err, OnOk, OnErr}
+use Rattle.std.proofs.Common.{arith, ◌≡◌, ◌∙◌, sym, ap, refl, subst, ℕ, ◌+◌, ◌-◌, ◌<◌, ◌≤◌, zero, suc, length-append, Bool, true, false, nat_le, ◌||◌, inl, inr, List, [], ◌∷◌, ◌++◌, length, take, drop, get_or, Result, Ok, Err, OnOk, OnErr}
 use Rattle.std.proofs.Math.Seq.{take-add, take-append_seam, drop-append_seam}
-use Rattle.std.proofs.lemmas.List.{take_more, take_all}
+use Rattle.std.proofs.lemmas.List.{take_more, take_all, take-append-le}
+use Rattle.std.proofs.lemmas.Bool.Decides.{nat_tests}
 use Rattle.node.specs.declared.event.Event.{Event}
 use Rattle.node_journal.specs.declared.slip.Slip.{Slip}
 use Rattle.node_journal.specs.Slips.{slips_from}
+use Rattle.node_journal.specs.Turns.{turn_event, turn_events}
+use Rattle.node_journal.proofs.BlockEvents.{turns_length}
 use Rattle.node.specs.declared.reply.Reply.{Reply}
 use Rattle.node.specs.Core.{Core}
 use Rattle.node.specs.Step.{Station, Stepped, answer_in, step_of, initial_of}
@@ -103,3 +106,61 @@ kept_slips old whole place events made left is few less =
     let long = slips_long place events in
     let kept = kept_some old (slips_from place events) whole made left is (omega arith) (omega arith) in
     (kept.0, kept.1 ∙ ap (λ l. old ++ l) (slips_taken place made events))
+
+-- ---- turns
+
+-- the first ones of turns are turns
+taken_by : (count made : ℕ) (b : Bool) → nat_le made count ≡ b → made ≤ suc count → (made ≤ count → take made (turn_events count) ≡ turn_events made) →
+    take made (turn_events (suc count)) ≡ turn_events made
+taken_by count made true less few again =
+    let within : made ≤ count = grind (arith, nat_tests) in
+    let long = turns_length count in
+    take-append-le made (turn_events count) (turn_event count ∷ []) (omega (arith, within, long)) ∙ again within
+taken_by count made false more few again =
+    let all : made ≡ suc count = grind (arith, nat_tests) in
+    let long = turns_length (suc count) in
+    take_all made (turn_events (suc count)) (omega (arith, all, long)) ∙ ap turn_events (sym all)
+
+turns_taken : (count made : ℕ) → made ≤ count → take made (turn_events count) ≡ turn_events made
+turns_taken zero made few =
+    let none : made ≡ 0 = omega arith in
+    ap (λ n. take n []) none ∙ ap turn_events (sym none)
+turns_taken (suc count) made few = taken_by count made (nat_le made count) refl few (λ within. turns_taken count made within)
+
+-- of turns that were added the last events are taken off
+pub kept_turns : (xs whole : List Event) (count made left : ℕ) → whole ≡ xs ++ turn_events count → made ≤ count → left ≡ count - made →
+    (left ≤ length whole) × (take (length whole - left) whole ≡ xs ++ turn_events made)
+kept_turns xs whole count made left is few less =
+    let long = turns_length count in
+    let kept = kept_some xs (turn_events count) whole made left is (omega (arith, long)) (omega (arith, long)) in
+    (kept.0, kept.1 ∙ ap (λ l. xs ++ l) (turns_taken count made few))
+
+pub kept_turn_slips : (old whole : List Slip) (place count made left : ℕ) → whole ≡ old ++ slips_from place (turn_events count) → made ≤ count → left ≡ count - made →
+    (left ≤ length whole) × (take (length whole - left) whole ≡ old ++ slips_from place (turn_events made))
+kept_turn_slips old whole place count made left is few less =
+    let long = turns_length count in
+    let kept = kept_slips old whole place (turn_events count) made left is (omega (arith, long)) (omega (arith, long)) in
+    (kept.0, kept.1 ∙ ap (λ l. old ++ slips_from place l) (turns_taken count made few))
+
+module _ {View Row : Type 0} (core : Core View Row) (is_coordinator : Bool) (s now after : Station View) (number next : ℕ) (event : Event) (reply : Reply) (is : next ≡ number + 1) (there : event ≡ turn_event number) (before : now ≡ after_all core is_coordinator s (turn_events number)) (step : record { station = after; answer = answer_in reply } ≡ step_of core is_coordinator now event) where
+  more : turn_events next ≡ turn_events number ++ event ∷ []
+  more =
+      let one : next ≡ suc number = omega arith in
+      ap turn_events one ∙ ap (λ e. turn_events number ++ e ∷ []) (sym there)
+
+  -- the station after one event of turns more
+  pub one_turn_step : after ≡ after_all core is_coordinator s (turn_events next)
+  one_turn_step =
+      ap (λ (d : Stepped View). d.station) step ∙ ap (λ t. (step_of core is_coordinator t event).station) before
+      ∙ sym (after_push core is_coordinator s (turn_events number) event) ∙ ap (after_all core is_coordinator s) (sym more)
+
+  -- and what is said with its answer
+  pub one_turn_answer : (first between last : BatchReply) → AreAdded first (answers_of core is_coordinator s (turn_events number)) between → IsAdded (answer_in reply) between last →
+      AreAdded first (answers_of core is_coordinator s (turn_events next)) last
+  one_turn_answer first between last added one =
+      let answer : answer_in reply ≡ (step_of core is_coordinator (after_all core is_coordinator s (turn_events number)) event).answer =
+      ap (λ (d : Stepped View). d.answer) step ∙ ap (λ t. (step_of core is_coordinator t event).answer) before in
+      let longer : answers_of core is_coordinator s (turn_events next) ≡ answers_of core is_coordinator s (turn_events number) ++ answer_in reply ∷ [] =
+      ap (answers_of core is_coordinator s) more ∙ answers_push core is_coordinator s (turn_events number) event
+      ∙ ap (λ a. answers_of core is_coordinator s (turn_events number) ++ a ∷ []) (sym answer) in
+      subst (λ answers. AreAdded first answers last) (sym longer) (one_more added one)

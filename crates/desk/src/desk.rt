@@ -3,15 +3,17 @@ ghost use Rattle.node.specs.Step.{answer_in, step_of, initial_of};
 ghost use Rattle.desk.specs.Replay.{after_all, replay};
 ghost use Rattle.desk.specs.Replies.{AreAdded, answers_of};
 ghost use Rattle.desk.specs.Shares.{Agree};
+ghost use Rattle.node_journal.specs.Turns.{turn_events};
 
-use crate::batch_reply::BatchReply;
+use crate::batch_reply::{BatchReply, is_done};
 use crate::matching::agree;
 use crate::memory::Memory;
 use crate::share::Share;
 use crate::shares_disagree::SharesDisagree;
+use crate::turn_steps::TurnSteps;
 use node::laws::initial_stations_stay;
 use node::{Event, Node, Reply, Station};
-use node_journal::{Batch, Journal};
+use node_journal::{Batch, Journal, turn_event};
 use std::alloc::Global;
 use std::marker::Model;
 
@@ -122,6 +124,27 @@ impl<N: Node> Desk<N> {
         made
     }
 
+    /// Makes the steps of this many events of turns, an announcement and then an advance each: all, or those up to the
+    /// first turn that does nothing, or before the first event for which there is no memory. What the desk says to them
+    /// is added, as by `handle_batch`.
+    pub fn handle_turns(&mut self, events: usize, replies: &mut BatchReply) -> TurnSteps
+        ensures few { result.events ≤ events }
+        ensures journal { self.new.journal ≡ self.old.journal ++ turn_events result.events }
+        ensures initial { initial_of N.core self.new.station ≡ initial_of N.core self.old.station }
+        ensures replies { AreAdded replies.old
+            (answers_of N.core N.IS_COORDINATOR self.old.station (turn_events result.events)) replies.new }
+    {
+        // For the prover: what the station was made from stays.
+        initial_stations_stay::<N>();
+        let Ok(()) = self.journal.push_turns(events) else {
+            return TurnSteps::none();
+        };
+        let made = step_turns(&mut self.station, events, replies);
+        let unmade = events - made.events;
+        self.journal.truncate(self.journal.len() - unmade);
+        made
+    }
+
     /// Takes back the room of a reply's frames, for the frames of later steps.
     pub fn reuse(&mut self, reply: Reply)
         ensures { self.new ≡ self.old }
@@ -175,6 +198,44 @@ fn step_all<N: Node>(station: &mut Station<N>, events: &[Event], replies: &mut B
         }
     }
     events.len()
+}
+
+// Makes the station's steps of events of turns, up to a turn that does nothing, or until there is no memory for one.
+fn step_turns<N: Node>(
+    station: &mut Station<N>,
+    events: usize,
+    replies: &mut BatchReply,
+) -> TurnSteps
+    ensures few { result.events ≤ events }
+    ensures station { station.new ≡ after_all N.core N.IS_COORDINATOR station.old (turn_events result.events) }
+    ensures replies { AreAdded replies.old
+        (answers_of N.core N.IS_COORDINATOR station.old (turn_events result.events)) replies.new }
+{
+    // Whether the announcement of this turn did something.
+    let mut has_announced = false;
+    for number in 0..events {
+        let Ok(reply) = station.step(turn_event(number)) else {
+            return TurnSteps {
+                events: number,
+                is_idle: false,
+            };
+        };
+        let has_done = is_done(&reply);
+        let _ = replies.add(&reply);
+        station.reuse(reply);
+        if number % 2 == 0 {
+            has_announced = has_done;
+        } else if !has_announced && !has_done {
+            return TurnSteps {
+                events: number + 1,
+                is_idle: true,
+            };
+        }
+    }
+    TurnSteps {
+        events,
+        is_idle: false,
+    }
 }
 
 // Makes the station's step. The event is put in the journal first, and taken off again where there is no memory for the

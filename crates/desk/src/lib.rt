@@ -19,6 +19,7 @@ pub mod memory;
 pub mod share;
 pub mod shared;
 pub mod shares_disagree;
+pub mod turn_steps;
 
 pub use batch_reply::{BatchReply, is_done};
 pub use desk::Desk;
@@ -27,3 +28,4 @@ pub use node_journal::Slip;
 pub use share::Share;
 pub use shared::{DeskGuard, Shared, gather};
 pub use shares_disagree::SharesDisagree;
+pub use turn_steps::TurnSteps;

@@ -3,6 +3,7 @@ ghost use Rattle.std.specs.Prelude.{OnOk, OnErr};
 ghost use Rattle.node.specs.declared.event.Event.{Event as IsEvent};
 ghost use Rattle.node.specs.Step.{answer_in, step_of, initial_of};
 ghost use Rattle.node_journal.specs.Slips.{slips_from};
+ghost use Rattle.node_journal.specs.Turns.{turn_events};
 ghost use Rattle.desk.specs.Replies.{AreAdded, answers_of, is_closed};
 ghost use Rattle.desk.specs.Shares.{Agree};
 
@@ -11,6 +12,7 @@ use crate::desk::Desk;
 use crate::memory::Memory;
 use crate::share::Share;
 use crate::shares_disagree::SharesDisagree;
+use crate::turn_steps::TurnSteps;
 use node::{Event, Node, Reply};
 use node_journal::{Batch, Blocks, Journal};
 use std::sync::{Mutex, MutexGuard, Wait};
@@ -130,6 +132,19 @@ impl<'a, N: Node> DeskGuard<'a, N> {
         enter_batch(&mut self.desk, &mut share.slips, batch, replies)
     }
 
+    /// Makes the steps of this many events of turns, as `Desk::handle_turns` does. The share gains their slips.
+    pub fn handle_turns(
+        &mut self,
+        share: &mut Share,
+        events: usize,
+        replies: &mut BatchReply,
+    ) -> TurnSteps
+        ensures few { result.events ≤ events }
+        ensures slips { (first : ℕ) × (share.new ≡ share.old ++ slips_from first (turn_events result.events)) }
+    {
+        enter_turns(&mut self.desk, &mut share.slips, events, replies)
+    }
+
     /// Takes back the room of a reply's frames, for the frames of later steps.
     pub fn reuse(&mut self, reply: Reply) {
         self.desk.reuse(reply);
@@ -211,6 +226,30 @@ fn enter_batch<N: Node>(
     };
     let made = desk.handle_batch(batch, replies);
     let left = batch.events().len() - made;
+    slips.truncate(slips.len() - left);
+    made
+}
+
+// Handles events of turns at the locked desk. Their slips are added first, and those of events whose steps aren't made
+// are taken off again.
+fn enter_turns<N: Node>(
+    desk: &mut Desk<N>,
+    slips: &mut Blocks,
+    events: usize,
+    replies: &mut BatchReply,
+) -> TurnSteps
+    ensures few { result.events ≤ events }
+    ensures journal { desk.new.journal ≡ desk.old.journal ++ turn_events result.events }
+    ensures slips { slips.new ≡ slips.old ++ slips_from (length desk.old.journal) (turn_events result.events) }
+    ensures initial { initial_of N.core desk.new.station ≡ initial_of N.core desk.old.station }
+    ensures replies { AreAdded replies.old
+        (answers_of N.core N.IS_COORDINATOR desk.old.station (turn_events result.events)) replies.new }
+{
+    let Ok(()) = slips.add_turns(desk.journal().len(), events) else {
+        return TurnSteps::none();
+    };
+    let made = desk.handle_turns(events, replies);
+    let left = events - made.events;
     slips.truncate(slips.len() - left);
     made
 }

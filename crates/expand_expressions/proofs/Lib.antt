@@ -16,3 +16,9 @@ pub mod FormulaLines
 pub mod Answered
 -- what was read is spelled by the tokens that were taken
 pub mod Spelled
+-- what a text is read as reads no free state
+pub mod Readable
+-- words and spaces in front
+pub mod Fronts
+-- the tokens of a text
+pub mod Tokens

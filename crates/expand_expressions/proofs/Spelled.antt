@@ -1,6 +1,7 @@
 -- What was read is spelled by the tokens that were taken.
 use Rattle.std.proofs.Common.{◌≡◌, Bool, true, false, MatchBool, ℕ, ◌+◌, ◌≤◌, pos, List, [], ◌∷◌, Result, Ok, Err, IfOk, sym, ap, ◌∙◌, subst}
-use Rattle.std.specs.Prelude.{neg_ℤ}
+use Rattle.std.specs.Prelude.{neg_ℤ, FitsSigned}
+use Rattle.std.specs.Int.{w64}
 use Rattle.reactor_program.specs.declared.program.Operand.{Operand}
 use Rattle.reactor_program.specs.declared.program.Operand.TheVariants.{Number}
 use Rattle.expand_expressions.specs.declared.fault.ExpressionFault.{ExpressionFault}
@@ -31,16 +32,16 @@ behind_token level old mid new token shown r is which h =
     subst (λ tokens. IfOk r (λ formula. Spells level tokens formula new)) (sym (token_is old mid token shown is which)) h
 
 pub digits_read : (old new : List Token) (token : Token) (n : ℕ) (r : Result Formula ExpressionFault) → old ≡ token ∷ new → token ≡ Digits n →
-    IfOk r (λ formula. formula ≡ Leaf (Number (pos n))) → IfOk r (λ formula. Spells 7 old formula new)
+    IfOk r (λ formula. (formula ≡ Leaf (Number (pos n))) × FitsSigned w64 (pos n)) → IfOk r (λ formula. Spells 7 old formula new)
 digits_read old new token n (Ok formula) is which h =
-    subst (λ formula. Spells 7 old formula new) (sym h) (from_same 7 old (Digits n ∷ new) (Leaf (Number (pos n))) new (token_is old new token (Digits n) is which) (digits n new))
+    subst (λ formula. Spells 7 old formula new) (sym h.0) (from_same 7 old (Digits n ∷ new) (Leaf (Number (pos n))) new (token_is old new token (Digits n) is which) (digits n new h.1))
 digits_read old new token n (Err fault) is which h = tt
 
 pub lower_digits_read : (old new : List Token) (n : ℕ) (r : Result Formula ExpressionFault) → old ≡ Digits n ∷ new →
-    IfOk r (λ formula. formula ≡ Leaf (Number (neg_ℤ (pos n)))) → IfOk r (λ formula. Spells 7 (Operator Minus ∷ old) formula new)
+    IfOk r (λ formula. (formula ≡ Leaf (Number (neg_ℤ (pos n)))) × FitsSigned w64 (neg_ℤ (pos n))) → IfOk r (λ formula. Spells 7 (Operator Minus ∷ old) formula new)
 lower_digits_read old new n (Ok formula) is h =
-    subst (λ formula. Spells 7 (Operator Minus ∷ old) formula new) (sym h)
-    (from_same 7 (Operator Minus ∷ old) (Operator Minus ∷ Digits n ∷ new) (Leaf (Number (neg_ℤ (pos n)))) new (ap (λ old. Operator Minus ∷ old) is) (lower_digits n new))
+    subst (λ formula. Spells 7 (Operator Minus ∷ old) formula new) (sym h.0)
+    (from_same 7 (Operator Minus ∷ old) (Operator Minus ∷ Digits n ∷ new) (Leaf (Number (neg_ℤ (pos n)))) new (ap (λ old. Operator Minus ∷ old) is) (lower_digits n new h.1))
 lower_digits_read old new n (Err fault) is h = tt
 
 pub name_read : (old new : List Token) (token : Token) (a : Operand) → old ≡ token ∷ new → token ≡ Name a → Spells 7 old (Leaf a) new

@@ -1,5 +1,6 @@
 -- How expressions are written: which tokens spell a formula.
-use Rattle.std.specs.Prelude.{◌≡◌, ℕ, ◌+◌, ◌≤◌, ℤ, pos, neg_ℤ, List, ◌∷◌, Option}
+use Rattle.std.specs.Prelude.{◌≡◌, ℕ, ◌+◌, ◌≤◌, ℤ, pos, neg_ℤ, List, ◌∷◌, Option, FitsSigned}
+use Rattle.std.specs.Int.{w64}
 use Rattle.reactor_program.specs.declared.program.Operand.{Operand}
 use Rattle.reactor_program.specs.declared.program.Operand.TheVariants.{Number}
 use Rattle.expand_expressions.specs.declared.formula.Combination.{Combination}
@@ -88,14 +89,14 @@ abbrev pub IsNot : Formula → Formula → Type 0
 IsNot (Not' p x) inner = x ≡ inner
 IsNot formula inner = ⊥
 
--- Tokens that begin with such as spell a formula, whose operators bind at least so tightly, and those that follow them.
+-- Tokens that begin with such as spell a formula, whose numbers have 64 bits, and whose operators bind at least so tightly, and those that follow them.
 -- To the right of an operator all binds more tightly.
 pub data Spells : ℕ → List Token → Formula → List Token → Type 0 where
   looser : {level : ℕ} {old new : List Token} {formula : Formula} (tighter : ℕ) → level ≤ tighter
       → Spells tighter old formula new → Spells level old formula new
-  digits : (magnitude : ℕ) (new : List Token)
+  digits : (magnitude : ℕ) (new : List Token) → FitsSigned w64 (pos magnitude)
       → Spells 7 (Digits magnitude ∷ new) (Leaf (Number (pos magnitude))) new
-  lower_digits : (magnitude : ℕ) (new : List Token)
+  lower_digits : (magnitude : ℕ) (new : List Token) → FitsSigned w64 (neg_ℤ (pos magnitude))
       → Spells 7 (Operator Minus ∷ Digits magnitude ∷ new) (Leaf (Number (neg_ℤ (pos magnitude)))) new
   name : (operand : Operand) (new : List Token) → Spells 7 (Name operand ∷ new) (Leaf operand) new
   enclosed : {old new : List Token} {formula : Formula}

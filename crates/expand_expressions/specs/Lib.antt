@@ -7,7 +7,9 @@ pub mod Division
 pub mod Working
 -- what lines do for a formula
 pub mod Laws
--- what words are made of
+-- words in a text
 pub mod Words
 -- which tokens spell a formula
 pub mod Grammar
+-- which formula a text spells
+pub mod Reading

@@ -88,6 +88,14 @@ IsBelow free (Combined' p x combination q y) = IsBelow free x × IsBelow free y
 IsBelow free (Quotient' p x divisor) = IsBelow free x
 IsBelow free (Remainder' p x divisor) = IsBelow free x
 
+-- no free state, and a number of 64 bits
+abbrev pub IsOperandReadable : ℕ → Operand → Type 0
+IsOperandReadable free a = IsOperandBelow free a × IsOperandWithin a
+
+-- a formula that reads no free state, with numbers of 64 bits
+abbrev pub IsReadable : ℕ → Formula → Type 0
+IsReadable free formula = IsBelow free formula × IsWithin formula
+
 -- only 1 and 0 come of it
 abbrev pub gives_truth : Combination → Bool
 gives_truth Sum = false

@@ -1,5 +1,9 @@
 //! What names in expressions stand for.
+ghost use Rattle.std.specs.Prelude.{◌≡◌, IfSome};
+ghost use Rattle.plan_names.specs.Naming.{place_of};
+ghost use Rattle.expand_expressions.specs.Reading.{StandsFor, operand_named};
 
+use crate::words::after;
 use plan_names::{Names, Text};
 use reactor_program::Operand;
 
@@ -21,23 +25,31 @@ pub struct Known<'a> {
 
 impl Known<'_> {
     /// What a name, `in.NAME` or `has.NAME` stands for.
-    pub fn operand(&self, word: &[u8]) -> Option<Operand> {
-        match word {
-            [b'i', b'n', b'.', name @ ..] => Some(Operand::Value(self.slot(name)?)),
-            [b'h', b'a', b's', b'.', name @ ..] => Some(Operand::Presence(self.slot(name)?)),
-            _ => self.named(word),
+    pub fn operand(&self, word: &[u8]) -> Option<Operand>
+        ensures { IfSome result (λ operand. StandsFor self.now.operands.now self.now.readable.now word.now operand) }
+    {
+        if let Some(name) = after(b"in.", word) {
+            return Some(Operand::Value(self.slot(name)?));
         }
+        if let Some(name) = after(b"has.", word) {
+            return Some(Operand::Presence(self.slot(name)?));
+        }
+        self.named(word)
     }
 
     /// What a name by itself stands for.
-    pub fn named(&self, name: &[u8]) -> Option<Operand> {
+    pub fn named(&self, name: &[u8]) -> Option<Operand>
+        ensures { result ≡ operand_named self.now.operands.now name.now }
+    {
         self.operands
             .iter()
             .find(|known| known.name.as_str().as_bytes() == name)
             .map(|known| known.operand)
     }
 
-    fn slot(&self, name: &[u8]) -> Option<usize> {
+    fn slot(&self, name: &[u8]) -> Option<usize>
+        ensures { result ≡ place_of self.now.readable.now name.now }
+    {
         self.readable.place_of(name)
     }
 }

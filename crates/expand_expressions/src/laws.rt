@@ -1,10 +1,12 @@
 //! What the lines of a formula do.
 
-ghost use Rattle.std.specs.Prelude.{◌≡◌, ℕ, ◌<◌, ℤ, Bool, Option, Some, length, slice_get};
+ghost use Rattle.std.specs.Prelude.{◌≡◌, ℕ, ◌<◌, ℤ, Bool, List, Option, Some, length, slice_get};
 ghost use Rattle.network.specs.Network.{Effect};
 ghost use Rattle.reactor.specs.Effect.{truth_value};
 ghost use Rattle.expand_expressions.specs.declared.formula.Formula.{Formula};
-ghost use Rattle.expand_expressions.specs.Meaning.{value_of, IsBelow, IsWithin, AreWithin};
+ghost use Rattle.expand_expressions.specs.Meaning.{value_of, IsBelow, IsWithin, AreWithin, IsReadable};
+ghost use Rattle.expand_expressions.specs.declared.known.NamedOperand.{NamedOperand};
+ghost use Rattle.expand_expressions.specs.Reading.{Reads, AreReadable};
 ghost use Rattle.expand_expressions.specs.Working.{worked_out};
 ghost use Rattle.expand_expressions.specs.Laws.{AssignBelow, Gives, Sets, Guards, after_lines, setting_lines};
 ghost use Rattle.expand_expressions.specs.Laws.{guarded_lines};
@@ -37,4 +39,11 @@ pub fn guarded_lines_act_where_the_guard_is_set()
         → guard < free → slice_get e.states guard ≡ Some (truth_value is_set)
         → Guards free target is_set e (after_lines present e (guarded_lines free guard target formula))
         (value_of e.states present formula) }
+{}
+
+/// Where no name stands for a free state, and numbers that have names have 64 bits, the formula that a text spells reads
+/// no free state, and its numbers have 64 bits. So the laws above speak of it.
+pub fn what_is_read_is_readable()
+    ensures { (operands : List NamedOperand) (readable : List (List ℕ)) (text : List ℕ) (formula : Formula) (free : ℕ)
+        → Reads operands readable text formula → AreReadable free operands → IsReadable free formula }
 {}

@@ -4,8 +4,8 @@
 //! the formula's value (`specs/Meaning`), and nothing is changed but scratch states (`laws`). Begin with `formula` and
 //! `specs/Meaning`, then `working` and `specs/Working`; `division` is the long way of quotients and remainders.
 //!
-//! `reading` reads texts as formulas: what tokens are read as is what they spell (`specs/Grammar`), so how tightly
-//! operators bind is proved. Which tokens a text has, and that all is read that is spelled, is tested alone.
+//! `reading` reads texts as formulas: a text is read as what its tokens spell (`specs/Reading`, `specs/Grammar`), so what
+//! names stand for and how tightly operators bind is proved. That all is read that is spelled is tested alone.
 #![tactic(auto)]
 
 mod division;
@@ -15,6 +15,7 @@ pub mod known;
 pub mod laws;
 pub mod reading;
 pub mod token;
+pub mod words;
 pub mod working;
 
 pub use fault::ExpressionFault;
@@ -22,4 +23,4 @@ pub use formula::{Combination, Formula};
 pub use known::{Known, NamedOperand};
 pub use reading::{formula_of, read_formula};
 pub use token::{Joining, Sign, Token};
-pub use working::{Stored, negation, store, truth, work_out};
+pub use working::{Stored, negation, put, store, truth, work_out};

@@ -3,7 +3,8 @@
 //! From the loosest: `or`; `and`; `not`; a comparison, of which at most one stands in a row; `+ -`; `* / %`; `-` in
 //! front. `min(a, b)` and `max(a, b)` are calls: nobody need know how tightly they bind.
 
-ghost use Rattle.std.specs.Prelude.{◌≡◌, ◌<◌, ◌≤◌, ◌∷◌, [], IfOk, OnOk, MatchBool, MatchOption, neg_ℤ, pos};
+ghost use Rattle.std.specs.Prelude.{◌≡◌, ◌<◌, ◌≤◌, ◌∷◌, [], IfOk, OnOk, MatchBool, MatchOption, neg_ℤ, pos, FitsSigned};
+ghost use Rattle.std.specs.Int.{w64};
 ghost use Rattle.reactor_program.specs.declared.program.Operand.TheVariants.{Number};
 ghost use Rattle.expand_expressions.specs.declared.formula.Formula.TheVariants.{Leaf};
 ghost use Rattle.expand_expressions.specs.declared.token.Sign.TheVariants.{Minus};
@@ -11,6 +12,7 @@ ghost use Rattle.expand_expressions.specs.declared.token.Token.{Token};
 ghost use Rattle.expand_expressions.specs.declared.token.Token.TheVariants.{Digits, Operator, Not, Call, Open, Close, Comma};
 ghost use Rattle.expand_expressions.specs.Grammar.{Spells, level_of, left_level, joining_of, IsJoined, IsKnown};
 ghost use Rattle.expand_expressions.specs.declared.token.Joining.TheVariants.{Combines};
+ghost use Rattle.expand_expressions.specs.Reading.{Reads};
 
 use crate::fault::ExpressionFault;
 use crate::formula::{Combination, Formula};
@@ -33,7 +35,9 @@ pub fn read_formula(
     alloc: Global,
     known: Known<'_>,
     text: &[u8],
-) -> Result<Formula, ExpressionFault> {
+) -> Result<Formula, ExpressionFault>
+    ensures { IfOk result (λ formula. Reads known.entry.operands.now known.entry.readable.now text.now formula) }
+{
     let tokens = tokens(alloc, known, text)?;
     formula_of(alloc, tokens.as_slice())
 }
@@ -308,7 +312,8 @@ fn deeper(depth: usize) -> Result<usize, ExpressionFault>
 }
 
 fn positive(magnitude: u64) -> Result<Formula, ExpressionFault>
-    ensures { IfOk result (λ formula. formula ≡ Leaf (Number (pos magnitude))) }
+    ensures { IfOk result
+        (λ formula. (formula ≡ Leaf (Number (pos magnitude))) × FitsSigned w64 (pos magnitude)) }
 {
     match i64::try_from(magnitude) {
         Ok(number) => Ok(Formula::Leaf(Operand::Number(number))),
@@ -317,7 +322,8 @@ fn positive(magnitude: u64) -> Result<Formula, ExpressionFault>
 }
 
 fn negated(magnitude: u64) -> Result<Formula, ExpressionFault>
-    ensures { IfOk result (λ formula. formula ≡ Leaf (Number (neg_ℤ (pos magnitude)))) }
+    ensures { IfOk result (λ formula. (formula ≡ Leaf (Number (neg_ℤ (pos magnitude))))
+        × FitsSigned w64 (neg_ℤ (pos magnitude))) }
 {
     match 0i64.checked_sub_unsigned(magnitude) {
         Some(number) => Ok(Formula::Leaf(Operand::Number(number))),

@@ -1,14 +1,17 @@
 //! The tokens of an expression.
-ghost use Rattle.std.specs.Prelude.{◌≡◌, ◌<◌, ◌≤◌, length, IfOk, IfSome};
+ghost use Rattle.std.specs.Prelude.{◌≡◌, ◌<◌, ◌≤◌, ◌∷◌, [], length, codes, IfOk, IfSome, IsTrue};
 ghost use Rattle.std.specs.Char.{is_ascii_digit};
-ghost use Rattle.std.specs.List.{prefix_len, list_all};
-ghost use Rattle.reactor_program.specs.Tokens.{is_space};
-ghost use Rattle.expand_expressions.specs.Words.{is_word_character};
+ghost use Rattle.std.specs.List.{list_all};
+ghost use Rattle.std.specs.Str.Parse.{digits_value};
 ghost use Rattle.expand_expressions.specs.Grammar.{level_of, left_level, joining_of};
+ghost use Rattle.expand_expressions.specs.Reading.{IsSign, IsTokenText, BeginsWith, BeginsWithSign};
+ghost use Rattle.expand_expressions.specs.Reading.{HasTokens};
+ghost use Rattle.expand_expressions.specs.declared.token.Token.TheVariants.{Operator};
 
 use crate::fault::ExpressionFault;
 use crate::formula::Combination;
 use crate::known::Known;
+use crate::words::{after_spaces, front_word};
 use reactor_program::Operand;
 use std::alloc::Global;
 use tag_text::digits_value;
@@ -113,7 +116,9 @@ pub(crate) fn tokens(
     alloc: Global,
     known: Known<'_>,
     text: &[u8],
-) -> Result<Vec<Token>, ExpressionFault> {
+) -> Result<Vec<Token>, ExpressionFault>
+    ensures { IfOk result (λ tokens. HasTokens known.entry.operands.now known.entry.readable.now text.now tokens.items) }
+{
     let mut tokens = Vec::new(alloc);
     let mut rest = after_spaces(text);
     while !rest.is_empty() {
@@ -129,9 +134,11 @@ pub(crate) fn tokens(
 
 // The token that stands in front, and what follows it.
 fn next_token<'a>(known: Known<'_>, text: &'a [u8]) -> Result<(Token, &'a [u8]), ExpressionFault>
-    ensures { IfOk result (λ parts. length parts.1.now < length text.now) }
+    ensures first { IfOk result
+        (λ parts. BeginsWith known.entry.operands.now known.entry.readable.now text.now parts.0 parts.1.now) }
+    ensures shorter { IfOk result (λ parts. length parts.1.now < length text.now) }
 {
-    let (word, rest) = text.split_at(word_len(text));
+    let (word, rest) = front_word(text);
     if word.is_empty() {
         return next_sign(text);
     }
@@ -139,7 +146,9 @@ fn next_token<'a>(known: Known<'_>, text: &'a [u8]) -> Result<(Token, &'a [u8]),
 }
 
 // What a word is: a number, an operator, or a name.
-fn word_token(known: Known<'_>, word: &[u8]) -> Result<Token, ExpressionFault> {
+fn word_token(known: Known<'_>, word: &[u8]) -> Result<Token, ExpressionFault>
+    ensures { IfOk result (λ token. IsTokenText known.entry.operands.now known.entry.readable.now token word.now) }
+{
     match word {
         b"or" => Ok(Token::Operator(Sign::Or)),
         b"and" => Ok(Token::Operator(Sign::And)),
@@ -154,33 +163,42 @@ fn word_token(known: Known<'_>, word: &[u8]) -> Result<Token, ExpressionFault> {
     }
 }
 
-// The sign that stands in front, and what follows it.
+// The longest sign that stands in front, and what follows it.
 fn next_sign(text: &[u8]) -> Result<(Token, &[u8]), ExpressionFault>
-    ensures { IfOk result (λ parts. length parts.1.now < length text.now) }
+    ensures first { IfOk result (λ parts. BeginsWithSign text.now parts.0 parts.1.now) }
+    ensures shorter { IfOk result (λ parts. length parts.1.now < length text.now) }
 {
-    let Some((token, len)) = sign_of(text) else {
-        return Err(ExpressionFault::NoForm);
-    };
-    let (_, rest) = text.split_at(len);
-    Ok((token, rest))
+    if let [first, b'=', rest @ ..] = text {
+        if let Some(sign) = comparison(*first) {
+            return Ok((Token::Operator(sign), rest));
+        }
+    }
+    match text {
+        [first, rest @ ..] => match short_sign(*first) {
+            Some(token) => Ok((token, rest)),
+            None => Err(ExpressionFault::NoForm),
+        },
+        [] => Err(ExpressionFault::NoForm),
+    }
 }
 
-// The longest sign that stands in front, and how many characters it has.
-fn sign_of(text: &[u8]) -> Option<(Token, usize)>
-    ensures { IfSome result (λ found. (0 < found.1) × (found.1 ≤ length text.now)) }
+// The sign of this character and `=`.
+fn comparison(first: u8) -> Option<Sign>
+    ensures { IfSome result (λ sign. IsSign (Operator sign) (first ∷ codes "=")) }
 {
-    match text {
-        [b'<', b'=', ..] => Some((Token::Operator(Sign::AtMost), 2)),
-        [b'>', b'=', ..] => Some((Token::Operator(Sign::AtLeast), 2)),
-        [b'=', b'=', ..] => Some((Token::Operator(Sign::Equal), 2)),
-        [b'!', b'=', ..] => Some((Token::Operator(Sign::Different), 2)),
-        [first, ..] => Some((short_sign(*first)?, 1)),
-        [] => None,
+    match first {
+        b'<' => Some(Sign::AtMost),
+        b'>' => Some(Sign::AtLeast),
+        b'=' => Some(Sign::Equal),
+        b'!' => Some(Sign::Different),
+        _ => None,
     }
 }
 
 // The sign of one character.
-fn short_sign(character: u8) -> Option<Token> {
+fn short_sign(character: u8) -> Option<Token>
+    ensures { IfSome result (λ token. IsSign token (character ∷ [])) }
+{
     match character {
         b'<' => Some(Token::Operator(Sign::Less)),
         b'>' => Some(Token::Operator(Sign::Greater)),
@@ -198,7 +216,9 @@ fn short_sign(character: u8) -> Option<Token> {
 
 // Digits alone, for a number below 2^64.
 #[tactic(auto, using(reactor_program::proofs::Numerals::digits_listed))]
-fn magnitude(word: &[u8]) -> Result<u64, ExpressionFault> {
+fn magnitude(word: &[u8]) -> Result<u64, ExpressionFault>
+    ensures { IfOk result (λ n. IsTrue (list_all is_ascii_digit word.now) × (n ≡ digits_value 10 word.now)) }
+{
     if !are_digits(word) {
         return Err(ExpressionFault::NoForm);
     }
@@ -209,27 +229,4 @@ fn are_digits(text: &[u8]) -> bool
     ensures { result ≡ list_all is_ascii_digit text.now }
 {
     text.iter().all(|c| c.is_ascii_digit())
-}
-
-fn after_spaces(text: &[u8]) -> &[u8]
-    ensures { length result.now ≤ length text.now }
-{
-    let (_, rest) = text.split_at(spaces_len(text));
-    rest
-}
-
-fn spaces_len(text: &[u8]) -> usize
-    ensures value { result ≡ prefix_len is_space text.now }
-    ensures within { result ≤ length text.now }
-{
-    text.iter().take_while(|c| **c == b' ').count()
-}
-
-fn word_len(text: &[u8]) -> usize
-    ensures value { result ≡ prefix_len is_word_character text.now }
-    ensures within { result ≤ length text.now }
-{
-    text.iter()
-        .take_while(|c| c.is_ascii_alphanumeric() || **c == b'_' || **c == b'.')
-        .count()
 }

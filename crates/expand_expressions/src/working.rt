@@ -167,7 +167,7 @@ fn combined(
 }
 
 /// One more line.
-pub(crate) fn put(lines: &mut Vec<Line>, line: Line) -> Result<(), ExpressionFault>
+pub fn put(lines: &mut Vec<Line>, line: Line) -> Result<(), ExpressionFault>
     ensures { OnOk result (lines.new.items ≡ lines.old.items ++ line ∷ []) }
 {
     // For the prover: it has to see what a line is made of.

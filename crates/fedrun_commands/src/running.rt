@@ -1,6 +1,7 @@
 //! Running federations in threads: the requests of which each prints something else of a run.
 ghost use Rattle.std.specs.Prelude.{◌≡◌, ◌≢◌, IfErr, OnOk};
 ghost use Rattle.fedrun_files.specs.Answers.{Answers};
+ghost use Rattle.fedrun_commands.specs.Asked.{as_rows, as_steps};
 ghost use Rattle.fedrun_commands.specs.Faults.{status_of};
 ghost use Rattle.fedrun_commands.specs.Printed.{PrintsRun, PrintsFor};
 ghost use Rattle.fedrun_commands.specs.Refused.{IsFaultOfRun, IsFaultOf};
@@ -41,15 +42,7 @@ pub(crate) fn run_federation<'a, R: NetRuntime, F: Files, O: Write, P: Progress 
         (Request.Run request.now)) }
     ensures untouched { IfErr result (λ fault. status_of fault ≢ 3 → out.new ≡ out.old) }
 {
-    let run = Run {
-        federation: request.federation,
-        inputs: request.inputs,
-        terms: Terms {
-            turns: request.turns,
-            frames: request.frames,
-        },
-        output: RunOutput::Rows(request.format),
-    };
+    let run = run_of(request);
     run_and_print(rt, alloc, &run, files, out, progress)
 }
 
@@ -69,7 +62,30 @@ pub(crate) fn record_run<'a, R: NetRuntime, F: Files, O: Write, P: Progress + Sy
         (Request.Record request.now)) }
     ensures untouched { IfErr result (λ fault. status_of fault ≢ 3 → out.new ≡ out.old) }
 {
-    let run = Run {
+    let run = steps_of(request);
+    run_and_print(rt, alloc, &run, files, out, progress)
+}
+
+// What is run where rows are asked for.
+fn run_of<'a>(request: &RunRequest<'a>) -> Run<'a>
+    ensures { result ≡ as_rows request.now }
+{
+    Run {
+        federation: request.federation,
+        inputs: request.inputs,
+        terms: Terms {
+            turns: request.turns,
+            frames: request.frames,
+        },
+        output: RunOutput::Rows(request.format),
+    }
+}
+
+// What is run where a schedule is asked for.
+fn steps_of<'a>(request: &RecordRequest<'a>) -> Run<'a>
+    ensures { result ≡ as_steps request.now }
+{
+    Run {
         federation: request.federation,
         inputs: request.inputs,
         terms: Terms {
@@ -77,8 +93,7 @@ pub(crate) fn record_run<'a, R: NetRuntime, F: Files, O: Write, P: Progress + Sy
             frames: request.frames,
         },
         output: RunOutput::Steps,
-    };
-    run_and_print(rt, alloc, &run, files, out, progress)
+    }
 }
 
 // Runs the federation in threads, and prints what is asked for of the run.

@@ -1,9 +1,12 @@
 //! The coordinator, in a process of its own.
 ghost use Rattle.std.specs.Prelude.{◌≡◌, OnOk};
+ghost use Rattle.std.specs.Duration.{as_nanos};
 ghost use Rattle.fedrun_hosts.specs.Ended.{HasCoordinated};
+ghost use Rattle.fedrun_hosts.specs.Waits.{telling_nanos};
 
 use crate::fault::HostFault;
 use crate::loaded::{Loaded, load};
+use crate::patience::{telling_patience, watcher};
 use crate::replayed::replayed_coordinator;
 use crate::report::{reserve_report, save_report};
 use crate::request::NodeRequest;
@@ -23,12 +26,9 @@ use std::random::RandomSource;
 use std::sync::Wait;
 use std::time::{Clock, Duration};
 use wires::{CoordinatorLines, NetRuntime, RunFault, channels, run_coordinator};
-use wires_hosts::{Heard, HostAcceptor, HostEntrance, Patience, listen_at};
+use wires_hosts::{Heard, HostAcceptor, HostEntrance, listen_at};
 use wires_transports::{Acceptor, Ending};
 use wires_workers::NoGate;
-
-/// For this many seconds whoever asks is told that the run is finished, where no patience is given.
-const PATIENCE_SECONDS: u32 = 10;
 
 /// Runs the coordinator until it is finished, or until nobody was heard for its patience, and writes its report in
 /// either case. Federates are told that the run is finished once the report is saved, and not before: where it is lost,
@@ -138,14 +138,9 @@ fn run_listening<'n, R: NetRuntime + RandomSource>(
     let ending = Ending::new();
     let (readers, arrivals) = channels(alloc, count)?;
     // The acceptor tells nobody that the run is finished: the report isn't saved yet.
-    let entrance = entrance(loaded, listener, seconds(0));
+    let entrance = entrance(loaded, listener, Duration::from_secs(0));
     let acceptor = HostAcceptor::new(alloc, rt, entrance, &heard, readers)?;
-    let watcher = Patience {
-        heard: &heard,
-        ending: &ending,
-        most: node.patience.map(seconds),
-        last: None,
-    };
+    let watcher = watcher(node, &heard, &ending, None);
     let lines = CoordinatorLines { arrivals, acceptor };
     run_coordinator(rt, alloc, desk, lines, watcher, &NoGate, &ending)
 }
@@ -163,14 +158,8 @@ fn tell_finished<R: Wait + Clock + RandomSource>(
     let heard = Heard::new(alloc, count)?;
     // Nobody is let in any more, so nobody reads.
     let (readers, _) = channels(alloc, count)?;
-    let patience = seconds(node.patience.unwrap_or(PATIENCE_SECONDS));
-    let acceptor = HostAcceptor::new(
-        alloc,
-        rt,
-        entrance(loaded, listener, patience),
-        &heard,
-        readers,
-    )?;
+    let entrance = telling_entrance(node, loaded, listener);
+    let acceptor = HostAcceptor::new(alloc, rt, entrance, &heard, readers)?;
     let ending = Ending::new();
     ending.set();
     acceptor.let_in(rt, alloc, &ending);
@@ -191,9 +180,13 @@ fn entrance(loaded: &Loaded, listener: TcpListener, patience: Duration) -> HostE
     }
 }
 
-/// This many seconds.
-pub(crate) fn seconds(count: u32) -> Duration {
-    Duration::from_secs(u64::from(count))
+// Where federates connect once the report is saved, and for how long they are told there that the run is finished.
+fn telling_entrance(node: &NodeRequest<'_>, loaded: &Loaded, listener: TcpListener) -> HostEntrance
+    ensures key { result.key ≡ loaded.now.key }
+    ensures files { result.files ≡ loaded.now.files }
+    ensures patience { as_nanos result.patience ≡ telling_nanos node.now.patience }
+{
+    entrance(loaded, listener, telling_patience(node))
 }
 
 /// Why there is no desk, as the fault that is printed.

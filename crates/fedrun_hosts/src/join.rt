@@ -6,9 +6,10 @@ ghost use Rattle.reactor_programs.specs.Programs.{AreProgramsOf};
 ghost use Rattle.fedrun_hosts.specs.Ended.{HasJoined};
 ghost use Rattle.fedrun_hosts.specs.Faults as definition;
 
-use crate::coordinate::{fault_of_run, seconds};
+use crate::coordinate::fault_of_run;
 use crate::fault::HostFault;
 use crate::loaded::{Loaded, load};
+use crate::patience::watcher;
 use crate::replayed::replayed_federate;
 use crate::report::{reserve_report, save_report};
 use crate::request::NodeRequest;
@@ -26,7 +27,7 @@ use std::alloc::Global;
 use std::io::Write;
 use std::random::RandomSource;
 use wires::{FederateLines, FederateRun, NetRuntime, RunFault, Terms, run_federate};
-use wires_hosts::{DialFault, FederateHost, Heard, HostDial, LastConnection, Patience};
+use wires_hosts::{DialFault, FederateHost, Heard, HostDial, LastConnection};
 use wires_transports::Ending;
 use wires_workers::NoGate;
 
@@ -136,12 +137,7 @@ fn run_joined<'n, R: NetRuntime + RandomSource>(
     let host = host(node, loaded, number);
     let last = LastConnection::new();
     let dial = HostDial::new(rt, host, heard, &last, &ending);
-    let watcher = Patience {
-        heard,
-        ending: &ending,
-        most: node.patience.map(seconds),
-        last: Some(&last),
-    };
+    let watcher = watcher(node, heard, &ending, Some(&last));
     let lines = FederateLines {
         number: own,
         dial,

@@ -20,6 +20,7 @@ pub mod coordinate;
 pub mod fault;
 pub mod join;
 mod loaded;
+mod patience;
 mod replayed;
 mod report;
 pub mod request;

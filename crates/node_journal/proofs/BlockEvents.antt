@@ -1,9 +1,11 @@
 -- The events of a block, and one event more or less.
-use Rattle.std.proofs.Common.{◌≡◌, ◌∙◌, sym, ap, refl, ℕ, zero, suc, ◌+◌, ◌-◌, ◌<◌, ◌≤◌, Bool, true, false, nat_eq, List, [], ◌∷◌, ◌++◌, length, take, get_or, slice_get, Some, None, length-append, length-take-le, append_assoc, append-nil, arith}
+use Rattle.std.proofs.Common.{◌≡◌, ◌∙◌, sym, ap, refl, ℕ, zero, suc, ◌+◌, ◌-◌, ◌*◌, ◌/◌, ◌%◌, ◌<◌, ◌≤◌, Bool, true, false, if◌then◌else◌, nat_eq, List, [], ◌∷◌, ◌++◌, length, take, get_or, slice_get, Some, None, length-append, length-take-le, append_assoc, append-nil, arith}
+use Rattle.std.proofs.Math.Nat.{add-mul-mod_self_left, div-add-mod}
 use Rattle.std.proofs.lemmas.List.{length_push}
 use Rattle.std.proofs.lemmas.Bool.Decides.{nat_tests}
 use Rattle.std.proofs.lemmas.Option.{slice_get_past, slice_get-get_or}
 use Rattle.node.specs.declared.event.Event.{Event}
+use Rattle.node.specs.declared.event.Event.TheVariants.{Announce, Advance}
 use Rattle.node_journal.specs.Turns.{turn_event, turn_events}
 use Rattle.node_journal.proofs.Places.{get_left, get_right, get_first, take_next}
 
@@ -67,6 +69,32 @@ one_turn batch used turns more event next is =
     ap (λ n. take used batch ++ turn_events n) next
     ∙ sym (append_assoc (take used batch) (turn_events turns) (turn_event turns ∷ []))
     ∙ ap (λ e. (take used batch ++ turn_events turns) ++ e ∷ []) (sym is)
+
+-- turns behind turns are turns, where a turn begins
+same_turn : (m count q : ℕ) → m ≡ count + 2 * q → turn_event m ≡ turn_event count
+same_turn m count q is =
+    let rest : m % 2 ≡ count % 2 = ap (λ (n : ℕ). n % 2) is ∙ add-mul-mod_self_left count 2 q in
+    ap (λ (r : ℕ). if nat_eq r 0 then Announce else Advance) rest
+
+turns_joined : (turns count more : ℕ) → more ≡ turns + count → turns % 2 ≡ 0 → turn_events more ≡ turn_events turns ++ turn_events count
+turns_joined turns zero more is even =
+    let same : more ≡ turns = omega arith in
+    ap turn_events same ∙ sym (append-nil (turn_events turns))
+turns_joined turns (suc count) zero is even = absurd (omega arith)
+turns_joined turns (suc count) (suc more) is even =
+    let before : more ≡ turns + count = omega arith in
+    let q : ℕ = turns / 2 in
+    let halves : 2 * q + turns % 2 ≡ turns = div-add-mod turns 2 in
+    let at : more ≡ count + 2 * q = omega (arith, before, halves, even) in
+    ap (λ l. l ++ turn_event more ∷ []) (turns_joined turns count more before even)
+    ∙ append_assoc (turn_events turns) (turn_events count) (turn_event more ∷ [])
+    ∙ ap (λ e. turn_events turns ++ (turn_events count ++ e ∷ [])) (same_turn more count q at)
+
+-- more events of turns, where a turn begins
+pub more_turns : (batch : List Event) (used turns more count : ℕ) → more ≡ turns + count → turns % 2 ≡ 0 →
+    take used batch ++ turn_events more ≡ (take used batch ++ turn_events turns) ++ turn_events count
+more_turns batch used turns more count is even =
+    ap (λ l. take used batch ++ l) (turns_joined turns count more is even) ∙ sym (append_assoc (take used batch) (turn_events turns) (turn_events count))
 
 -- one event less of the turns
 pub one_turn_less : (batch : List Event) (used turns : ℕ) (event : Event) → 0 < turns → event ≡ turn_event (turns - 1) →

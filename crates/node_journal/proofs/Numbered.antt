@@ -1,5 +1,5 @@
 -- Slips whose places are 0, 1, 2 .., and one more or less.
-use Rattle.std.proofs.Common.{◌≡◌, ◌≢◌, ◌∙◌, sym, ap, subst, refl, ℕ, suc, ◌+◌, ◌-◌, ◌<◌, ◌≤◌, Bool, true, false, nat_lt, List, [], ◌∷◌, ◌++◌, length, take, drop, slice_get, length-append, append-nil, append_assoc, Option, Some, None, IfSome, MatchOption, option_map, arith}
+use Rattle.std.proofs.Common.{◌≡◌, ◌≢◌, ◌∙◌, sym, ap, subst, refl, ℕ, zero, suc, ◌+◌, ◌-◌, ◌<◌, ◌≤◌, Bool, true, false, nat_lt, List, [], ◌∷◌, ◌++◌, length, take, drop, slice_get, length-append, append-nil, append_assoc, Option, Some, None, IfSome, MatchOption, option_map, arith}
 use Rattle.std.proofs.Math.Seq.{take-append_seam, drop-append_seam}
 use Rattle.std.proofs.lemmas.List.{length-map, length_push, map-append, take-append-drop, take-map}
 use Rattle.std.proofs.lemmas.Bool.Decides.{nat_tests}
@@ -76,6 +76,17 @@ no_events slips none = ap events_of none
 pub last_event : (slips front : List Slip) (slip : Slip) → slips ≡ front ++ slip ∷ [] → (rest : List Event) × (events_of slips ≡ rest ++ slip.event ∷ [])
 last_event slips front slip is = (events_of front, one_event front slips slip is)
 
+-- the first items, and those behind them
+none_taken : {X : Type 0} (n : ℕ) → ◌≡◌ {A = List X} (take n []) []
+none_taken zero = refl
+none_taken (suc n) = refl
+
+take_both : {X : Type 0} (xs : List X) (m n k : ℕ) → k ≡ m + n → take k xs ≡ take m xs ++ take n (drop m xs)
+take_both xs zero n k is = let same : k ≡ n = omega arith in ap (λ (i : ℕ). take i xs) same
+take_both [] (suc m) n k is = none_taken k ∙ sym (none_taken n)
+take_both (x ∷ xs) (suc m) n zero is = absurd (omega arith)
+take_both (x ∷ xs) (suc m) n (suc k) is = ap (λ l. x ∷ l) (take_both xs m n k (omega arith))
+
 -- the events of slips that follow one another
 events_from : (place : ℕ) (events : List Event) → events_of (slips_from place events) ≡ events
 events_from place [] = refl
@@ -119,6 +130,10 @@ module _ (slips front back : List Slip) (place : ℕ) (events : List Event) (num
       ∙ ap (λ (n : ℕ). take (length events) (drop n (events_of front ++ (events ++ events_of back)))) (sym before)
       ∙ ap (take (length events)) (drop-append_seam (events_of front) (events ++ events_of back))
       ∙ take-append_seam events (events_of back)
+
+  -- the events before a block's end are those before its place, and its own
+  pub block_ends : (end : ℕ) → place + length events ≡ end → take end (events_of slips) ≡ take place (events_of slips) ++ events
+  block_ends end is = take_both (events_of slips) place (length events) end (sym is) ∙ ap (λ l. take place (events_of slips) ++ l) block_taken
 
 -- two journals with the same block at a place are the same there
 pub same_block : (slips front back others front' back' : List Slip) (place : ℕ) (events events' : List Event) → AreNumbered slips → slips ≡ front ++ (slips_from place events ++ back) →

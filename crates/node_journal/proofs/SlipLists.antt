@@ -10,6 +10,8 @@ use Rattle.node.specs.declared.event.Event.{Event}
 use Rattle.node_journal.specs.declared.placed_block.PlacedBlock.{PlacedBlock}
 use Rattle.node_journal.specs.declared.slip.Slip.{Slip}
 use Rattle.node_journal.specs.Slips.{slips_from, slips_at, slips_of, IsFilled, AreFilled, event_of, event_if, event_in}
+use Rattle.node_journal.specs.Turns.{turn_events}
+use Rattle.node_journal.proofs.BlockEvents.{turns_length}
 use Rattle.node_journal.proofs.Places.{get_left, get_right, take_next}
 
 -- an event with its place
@@ -35,6 +37,23 @@ filled_more place events more event next longer is small =
     let long : length more ≡ length events + 1 = ap length longer ∙ length_push events event in
     record { some = omega arith; counted = omega arith }
 
+-- more events in a block
+joined_slips : (place : ℕ) (events more : List Event) (next : ℕ) → next ≡ place + length events → slips_from place (events ++ more) ≡ slips_from place events ++ slips_from next more
+joined_slips place [] more next is =
+    let same : place ≡ next = omega arith in
+    ap (λ (p : ℕ). slips_from p more) same
+joined_slips place (e ∷ events) more next is = ap (λ slips. slip_with place e ∷ slips) (joined_slips (suc place) events more next (omega arith))
+
+pub more_slips : (place : ℕ) (events more new : List Event) (next : ℕ) → new ≡ events ++ more → next ≡ place + length events →
+    slips_from place new ≡ slips_from place events ++ slips_from next more
+more_slips place events more new next longer is = ap (slips_from place) longer ∙ joined_slips place events more next is
+
+pub filled_by : (place : ℕ) (events more new : List Event) (next : ℕ) → new ≡ events ++ more → next ≡ place + length events → 0 < length more →
+    next + length more < 2 ^ 64 → IsFilled (record { place = place; block = new })
+filled_by place events more new next longer is some small =
+    let long : length new ≡ length events + length more = ap length longer ∙ length-append events more in
+    record { some = omega arith; counted = omega arith }
+
 no_items : (slips : List Slip) → length slips ≡ 0 → slips ≡ []
 no_items [] none = refl
 no_items (slip ∷ slips) none = absurd (omega arith)
@@ -58,6 +77,15 @@ extended_last (placed ∷ other ∷ blocks) zero d new slip last is = absurd (om
 extended_last (placed ∷ blocks) (suc k) d new slip last is =
     ap (λ slips. slips_at placed ++ slips) (extended_last blocks k d new slip (omega arith) is)
     ∙ sym (append_assoc (slips_at placed) (slips_of blocks) (slip ∷ []))
+
+-- the same with several more
+pub extended_by : (blocks : List PlacedBlock) (k : ℕ) (d new : PlacedBlock) (more : List Slip) → suc k ≡ length blocks →
+    slips_at new ≡ slips_at (get_or blocks k d) ++ more → slips_of (set blocks k new) ≡ slips_of blocks ++ more
+extended_by [] k d new more last is = absurd (omega arith)
+extended_by (placed ∷ []) zero d new more last is = append-nil (slips_at new) ∙ is ∙ ap (λ slips. slips ++ more) (sym (append-nil (slips_at placed)))
+extended_by (placed ∷ other ∷ blocks) zero d new more last is = absurd (omega arith)
+extended_by (placed ∷ blocks) (suc k) d new more last is =
+    ap (λ slips. slips_at placed ++ slips) (extended_by blocks k d new more (omega arith) is) ∙ sym (append_assoc (slips_at placed) (slips_of blocks) more)
 
 pub filled_last : (blocks : List PlacedBlock) (k : ℕ) (new : PlacedBlock) → IsFilled new → AreFilled blocks → AreFilled (set blocks k new)
 filled_last [] k new filled all = all
@@ -89,6 +117,22 @@ pub count_less : (slips less : List Slip) (slip : Slip) (count : ℕ) → slips 
 count_less slips less slip count is counted =
     let long : length slips ≡ length less + 1 = ap length is ∙ length_push less slip in
     (omega arith, omega arith)
+
+-- the same with those of a block less
+pub count_without : (slips less : List Slip) (place : ℕ) (events : List Event) (count : ℕ) → slips ≡ less ++ slips_from place events → count ≡ length slips →
+    (length events ≤ count) × (count - length events ≡ length less)
+count_without slips less place events count is counted =
+    let long : length slips ≡ length less + length (slips_from place events) = ap length is ∙ length-append less (slips_from place events) in
+    let many = slips_length place events in
+    (omega arith, omega arith)
+
+-- how many slips there are, with those of turns
+pub count_turns : (slips more : List Slip) (place turns count : ℕ) → more ≡ slips ++ slips_from place (turn_events turns) → count ≡ length slips → count + turns ≡ length more
+count_turns slips more place turns count is counted =
+    let long : length more ≡ length slips + length (slips_from place (turn_events turns)) = ap length is ∙ length-append slips (slips_from place (turn_events turns)) in
+    let many = slips_length place (turn_events turns) in
+    let as_many = turns_length turns in
+    omega arith
 
 -- where there is no block, there is no slip
 pub no_slip : (blocks : List PlacedBlock) → length blocks ≡ 0 → slips_of blocks ≡ []
@@ -130,6 +174,12 @@ popped_last blocks front placed less slip there is none =
     let long = slips_length less.place less.block in
     let empty : slips_at less ≡ [] = no_items (slips_at less) (omega arith) in
     ap slips_of there ∙ one_block front placed ∙ ap (λ s. slips_of front ++ s) (is ∙ ap (λ s. s ++ slip ∷ []) empty)
+
+-- without the last block
+pub popped_block : (blocks front : List PlacedBlock) (placed : PlacedBlock) (place : ℕ) (events : List Event) → blocks ≡ front ++ placed ∷ [] → placed.place ≡ place → placed.block ≡ events →
+    slips_of blocks ≡ slips_of front ++ slips_from place events
+popped_block blocks front placed place events there at is =
+    ap slips_of there ∙ one_block front placed ∙ ap₂ (λ (p : ℕ) (l : List Event). slips_of front ++ slips_from p l) at is
 
 -- the last slip of the last block is the last of all
 pub last_in : (blocks : List PlacedBlock) (position : ℕ) (placed : PlacedBlock) (slips : List Slip) (slip : Slip) → position + 1 ≡ length blocks → placed ≡ get_or blocks position placed →

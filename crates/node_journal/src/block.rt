@@ -1,6 +1,7 @@
 ghost use Rattle.std.specs.Prelude.{◌≡◌, ◌↔◌, ◌<◌, ◌++◌, ◌∷◌, [], true, false, List, length, take, slice_get, Some};
 ghost use Rattle.std.specs.Prelude.{IfOk};
 ghost use Rattle.node.specs.declared.event.Event.{Event as IsEvent};
+ghost use Rattle.node_journal.specs.Turns.{turn_events};
 
 use crate::batch::Batch;
 use crate::turns::{is_same, turn_event};
@@ -53,6 +54,17 @@ impl Block {
             used: batch.events().len(),
             batch,
             turns: 0,
+        }
+    }
+
+    /// No event of a batch, and this many of turns.
+    pub(crate) fn of_turns(batch: Batch, count: usize) -> Block
+        ensures { result ≡ turn_events count }
+    {
+        Block {
+            batch,
+            used: 0,
+            turns: count,
         }
     }
 
@@ -121,6 +133,19 @@ impl Block {
         }
         if self.used + self.turns < usize::MAX && is_same(event, &turn_event(self.turns)) {
             self.turns += 1;
+            return true;
+        }
+        false
+    }
+
+    /// Takes in this many events of turns, if a turn begins there. Returns whether they are taken in.
+    #[tactic(auto, using(crate::proofs::BlockEvents::more_turns))]
+    pub(crate) fn extend_turns(&mut self, count: usize) -> bool
+        ensures extended { result ≡ true → self.new ≡ self.old ++ turn_events count }
+        ensures unchanged { result ≡ false → self.new ≡ self.old }
+    {
+        if self.turns % 2 == 0 && count <= usize::MAX - (self.used + self.turns) {
+            self.turns += count;
             return true;
         }
         false

@@ -1,7 +1,8 @@
-ghost use Rattle.std.specs.Prelude.{◌≡◌, ◌≢◌, ℕ, ◌++◌, ◌∷◌, [], ◌<◌, true, false, None, Some, length, slice_get, IfOk};
+ghost use Rattle.std.specs.Prelude.{◌≡◌, ◌≢◌, ℕ, ◌++◌, ◌∷◌, [], ◌+◌, ◌<◌, ◌≤◌, true, false, None, Some, length, slice_get, IfOk};
 ghost use Rattle.std.specs.Prelude.{IfSome, MatchOption, OnOk, OnErr, List, take};
 ghost use Rattle.node_journal.specs.declared.slip.Slip.{Slip as IsSlip};
 ghost use Rattle.node_journal.specs.Slips.{AreFilled, slips_from, slips_of};
+ghost use Rattle.node_journal.specs.Turns.{turn_events};
 
 use crate::batch::Batch;
 use crate::block::Block;
@@ -84,6 +85,27 @@ impl Blocks {
         self.add_block(place, Block::of(batch.try_clone()?))
     }
 
+    /// Slips of this many events of turns, an announcement and then an advance each, whose places follow one another
+    /// from this one on. They take no memory behind others of the same kind.
+    #[tactic(auto, using(crate::proofs::SlipLists::count_turns, crate::proofs::BlockEvents::turns_length))]
+    pub fn add_turns(&mut self, place: usize, count: usize) -> Result<(), AllocError>
+        ensures added { OnOk result (self.new ≡ self.old ++ slips_from place (turn_events count)) }
+        ensures unchanged { OnErr result (self.new ≡ self.old) }
+    {
+        if count == 0 {
+            return Ok(());
+        }
+        if count > usize::MAX - place || count > usize::MAX - self.count {
+            return Err(AllocError);
+        }
+        if extend_last_turns(&mut self.blocks, place, count) {
+            self.count += count;
+            return Ok(());
+        }
+        let batch = Batch::new(*self.blocks.allocator(), &[])?;
+        self.add_block(place, Block::of_turns(batch, count))
+    }
+
     /// Takes off all slips but the first ones, this many.
     #[tactic(auto, using(crate::proofs::Appended::all_taken, crate::proofs::Appended::one_taken_off))]
     pub fn truncate(&mut self, count: usize)
@@ -110,6 +132,20 @@ impl Blocks {
         Some(slip)
     }
 
+    /// Takes off the slips of the last block, if these are the ones of another block whose first event has this place.
+    /// It is false also where the last slips are these, but are kept otherwise.
+    #[tactic(auto, using(crate::proofs::SlipLists::count_without))]
+    pub fn pop_block(&mut self, place: usize, block: &Block) -> bool
+        ensures popped { result ≡ true → self.old ≡ self.new ++ slips_from place block.now }
+        ensures unchanged { result ≡ false → self.new ≡ self.old }
+    {
+        if !pop_block(&mut self.blocks, place, block) {
+            return false;
+        }
+        self.count -= block.len();
+        true
+    }
+
     /// Takes off all slips, and keeps the room of their blocks.
     pub fn clear(&mut self)
         ensures { self.new ≡ [] }
@@ -133,6 +169,11 @@ impl Blocks {
         ensures none { result ≡ None → (k : ℕ) (slip : IsSlip) → slice_get self.now k ≡ Some slip → slip.place ≢ place }
     {
         get(&self.blocks, place, near)
+    }
+
+    /// The place of the first event of the block of this number.
+    pub(crate) fn block_begin(&self, number: usize) -> Option<usize> {
+        Some(self.blocks.get(number)?.place)
     }
 
     /// The block of this number, if its events are those from a place on.
@@ -219,6 +260,23 @@ fn extend_last(blocks: &mut [PlacedBlock], place: usize, event: &Event) -> bool
     blocks[last].extend(place, event)
 }
 
+// Has the last block go on with this many events of turns from a place on, if it can.
+#[tactic(auto, using(crate::proofs::SlipLists::extended_by, crate::proofs::SlipLists::filled_last))]
+fn extend_last_turns(blocks: &mut [PlacedBlock], place: usize, count: usize) -> bool
+    requires some { 0 < count }
+    requires within { place + count ≤ usize.MAX }
+    ensures extended { result ≡ true
+        → slips_of blocks.new ≡ slips_of blocks.old ++ slips_from place (turn_events count) }
+    ensures filled { result ≡ true → AreFilled blocks.old → AreFilled blocks.new }
+    ensures unchanged { result ≡ false → blocks.new ≡ blocks.old }
+{
+    if blocks.is_empty() {
+        return false;
+    }
+    let last = blocks.len() - 1;
+    blocks[last].extend_turns(place, count)
+}
+
 // A block of one event: the first one of the batch, if it is that.
 fn first_of(alloc: Global, event: &Event, batch: Option<&Batch>) -> Result<Block, AllocError>
     ensures { IfOk result (λ block. block ≡ event.now ∷ []) }
@@ -258,6 +316,27 @@ fn pop(blocks: &mut Vec<PlacedBlock>) -> Option<Slip>
             Some(slip)
         }
         None => None,
+    }
+}
+
+// Takes off the last block, if it is this one and its first event has this place.
+#[tactic(auto, using(crate::proofs::SlipLists::filled_front, crate::proofs::SlipLists::popped_block))]
+fn pop_block(blocks: &mut Vec<PlacedBlock>, place: usize, block: &Block) -> bool
+    requires { AreFilled blocks.old.items }
+    ensures popped { result ≡ true
+        → slips_of blocks.old.items ≡ slips_of blocks.new.items ++ slips_from place block.now }
+    ensures unchanged { result ≡ false → blocks.new.items ≡ blocks.old.items }
+    ensures filled { AreFilled blocks.new.items }
+{
+    match blocks.pop() {
+        Some(placed) => {
+            if placed.place == place && placed.block.is_same(block) {
+                return true;
+            }
+            blocks.push_reserved(placed);
+            false
+        }
+        None => false,
     }
 }
 

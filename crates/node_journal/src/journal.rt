@@ -1,8 +1,10 @@
 ghost use Rattle.std.specs.Prelude.{◌≡◌, ◌≢◌, ℕ, ◌+◌, ◌<◌, ◌≤◌, ◌++◌, ◌∷◌, [], List, length, take, drop, get_or};
 ghost use Rattle.std.specs.Prelude.{slice_get, None, IfOk, IfSome, MatchOption, OnOk, OnErr};
 ghost use Rattle.node.specs.declared.event.Event.{Event as IsEvent};
+ghost use Rattle.node_journal.specs.Turns.{turn_events};
 
 use crate::batch::Batch;
+use crate::block::Block;
 use crate::blocks::Blocks;
 use crate::turns::is_same;
 use node::Event;
@@ -74,6 +76,16 @@ impl Journal {
     {
         let place = self.slips.len();
         self.slips.add_batch(place, batch)
+    }
+
+    /// This many events of turns more: an announcement and then an advance each.
+    #[tactic(auto, using(crate::proofs::Numbered::more_numbers, crate::proofs::Numbered::more_events))]
+    pub fn push_turns(&mut self, count: usize) -> Result<(), AllocError>
+        ensures pushed { OnOk result (self.new ≡ self.old ++ turn_events count) }
+        ensures unchanged { OnErr result (self.new ≡ self.old) }
+    {
+        let place = self.slips.len();
+        self.slips.add_turns(place, count)
     }
 
     /// Takes off the last event.
@@ -228,6 +240,24 @@ impl Journal {
         ensures { self.new ≡ take count self.old }
     {
         self.slips.truncate(count);
+    }
+
+    /// The block of this number, if its events are those from the one place on and before the other.
+    pub fn block_between(&self, number: usize, place: usize, end: usize) -> Option<&Block>
+        ensures some { IfSome result (λ block. 0 < length block.now) }
+        ensures as_many { IfSome result (λ block. place + length block.now ≡ end) }
+        ensures within { IfSome result (λ _. end ≤ length self.now) }
+        ensures events { IfSome result (λ block. take end self.now ≡ take place self.now ++ block.now) }
+    {
+        match self.slips.block(number, place) {
+            Some(block) if place <= end && block.len() == end - place => Some(block),
+            _ => None,
+        }
+    }
+
+    /// The place of the first event of the block of this number.
+    pub fn block_begin(&self, number: usize) -> Option<usize> {
+        self.slips.block_begin(number)
     }
 
     /// How many blocks they are kept in.

@@ -27,3 +27,4 @@ pub use blocks::Blocks;
 pub use journal::Journal;
 pub use placed_block::PlacedBlock;
 pub use slip::Slip;
+pub use turns::turn_event;

@@ -1,6 +1,7 @@
-ghost use Rattle.std.specs.Prelude.{◌≡◌, ◌++◌, ◌∷◌, [], ◌<◌, List, length, true, false, is_some};
+ghost use Rattle.std.specs.Prelude.{◌≡◌, ◌++◌, ◌∷◌, [], ◌+◌, ◌<◌, ◌≤◌, List, length, true, false, is_some};
 ghost use Rattle.node_journal.specs.declared.slip.Slip.{Slip as IsSlip};
-ghost use Rattle.node_journal.specs.Slips.{event_of, slips_at, IsFilled};
+ghost use Rattle.node_journal.specs.Slips.{event_of, slips_at, slips_from, IsFilled};
+ghost use Rattle.node_journal.specs.Turns.{turn_events};
 
 use crate::block::Block;
 use crate::slip::Slip;
@@ -42,6 +43,23 @@ impl PlacedBlock {
     {
         if self.place <= place && place - self.place == self.block.len() {
             self.block.extend(event)
+        } else {
+            false
+        }
+    }
+
+    /// Takes in this many events of turns from a place on, if that is the next one and a turn begins there. Returns
+    /// whether they are taken in.
+    #[tactic(auto, using(crate::proofs::SlipLists::more_slips, crate::proofs::SlipLists::filled_by, crate::proofs::BlockEvents::turns_length))]
+    pub(crate) fn extend_turns(&mut self, place: usize, count: usize) -> bool
+        requires { place + count ≤ usize.MAX }
+        ensures extended { result ≡ true
+            → slips_at self.new ≡ slips_at self.old ++ slips_from place (turn_events count) }
+        ensures filled { result ≡ true → 0 < count → IsFilled self.new }
+        ensures unchanged { result ≡ false → self.new ≡ self.old }
+    {
+        if self.place <= place && place - self.place == self.block.len() {
+            self.block.extend_turns(count)
         } else {
             false
         }

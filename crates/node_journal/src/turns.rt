@@ -5,7 +5,7 @@ ghost use Rattle.node_journal.specs.Turns.{turn_event};
 use node::Event;
 
 /// An event of turns, counted from 0.
-pub(crate) fn turn_event(number: usize) -> Event
+pub fn turn_event(number: usize) -> Event
     ensures { result ≡ turn_event number }
 {
     if number % 2 == 0 {

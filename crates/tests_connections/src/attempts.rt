@@ -12,9 +12,9 @@ use tests_samples::{Machine, SENDER};
 use wires::Terms;
 use wires_workers::{Gate, Point};
 
-/// A federate has five turns.
+/// Far more turns than attempts that are waited for, so that one is left where these come fast.
 const TERMS: Terms = Terms {
-    turns: 5,
+    turns: 100,
     frames: 2,
 };
 
@@ -83,17 +83,21 @@ fn turns_beside_attempts<R: Machine>(rt: &R, nodes: Nodes, connects: bool) -> Op
     }
 }
 
-// Three attempts or more are turns of the five, so at most two are made otherwise, and one at least, in which the
-// attempts came.
-#[test]
-fn counts_attempts_that_come_to_nothing_as_turns(rt: HostRuntime) {
+// Three attempts or more are turns of the hundred, so at most 97 are made otherwise, and one at least, in which the
+// attempts came. How nodes run that make another count, whether a connection is made, and the count.
+fn exception<R: Machine>(rt: &R) -> Option<(Nodes, bool, Option<usize>)> {
     for nodes in EACH_WAY {
         for connects in [false, true] {
-            let turns = turns_beside_attempts(&rt, nodes, connects);
-            assert!(rt;
-                matches!(turns, Some(1..=2)),
-                "{nodes:?}, {connects}: {turns:?}"
-            );
+            let turns = turns_beside_attempts(rt, nodes, connects);
+            if !matches!(turns, Some(1..=97)) {
+                return Some((nodes, connects, turns));
+            }
         }
     }
+    None
+}
+
+#[test]
+fn counts_attempts_that_come_to_nothing_as_turns(rt: HostRuntime) {
+    assert_eq!(rt; exception(&rt), None);
 }

@@ -66,19 +66,30 @@ fn written<R: Wait + Clock>(
     Some((came.len().checked_sub(seconds)?, seconds))
 }
 
+/// How many frames of each of the two refusals are put, and how many of each are written.
+const PUT: [(usize, usize, usize, usize); 5] = [
+    (2, 1, 2, 1),
+    (MOST - 1, 1, MOST - 1, 1),
+    (MOST, 1, MOST, 0),
+    (MOST - 1, 2, MOST - 1, 0),
+    (MOST + 1, 2, 0, 2),
+];
+
+// Of which counts others are written than have to be, and how many.
+fn exception<R: Wait + Clock>(
+    rt: &R,
+    alloc: Global,
+) -> Option<(usize, usize, Option<(usize, usize)>)> {
+    for (first, second, firsts, seconds) in PUT {
+        let written = written(rt, alloc, first, second);
+        if written != Some((firsts, seconds)) {
+            return Some((first, second, written));
+        }
+    }
+    None
+}
+
 #[test]
 fn keeps_so_many_frames_that_wait(rt: HostRuntime) {
-    for (first, second, expected) in [
-        (2, 1, (2, 1)),
-        (MOST - 1, 1, (MOST - 1, 1)),
-        (MOST, 1, (MOST, 0)),
-        (MOST - 1, 2, (MOST - 1, 0)),
-        (MOST + 1, 2, (0, 2)),
-    ] {
-        assert_eq!(rt;
-            written(&rt, rt.alloc(), first, second),
-            Some(expected),
-            "{first} {second}"
-        );
-    }
+    assert_eq!(rt; exception(&rt, rt.alloc()), None);
 }

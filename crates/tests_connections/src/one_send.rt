@@ -3,24 +3,12 @@ use signal::FrameReader;
 use std::alloc::Global;
 use std::sync::atomic::{AtomicU64, Ordering};
 use tests_lines::federations::BY_TURNS;
-use tests_lines::lines::{EACH_WAY, Nodes, Setting};
+use tests_lines::lines::{Nodes, Setting};
 use tests_lines::outcome::outcome_in_memory;
 use tests_lines::tap::{End, Fate, Tap};
 use tests_samples::Machine;
 use wires::Terms;
 use wires_workers::NoGate;
-
-/// The federate src's own end, and the coordinator's end for it.
-const SRC: [End; 2] = [
-    End {
-        federate: 0,
-        is_own: true,
-    },
-    End {
-        federate: 0,
-        is_own: false,
-    },
-];
 
 /// Far more than a run needs, which ends within 20 s of idle turns all the same.
 const TERMS: Terms = Terms {
@@ -89,31 +77,38 @@ fn connections<R: Machine>(rt: &R, nodes: Nodes, once: &Once) -> Option<[u64; 2]
     }
 }
 
-// The first of so many sends of src or to it that makes src and snk connect otherwise where this befalls it, and how
-// often they do then; none where each makes them connect so.
+// The first of so many sends of src or to it that makes src and snk connect otherwise where this befalls it: whether it
+// is src's own, which one, and how often they connect then. None where each makes them connect so.
 fn exception<R: Machine>(
     rt: &R,
     nodes: Nodes,
-    sends: u64,
     fate: Fate,
+    sends: u64,
     expected: [u64; 2],
-) -> Option<(End, u64, Option<[u64; 2]>)> {
-    for end in SRC {
+) -> Option<(bool, u64, Option<[u64; 2]>)> {
+    for is_own in [true, false] {
         for nth in 0..sends {
+            let end = End {
+                federate: 0,
+                is_own,
+            };
             let connected = connections(rt, nodes, &Once::new(end, nth, fate));
             if connected != Some(expected) {
-                return Some((end, nth, connected));
+                return Some((is_own, nth, connected));
             }
         }
     }
     None
 }
 
-fn assert_connects<R: Machine>(rt: &R, sends: u64, fate: Fate, expected: [u64; 2]) {
-    for nodes in EACH_WAY {
-        let exception = exception(rt, nodes, sends, fate, expected);
-        assert_eq!(rt; exception, None, "{nodes:?}: {fate:?}");
-    }
+// What befalls each of so many sends of src or to it makes src and snk connect so, however nodes run. A row says what it
+// is by this number.
+fn assert_connects<R: Machine>(rt: &R, row: u16, fate: Fate, sends: u64, expected: [u64; 2]) {
+    let both = (
+        exception(rt, Nodes::Together, fate, sends, expected),
+        exception(rt, Nodes::Apart, fate, sends, expected),
+    );
+    assert_eq!(rt; both, (None, None), "{row}");
 }
 
 /// Bytes that are no frame, with the number of their fault: a length of 0; a body of no kind; an LTC with FOREVER; an
@@ -145,19 +140,19 @@ fn fault(alloc: Global, bytes: &[u8]) -> Option<u16> {
 fn ends_a_connection_on_which_something_is_no_frame(rt: HostRuntime) {
     for (number, bytes) in MALICIOUS {
         assert_eq!(rt; fault(rt.alloc(), *bytes), Some(*number));
-        assert_connects(&rt, 3, Fate::followed(*bytes), [2, 1]);
+        assert_connects(&rt, *number, Fate::followed(*bytes), 3, [2, 1]);
     }
 }
 
 #[test]
 fn ends_a_connection_on_which_a_send_failed(rt: HostRuntime) {
     for goes in [0, 1, 19] {
-        assert_connects(&rt, 3, Fate::broken(goes), [2, 1]);
+        assert_connects(&rt, goes, Fate::broken(usize::from(goes)), 3, [2, 1]);
     }
 }
 
 // What is lost without breaking a connection is sent again, at either end.
 #[test]
 fn sends_again_what_was_lost(rt: HostRuntime) {
-    assert_connects(&rt, 4, Fate::lost(), [1, 1]);
+    assert_connects(&rt, 0, Fate::lost(), 4, [1, 1]);
 }

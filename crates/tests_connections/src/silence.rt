@@ -2,7 +2,7 @@
 //! time after ten more. The numbers are those of docs/PROTOCOL.md, written out: a test that cited the constants of the
 //! code would pass with any.
 use node::Event;
-use tests_lines::lines::{EACH_WAY, Nodes, Setting};
+use tests_lines::lines::{Nodes, Setting};
 use tests_lines::outcome::outcome_in_memory;
 use tests_lines::tap::{End, Fate, Tap};
 use tests_samples::{Machine, SENDER};
@@ -63,8 +63,8 @@ fn turns_between_resendings<R: Machine>(rt: &R, nodes: Nodes) -> Option<usize> {
 
 #[test]
 fn sends_again_after_ten_waits(rt: HostRuntime) {
-    for nodes in EACH_WAY {
-        assert_eq!(rt; turns_between_resendings(&rt, nodes), Some(10), "{nodes:?}");
-    }
-    assert_eq!(rt; (RUNNER_WAIT_MS, WAITS_BEFORE_RESEND), (10, 10));
+    let together = turns_between_resendings(&rt, Nodes::Together);
+    let apart = turns_between_resendings(&rt, Nodes::Apart);
+    let times = (RUNNER_WAIT_MS, WAITS_BEFORE_RESEND);
+    assert_eq!(rt; (together, apart, times), (Some(10), Some(10), (10, 10)));
 }

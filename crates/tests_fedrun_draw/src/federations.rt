@@ -1,69 +1,108 @@
 //! Pictures of federations.
 use crate::made::{line_of, many};
-use crate::standing::{
-    are_boxes_apart, are_ports_joined, are_texts_apart, do_lines_pass, is_all_inside,
-};
+use crate::standing::{wrong_line, wrong_place};
 use fedrun_draw::figures_of;
 use files_pictures::federation_picture;
 use files_pictures::figures::Figures;
-use files_pictures::shapes::{Area, Picture, Point, Sign};
+use files_pictures::shapes::{Area, Mark, Picture, Point, Sign};
 use std::alloc::Global;
-use std::test::Fail;
 use tests_samples::{COUNTER, LOOP, loaded};
 
-// The picture of a federation's file; None where there is none.
-fn drawn(alloc: Global, federation: &str) -> Option<Picture> {
-    let federation = loaded(alloc, federation, "")?;
-    let figures = figures_of(alloc, federation.plan()).ok()?;
-    federation_picture(alloc, &figures).ok()
+/// A federation that is drawn.
+#[derive(Clone, Copy)]
+enum Drawn {
+    /// This many federates, each of which sends to the next one.
+    Chain(usize),
+    /// The same, and the last sends to the first.
+    Ring(usize),
+    /// 64 federates with 200 connections.
+    Many,
+    Counter,
+    /// A federate that sends to itself.
+    Loop,
 }
 
-#[test]
-fn draws_the_counter(rt: HostRuntime) -> Result<(), Fail> {
-    let picture = drawn(rt.alloc(), COUNTER).ok_or("no picture")?;
-    let src = Area {
+const FEDERATIONS: &[(&str, Drawn)] = &[
+    ("a ring of one", Drawn::Ring(1)),
+    ("a chain of 2", Drawn::Chain(2)),
+    ("a ring of 2", Drawn::Ring(2)),
+    ("a chain of 64", Drawn::Chain(64)),
+    ("a ring of 64", Drawn::Ring(64)),
+    ("many connections", Drawn::Many),
+    ("the counter", Drawn::Counter),
+    ("a loop", Drawn::Loop),
+];
+
+// What is drawn of it.
+fn figures(alloc: Global, drawn: Drawn) -> Option<Figures> {
+    match drawn {
+        Drawn::Chain(count) => line_of(alloc, count, false).ok(),
+        Drawn::Ring(count) => line_of(alloc, count, true).ok(),
+        Drawn::Many => many(alloc).ok(),
+        Drawn::Counter => figures_of_file(alloc, COUNTER),
+        Drawn::Loop => figures_of_file(alloc, LOOP),
+    }
+}
+
+fn figures_of_file(alloc: Global, federation: &str) -> Option<Figures> {
+    let federation = loaded(alloc, federation, "")?;
+    figures_of(alloc, federation.plan()).ok()
+}
+
+/// The boxes of the counter's two federates.
+const BOXES: &[Area] = &[
+    Area {
         left: 24,
         top: 28,
         width: 166,
         height: 72,
-    };
-    let snk = Area {
+    },
+    Area {
         left: 270,
         top: 28,
         width: 105,
         height: 54,
-    };
-    assert_eq!(rt; picture.boxes.as_slice(), [src, snk].as_slice());
-    let line = picture.lines.first().ok_or("no line")?;
-    let points = [
-        Point { x: 190, y: 65 },
-        Point { x: 202, y: 65 },
-        Point { x: 258, y: 65 },
-        Point { x: 270, y: 65 },
-    ];
-    assert_eq!(rt; line.points.as_slice(), points.as_slice());
-    assert_eq!(rt; line.stroke.is_dashed, false);
-    Ok(())
+    },
+];
+
+/// The line of its connection.
+const POINTS: &[Point] = &[
+    Point { x: 190, y: 65 },
+    Point { x: 202, y: 65 },
+    Point { x: 258, y: 65 },
+    Point { x: 270, y: 65 },
+];
+
+// Whether the boxes and the line are the counter's, and the line isn't dashed.
+fn is_counter(picture: &Picture) -> bool {
+    match picture.lines.as_slice() {
+        [line] => {
+            picture.boxes.as_slice() == BOXES
+                && line.points.as_slice() == POINTS
+                && !line.stroke.is_dashed
+        }
+        _ => false,
+    }
 }
 
-// A connection from a federate to itself goes out to the right, over the top, and in from the left, dashed.
-#[test]
-fn draws_a_loop_over_the_top(rt: HostRuntime) -> Result<(), Fail> {
-    let picture = drawn(rt.alloc(), LOOP).ok_or("no picture")?;
-    let area = picture.boxes.first().copied().ok_or("no box")?;
-    let line = picture.lines.first().ok_or("no line")?;
-    assert_eq!(rt; line.stroke.is_dashed, true);
-    assert_eq!(rt; line.points.len(), 6);
-    let top = line.points.get(2).ok_or("no point")?.y;
-    assert!(rt; top < area.top);
-    let back = line.points.get(3).ok_or("no point")?;
-    assert!(rt; back.x < area.left);
-    assert!(rt; has_startup(&picture));
-    Ok(())
+// Whether a federate that is triggered by startup has a connection with itself, which goes out to the right, over the
+// top, and in from the left, dashed.
+fn is_loop(picture: &Picture) -> Option<bool> {
+    let area = picture.boxes.first()?;
+    let line = picture.lines.first()?;
+    match line.points.as_slice() {
+        [_, _, over, back, _, _] => Some(
+            line.stroke.is_dashed
+                && over.y < area.top
+                && back.x < area.left
+                && has_startup(picture.marks.as_slice()),
+        ),
+        _ => None,
+    }
 }
 
-fn has_startup(picture: &Picture) -> bool {
-    for mark in picture.marks.as_slice() {
+fn has_startup(marks: &[Mark]) -> bool {
+    for mark in marks {
         if mark.sign == Sign::Startup {
             return true;
         }
@@ -71,27 +110,32 @@ fn has_startup(picture: &Picture) -> bool {
     false
 }
 
-// Whether nothing of a picture stands where it may not.
-fn stands_well(alloc: Global, all: &Figures) -> Option<bool> {
-    let picture = federation_picture(alloc, all).ok()?;
-    Some(
-        are_boxes_apart(&picture)
-            && are_texts_apart(&picture)
-            && is_all_inside(&picture)
-            && are_ports_joined(&picture, all)
-            && do_lines_pass(&picture),
-    )
+// What is wrong with a picture of a federation; None where nothing is.
+fn wrong_in(alloc: Global, picture: &Picture, all: &Figures, drawn: Drawn) -> Option<&'static str> {
+    if let Some(wrong) = wrong_place(alloc, picture) {
+        return Some(wrong);
+    }
+    match drawn {
+        Drawn::Counter if !is_counter(picture) => Some("it isn't the counter"),
+        Drawn::Loop if is_loop(picture) != Some(true) => Some("it isn't the loop"),
+        _ => wrong_line(picture, all),
+    }
+}
+
+// The same of the picture that is made of it.
+fn wrong_of(alloc: Global, drawn: Drawn) -> Option<&'static str> {
+    let Some(all) = figures(alloc, drawn) else {
+        return Some("no federation");
+    };
+    match federation_picture(alloc, &all) {
+        Ok(picture) => wrong_in(alloc, &picture, &all, drawn),
+        Err(_) => Some("no picture"),
+    }
 }
 
 #[test]
-fn nothing_lies_on_anything_else(rt: HostRuntime) -> Result<(), Fail> {
-    let alloc = rt.alloc();
-    for (count, is_ring) in [(1, true), (2, false), (2, true), (64, false), (64, true)] {
-        let all = line_of(alloc, count, is_ring)?;
-        assert_eq!(rt; stands_well(alloc, &all), Some(true), "{count} {is_ring}");
+fn federations_are_drawn_and_nothing_lies_on_anything_else(rt: HostRuntime) {
+    for (name, drawn) in FEDERATIONS {
+        assert_eq!(rt; wrong_of(rt.alloc(), *drawn), None, "{name}");
     }
-    let all = many(alloc)?;
-    assert_eq!(rt; all.wires.len(), 200);
-    assert_eq!(rt; stands_well(alloc, &all), Some(true));
-    Ok(())
 }

@@ -1,56 +1,25 @@
 //! Pictures of schedules: those of examples/ that are played over the counter, and what their comments say of them.
-use crate::standing::{are_boxes_apart, are_texts_apart, is_all_inside};
+use crate::standing::wrong_place;
 use fedrun_draw::{DrawFault, history_of_schedule};
-use files_pictures::history::{Arrival, History, Moment};
+use files_pictures::history::{Arrival, History, Moment, RowMark};
 use files_pictures::schedule_picture;
-use files_pictures::shapes::{Ending, Ink, Picture, Sign};
-use files_script::{Script, read_script};
+use files_pictures::shapes::{Ending, Ink, Line, Mark, Picture, Sign};
+use files_script::read_script;
 use std::alloc::{AllocError, Global};
-use std::test::Fail;
-use tests_samples::{COUNTER, Federation, loaded};
+use tests_samples::{COUNTER, loaded};
 
 // What is drawn of a schedule over the counter; the outer None where something isn't taken.
-fn history(
-    alloc: Global,
-    schedule: &str,
-    closing: Option<u32>,
-) -> Option<Result<History, DrawFault>> {
+fn history(alloc: Global, schedule: &str) -> Option<Result<History, DrawFault>> {
     let federation = loaded(alloc, COUNTER, "")?;
     let script = read_script(alloc, schedule.as_bytes(), federation.plan()).ok()?;
-    Some(history_over(alloc, &federation, &script, closing))
-}
-
-// What is drawn of a schedule over a federation.
-fn history_over(
-    alloc: Global,
-    federation: &Federation,
-    script: &Script,
-    closing: Option<u32>,
-) -> Result<History, DrawFault> {
-    history_of_schedule(
+    Some(history_of_schedule(
         alloc,
         federation.plan(),
         federation.programs(),
         federation.inputs(),
-        script,
-        closing,
-    )
-}
-
-// The same, where it is drawn.
-fn drawn_history(alloc: Global, schedule: &str) -> Option<History> {
-    history(alloc, schedule, None)?.ok()
-}
-
-// How many frames came and were refused by this number, or weren't refused.
-fn arrival_count(history: &History, refused: Option<u16>) -> usize {
-    let mut count = 0usize;
-    for arrival in history.arrivals.as_slice() {
-        if arrival.refused == refused {
-            count = count.saturating_add(1);
-        }
-    }
-    count
+        &script,
+        None,
+    ))
 }
 
 /// Frames that come in another order, and one of them again.
@@ -62,36 +31,6 @@ deliver up src 4
 deliver up src 3
 deliver up src 1
 ";
-
-// The step of each arrival, by which number it was refused, and whether the frame had come before.
-fn fates(
-    alloc: Global,
-    arrivals: &[Arrival],
-) -> Result<Vec<(usize, Option<u16>, bool)>, AllocError> {
-    let mut fates = Vec::new(alloc);
-    for arrival in arrivals {
-        fates.push((arrival.step, arrival.refused, arrival.is_again))?;
-    }
-    Ok(fates)
-}
-
-#[test]
-fn shows_what_became_of_frames(rt: HostRuntime) -> Result<(), Fail> {
-    let history = drawn_history(rt.alloc(), REORDERED).ok_or("no history")?;
-    let wanted = [
-        (1, None, false),
-        (2, None, false),
-        (4, Some(52), false),
-        (5, None, false),
-        (6, None, true),
-    ];
-    let found = fates(rt.alloc(), history.arrivals.as_slice())?;
-    assert_eq!(rt; found.as_slice(), wanted.as_slice());
-    let row = history.rows.first().ok_or("no row")?;
-    assert_eq!(rt; row.text.as_str(), "(0, 0) [t] -> [y=1]");
-    assert_eq!(rt; (row.federate, row.step, history.rows.len()), (0, 3, 1));
-    Ok(())
-}
 
 /// A frame that is lost, one that is refused, and a federate that forgets.
 const FORGOTTEN: &str = "round
@@ -123,22 +62,105 @@ round
 round
 ";
 
-// How many lines of a picture end in a cross.
-fn cross_count(picture: &Picture) -> usize {
+/// What a picture of a schedule shows.
+#[derive(Clone, Copy)]
+enum Shown {
+    /// The steps that brought a frame, each with the number by which it was refused, and whether the frame had come
+    /// before.
+    Arrivals(&'static [(usize, Option<u16>, bool)]),
+    /// How many frames came and were refused by this number.
+    Refused(u16, usize),
+    /// How many rows were added.
+    Rows(usize),
+    /// The federate and the step of the first row, and its text.
+    FirstRow(usize, usize, &'static str),
+    /// How many lifelines are cut, each as often as it is.
+    Cuts(usize),
+    /// The first frame that was sent never came; a cross stands for each that didn't.
+    FirstIsLost,
+}
+
+/// Schedules, and what their pictures show, besides that nothing lies on anything else.
+const SCHEDULES: &[(&str, &[Shown])] = &[
+    ("", &[Shown::Arrivals(&[]), Shown::Rows(0)]),
+    (
+        REORDERED,
+        &[
+            Shown::Arrivals(&[
+                (1, None, false),
+                (2, None, false),
+                (4, Some(52), false),
+                (5, None, false),
+                (6, None, true),
+            ]),
+            Shown::FirstRow(0, 3, "(0, 0) [t] -> [y=1]"),
+            Shown::Rows(1),
+        ],
+    ),
+    (
+        FORGOTTEN,
+        &[Shown::Refused(51, 3), Shown::Refused(52, 0), Shown::Cuts(1)],
+    ),
+    (LOST, &[Shown::FirstIsLost, Shown::Rows(6)]),
+];
+
+// Whether this is shown.
+fn is_shown(history: &History, picture: &Picture, shown: Shown) -> bool {
+    let arrivals = history.arrivals.as_slice();
+    match shown {
+        Shown::Arrivals(wanted) => are_arrivals(arrivals, wanted),
+        Shown::Refused(number, count) => refusal_count(arrivals, number) == count,
+        Shown::Rows(count) => history.rows.len() == count,
+        Shown::FirstRow(federate, step, text) => is_row(history.rows.first(), federate, step, text),
+        Shown::Cuts(count) => cut_count(picture.marks.as_slice()) == count,
+        Shown::FirstIsLost => {
+            let lost = lost_count(history);
+            lost > 0 && !has_come(arrivals, 0) && cross_count(picture.lines.as_slice()) == lost
+        }
+    }
+}
+
+fn are_arrivals(arrivals: &[Arrival], wanted: &[(usize, Option<u16>, bool)]) -> bool {
+    for (arrival, (step, refused, is_again)) in arrivals.iter().zip(wanted) {
+        if arrival.step != *step || arrival.refused != *refused || arrival.is_again != *is_again {
+            return false;
+        }
+    }
+    arrivals.len() == wanted.len()
+}
+
+fn refusal_count(arrivals: &[Arrival], number: u16) -> usize {
     let mut count = 0usize;
-    for line in picture.lines.as_slice() {
-        if line.stroke.ending == Ending::Cross {
+    for arrival in arrivals {
+        if arrival.refused == Some(number) {
             count = count.saturating_add(1);
         }
     }
     count
 }
 
-// How many lifelines are cut, each as often as it is.
-fn cut_count(picture: &Picture) -> usize {
+fn is_row(row: Option<&RowMark>, federate: usize, step: usize, text: &str) -> bool {
+    match row {
+        Some(row) => row.federate == federate && row.step == step && row.text.as_str() == text,
+        None => false,
+    }
+}
+
+fn cut_count(marks: &[Mark]) -> usize {
     let mut count = 0usize;
-    for mark in picture.marks.as_slice() {
+    for mark in marks {
         if mark.sign == Sign::Cut {
+            count = count.saturating_add(1);
+        }
+    }
+    count
+}
+
+// How many lines of a picture end in a cross.
+fn cross_count(lines: &[Line]) -> usize {
+    let mut count = 0usize;
+    for line in lines {
+        if line.stroke.ending == Ending::Cross {
             count = count.saturating_add(1);
         }
     }
@@ -165,36 +187,32 @@ fn has_come(arrivals: &[Arrival], frame: usize) -> bool {
     false
 }
 
-#[test]
-fn shows_a_lost_frame(rt: HostRuntime) -> Result<(), Fail> {
-    let history = drawn_history(rt.alloc(), LOST).ok_or("no history")?;
-    assert_eq!(rt; has_come(history.arrivals.as_slice(), 0), false);
-    assert_eq!(rt; history.rows.len(), 6);
-    let picture = schedule_picture(rt.alloc(), &history)?;
-    assert_eq!(rt; cross_count(&picture), lost_count(&history));
-    Ok(())
-}
-
-#[test]
-fn shows_who_forgot_and_what_is_refused(rt: HostRuntime) -> Result<(), Fail> {
-    let history = drawn_history(rt.alloc(), FORGOTTEN).ok_or("no history")?;
-    assert_eq!(rt; arrival_count(&history, Some(51)), 3);
-    assert_eq!(rt; arrival_count(&history, Some(52)), 0);
-    let picture = schedule_picture(rt.alloc(), &history)?;
-    assert_eq!(rt; cut_count(&picture), 1);
-    Ok(())
-}
-
-#[test]
-fn no_text_of_a_schedule_lies_on_another(rt: HostRuntime) -> Result<(), Fail> {
-    for schedule in ["", REORDERED, FORGOTTEN, LOST] {
-        let history = drawn_history(rt.alloc(), schedule).ok_or("no history")?;
-        let picture = schedule_picture(rt.alloc(), &history)?;
-        assert!(rt; are_texts_apart(&picture), "{schedule}");
-        assert!(rt; are_boxes_apart(&picture), "{schedule}");
-        assert!(rt; is_all_inside(&picture), "{schedule}");
+// What is wrong with the picture of a schedule that has to show all this; None where nothing is.
+fn wrong_of(alloc: Global, schedule: &str, all: &[Shown]) -> Option<&'static str> {
+    match history(alloc, schedule) {
+        Some(Ok(history)) => wrong_in(alloc, &history, all),
+        _ => Some("it isn't drawn"),
     }
-    Ok(())
+}
+
+// The same of what is drawn.
+fn wrong_in(alloc: Global, history: &History, all: &[Shown]) -> Option<&'static str> {
+    let Ok(picture) = schedule_picture(alloc, history) else {
+        return Some("no memory");
+    };
+    for shown in all {
+        if !is_shown(history, &picture, *shown) {
+            return Some("it doesn't show what it has to");
+        }
+    }
+    wrong_place(alloc, &picture)
+}
+
+#[test]
+fn schedules_show_what_became_of_frames(rt: HostRuntime) {
+    for (schedule, all) in SCHEDULES {
+        assert_eq!(rt; wrong_of(rt.alloc(), schedule, all), None, "{schedule}");
+    }
 }
 
 // A step of a federate with the longest name that there may be.
@@ -211,21 +229,28 @@ fn long_named(alloc: Global) -> Result<History, AllocError> {
     Ok(history)
 }
 
-#[test]
-fn a_long_name_reaches_no_text(rt: HostRuntime) -> Result<(), Fail> {
-    let history = long_named(rt.alloc())?;
-    let picture = schedule_picture(rt.alloc(), &history)?;
-    assert!(rt; are_texts_apart(&picture));
-    assert!(rt; is_all_inside(&picture));
-    Ok(())
+// What is wrong with its picture; None where nothing is.
+fn wrong_of_long_name(alloc: Global) -> Option<&'static str> {
+    match long_named(alloc) {
+        Ok(history) => wrong_in(alloc, &history, &[]),
+        Err(_) => Some("no memory"),
+    }
 }
 
 #[test]
-fn refuses_more_than_two_thousand_steps(rt: HostRuntime) -> Result<(), Fail> {
-    for (count, wanted) in [(2_000, None), (2_001, Some(DrawFault::TooManySteps(2_001)))] {
-        let schedule = "announce src\n".repeat(rt.alloc(), count)?;
-        let history = history(rt.alloc(), schedule.as_str(), None).ok_or("not taken")?;
-        assert_eq!(rt; history.err(), wanted, "{count}");
-    }
-    Ok(())
+fn a_long_name_reaches_no_text(rt: HostRuntime) {
+    assert_eq!(rt; wrong_of_long_name(rt.alloc()), None);
+}
+
+// Why a schedule of this many steps isn't drawn; the outer None where it isn't taken.
+fn fault_of(alloc: Global, count: usize) -> Option<Option<DrawFault>> {
+    let schedule = "announce src\n".repeat(alloc, count).ok()?;
+    Some(history(alloc, schedule.as_str())?.err())
+}
+
+#[test]
+fn refuses_more_than_two_thousand_steps(rt: HostRuntime) {
+    assert_eq!(rt; fault_of(rt.alloc(), 2_000), Some(None));
+    let refused = Some(Some(DrawFault::TooManySteps(2_001)));
+    assert_eq!(rt; fault_of(rt.alloc(), 2_001), refused);
 }

@@ -1,140 +1,106 @@
-//! What no picture may have: boxes that lie on each other, texts that lie on each other or stand outside, lines through
-//! boxes.
+//! What no picture may have: boxes or texts that lie on each other or stand outside, connections that don't begin and
+//! end at their ports, lines through boxes.
 use files_pictures::figures::{Figures, Wire};
 use files_pictures::shapes::{Anchor, Area, Label, Line, Picture, Point, text_width};
+use std::alloc::{AllocError, Global};
 
-/// Whether no box lies on another.
-pub fn are_boxes_apart(picture: &Picture) -> bool {
-    for place in 0..picture.boxes.len() {
-        for before in 0..place {
-            if do_meet(box_at(picture, before), box_at(picture, place)) {
-                return false;
-            }
-        }
+/// What is wrong with where boxes and texts stand in a picture; None where nothing is.
+pub fn wrong_place(alloc: Global, picture: &Picture) -> Option<&'static str> {
+    match text_areas(alloc, picture.labels.as_slice()) {
+        Ok(texts) => wrong_among(picture, texts.as_slice()),
+        Err(_) => Some("no memory"),
     }
-    true
 }
 
-/// Whether no text lies on another.
-pub fn are_texts_apart(picture: &Picture) -> bool {
-    for place in 0..picture.labels.len() {
-        for before in 0..place {
-            if do_meet(text_at(picture, before), text_at(picture, place)) {
-                return false;
-            }
-        }
+// The same, where the texts cover these.
+fn wrong_among(picture: &Picture, texts: &[Area]) -> Option<&'static str> {
+    let boxes = picture.boxes.as_slice();
+    if texts.is_empty() {
+        Some("no text")
+    } else if !are_apart(boxes) {
+        Some("a box lies on another")
+    } else if !are_apart(texts) {
+        Some("a text lies on another")
+    } else if !are_inside(picture, boxes) || !are_inside(picture, texts) {
+        Some("something stands outside")
+    } else {
+        None
     }
-    true
 }
 
-/// Whether all texts and boxes stand in the picture.
-pub fn is_all_inside(picture: &Picture) -> bool {
-    for place in 0..picture.labels.len() {
-        if !is_inside(picture, text_at(picture, place)) {
-            return false;
-        }
+/// What is wrong with the lines in a federation's picture; None where nothing is.
+pub fn wrong_line(picture: &Picture, all: &Figures) -> Option<&'static str> {
+    if picture.lines.len() != all.wires.len() {
+        return Some("a line for each connection is wanting");
     }
-    for place in 0..picture.boxes.len() {
-        if !is_inside(picture, box_at(picture, place)) {
-            return false;
+    for (wire, line) in all.wires.iter().zip(&picture.lines) {
+        if does_join(picture, wire, line) != Some(true) {
+            return Some("a line begins or ends elsewhere");
         }
-    }
-    true
-}
-
-/// Whether each connection has a line that begins at its output port and ends at its input port.
-pub fn are_ports_joined(picture: &Picture, all: &Figures) -> bool {
-    for place in 0..all.wires.len() {
-        if !is_joined(picture, all, place) {
-            return false;
-        }
-    }
-    picture.lines.len() == all.wires.len()
-}
-
-/// Whether no line goes through a box.
-pub fn do_lines_pass(picture: &Picture) -> bool {
-    for line in picture.lines.as_slice() {
         if !does_pass(picture, line) {
-            return false;
+            return Some("a line goes through a box");
         }
     }
-    true
+    None
 }
 
-fn box_at(picture: &Picture, place: usize) -> Option<Area> {
-    picture.boxes.get(place).copied()
+// What texts cover.
+fn text_areas(alloc: Global, labels: &[Label]) -> Result<Vec<Area>, AllocError> {
+    let mut areas = Vec::new(alloc);
+    for label in labels {
+        areas.push(text_area(label))?;
+    }
+    Ok(areas)
 }
 
 // What a text covers; its letters stand 10 above their base line and 2 below.
-fn text_at(picture: &Picture, place: usize) -> Option<Area> {
-    let label = picture.labels.get(place)?;
+fn text_area(label: &Label) -> Area {
     let width = text_width(label.text.as_str());
-    Some(Area {
-        left: left_of(label, width),
+    let before = match label.lettering.anchor {
+        Anchor::Begins => 0,
+        Anchor::Centred => width / 2,
+        Anchor::Ends => width,
+    };
+    Area {
+        left: label.at.x.saturating_sub(before),
         top: label.at.y.saturating_sub(10),
         width,
         height: 12,
-    })
-}
-
-fn left_of(label: &Label, width: usize) -> usize {
-    match label.lettering.anchor {
-        Anchor::Begins => label.at.x,
-        Anchor::Centred => label.at.x.saturating_sub(width / 2),
-        Anchor::Ends => label.at.x.saturating_sub(width),
     }
 }
 
-fn do_meet(one: Option<Area>, other: Option<Area>) -> bool {
-    let Some(one) = one else {
-        return false;
-    };
-    match other {
-        Some(other) => have_common_point(one, other),
-        None => false,
+fn are_apart(areas: &[Area]) -> bool {
+    for (place, area) in areas.iter().enumerate() {
+        for before in areas.iter().take(place) {
+            if do_meet(*before, *area) {
+                return false;
+            }
+        }
     }
+    true
 }
 
 // Whether some point is in both.
-fn have_common_point(one: Area, other: Area) -> bool {
+fn do_meet(one: Area, other: Area) -> bool {
     one.left < other.right()
         && other.left < one.right()
         && one.top < other.bottom()
         && other.top < one.bottom()
 }
 
-fn is_inside(picture: &Picture, area: Option<Area>) -> bool {
-    match area {
-        Some(area) => area.right() <= picture.width && area.bottom() <= picture.height,
-        None => false,
+fn are_inside(picture: &Picture, areas: &[Area]) -> bool {
+    for area in areas {
+        if area.right() > picture.width || area.bottom() > picture.height {
+            return false;
+        }
     }
+    true
 }
 
-// Where a port has its middle, beside a box: 37 below its top, and 18 more for each port above it.
-fn port_height(area: Area, place: usize) -> usize {
-    area.top
-        .saturating_add(37)
-        .saturating_add(place.saturating_mul(18))
-}
-
-fn is_joined(picture: &Picture, all: &Figures, place: usize) -> bool {
-    let Some(wire) = all.wires.get(place) else {
-        return false;
-    };
-    match picture.lines.get(place) {
-        Some(line) => does_join(picture, wire, line),
-        None => false,
-    }
-}
-
-fn does_join(picture: &Picture, wire: &Wire, line: &Line) -> bool {
-    let Some(source) = box_at(picture, wire.source) else {
-        return false;
-    };
-    let Some(target) = box_at(picture, wire.target) else {
-        return false;
-    };
+// Whether the line of a connection begins at its output port and ends at its input port.
+fn does_join(picture: &Picture, wire: &Wire, line: &Line) -> Option<bool> {
+    let source = picture.boxes.get(wire.source)?;
+    let target = picture.boxes.get(wire.target)?;
     let begin = Point {
         x: source.right(),
         y: port_height(source, wire.output),
@@ -143,21 +109,21 @@ fn does_join(picture: &Picture, wire: &Wire, line: &Line) -> bool {
         x: target.left,
         y: port_height(target, wire.input),
     };
-    is_point(line.points.first(), begin) && is_point(line.points.last(), end)
+    Some(*line.points.first()? == begin && *line.points.last()? == end)
 }
 
-fn is_point(point: Option<&Point>, wanted: Point) -> bool {
-    match point {
-        Some(point) => *point == wanted,
-        None => false,
-    }
+// Where a port has its middle, beside a box: 37 below its top, and 18 more for each port above it.
+fn port_height(area: &Area, place: usize) -> usize {
+    area.top
+        .saturating_add(37)
+        .saturating_add(place.saturating_mul(18))
 }
 
 fn does_pass(picture: &Picture, line: &Line) -> bool {
     let mut before: Option<Point> = None;
     for point in line.points.as_slice() {
         if let Some(before) = before {
-            if is_blocked(picture, before, *point) {
+            if is_blocked(picture.boxes.as_slice(), before, *point) {
                 return false;
             }
         }
@@ -167,10 +133,10 @@ fn does_pass(picture: &Picture, line: &Line) -> bool {
 }
 
 // Whether a box stands between two points that follow each other on a line.
-fn is_blocked(picture: &Picture, one: Point, other: Point) -> bool {
+fn is_blocked(boxes: &[Area], one: Point, other: Point) -> bool {
     let (left, right) = (one.x.min(other.x), one.x.max(other.x));
     let (top, bottom) = (one.y.min(other.y), one.y.max(other.y));
-    for area in picture.boxes.as_slice() {
+    for area in boxes {
         if left < area.right() && area.left < right && top < area.bottom() && area.top < bottom {
             return true;
         }

@@ -1,17 +1,16 @@
-//! Made-up lists of steps: whatever happens to the frames, no node refuses a signal, and the rows of each federate that
-//! kept its state are a prefix of its part of the undivided program's rows.
+//! Made-up lists of steps: whatever happens to the frames, the rows of each federate that kept its state are a prefix of
+//! its part of the undivided program's rows.
 ghost use Rattle.std.specs.Prelude.{◌<◌, length};
 
-use crate::worlds::world_of;
+use crate::worlds::{Scene, seen_in};
 use reactor::Rows;
 use std::alloc::Global;
-use std::test::Fail;
 use tests_samples::{
     CHAIN, CHAIN_INPUT, COUNTER, DELAYED_COUNTER, Federation, LOOP, REPLACED, STARTED_COUNTER,
     is_same, loaded, undivided,
 };
 use world::World;
-use world_stations::{Dir, Outcome, Step};
+use world_stations::{Dir, Step};
 
 /// How many lists are made up for each federation.
 const LISTS: u64 = 1_000;
@@ -67,29 +66,6 @@ fn made_up_frame(dice: &mut Dice, sent: usize) -> usize {
     }
 }
 
-// Whether a step isn't refused by a node, and acknowledges nothing that wasn't sent.
-fn is_plain(outcome: Outcome) -> bool {
-    match outcome {
-        Outcome::Refused(number) => matches!(number, 51 | 52 | 55 | 60),
-        _ => true,
-    }
-}
-
-fn makes_plain_steps(dice: &mut Dice, world: &mut World<'_>) -> bool {
-    for _ in 0..STEPS {
-        let step = made_up_step(dice, world);
-        match world.apply(step) {
-            Ok(outcome) => {
-                if !is_plain(outcome) {
-                    return false;
-                }
-            }
-            Err(_) => return false,
-        }
-    }
-    true
-}
-
 // Whether these rows are a prefix of a federate's part of all rows.
 fn is_prefix(rows: &Rows, federate: usize, all: &Rows) -> bool {
     let mut next = 0;
@@ -108,79 +84,61 @@ fn is_prefix(rows: &Rows, federate: usize, all: &Rows) -> bool {
     next >= rows.len()
 }
 
-// How many rows of a federate are compared: all if it kept its state, and else none. None where they aren't a prefix.
-fn compared_of(world: &World<'_>, federate: usize, all: &Rows) -> Option<usize> {
-    let rows = world.rows(federate)?;
-    if !world.kept(federate) {
-        return Some(0);
-    }
-    if is_prefix(rows, federate, all) {
-        Some(rows.len())
-    } else {
-        None
-    }
-}
-
-// The same of all federates together.
+// How many rows are compared, which are those of the federates that kept their state; None where they aren't a prefix.
 fn compared(world: &World<'_>, all: &Rows) -> Option<usize> {
     let mut count = 0usize;
     for federate in 0..world.federate_count() {
-        count = count.saturating_add(compared_of(world, federate, all)?);
+        if world.kept(federate) {
+            let rows = world.rows(federate)?;
+            if !is_prefix(rows, federate, all) {
+                return None;
+            }
+            count = count.saturating_add(rows.len());
+        }
     }
     Some(count)
 }
 
-// The same after the list of a seed; None also where a node refused a signal of it.
-fn compared_in_list(
-    alloc: Global,
-    federation: &Federation,
+/// The list of a seed, after which rows are compared with all.
+#[derive(Drop)]
+struct MadeUp<'a> {
     seed: u64,
-    all: &Rows,
-) -> Option<usize> {
-    let mut dice = Dice { state: seed };
-    let mut world = world_of(alloc, federation)?;
-    if makes_plain_steps(&mut dice, &mut world) {
-        compared(&world, all)
-    } else {
-        None
+    all: &'a Rows,
+}
+
+impl<'a> Scene<usize> for MadeUp<'a> {
+    fn play(&self, world: &mut World<'_>) -> Option<usize> {
+        let mut dice = Dice { state: self.seed };
+        for _ in 0..STEPS {
+            let step = made_up_step(&mut dice, world);
+            world.apply(step).ok()?;
+        }
+        compared(world, self.all)
     }
 }
 
-/// Why rows weren't compared.
-#[derive(Clone, Copy, Debug)]
-enum Wrong {
-    /// The federation isn't taken, or there is no memory for its undivided program.
-    NoRows,
-    /// The list of this seed.
-    List(u64),
-}
-
-// How many rows are compared in all lists together; else the first list that is wrong.
-fn compared_in_lists(alloc: Global, federation: &Federation, all: &Rows) -> Result<usize, Wrong> {
+// How many rows are compared in all lists together; else the seed of the first list that is wrong.
+fn compared_in_lists(alloc: Global, federation: &Federation, all: &Rows) -> Result<usize, u64> {
     let mut count = 0usize;
     for seed in 0..LISTS {
-        match compared_in_list(alloc, federation, seed, all) {
+        match seen_in(alloc, federation, &MadeUp { seed, all }) {
             Some(rows) => count = count.saturating_add(rows),
-            None => return Err(Wrong::List(seed)),
+            None => return Err(seed),
         }
     }
     Ok(count)
 }
 
-// The same of a federation, beside its undivided program.
-fn compared_beside(alloc: Global, federation: &Federation) -> Result<usize, Wrong> {
-    match undivided(alloc, federation) {
-        Some(whole) => compared_in_lists(alloc, federation, whole.rows()),
-        None => Err(Wrong::NoRows),
-    }
+// The same beside the undivided program; None where there is no memory for that.
+fn compared_beside(alloc: Global, federation: &Federation) -> Option<Result<usize, u64>> {
+    let whole = undivided(alloc, federation)?;
+    Some(compared_in_lists(alloc, federation, whole.rows()))
 }
 
-// The same of a federation's file and its input file.
-fn rows_compared(alloc: Global, federation: &str, inputs: &str) -> Result<usize, Wrong> {
-    match loaded(alloc, federation, inputs) {
-        Some(federation) => compared_beside(alloc, &federation),
-        None => Err(Wrong::NoRows),
-    }
+// The same of a federation's file and its input file; None also where they aren't taken.
+fn rows_compared(alloc: Global, federation: &str, inputs: &str) -> Option<Result<usize, u64>> {
+    let federation = loaded(alloc, federation, inputs)?;
+    compared_beside(alloc, &federation)
 }
 
 /// Federations and their input files.
@@ -194,10 +152,12 @@ const FEDERATIONS: &[(&str, &str)] = &[
 ];
 
 #[test]
-fn keeps_to_the_undivided_rows(rt: HostRuntime) -> Result<(), Fail> {
+fn keeps_to_the_undivided_rows(rt: HostRuntime) {
     for (federation, inputs) in FEDERATIONS {
-        let rows = rows_compared(rt.alloc(), federation, inputs)?;
-        assert!(rt; rows >= LEAST_ROWS, "{rows} rows of {federation}");
+        let rows = rows_compared(rt.alloc(), federation, inputs);
+        assert!(rt;
+            matches!(rows, Some(Ok(count)) if count >= LEAST_ROWS),
+            "{rows:?} rows of {federation}"
+        );
     }
-    Ok(())
 }

@@ -1,7 +1,8 @@
 //! In how little memory a world keeps the steps that were made, which no contract says.
-use crate::worlds::world_of;
+use crate::worlds::{Scene, seen};
 use std::{fs, rt};
-use tests_samples::{COUNTER, Federation, loaded};
+use tests_samples::COUNTER;
+use world::World;
 use world_stations::Step;
 
 /// How many steps are made.
@@ -19,24 +20,30 @@ fn held<R: rt::Files + AllocGlobal>(rt: &R) -> Option<u64> {
     Some(pages.parse::<u64>().ok()?.saturating_mul(4096))
 }
 
-// How many bytes more are held after these steps, by which a federate announces that has announced before.
-fn taken<R: rt::Files + AllocGlobal>(rt: &R, federation: &Federation) -> Option<u64> {
-    let mut world = world_of(rt.alloc(), federation)?;
-    world.apply(Step::Announce(0)).ok()?;
-    let before = held(rt)?;
-    for _ in 0..STEPS {
+/// How many bytes more are held after these steps, by which a federate announces that has announced before.
+#[derive(Drop)]
+struct Holding<'r, R> {
+    rt: &'r R,
+}
+
+impl<'r, R: rt::Files + AllocGlobal> Scene<u64> for Holding<'r, R> {
+    fn play(&self, world: &mut World<'_>) -> Option<u64> {
         world.apply(Step::Announce(0)).ok()?;
+        let before = held(self.rt)?;
+        for _ in 0..STEPS {
+            world.apply(Step::Announce(0)).ok()?;
+        }
+        Some(held(self.rt)?.saturating_sub(before))
     }
-    Some(held(rt)?.saturating_sub(before))
+}
+
+fn bytes_held<R: rt::Files + AllocGlobal>(rt: &R) -> Option<u64> {
+    seen(rt.alloc(), COUNTER, &Holding { rt })
 }
 
 #[test]
 fn keeps_steps_in_little_memory(rt: HostRuntime) {
-    let federation = loaded(rt.alloc(), COUNTER, "");
-    let bytes = match &federation {
-        Some(federation) => taken(&rt, federation),
-        None => None,
-    };
+    let bytes = bytes_held(&rt);
     let most = u64::from(STEPS).saturating_mul(MOST);
     assert!(rt; bytes.is_some_and(|bytes| bytes < most), "{bytes:?}");
 }

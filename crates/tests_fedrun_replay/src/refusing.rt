@@ -4,7 +4,7 @@ use fedrun_replay::ReplayFault;
 use std::alloc::Global;
 use std::io;
 use std::io::Write;
-use tests_samples::{COUNTER, loaded};
+use tests_samples::{COUNTER, Federation, loaded};
 
 #[derive(Drop)]
 struct Refusing;
@@ -25,11 +25,16 @@ const SCHEDULES: &[&str] = &[
     "announce src\nadvance src\nround\nround\ndeliver up src 4\n",
 ];
 
-// Whether a replay over the counter says that it can't write.
+// Whether a replay says that it can't write; None where its schedule isn't taken.
+fn is_told(alloc: Global, federation: &Federation, schedule: &str) -> Option<bool> {
+    let played = played(alloc, federation, schedule, None, &mut Refusing)?;
+    Some(matches!(played, Err(ReplayFault::CannotWrite)))
+}
+
+// The same of a replay over the counter.
 fn cannot_write(alloc: Global, schedule: &str) -> Option<bool> {
     let federation = loaded(alloc, COUNTER, "")?;
-    let played = played(alloc, &federation, schedule, None, &mut Refusing)?;
-    Some(matches!(played, Err(ReplayFault::CannotWrite)))
+    is_told(alloc, &federation, schedule)
 }
 
 #[test]

@@ -1,10 +1,7 @@
 //! The room of a link: how many signals a federate sends that aren't acknowledged. The number is that of
 //! docs/FILES.md, written out: a test that cited the constant of the code would pass with any.
 use crate::schedules::TICKS;
-use crate::worlds::world_of;
-use std::alloc::Global;
-use std::test::Fail;
-use tests_samples::{Federation, loaded};
+use crate::worlds::{Scene, seen};
 use world::World;
 use world_stations::{Dir, Outcome, Step};
 
@@ -16,14 +13,10 @@ pub(crate) const GRANTED: &[Step] = &[
     Step::Deliver(Dir::Down(0), 2),
 ];
 
-/// How often a federate advances, one signal each time, before something else happens, and what; none within this many
+/// How often a federate advances, one signal each time, before something else happens, and what; none within 10,000
 /// times.
-pub(crate) fn advances(
-    world: &mut World<'_>,
-    federate: usize,
-    most: usize,
-) -> Option<(usize, Outcome)> {
-    for count in 0..most {
+pub(crate) fn advances(world: &mut World<'_>, federate: usize) -> Option<(usize, Outcome)> {
+    for count in 0..10_000 {
         let outcome = world.apply(Step::Advance(federate)).ok()?;
         if outcome != Outcome::Done {
             return Some((count, outcome));
@@ -32,23 +25,18 @@ pub(crate) fn advances(
     None
 }
 
-// The same of a world's only federate once it is granted, and again after the acknowledgement has come.
-fn advances_twice(
-    alloc: Global,
-    federation: &Federation,
-    most: usize,
-) -> Option<[(usize, Outcome); 2]> {
-    let mut world = world_of(alloc, federation)?;
-    world.run(GRANTED).ok()?;
-    let first = advances(&mut world, 0, most)?;
-    world.apply(Step::Deliver(Dir::Down(0), 1)).ok()?;
-    let second = advances(&mut world, 0, most)?;
-    Some([first, second])
-}
+/// How often a world's only federate advances once it is granted, and again after the acknowledgement has come.
+#[derive(Drop)]
+struct Twice;
 
-fn advances_of(alloc: Global, most: usize) -> Option<[(usize, Outcome); 2]> {
-    let federation = loaded(alloc, TICKS, "")?;
-    advances_twice(alloc, &federation, most)
+impl Scene<[(usize, Outcome); 2]> for Twice {
+    fn play(&self, world: &mut World<'_>) -> Option<[(usize, Outcome); 2]> {
+        world.run(GRANTED).ok()?;
+        let first = advances(world, 0)?;
+        world.apply(Step::Deliver(Dir::Down(0), 1)).ok()?;
+        let second = advances(world, 0)?;
+        Some([first, second])
+    }
 }
 
 // With the NET that it announced, 4,096 signals aren't acknowledged. The acknowledgement of the NET makes room for one.
@@ -56,7 +44,7 @@ fn advances_of(alloc: Global, most: usize) -> Option<[(usize, Outcome); 2]> {
 fn refuses_the_4097th_signal_without_an_acknowledgement(rt: HostRuntime) {
     let full = Outcome::Refused(60);
     assert_eq!(rt;
-        advances_of(rt.alloc(), 10_000),
+        seen(rt.alloc(), TICKS, &Twice),
         Some([(4_095, full), (1, full)])
     );
 }

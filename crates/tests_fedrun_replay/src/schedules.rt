@@ -2,7 +2,7 @@
 use crate::played::{Case, Play, is_printed};
 use std::alloc::Global;
 use tests_samples::worked_rows::{CHAIN_ROWS, COUNTER_ROWS};
-use tests_samples::{CHAIN, CHAIN_INPUT, COUNTER, IDLE, loaded};
+use tests_samples::{CHAIN, CHAIN_INPUT, COUNTER, Federation, IDLE, loaded};
 
 /// A timer of one nanosecond.
 pub(crate) const TICKS: &str = r#"stop = "1 s"
@@ -262,12 +262,11 @@ end
     },
 ];
 
-// How many schedules of a case print what they have to, which are all; else the first that doesn't, by its place.
-fn printed(alloc: Global, case: &Case) -> Option<Result<usize, usize>> {
-    let federation = loaded(alloc, case.federation, case.inputs)?;
+// How many of these schedules print what they have to, which are all; else the first that doesn't, by its place.
+fn printed(alloc: Global, federation: &Federation, plays: &[Play]) -> Option<Result<usize, usize>> {
     let mut count = 0usize;
-    for play in case.plays {
-        if !is_printed(alloc, &federation, play)? {
+    for play in plays {
+        if !is_printed(alloc, federation, play)? {
             return Some(Err(count));
         }
         count = count.saturating_add(1);
@@ -275,10 +274,16 @@ fn printed(alloc: Global, case: &Case) -> Option<Result<usize, usize>> {
     Some(Ok(count))
 }
 
+// The same of a case's.
+fn printed_of(alloc: Global, case: &Case) -> Option<Result<usize, usize>> {
+    let federation = loaded(alloc, case.federation, case.inputs)?;
+    printed(alloc, &federation, case.plays)
+}
+
 #[test]
 fn prints_the_rows_of_worked_schedules(rt: HostRuntime) {
     for case in CASES {
-        let printed = printed(rt.alloc(), case);
+        let printed = printed_of(rt.alloc(), case);
         assert_eq!(rt; printed, Some(Ok(case.plays.len())), "{}", case.federation);
     }
 }

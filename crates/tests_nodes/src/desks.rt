@@ -4,7 +4,7 @@ ghost use Rattle.tests_nodes.specs.Counting.{counting};
 ghost use Rattle.node.specs.Step.{initial_of};
 
 use crate::counter::Counter;
-use desk::{Desk, Share, Shared, gather};
+use desk::{BatchReply, Desk, Share, Shared, TurnSteps, gather};
 use link::LinkEnd;
 use node::{Event, Reply, Station};
 use signal::{Frame, Signal};
@@ -83,4 +83,49 @@ fn journaled<R: Threads + Wait + Sync>(rt: &R, alloc: Global, count: u32) -> Opt
 #[test]
 fn tells_two_workers_their_places_in_the_journal(rt: HostRuntime) {
     assert_eq!(rt; journaled(&rt, rt.alloc(), 40), Some(80));
+}
+
+// Has this many events of turns made at once, and then as many once more. Returns what came of both, and how many
+// events the journal has that is gathered then.
+fn made_at_once<R: Wait>(
+    rt: &R,
+    alloc: Global,
+    events: usize,
+) -> Option<(TurnSteps, TurnSteps, usize)> {
+    let shared = Shared::new(Desk::new(alloc, opened(alloc).ok()?));
+    let mut share = Share::new(alloc);
+    let mut replies = BatchReply::new(alloc);
+    let mut desk = shared.lock(rt);
+    let first = desk.handle_turns(&mut share, events, &mut replies);
+    let second = desk.handle_turns(&mut share, events, &mut replies);
+    desk.release();
+    let journaled = gathered(alloc, shared, share, Share::new(alloc))?;
+    Some((first, second, journaled))
+}
+
+// The steps of this many events, and whether the last turn did nothing.
+fn steps(made: (usize, bool)) -> TurnSteps {
+    let (events, is_idle) = made;
+    TurnSteps { events, is_idle }
+}
+
+/// Of a node that sends a hundred messages, one a turn: how many events of turns are made at once, of how many of them
+/// the steps are made at first and then, whether the last turn did nothing each time, and how many are journaled.
+const MADE: [(usize, (usize, bool), (usize, bool), usize); 4] = [
+    (120, (120, false), (82, true), 202),
+    (1000, (202, true), (2, true), 204),
+    (200, (200, false), (2, true), 202),
+    (0, (0, false), (0, false), 0),
+];
+
+#[test]
+fn makes_turns_up_to_the_first_that_does_nothing(rt: HostRuntime) {
+    for (events, first, second, journaled) in &MADE {
+        let expected = (steps(*first), steps(*second), *journaled);
+        assert_eq!(rt;
+            made_at_once(&rt, rt.alloc(), *events),
+            Some(expected),
+            "{events}"
+        );
+    }
 }

@@ -1,170 +1,262 @@
-//! Who isn't let in, and who isn't believed.
+//! Who isn't let in or counts as told, and who isn't believed.
 use crate::sides::{
-    ALL, COORDINATOR_RANDOM, FEDERATE_RANDOM, OTHER_RANDOM, SECRET, challenge, coordinator,
+    ALL, COORDINATOR_RANDOM, FEDERATE_RANDOM, Messages, OTHER_RANDOM, SECRET, coordinator,
     distrusts, federate, federate_with, files, said,
 };
-use std::test::Fail;
-use wires_greeting::{Answer, CoordinatorSide, CoordinatorState, FederateState, SecretFault};
+use wires_greeting::{Answer, CoordinatorState, FederateState};
 
-fn is_not_proved(coordinator: &CoordinatorSide) -> bool {
-    coordinator.let_in().is_none() && matches!(coordinator.state(), CoordinatorState::NotProved)
+/// What somebody without the secret sends as a proof.
+#[derive(Clone, Copy)]
+enum Proof {
+    /// The federate's of the first connection, where frames begin.
+    Federates,
+    /// The coordinator's of this connection.
+    Coordinators,
+    /// This byte alone.
+    Bytes(u8),
 }
 
-// All that a federate said once, said again by somebody who listened: the coordinator's random bytes are new.
-#[test]
-fn a_greeting_played_again_is_not_let_in(rt: HostRuntime) -> Result<(), Fail> {
-    let said = said()?;
-    let mut coordinator = coordinator()?;
-    let challenge = coordinator.greeted(&said.greeting, &OTHER_RANDOM, &ALL, false);
-    assert!(rt; challenge.is_some());
-    coordinator.proved(&said.proof);
-    assert!(rt; is_not_proved(&coordinator));
-    Ok(())
-}
-
-// The federate's random bytes are new.
-#[test]
-fn a_challenge_of_another_connection_is_not_believed(rt: HostRuntime) -> Result<(), Fail> {
-    let said = said()?;
-    assert!(rt; distrusts(&mut federate(OTHER_RANDOM)?, &said.challenge));
-    Ok(())
-}
-
-#[test]
-fn a_proof_of_another_connection_is_not_let_in(rt: HostRuntime) -> Result<(), Fail> {
-    let said = said()?;
-    let mut coordinator = coordinator()?;
-    let greeting = federate(OTHER_RANDOM)?.message();
-    assert!(rt; challenge(&mut coordinator, &greeting).is_some());
-    coordinator.proved(&said.proof);
-    assert!(rt; is_not_proved(&coordinator));
-    Ok(())
-}
-
-// Somebody without the secret greets, and sends the coordinator its own proof, or none.
-#[test]
-fn a_proof_that_is_not_the_federates_is_not_let_in(rt: HostRuntime) -> Result<(), Fail> {
-    let said = said()?;
-    let mut own = [0; 32];
-    own.copy_from_slice(&said.challenge[33..]);
-    for proof in [own, [0; 32], [0xff; 32]] {
-        let mut coordinator = coordinator()?;
-        assert!(rt; challenge(&mut coordinator, &said.greeting).is_some());
-        coordinator.proved(&proof);
-        assert!(rt; is_not_proved(&coordinator));
+// The bytes of a proof, on a connection with this challenge.
+fn bytes_of(proof: Proof, challenge: &[u8; 65]) -> Option<[u8; 32]> {
+    match proof {
+        Proof::Federates => Some(said(false)?.proof),
+        Proof::Coordinators => {
+            let mut own = [0; 32];
+            own.copy_from_slice(&challenge[33..]);
+            Some(own)
+        }
+        Proof::Bytes(byte) => Some([byte; 32]),
     }
-    Ok(())
 }
 
-// Somebody without the secret answers, with the federate's proof of an earlier connection, or with none.
-#[test]
-fn a_challenge_without_the_secret_is_not_believed(rt: HostRuntime) -> Result<(), Fail> {
-    let said = said()?;
-    for proof in [said.proof, [0; 32]] {
-        for answer in [0, 1, 2, 3, 4, 5, 6, 0xff] {
-            let mut message = said.challenge;
-            message[0] = answer;
-            message[33..].copy_from_slice(&proof);
-            assert!(rt;
-                distrusts(&mut federate(FEDERATE_RANDOM)?, &message),
-                "answer {answer}"
-            );
+/// A connection on which not the federate proves that it has the secret.
+struct Attempt {
+    name: &'static str,
+    finished: bool,
+    /// The random bytes of the greeting, which somebody may say again, and those of the challenge.
+    federate: [u8; 32],
+    coordinator: [u8; 32],
+    proof: Proof,
+}
+
+const ATTEMPTS: [Attempt; 8] = [
+    Attempt {
+        name: "all that a federate said once, said again: the coordinator's random bytes are new",
+        finished: false,
+        federate: FEDERATE_RANDOM,
+        coordinator: OTHER_RANDOM,
+        proof: Proof::Federates,
+    },
+    Attempt {
+        name: "a proof of another connection",
+        finished: false,
+        federate: OTHER_RANDOM,
+        coordinator: COORDINATOR_RANDOM,
+        proof: Proof::Federates,
+    },
+    Attempt {
+        name: "the coordinator's own proof",
+        finished: false,
+        federate: FEDERATE_RANDOM,
+        coordinator: COORDINATOR_RANDOM,
+        proof: Proof::Coordinators,
+    },
+    Attempt {
+        name: "zeros",
+        finished: false,
+        federate: FEDERATE_RANDOM,
+        coordinator: COORDINATOR_RANDOM,
+        proof: Proof::Bytes(0),
+    },
+    Attempt {
+        name: "ones",
+        finished: false,
+        federate: FEDERATE_RANDOM,
+        coordinator: COORDINATOR_RANDOM,
+        proof: Proof::Bytes(0xff),
+    },
+    Attempt {
+        name: "once the run is finished, what is proved where frames begin",
+        finished: true,
+        federate: FEDERATE_RANDOM,
+        coordinator: COORDINATOR_RANDOM,
+        proof: Proof::Federates,
+    },
+    Attempt {
+        name: "once the run is finished, the coordinator's own proof",
+        finished: true,
+        federate: FEDERATE_RANDOM,
+        coordinator: COORDINATOR_RANDOM,
+        proof: Proof::Coordinators,
+    },
+    Attempt {
+        name: "once the run is finished, zeros",
+        finished: true,
+        federate: FEDERATE_RANDOM,
+        coordinator: COORDINATOR_RANDOM,
+        proof: Proof::Bytes(0),
+    },
+];
+
+// Whether the coordinator that gave a challenge isn't convinced.
+fn is_in_vain(attempt: &Attempt) -> Option<bool> {
+    let greeting = federate(attempt.federate)?.message();
+    let mut coordinator = coordinator()?;
+    let challenge = coordinator.greeted(&greeting, &attempt.coordinator, &ALL, attempt.finished)?;
+    coordinator.proved(&bytes_of(attempt.proof, &challenge)?);
+    Some(matches!(coordinator.state(), CoordinatorState::NotProved))
+}
+
+// The first that isn't in vain.
+fn first_success() -> Option<&'static str> {
+    for attempt in &ATTEMPTS {
+        if is_in_vain(attempt) != Some(true) {
+            return Some(attempt.name);
         }
     }
-    Ok(())
+    None
 }
 
-// Somebody between the two changes one byte of the greeting: the coordinator hears another protocol, or its challenge
-// isn't the one to what the federate said.
 #[test]
-fn each_changed_byte_of_a_greeting_is_seen(rt: HostRuntime) -> Result<(), Fail> {
-    let said = said()?;
-    for i in 0..said.greeting.len() {
-        let mut message = said.greeting;
-        message[i] ^= 1;
-        let mut coordinator = coordinator()?;
-        match challenge(&mut coordinator, &message) {
-            None => assert!(rt;
-                i < 8 && matches!(coordinator.state(), CoordinatorState::OtherProtocol)
-            ),
-            Some(challenge) => assert!(rt;
-                i >= 8 && distrusts(&mut federate(FEDERATE_RANDOM)?, &challenge)
-            ),
+fn nobody_is_let_in_or_counts_as_told_by_another_proof(rt: HostRuntime) {
+    assert_eq!(rt; first_success(), None);
+}
+
+/// The answers of challenges to the first connection's greeting that the coordinator didn't give, and by what they seem
+/// to be proved: by the proof of the answer to go on, or without the secret.
+const FORGED: [(u8, Proof); 20] = [
+    (2, Proof::Coordinators),
+    (3, Proof::Coordinators),
+    (4, Proof::Coordinators),
+    (5, Proof::Coordinators),
+    (0, Proof::Federates),
+    (1, Proof::Federates),
+    (2, Proof::Federates),
+    (3, Proof::Federates),
+    (4, Proof::Federates),
+    (5, Proof::Federates),
+    (6, Proof::Federates),
+    (0xff, Proof::Federates),
+    (0, Proof::Bytes(0)),
+    (1, Proof::Bytes(0)),
+    (2, Proof::Bytes(0)),
+    (3, Proof::Bytes(0)),
+    (4, Proof::Bytes(0)),
+    (5, Proof::Bytes(0)),
+    (6, Proof::Bytes(0)),
+    (0xff, Proof::Bytes(0)),
+];
+
+// How many of these are distrusted before one that isn't.
+fn distrusted_forgeries() -> Option<usize> {
+    let said = said(false)?;
+    for (place, (answer, proof)) in FORGED.iter().enumerate() {
+        let mut message = said.challenge;
+        message[0] = *answer;
+        message[33..].copy_from_slice(&bytes_of(*proof, &said.challenge)?);
+        if !distrusts(SECRET, FEDERATE_RANDOM, &message)? {
+            return Some(place);
         }
     }
-    Ok(())
+    Some(FORGED.len())
+}
+
+/// The secrets and the random bytes of federates to whom the first connection's challenge wasn't given. Of secrets one
+/// differs in a byte, and one has a byte more, which isn't zero.
+const OTHERS: [(&[u8], [u8; 32]); 3] = [
+    (SECRET, OTHER_RANDOM),
+    (b"0123456789abcdeF", FEDERATE_RANDOM),
+    (b"0123456789abcdef\n", FEDERATE_RANDOM),
+];
+
+// How many of these distrust it before one that doesn't.
+fn distrusting_others() -> Option<usize> {
+    let said = said(false)?;
+    for (place, (secret, random)) in OTHERS.iter().enumerate() {
+        if !distrusts(secret, *random, &said.challenge)? {
+            return Some(place);
+        }
+    }
+    Some(OTHERS.len())
 }
 
 #[test]
-fn each_changed_byte_of_a_challenge_is_seen(rt: HostRuntime) -> Result<(), Fail> {
-    let said = said()?;
-    for i in 0..said.challenge.len() {
-        let mut message = said.challenge;
-        message[i] ^= 1;
-        assert!(rt;
-            distrusts(&mut federate(FEDERATE_RANDOM)?, &message),
-            "byte {i}"
-        );
-    }
-    Ok(())
+fn no_other_challenge_is_believed(rt: HostRuntime) {
+    assert_eq!(rt;
+        [distrusted_forgeries(), distrusting_others()],
+        [Some(20), Some(3)]
+    );
 }
 
-// Somebody between the two makes another answer of the one to go on.
+/// A message, of which somebody between the two changes one byte.
+#[derive(Clone, Copy)]
+enum Message {
+    Greeting,
+    Challenge,
+    Proof,
+}
+
+// Whether a change is seen where the coordinator takes the greeting: it hears another protocol, or its challenge isn't
+// the one to what the federate said.
+fn is_seen_by_greeting(message: &[u8; 74], place: usize) -> Option<bool> {
+    let mut coordinator = coordinator()?;
+    let is_seen = match coordinator.greeted(message, &COORDINATOR_RANDOM, &ALL, false) {
+        None => place < 8 && matches!(coordinator.state(), CoordinatorState::OtherProtocol),
+        Some(challenge) => place >= 8 && distrusts(SECRET, FEDERATE_RANDOM, &challenge)?,
+    };
+    Some(is_seen)
+}
+
+// Whether a change is seen where the coordinator takes the proof, once the run is finished or before.
+fn is_seen_by_proof(said: &Messages, proof: &[u8; 32], finished: bool) -> Option<bool> {
+    let mut coordinator = coordinator()?;
+    coordinator.greeted(&said.greeting, &COORDINATOR_RANDOM, &ALL, finished)?;
+    coordinator.proved(proof);
+    Some(matches!(coordinator.state(), CoordinatorState::NotProved))
+}
+
+// Whether it is seen that the byte at this place was changed.
+fn is_seen(said: &Messages, finished: bool, message: Message, place: usize) -> Option<bool> {
+    let mut changed = *said;
+    match message {
+        Message::Greeting => {
+            *changed.greeting.get_mut(place)? ^= 1;
+            is_seen_by_greeting(&changed.greeting, place)
+        }
+        Message::Challenge => {
+            *changed.challenge.get_mut(place)? ^= 1;
+            distrusts(SECRET, FEDERATE_RANDOM, &changed.challenge)
+        }
+        Message::Proof => {
+            *changed.proof.get_mut(place)? ^= 1;
+            is_seen_by_proof(said, &changed.proof, finished)
+        }
+    }
+}
+
+// At how many places of a message of this size it is seen, before one at which it isn't.
+fn seen_places(finished: bool, message: Message, size: usize) -> Option<usize> {
+    let said = said(finished)?;
+    for place in 0..size {
+        if !is_seen(&said, finished, message, place)? {
+            return Some(place);
+        }
+    }
+    Some(size)
+}
+
 #[test]
-fn an_answer_that_was_exchanged_is_not_believed(rt: HostRuntime) -> Result<(), Fail> {
-    let said = said()?;
-    for answer in [2, 3, 4, 5] {
-        let mut message = said.challenge;
-        message[0] = answer;
-        assert!(rt;
-            distrusts(&mut federate(FEDERATE_RANDOM)?, &message),
-            "answer {answer}"
-        );
-    }
-    Ok(())
+fn each_changed_byte_is_seen(rt: HostRuntime) {
+    let seen = [
+        seen_places(false, Message::Greeting, 74),
+        seen_places(false, Message::Challenge, 65),
+        seen_places(false, Message::Proof, 32),
+        seen_places(true, Message::Proof, 32),
+    ];
+    assert_eq!(rt; seen, [Some(74), Some(65), Some(32), Some(32)]);
 }
 
-#[test]
-fn each_changed_byte_of_a_proof_is_seen(rt: HostRuntime) -> Result<(), Fail> {
-    let said = said()?;
-    for i in 0..said.proof.len() {
-        let mut proof = said.proof;
-        proof[i] ^= 1;
-        let mut coordinator = coordinator()?;
-        assert!(rt; challenge(&mut coordinator, &said.greeting).is_some());
-        coordinator.proved(&proof);
-        assert!(rt; is_not_proved(&coordinator), "byte {i}");
-    }
-    Ok(())
-}
-
-// A version above or below is another protocol. Nothing is said to it, also where all else is right.
-#[test]
-fn another_version_is_not_spoken(rt: HostRuntime) -> Result<(), Fail> {
-    let said = said()?;
-    for version in [b'0', b'2', 0] {
-        let mut message = said.greeting;
-        message[7] = version;
-        let mut coordinator = coordinator()?;
-        assert!(rt; challenge(&mut coordinator, &message).is_none());
-        coordinator.proved(&said.proof);
-        assert!(rt; matches!(coordinator.state(), CoordinatorState::OtherProtocol));
-    }
-    Ok(())
-}
-
-// Neither side goes on with somebody of another secret: not by one byte more, which isn't zero.
-#[test]
-fn another_secret_is_not_let_in(rt: HostRuntime) -> Result<(), Fail> {
-    let said = said()?;
-    for secret in [b"0123456789abcdeF".as_slice(), b"0123456789abcdef\n"] {
-        let mut stranger = federate_with(secret, 3, files(), FEDERATE_RANDOM)?;
-        assert!(rt; distrusts(&mut stranger, &said.challenge));
-    }
-    Ok(())
-}
-
-/// A greeting that is neither answered by going on nor by that the run is finished.
+/// A greeting that is answered neither by going on nor by that the run is finished.
 struct Refusal {
     federate: u16,
     same_files: bool,
@@ -222,63 +314,34 @@ const REFUSALS: [Refusal; 6] = [
     },
 ];
 
-// Whether the coordinator answers so, and the federate believes that and sends nothing.
-fn is_answered(refusal: &Refusal) -> Result<bool, SecretFault> {
+// What the coordinator answers, if the federate believes that and sends nothing.
+fn answered(refusal: &Refusal) -> Option<Answer> {
     let files = if refusal.same_files { files() } else { [1; 32] };
     let mut federate = federate_with(SECRET, refusal.federate, files, FEDERATE_RANDOM)?;
-    let mut coordinator = coordinator()?;
-    let Some(challenge) = coordinator.greeted(
+    let challenge = coordinator()?.greeted(
         &federate.message(),
         &COORDINATOR_RANDOM,
         refusal.allowed,
         refusal.finished,
-    ) else {
-        return Ok(false);
-    };
+    )?;
     let sent = federate.challenged(&challenge);
-    let told =
-        matches!(coordinator.state(), CoordinatorState::Refused(answer) if answer == refusal.answer);
-    let believed =
-        matches!(federate.state(), FederateState::Refused(answer) if answer == refusal.answer);
-    Ok(sent.is_none() && told && believed)
-}
-
-#[test]
-fn what_is_refused_is_answered(rt: HostRuntime) -> Result<(), Fail> {
-    for refusal in &REFUSALS {
-        assert!(rt; is_answered(refusal)?, "federate {}", refusal.federate);
+    match federate.state() {
+        FederateState::Refused(answer) if sent.is_none() => Some(answer),
+        _ => None,
     }
-    Ok(())
 }
 
-// A proof without a challenge before it changes nothing, not even where it is the right one.
-#[test]
-fn a_proof_before_its_time_is_not_heard(rt: HostRuntime) -> Result<(), Fail> {
-    let said = said()?;
-    let mut coordinator = coordinator()?;
-    coordinator.proved(&said.proof);
-    assert!(rt; matches!(coordinator.state(), CoordinatorState::Waiting));
-    Ok(())
-}
-
-#[test]
-fn a_coordinator_hears_one_proof(rt: HostRuntime) -> Result<(), Fail> {
-    let said = said()?;
-    let mut coordinator = coordinator()?;
-    assert!(rt; challenge(&mut coordinator, &said.greeting).is_some());
-    assert!(rt; challenge(&mut coordinator, &said.greeting).is_none());
-    coordinator.proved(&[0; 32]);
-    coordinator.proved(&said.proof);
-    assert!(rt; is_not_proved(&coordinator));
-    assert!(rt; challenge(&mut coordinator, &said.greeting).is_none());
-    Ok(())
+// The place of the first that is answered otherwise.
+fn first_wrong_answer() -> Option<usize> {
+    for (place, refusal) in REFUSALS.iter().enumerate() {
+        if answered(refusal) != Some(refusal.answer) {
+            return Some(place);
+        }
+    }
+    None
 }
 
 #[test]
-fn a_federate_hears_one_challenge(rt: HostRuntime) -> Result<(), Fail> {
-    let said = said()?;
-    let mut federate = federate(FEDERATE_RANDOM)?;
-    assert!(rt; distrusts(&mut federate, &[0; 65]));
-    assert!(rt; distrusts(&mut federate, &said.challenge));
-    Ok(())
+fn what_is_refused_is_answered(rt: HostRuntime) {
+    assert_eq!(rt; first_wrong_answer(), None);
 }

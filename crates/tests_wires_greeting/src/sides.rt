@@ -2,7 +2,7 @@
 //! take part, but where a test says otherwise.
 use wires_greeting::{
     CHALLENGE_SIZE, CoordinatorSide, FederateSide, FederateState, GREETING_SIZE, Greeting, Key,
-    PROOF_SIZE, SecretFault, files_digest,
+    PROOF_SIZE, files_digest,
 };
 
 pub const SECRET: &[u8] = b"0123456789abcdef";
@@ -29,7 +29,7 @@ pub fn files() -> [u8; 32] {
     files_digest(b"federation", b"inputs")
 }
 
-pub fn federate(random: [u8; 32]) -> Result<FederateSide, SecretFault> {
+pub fn federate(random: [u8; 32]) -> Option<FederateSide> {
     federate_with(SECRET, 3, files(), random)
 }
 
@@ -38,28 +38,18 @@ pub fn federate_with(
     federate: u16,
     files: [u8; 32],
     random: [u8; 32],
-) -> Result<FederateSide, SecretFault> {
-    let key = Key::of_secret(secret)?;
-    Ok(FederateSide::new(
-        key,
-        Greeting {
-            federate,
-            files,
-            random,
-        },
-    ))
+) -> Option<FederateSide> {
+    let key = Key::of_secret(secret).ok()?;
+    let greeting = Greeting {
+        federate,
+        files,
+        random,
+    };
+    Some(FederateSide::new(key, greeting))
 }
 
-pub fn coordinator() -> Result<CoordinatorSide, SecretFault> {
-    Ok(CoordinatorSide::new(Key::of_secret(SECRET)?, files()))
-}
-
-/// The challenge to a greeting on the first connection.
-pub fn challenge(
-    coordinator: &mut CoordinatorSide,
-    greeting: &[u8; GREETING_SIZE],
-) -> Option<[u8; CHALLENGE_SIZE]> {
-    coordinator.greeted(greeting, &COORDINATOR_RANDOM, &ALL, false)
+pub fn coordinator() -> Option<CoordinatorSide> {
+    Some(CoordinatorSide::new(Key::of_secret(SECRET).ok()?, files()))
 }
 
 /// All that is said on the first connection.
@@ -70,20 +60,22 @@ pub struct Messages {
     pub proof: [u8; PROOF_SIZE],
 }
 
-pub fn said() -> Result<Messages, &'static str> {
-    let mut federate = federate(FEDERATE_RANDOM).map_err(|_| "a secret")?;
-    let mut coordinator = coordinator().map_err(|_| "a secret")?;
+/// What is said where the run is finished, or isn't.
+pub fn said(finished: bool) -> Option<Messages> {
+    let mut federate = federate(FEDERATE_RANDOM)?;
     let greeting = federate.message();
-    let challenge = challenge(&mut coordinator, &greeting).ok_or("a challenge")?;
-    let proof = federate.challenged(&challenge).ok_or("a proof")?;
-    Ok(Messages {
+    let challenge = coordinator()?.greeted(&greeting, &COORDINATOR_RANDOM, &ALL, finished)?;
+    let proof = federate.challenged(&challenge)?;
+    Some(Messages {
         greeting,
         challenge,
         proof,
     })
 }
 
-/// Whether the federate doesn't go on by this message, as it isn't proved.
-pub fn distrusts(federate: &mut FederateSide, message: &[u8; CHALLENGE_SIZE]) -> bool {
-    federate.challenged(message).is_none() && matches!(federate.state(), FederateState::NotProved)
+/// Whether the federate of these random bytes doesn't go on by this message, as it isn't proved by its secret.
+pub fn distrusts(secret: &[u8], random: [u8; 32], message: &[u8; CHALLENGE_SIZE]) -> Option<bool> {
+    let mut federate = federate_with(secret, 3, files(), random)?;
+    let sent = federate.challenged(message);
+    Some(sent.is_none() && matches!(federate.state(), FederateState::NotProved))
 }

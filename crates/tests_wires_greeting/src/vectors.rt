@@ -1,5 +1,5 @@
 //! HMAC-SHA-256 by the examples of RFC 4231.
-use std::test::Fail;
+use std::alloc::Global;
 use wires_greeting::hmac_sha256;
 
 struct Example {
@@ -8,7 +8,8 @@ struct Example {
     digest: &'static str,
 }
 
-const EXAMPLES: [Example; 6] = [
+/// Of one example the first 16 bytes are published.
+const EXAMPLES: [Example; 7] = [
     Example {
         key: &[0x0b; 20],
         message: b"Hi There",
@@ -33,6 +34,11 @@ const EXAMPLES: [Example; 6] = [
         digest: "82558a389a443c0ea4cc819899f2083a85f0faa3e578f8077a2e3ff46729665b",
     },
     Example {
+        key: &[0x0c; 20],
+        message: b"Test With Truncation",
+        digest: "a3b6167473100ee06e0c796c2955552b",
+    },
+    Example {
         key: &[0xaa; 131],
         message: b"Test Using Larger Than Block-Size Key - Hash Key First",
         digest: "60e431591ee0b67f0d8a26aacbf5b77f8e0bc6213728c5140546040f0ee37f54",
@@ -44,26 +50,21 @@ const EXAMPLES: [Example; 6] = [
     },
 ];
 
-#[test]
-fn digests_are_those_published(rt: HostRuntime) -> Result<(), Fail> {
-    for example in &EXAMPLES {
-        let digest = hex::encode(rt.alloc(), hmac_sha256(example.key, example.message))?;
-        assert_eq!(rt; digest.as_str(), example.digest);
+// The place of the first whose digest doesn't begin so.
+fn first_wrong(alloc: Global) -> Option<usize> {
+    for (place, example) in EXAMPLES.iter().enumerate() {
+        let begins_so = match hex::encode(alloc, hmac_sha256(example.key, example.message)) {
+            Ok(digest) => digest.as_str().starts_with(example.digest),
+            Err(_) => false,
+        };
+        if !begins_so {
+            return Some(place);
+        }
     }
-    Ok(())
+    None
 }
 
-// Of one example the first 16 bytes are published.
 #[test]
-fn the_shortened_digest_is_that_published(rt: HostRuntime) -> Result<(), Fail> {
-    let digest = hex::encode(
-        rt.alloc(),
-        hmac_sha256(&[0x0c; 20], b"Test With Truncation"),
-    )?;
-    assert!(rt;
-        digest
-            .as_str()
-            .starts_with("a3b6167473100ee06e0c796c2955552b")
-    );
-    Ok(())
+fn digests_are_those_published(rt: HostRuntime) {
+    assert_eq!(rt; first_wrong(rt.alloc()), None);
 }

@@ -1,11 +1,9 @@
-//! A greeting worked by hand: what each side sends, byte by byte, and that frames begin then. The digests are those of
-//! another implementation.
-use crate::sides::{FEDERATE_RANDOM, challenge, coordinator, federate, files};
+//! Greetings worked by hand: what each side sends, byte by byte, and what comes of it. The digests are those of another
+//! implementation.
+use crate::sides::{ALL, COORDINATOR_RANDOM, FEDERATE_RANDOM, SECRET, files};
+use std::alloc::Global;
 use std::net::{IpAddr, Ipv4Addr};
-use std::test::Fail;
-use wires_greeting::{
-    CoordinatorSide, CoordinatorState, FederateSide, FederateState, Greeting, Key, SecretFault,
-};
+use wires_greeting::{CoordinatorSide, FederateSide, Greeting, Key};
 
 /// The protocol, federate 3, the digest of the files "federation" and "inputs", and the federate's random bytes.
 const GREETING: &str = "66656472756e2031\
@@ -13,84 +11,113 @@ const GREETING: &str = "66656472756e2031\
 572b6b97a26c898997271341cc81715a609946eaf2baa0bf155a98f3ac368a21\
 000102030405060708090a0b0c0d0e0f101112131415161718191a1b1c1d1e1f";
 
-/// To go on, the coordinator's random bytes, and its proof.
-const CHALLENGE: &str = "01\
-202122232425262728292a2b2c2d2e2f303132333435363738393a3b3c3d3e3f\
-fbee6a45880b0dddc9edbb4c9a6c85d846a6bb7c91c82052b5785566f6f0094c";
+/// The coordinator's random bytes.
+const RANDOM: &str = "202122232425262728292a2b2c2d2e2f303132333435363738393a3b3c3d3e3f";
 
-const PROOF: &str = "703328e6ff4111600d9ea4bcfec4d13e6fcd5936b472c97a36b83fbdf9ac7fef";
-
-#[test]
-fn each_message_is_as_worked(rt: HostRuntime) -> Result<(), Fail> {
-    let mut federate = federate(FEDERATE_RANDOM)?;
-    let mut coordinator = coordinator()?;
-    let greeting = federate.message();
-    let challenge = challenge(&mut coordinator, &greeting).ok_or("a challenge")?;
-    let proof = federate.challenged(&challenge).ok_or("a proof")?;
-    coordinator.proved(&proof);
-    assert_eq!(rt; hex::encode(rt.alloc(), greeting)?.as_str(), GREETING);
-    assert_eq!(rt; hex::encode(rt.alloc(), challenge)?.as_str(), CHALLENGE);
-    assert_eq!(rt; hex::encode(rt.alloc(), proof)?.as_str(), PROOF);
-    assert!(rt; matches!(federate.state(), FederateState::Proved(_)));
-    assert!(rt; matches!(coordinator.state(), CoordinatorState::LetIn { .. }));
-    assert_eq!(rt; coordinator.let_in(), Some(3));
-    Ok(())
-}
-
-/// A secret, or none, and what both sides prove by it where all else is as above.
-struct ByKey {
+/// A secret, or none, and whether the run is finished; the coordinator's answer, and what both sides prove.
+struct Worked {
     secret: Option<&'static [u8]>,
+    finished: bool,
+    answer: &'static str,
     coordinator: &'static str,
     federate: &'static str,
 }
 
 /// Without a secret the key is empty; one of more bytes than a block of SHA-256 has is hashed.
-const BY_KEYS: [ByKey; 3] = [
-    ByKey {
+const WORKED: [Worked; 5] = [
+    Worked {
+        secret: Some(SECRET),
+        finished: false,
+        answer: "01",
+        coordinator: "fbee6a45880b0dddc9edbb4c9a6c85d846a6bb7c91c82052b5785566f6f0094c",
+        federate: "703328e6ff4111600d9ea4bcfec4d13e6fcd5936b472c97a36b83fbdf9ac7fef",
+    },
+    Worked {
         secret: None,
+        finished: false,
+        answer: "01",
         coordinator: "bc664787dd76208f5ce6c770bbe27961c9b20b14d41243561864239bf48c42dc",
         federate: "98b2e486d6b518fc5d4605a14c855f0831fdf8fc25aaab0a281be48562baa0fa",
     },
-    ByKey {
+    Worked {
         secret: Some(b"0123456789abcdef0123456789abcdef0123456789abcdef0123456789abcdef"),
+        finished: false,
+        answer: "01",
         coordinator: "859b7f68601bb33b94f02821c730c3a4991d67fc886e7a4ff222d7db6cd00159",
         federate: "80190aea718d392ed4836763116effc57ae449fcb0962890e824860a3682866e",
     },
-    ByKey {
+    Worked {
         secret: Some(b"0123456789abcdef0123456789abcdef0123456789abcdef0123456789abcdef0"),
+        finished: false,
+        answer: "01",
         coordinator: "e4001a288cb571176fac96893915c84b6a41d3c05ca61c787782618a07b47d34",
         federate: "706aab190d0888bb296f909c260f7db25917c575328e31e97666ebf181940d6b",
+    },
+    Worked {
+        secret: Some(SECRET),
+        finished: true,
+        answer: "04",
+        coordinator: "954f1f1fb92164e60464a04705b013fab31b25e2b83d688d75cdfa6ea22330b3",
+        federate: "56c576a276f98c66d81671c913180271c25f6300e8f896b7cfb1331fb3223163",
     },
 ];
 
 // The key of a secret, or the one of loopback.
-fn key_of(secret: Option<&[u8]>) -> Result<Key, SecretFault> {
+fn key_of(secret: Option<&[u8]>) -> Option<Key> {
     match secret {
-        Some(secret) => Key::of_secret(secret),
-        None => Key::without_secret(&IpAddr::V4(Ipv4Addr::new(127, 0, 0, 1))),
+        Some(secret) => Key::of_secret(secret).ok(),
+        None => Key::without_secret(&IpAddr::V4(Ipv4Addr::new(127, 0, 0, 1))).ok(),
     }
 }
 
-#[test]
-fn both_sides_prove_each_key(rt: HostRuntime) -> Result<(), Fail> {
-    for by_key in &BY_KEYS {
-        let key = key_of(by_key.secret).map_err(|_| "a key")?;
-        let greeting = Greeting {
-            federate: 3,
-            files: files(),
-            random: FEDERATE_RANDOM,
-        };
-        let mut federate = FederateSide::new(key, greeting);
-        let mut coordinator = CoordinatorSide::new(key, files());
-        let challenge = challenge(&mut coordinator, &federate.message()).ok_or("a challenge")?;
-        let proof = federate.challenged(&challenge).ok_or("a proof")?;
-        coordinator.proved(&proof);
-        assert_eq!(rt;
-            hex::encode(rt.alloc(), &challenge[33..])?.as_str(),
-            by_key.coordinator
-        );
-        assert_eq!(rt; hex::encode(rt.alloc(), proof)?.as_str(), by_key.federate);
-        assert_eq!(rt; coordinator.let_in(), Some(3));
+// Whether these bytes are those that are written so.
+fn are(alloc: Global, bytes: &[u8], text: &str) -> bool {
+    match hex::encode(alloc, bytes) {
+        Ok(written) => written.as_str() == text,
+        Err(_) => false,
     }
-    Ok(())
+}
+
+// Whether both sides say so, and federate 3 is let in by it, or was told that the run is finished, and not before.
+fn is_as_worked(alloc: Global, worked: &Worked) -> Option<bool> {
+    let key = key_of(worked.secret)?;
+    let greeting = Greeting {
+        federate: 3,
+        files: files(),
+        random: FEDERATE_RANDOM,
+    };
+    let mut federate = FederateSide::new(key, greeting);
+    let mut coordinator = CoordinatorSide::new(key, files());
+    let message = federate.message();
+    let challenge = coordinator.greeted(&message, &COORDINATOR_RANDOM, &ALL, worked.finished)?;
+    let proof = federate.challenged(&challenge)?;
+    let before = (coordinator.let_in(), coordinator.told());
+    coordinator.proved(&proof);
+    let is_said = are(alloc, &message, GREETING)
+        && are(alloc, &challenge[..1], worked.answer)
+        && are(alloc, &challenge[1..33], RANDOM)
+        && are(alloc, &challenge[33..], worked.coordinator)
+        && are(alloc, &proof, worked.federate);
+    let behind = if worked.finished {
+        (None, Some(3))
+    } else {
+        (Some(3), None)
+    };
+    let now = (coordinator.let_in(), coordinator.told());
+    Some(is_said && before == (None, None) && now == behind)
+}
+
+// The place of the first that isn't.
+fn first_wrong(alloc: Global) -> Option<usize> {
+    for (place, worked) in WORKED.iter().enumerate() {
+        if is_as_worked(alloc, worked) != Some(true) {
+            return Some(place);
+        }
+    }
+    None
+}
+
+#[test]
+fn each_message_is_as_worked(rt: HostRuntime) {
+    assert_eq!(rt; first_wrong(rt.alloc()), None);
 }

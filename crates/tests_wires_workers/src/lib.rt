@@ -26,6 +26,8 @@ mod steps;
 #[cfg(test)]
 mod taking_in;
 #[cfg(test)]
+mod versions;
+#[cfg(test)]
 mod who_writes;
 #[cfg(test)]
 mod workers;

@@ -17,15 +17,18 @@ use tests_samples::{COUNTER, Machine, loaded};
 use wires_transports::Ending;
 use wires_workers::{NoGate, WakeUps, WriterQueue, runner, write};
 
-// Puts a frame while the writer sends one, and ends the run once that is sent too.
-fn put_meanwhile<R: Wait>(rt: &R, queue: &Queue<'_>, seen: &Seen) {
+// Puts a frame while the writer sends one. At its third look the writer has been notified of its connection, and waits
+// once more. The run is to end behind that frame, and nobody is notified of the end.
+fn put_meanwhile<R: Wait>(rt: &R, machine: &Standing<'_, R>, queue: &Queue<'_>, seen: &Seen) {
+    machine.wait_for_looks(3);
+    queue.put(rt, &[refusal()], false);
+    queue.notify(rt);
+    machine.expect_no_wait();
     seen.wait_for_sends(rt, 1);
     queue.put(rt, &[refusal()], false);
     queue.send(rt);
-    seen.hold(false);
-    seen.wait_for_sends(rt, 2);
     seen.ending.set();
-    queue.notify(rt);
+    seen.hold(false);
 }
 
 // How many sends there are then, and whether the writer wasn't notified of the second.
@@ -37,12 +40,11 @@ fn sent_meanwhile<R: Threads + Wait + Sync>(
     seen.hold(true);
     let queue = WriterQueue::new(alloc).ok()?;
     queue.begin(rt, side(alloc, seen)?, Vec::new(alloc));
-    queue.put(rt, &[refusal()], false);
     let machine = Standing::new(rt);
     thread::join(
         rt,
         || write(&machine, alloc, &queue, &seen.ending, 2),
-        || put_meanwhile(rt, &queue, seen),
+        || put_meanwhile(rt, &machine, &queue, seen),
     );
     Some((seen.sends(), machine.is_late()))
 }
@@ -63,13 +65,9 @@ fn end_meanwhile<R: Wait + Clock>(
     context: &ending::Workers<'_, '_, '_>,
     machine: &Standing<'_, R>,
 ) {
-    for _ in rt.forever() {
-        if machine.has_waited() {
-            break;
-        }
-        thread::yield_now();
-    }
+    machine.wait_for_looks(1);
     context.end(rt);
+    machine.expect_no_wait();
 }
 
 // Whether the first writer of a coordinator, which is notified first, doesn't hear then that the run is to end.
@@ -119,6 +117,7 @@ fn run_of<R: Wait + Clock>(
     );
     context.hand_in(rt, alloc, &mut Share::new(alloc), &[grant(at(1000))]);
     let machine = Standing::new(rt);
+    machine.expect_no_wait();
     let share = runner::run(&machine, alloc, &context, &wake_ups, turns);
     Some((share.slips().len(), machine.is_late()))
 }

@@ -72,7 +72,8 @@ impl<'d, N: Node> Session<'d, N> {
     }
 
     // Makes turns up to the first that does nothing, at most this many but one at least. They are idle where the last
-    // of them did nothing.
+    // of them did nothing. After the first as many are put at once as were made before: of what is put and isn't made
+    // then, there is no more than of what is made.
     fn make_turns(&mut self, share: &mut Share, most: u32) -> Turns
         ensures handed_in { AreHandedIn share.old (events_of_turns result.made) share.new }
         ensures one { 1 ≤ result.made }
@@ -81,10 +82,40 @@ impl<'d, N: Node> Session<'d, N> {
         let mut is_idle = self.turn_is_idle(share);
         let mut made = 1;
         while made < most && !is_idle {
-            is_idle = self.turn_is_idle(share);
-            made += 1;
+            let more = self.more_turns(share, made.min(most - made));
+            is_idle = more.is_idle;
+            made += more.made;
         }
         Turns { made, is_idle }
+    }
+
+    // Makes turns up to the first that does nothing, or lacks memory, at most this many but one at least.
+    fn more_turns(&mut self, share: &mut Share, most: u32) -> Turns
+        requires { 1 ≤ most }
+        ensures handed_in { AreHandedIn share.old (events_of_turns result.made) share.new }
+        ensures one { 1 ≤ result.made }
+        ensures most { result.made ≤ most }
+    {
+        let steps = self
+            .desk
+            .handle_turns(share, most as usize * 2, &mut self.replies);
+        let made = (steps.events / 2) as u32;
+        if steps.events % 2 == 1 {
+            // There was no memory for the advance of the last turn: it is tried once more.
+            self.enter(share, Event::Advance);
+            Turns {
+                made: made + 1,
+                is_idle: false,
+            }
+        } else if made == 0 {
+            let is_idle = self.turn_is_idle(share);
+            Turns { made: 1, is_idle }
+        } else {
+            Turns {
+                made,
+                is_idle: steps.is_idle,
+            }
+        }
     }
 
     // Makes a turn. Returns whether it did nothing.
