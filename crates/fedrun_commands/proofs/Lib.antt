@@ -5,6 +5,8 @@ pub mod InTurn
 pub mod Runs
 -- what was printed of a schedule or drawn stays printed
 pub mod Kept
+-- what was printed of a schedule, once it is sent on
+pub mod SentOn
 -- where nothing was printed, or what is wrong
 pub mod Reported
 -- report files, one after the other

@@ -1,5 +1,5 @@
 -- What is printed of a schedule that was played over the world of a federation, and why it isn't.
-use Rattle.std.specs.Prelude.{◌≡◌, ℕ, List, Option}
+use Rattle.std.specs.Prelude.{◌≡◌, ◌⊎◌, ℕ, List, Option, Result, Err}
 use Rattle.plan.specs.declared.draft.Draft.{Draft}
 use Rattle.plan.specs.declared.input.Input.{Input}
 use Rattle.reactor_program.specs.Behaviour.{Behaviour}
@@ -42,6 +42,12 @@ IsBrokenOffAs (Rows format) d programs inputs s closing before after fault =
 IsBrokenOffAs Frames d programs inputs s closing before after fault =
     IsBrokenOff d programs inputs s closing before after fault
 IsBrokenOffAs Picture d programs inputs s closing before after fault = ⊥
+
+-- why a schedule that came to this isn't played to its end or isn't printed: it can't be written, or there was no
+-- memory for a step
+abbrev pub IsBreakingOff : Result (Unit {0}) ReplayFault → Fault NodeFault → Type 0
+IsBreakingOff played fault =
+    (fault ≡ CannotWrite) ⊎ ((memory : steps.Memory) × (played ≡ Err (broken.World memory)) × (fault ≡ More (World memory)))
 
 -- a picture isn't drawn for this reason, and nothing was printed
 abbrev pub IsUndrawnAs : PlayOutput → Draft → List Behaviour → List Input → Script → Option ℕ → DrawFault → Type 0

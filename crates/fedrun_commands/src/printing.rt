@@ -1,5 +1,5 @@
 //! What a request prints, once its files are read.
-ghost use Rattle.std.specs.Prelude.{◌≡◌, ◌≢◌, IfErr, OnOk};
+ghost use Rattle.std.specs.Prelude.{◌≡◌, ◌≢◌, Ok, IfErr, OnOk};
 ghost use Rattle.std.specs.Io.KnownBytes.{Keeps};
 ghost use Rattle.plan.specs.External.{AreInputsOf};
 ghost use Rattle.reactor_programs.specs.Programs.{AreProgramsOf};
@@ -9,7 +9,7 @@ ghost use Rattle.fedrun_words.specs.declared.fault.Fault.TheVariants.{CannotWrit
 ghost use Rattle.fedrun_commands.specs.Faults.{status_of};
 ghost use Rattle.fedrun_frames.specs.Shown.{ShowsSchedule};
 ghost use Rattle.fedrun_draw.specs.Drawn.{HasPicture};
-ghost use Rattle.fedrun_commands.specs.Played.{IsDrawn, IsPlayedAs, IsPlayFault};
+ghost use Rattle.fedrun_commands.specs.Played.{IsDrawn, IsPlayedAs, IsPlayFault, IsBreakingOff};
 ghost use Rattle.fedrun_commands.specs.Refused.{IsPictureFault, IsRunFault};
 
 use crate::fault::NodeFault;
@@ -74,7 +74,7 @@ fn print_replay<O: Write, P: Progress>(
     ensures late { IfErr result (λ fault. status_of fault ≡ 3) }
 {
     let sources = &scheduled.sources;
-    match replay_in(
+    let played = replay_in(
         alloc,
         out,
         &sources.plan,
@@ -84,14 +84,8 @@ fn print_replay<O: Write, P: Progress>(
         scheduled.until_stuck,
         format,
         progress,
-    ) {
-        Ok(()) => flush(out),
-        Err(ReplayFault::World(memory)) => {
-            flush(out)?;
-            Err(Fault::More(NodeFault::World(memory)))
-        }
-        Err(ReplayFault::CannotWrite) => Err(Fault::CannotWrite),
-    }
+    );
+    sent_on(out, played)
 }
 
 // Plays a schedule and prints what `frames` does. Where there is no memory for a step, those before it are written.
@@ -111,7 +105,7 @@ fn print_frames<O: Write>(
     ensures late { IfErr result (λ fault. status_of fault ≡ 3) }
 {
     let sources = &scheduled.sources;
-    match frames(
+    let played = frames(
         alloc,
         out,
         &sources.plan,
@@ -119,12 +113,24 @@ fn print_frames<O: Write>(
         &sources.inputs,
         &scheduled.script,
         scheduled.until_stuck,
-    ) {
-        Ok(()) => flush(out),
-        Err(ReplayFault::World(memory)) => {
-            flush(out)?;
-            Err(Fault::More(NodeFault::World(memory)))
-        }
+    );
+    sent_on(out, played)
+}
+
+// What came of playing a schedule, once what it wrote is sent on: that is done whatever came of it.
+fn sent_on<O: Write>(
+    out: &mut O,
+    played: Result<(), ReplayFault>,
+) -> Result<(), Fault<'static, NodeFault<'static>>>
+    ensures kept { Keeps (O.contents out.old) (O.contents out.new) }
+    ensures ok { OnOk result (played ≡ Ok tt) }
+    ensures fault { IfErr result (IsBreakingOff played) }
+    ensures late { IfErr result (λ fault. status_of fault ≡ 3) }
+{
+    flush(out)?;
+    match played {
+        Ok(()) => Ok(()),
+        Err(ReplayFault::World(memory)) => Err(Fault::More(NodeFault::World(memory))),
         Err(ReplayFault::CannotWrite) => Err(Fault::CannotWrite),
     }
 }

@@ -9,14 +9,14 @@ use Rattle.std.proofs.lemmas.List.FromFn.{map-range_with_len_more}
 use Rattle.network.specs.Undivided.{Row}
 use Rattle.signal.specs.declared.frame.Frame.{Frame}
 use Rattle.plan.specs.declared.draft.Draft.{Draft}
-use Rattle.world_stations.specs.declared.dir.Dir.{Dir}
 use Rattle.world_stations.specs.World.{frame_at}
 use Rattle.world_stations.specs.Federation.{Federation}
 use Rattle.files_text.specs.RowText.{printed_rows}
 use Rattle.files_text.specs.PlanText.{printed_each}
 use Rattle.fedrun_frames.specs.Brought.{acknowledged_by, acknowledged_last}
 use Rattle.fedrun_frames.specs.declared.counts.LinkCounts.{LinkCounts}
-use Rattle.fedrun_frames.specs.Accounts.{count_at, counts_in, sent_line, sent_after, row_text}
+use Rattle.fedrun_frames.specs.Each.{each_from}
+use Rattle.fedrun_frames.specs.Accounts.{count_at, counts_in, row_text}
 
 last_append : (i last : ℕ) (frames : List Frame) (frame : Frame)
     → acknowledged_last i last (frames ++ frame ∷ []) ≡ unwrap_or (acknowledged_by i (Some frame)) (acknowledged_last i last frames)
@@ -67,45 +67,31 @@ each_more text count more a b c is first one =
     let next : more ≡ suc count = omega arith in
     subst (λ (n : ℕ). Appends a c (printed_each text n)) (sym next) (Appends-trans a b c _ _ first one)
 
--- the frames of a direction after the first `gone` were written, up to this number
-pub record SentUpTo (d : Draft) (dir : Dir) (frames : List Frame) (gone before : ℕ) (a b : Option (List ℕ)) : Type 0 where
-  pub few : before - gone ≤ length frames - gone
-  pub written : Appends a b (printed_each (λ i. sent_line d dir (gone + i + 1) (frame_at frames (gone + i + 1))) (before - gone))
-
--- none was written
-pub sent_none : (d : Draft) (dir : Dir) (frames : List Frame) (gone : ℕ) (a : Option (List ℕ)) → SentUpTo d dir frames gone gone a a
-sent_none d dir frames gone a =
-    let text : ℕ → List ℕ = λ (i : ℕ). sent_line d dir (gone + i + 1) (frame_at frames (gone + i + 1)) in
-    let none : 0 ≡ gone - gone = omega arith in
-    record {
-      few = omega arith;
-      written = subst (λ (n : ℕ). Appends a a (printed_each text n)) none (Appends-nil a);
-    }
+-- the texts of the numbers from `first` on were written, up to this one
+pub record UpTo (text : ℕ → List ℕ) (first end at : ℕ) (a b : Option (List ℕ)) : Type 0 where
+  pub few : at - first ≤ end - first
+  pub written : Appends a b (each_from text first at)
 
 -- one more was written
-pub sent_next : (d : Draft) (dir : Dir) (frames : List Frame) (gone before : ℕ) (found : Option Frame) (a b c : Option (List ℕ)) → gone ≤ before → before < length frames
-    → found ≡ frame_at frames (before + 1) → SentUpTo d dir frames gone before a b → Appends b c (sent_line d dir (before + 1) found)
-    → SentUpTo d dir frames gone (before + 1) a c
-sent_next d dir frames gone before found a b c from there is first one =
-    let text : ℕ → List ℕ = λ (i : ℕ). sent_line d dir (gone + i + 1) (frame_at frames (gone + i + 1)) in
-    let here : before + 1 ≡ gone + (before - gone) + 1 = omega arith in
-    let more : before + 1 - gone ≡ (before - gone) + 1 = omega arith in
+pub up_to_next : (text : ℕ → List ℕ) (first end at : ℕ) (a b c : Option (List ℕ)) → first ≤ at → at < end → UpTo text first end at a b → Appends b c (text at)
+    → UpTo text first end (at + 1) a c
+up_to_next text first end at a b c from there so_far one =
+    let here : at ≡ first + (at - first) = omega arith in
+    let more : at + 1 - first ≡ (at - first) + 1 = omega arith in
     record {
       few = omega arith;
       written =
-          each_more text (before - gone) (before + 1 - gone) a b c more first.written
-          (subst (λ (k : ℕ). Appends b c (sent_line d dir k (frame_at frames k))) here
-          (subst (λ (f : Option Frame). Appends b c (sent_line d dir (before + 1) f)) is one));
+          each_more (λ i. text (first + i)) (at - first) (at + 1 - first) a b c more so_far.written
+          (subst (λ (k : ℕ). Appends b c (text k)) here one);
     }
 
--- all were written
-pub sent_all : (d : Draft) (dir : Dir) (frames : List Frame) (gone before : ℕ) (a b : Option (List ℕ)) → length frames ≤ before → SentUpTo d dir frames gone before a b
-    → Appends a b (sent_after d dir gone frames)
-sent_all d dir frames gone before a b end sent =
-    let few : before - gone ≤ length frames - gone = sent.few in
-    let all : before - gone ≡ length frames - gone = omega arith in
-    let text : ℕ → List ℕ = λ (i : ℕ). sent_line d dir (gone + i + 1) (frame_at frames (gone + i + 1)) in
-    subst (λ (n : ℕ). Appends a b (printed_each text n)) all sent.written
+-- one frame more was written, which is this one
+pub frame_next : (text : ℕ → Option Frame → List ℕ) (frames : List Frame) (gone before : ℕ) (found : Option Frame) (a b c : Option (List ℕ)) → gone ≤ before
+    → before < length frames → found ≡ frame_at frames (before + 1) → UpTo (λ i. text (i + 1) (frame_at frames (i + 1))) gone (length frames) before a b
+    → Appends b c (text (before + 1) found) → UpTo (λ i. text (i + 1) (frame_at frames (i + 1))) gone (length frames) (before + 1) a c
+frame_next text frames gone before found a b c from there is so_far one =
+    up_to_next (λ i. text (i + 1) (frame_at frames (i + 1))) gone (length frames) before a b c from there so_far
+    (subst (λ (f : Option Frame). Appends b c (text (before + 1) f)) is one)
 
 -- how many frames were sent over one link more
 pub counts_more : (w : Federation) (count : ℕ) (before after : List LinkCounts) (x : LinkCounts) → after ≡ before ++ x ∷ [] → x ≡ count_at w count

@@ -20,6 +20,7 @@ use Rattle.files_record.specs.StepText.{way_of, printed_step}
 use Rattle.fedrun_replay.specs.Play.{Made}
 use Rattle.fedrun_frames.specs.declared.brought.Brought.{Brought}
 use Rattle.fedrun_frames.specs.declared.counts.LinkCounts.{LinkCounts}
+use Rattle.fedrun_frames.specs.Each.{each_from}
 use Rattle.fedrun_frames.specs.FrameText.{frame_text}
 use Rattle.fedrun_frames.specs.Brought.{brought_by, ending_text}
 
@@ -86,7 +87,7 @@ sent_line d dir k (Some frame) =
 -- the frames of a direction after the first `gone`, each on a line of its own
 abbrev pub sent_after : Draft → Dir → (gone : ℕ) → List Frame → List ℕ
 sent_after d dir gone frames =
-    printed_each (λ i. sent_line d dir (gone + i + 1) (frame_at frames (gone + i + 1))) (length frames - gone)
+    each_from (λ i. sent_line d dir (i + 1) (frame_at frames (i + 1))) gone (length frames)
 
 -- the frames sent over federate j's link after this many: of the federate, and then to it
 abbrev pub link_text : Draft → Federation → LinkCounts → (j : ℕ) → List ℕ

@@ -1,4 +1,6 @@
 -- What `frames` prints of a schedule.
+-- texts one after the other
+pub mod Each
 -- signals and frames as text
 pub mod FrameText
 -- what comes to a node at a step, and how that ended, as text

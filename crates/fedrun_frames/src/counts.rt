@@ -40,7 +40,7 @@ fn count_at(world: &World<'_>, federate: usize) -> LinkCounts
 }
 
 /// The counts at a place, or zeros where there is no such place.
-pub(crate) fn counts_of(counts: &[LinkCounts], federate: usize) -> LinkCounts
+pub fn counts_of(counts: &[LinkCounts], federate: usize) -> LinkCounts
     ensures { result ≡ get_or counts.now federate no_frames }
 {
     match counts.get(federate) {

@@ -104,8 +104,8 @@ fn write_input<W: Write>(out: &mut W, plan: &Plan, connection: usize) -> io::Res
     }
 }
 
-// The name of the input at a slot of a federate, or an empty text where there is none.
-fn input_name(plan: &Plan, federate: usize, slot: usize) -> &str
+/// The name of the input at a slot of a federate, or an empty text where there is none.
+pub fn input_name(plan: &Plan, federate: usize, slot: usize) -> &str
     ensures { result.now ≡ input_name (slice_get plan.now.federates federate) slot }
 {
     let Some(federate) = plan.federates().get(federate) else {

@@ -17,15 +17,21 @@
 //! with `specs/Accounts`, then `frames` in `shown`.
 #![tactic(auto)]
 
-mod account;
-mod brought;
-mod counts;
-mod frame_text;
+pub mod account;
+pub mod brought;
+pub mod counts;
+pub mod frame_text;
 pub mod laws;
-mod made_step;
-mod making;
-mod showing;
+pub mod made_step;
+pub mod making;
+pub mod showing;
 pub mod shown;
 mod writing;
 
+pub use account::Account;
+pub use brought::Brought;
+pub use counts::LinkCounts;
+pub use made_step::MadeStep;
+pub use making::steps_of_schedule;
+pub use showing::make;
 pub use shown::frames;

@@ -18,7 +18,7 @@ use world::World;
 use world_stations::{Memory, Step};
 
 /// The steps of a schedule and of its closing rounds, as a player makes them. What the player prints is let go.
-pub(crate) fn steps_of_schedule(
+pub fn steps_of_schedule(
     alloc: Global,
     plan: &Plan,
     programs: &Programs,

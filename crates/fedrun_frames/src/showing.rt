@@ -59,8 +59,8 @@ fn show<W: Write>(
     write_account(out, plan, world, &account).map_err(|_| ReplayFault::CannotWrite)
 }
 
-// Makes a step, and answers what is to be written of it.
-fn make(alloc: Global, world: &mut World<'_>, made: MadeStep) -> Result<Account, Memory>
+/// Makes a step, and answers what came of it.
+pub fn make(alloc: Global, world: &mut World<'_>, made: MadeStep) -> Result<Account, Memory>
     ensures account { IfOk result (λ account. account
         ≡ account_of (stations_of world.old) (federate_count world.old.draft) made) }
     ensures stepped { OnOk result (world.new ≡ with_step world.old made.step) }

@@ -14,9 +14,9 @@ use Rattle.loadfed.specs.Loaded.{IsFederationFile, HasLoadFault}
 use Rattle.loadfed.specs.InputShape.{SaysInputFile, HasInputFileFault, IsFaultOfInputs, out_of_memory, too_long, no_document, wrong_shape, no_inputs, unknown_action, repeated_input, too_many}
 use Rattle.loadfed.proofs.Accepted.{one_federation_draft}
 use Rattle.loadfed.proofs.InputReadings.{same_inputs, inputs_accepted}
-use Rattle.fedrun_lint.specs.declared.report.Refusal.{Refusal}
+use Rattle.fedrun_lint_findings.specs.declared.refusal.Refusal.{Refusal}
 use Rattle.fedrun_lint.specs.declared.report.Report.{Report}
-use Rattle.fedrun_lint.specs.Reports.{IsTaken, IsFirst, IsRefused, AreRecorded, AreRefused, RecordsNone, AgreesOnInputs, RecordsSome, HasShapeFault, of_length, of_text, of_tables, of_count, IsRefusedForShape, AgreesOnShape, IsReportOfTaken, IsReportOfRefused, IsReport}
+use Rattle.fedrun_lint.specs.Reports.{IsFirst, IsRefused, AreRecorded, AreRefused, RecordsNone, AgreesOnInputs, RecordsSome, HasShapeFault, of_length, of_text, of_tables, of_count, IsRefusedForShape, AgreesOnShape, IsReportOfTaken, IsReportOfRefused, IsReport}
 use Rattle.fedrun_lint.specs.Answered.{IsReportOn, AreTaken, AreRight}
 
 taken_alone : (federation inputs : List ℕ) (d : Draft) (programs : List Behaviour) (refused more : Option Refusal) → refused ≡ None

@@ -9,7 +9,7 @@ use Rattle.fedrun_words.specs.Pieces.{AppendsPrefix}
 use Rattle.fedrun_lint.specs.Reports.{IsTaken, IsFirst, IsRefused, AreRecorded, AgreesOnShape, IsReport}
 use Rattle.fedrun_lint.specs.Printed.{printed_report}
 use Rattle.fedrun_lint.specs.declared.printing.NamedFile.{NamedFile}
-use Rattle.fedrun_lint.specs.declared.report.Refusal.{Refusal}
+use Rattle.fedrun_lint_findings.specs.declared.refusal.Refusal.{Refusal}
 use Rattle.fedrun_lint.specs.declared.report.Report.{Report}
 
 -- a federation file is refused exactly where it is no federation; the file of recorded inputs is too long, which is its

@@ -10,7 +10,7 @@ use Rattle.loadfed.specs.declared.fault.LoadFault.TheVariants.{OverLimit, Memory
 use Rattle.loadfed.specs.declared.recorded.TheConstants.{MOST_INPUT_BYTES}
 use Rattle.loadfed.specs.Loaded.{IsFederationFile, HasLoadFault, IsTooLong, IsNoDocument, HasFileFault}
 use Rattle.loadfed.specs.InputShape.{SaysInputFile, HasInputsFault, HasInputFileFault}
-use Rattle.fedrun_lint.specs.declared.report.Refusal.{Refusal}
+use Rattle.fedrun_lint_findings.specs.declared.refusal.Refusal.{Refusal}
 use Rattle.fedrun_lint.specs.declared.report.Report.{Report}
 
 -- the file is a federation

@@ -2,30 +2,15 @@
 //!
 //! Promise to the layer above: where the loader refuses a file, the report has its very fault, and where it takes the
 //! file, the report has none of it (`specs/Reports`); what a writer gains is the report's text, and something is said
-//! to be wrong exactly where the two files aren't taken (`specs/Answered`). Further faults are what the loader answers
-//! of small files, in each of which one part of the refused file stands (`look`, `keys`, `lists`). Begin with
-//! `print_report`, then `report` and `linting`; `tree` says where the parts stand.
+//! to be wrong exactly where the two files aren't taken (`specs/Answered`). What else is wrong beside the loader's own
+//! fault, and what is odd, is found in `fedrun_lint_findings`. Begin with `print_report`, then `report` and `linting`.
 #![tactic(auto)]
 
-mod draft;
-mod federates;
-mod finding;
-mod form;
-mod keys;
 pub mod linting;
-mod lists;
-mod look;
-pub mod oddity;
 pub mod printing;
-mod reactions;
 pub mod report;
-mod surveys;
-mod tree;
-mod walk;
-mod writing;
 
-pub use finding::Finding;
+pub use fedrun_lint_findings::{Finding, Oddity, Refusal, Why};
 pub use linting::lint;
-pub use oddity::{Oddity, Why};
 pub use printing::{LintFault, NamedFile, print_report};
-pub use report::{Refusal, Report, ReportLines};
+pub use report::{Report, ReportLines};

@@ -14,7 +14,7 @@ reaction = [{ triggers = ["startup"], body = ["out.y = 1"] }]
 name = "snk"
 inputs = ["x"]
 state = [{ name = "s", value = 0 }]
-reaction = [{ triggers = ["x"], body = ["s = in.x"] }]
+reaction = [{ triggers = ["x"], body = ["s = s + in.x"] }]
 "#;
 
 /// The beginning and the end of a picture.

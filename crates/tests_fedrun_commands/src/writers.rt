@@ -46,6 +46,15 @@ const COMMANDS: &[&[&str]] = &[
     &["audit", "f", "i", "c", "0", "1"],
 ];
 
+/// Commands that print nothing over the counter, or much, and send on what they print.
+const UNSENT: &[&[&str]] = &[
+    &["record", "f", "-"],
+    &["frames", "f", "-", "i"],
+    &["draw", "f"],
+    &["draw", "f", "-", "i"],
+    &["lint", "f"],
+];
+
 // What a command answers whose rows go to a writer of this room, and what is on standard error.
 fn refusal<R: Machine + Net<Stream = TcpStream, Listener = TcpListener>>(
     rt: &R,
@@ -78,6 +87,22 @@ fn refusals_of<R: Machine + Net<Stream = TcpStream, Listener = TcpListener>>(
     Some(count)
 }
 
+// How often a command says so where what it prints isn't sent on.
+fn refusals_unsent<R: Machine + Net<Stream = TcpStream, Listener = TcpListener>>(
+    rt: &R,
+    files: &[(&str, &[u8])],
+) -> Option<usize> {
+    let mut count = 0usize;
+    for words in UNSENT {
+        let (status, err) = refusal(rt, words, files, 100_000, false)?;
+        if status != 3 || err.as_str() != "fedrun: cannot write\n" {
+            return None;
+        }
+        count = count.saturating_add(1);
+    }
+    Some(count)
+}
+
 // The same of all commands.
 fn refusals<R: Machine + Net<Stream = TcpStream, Listener = TcpListener>>(
     rt: &R,
@@ -87,7 +112,7 @@ fn refusals<R: Machine + Net<Stream = TcpStream, Listener = TcpListener>>(
     for words in COMMANDS {
         count = count.saturating_add(refusals_of(rt, words, files)?);
     }
-    Some(count)
+    Some(count.saturating_add(refusals_unsent(rt, files)?))
 }
 
 // The same over the counter and its reports.
@@ -102,7 +127,7 @@ fn all_refusals<R: Machine + Net<Stream = TcpStream, Listener = TcpListener>>(
 
 #[test]
 fn prints_that_it_cannot_write(rt: HostRuntime) {
-    assert_eq!(rt; all_refusals(&rt), Some(20));
+    assert_eq!(rt; all_refusals(&rt), Some(25));
 }
 
 // What a command answers over an empty federation, where standard error has room for three bytes.

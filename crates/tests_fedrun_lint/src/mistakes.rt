@@ -78,6 +78,16 @@ const FILES: &[Mistake] = &[
         "stop = \"0\"\n[[federate]]\nname = \"a\"\nname = \"b\"",
         "fed.toml:4: wrong: 30 NotToml: ",
     ),
+    // behind the mark of its byte order
+    (
+        "\u{feff}\nstop = 5\n[[federate]]\nname = \"a\"",
+        "fed.toml:2: wrong: 31 WrongShape stop: ",
+    ),
+    // a key with a backslash
+    (
+        "stop = \"0\"\n\"a\\\\b\" = 1\n[[federate]]\nname = \"a\"",
+        "fed.toml:2: wrong: 31 WrongShape a",
+    ),
 ];
 
 /// A federate of three lines.
@@ -203,6 +213,11 @@ const LINES: &[Mistake] = &[
     (
         "reaction = [{ triggers = [\n\"t\"] }]",
         "fed.toml:5: wrong: 21 UnknownOperand a 1 0: ",
+    ),
+    // of the second of two federates
+    (
+        "[[federate]]\nname = \"b\"\n[[federate.reaction]]\ntriggers = [\"t\"]",
+        "fed.toml:7: wrong: 21 UnknownOperand b 1 0: ",
     ),
     // Two connections to one input, a timer, and what is beyond the limits.
     (

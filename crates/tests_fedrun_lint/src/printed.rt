@@ -127,12 +127,32 @@ const FAULTS: &[&str] = &[
     "fed.toml:18: wrong: 31 WrongShape after: ",
 ];
 
+/// A federate with an input more than it may have, and an output more.
+const TOO_MANY: &str = r#"stop = "1 s"
+[[federate]]
+name = "a"
+inputs = [
+"i0", "i1", "i2", "i3", "i4", "i5", "i6", "i7", "i8", "i9", "i10", "i11", "i12", "i13", "i14", "i15",
+"i16", "i17", "i18", "i19", "i20", "i21", "i22", "i23", "i24", "i25", "i26", "i27", "i28", "i29", "i30", "i31",
+"i32"]
+outputs = [
+"o0", "o1", "o2", "o3", "o4", "o5", "o6", "o7", "o8", "o9", "o10", "o11", "o12", "o13", "o14", "o15",
+"o16", "o17", "o18", "o19", "o20", "o21", "o22", "o23", "o24", "o25", "o26", "o27", "o28", "o29", "o30", "o31",
+"o32"]
+"#;
+
+/// What is told of it: of each list, though the fault is the same.
+const TOO_MANY_LINES: &[&str] = &[
+    "fed.toml:7: wrong: 14 OverLimit: ",
+    "fed.toml:11: wrong: 14 OverLimit: ",
+];
+
 /// A file in which all is taken, and something is odd.
 const ODD: &str = r#"stop = "20 ms"
 [[federate]]
 name = "a"
 inputs = ["x", "w"]
-outputs = ["y", "z"]
+outputs = ["y", "z", "v"]
 timers = [
     { name = "t", offset = "20 ms" },
     { name = "late", offset = "21 ms" },
@@ -172,12 +192,70 @@ value = 1
 /// What is odd about it.
 const ODD_LINES: &[&str] = &[
     "fed.toml:4: odd: input a.w: ",
-    "fed.toml:8: odd: timer a.late: ",
+    "fed.toml:5: odd: output a.v: ",
+    "fed.toml:8: odd: timer a.late: its offset is later than stop",
+    "fed.toml:8: odd: timer a.late: no reaction is triggered by it",
+    "fed.toml:11: odd: state a.n: ",
+    "fed.toml:12: odd: state a.N: ",
     "fed.toml:12: odd: name a.N: ",
     "fed.toml:13: odd: reaction a 1: ",
     "fed.toml:16: odd: name A: ",
     "fed.toml:19: odd: name A.X: ",
+    "fed.toml:19: odd: action A.X: no line schedules it",
     "in.toml:6: odd: recorded input of a.p: ",
+];
+
+/// A file whose reactions leave something unused, and in which something comes later than stop.
+const UNUSED: &str = r#"stop = "20 ms"
+[[federate]]
+name = "a"
+outputs = ["y"]
+timers = [
+    { name = "t" },
+    { name = "seen" },
+    { name = "idle" },
+]
+actions = ["late",
+    "ignored",
+    "never"]
+state = [{ name = "n", value = 0 },
+    { name = "kept", value = 0 },
+    { name = "asked", value = 0 }]
+[[federate.reaction]]
+triggers = ["t",
+    "startup", "t"]
+body = [
+    "kept = n",
+    "when asked : schedule late 20 ms has.seen",
+    "schedule late 21 ms 0",
+    "schedule ignored 0 n",
+    "out.y = n",
+]
+[[federate.reaction]]
+triggers = ["late"]
+body = ["out.y = in.late"]
+[[federate]]
+name = "b"
+inputs = ["x", "w"]
+[[connection]]
+from = "a.y"
+to = "b.x"
+after = "20 ms"
+[[connection]]
+from = "a.y"
+to = "b.w"
+after = "21 ms"
+"#;
+
+/// What is odd about it: the timer `seen` and the state `asked` are read, and 20 ms later than 0 is stop itself.
+const UNUSED_LINES: &[&str] = &[
+    "fed.toml:8: odd: timer a.idle: ",
+    "fed.toml:11: odd: action a.ignored: no reaction is triggered by it",
+    "fed.toml:12: odd: action a.never: no line schedules it",
+    "fed.toml:14: odd: state a.kept: ",
+    "fed.toml:17: odd: reaction a 1: one of its triggers stands there twice",
+    "fed.toml:22: odd: line a 1 3: its delay is later than stop",
+    "fed.toml:36: odd: connection to b.w: ",
 ];
 
 #[test]
@@ -186,8 +264,14 @@ fn prints_each_mistake_of_a_file_once(rt: HostRuntime) {
 }
 
 #[test]
+fn prints_of_each_list_that_it_is_too_long(rt: HostRuntime) {
+    assert!(rt; are_printed(rt.alloc(), Some(TOO_MANY), Some(""), TOO_MANY_LINES));
+}
+
+#[test]
 fn prints_what_is_odd(rt: HostRuntime) {
     assert!(rt; are_printed(rt.alloc(), Some(ODD), Some(ODD_INPUTS), ODD_LINES));
+    assert!(rt; are_printed(rt.alloc(), Some(UNUSED), Some(""), UNUSED_LINES));
 }
 
 #[test]

@@ -5,6 +5,8 @@
 #![tactic(auto)]
 
 #[cfg(test)]
+mod refused_bytes;
+#[cfg(test)]
 mod requests;
 #[cfg(test)]
 mod texts;

@@ -1,4 +1,5 @@
-//! The machine's disk where the machine doesn't say of each file that it keeps it, and what is answered then.
+//! The machine's disk where the machine doesn't say of each file that it keeps it, and what is answered then. Its files
+//! take a byte at a time.
 use crate::saved::{reserved, saved};
 use files_saving::{MachineDisk, ReserveFault, SaveFault};
 use std::alloc::{Allocator, Global};
@@ -8,6 +9,8 @@ use std::sync::atomic::{AtomicU64, Ordering};
 use std::{io, rt};
 
 const NAME: &str = "run/snk.report";
+
+const TEXT: &[u8] = b"bytes";
 
 /// A machine on which each file can be made, written, linked and removed, and none is found. It says that it keeps what
 /// there is, but for one of its files, one of the times that it is asked.
@@ -19,12 +22,14 @@ struct Unsynced {
     time: u64,
 }
 
-/// A file of such a machine, or a folder.
+/// A file of such a machine, or a folder. It takes a byte at a time.
 #[derive(Drop)]
 struct UnsyncedFile {
     asked: AtomicU64,
     /// The time at which it isn't said that it is kept; 0 for none.
     failing: u64,
+    /// How many bytes it took.
+    taken: usize,
 }
 
 impl Read for UnsyncedFile {
@@ -35,7 +40,11 @@ impl Read for UnsyncedFile {
 
 impl Write for UnsyncedFile {
     fn write(&mut self, buf: &[u8]) -> io::Result<usize> {
-        Ok(buf.len())
+        if buf.is_empty() {
+            return Ok(0);
+        }
+        self.taken = self.taken.saturating_add(1);
+        Ok(1)
     }
 
     fn flush(&mut self) -> io::Result<()> {
@@ -58,9 +67,11 @@ impl OpenFile for UnsyncedFile {
         Err(unsupported())
     }
 
+    // Of a part of the text it isn't said either.
     fn sync_all(&self) -> io::Result<()> {
         let time = self.asked.fetch_add(1, Ordering::SeqCst).saturating_add(1);
-        if time == self.failing {
+        let is_part = self.taken != 0 && self.taken != TEXT.len();
+        if time == self.failing || is_part {
             Err(io::Error::other("no room"))
         } else {
             Ok(())
@@ -87,6 +98,7 @@ impl rt::Files for Unsynced {
         Ok(UnsyncedFile {
             asked: AtomicU64::new(0),
             failing: if number == self.file { self.time } else { 0 },
+            taken: 0,
         })
     }
 
@@ -152,7 +164,7 @@ fn answers_of<R: rt::Files>(alloc: Global, machine: &R) -> Option<Answers> {
     if first.is_err() {
         return Some((first, None));
     }
-    let second = saved(alloc, &mut disk, NAME, b"bytes")?;
+    let second = saved(alloc, &mut disk, NAME, TEXT)?;
     Some((first, Some(second)))
 }
 
@@ -172,6 +184,7 @@ const UNSYNCED: &[(u64, u64, Answers, u64)] = &[
     (3, 1, (Ok(()), Some(Ok(()))), 3),
 ];
 
+// Where nothing fails all bytes were written, though each write took one.
 #[test]
 fn says_where_the_disk_does_not_say_that_it_keeps_a_file(rt: HostRuntime) {
     for (file, time, answers, opened) in UNSYNCED {

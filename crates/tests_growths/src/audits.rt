@@ -1,7 +1,7 @@
 //! Reports of desks are collected and audited. A report that is refused is handed back, an audit that is out of memory
 //! may be made again, and one that is begun while journals grow goes on.
 use crate::desks::{Run, played};
-use crate::loading::loaded;
+use crate::loading::with_counter;
 use coordinator::Coordinator;
 use desk::Desk;
 use federate::Federate;
@@ -39,10 +39,15 @@ fn collected<'a>(
     desks: Vec<Desk<Federate<'_>>>,
 ) -> Option<Collector<'a>> {
     let mut collector = Collector::new(alloc, federation.plan());
-    for (federate, desk) in desks.into_iter().enumerate() {
-        take(&mut collector, report_of(federate, desk))?;
-    }
+    take_all(&mut collector, desks)?;
     Some(collector)
+}
+
+fn take_all(collector: &mut Collector<'_>, desks: Vec<Desk<Federate<'_>>>) -> Option<()> {
+    for (federate, desk) in desks.into_iter().enumerate() {
+        take(collector, report_of(federate, desk))?;
+    }
+    Some(())
 }
 
 /// What the nodes of a run say.
@@ -162,6 +167,11 @@ fn goes_on(alloc: Global, claim: &Claim<'_>) -> Option<bool> {
     let mut audit = begun(alloc, claim.federation)?;
     go_on(alloc, &mut audit, claim, true)?;
     go_on(alloc, &mut audit, claim, false)?;
+    concludes(alloc, audit, claim)
+}
+
+// Whether an audit to which all is known is so.
+fn concludes(alloc: Global, audit: IncrementalAudit<'_>, claim: &Claim<'_>) -> Option<bool> {
     let has_all = !audit.is_given_up();
     match audit.conclude(alloc, claim.reports.reports(), claim.coordinator.journal()) {
         Ok(audited) if audited.is_finished => Some(has_all),
@@ -181,15 +191,22 @@ fn goes_on_once(alloc: Global, claim: &Claim<'_>) -> Option<bool> {
 // ---- all of it
 
 // Whether what the nodes of a run say is taken and believed.
-fn is_believed(alloc: Global) -> Option<bool> {
-    let federation = loaded(alloc)?;
-    let claim = claimed(alloc, &federation, &[])?;
-    Some(audits_twice(alloc, &claim)? && goes_on_once(alloc, &claim)?)
+fn is_run_believed(alloc: Global, federation: &Federation) -> Option<bool> {
+    let claim = claimed(alloc, federation, &[])?;
+    is_believed(alloc, &claim)
+}
+
+fn is_believed(alloc: Global, claim: &Claim<'_>) -> Option<bool> {
+    Some(audits_twice(alloc, claim)? && goes_on_once(alloc, claim)?)
 }
 
 #[test]
 fn believes_the_same_reports_after_a_refusal(rt: HostRuntime) {
-    assert_eq!(rt; is_believed(rt.alloc()), Some(true));
+    let alloc = rt.alloc();
+    assert_eq!(rt;
+        with_counter(alloc, |counter| is_run_believed(alloc, counter)),
+        Some(true)
+    );
 }
 
 // The places of the first two frames from federate 0 that these steps deliver; 0 where there are fewer.
@@ -207,17 +224,25 @@ fn first_places(steps: &[Step]) -> [usize; 2] {
     places
 }
 
-// The same of a run in which the first frame was sent again before it came.
-fn repeated_places(alloc: Global) -> Option<[usize; 2]> {
-    let federation = loaded(alloc)?;
-    let claim = claimed(alloc, &federation, &[Event::Announce, Event::Resend(0)])?;
-    let steps = audited(alloc, &claim)?;
+// The same of the steps of an audit.
+fn audited_places(alloc: Global, claim: &Claim<'_>) -> Option<[usize; 2]> {
+    let steps = audited(alloc, claim)?;
     Some(first_places(&steps))
+}
+
+// The same of a run in which the first frame was sent again before it came.
+fn repeated_places(alloc: Global, federation: &Federation) -> Option<[usize; 2]> {
+    let claim = claimed(alloc, federation, &[Event::Announce, Event::Resend(0)])?;
+    audited_places(alloc, &claim)
 }
 
 // Frames are looked for behind the last one that was found, guessed or not: so one that comes again is its next copy,
 // and no audit looks through all frames time after time.
 #[test]
 fn places_a_frame_that_was_sent_again_at_its_next_copy(rt: HostRuntime) {
-    assert_eq!(rt; repeated_places(rt.alloc()), Some([1, 2]));
+    let alloc = rt.alloc();
+    assert_eq!(rt;
+        with_counter(alloc, |counter| repeated_places(alloc, counter)),
+        Some([1, 2])
+    );
 }

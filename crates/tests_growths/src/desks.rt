@@ -1,6 +1,6 @@
 //! Desks that get the events of rounds, on one thread, with their frames as bytes between them. An event that is
 //! refused isn't in the journal, and nothing else has changed.
-use crate::loading::loaded;
+use crate::loading::with_counter;
 use crate::stations::{coordinator_station, federate_station};
 use crate::ways::{Address, Way};
 use coordinator::Coordinator;
@@ -84,11 +84,30 @@ impl<'a> Run<'a> {
         self.federates.len() == 2 && self.coordinator.station().node().finished()
     }
 
-    // Whether each node of another run has the same journal.
+    // Federate 0 gets these events, and then all rounds are played. Returns whether the run has ended.
+    fn play_behind(&mut self, way: &mut Way, first: &[Event]) -> Option<bool> {
+        for event in first {
+            self.enter(way, NodeId::Federate(0), *event)?;
+        }
+        self.play(way)?;
+        Some(self.has_ended())
+    }
+
+    fn is_played(&mut self, alloc: Global, first: &[Event]) -> bool {
+        let mut way = Way::new(alloc);
+        self.play_behind(&mut way, first) == Some(true)
+    }
+
+    fn journal(&self, number: usize) -> Option<&Journal> {
+        Some(self.federates.get(number)?.journal())
+    }
+
+    // Whether each of two federates and the coordinator of another run have the same journal.
     fn is_like(&self, other: &Run<'_>) -> bool {
-        for (desk, other_desk) in self.federates.iter().zip(other.federates.iter()) {
-            if !are_same(desk.journal(), other_desk.journal()) {
-                return false;
+        for number in 0..2 {
+            match (self.journal(number), other.journal(number)) {
+                (Some(journal), Some(other)) if are_same(journal, other) => {}
+                _ => return false,
             }
         }
         are_same(self.coordinator.journal(), other.coordinator.journal())
@@ -106,15 +125,28 @@ fn are_same(journal: &Journal, other: &Journal) -> bool {
     journal.len() == other.len()
 }
 
-fn opened_at_once(alloc: Global, federation: &Federation) -> Option<Run<'_>> {
-    let coordinator = Desk::new(alloc, coordinator_station(alloc, federation)?);
+fn add_federate<'a>(
+    alloc: Global,
+    federation: &'a Federation,
+    federates: &mut Vec<Desk<Federate<'a>>>,
+    number: u16,
+) -> Option<()> {
+    let station = federate_station(alloc, federation, number)?;
+    federates.push(Desk::new(alloc, station)).ok()
+}
+
+fn federate_desks(alloc: Global, federation: &Federation) -> Option<Vec<Desk<Federate<'_>>>> {
     let mut federates = Vec::with_capacity(alloc, 2).ok()?;
-    for number in 0..2 {
-        let desk = Desk::new(alloc, federate_station(alloc, federation, number)?);
-        federates.push(desk).ok()?;
-    }
+    add_federate(alloc, federation, &mut federates, 0)?;
+    add_federate(alloc, federation, &mut federates, 1)?;
+    Some(federates)
+}
+
+fn opened_at_once(alloc: Global, federation: &Federation) -> Option<Run<'_>> {
+    let federates = federate_desks(alloc, federation)?;
+    let station = coordinator_station(alloc, federation)?;
     Some(Run {
-        coordinator,
+        coordinator: Desk::new(alloc, station),
         federates,
     })
 }
@@ -134,23 +166,30 @@ pub(crate) fn played<'a>(
     first: &[Event],
 ) -> Option<Run<'a>> {
     let mut run = opened(alloc, federation)?;
-    let mut way = Way::new(alloc);
-    for event in first {
-        run.enter(&mut way, NodeId::Federate(0), *event)?;
+    if run.is_played(alloc, first) {
+        Some(run)
+    } else {
+        None
     }
-    run.play(&mut way)?;
-    if run.has_ended() { Some(run) } else { None }
+}
+
+// Whether another run is played like this one.
+fn plays_like(alloc: Global, federation: &Federation, first: &Run<'_>) -> Option<bool> {
+    let second = played(alloc, federation, &[])?;
+    Some(second.is_like(first))
 }
 
 // Whether two runs are played alike: one request at most is refused, so one of them at least had all memory.
-fn plays_twice(alloc: Global) -> Option<bool> {
-    let federation = loaded(alloc)?;
-    let first = played(alloc, &federation, &[])?;
-    let second = played(alloc, &federation, &[])?;
-    Some(first.is_like(&second))
+fn plays_twice(alloc: Global, federation: &Federation) -> Option<bool> {
+    let first = played(alloc, federation, &[])?;
+    plays_like(alloc, federation, &first)
 }
 
 #[test]
 fn takes_the_same_event_after_a_refusal(rt: HostRuntime) {
-    assert_eq!(rt; plays_twice(rt.alloc()), Some(true));
+    let alloc = rt.alloc();
+    assert_eq!(rt;
+        with_counter(alloc, |counter| plays_twice(alloc, counter)),
+        Some(true)
+    );
 }

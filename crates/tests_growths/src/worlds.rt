@@ -1,6 +1,6 @@
 //! A world whose steps are those of rounds, behind some that don't apply. A step that is refused is made the next time,
 //! and nothing else has changed.
-use crate::loading::loaded;
+use crate::loading::with_counter;
 use std::alloc::Global;
 use tests_samples::Federation;
 use world::World;
@@ -103,15 +103,23 @@ fn are_same(steps: &MadeSteps, other: &MadeSteps) -> bool {
     steps.len() == other.len()
 }
 
+// Whether another world is played with these steps.
+fn plays_like(alloc: Global, federation: &Federation, first: &MadeSteps) -> Option<bool> {
+    let second = played(alloc, federation)?;
+    Some(are_same(first, &second))
+}
+
 // Whether two worlds are played alike: one request at most is refused, so one of them at least had all memory.
-fn plays_twice(alloc: Global) -> Option<bool> {
-    let federation = loaded(alloc)?;
-    let first = played(alloc, &federation)?;
-    let second = played(alloc, &federation)?;
-    Some(are_same(&first, &second))
+fn plays_twice(alloc: Global, federation: &Federation) -> Option<bool> {
+    let first = played(alloc, federation)?;
+    plays_like(alloc, federation, &first)
 }
 
 #[test]
 fn makes_the_same_step_after_a_refusal(rt: HostRuntime) {
-    assert_eq!(rt; plays_twice(rt.alloc()), Some(true));
+    let alloc = rt.alloc();
+    assert_eq!(rt;
+        with_counter(alloc, |counter| plays_twice(alloc, counter)),
+        Some(true)
+    );
 }

@@ -67,3 +67,19 @@ pub fn load_both(alloc: Global, federation: &str, inputs: &str) -> Result<Federa
 pub fn loaded(alloc: Global, federation: &str, inputs: &str) -> Option<Federation> {
     load_both(alloc, federation, inputs).ok()
 }
+
+/// What is seen of the federation of a file and its input file by whoever is lent it; None where it can't be loaded.
+/// Who owns a federation lets all of it go on each way out, which is dear to prove: so tests are lent one.
+pub fn with_loaded<S, F: FnOnce(&Federation) -> Option<S>>(
+    alloc: Global,
+    federation: &str,
+    inputs: &str,
+    look: F,
+) -> Option<S>
+    requires { F.IsAlwaysCallable look }
+{
+    match loaded(alloc, federation, inputs) {
+        Some(federation) => look(&federation),
+        None => None,
+    }
+}

@@ -10,7 +10,7 @@ pub mod texts;
 pub mod undivided_rows;
 pub mod worked_rows;
 
-pub use federation::{Federation, load_both, loaded};
+pub use federation::{Federation, load_both, loaded, with_loaded};
 pub use machine::Machine;
 pub use texts::joined;
 pub use undivided_rows::{are_rows_of, is_same, undivided};

@@ -17,4 +17,6 @@ mod rows_printed;
 #[cfg(test)]
 mod running;
 #[cfg(test)]
+mod started;
+#[cfg(test)]
 mod turns_counted;

@@ -25,4 +25,6 @@ mod sources;
 #[cfg(test)]
 mod strangers;
 #[cfg(test)]
+mod waiting;
+#[cfg(test)]
 mod watching;

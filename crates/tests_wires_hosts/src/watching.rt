@@ -170,6 +170,36 @@ fn ends_the_last_connection_with_the_run_where_no_worker_has_it(rt: HostRuntime)
     assert_eq!(rt; first_wrong(&rt, NOT_HELD), None);
 }
 
+// Whether the second of two connections of a process is ended behind its run, which a worker has still.
+fn is_second_ended<R: Machine + Net<Stream = TcpStream, Listener = TcpListener>>(
+    rt: &R,
+) -> Option<bool> {
+    let process = Process::new(rt.alloc())?;
+    let first = connected(rt, &process)?;
+    drop(first);
+    let (own, other) = connected(rt, &process)?;
+    let ends = EndsAt {
+        ending: &process.ending,
+        ms: 1000,
+    };
+    let machine = Simulated::new(rt, &Broken, ends);
+    let watcher = Patience {
+        heard: &process.heard,
+        ending: &process.ending,
+        most: None,
+        last: Some(&process.last),
+    };
+    let _ = watcher.work(&machine, rt.alloc());
+    let is_ended = is_closed(&other, 0);
+    drop(own);
+    Some(is_ended)
+}
+
+#[test]
+fn ends_the_connection_that_was_made_last(rt: HostRuntime) {
+    assert_eq!(rt; is_second_ended(&rt), Some(true));
+}
+
 // How long a process is watched that never had a connection, and whose run is to end at this time, in ms.
 fn watched_for<R: Machine>(rt: &R, end_ms: u64) -> Option<u64> {
     let process = Process::new(rt.alloc())?;

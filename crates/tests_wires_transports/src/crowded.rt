@@ -7,6 +7,7 @@ use std::sync::{Mutex, Wait};
 use std::time::{Clock, Duration};
 use std::{io, thread};
 use tests_samples::Machine;
+use wires_transports::acceptor::pause;
 use wires_transports::{
     Accepted, Acceptor, Dial, Ending, ExpectedPeers, TcpAcceptor, TcpCut, TcpDial, TcpTransport,
     Transport, listen,
@@ -79,9 +80,21 @@ fn is_closed(stream: &TcpStream) -> bool {
     }
 }
 
+// Whether it isn't closed so far.
+fn is_open(stream: &TcpStream) -> bool {
+    if stream.set_nonblocking(true).is_err() {
+        return false;
+    }
+    let mut reader = stream;
+    match reader.read(&mut [0]) {
+        Ok(_) => false,
+        Err(error) => error.kind() == ErrorKind::WouldBlock,
+    }
+}
+
 /// A network on which strangers come before a dialer's connection is made: as many as are kept, and some more. It is
-/// made once the oldest of them were closed, and is handed to the dialer once one more was: so the acceptor has it by
-/// then, and doesn't know whose it is.
+/// made once the oldest of them were closed, and is handed to the dialer once one more was, and no other: so the
+/// acceptor has it by then, and doesn't know whose it is.
 #[derive(Drop)]
 struct Crowded<'a, R> {
     rt: &'a R,
@@ -91,7 +104,7 @@ struct Crowded<'a, R> {
 }
 
 impl<'a, R: Wait + Net<Stream = TcpStream, Listener = TcpListener>> Crowded<'a, R> {
-    // The dialer's connection. None where the oldest weren't closed.
+    // The dialer's connection. None where the oldest weren't closed, or more than these.
     fn connected(&self, address: SocketAddr) -> Option<TcpStream> {
         let mut strangers = self.strangers.lock(self.rt);
         for _ in 0..KEPT + TOO_MANY {
@@ -105,7 +118,7 @@ impl<'a, R: Wait + Net<Stream = TcpStream, Listener = TcpListener>> Crowded<'a, 
             }
         }
         let own = TcpStream::connect(self.rt, address).ok()?;
-        if is_closed(strangers.get(TOO_MANY)?) {
+        if is_closed(strangers.get(TOO_MANY)?) && is_open(strangers.get(TOO_MANY + 1)?) {
             Some(own)
         } else {
             None
@@ -219,4 +232,11 @@ impl Visit for BehindAFailure {
 #[test]
 fn closes_a_stranger_behind_an_attempt_that_failed(rt: HostRuntime) {
     assert_eq!(rt; visited::<BehindAFailure, _>(&rt), Some(true));
+}
+
+// A crowd would fill the system's queue of a listener that is looked at seldom.
+#[test]
+fn looks_each_ms_and_where_it_is_calm_each_10_ms(rt: HostRuntime) {
+    let pauses = [pause(false), pause(true)];
+    assert_eq!(rt; pauses, [1, 10]);
 }

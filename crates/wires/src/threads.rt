@@ -7,11 +7,12 @@ use std::thread;
 use std::thread::{JoinHandle, Scope};
 use wires_transports::Ending;
 
-/// What the workers of a federation's nodes leave, the federates' by number.
+/// What the workers of a federation's nodes leave, the federates' by number. Only a run gives it: nobody else can say
+/// what workers left.
 #[derive(Drop)]
 pub struct RunResults {
-    pub coordinator: Vec<WorkerResult>,
-    pub federates: Vec<Vec<WorkerResult>>,
+    pub(crate) coordinator: Vec<WorkerResult>,
+    pub(crate) federates: Vec<Vec<WorkerResult>>,
 }
 
 impl RunResults {
@@ -95,27 +96,46 @@ fn spawn<'s, E, R: Runtime, J: Work + Send + 's>(
     jobs: Vec<J>,
     ending: &Ending,
 ) -> Result<Vec<JoinHandle<WorkerResult>>, RunFault> {
-    let started = spawn_each(rt, alloc, scope, jobs);
+    start_in_order(
+        alloc,
+        jobs,
+        ending,
+        |job: J| scope.spawn(move || job.work(rt, alloc)).ok(),
+    )
+}
+
+/// Starts each job by `start`, in this order; what that gives for each. Where it gives none, no more are started, and
+/// the run is to end.
+pub fn start_in_order<J: Drop, T: Drop, F: FnMut(J) -> Option<T>>(
+    alloc: Global,
+    jobs: Vec<J>,
+    ending: &Ending,
+    start: F,
+) -> Result<Vec<T>, RunFault>
+    requires { F.IsAlwaysCallable start }
+{
+    let started = start_each(alloc, jobs, start);
     if started.is_err() {
         ending.set();
     }
     started
 }
 
-fn spawn_each<'s, E, R: Runtime, J: Work + Send + 's>(
-    rt: &'s R,
+fn start_each<J: Drop, T: Drop, F: FnMut(J) -> Option<T>>(
     alloc: Global,
-    scope: &Scope<'s, E>,
     jobs: Vec<J>,
-) -> Result<Vec<JoinHandle<WorkerResult>>, RunFault> {
-    let mut threads = Vec::with_capacity(alloc, jobs.len())?;
+    mut start: F,
+) -> Result<Vec<T>, RunFault>
+    requires { F.IsAlwaysCallable start }
+{
+    let mut started = Vec::with_capacity(alloc, jobs.len())?;
     for job in jobs {
-        match scope.spawn(move || job.work(rt, alloc)) {
-            Ok(thread) => threads.push(thread)?,
-            Err(_) => return Err(RunFault::NotFinished(Cause::NoThread)),
+        match start(job) {
+            Some(one) => started.push(one)?,
+            None => return Err(RunFault::NotFinished(Cause::NoThread)),
         }
     }
-    Ok(threads)
+    Ok(started)
 }
 
 // Waits for threads to end, and adds what they leave.

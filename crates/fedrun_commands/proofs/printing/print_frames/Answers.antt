@@ -1,25 +1,32 @@
-use Rattle.std.proofs.Common.{refl, rules}
-use Rattle.fedrun_replay.specs.declared.fault.ReplayFault.TheVariants.{World}
 use Rattle.fedrun_frames.specs.Shown.{ShowsSchedule, IsBrokenOff}
-use Rattle.fedrun_commands.specs.Played.{no_memory}
+use Rattle.fedrun_commands.specs.Played.{no_memory, unwritten, IsPlayFault}
+use Rattle.fedrun_commands.specs.declared.play.PlayOutput.TheVariants.{Frames}
 use Rattle.fedrun_commands.proofs.Kept.{shown_kept, some_shown_kept}
-use Rattle.fedrun_files.proofs.Results.{on_ok_always}
+use Rattle.fedrun_commands.proofs.SentOn.{played_and_sent, broken_off_and_sent}
 use Rattle.fedrun_commands.proofs.printing.print_frames.Goals as goal
 
-pub returns-in-Ok-clause-ok : goal.returns-in-Ok-clause-ok
-returns-in-Ok-clause-ok g c =
+pub returns-clause-ok : goal.returns-clause-ok
+returns-clause-ok g c =
+    let s = c.args.scheduled.now in
     let before = g.O.Write.contents c.args.out.now in
-    let mid = g.O.Write.contents c.frames.new.out in
-    let shown : ShowsSchedule c.args.scheduled.now.sources.plan c.args.scheduled.now.sources.programs c.args.scheduled.now.sources.inputs c.args.scheduled.now.script c.args.scheduled.now.until_stuck before mid = search rules in
-    on_ok_always c.flush.result (shown_kept c.args.scheduled.now.sources.plan c.args.scheduled.now.sources.programs c.args.scheduled.now.sources.inputs c.args.scheduled.now.script c.args.scheduled.now.until_stuck before mid
-    (g.O.Write.contents c.flush.new.out) shown c.flush.ensures.kept)
+    let mid = g.O.Write.contents c.frames-played.new.out in
+    let after = g.O.Write.contents c.sent_on.new.out in
+    played_and_sent c.sent_on.result c.frames-played.result
+    (ShowsSchedule s.sources.plan s.sources.programs s.sources.inputs s.script s.until_stuck before mid)
+    (ShowsSchedule s.sources.plan s.sources.programs s.sources.inputs s.script s.until_stuck before after)
+    (λ shown. shown_kept s.sources.plan s.sources.programs s.sources.inputs s.script s.until_stuck before mid after shown c.sent_on.ensures.kept)
+    c.sent_on.ensures.ok c.frames-played.ensures.shown
 
-pub returns-in_ok-flush-in-Err-World-clause-stands : goal.returns-in_ok-flush-in-Err-World-clause-stands
-returns-in_ok-flush-in-Err-World-clause-stands g c =
+pub returns-clause-stands : goal.returns-clause-stands
+returns-clause-stands g c =
+    let s = c.args.scheduled.now in
     let before = g.O.Write.contents c.args.out.now in
-    let mid = g.O.Write.contents c.frames.new.out in
-    let broken : IsBrokenOff c.args.scheduled.now.sources.plan c.args.scheduled.now.sources.programs c.args.scheduled.now.sources.inputs c.args.scheduled.now.script c.args.scheduled.now.until_stuck before mid (World c.in-Err-World.memory) = search rules in
-    no_memory c.in-Err-World.memory refl (
-    some_shown_kept c.args.scheduled.now.sources.plan c.args.scheduled.now.sources.programs c.args.scheduled.now.sources.inputs c.args.scheduled.now.script c.args.scheduled.now.until_stuck before mid
-    (g.O.Write.contents c.flush-in-Err-World.new.out) broken c.flush-in-Err-World.ensures.kept
-    )
+    let mid = g.O.Write.contents c.frames-played.new.out in
+    let after = g.O.Write.contents c.sent_on.new.out in
+    broken_off_and_sent c.sent_on.result c.frames-played.result
+    (IsBrokenOff s.sources.plan s.sources.programs s.sources.inputs s.script s.until_stuck before mid)
+    (IsPlayFault Frames s.sources s.script s.until_stuck before after)
+    (λ fault is. unwritten is)
+    (λ fault memory is broken. no_memory memory is
+    (some_shown_kept s.sources.plan s.sources.programs s.sources.inputs s.script s.until_stuck before mid after broken c.sent_on.ensures.kept))
+    c.sent_on.ensures.fault c.frames-played.ensures.broken_off

@@ -1,7 +1,8 @@
 use Rattle.std.proofs.Common.{◌<◌, ◌≤◌, length, arith}
 use Rattle.world_stations.specs.World.{frames_in}
 use Rattle.world.specs.World.{stations_of}
-use Rattle.fedrun_frames.proofs.Sending.{sent_next}
+use Rattle.fedrun_frames.specs.Accounts.{sent_line}
+use Rattle.fedrun_frames.proofs.Sending.{frame_next}
 use Rattle.fedrun_frames.proofs.writing.write_sent_after.Goals as goal
 
 pub loop-before-preserved : goal.loop-before-preserved
@@ -10,6 +11,6 @@ loop-before-preserved g c =
     let sent = c.sent-sent.ensures in
     let from : c.args.gone ≤ c.loop-before.before = omega arith in
     let there : c.loop-before.before < length frames = omega arith in
-    sent_next c.args.plan.now c.args.dir frames c.args.gone c.loop-before.before c.frame.result (g.W.Write.contents c.args.out.now)
+    frame_next (sent_line c.args.plan.now c.args.dir) frames c.args.gone c.loop-before.before c.frame.result (g.W.Write.contents c.args.out.now)
     (g.W.Write.contents c.loop-before.out) (g.W.Write.contents c.write_sent_line.new.out) from there c.frame.ensures c.loop-before.invariant
     c.in_ok-write_sent_line.ensures

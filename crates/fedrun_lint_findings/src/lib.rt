@@ -1,0 +1,32 @@
+//! All that is wrong in one of the two files of a federation, each with its line, and what is odd in files that are
+//! taken.
+//!
+//! Promise to the layer above: a refusal begins with the fault for which it is made, and it is printed as
+//! `specs/Printed` says, and so is what is odd. Further faults are what the loader answers of small files, in each of
+//! which one part of the refused file stands (`look`, `keys`, `lists`). Begin with `refusing`, then `look`; `tree` says
+//! where the parts stand.
+#![tactic(auto)]
+
+mod draft;
+mod federates;
+mod finding;
+mod form;
+mod inputs;
+mod keys;
+mod lists;
+mod look;
+pub mod oddity;
+mod reactions;
+pub mod refusal;
+pub mod refusing;
+pub mod surveys;
+mod tree;
+mod uses;
+mod walk;
+mod writing;
+
+pub use finding::Finding;
+pub use oddity::{Oddity, OddityLines, Why};
+pub use refusal::{Refusal, RefusalLines};
+pub use refusing::{refusal_of_federation, refusal_of_inputs};
+pub use surveys::odd_of;

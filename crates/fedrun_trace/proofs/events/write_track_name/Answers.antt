@@ -1,0 +1,20 @@
+use Rattle.std.proofs.lemmas.Result.{on_ok_weaker}
+use Rattle.std.proofs.Common.{codes}
+use Rattle.std.specs.Io.KnownBytes.{Appends}
+use Rattle.std.proofs.KnownBytes.{Appends-trans}
+use Rattle.fedrun_trace.specs.Events.{track_name}
+use Rattle.fedrun_trace.proofs.events.write_track_name.Goals as goal
+
+pub returns : goal.returns
+unfolding track_name
+returns g c =
+    let before = g.W.Write.contents c.args.out.now in
+    let one = g.W.Write.contents c.write_event.new.out in
+    let two = g.W.Write.contents c.write_all.new.self in
+    let three = g.W.Write.contents c.write_escaped.new.out in
+    let after = g.W.Write.contents c.write_all-2.new.self in
+    on_ok_weaker c.write_all-2.result
+    (λ (more : Appends three after (codes "\"}}")).
+    Appends-trans before one after _ _ c.in_ok-write_event.ensures
+    (Appends-trans one two after _ _ c.in_ok-write_all.ensures.bytes (Appends-trans two three after _ _ c.in_ok-write_escaped.ensures more)))
+    c.write_all-2.ensures.bytes

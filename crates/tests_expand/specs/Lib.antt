@@ -1,0 +1,2 @@
+-- Bodies that are worked by hand.
+pub mod Worked
