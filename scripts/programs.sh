@@ -109,11 +109,35 @@ copy_tree() {
   done <"$to/crates.txt"
 }
 
-# Puts a program that was made from such a copy where it is to lie, with a note of the copy's contents: what changed
-# here since isn't in it.
+# Puts a program that was made from such a copy where it is to lie, with a note of the contents that the copy had: what
+# changed here since isn't in it.
 put() {
-  local from=$1 to=$2 copy=$3 program=$4
+  local from=$1 to=$2 made_from=$3
   cp "$from" "$to.new"
   mv "$to.new" "$to"
-  note "$to" "$(contents "$copy" "$program")"
+  note "$to" "$made_from"
+}
+
+# The commit that this tree is of, as far as git says.
+commit() {
+  local git=(git --git-dir="$top/.git" --work-tree="$top") commit
+  if commit=$("${git[@]}" describe --always --tags --dirty=', changed since' 2>/dev/null); then
+    echo "fedrun $commit ($("${git[@]}" log -1 --format=%cs))"
+  else
+    echo 'fedrun, of no known commit'
+  fi
+}
+
+# Writes into such a copy what the program made from it says of itself: the commit, and how it was made. The contents
+# of a copy are those that it has before.
+write_version() {
+  local program=$1 copy=$2 how=$3 commit
+  commit=$(commit)
+  cat >"$copy/crates/$program/src/version.rt" <<END
+/// Which commit it was built from.
+pub const COMMIT: &str = "${commit//[\"\\]/}";
+
+/// Whether it is proved, and by which kit.
+pub const PROOF: &str = "$how";
+END
 }

@@ -5,13 +5,20 @@
 //! where that is asked for.
 #![tactic(auto)]
 
+mod version;
+
+use crate::version::{COMMIT, PROOF};
 use fedrun_commands::{NodeFault, command};
 use fedrun_files::{Files, MachineFiles};
+use fedrun_help::{asks_for_hints, print_version, words_hint};
 use fedrun_hosts::{asks_for_node, node_command};
+use fedrun_logs::{LogDisk, MachineLogs};
 use fedrun_progress::{NoProgress, Progress, ProgressLine, asks_for_progress};
 use fedrun_whole::given;
-use fedrun_words::{Fault, refuse};
+use fedrun_words::{Fault, asks_for_version, print_text, refuse};
+use files_keeping::Device;
 use files_saving::{Disk, MachineDisk};
+use std::alloc::Global;
 use std::fs::File;
 use std::io::{ErrorKind, Write};
 use std::net::{Net, TcpListener, TcpStream};
@@ -22,6 +29,9 @@ use std::thread::Threads;
 use std::time::Clock;
 use std::{fs, rt, thread};
 
+/// The exit status where words are no command.
+const USAGE: u8 = 2;
+
 fn main(rt: HostRuntime) -> ExitCode {
     let _input = stand_in(&rt, "/proc/self/fd/0");
     let _output = stand_in(&rt, "/proc/self/fd/1");
@@ -29,11 +39,16 @@ fn main(rt: HostRuntime) -> ExitCode {
     let mut err = rt.stderr();
     let status = match given(&rt, rt.stdout()) {
         Ok((words, mut out)) => {
-            let words = words.as_slice();
+            let (words, hints) = asks_for_hints(words.as_slice());
             let mut files = MachineFiles::new(&rt);
-            if asks_for_node(words) {
+            let status = if asks_for_version(words) {
+                say_version(&mut out, &mut err)
+            } else if asks_for_node(words) {
                 let mut disk = MachineDisk::new(&rt);
-                run_node(&rt, words, &mut files, &mut disk, &mut out, &mut err)
+                let mut logs = MachineLogs::new(&rt);
+                run_node(
+                    &rt, words, &mut files, &mut disk, &mut logs, &mut out, &mut err,
+                )
             } else if asks_for_progress(words) {
                 let line = ProgressLine::new(&rt);
                 let mut shown = rt.stderr();
@@ -45,7 +60,11 @@ fn main(rt: HostRuntime) -> ExitCode {
                 status
             } else {
                 run_command(&rt, words, &mut files, &mut out, &mut err, &NoProgress)
+            };
+            if hints && status == USAGE {
+                hint(rt.alloc(), words, &mut err);
             }
+            status
         }
         Err(why) => {
             let fault: Fault<'_, NodeFault<'_>> = Fault::of_words(why);
@@ -53,6 +72,22 @@ fn main(rt: HostRuntime) -> ExitCode {
         }
     };
     ExitCode::from(status)
+}
+
+// Says why words are no command, and what they may be.
+fn hint<E: Write>(alloc: Global, words: &[String], err: &mut E) {
+    if let Some(hint) = words_hint(alloc, words) {
+        let _is_told = print_text(err, &hint);
+    }
+}
+
+// Says which version of the program this is, and answers the exit status.
+fn say_version<O: Write, E: Write>(out: &mut O, err: &mut E) -> u8 {
+    if print_version(COMMIT, PROOF, out) {
+        return 0;
+    }
+    let fault: Fault<'_, NodeFault<'_>> = Fault::CannotWrite;
+    refuse(&fault, err).status
 }
 
 // `command` over a machine whose connections are TCP's: the prover wants their types named where a machine is handed
@@ -83,10 +118,20 @@ fn run_node<
         + Sync,
     F: Files,
     D: Disk,
+    L: LogDisk<V>,
+    V: Device + Drop + Send,
     O: Write,
     E: Write,
->(rt: &R, words: &[String], files: &mut F, disk: &mut D, out: &mut O, err: &mut E) -> u8 {
-    node_command(rt, words, files, disk, out, err)
+>(
+    rt: &R,
+    words: &[String],
+    files: &mut F,
+    disk: &mut D,
+    logs: &mut L,
+    out: &mut O,
+    err: &mut E,
+) -> u8 {
+    node_command(rt, words, files, disk, logs, out, err)
 }
 
 // A file in place of a standard stream that is closed, which can't be written. Else the next file that is opened would

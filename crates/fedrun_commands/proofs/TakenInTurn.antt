@@ -4,11 +4,11 @@ use Rattle.std.proofs.lemmas.List.{map-append, take_more, take-append-drop}
 use Rattle.std.specs.Borrow.{Bor}
 use Rattle.recorder_reports.specs.declared.report.Report.{Report}
 use Rattle.files_reports.specs.declared.file_digests.FileDigests.{FileDigests}
-use Rattle.files_reports.specs.File.{IsReportOf}
-use Rattle.files_reports.specs.Taken.{by_report}
+use Rattle.fedrun_reports.specs.Files.{IsOfFederate}
 use Rattle.fedrun_words.specs.declared.fault.Fault.{Fault}
 use Rattle.fedrun_files.specs.Answers.{Answer, Answers, given}
 use Rattle.fedrun_files.specs.Contents.{Contents, AreBytesOf}
+use Rattle.fedrun_files.specs.declared.reading.Sources.{Sources}
 use Rattle.fedrun_files.proofs.FaultsInTurn.{unread_after}
 use Rattle.fedrun_files.proofs.InTurn.{answered_in_turn}
 use Rattle.fedrun_commands.specs.declared.fault.NodeFault.{NodeFault}
@@ -21,24 +21,24 @@ around names i d below =
     ∙ append_assoc (take i names) (get_or names i d ∷ []) (drop (i + 1) names)
 
 -- a report that is read from a file's bytes is that of the file
-pub file_taken : (known : Option (List ℕ)) (digests : FileDigests) (bytes read : List ℕ) (before after : List Report) → AreBytesOf known bytes → read ≡ bytes →
-    (report : Report) × IsReportOf digests (by_report report) read × (after ≡ before ++ report ∷ []) →
-    (report : Report) × IsFederateFile digests known report × (after ≡ before ++ report ∷ [])
-file_taken known digests bytes read before after are same (report, spelled, grown) =
-    (report, (bytes, are, subst (λ b. IsReportOf digests (by_report report) b) same spelled), grown)
+pub file_taken : (known : Option (List ℕ)) (digests : FileDigests) (s : Sources) (bytes read : List ℕ) (before after : List Report) → AreBytesOf known bytes → read ≡ bytes →
+    (report : Report) × IsOfFederate digests s report read × (after ≡ before ++ report ∷ []) →
+    (report : Report) × IsFederateFile digests s known report × (after ≡ before ++ report ∷ [])
+file_taken known digests s bytes read before after are same (report, spelled, grown) =
+    (report, (bytes, are, subst (λ b. IsOfFederate digests s report b) same spelled), grown)
 
 -- no file was taken
-pub none_taken : (contents : Contents) (digests : FileDigests) (reports : List Report) → reports ≡ [] → AreFederateFiles contents digests [] reports
-none_taken contents digests reports none = subst (λ r. AreFederateFiles contents digests [] r) (sym none) no_file
+pub none_taken : (contents : Contents) (digests : FileDigests) (s : Sources) (reports : List Report) → reports ≡ [] → AreFederateFiles contents digests s [] reports
+none_taken contents digests s reports none = subst (λ r. AreFederateFiles contents digests s [] r) (sym none) no_file
 
 -- one more was taken
-pub one_taken : (contents here : Contents) (digests : FileDigests) (names next : Names) (name : Bor (List ℕ)) (reports more : List Report) → here ≡ contents →
-    next ≡ names ++ name ∷ [] → AreFederateFiles contents digests names reports →
-    (report : Report) × IsFederateFile digests (here name.now) report × (more ≡ reports ++ report ∷ []) → AreFederateFiles contents digests next more
-one_taken contents here digests names next name reports more same is files (report, file, grown) =
-    subst (λ n. AreFederateFiles contents digests n more) (sym is)
-    (subst (λ r. AreFederateFiles contents digests (names ++ name ∷ []) r) (sym grown)
-    (one_more name report files (subst (λ (known : Contents). IsFederateFile digests (known name.now) report) same file)))
+pub one_taken : (contents here : Contents) (digests : FileDigests) (s : Sources) (names next : Names) (name : Bor (List ℕ)) (reports more : List Report) → here ≡ contents →
+    next ≡ names ++ name ∷ [] → AreFederateFiles contents digests s names reports →
+    (report : Report) × IsFederateFile digests s (here name.now) report × (more ≡ reports ++ report ∷ []) → AreFederateFiles contents digests s next more
+one_taken contents here digests s names next name reports more same is files (report, file, grown) =
+    subst (λ n. AreFederateFiles contents digests s n more) (sym is)
+    (subst (λ r. AreFederateFiles contents digests s (names ++ name ∷ []) r) (sym grown)
+    (one_more name report files (subst (λ (known : Contents). IsFederateFile digests s (known name.now) report) same file)))
 
 -- and one more was given
 pub one_given : (old mid after : Option (List Answer)) (names next : Names) (name : Bor (List ℕ)) → next ≡ names ++ name ∷ [] → Answers old mid (all_given names) →
@@ -55,36 +55,36 @@ module _ {first all : List Answer → Type 0} (come : (answers : List Answer) �
   coordinator_fault_after digests name contents fault (coordinator_refused asked why is stands) = coordinator_refused (come _ asked) why is stands
 
   -- of a federate's
-  pub federate_fault_after : (digests : FileDigests) (count : ℕ) (reports : List Report) (name : Bor (List ℕ)) (contents : Contents) (fault : Fault NodeFault)
-      → IsFederateFileFault digests count reports name contents first fault → IsFederateFileFault digests count reports name contents all fault
-  federate_fault_after digests count reports name contents fault (federate_unread unread) = federate_unread (unread_after come _ _ _ _ unread)
-  federate_fault_after digests count reports name contents fault (federate_refused asked why is stands) = federate_refused (come _ asked) why is stands
+  pub federate_fault_after : (digests : FileDigests) (s : Sources) (reports : List Report) (name : Bor (List ℕ)) (contents : Contents) (fault : Fault NodeFault)
+      → IsFederateFileFault digests s reports name contents first fault → IsFederateFileFault digests s reports name contents all fault
+  federate_fault_after digests s reports name contents fault (federate_unread unread) = federate_unread (unread_after come _ _ _ _ unread)
+  federate_fault_after digests s reports name contents fault (federate_refused asked why is stands) = federate_refused (come _ asked) why is stands
 
 -- of the first of federates' files that isn't taken
-pub first_fault_after : {first all : List Answer → Type 0} (come : (answers : List Answer) → first answers → all answers) (digests : FileDigests) (count : ℕ)
-    (names : Names) (contents : Contents) (fault : Fault NodeFault) → IsFirstFileFault digests count names contents first fault
-    → IsFirstFileFault digests count names contents all fault
-first_fault_after come digests count names contents fault stands = record {
+pub first_fault_after : {first all : List Answer → Type 0} (come : (answers : List Answer) → first answers → all answers) (digests : FileDigests) (s : Sources)
+    (names : Names) (contents : Contents) (fault : Fault NodeFault) → IsFirstFileFault digests s names contents first fault
+    → IsFirstFileFault digests s names contents all fault
+first_fault_after come digests s names contents fault stands = record {
   taken = stands.taken;
   name = stands.name;
   later = stands.later;
   in_order = stands.in_order;
   reports = stands.reports;
   are_taken = stands.are_taken;
-  refused = federate_fault_after (λ last asked. come (all_given stands.taken ++ last) asked) digests count stands.reports stands.name contents fault stands.refused;
+  refused = federate_fault_after (λ last asked. come (all_given stands.taken ++ last) asked) digests s stands.reports stands.name contents fault stands.refused;
 }
 
 -- the first that isn't taken, behind those that are
-pub is_first_fault : (old mid after : Option (List Answer)) (digests : FileDigests) (count : ℕ) (taken : Names) (name : Bor (List ℕ)) (later names : Names)
-    (reports : List Report) (contents : Contents) (fault : Fault NodeFault) → names ≡ taken ++ name ∷ later → AreFederateFiles contents digests taken reports
-    → Answers old mid (all_given taken) → IsFederateFileFault digests count reports name contents (Answers mid after) fault
-    → IsFirstFileFault digests count names contents (Answers old after) fault
-is_first_fault old mid after digests count taken name later names reports contents fault is files asked stands = record {
+pub is_first_fault : (old mid after : Option (List Answer)) (digests : FileDigests) (s : Sources) (taken : Names) (name : Bor (List ℕ)) (later names : Names)
+    (reports : List Report) (contents : Contents) (fault : Fault NodeFault) → names ≡ taken ++ name ∷ later → AreFederateFiles contents digests s taken reports
+    → Answers old mid (all_given taken) → IsFederateFileFault digests s reports name contents (Answers mid after) fault
+    → IsFirstFileFault digests s names contents (Answers old after) fault
+is_first_fault old mid after digests s taken name later names reports contents fault is files asked stands = record {
   taken = taken;
   name = name;
   later = later;
   in_order = is;
   reports = reports;
   are_taken = files;
-  refused = federate_fault_after (λ last come. answered_in_turn old mid after (all_given taken) last asked come) digests count reports name contents fault stands;
+  refused = federate_fault_after (λ last come. answered_in_turn old mid after (all_given taken) last asked come) digests s reports name contents fault stands;
 }

@@ -6,6 +6,7 @@ use Rattle.fedrun_words.specs.declared.request.FramesRequest.{FramesRequest}
 use Rattle.fedrun_words.specs.declared.request.RecordRequest.{RecordRequest}
 use Rattle.fedrun_words.specs.declared.request.ReplayRequest.{ReplayRequest}
 use Rattle.fedrun_words.specs.declared.request.RunRequest.{RunRequest}
+use Rattle.fedrun_words.specs.declared.request.TraceRequest.{TraceRequest}
 use Rattle.fedrun_commands.specs.declared.play.Play.{Play}
 use Rattle.fedrun_commands.specs.declared.play.PlayOutput.TheVariants as of_play
 use Rattle.fedrun_commands.specs.declared.running.Run.{Run}
@@ -28,6 +29,16 @@ as_frames asked = record {
   schedule = asked.schedule;
   until_stuck = asked.until_stuck;
   output = of_play.Frames;
+}
+
+-- a schedule of which a trace is printed
+abbrev pub as_trace : TraceRequest → Play
+as_trace asked = record {
+  federation = asked.federation;
+  inputs = asked.inputs;
+  schedule = asked.schedule;
+  until_stuck = asked.until_stuck;
+  output = of_play.Trace;
 }
 
 -- a schedule that is drawn

@@ -8,9 +8,9 @@ use Rattle.desk.specs.Fault.{memory_text}
 use Rattle.fedrun_draw.specs.Faults as picture
 use Rattle.fedrun_draw.specs.declared.fault.DrawFault.{DrawFault}
 use Rattle.fedrun_draw.specs.declared.fault.DrawFault.TheVariants as undrawn
+use Rattle.fedrun_reports.specs.Faults.{node_file_text}
 use Rattle.fedrun_run.specs.AuditFailures.{printed_failure}
 use Rattle.fedrun_commands.specs.declared.fault.NodeFault.{NodeFault}
-use Rattle.files_reports.specs.Faults.{file_text}
 use Rattle.fedrun_commands.specs.declared.fault.NodeFault.TheVariants.{Schedule, World, Undrawn, NotTaken, ReportFile}
 use Rattle.fedrun_commands.specs.declared.fault.NodeFault.TheVariants.{NotFinished, Unproved, Run}
 
@@ -39,7 +39,7 @@ printed_node_fault (Schedule fault) = script.printed_fault fault
 printed_node_fault (World memory) = out_of_memory_text
 printed_node_fault (Undrawn fault) = picture.printed_fault fault
 printed_node_fault NotTaken = codes "not taken"
-printed_node_fault (ReportFile name fault) = name.now ++ codes ": " ++ file_text fault
+printed_node_fault (ReportFile name fault) = name.now ++ codes ": " ++ node_file_text fault
 printed_node_fault NotFinished = codes "not finished"
 printed_node_fault (Unproved failure) = printed_failure failure
 printed_node_fault (Run memory) = memory_text

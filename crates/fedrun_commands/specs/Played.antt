@@ -12,10 +12,11 @@ use Rattle.fedrun_replay.specs.declared.fault.ReplayFault.{ReplayFault}
 use Rattle.fedrun_replay.specs.declared.fault.ReplayFault.TheVariants as broken
 use Rattle.fedrun_replay.specs.AsCsv.{IsReplayedIn, IsBrokenOffIn}
 use Rattle.fedrun_frames.specs.Shown.{ShowsSchedule, IsBrokenOff}
+use Rattle.fedrun_trace.specs.Traced as of_trace
 use Rattle.fedrun_draw.specs.Drawn.{HasPicture, IsShort, IsFaultOf}
 use Rattle.fedrun_draw.specs.declared.fault.DrawFault.{DrawFault}
 use Rattle.fedrun_commands.specs.declared.play.PlayOutput.{PlayOutput}
-use Rattle.fedrun_commands.specs.declared.play.PlayOutput.TheVariants.{Rows, Frames, Picture}
+use Rattle.fedrun_commands.specs.declared.play.PlayOutput.TheVariants.{Rows, Frames, Trace, Picture}
 use Rattle.fedrun_commands.specs.declared.fault.NodeFault.{NodeFault}
 use Rattle.fedrun_commands.specs.declared.fault.NodeFault.TheVariants.{World, Undrawn}
 
@@ -26,12 +27,14 @@ pub record IsDrawn (d : Draft) (programs : List Behaviour) (inputs : List Input)
   pub short : IsShort d programs inputs s closing
 
 -- what was asked for was printed of a schedule and its closing rounds: which steps were refused, and the rows; each
--- step, with the frames that it sent; or a picture
+-- step, with the frames that it sent, or as trace events; or a picture
 abbrev pub IsPlayedAs : PlayOutput → Draft → List Behaviour → List Input → Script → Option ℕ → Option (List ℕ)
     → Option (List ℕ) → Type 0
 IsPlayedAs (Rows format) d programs inputs s closing before after =
     IsReplayedIn format d programs inputs s closing before after
 IsPlayedAs Frames d programs inputs s closing before after = ShowsSchedule d programs inputs s closing before after
+IsPlayedAs Trace d programs inputs s closing before after =
+    of_trace.TracesSchedule d programs inputs s closing before after
 IsPlayedAs Picture d programs inputs s closing before after = IsDrawn d programs inputs s closing before after
 
 -- what stands where there was no memory for a step: what was printed of the steps before it
@@ -41,6 +44,8 @@ IsBrokenOffAs (Rows format) d programs inputs s closing before after fault =
     IsBrokenOffIn format d programs inputs s closing before after fault
 IsBrokenOffAs Frames d programs inputs s closing before after fault =
     IsBrokenOff d programs inputs s closing before after fault
+IsBrokenOffAs Trace d programs inputs s closing before after fault =
+    of_trace.IsBrokenOff d programs inputs s closing before after fault
 IsBrokenOffAs Picture d programs inputs s closing before after fault = ⊥
 
 -- why a schedule that came to this isn't played to its end or isn't printed: it can't be written, or there was no
@@ -53,6 +58,7 @@ IsBreakingOff played fault =
 abbrev pub IsUndrawnAs : PlayOutput → Draft → List Behaviour → List Input → Script → Option ℕ → DrawFault → Type 0
 IsUndrawnAs (Rows format) d programs inputs s closing fault = ⊥
 IsUndrawnAs Frames d programs inputs s closing fault = ⊥
+IsUndrawnAs Trace d programs inputs s closing fault = ⊥
 IsUndrawnAs Picture d programs inputs s closing fault = IsFaultOf d programs inputs s closing fault
 
 -- why a schedule isn't played to its end or isn't printed, once all was loaded: there was no memory for a step; a

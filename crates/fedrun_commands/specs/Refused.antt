@@ -24,7 +24,11 @@ use Rattle.fedrun_whole.specs.Refused.{IsWholeFault, IsCheckFault}
 use Rattle.fedrun_words.specs.declared.request.Request.{Request}
 use Rattle.fedrun_words.specs.declared.request.Request.TheVariants.{Whole, Check, Replay, Run as RunOf, Record}
 use Rattle.fedrun_words.specs.declared.request.Request.TheVariants.{Frames, DrawFederation, DrawSchedule, Audit, Lint}
-use Rattle.fedrun_commands.specs.Asked.{as_replay, as_frames, as_picture, as_rows, as_steps}
+use Rattle.fedrun_words.specs.declared.request.Request.TheVariants.{Trace, About}
+use Rattle.fedrun_words.specs.declared.request.AboutRequest.{AboutRequest}
+use Rattle.fedrun_words.specs.Pieces.{AppendsPrefix}
+use Rattle.fedrun_help.specs.About.{about_text}
+use Rattle.fedrun_commands.specs.Asked.{as_replay, as_frames, as_trace, as_picture, as_rows, as_steps}
 use Rattle.fedrun_commands.specs.ReportFiles.{IsFaultOfReports}
 use Rattle.fedrun_commands.specs.declared.play.Play.{Play}
 use Rattle.fedrun_commands.specs.Linted.{IsLintFault}
@@ -99,6 +103,11 @@ IsDrawFault contents answered before after federation fault =
     IsFederationFault federation contents answered fault
     ⊎ (answered (given federation.now ∷ []) × IsLateDrawFault (contents federation.now) before after fault)
 
+-- why what the program says of its own commands isn't printed: it can't be written
+pub record IsAboutFault (asked : AboutRequest) (before after : Option (List ℕ)) (fault : Fault NodeFault) : Type 0 where
+  pub is : fault ≡ CannotWrite
+  pub begun : AppendsPrefix before after (about_text asked)
+
 -- why this request isn't done, and what was answered about files till then
 abbrev pub IsFaultOf : Contents → (List Answer → Type 0) → Option (List ℕ) → Option (List ℕ) → Request
     → Fault NodeFault → Type 0
@@ -108,6 +117,8 @@ IsFaultOf contents answered before after (Replay asked) fault =
     IsFaultOfPlay (as_replay asked) contents answered before after fault
 IsFaultOf contents answered before after (Frames asked) fault =
     IsFaultOfPlay (as_frames asked) contents answered before after fault
+IsFaultOf contents answered before after (Trace asked) fault =
+    IsFaultOfPlay (as_trace asked) contents answered before after fault
 IsFaultOf contents answered before after (DrawSchedule asked) fault =
     IsFaultOfPlay (as_picture asked) contents answered before after fault
 IsFaultOf contents answered before after (DrawFederation asked) fault =
@@ -120,6 +131,8 @@ IsFaultOf contents answered before after (Audit asked) fault =
     IsFaultOfReports contents answered before after asked fault
 IsFaultOf contents answered before after (Lint asked) fault =
     IsLintFault contents answered before after asked.federation asked.inputs fault
+IsFaultOf contents answered before after (About asked) fault =
+    answered [] × IsAboutFault asked before after fault
 
 -- the fault is one of words, and no file was asked for, or it stands against some request
 abbrev pub Stands : Contents → (List Answer → Type 0) → Option (List ℕ) → Option (List ℕ) → Fault NodeFault → Type 0

@@ -1,5 +1,5 @@
--- What is printed of report files that an audit proves, and why nothing is. What a file holds is said where its bytes
--- are known.
+-- What is printed of nodes' files that an audit proves, reports or logs, and why nothing is. What a file holds is said
+-- where its bytes are known.
 use Rattle.std.specs.Prelude.{◌≡◌, ℕ, ◌⊎◌, List, [], ◌∷◌, ◌++◌, map, Option, IfSome}
 use Rattle.std.specs.Borrow.{Bor}
 use Rattle.node.specs.declared.event.Event.{Event}
@@ -8,10 +8,8 @@ use Rattle.recorder_reports.specs.declared.report.Report.{Report}
 use Rattle.desk.specs.declared.memory.Memory as run
 use Rattle.files_reports.specs.declared.file_digests.FileDigests.{FileDigests}
 use Rattle.files_reports.specs.declared.layout.TheConstants.{LONGEST_REPORT}
-use Rattle.files_reports.specs.declared.report_file_fault.ReportFileFault.{ReportFileFault}
-use Rattle.files_reports.specs.Said.{by_coordinator}
-use Rattle.files_reports.specs.File.{IsReportOf}
-use Rattle.files_reports.specs.Taken.{by_report, IsCoordinatorFault, IsFederateFault}
+use Rattle.fedrun_reports.specs.declared.node_file_fault.NodeFileFault.{NodeFileFault}
+use Rattle.fedrun_reports.specs.Files.{IsOfCoordinator, IsOfFederate, IsCoordinatorFault, IsFederateFault}
 use Rattle.fedrun_run.specs.declared.audit_failure.AuditFailure.{AuditFailure}
 use Rattle.fedrun_run.specs.declared.output.RunOutput.TheVariants.{Rows}
 use Rattle.fedrun_run.specs.Printed.{IsAuditFailureOf, IsUnfinished, PrintsReports}
@@ -31,23 +29,23 @@ use Rattle.fedrun_commands.specs.declared.fault.NodeFault.TheVariants.{ReportFil
 abbrev pub Names : Type 0
 Names = List (Bor (List ℕ))
 
--- the file is the coordinator's report of a run of these files, with this journal
+-- the file is the coordinator's of a run of these files, with this journal
 abbrev pub IsCoordinatorFile : FileDigests → Option (List ℕ) → List Event → Type 0
 IsCoordinatorFile digests known journal =
-    (bytes : List ℕ) × AreBytesOf known bytes × IsReportOf digests (by_coordinator journal) bytes
+    (bytes : List ℕ) × AreBytesOf known bytes × IsOfCoordinator digests journal bytes
 
--- the file is this report of a federate
-abbrev pub IsFederateFile : FileDigests → Option (List ℕ) → Report → Type 0
-IsFederateFile digests known report =
-    (bytes : List ℕ) × AreBytesOf known bytes × IsReportOf digests (by_report report) bytes
+-- the file is this report of a federate, or the log that reports so
+abbrev pub IsFederateFile : FileDigests → Sources → Option (List ℕ) → Report → Type 0
+IsFederateFile digests s known report =
+    (bytes : List ℕ) × AreBytesOf known bytes × IsOfFederate digests s report bytes
 
 -- the files of these names are these reports, in this order
-pub data AreFederateFiles (contents : Contents) (digests : FileDigests) : Names → List Report → Type 0 where
-  no_file : AreFederateFiles contents digests [] []
+pub data AreFederateFiles (contents : Contents) (digests : FileDigests) (s : Sources) : Names → List Report → Type 0 where
+  no_file : AreFederateFiles contents digests s [] []
   one_more : {names : Names} {reports : List Report} (name : Bor (List ℕ)) (report : Report)
-      → AreFederateFiles contents digests names reports
-      → IsFederateFile digests (contents name.now) report
-      → AreFederateFiles contents digests (names ++ name ∷ []) (reports ++ report ∷ [])
+      → AreFederateFiles contents digests s names reports
+      → IsFederateFile digests s (contents name.now) report
+      → AreFederateFiles contents digests s (names ++ name ∷ []) (reports ++ report ∷ [])
 
 -- the answers about files of these names, each given
 abbrev pub all_given : Names → List Answer
@@ -61,7 +59,7 @@ pub record AreReported (contents : Contents) (asked : AuditRequest) (s : Sources
   pub digests_are : AreDigestsOf (contents asked.federation.now) (input_file contents asked.inputs.now)
       digests.federation digests.inputs
   pub coordinator_is : IsCoordinatorFile digests (contents asked.coordinator.now) journal
-  pub federates_are : AreFederateFiles contents digests asked.federates.items reports
+  pub federates_are : AreFederateFiles contents digests s asked.federates.items reports
 
 -- the rows of reports that are proved were printed: of each federate its whole part of the undivided program's rows,
 -- and no other
@@ -79,30 +77,30 @@ pub data IsCoordinatorFileFault (digests : FileDigests) (name : Bor (List ℕ)) 
     (answered : List Answer → Type 0) (fault : Fault NodeFault) : Type 0 where
   coordinator_unread : IsUnread LONGEST_REPORT name (contents name.now) answered fault
       → IsCoordinatorFileFault digests name contents answered fault
-  coordinator_refused : answered (given name.now ∷ []) → (why : ReportFileFault) → fault ≡ More (ReportFile name why)
+  coordinator_refused : answered (given name.now ∷ []) → (why : NodeFileFault) → fault ≡ More (ReportFile name why)
       → IfSome (contents name.now) (λ bytes. IsCoordinatorFault digests bytes why)
       → IsCoordinatorFileFault digests name contents answered fault
 
 -- why a federate's file isn't taken, beside the reports before it
-pub data IsFederateFileFault (digests : FileDigests) (count : ℕ) (reports : List Report) (name : Bor (List ℕ))
+pub data IsFederateFileFault (digests : FileDigests) (s : Sources) (reports : List Report) (name : Bor (List ℕ))
     (contents : Contents) (answered : List Answer → Type 0) (fault : Fault NodeFault) : Type 0 where
   federate_unread : IsUnread LONGEST_REPORT name (contents name.now) answered fault
-      → IsFederateFileFault digests count reports name contents answered fault
-  federate_refused : answered (given name.now ∷ []) → (why : ReportFileFault) → fault ≡ More (ReportFile name why)
+      → IsFederateFileFault digests s reports name contents answered fault
+  federate_refused : answered (given name.now ∷ []) → (why : NodeFileFault) → fault ≡ More (ReportFile name why)
       → IfSome (contents name.now) (λ bytes.
-      IsFederateFault (record { count = count; reports = reports }) digests bytes why)
-      → IsFederateFileFault digests count reports name contents answered fault
+      IsFederateFault (record { count = federate_count s.plan; reports = reports }) digests s bytes why)
+      → IsFederateFileFault digests s reports name contents answered fault
 
 -- why the first of these files that isn't taken isn't: all before it are
-pub record IsFirstFileFault (digests : FileDigests) (count : ℕ) (names : Names) (contents : Contents)
+pub record IsFirstFileFault (digests : FileDigests) (s : Sources) (names : Names) (contents : Contents)
     (answered : List Answer → Type 0) (fault : Fault NodeFault) : Type 0 where
   pub taken : Names
   pub name : Bor (List ℕ)
   pub later : Names
   pub in_order : names ≡ taken ++ name ∷ later
   pub reports : List Report
-  pub are_taken : AreFederateFiles contents digests taken reports
-  pub refused : IsFederateFileFault digests count reports name contents
+  pub are_taken : AreFederateFiles contents digests s taken reports
+  pub refused : IsFederateFileFault digests s reports name contents
       (λ last. answered (all_given taken ++ last)) fault
 
 -- why reports that are all taken aren't printed: they can't be written; or an audit doesn't believe them, the
@@ -134,7 +132,7 @@ pub data IsFaultOfReports (contents : Contents) (answered : List Answer → Type
       → (digests : FileDigests)
       → AreDigestsOf (contents asked.federation.now) (input_file contents asked.inputs.now) digests.federation
       digests.inputs
-      → IsFirstFileFault digests (federate_count s.plan) asked.federates.items contents
+      → IsFirstFileFault digests s asked.federates.items contents
       (λ later. answered (asked_sources asked.federation.now asked.inputs.now
       ++ (given asked.coordinator.now ∷ [] ++ later))) fault
       → IsFaultOfReports contents answered before after asked fault

@@ -1,7 +1,8 @@
-//! Auditing report files: those of a run's nodes, whoever brings them.
+//! Auditing report files and logs: those of a run's nodes, whoever brings them.
 ghost use Rattle.std.specs.Prelude.{◌≡◌, ◌≢◌, ◌++◌, ◌∷◌, [], IfErr, IfOk, OnOk};
 ghost use Rattle.node.specs.declared.event.Event.{Event as IsEvent};
 ghost use Rattle.plan.specs.External.{AreInputsOf};
+ghost use Rattle.plan.specs.Federation.{federate_count};
 ghost use Rattle.reactor_programs.specs.Programs.{AreProgramsOf};
 ghost use Rattle.recorder_reports.specs.declared.report.Report.{Report as IsReport};
 ghost use Rattle.fedrun_run.specs.declared.output.RunOutput.TheVariants.{Rows};
@@ -17,10 +18,11 @@ ghost use Rattle.fedrun_commands.specs.ReportFiles.{IsFirstFileFault, IsUnprinte
 use crate::fault::NodeFault;
 use crate::printing::flush;
 use fedrun_files::{Files, Sources, bytes_of, read_sources_and_bytes};
+use fedrun_reports::{read_coordinator, take_federate};
 use fedrun_run::{AuditedFault, RunOutput, print_audited};
 use fedrun_words::{AuditRequest, Fault, Request};
+use files_reports::FileDigests;
 use files_reports::layout::LONGEST_REPORT;
-use files_reports::{FileDigests, read_coordinator, take_report};
 use files_text::RowFormat;
 use node_journal::Journal;
 use recorder::IncrementalAudit;
@@ -28,8 +30,8 @@ use recorder_reports::{Collector, Report};
 use std::alloc::Global;
 use std::io::Write;
 
-/// Prints the rows that report files prove: the coordinator's, and each federate's, in any order. Files are read in the
-/// order in which they are named, each before the next.
+/// Prints the rows that nodes' files prove, reports or logs: the coordinator's, and each federate's, in any order. Files
+/// are read in the order in which they are named, each before the next.
 #[tactic(auto, using(fedrun_files::proofs::InTurn::answered_in_turn))]
 pub(crate) fn audit<'a, F: Files, O: Write>(
     alloc: Global,
@@ -61,7 +63,7 @@ pub(crate) fn audit<'a, F: Files, O: Write>(
     };
     let mut collector = Collector::new(alloc, &sources.plan);
     let federates = request.federates.as_slice();
-    match take_files(alloc, &digests, federates, &mut collector, files) {
+    match take_files(alloc, &digests, &sources, federates, &mut collector, files) {
         Ok(()) => print_reports(
             alloc,
             &sources,
@@ -74,7 +76,7 @@ pub(crate) fn audit<'a, F: Files, O: Write>(
     }
 }
 
-// The coordinator's journal, from its report of a run of these files.
+// The coordinator's journal, from its file of a run of these files.
 fn read_coordinator_file<'a, F: Files>(
     alloc: Global,
     digests: &FileDigests,
@@ -98,24 +100,29 @@ fn read_coordinator_file<'a, F: Files>(
     }
 }
 
-// Takes the federates' reports, file by file.
+// Takes what the federates' files report, file by file.
 #[tactic(auto, using(fedrun_files::proofs::InTurn::answered_in_turn))]
 fn take_files<'a, F: Files>(
     alloc: Global,
     digests: &FileDigests,
+    sources: &Sources,
     names: &[&'a str],
     collector: &mut Collector<'_>,
     files: &mut F,
 ) -> Result<(), Fault<'a, NodeFault<'a>>>
+    requires programs { AreProgramsOf sources.now.plan sources.now.programs }
+    requires inputs { AreInputsOf sources.now.plan sources.now.inputs }
     requires none { collector.old.reports ≡ [] }
-    ensures ok { OnOk result (AreFederateFiles (F.contents files.old) digests.now names.now collector.new.reports) }
+    requires of_plan { collector.old.count ≡ federate_count sources.now.plan }
+    ensures ok { OnOk result
+        (AreFederateFiles (F.contents files.old) digests.now sources.now names.now collector.new.reports) }
     ensures asked { OnOk result (Answers (F.answers files.old) (F.answers files.new) (all_given names.now)) }
-    ensures err { IfErr result (IsFirstFileFault digests.now collector.old.count names.now (F.contents files.old)
+    ensures err { IfErr result (IsFirstFileFault digests.now sources.now names.now (F.contents files.old)
         (Answers (F.answers files.old) (F.answers files.new))) }
     ensures early { IfErr result (λ fault. status_of fault ≡ 1) }
 {
     for name in names {
-        match take_file(alloc, digests, *name, collector, files) {
+        match take_file(alloc, digests, sources, *name, collector, files) {
             Ok(()) => {}
             Err(fault) => return Err(fault),
         }
@@ -123,20 +130,24 @@ fn take_files<'a, F: Files>(
     Ok(())
 }
 
-// Takes a federate's report.
+// Takes what a federate's file reports.
 fn take_file<'a, F: Files>(
     alloc: Global,
     digests: &FileDigests,
+    sources: &Sources,
     name: &'a str,
     collector: &mut Collector<'_>,
     files: &mut F,
 ) -> Result<(), Fault<'a, NodeFault<'a>>>
+    requires programs { AreProgramsOf sources.now.plan sources.now.programs }
+    requires inputs { AreInputsOf sources.now.plan sources.now.inputs }
+    requires of_plan { collector.old.count ≡ federate_count sources.now.plan }
     ensures count { collector.new.count ≡ collector.old.count }
     ensures ok { OnOk result ((report : IsReport)
-        × IsFederateFile digests.now (F.contents files.old name.entry.now) report
+        × IsFederateFile digests.now sources.now (F.contents files.old name.entry.now) report
         × (collector.new.reports ≡ collector.old.reports ++ report ∷ [])) }
     ensures asked { OnOk result (Answers (F.answers files.old) (F.answers files.new) (given name.entry.now ∷ [])) }
-    ensures err { IfErr result (IsFederateFileFault digests.now collector.old.count collector.old.reports name.entry
+    ensures err { IfErr result (IsFederateFileFault digests.now sources.now collector.old.reports name.entry
         (F.contents files.old) (Answers (F.answers files.old) (F.answers files.new))) }
     ensures early { IfErr result (λ fault. status_of fault ≡ 1) }
     ensures same { F.contents files.new ≡ F.contents files.old }
@@ -145,7 +156,7 @@ fn take_file<'a, F: Files>(
         Ok(bytes) => bytes,
         Err(fault) => return Err(fault),
     };
-    match take_report(alloc, collector, digests, bytes.as_slice()) {
+    match take_federate(alloc, sources, collector, digests, bytes.as_slice()) {
         Ok(()) => Ok(()),
         Err(why) => Err(Fault::More(NodeFault::ReportFile(name, why))),
     }

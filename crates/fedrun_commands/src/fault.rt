@@ -2,9 +2,9 @@ ghost use Rattle.std.specs.Prelude.{◌≡◌};
 ghost use Rattle.fedrun_commands.specs.Faults.{drawing_status};
 
 use fedrun_draw::DrawFault;
+use fedrun_reports::NodeFileFault;
 use fedrun_run::AuditFailure;
 use fedrun_words::MoreFault;
-use files_reports::ReportFileFault;
 use files_script::ScriptFault;
 use std::fmt;
 
@@ -21,8 +21,8 @@ pub enum NodeFault<'a> {
     Undrawn(DrawFault),
     /// Something is wrong in the files that were looked at. What it is was printed.
     NotTaken,
-    /// The report file of this name isn't taken, and the inner fault says why. Nothing was printed.
-    ReportFile(&'a str, ReportFileFault),
+    /// The report or log of this name isn't taken, and the inner fault says why. Nothing was printed.
+    ReportFile(&'a str, NodeFileFault),
     /// The coordinator of a run isn't finished: a federate's turns were made before, or there was no listener, or a
     /// thread couldn't be started. Nothing was printed. The same command may be given again, with more turns.
     NotFinished,

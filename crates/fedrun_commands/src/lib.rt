@@ -6,6 +6,7 @@
 //! those of `fedrun_whole`.
 #![tactic(auto)]
 
+mod about;
 pub mod answering;
 mod auditing;
 mod drawing;

@@ -21,6 +21,8 @@ pub enum PlayOutput {
     Rows(RowFormat),
     /// Each step, with the frames that it sent.
     Frames,
+    /// The same as trace events.
+    Trace,
     /// A picture.
     Picture,
 }

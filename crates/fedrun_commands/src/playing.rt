@@ -11,7 +11,9 @@ use crate::printing::print_played;
 use crate::schedules::read_schedule;
 use fedrun_files::{Files, read_sources};
 use fedrun_progress::Progress;
-use fedrun_words::{DrawScheduleRequest, Fault, FramesRequest, ReplayRequest, Request};
+use fedrun_words::{
+    DrawScheduleRequest, Fault, FramesRequest, ReplayRequest, Request, TraceRequest,
+};
 use std::alloc::Global;
 use std::io::Write;
 
@@ -61,6 +63,31 @@ pub(crate) fn show_frames<'a, F: Files, O: Write, P: Progress>(
         schedule: request.schedule,
         until_stuck: request.until_stuck,
         output: PlayOutput::Frames,
+    };
+    play_and_print(alloc, &play, files, out, progress)
+}
+
+/// Prints the steps of a schedule as trace events.
+pub(crate) fn show_trace<'a, F: Files, O: Write, P: Progress>(
+    alloc: Global,
+    request: &TraceRequest<'a>,
+    files: &mut F,
+    out: &mut O,
+    progress: &P,
+) -> Result<(), Fault<'a, NodeFault<'a>>>
+    ensures ok { OnOk result (PrintsFor (F.contents files.old) (Request.Trace request.now) (O.contents out.old)
+        (O.contents out.new)) }
+    ensures stands { IfErr result (IsFaultOf (F.contents files.old)
+        (Answers (F.answers files.old) (F.answers files.new)) (O.contents out.old) (O.contents out.new)
+        (Request.Trace request.now)) }
+    ensures untouched { IfErr result (λ fault. status_of fault ≢ 3 → out.new ≡ out.old) }
+{
+    let play = Play {
+        federation: request.federation,
+        inputs: request.inputs,
+        schedule: request.schedule,
+        until_stuck: request.until_stuck,
+        output: PlayOutput::Trace,
     };
     play_and_print(alloc, &play, files, out, progress)
 }

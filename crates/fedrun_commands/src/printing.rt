@@ -8,6 +8,7 @@ ghost use Rattle.fedrun_run.specs.Printed.{PrintsAudited};
 ghost use Rattle.fedrun_words.specs.declared.fault.Fault.TheVariants.{CannotWrite as cannot_write};
 ghost use Rattle.fedrun_commands.specs.Faults.{status_of};
 ghost use Rattle.fedrun_frames.specs.Shown.{ShowsSchedule};
+ghost use Rattle.fedrun_trace.specs.Traced.{TracesSchedule};
 ghost use Rattle.fedrun_draw.specs.Drawn.{HasPicture};
 ghost use Rattle.fedrun_commands.specs.Played.{IsDrawn, IsPlayedAs, IsPlayFault, IsBreakingOff};
 ghost use Rattle.fedrun_commands.specs.Refused.{IsPictureFault, IsRunFault};
@@ -21,6 +22,7 @@ use fedrun_frames::frames;
 use fedrun_progress::Progress;
 use fedrun_replay::{ReplayFault, replay_in};
 use fedrun_run::{AuditedFault, print_audited_run};
+use fedrun_trace::trace;
 use fedrun_words::Fault;
 use files_text::RowFormat;
 use plan::Plan;
@@ -50,6 +52,7 @@ pub(crate) fn print_played<O: Write, P: Progress>(
     match output {
         PlayOutput::Rows(format) => print_replay(alloc, scheduled, format, out, progress),
         PlayOutput::Frames => print_frames(alloc, scheduled, out),
+        PlayOutput::Trace => print_trace(alloc, scheduled, out),
         PlayOutput::Picture => print_schedule_picture(alloc, scheduled, out),
     }
 }
@@ -106,6 +109,36 @@ fn print_frames<O: Write>(
 {
     let sources = &scheduled.sources;
     let played = frames(
+        alloc,
+        out,
+        &sources.plan,
+        &sources.programs,
+        &sources.inputs,
+        &scheduled.script,
+        scheduled.until_stuck,
+    );
+    sent_on(out, played)
+}
+
+// Plays a schedule and prints what `trace` does. Where there is no memory for a step, a prefix of what is written of
+// those before it stands.
+fn print_trace<O: Write>(
+    alloc: Global,
+    scheduled: &Scheduled,
+    out: &mut O,
+) -> Result<(), Fault<'static, NodeFault<'static>>>
+    requires programs { AreProgramsOf scheduled.now.sources.plan scheduled.now.sources.programs }
+    requires inputs { AreInputsOf scheduled.now.sources.plan scheduled.now.sources.inputs }
+    ensures ok { OnOk result (TracesSchedule scheduled.now.sources.plan scheduled.now.sources.programs
+        scheduled.now.sources.inputs scheduled.now.script
+        scheduled.now.until_stuck (O.contents out.old) (O.contents out.new)) }
+    ensures stands { IfErr result (IsPlayFault PlayOutput.Trace scheduled.now.sources scheduled.now.script
+        scheduled.now.until_stuck (O.contents out.old)
+        (O.contents out.new)) }
+    ensures late { IfErr result (λ fault. status_of fault ≡ 3) }
+{
+    let sources = &scheduled.sources;
+    let played = trace(
         alloc,
         out,
         &sources.plan,

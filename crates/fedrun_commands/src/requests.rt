@@ -6,11 +6,12 @@ ghost use Rattle.fedrun_commands.specs.Linted.{TellsWrong, HasToldWrong};
 ghost use Rattle.fedrun_commands.specs.Printed.{PrintsFor, PrintsAnswer};
 ghost use Rattle.fedrun_commands.specs.Refused.{IsFaultOf, Stands};
 
+use crate::about::about;
 use crate::auditing::audit;
 use crate::drawing::draw_federation;
 use crate::fault::NodeFault;
 use crate::linting::lint;
-use crate::playing::{draw_schedule, replay, show_frames};
+use crate::playing::{draw_schedule, replay, show_frames, show_trace};
 use crate::running::{record_run, run_federation};
 use fedrun_files::Files;
 use fedrun_progress::Progress;
@@ -69,9 +70,11 @@ fn fulfil<'a, R: NetRuntime, F: Files, O: Write, P: Progress + Sync>(
         Request::Run(request) => run_federation(rt, alloc, request, files, out, progress),
         Request::Record(request) => record_run(rt, alloc, request, files, out, progress),
         Request::Frames(request) => show_frames(alloc, request, files, out, progress),
+        Request::Trace(request) => show_trace(alloc, request, files, out, progress),
         Request::DrawFederation(request) => draw_federation(alloc, request, files, out),
         Request::DrawSchedule(request) => draw_schedule(alloc, request, files, out, progress),
         Request::Audit(request) => audit(alloc, request, files, out),
         Request::Lint(request) => lint(alloc, request, files, out),
+        Request::About(request) => about(*request, out),
     }
 }

@@ -3,3 +3,5 @@
 pub mod Saved
 -- federates' nodes
 pub mod Joined
+-- logs that get the report's name
+pub mod Named

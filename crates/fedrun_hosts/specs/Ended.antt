@@ -1,23 +1,28 @@
 -- What a node on a machine of its own leaves. What a file holds is said where its bytes are known.
-use Rattle.std.specs.Prelude.{◌≡◌, ◌⊎◌, ℕ, true, false, List, Option, Some}
-use Rattle.plan.specs.declared.draft.Draft.{Draft}
+use Rattle.std.specs.Prelude.{◌≡◌, ◌⊎◌, ℕ, true, List, Option, None, Some, IsSome}
 use Rattle.plan.specs.Federation.{federate_number}
 use Rattle.node.specs.declared.event.Event.{Event}
 use Rattle.network.specs.Undivided.{Row}
-use Rattle.node_cores.specs.CoordinatorCore.{CoordinatorNode, coordinator_core}
-use Rattle.node_cores.specs.FederateCore.{FederateNode, federate_core}
-use Rattle.world_stations.specs.Initial.{new_coordinator, new_federate}
-use Rattle.desk.specs.Replay.{after_all}
+use Rattle.node_cores.specs.CoordinatorCore.{coordinator_core}
 use Rattle.fedrun_files.specs.Contents.{Contents}
 use Rattle.fedrun_files.specs.declared.reading.Sources.{Sources}
 use Rattle.fedrun_files.specs.Digests.{AreDigestsOf}
 use Rattle.fedrun_files.specs.Loaded.{input_file, AreSources}
-use Rattle.files_saving.specs.Contents.{Contents as Saved, KnownOf}
-use Rattle.files_saving.specs.Saved.{IsCreated}
+use Rattle.files_saving.specs.Contents.{Contents as Saved, KnownOf, SameBut}
+use Rattle.files_saving.specs.Saved.{IsCreated, IsRenamed, temporary_name}
+use Rattle.files_keeping.specs.declared.machine.KeptBy.{KeptBy}
 use Rattle.files_reports.specs.declared.file_digests.FileDigests.{FileDigests}
 use Rattle.files_reports.specs.Said.{Said, by_coordinator, by_federate}
 use Rattle.files_reports.specs.File.{IsReportOf}
+use Rattle.files_reports.specs.declared.layout.TheConstants.{COORDINATOR}
+use Rattle.files_logs.specs.declared.log.Log.{Log}
+use Rattle.files_logs.specs.declared.log_head.LogHead.{LogHead}
+use Rattle.files_logs.specs.Reading.{IsLogRead}
+use Rattle.fedrun_reports.specs.declared.rules.TheConstants.{RULES}
+use Rattle.fedrun_reports.specs.After.{coordinator_after, federate_after}
 use Rattle.fedrun_hosts.specs.declared.request.NodeRequest.{NodeRequest}
+use Rattle.fedrun_hosts.specs.declared.logged.Begun.{Begun}
+use Rattle.fedrun_hosts.specs.declared.logged.Begun.TheVariants.{Finished, GoesOn}
 
 -- the node's two files are a federation and recorded inputs of it; and there is one file more, of the report's name: it
 -- is the report of a run of just these files in which this is said; no other file changed, and so no temporary one is
@@ -33,24 +38,59 @@ pub record SavesReport (contents : Contents) (n : NodeRequest) (said : Said)
   pub spelled : IsReportOf digests said bytes
   pub saved : KnownOf before after (IsCreated n.report.now bytes)
 
--- the coordinator of a plan, after this journal
-abbrev pub coordinator_after : Draft → List Event → CoordinatorNode
-coordinator_after plan journal = (after_all coordinator_core true (new_coordinator plan) journal).node
+-- a log with this head has its end, and in it stands that the run is finished
+pub record IsEndedLog (head : LogHead) (log : Log) : Type 0 where
+  pub bytes : List ℕ
+  pub is_read : IsLogRead head.files (Some head.who) head.rules bytes log
+  pub told : log.is_told ≡ true
+  pub ended : log.is_ended ≡ true
 
--- the federate of this number, after this journal
-abbrev pub federate_after : Sources → ℕ → List Event → FederateNode
-federate_after sources j journal =
-    (after_all federate_core false (new_federate sources.plan sources.programs sources.inputs j) journal).node
+-- the head of a node's log, of a run of these files by this program
+abbrev pub head_of : FileDigests → ℕ → LogHead
+head_of digests who = record { files = digests; who = who; rules = RULES }
+
+-- a log that stood beside this name has it, or a file had it before; no other file changed
+pub data HasName (name : List ℕ) (before now : Saved) : Type 0 where
+  gets_it : IsRenamed (temporary_name name) name before now → HasName name before now
+  had_it : IsSome (before name) → SameBut (temporary_name name) before now → HasName name before now
+
+-- the node's two files are a federation and recorded inputs of it, and its log of a run of just these files has its
+-- end, and the report's name
+pub record KeepsLog (contents : Contents) (n : NodeRequest) (who : ℕ) (log : Log)
+    (before after : Option Saved) : Type 0 where
+  pub sources : Sources
+  pub sources_are : AreSources (contents n.federation.now) (input_file contents n.inputs.now) sources
+  pub digests : FileDigests
+  pub digests_are : AreDigestsOf (contents n.federation.now) (input_file contents n.inputs.now) digests.federation
+      digests.inputs
+  pub is_ended : IsEndedLog (head_of digests who) log
+  pub named : KnownOf before after (HasName n.report.now)
+
+-- the one of a node that keeps no log, the other of one that does
+abbrev pub ByLog : Option KeptBy → Type 0 → Type 0 → Type 0
+ByLog None Reports Logs = Reports
+ByLog (Some kept_by) Reports Logs = Logs
 
 -- the coordinator of the node's own federation is finished after this journal, which is saved as its report
-pub record HasCoordinated (contents : Contents) (n : NodeRequest) (before after : Option Saved) : Type 0 where
+pub record SavesCoordinator (contents : Contents) (n : NodeRequest) (before after : Option Saved) : Type 0 where
   pub journal : List Event
   pub saves : SavesReport contents n (by_coordinator journal) before after
   pub finished : coordinator_core.finished (coordinator_after saves.sources.plan journal) ≡ true
 
+-- the coordinator of the node's own federation is finished after the journal of its log
+pub record KeepsCoordinator (contents : Contents) (n : NodeRequest) (before after : Option Saved) : Type 0 where
+  pub log : Log
+  pub keeps : KeepsLog contents n COORDINATOR log before after
+  pub finished : coordinator_core.finished (coordinator_after keeps.sources.plan log.journal) ≡ true
+
+-- it is finished by its report, or where it keeps one, by its log
+abbrev pub HasCoordinated : Contents → NodeRequest → Option Saved → Option Saved → Type 0
+HasCoordinated contents n before after =
+    ByLog n.log (SavesCoordinator contents n before after) (KeepsCoordinator contents n before after)
+
 -- a journal of the federate of this name, in the node's own federation, is saved as its report, with the rows that this
 -- federate makes by it
-pub record HasJoined (contents : Contents) (n : NodeRequest) (name : List ℕ)
+pub record SavesFederate (contents : Contents) (n : NodeRequest) (name : List ℕ)
     (before after : Option Saved) : Type 0 where
   pub federate : ℕ
   pub rows : List Row
@@ -58,6 +98,56 @@ pub record HasJoined (contents : Contents) (n : NodeRequest) (name : List ℕ)
   pub saves : SavesReport contents n (by_federate federate rows journal) before after
   pub named : federate_number saves.sources.plan.federates name ≡ Some federate
   pub rows_are : rows ≡ (federate_after saves.sources federate journal).federate.rows
+
+-- the log of the federate of this name, in the node's own federation, has its end
+pub record KeepsFederate (contents : Contents) (n : NodeRequest) (name : List ℕ)
+    (before after : Option Saved) : Type 0 where
+  pub federate : ℕ
+  pub log : Log
+  pub keeps : KeepsLog contents n federate log before after
+  pub named : federate_number keeps.sources.plan.federates name ≡ Some federate
+
+-- a federate has heard that the run is finished, and left its report, or where it keeps one, its log
+abbrev pub HasJoined : Contents → NodeRequest → List ℕ → Option Saved → Option Saved → Type 0
+HasJoined contents n name before after =
+    ByLog n.log (SavesFederate contents n name before after) (KeepsFederate contents n name before after)
+
+-- this is said in a report of a run of these files, which is saved under this name
+abbrev pub IsSavedAs : FileDigests → Said → List ℕ → Option Saved → Option Saved → Type 0
+IsSavedAs digests said name before after =
+    (bytes : List ℕ) × IsReportOf digests said bytes × KnownOf before after (IsCreated name bytes)
+
+-- a federate's own journal, of a node that was given this, is saved with the rows that it makes by it
+pub record SavesOwn (sources : Sources) (digests : FileDigests) (federate : ℕ) (name : List ℕ)
+    (before after : Option Saved) : Type 0 where
+  pub rows : List Row
+  pub journal : List Event
+  pub saved : IsSavedAs digests (by_federate federate rows journal) name before after
+  pub rows_are : rows ≡ (federate_after sources federate journal).federate.rows
+
+-- a journal of the coordinator's, of a node that was given this, is saved, by which it is finished
+pub record SavesFinished (sources : Sources) (digests : FileDigests) (name : List ℕ)
+    (before after : Option Saved) : Type 0 where
+  pub journal : List Event
+  pub saved : IsSavedAs digests (by_coordinator journal) name before after
+  pub finished : coordinator_core.finished (coordinator_after sources.plan journal) ≡ true
+
+-- a log with this head has its end, and this name
+pub record EndsLog (head : LogHead) (name : List ℕ) (before after : Option Saved) (log : Log) : Type 0 where
+  pub is_ended : IsEndedLog head log
+  pub named : KnownOf before after (HasName name)
+
+-- how a node begins that keeps a log: it was finished before, or no file has changed
+abbrev pub Begins : {V : Type 0} → LogHead → List ℕ → Option Saved → Option Saved → Begun V → Type 0
+Begins head name before after (Finished log) = EndsLog head name before after log
+Begins head name before after (GoesOn opened) = after ≡ before
+
+-- the coordinator of a node that was given this is finished after the journal of its log
+pub record EndsFinished (sources : Sources) (head : LogHead) (name : List ℕ)
+    (before after : Option Saved) : Type 0 where
+  pub log : Log
+  pub ends : EndsLog head name before after log
+  pub finished : coordinator_core.finished (coordinator_after sources.plan log.journal) ≡ true
 
 -- for some node it is so, the coordinator or a federate of some name
 abbrev pub HasEnded : Contents → Option Saved → Option Saved → Type 0

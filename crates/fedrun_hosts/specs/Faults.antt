@@ -1,6 +1,7 @@
 -- Why a node on a machine of its own doesn't end well: the exit status that goes with each fault, and how it is
 -- printed.
 use Rattle.std.specs.Prelude.{ℕ, Bool, if◌then◌else◌, List, ◌++◌, codes, Option, None, Some}
+use Rattle.std.specs.Borrow.{Bor}
 use Rattle.desk.specs.Fault.{memory_text}
 use Rattle.wires_greeting.specs.declared.key.SecretFault.{SecretFault}
 use Rattle.wires_greeting.specs.declared.key.SecretFault.TheVariants.{TooShort, TooLong, Missing}
@@ -8,11 +9,15 @@ use Rattle.wires_hosts.specs.declared.dial_fault.DialFault.{DialFault}
 use Rattle.wires_hosts.specs.declared.dial_fault.DialFault.TheVariants as dial
 use Rattle.files_reports.specs.Faults.{write_text}
 use Rattle.files_saving.specs.Fault.{text_of}
+use Rattle.files_keeping.specs.Fault as keeping
 use Rattle.files_saving.specs.Saved.{temporary_name}
+use Rattle.files_logs.specs.declared.log_fault.LogFault.TheVariants as logs
+use Rattle.fedrun_logs.specs.declared.not_kept.NotKept.{NotKept}
+use Rattle.fedrun_logs.specs.declared.not_kept.NotKept.TheVariants as kept
 use Rattle.fedrun_hosts.specs.declared.fault.HostFault.{HostFault}
 use Rattle.fedrun_hosts.specs.declared.fault.HostFault.TheVariants.{Secret, NoSuchFederate, ReportExists, PartExists}
 use Rattle.fedrun_hosts.specs.declared.fault.HostFault.TheVariants.{CannotListen, Refused, NotProved, NotFinished}
-use Rattle.fedrun_hosts.specs.declared.fault.HostFault.TheVariants.{OtherHistory}
+use Rattle.fedrun_hosts.specs.declared.fault.HostFault.TheVariants.{OtherHistory, OtherLog, Damaged, Unkept}
 use Rattle.fedrun_hosts.specs.declared.fault.HostFault.TheVariants.{Unwritten, Unsaved, Memory}
 
 -- the exit status where there is no key: 2 where words lack a secret
@@ -28,6 +33,9 @@ host_status (Secret fault) = secret_status fault
 host_status (NoSuchFederate name) = 1
 host_status (ReportExists name) = 1
 host_status (PartExists name) = 1
+host_status (OtherLog name) = 1
+host_status (Damaged name) = 1
+host_status (Unkept name fault) = 3
 host_status CannotListen = 3
 host_status (Refused fault) = 1
 host_status NotProved = 1
@@ -70,12 +78,30 @@ fault_of_attempt (Some dial.NotAllowed) = Some (Refused dial.NotAllowed)
 abbrev pub fault_by : Bool → Option DialFault → Option HostFault
 fault_by shows_other_history last = if shows_other_history then Some OtherHistory else fault_of_attempt last
 
+-- why a node's log isn't opened or takes nothing more, of the report of this name
+abbrev pub fault_of_log : Bor (List ℕ) → NotKept → HostFault
+fault_of_log name (kept.Disk why) = Unkept name why
+fault_of_log name (kept.Log logs.OtherFiles) = OtherLog name
+fault_of_log name (kept.Log logs.OtherNode) = OtherLog name
+fault_of_log name (kept.Log logs.OtherLog) = OtherLog name
+fault_of_log name (kept.Log logs.NoLog) = PartExists name
+fault_of_log name (kept.Log logs.Damaged) = Damaged name
+fault_of_log name (kept.Log (logs.Content why)) = Damaged name
+fault_of_log name (kept.Log logs.CutShort) = Damaged name
+fault_of_log name (kept.Log logs.Memory) = Memory (record {})
+fault_of_log name kept.TooLong = Memory (record {})
+fault_of_log name kept.Memory = Memory (record {})
+
 -- how a fault is printed; what a library answered is printed as the library has it
 abbrev pub printed_host_fault : HostFault → List ℕ
 printed_host_fault (Secret fault) = secret_text fault
 printed_host_fault (NoSuchFederate name) = codes "115 NoSuchFederate " ++ name.now
 printed_host_fault (ReportExists name) = codes "116 ReportExists " ++ name.now
 printed_host_fault (PartExists name) = codes "116 ReportExists " ++ temporary_name name.now
+printed_host_fault (OtherLog name) = codes "121 OtherLog " ++ temporary_name name.now
+printed_host_fault (Damaged name) = codes "122 Damaged " ++ temporary_name name.now
+printed_host_fault (Unkept name fault) =
+    codes "120 Unsaved " ++ temporary_name name.now ++ codes ": " ++ keeping.text_of fault
 printed_host_fault CannotListen = codes "117 CannotListen"
 printed_host_fault (Refused fault) = codes "118 " ++ refusal_name fault
 printed_host_fault NotProved = codes "119 NotProved"

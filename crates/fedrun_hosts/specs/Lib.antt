@@ -3,7 +3,9 @@
 pub mod Faults
 -- by what it greets others
 pub mod Begun
--- its report
+-- its report, or its log
 pub mod Ended
+-- what a federate's was given
+pub mod Given
 -- its patience
 pub mod Waits

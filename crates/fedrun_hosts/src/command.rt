@@ -7,7 +7,9 @@ use crate::join::join;
 use crate::request::HostRequest;
 use crate::words::read_node_words;
 use fedrun_files::Files;
+use fedrun_logs::LogDisk;
 use fedrun_words::{Fault, refuse};
+use files_keeping::Device;
 use files_saving::Disk;
 use std::alloc::Global;
 use std::io::Write;
@@ -15,39 +17,58 @@ use std::random::RandomSource;
 use wires::{NetRuntime, Terms};
 
 /// Runs the node for which the words ask, and answers the exit status: 0 where the run is finished and the node's
-/// report is written; 1 where what it was given is refused, by itself or by the coordinator; 2 where the words are no
-/// command, or an address needs a secret; 3 where it couldn't finish. What it has to say of a failure is one line to
-/// `err`.
+/// report is written or its log has its end; 1 where what it was given is refused, by itself or by the coordinator; 2
+/// where the words are no command, or an address needs a secret; 3 where it couldn't finish. What it has to say of a
+/// failure is one line to `err`.
 pub fn node_command<
     R: AllocGlobal + NetRuntime + RandomSource,
     F: Files,
     D: Disk,
+    L: LogDisk<V>,
+    V: Device + Drop + Send,
     O: Write,
     E: Write,
->(rt: &R, words: &[String], files: &mut F, disk: &mut D, out: &mut O, err: &mut E) -> u8
+>(
+    rt: &R,
+    words: &[String],
+    files: &mut F,
+    disk: &mut D,
+    logs: &mut L,
+    out: &mut O,
+    err: &mut E,
+) -> u8
     ensures ended { result ≡ 0 → HasEnded (F.contents files.old) (D.contents disk.old) (D.contents disk.new) }
     ensures quiet { result ≡ 0 → err.new ≡ err.old }
     ensures statuses { result ≤ 3 }
 {
-    match perform(rt, rt.alloc(), words, files, disk, out) {
+    match perform(rt, rt.alloc(), words, files, disk, logs, out) {
         Ok(()) => 0,
         Err(fault) => refuse(&fault, err).status,
     }
 }
 
 // Does what the words ask for.
-fn perform<'a, R: NetRuntime + RandomSource, F: Files, D: Disk, O: Write>(
+fn perform<
+    'a,
+    R: NetRuntime + RandomSource,
+    F: Files,
+    D: Disk,
+    L: LogDisk<V>,
+    V: Device + Drop + Send,
+    O: Write,
+>(
     rt: &R,
     alloc: Global,
     words: &'a [String],
     files: &mut F,
     disk: &mut D,
+    logs: &mut L,
     out: &mut O,
 ) -> Result<(), Fault<'a, HostFault<'a>>>
     ensures { OnOk result (HasEnded (F.contents files.old) (D.contents disk.old) (D.contents disk.new)) }
 {
     match read_node_words(alloc, words) {
-        Ok(HostRequest::Coordinate(node)) => coordinate(rt, alloc, &node, files, disk, out),
+        Ok(HostRequest::Coordinate(node)) => coordinate(rt, alloc, &node, files, disk, logs, out),
         Ok(
             HostRequest::Join {
                 node,
@@ -63,6 +84,7 @@ fn perform<'a, R: NetRuntime + RandomSource, F: Files, D: Disk, O: Write>(
             Terms { turns, frames },
             files,
             disk,
+            logs,
             out,
         ),
         Err(why) => Err(Fault::of_words(why)),

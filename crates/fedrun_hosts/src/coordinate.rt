@@ -1,45 +1,72 @@
 //! The coordinator, in a process of its own.
-ghost use Rattle.std.specs.Prelude.{◌≡◌, OnOk};
+ghost use Rattle.std.specs.Prelude.{◌≡◌, true, OnOk};
 ghost use Rattle.std.specs.Duration.{as_nanos};
-ghost use Rattle.fedrun_hosts.specs.Ended.{HasCoordinated};
+ghost use Rattle.node_cores.specs.CoordinatorCore.{coordinator_core};
+ghost use Rattle.files_reports.specs.declared.layout.TheConstants.{COORDINATOR};
+ghost use Rattle.fedrun_reports.specs.After.{coordinator_after};
+ghost use Rattle.fedrun_hosts.specs.Ended.{HasCoordinated, SavesFinished, EndsFinished, head_of};
 ghost use Rattle.fedrun_hosts.specs.Waits.{telling_nanos};
 
 use crate::fault::HostFault;
+use crate::gathering::{Replayed, gather_replayed, replayed_desk};
 use crate::loaded::{Loaded, load};
+use crate::logged::{Begun, begin, fault_of, finish, head_of};
 use crate::patience::{telling_patience, watcher};
-use crate::replayed::replayed_coordinator;
 use crate::report::{reserve_report, save_report};
 use crate::request::NodeRequest;
 use crate::saying::{say_finished, say_listening};
 use coordinator::Coordinator;
-use desk::Desk;
+use crossbeam_channel::Receiver;
+use desk::{Desk, Shared};
 use fedrun_files::Files;
+use fedrun_logs::{LogBarrier, LogDisk, LogFile, OpenedLog};
+use fedrun_reports::replayed_coordinator;
 use fedrun_run::coordinator_desk;
 use fedrun_words::Fault;
+use files_keeping::{Device, KeptBy};
+use files_logs::{Log, LogHead};
 use files_reports::NodeReport;
+use files_reports::layout::COORDINATOR;
 use files_saving::Disk;
 use node::Node;
-use std::alloc::Global;
+use node_journal::Journal;
+use std::alloc::{AllocError, Global};
 use std::io::Write;
 use std::net::{Net, SocketAddr, TcpListener, TcpStream};
 use std::random::RandomSource;
 use std::sync::Wait;
 use std::time::{Clock, Duration};
-use wires::{CoordinatorLines, NetRuntime, RunFault, channels, run_coordinator};
-use wires_hosts::{Heard, HostAcceptor, HostEntrance, listen_at};
-use wires_transports::{Acceptor, Ending};
+use wires::{
+    CoordinatorLines, NetRuntime, RunFault, WorkerResult, channels, gather_desk, run_coordinator,
+};
+use wires_hosts::{Barrier, Heard, HostAcceptor, HostEntrance, NoBarrier, Unkept, listen_at};
+use wires_transports::{Accepted, Acceptor, Ending};
 use wires_workers::NoGate;
 
-/// Runs the coordinator until it is finished, or until nobody was heard for its patience, and writes its report in
-/// either case. Federates are told that the run is finished once the report is saved, and not before: where it is lost,
-/// none of them has ended as if all were well. Its report's name is reserved before anybody can connect, and stays so
-/// where it ends in the midst.
-pub fn coordinate<'a, R: NetRuntime + RandomSource, F: Files, D: Disk, O: Write>(
+/// Runs the coordinator until it is finished, or until nobody was heard for its patience.
+///
+/// With a log it keeps all that comes to it before anything leaves it that this caused. So it may be killed at any
+/// moment: the same words go on. Federates are told that the run is finished once all that made it so is kept; the log
+/// has its end, and the report's name, once they were.
+///
+/// Without one it writes its report in either case, and federates are told that the run is finished once the report is
+/// saved, and not before: where it is lost, none of them has ended as if all were well. Its report's name is reserved
+/// before anybody can connect, and stays so where it ends in the midst.
+pub fn coordinate<
+    'a,
+    R: NetRuntime + RandomSource,
+    F: Files,
+    D: Disk,
+    L: LogDisk<V>,
+    V: Device + Drop + Send,
+    O: Write,
+>(
     rt: &R,
     alloc: Global,
     node: &NodeRequest<'a>,
     files: &mut F,
     disk: &mut D,
+    logs: &mut L,
     out: &mut O,
 ) -> Result<(), Fault<'a, HostFault<'a>>>
     ensures { OnOk result (HasCoordinated (F.contents files.old) node.now (D.contents disk.old) (D.contents disk.new)) }
@@ -48,6 +75,24 @@ pub fn coordinate<'a, R: NetRuntime + RandomSource, F: Files, D: Disk, O: Write>
         Ok(loaded) => loaded,
         Err(fault) => return Err(fault),
     };
+    match node.log {
+        Some(kept_by) => coordinate_logging(rt, alloc, node, &loaded, kept_by, disk, logs, out),
+        None => coordinate_reporting(rt, alloc, node, &loaded, disk, out),
+    }
+}
+
+// Runs the coordinator without a log.
+fn coordinate_reporting<'a, R: NetRuntime + RandomSource, D: Disk, O: Write>(
+    rt: &R,
+    alloc: Global,
+    node: &NodeRequest<'a>,
+    loaded: &Loaded,
+    disk: &mut D,
+    out: &mut O,
+) -> Result<(), Fault<'a, HostFault<'a>>>
+    ensures { OnOk result (SavesFinished loaded.now.sources loaded.now.digests node.now.report.now
+        (D.contents disk.old) (D.contents disk.new)) }
+{
     let temporary = match reserve_report(alloc, node.report, disk) {
         Ok(temporary) => temporary,
         Err(fault) => return Err(fault),
@@ -60,7 +105,7 @@ pub fn coordinate<'a, R: NetRuntime + RandomSource, F: Files, D: Disk, O: Write>
             return Err(fault);
         }
     };
-    let desk = match run_listening(rt, alloc, node, &loaded, listeners.for_run) {
+    let desk = match ran_reporting(rt, alloc, node, loaded, listeners.for_run) {
         Ok(desk) => desk,
         Err(why) => return Err(fault_of_run(why)),
     };
@@ -82,11 +127,198 @@ pub fn coordinate<'a, R: NetRuntime + RandomSource, F: Files, D: Disk, O: Write>
     ) {
         Ok(()) if is_finished => {
             // Where there is no memory for that, nobody is told; the report stands.
-            let _ = tell_finished(rt, alloc, node, &loaded, listeners.for_telling);
+            let _ = tell_finished(rt, alloc, node, loaded, listeners.for_telling);
             say_finished(out)
         }
         Ok(()) => Err(Fault::More(HostFault::NotFinished)),
         Err(fault) => Err(fault),
+    }
+}
+
+// The coordinator's desk after its run, to which federates connect by this listener.
+fn ran_reporting<'n, R: NetRuntime + RandomSource>(
+    rt: &R,
+    alloc: Global,
+    node: &NodeRequest<'_>,
+    loaded: &'n Loaded,
+    listener: TcpListener,
+) -> Result<Desk<Coordinator<'n>>, RunFault> {
+    let Ok(desk) = coordinator_desk(alloc, &loaded.sources.plan) else {
+        return Err(RunFault::Memory);
+    };
+    let shared = Shared::new(desk);
+    let results = run_listening(rt, alloc, node, loaded, listener, &shared, &NoBarrier)?;
+    gather_desk(alloc, shared, results)
+}
+
+// Runs the coordinator with a log, from where that ends.
+fn coordinate_logging<
+    'a,
+    R: NetRuntime + RandomSource,
+    D: Disk,
+    L: LogDisk<V>,
+    V: Device + Drop + Send,
+    O: Write,
+>(
+    rt: &R,
+    alloc: Global,
+    node: &NodeRequest<'a>,
+    loaded: &Loaded,
+    kept_by: KeptBy,
+    disk: &mut D,
+    logs: &mut L,
+    out: &mut O,
+) -> Result<(), Fault<'a, HostFault<'a>>>
+    ensures { OnOk result (EndsFinished loaded.now.sources (head_of loaded.now.digests COORDINATOR)
+        node.now.report.now (D.contents disk.old) (D.contents disk.new)) }
+{
+    let head = head_of(loaded, COORDINATOR);
+    match begin(alloc, node, kept_by, &head, disk, logs) {
+        Ok(Begun::Finished(log)) => say_if_finished(alloc, loaded, log, out),
+        Ok(Begun::GoesOn(opened)) => go_on(rt, alloc, node, loaded, &head, opened, disk, out),
+        Err(fault) => Err(fault),
+    }
+}
+
+// Runs the coordinator from where its log ends, unless that says that the run is finished, and ends the log.
+fn go_on<'a, R: NetRuntime + RandomSource, D: Disk, V: Device + Drop + Send, O: Write>(
+    rt: &R,
+    alloc: Global,
+    node: &NodeRequest<'a>,
+    loaded: &Loaded,
+    head: &LogHead,
+    opened: OpenedLog<V>,
+    disk: &mut D,
+    out: &mut O,
+) -> Result<(), Fault<'a, HostFault<'a>>>
+    ensures { OnOk result (EndsFinished loaded.now.sources head.now node.now.report.now
+        (D.contents disk.old) (D.contents disk.new)) }
+{
+    let OpenedLog {
+        journal,
+        is_told,
+        is_ended,
+        file,
+    } = opened;
+    let file = if is_told {
+        // All were told, or nobody asked any more.
+        file
+    } else {
+        match went_on(rt, alloc, node, loaded, &journal, file, out) {
+            Ok(file) => file,
+            Err(fault) => return Err(fault),
+        }
+    };
+    match finish(alloc, node, head, file, is_ended, disk) {
+        Ok(log) => say_if_finished(alloc, loaded, log, out),
+        Err(fault) => Err(fault),
+    }
+}
+
+// Runs the coordinator to its end that goes on behind this journal, which is in its log. Where it is finished, tells
+// the federates so. The log then, in which all of that is.
+fn went_on<'a, R: NetRuntime + RandomSource, V: Device + Drop + Send, O: Write>(
+    rt: &R,
+    alloc: Global,
+    node: &NodeRequest<'a>,
+    loaded: &Loaded,
+    journal: &Journal,
+    file: LogFile<V>,
+    out: &mut O,
+) -> Result<LogFile<V>, Fault<'a, HostFault<'a>>> {
+    let Ok(desk) = coordinator_desk(alloc, &loaded.sources.plan) else {
+        return Err(Fault::More(HostFault::Memory(desk::Memory)));
+    };
+    let replayed = match replayed_desk(rt, alloc, Shared::new(desk), journal) {
+        Ok(replayed) => replayed,
+        Err(memory) => return Err(Fault::More(HostFault::Memory(memory))),
+    };
+    let listeners = match listen(rt, node.address, out) {
+        Ok(listeners) => listeners,
+        Err(fault) => return Err(fault),
+    };
+    let listener = listeners.for_run;
+    let file = match ran_logging(rt, alloc, node, loaded, listener, replayed, file) {
+        Ok(file) => file,
+        Err(fault) => return Err(fault),
+    };
+    // Where there is no memory for that, nobody is told.
+    let _ = tell_finished(rt, alloc, node, loaded, listeners.for_telling);
+    told(alloc, node, file)
+}
+
+// Runs the coordinator, to whose desk what is in its log was handed in, and to which federates connect by this
+// listener. The log with all that came to it, where it is finished.
+fn ran_logging<'n, 'a, R: NetRuntime + RandomSource, V: Device + Drop + Send>(
+    rt: &R,
+    alloc: Global,
+    node: &NodeRequest<'a>,
+    loaded: &Loaded,
+    listener: TcpListener,
+    replayed: Replayed<Coordinator<'n>>,
+    file: LogFile<V>,
+) -> Result<LogFile<V>, Fault<'a, HostFault<'a>>> {
+    let barrier = LogBarrier::new(alloc, &replayed.shared, file);
+    let results = run_listening(
+        rt,
+        alloc,
+        node,
+        loaded,
+        listener,
+        &replayed.shared,
+        &barrier,
+    );
+    // What made it finished may have caused nothing that left.
+    let _ = barrier.reach(rt);
+    let file = match barrier.into_file() {
+        Ok(file) => file,
+        Err(why) => return Err(fault_of(node.report, why)),
+    };
+    match is_finished(alloc, replayed, results) {
+        Ok(true) => Ok(file),
+        Ok(false) => Err(Fault::More(HostFault::NotFinished)),
+        Err(why) => Err(fault_of_run(why)),
+    }
+}
+
+// Whether the coordinator is finished after its run, of which its workers left these, and after what was handed in
+// before.
+fn is_finished(
+    alloc: Global,
+    replayed: Replayed<Coordinator<'_>>,
+    results: Result<Vec<WorkerResult>, RunFault>,
+) -> Result<bool, RunFault> {
+    let desk = gather_replayed(alloc, replayed, results?)?;
+    Ok(desk.station().node().finished())
+}
+
+// The log, once it says that all were told that the run is finished.
+fn told<'a, V: Device + Drop>(
+    alloc: Global,
+    node: &NodeRequest<'a>,
+    file: LogFile<V>,
+) -> Result<LogFile<V>, Fault<'a, HostFault<'a>>> {
+    let mut file = file;
+    match file.keep(alloc, &Journal::new(alloc), true) {
+        Ok(()) => Ok(file),
+        Err(why) => Err(fault_of(node.report, why)),
+    }
+}
+
+// Says that the run is finished, where the coordinator is by this log.
+fn say_if_finished<'a, O: Write>(
+    alloc: Global,
+    loaded: &Loaded,
+    log: Log,
+    out: &mut O,
+) -> Result<(), Fault<'a, HostFault<'a>>>
+    ensures { OnOk result
+        (coordinator_core.finished (coordinator_after loaded.now.sources.plan log.journal) ≡ true) }
+{
+    match replayed_coordinator(alloc, &loaded.sources.plan, log.journal) {
+        Ok(desk) if desk.station().node().finished() => say_finished(out),
+        Ok(_) => Err(Fault::More(HostFault::NotFinished)),
+        Err(memory) => Err(Fault::More(HostFault::Memory(memory))),
     }
 }
 
@@ -121,28 +353,63 @@ fn listen<'a, R: Net<Stream = TcpStream, Listener = TcpListener>, O: Write>(
     }
 }
 
-// Runs the coordinator, to which federates connect by this listener; its desk then. Nobody is told that the run is
-// finished.
-fn run_listening<'n, R: NetRuntime + RandomSource>(
+// Runs the coordinator, to which federates connect by this listener, and from which nothing leaves before this barrier
+// lets it; what its workers leave. Nobody is told that the run is finished.
+fn run_listening<'n, R: NetRuntime + RandomSource, B: Barrier + Sync>(
     rt: &R,
     alloc: Global,
     node: &NodeRequest<'_>,
-    loaded: &'n Loaded,
+    loaded: &Loaded,
     listener: TcpListener,
-) -> Result<Desk<Coordinator<'n>>, RunFault> {
+    shared: &Shared<Coordinator<'n>>,
+    barrier: &B,
+) -> Result<Vec<WorkerResult>, RunFault> {
     let count = loaded.sources.plan.federate_count();
-    let Ok(desk) = coordinator_desk(alloc, &loaded.sources.plan) else {
-        return Err(RunFault::Memory);
-    };
     let heard = Heard::new(alloc, count)?;
+    let barrier = Lent { barrier };
     let ending = Ending::new();
+    if shared.finished(rt) {
+        // By its log: federates that are gone say nothing more by which a worker would see it.
+        ending.set();
+    }
     let (readers, arrivals) = channels(alloc, count)?;
-    // The acceptor tells nobody that the run is finished: the report isn't saved yet.
+    // The acceptor tells nobody that the run is finished: that isn't kept yet.
     let entrance = entrance(loaded, listener, Duration::from_secs(0));
-    let acceptor = HostAcceptor::new(alloc, rt, entrance, &heard, readers)?;
-    let watcher = watcher(node, &heard, &ending, None);
-    let lines = CoordinatorLines { arrivals, acceptor };
-    run_coordinator(rt, alloc, desk, lines, watcher, &NoGate, &ending)
+    let acceptor = HostAcceptor::new(alloc, rt, entrance, &heard, &barrier, readers);
+    let lines = lines_of(arrivals, acceptor)?;
+    let watcher = watcher(node, &heard, &barrier, &ending, None);
+    run_coordinator(rt, alloc, shared, lines, watcher, &NoGate, &ending)
+}
+
+// The connections of a coordinator, where there is memory for who lets them in.
+fn lines_of<E: Drop, T: Drop, C: Drop>(
+    arrivals: Vec<Receiver<Accepted<T, C>>>,
+    acceptor: Result<E, AllocError>,
+) -> Result<CoordinatorLines<E, T, C>, RunFault> {
+    match acceptor {
+        Ok(acceptor) => Ok(CoordinatorLines { arrivals, acceptor }),
+        Err(_) => Err(RunFault::Memory),
+    }
+}
+
+// A barrier that is lent.
+#[derive(Drop)]
+struct Lent<'b, B: Barrier> {
+    barrier: &'b B,
+}
+
+impl<'b, B: Barrier> Barrier for Lent<'b, B> {
+    fn reach<R: Wait>(&self, rt: &R) -> Result<(), Unkept> {
+        self.barrier.reach(rt)
+    }
+
+    fn tell<R: Wait>(&self, rt: &R) -> Result<(), Unkept> {
+        self.barrier.tell(rt)
+    }
+
+    fn has_failed(&self) -> bool {
+        self.barrier.has_failed()
+    }
 }
 
 // Tells whoever asks by this listener that the run is finished, until each federate has heard so, or the patience for
@@ -159,7 +426,7 @@ fn tell_finished<R: Wait + Clock + RandomSource>(
     // Nobody is let in any more, so nobody reads.
     let (readers, _) = channels(alloc, count)?;
     let entrance = telling_entrance(node, loaded, listener);
-    let acceptor = HostAcceptor::new(alloc, rt, entrance, &heard, readers)?;
+    let acceptor = HostAcceptor::new(alloc, rt, entrance, &heard, &NoBarrier, readers)?;
     let ending = Ending::new();
     ending.set();
     acceptor.let_in(rt, alloc, &ending);

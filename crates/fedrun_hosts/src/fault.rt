@@ -2,6 +2,7 @@ ghost use Rattle.std.specs.Prelude.{◌≡◌};
 ghost use Rattle.fedrun_hosts.specs.Faults.{refusal_name};
 
 use fedrun_words::MoreFault;
+use files_keeping::KeepFault;
 use files_reports::WriteFault;
 use files_saving::SaveFault;
 use std::fmt;
@@ -18,12 +19,22 @@ pub enum HostFault<'a> {
     /// A file of this name, under which the report is to be written, is there already. It is left as it is, and nothing
     /// was begun: a federate that begins anew isn't the one that it was. It is put away, or another name is given.
     ReportExists(&'a str),
-    /// The temporary file of this name is there: a node of the same report runs now, or was ended before it wrote it.
-    /// It is left as it is, and nothing was begun. Once no such node runs and the run is begun anew, it is removed by
-    /// hand, or another name is given.
+    /// The temporary file of this name is there: a node of the same report runs now; or, of a node without a log, one
+    /// was ended before it wrote it. It is left as it is, and nothing was begun. Once no such node runs and the run is
+    /// begun anew, it is removed by hand, or another name is given.
     PartExists(&'a str),
     /// Nothing can listen at the address. Nothing was begun. Another address is given, or who listens there is ended.
     CannotListen,
+    /// The file in which the node's log would go on is another one: of other files, another node or other rules. It is
+    /// left as it is, and nothing was begun. Another name is given, or the words that belong to it.
+    OtherLog(&'a str),
+    /// The node's log was changed before its last block, or what it says can't be read. It is left as it is, and
+    /// nothing was begun: what is missing others may have seen. A copy of it as it was is put there, or the run begun
+    /// anew.
+    Damaged(&'a str),
+    /// The node's log couldn't be opened, or doesn't take more, and the inner fault says why. All that has left the
+    /// node is in it. Once the disk works the same words go on.
+    Unkept(&'a str, KeepFault),
     /// The coordinator, which has the secret, doesn't let the federate take part, and this is why. The report was
     /// written.
     Refused(DialFault),
@@ -61,6 +72,8 @@ impl MoreFault for HostFault<'_> {
             | HostFault::NoSuchFederate(_)
             | HostFault::ReportExists(_)
             | HostFault::PartExists(_)
+            | HostFault::OtherLog(_)
+            | HostFault::Damaged(_)
             | HostFault::Refused(_)
             | HostFault::NotProved
             | HostFault::OtherHistory => 1,
@@ -68,6 +81,7 @@ impl MoreFault for HostFault<'_> {
             | HostFault::NotFinished
             | HostFault::Unwritten(_)
             | HostFault::Unsaved(_, _)
+            | HostFault::Unkept(_, _)
             | HostFault::Memory(_) => 3,
         }
     }
@@ -89,6 +103,9 @@ impl fmt::Display for HostFault<'_> {
             HostFault::NoSuchFederate(name) => write!(f, "115 NoSuchFederate {name}"),
             HostFault::ReportExists(name) => write!(f, "116 ReportExists {name}"),
             HostFault::PartExists(name) => write!(f, "116 ReportExists {name}.part"),
+            HostFault::OtherLog(name) => write!(f, "121 OtherLog {name}.part"),
+            HostFault::Damaged(name) => write!(f, "122 Damaged {name}.part"),
+            HostFault::Unkept(name, fault) => write!(f, "120 Unsaved {name}.part: {fault}"),
             HostFault::CannotListen => write!(f, "117 CannotListen"),
             HostFault::Refused(fault) => write!(f, "118 {}", refusal_name(*fault)),
             HostFault::NotProved => write!(f, "119 NotProved"),

@@ -1,42 +1,63 @@
 //! One federate, in a process of its own.
-ghost use Rattle.std.specs.Prelude.{◌≡◌, ◌<◌, Some, IfSome, OnOk};
-ghost use Rattle.plan.specs.External.{AreInputsOf};
+ghost use Rattle.std.specs.Prelude.{◌≡◌, ◌<◌, Some, IfSome, IfOk, OnOk};
 ghost use Rattle.plan.specs.Federation.{federate_count, federate_number};
-ghost use Rattle.reactor_programs.specs.Programs.{AreProgramsOf};
-ghost use Rattle.fedrun_hosts.specs.Ended.{HasJoined};
+ghost use Rattle.files_logs.specs.declared.log.Log.{Log as IsLogValue};
+ghost use Rattle.files_reports.specs.Said.{said_in, by_federate};
+ghost use Rattle.fedrun_reports.specs.After.{federate_after};
+ghost use Rattle.fedrun_hosts.specs.Ended.{HasJoined, SavesOwn, EndsLog, head_of};
+ghost use Rattle.fedrun_hosts.specs.Given.{IsGiven};
 ghost use Rattle.fedrun_hosts.specs.Faults as definition;
 
 use crate::coordinate::fault_of_run;
 use crate::fault::HostFault;
+use crate::gathering::{Replayed, gather_replayed, replayed_desk};
 use crate::loaded::{Loaded, load};
+use crate::logged::{Begun, begin, fault_of, finish, head_of};
 use crate::patience::watcher;
-use crate::replayed::replayed_federate;
 use crate::report::{reserve_report, save_report};
 use crate::request::NodeRequest;
 use crate::saying::say_finished;
+use desk::{Memory, Shared};
 use federate::Federate;
 use fedrun_files::Files;
+use fedrun_logs::{LogBarrier, LogDisk, LogFile, OpenedLog};
+use fedrun_reports::replayed_federate;
 use fedrun_run::federate_desk;
 use fedrun_words::Fault;
+use files_keeping::{Device, KeptBy};
+use files_logs::LogHead;
 use files_reports::NodeReport;
 use files_saving::Disk;
+use node_journal::Journal;
 use plan::Plan;
 use plan_names::place_of;
 use recorder_reports::Report;
 use std::alloc::Global;
 use std::io::Write;
 use std::random::RandomSource;
-use wires::{FederateLines, FederateRun, NetRuntime, RunFault, Terms, run_federate};
-use wires_hosts::{DialFault, FederateHost, Heard, HostDial, LastConnection};
+use wires::{FederateLines, FederateRun, NetRuntime, RunFault, Terms, gather_desk, run_federate};
+use wires_hosts::{Barrier, DialFault, FederateHost, Heard, HostDial, LastConnection, NoBarrier};
 use wires_transports::Ending;
 use wires_workers::NoGate;
 
 /// Runs the federate of this name until it hears that the run is finished, its end is closed, its turns are made, the
-/// coordinator refuses it or speaks of another history, or nobody was heard for its patience; its report is written in
-/// each case. Its report's name
-/// is reserved before it connects, and stays so where it ends in the midst: so it isn't begun anew by the same words,
-/// without what it knew.
-pub fn join<'a, R: NetRuntime + RandomSource, F: Files, D: Disk, O: Write>(
+/// coordinator refuses it or speaks of another history, or nobody was heard for its patience.
+///
+/// With a log it keeps all that comes to it before anything leaves it that this caused. So it may be killed at any
+/// moment: the same words go on. The log has its end, and the report's name, once it has heard that the run is
+/// finished.
+///
+/// Without one its report is written at its end, whatever came of the run. The report's name is reserved before it
+/// connects, and stays so where it ends in the midst: so it isn't begun anew by the same words, without what it knew.
+pub fn join<
+    'a,
+    R: NetRuntime + RandomSource,
+    F: Files,
+    D: Disk,
+    L: LogDisk<V>,
+    V: Device + Drop + Send,
+    O: Write,
+>(
     rt: &R,
     alloc: Global,
     node: &NodeRequest<'a>,
@@ -44,6 +65,7 @@ pub fn join<'a, R: NetRuntime + RandomSource, F: Files, D: Disk, O: Write>(
     terms: Terms,
     files: &mut F,
     disk: &mut D,
+    logs: &mut L,
     out: &mut O,
 ) -> Result<(), Fault<'a, HostFault<'a>>>
     ensures { OnOk result (HasJoined (F.contents files.old) node.now name.entry.now (D.contents disk.old)
@@ -56,6 +78,40 @@ pub fn join<'a, R: NetRuntime + RandomSource, F: Files, D: Disk, O: Write>(
     let Some(number) = number_of(&loaded.sources.plan, name) else {
         return Err(Fault::More(HostFault::NoSuchFederate(name)));
     };
+    let joined = Joined {
+        node,
+        loaded: &loaded,
+        number,
+        terms,
+    };
+    match node.log {
+        Some(kept_by) => join_logging(rt, alloc, &joined, kept_by, disk, logs, out),
+        None => join_reporting(rt, alloc, &joined, disk, out),
+    }
+}
+
+// A federate, and what it was given.
+#[derive(Clone, Copy)]
+struct Joined<'j, 'a> {
+    node: &'j NodeRequest<'a>,
+    loaded: &'j Loaded,
+    number: u16,
+    terms: Terms,
+}
+
+// Runs a federate without a log.
+fn join_reporting<'a, R: NetRuntime + RandomSource, D: Disk, O: Write>(
+    rt: &R,
+    alloc: Global,
+    joined: &Joined<'_, 'a>,
+    disk: &mut D,
+    out: &mut O,
+) -> Result<(), Fault<'a, HostFault<'a>>>
+    requires { IsGiven joined.now }
+    ensures { OnOk result (SavesOwn joined.now.loaded.now.sources joined.now.loaded.now.digests joined.now.number
+        joined.now.node.now.report.now (D.contents disk.old) (D.contents disk.new)) }
+{
+    let Joined { node, loaded, .. } = *joined;
     let Ok(heard) = Heard::new(alloc, 0) else {
         return Err(Fault::More(HostFault::Memory(desk::Memory)));
     };
@@ -63,25 +119,26 @@ pub fn join<'a, R: NetRuntime + RandomSource, F: Files, D: Disk, O: Write>(
         Ok(temporary) => temporary,
         Err(fault) => return Err(fault),
     };
+    let shared = match shared_desk(alloc, joined) {
+        Ok(shared) => shared,
+        Err(memory) => return Err(Fault::More(HostFault::Memory(memory))),
+    };
     let FederateRun {
-        desk,
+        results,
         shows_other_history,
-    } = match run_joined(rt, alloc, node, &loaded, number, terms, &heard) {
+    } = match run_joined(rt, alloc, joined, &shared, &heard, &NoBarrier) {
         Ok(run) => run,
         Err(why) => return Err(fault_of_run(why)),
     };
-    let (_, events) = desk.into_parts();
-    let own = usize::from(number);
-    let desk = match replayed_federate(alloc, &loaded.sources, own, events) {
+    let desk = match gather_desk(alloc, shared, results) {
         Ok(desk) => desk,
+        Err(why) => return Err(fault_of_run(why)),
+    };
+    let (_, events) = desk.into_parts();
+    let report = match report_of(alloc, joined, events) {
+        Ok(report) => report,
         Err(memory) => return Err(Fault::More(HostFault::Memory(memory))),
     };
-    let (station, journal) = desk.into_parts();
-    let report = NodeReport::Federate(Report {
-        federate: own,
-        rows: station.into_node().into_rows(),
-        journal,
-    });
     match save_report(
         alloc,
         &loaded.digests,
@@ -98,6 +155,182 @@ pub fn join<'a, R: NetRuntime + RandomSource, F: Files, D: Disk, O: Write>(
     }
 }
 
+// What a federate reports: its journal, and the rows that it makes by that.
+fn report_of(alloc: Global, joined: &Joined<'_, '_>, events: Journal) -> Result<NodeReport, Memory>
+    requires { IsGiven joined.now }
+    ensures { IfOk result (λ report. said_in report ≡ by_federate joined.now.number
+        (federate_after joined.now.loaded.now.sources joined.now.number events).federate.rows events) }
+{
+    let own = usize::from(joined.number);
+    let desk = replayed_federate(alloc, &joined.loaded.sources, own, events)?;
+    let (station, journal) = desk.into_parts();
+    Ok(NodeReport::Federate(Report {
+        federate: own,
+        rows: station.into_node().into_rows(),
+        journal,
+    }))
+}
+
+// Runs a federate with a log, from where that ends.
+fn join_logging<
+    'a,
+    R: NetRuntime + RandomSource,
+    D: Disk,
+    L: LogDisk<V>,
+    V: Device + Drop + Send,
+    O: Write,
+>(
+    rt: &R,
+    alloc: Global,
+    joined: &Joined<'_, 'a>,
+    kept_by: KeptBy,
+    disk: &mut D,
+    logs: &mut L,
+    out: &mut O,
+) -> Result<(), Fault<'a, HostFault<'a>>>
+    requires { IsGiven joined.now }
+    ensures { OnOk result ((log : IsLogValue)
+        × EndsLog (head_of joined.now.loaded.now.digests joined.now.number) joined.now.node.now.report.now
+        (D.contents disk.old) (D.contents disk.new) log) }
+{
+    let head = head_of(joined.loaded, joined.number);
+    match begin(alloc, joined.node, kept_by, &head, disk, logs) {
+        Ok(Begun::Finished(_)) => say_finished(out),
+        Ok(Begun::GoesOn(opened)) => go_on(rt, alloc, joined, &head, opened, disk, out),
+        Err(fault) => Err(fault),
+    }
+}
+
+// Runs a federate from where its log ends, unless that says that the run is finished, and ends the log.
+fn go_on<'a, R: NetRuntime + RandomSource, D: Disk, V: Device + Drop + Send, O: Write>(
+    rt: &R,
+    alloc: Global,
+    joined: &Joined<'_, 'a>,
+    head: &LogHead,
+    opened: OpenedLog<V>,
+    disk: &mut D,
+    out: &mut O,
+) -> Result<(), Fault<'a, HostFault<'a>>>
+    requires { IsGiven joined.now }
+    ensures { OnOk result ((log : IsLogValue)
+        × EndsLog head.now joined.now.node.now.report.now (D.contents disk.old) (D.contents disk.new) log) }
+{
+    let OpenedLog {
+        journal,
+        is_told,
+        is_ended,
+        file,
+    } = opened;
+    let file = if is_told {
+        // It has heard that the run is finished, and proved so, or was about to: nobody else is there to be asked.
+        file
+    } else {
+        match went_on(rt, alloc, joined, &journal, file) {
+            Ok(file) => file,
+            Err(fault) => return Err(fault),
+        }
+    };
+    match finish(alloc, joined.node, head, file, is_ended, disk) {
+        Ok(_) => say_finished(out),
+        Err(fault) => Err(fault),
+    }
+}
+
+// Runs a federate to its end that goes on behind this journal, which is in its log. The log then, with all that came to
+// it, where it has heard that the run is finished.
+fn went_on<'a, R: NetRuntime + RandomSource, V: Device + Drop + Send>(
+    rt: &R,
+    alloc: Global,
+    joined: &Joined<'_, 'a>,
+    journal: &Journal,
+    file: LogFile<V>,
+) -> Result<LogFile<V>, Fault<'a, HostFault<'a>>>
+    requires { IsGiven joined.now }
+{
+    let Ok(heard) = Heard::new(alloc, 0) else {
+        return Err(Fault::More(HostFault::Memory(desk::Memory)));
+    };
+    let shared = match shared_desk(alloc, joined) {
+        Ok(shared) => shared,
+        Err(memory) => return Err(Fault::More(HostFault::Memory(memory))),
+    };
+    match replayed_desk(rt, alloc, shared, journal) {
+        Ok(replayed) => ran_logging(rt, alloc, joined, &heard, replayed, file),
+        Err(memory) => Err(Fault::More(HostFault::Memory(memory))),
+    }
+}
+
+// Runs a federate, to whose desk what is in its log was handed in. The log with all that came to it, where it has heard
+// that the run is finished.
+fn ran_logging<'n, 'a, R: NetRuntime + RandomSource, V: Device + Drop + Send>(
+    rt: &R,
+    alloc: Global,
+    joined: &Joined<'_, 'a>,
+    heard: &Heard,
+    replayed: Replayed<Federate<'n>>,
+    file: LogFile<V>,
+) -> Result<LogFile<V>, Fault<'a, HostFault<'a>>> {
+    let barrier = LogBarrier::new(alloc, &replayed.shared, file);
+    let run = run_joined(rt, alloc, joined, &replayed.shared, heard, &barrier);
+    // What came last caused nothing that left.
+    let _ = barrier.reach(rt);
+    let file = match barrier.into_file() {
+        Ok(file) => file,
+        Err(why) => return Err(fault_of(joined.node.report, why)),
+    };
+    match hears_finished(alloc, replayed, run, heard) {
+        Ok(()) => Ok(file),
+        Err(fault) => Err(fault),
+    }
+}
+
+// Why a federate's run isn't finished that left this, besides what was handed in before.
+fn hears_finished<'a>(
+    alloc: Global,
+    replayed: Replayed<Federate<'_>>,
+    run: Result<FederateRun, RunFault>,
+    heard: &Heard,
+) -> Result<(), Fault<'a, HostFault<'a>>> {
+    let shows = match shows_other_history(alloc, replayed, run) {
+        Ok(shows) => shows,
+        Err(why) => return Err(fault_of_run(why)),
+    };
+    match fault_by(shows, heard.last_fault()) {
+        None => Ok(()),
+        Some(fault) => Err(Fault::More(fault)),
+    }
+}
+
+// Whether the coordinator spoke of another history, in a run that left what its desk says besides what was handed in
+// before.
+fn shows_other_history(
+    alloc: Global,
+    replayed: Replayed<Federate<'_>>,
+    run: Result<FederateRun, RunFault>,
+) -> Result<bool, RunFault> {
+    let FederateRun {
+        results,
+        shows_other_history,
+    } = run?;
+    gather_replayed(alloc, replayed, results)?;
+    Ok(shows_other_history)
+}
+
+// The federate's desk, before anything came to it.
+fn shared_desk<'j>(alloc: Global, joined: &Joined<'j, '_>) -> Result<Shared<Federate<'j>>, Memory>
+    requires { IsGiven joined.now }
+{
+    let sources = &joined.loaded.sources;
+    let desk = federate_desk(
+        alloc,
+        &sources.plan,
+        &sources.programs,
+        &sources.inputs,
+        usize::from(joined.number),
+    )?;
+    Ok(Shared::new(desk))
+}
+
 // The number of the federate of this name.
 fn number_of(plan: &Plan, name: &str) -> Option<u16>
     ensures named { IfSome result (λ number. federate_number plan.now.federates name.now ≡ Some number) }
@@ -107,43 +340,32 @@ fn number_of(plan: &Plan, name: &str) -> Option<u16>
     u16::try_from(place).ok()
 }
 
-// Runs a federate, which connects to the node's address.
-fn run_joined<'n, R: NetRuntime + RandomSource>(
+// Runs a federate, which connects to the node's address, and from which nothing leaves before this barrier lets it.
+fn run_joined<'n, R: NetRuntime + RandomSource, B: Barrier + Sync>(
     rt: &R,
     alloc: Global,
-    node: &NodeRequest<'_>,
-    loaded: &'n Loaded,
-    number: u16,
-    terms: Terms,
+    joined: &Joined<'_, '_>,
+    shared: &Shared<Federate<'n>>,
     heard: &Heard,
-) -> Result<FederateRun<Federate<'n>>, RunFault>
-    requires programs { AreProgramsOf loaded.now.sources.plan loaded.now.sources.programs }
-    requires inputs { AreInputsOf loaded.now.sources.plan loaded.now.sources.inputs }
-    requires there { number < federate_count loaded.now.sources.plan }
-{
-    let sources = &loaded.sources;
-    let own = usize::from(number);
-    let desk = federate_desk(
-        alloc,
-        &sources.plan,
-        &sources.programs,
-        &sources.inputs,
-        own,
-    );
-    let Ok(desk) = desk else {
-        return Err(RunFault::Memory);
-    };
+    barrier: &B,
+) -> Result<FederateRun, RunFault> {
+    let Joined {
+        node,
+        loaded,
+        number,
+        terms,
+    } = *joined;
     let ending = Ending::new();
     let host = host(node, loaded, number);
     let last = LastConnection::new();
-    let dial = HostDial::new(rt, host, heard, &last, &ending);
-    let watcher = watcher(node, heard, &ending, Some(&last));
+    let dial = HostDial::new(rt, host, heard, barrier, &last, &ending);
+    let watcher = watcher(node, heard, barrier, &ending, Some(&last));
     let lines = FederateLines {
-        number: own,
+        number: usize::from(number),
         dial,
         terms,
     };
-    run_federate(rt, alloc, desk, lines, watcher, &NoGate, &ending)
+    run_federate(rt, alloc, shared, lines, watcher, &NoGate, &ending)
 }
 
 // Whom the node connects, and where to: the federate of this number, to the node's address, with the key and the files

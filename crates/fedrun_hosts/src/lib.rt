@@ -1,16 +1,17 @@
 //! A node on a machine of its own: the commands `coordinate` and `join`.
 //!
-//! Promise to the layer above: with status 0 the node's report stands in the file of its name, whole, and no other file
-//! changed (`specs/Ended`); that of `coordinate` is of a coordinator that is finished. `join` ends so where it was told
-//! that the run is finished, by whoever has the secret, which no clause says. With another status a fault is printed on
-//! one line (`specs/Faults`). What other nodes say is never believed: rows are printed by an audit of all reports
-//! alone.
+//! Promise to the layer above: with status 0 the node's report stands in the file of its name, whole, or where it keeps
+//! a log, that has its end and the name; and no other file changed (`specs/Ended`). What `coordinate` leaves is of a
+//! coordinator that is finished. `join` ends so where it was told that the run is finished, by whoever has the secret,
+//! which no clause says. With another status a fault is printed on one line (`specs/Faults`). What other nodes say is
+//! never believed: rows are printed by an audit of all reports alone.
 //!
-//! What is saved is looked at again before (`replayed`): what the journal makes of the node that the node's own files
-//! give, so that nothing which is said of it rests on what threads left.
+//! What is saved or kept is looked at again before (`fedrun_reports`): what the journal makes of the node that the
+//! node's own files give, so that nothing which is said of it rests on what threads left.
 //!
-//! A node reserves its report's name before it listens or connects, and keeps it where it ends in the midst. So a node
-//! that has lost what it knew isn't begun anew by the same words.
+//! A node with a log goes on from it by the same words (`logged`). One without reserves its report's name before it
+//! listens or connects, and keeps it where it ends in the midst. So a node that has lost what it knew isn't begun anew
+//! by the same words.
 //!
 //! Begin with `request`, then `coordinate` and `join`.
 #![tactic(auto)]
@@ -18,10 +19,11 @@
 pub mod command;
 pub mod coordinate;
 pub mod fault;
+mod gathering;
 pub mod join;
 mod loaded;
+mod logged;
 mod patience;
-mod replayed;
 mod report;
 pub mod request;
 mod saying;

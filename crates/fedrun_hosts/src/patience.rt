@@ -5,25 +5,27 @@ ghost use Rattle.fedrun_hosts.specs.Waits.{nanos_of, telling_nanos};
 
 use crate::request::NodeRequest;
 use std::time::Duration;
-use wires_hosts::{Heard, LastConnection, Patience};
+use wires_hosts::{Barrier, Heard, LastConnection, Patience};
 use wires_transports::Ending;
 
 /// For this many seconds whoever asks is told that the run is finished, where no patience is given.
 pub(crate) const PATIENCE_SECONDS: u32 = 10;
 
-/// Who ends a run in which nobody is heard for the node's patience; and a federate's last connection, which is passed
-/// in, with the run.
-pub(crate) fn watcher<'w>(
+/// Who ends a run in which nobody is heard for the node's patience, or in which its log takes nothing more; and a
+/// federate's last connection, which is passed in, with the run.
+pub(crate) fn watcher<'w, B: Barrier>(
     node: &NodeRequest<'_>,
     heard: &'w Heard,
+    barrier: &'w B,
     ending: &'w Ending,
     last: Option<&'w LastConnection>,
-) -> Patience<'w>
+) -> Patience<'w, B>
     ensures most { option_map as_nanos result.most ≡ option_map nanos_of node.now.patience }
     ensures last { result.last ≡ last.entry }
 {
     Patience {
         heard,
+        barrier,
         ending,
         most: patience_of(node),
         last,

@@ -1,3 +1,4 @@
+use files_keeping::KeptBy;
 use std::net::SocketAddr;
 
 /// What a node on a machine of its own is given, whichever node it is. Files are given by their names.
@@ -8,8 +9,11 @@ pub struct NodeRequest<'a> {
     pub inputs: &'a str,
     /// The coordinator's address: it listens there, and federates connect to it.
     pub address: SocketAddr,
-    /// Where the node's report is written. There is no file of this name.
+    /// Where the node's report is written. There is no file of this name, but for a log that has its end.
     pub report: &'a str,
+    /// Who keeps its log while it runs, so that it goes on where it is killed. None: there is no log, and its report is
+    /// written at its end.
+    pub log: Option<KeptBy>,
     /// The file of the secret that all nodes have.
     pub secret: Option<&'a str>,
     /// It gives up after this many seconds in which nobody was heard.

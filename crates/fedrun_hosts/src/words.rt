@@ -1,9 +1,10 @@
 use crate::request::{HostRequest, NodeRequest};
+use clap::ArgMatches;
 use clap::error::ErrorKind;
-use clap::{Arg, ArgAction, ArgMatches, Command};
-use fedrun_words::WordsFault;
+use fedrun_words::{WordsFault, asks_for_help, command_line, count};
+use files_keeping::KeptBy;
 use signal::wire::BATCHING;
-use std::alloc::{AllocError, Global};
+use std::alloc::Global;
 use std::net::SocketAddr;
 
 /// The turns of a federate for which no number is given. One that hears nothing makes a turn some 100 times a second,
@@ -14,10 +15,12 @@ const COORDINATE: &str = "coordinate";
 
 const JOIN: &str = "join";
 
-/// Whether the words are a command of this crate.
+/// Whether the words are a command of this crate, and don't ask for help on it.
 pub fn asks_for_node(words: &[String]) -> bool {
     match words.first() {
-        Some(word) => word.as_str() == COORDINATE || word.as_str() == JOIN,
+        Some(word) => {
+            (word.as_str() == COORDINATE || word.as_str() == JOIN) && !asks_for_help(words)
+        }
         None => false,
     }
 }
@@ -27,7 +30,7 @@ pub fn read_node_words<'a>(
     alloc: Global,
     words: &'a [String],
 ) -> Result<HostRequest<'a>, WordsFault> {
-    let Ok(command) = commands(alloc) else {
+    let Ok(command) = command_line(alloc) else {
         return Err(WordsFault::Memory);
     };
     let matches = command.try_get_matches_from(words).map_err(|error| {
@@ -53,59 +56,6 @@ fn requested<'a>(matches: &ArgMatches<'a>) -> Option<HostRequest<'a>> {
     })
 }
 
-// Both commands.
-fn commands<'a>(alloc: Global) -> Result<Command<'a>, AllocError> {
-    Command::new(alloc, "fedrun")
-        .no_binary_name(true)
-        .disable_help_flag(true)
-        .disable_help_subcommand(true)
-        .subcommand_required(true)
-        .subcommand(described(
-            alloc,
-            COORDINATE,
-            &["FED", "IN"],
-            &["listen", "report"],
-            &["secret", "patience"],
-        )?)?
-        .subcommand(described(
-            alloc,
-            JOIN,
-            &["FED", "IN", "NAME"],
-            &["connect", "report"],
-            &["secret", "patience", "turns", "frames"],
-        )?)
-}
-
-// A command as `clap` has it. An option may be given once.
-fn described<'a>(
-    alloc: Global,
-    name: &'static str,
-    arguments: &[&'static str],
-    needed: &[&'static str],
-    options: &[&'static str],
-) -> Result<Command<'a>, AllocError> {
-    let mut command = Command::new(alloc, name).disable_help_flag(true);
-    for argument in arguments {
-        command = command.arg(Arg::new(alloc, *argument).required(true))?;
-    }
-    for option in needed {
-        command = command.arg(
-            Arg::new(alloc, *option)
-                .long(*option)
-                .required(true)
-                .action(ArgAction::Set),
-        )?;
-    }
-    for option in options {
-        command = command.arg(
-            Arg::new(alloc, *option)
-                .long(*option)
-                .action(ArgAction::Set),
-        )?;
-    }
-    Ok(command)
-}
-
 // What every node is given, with the address under this option.
 fn node<'a>(given: &ArgMatches<'a>, address: &str) -> Option<NodeRequest<'a>> {
     Some(NodeRequest {
@@ -113,6 +63,7 @@ fn node<'a>(given: &ArgMatches<'a>, address: &str) -> Option<NodeRequest<'a>> {
         inputs: given.get_str("IN")?,
         address: given.get_str(address)?.parse::<SocketAddr>().ok()?,
         report: name(given.get_str("report")?)?,
+        log: log(given)?,
         secret: given.get_str("secret"),
         patience: match given.get_str("patience") {
             Some(seconds) => Some(count(seconds)?),
@@ -124,6 +75,16 @@ fn node<'a>(given: &ArgMatches<'a>, address: &str) -> Option<NodeRequest<'a>> {
 // A file's name, which has a letter at least.
 fn name(text: &str) -> Option<&str> {
     if text.is_empty() { None } else { Some(text) }
+}
+
+// Who keeps the node's log, if anybody does: where nothing is said, the disk.
+fn log(given: &ArgMatches<'_>) -> Option<Option<KeptBy>> {
+    match given.get_str("sync") {
+        None | Some("disk") => Some(Some(KeptBy::Disk)),
+        Some("system") => Some(Some(KeptBy::System)),
+        Some("no") => Some(None),
+        Some(_) => None,
+    }
 }
 
 // The version of frames that a federate writes; where none is given, one that has Batches.
@@ -140,14 +101,5 @@ fn number(given: &ArgMatches<'_>, option: &str, default: u32) -> Option<u32> {
     match given.get_str(option) {
         Some(text) => count(text),
         None => Some(default),
-    }
-}
-
-// A number in ASCII digits.
-fn count(text: &str) -> Option<u32> {
-    if text.bytes().all(|byte| byte.is_ascii_digit()) {
-        text.parse::<u32>().ok()
-    } else {
-        None
     }
 }

@@ -2,7 +2,7 @@
 use Rattle.std.proofs.Common.{◌≡◌, ℕ, List, Option, refl}
 use Rattle.fedrun_words.specs.declared.request.CheckRequest.{CheckRequest}
 use Rattle.fedrun_words.specs.declared.request.Request.{Request}
-use Rattle.fedrun_words.specs.declared.request.Request.TheVariants.{Whole, Check, Replay, Run, Record, Frames, DrawFederation, DrawSchedule, Audit, Lint}
+use Rattle.fedrun_words.specs.declared.request.Request.TheVariants.{Whole, Check, Replay, Run, Record, Frames, Trace, DrawFederation, DrawSchedule, Audit, Lint, About}
 use Rattle.fedrun_words.specs.declared.request.WholeRequest.{WholeRequest}
 use Rattle.fedrun_words.specs.declared.fault.Fault.{Fault}
 use Rattle.fedrun_words.specs.declared.more.NoSuchCommand.{NoSuchCommand}
@@ -19,7 +19,9 @@ of_further_commands contents answered before after (Replay asked) fault no_whole
 of_further_commands contents answered before after (Run asked) fault no_whole no_check is = is
 of_further_commands contents answered before after (Record asked) fault no_whole no_check is = is
 of_further_commands contents answered before after (Frames asked) fault no_whole no_check is = is
+of_further_commands contents answered before after (Trace asked) fault no_whole no_check is = is
 of_further_commands contents answered before after (DrawFederation asked) fault no_whole no_check is = is
 of_further_commands contents answered before after (DrawSchedule asked) fault no_whole no_check is = is
 of_further_commands contents answered before after (Audit asked) fault no_whole no_check is = is
 of_further_commands contents answered before after (Lint asked) fault no_whole no_check is = is
+of_further_commands contents answered before after (About asked) fault no_whole no_check is = is

@@ -1,9 +1,10 @@
 //! The command line: its words, and why a command gives up: its exit status and its line.
 //!
 //! The words are those that the machine gives, and which command they are, with its arguments and options, as `clap`
-//! reads them. Why a command gives up is a fault, with the exit status that goes with it. A program with more commands
-//! than `whole` and `check` has more faults: they are a type of its own, of the trait `MoreFault`. A fault's line is
-//! written to a writer a piece at a time, with no memory, since out of memory has to be printed too.
+//! reads them by the table of all commands (`commands.rt`). Why a command gives up is a fault, with the exit status
+//! that goes with it. A program with more commands than `whole` and `check` has more faults: they are a type of its
+//! own, of the trait `MoreFault`. A fault's line is written to a writer a piece at a time, with no memory, since out of
+//! memory has to be printed too.
 //!
 //! Promise to the layer above: every request is one of `Request`, and every other list of words is a fault. That a
 //! request is the words' is shown by tests, in the crate `tests_fedrun_words`. The status and the text of each fault
@@ -13,23 +14,28 @@
 //! for texts with `print_line`, then `print_text`.
 #![tactic(auto)]
 
+pub mod commands;
 pub mod fault;
 mod given;
 mod line;
 pub mod more;
+mod numbers;
 mod piece;
 mod reading;
 pub mod refusing;
 mod request;
 pub mod text;
 
+pub use commands::{ArgumentWords, CommandKind, CommandWords, OptionWords, all_commands};
 pub use fault::Fault;
 pub use given::given_words;
 pub use more::{MoreFault, NoSuchCommand};
-pub use reading::{WordsFault, read_words};
+pub use numbers::count;
+pub use reading::{WordsFault, asks_for_help, asks_for_version, command_line, read_words};
 pub use refusing::{Answered, refuse};
 pub use request::{
-    AuditRequest, CheckRequest, DrawFederationRequest, DrawScheduleRequest, FramesRequest,
-    LintRequest, RecordRequest, ReplayRequest, Request, RunRequest, WholeRequest,
+    AboutRequest, AboutTopic, AuditRequest, CheckRequest, DrawFederationRequest,
+    DrawScheduleRequest, FramesRequest, LintRequest, RecordRequest, ReplayRequest, Request,
+    RunRequest, Shell, TraceRequest, WholeRequest,
 };
 pub use text::{print_line, print_text};

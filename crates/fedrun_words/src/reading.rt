@@ -1,6 +1,9 @@
+use crate::commands::{ArgumentWords, CommandKind, CommandWords, OptionWords, all_commands};
+use crate::numbers::count;
 use crate::request::{
-    AuditRequest, CheckRequest, DrawFederationRequest, DrawScheduleRequest, FramesRequest,
-    LintRequest, RecordRequest, ReplayRequest, Request, RunRequest, WholeRequest,
+    AboutRequest, AboutTopic, AuditRequest, CheckRequest, DrawFederationRequest,
+    DrawScheduleRequest, FramesRequest, LintRequest, RecordRequest, ReplayRequest, Request,
+    RunRequest, Shell, TraceRequest, WholeRequest,
 };
 use clap::error::{Error, ErrorKind};
 use clap::{Arg, ArgAction, ArgMatches, Command};
@@ -11,122 +14,6 @@ use std::alloc::{AllocError, Global};
 /// The turns of a run for which no number is given.
 const RUN_TURNS: u32 = 1_000_000;
 
-/// Which subcommand it is.
-#[derive(Clone, Copy)]
-enum CommandKind {
-    Whole,
-    Check,
-    Replay,
-    Run,
-    Record,
-    Frames,
-    Draw,
-    Lint,
-    Audit,
-}
-
-/// A subcommand, and the names of what is given to it.
-#[derive(Clone, Copy)]
-struct Subcommand {
-    kind: CommandKind,
-    name: &'static str,
-    /// The arguments that have to be there.
-    arguments: &'static [&'static str],
-    /// The arguments that may stand after these.
-    may_follow: &'static [&'static str],
-    /// The last argument, of which there is one or more.
-    several: Option<&'static str>,
-    /// The options with a value each.
-    options: &'static [&'static str],
-    /// The options without a value.
-    flags: &'static [&'static str],
-}
-
-/// The subcommands.
-const SUBCOMMANDS: [Subcommand; 9] = [
-    Subcommand {
-        kind: CommandKind::Whole,
-        name: "whole",
-        arguments: &["FED", "IN", "TURNS"],
-        may_follow: &[],
-        several: None,
-        options: &[],
-        flags: &["csv", "progress"],
-    },
-    Subcommand {
-        kind: CommandKind::Check,
-        name: "check",
-        arguments: &["FED"],
-        may_follow: &[],
-        several: None,
-        options: &[],
-        flags: &[],
-    },
-    Subcommand {
-        kind: CommandKind::Replay,
-        name: "replay",
-        arguments: &["FED", "IN", "SCHEDULE"],
-        may_follow: &[],
-        several: None,
-        options: &["until-stuck"],
-        flags: &["csv", "progress"],
-    },
-    Subcommand {
-        kind: CommandKind::Run,
-        name: "run",
-        arguments: &["FED", "IN"],
-        may_follow: &[],
-        several: None,
-        options: &["turns", "frames"],
-        flags: &["csv", "progress"],
-    },
-    Subcommand {
-        kind: CommandKind::Record,
-        name: "record",
-        arguments: &["FED", "IN"],
-        may_follow: &[],
-        several: None,
-        options: &["turns", "frames"],
-        flags: &["progress"],
-    },
-    Subcommand {
-        kind: CommandKind::Frames,
-        name: "frames",
-        arguments: &["FED", "IN", "SCHEDULE"],
-        may_follow: &[],
-        several: None,
-        options: &["until-stuck"],
-        flags: &[],
-    },
-    Subcommand {
-        kind: CommandKind::Draw,
-        name: "draw",
-        arguments: &["FED"],
-        may_follow: &["IN", "SCHEDULE"],
-        several: None,
-        options: &["until-stuck"],
-        flags: &[],
-    },
-    Subcommand {
-        kind: CommandKind::Lint,
-        name: "lint",
-        arguments: &["FED"],
-        may_follow: &["IN"],
-        several: None,
-        options: &[],
-        flags: &[],
-    },
-    Subcommand {
-        kind: CommandKind::Audit,
-        name: "audit",
-        arguments: &["FED", "IN", "COORDINATOR"],
-        may_follow: &[],
-        several: Some("FEDERATE"),
-        options: &[],
-        flags: &["csv"],
-    },
-];
-
 /// Why the words give no request.
 #[derive(Clone, Copy, Debug, PartialEq, Eq)]
 pub enum WordsFault {
@@ -136,42 +23,76 @@ pub enum WordsFault {
     Memory,
 }
 
-/// What the words ask for: one subcommand with its arguments and options.
+/// What the words ask for: one subcommand with its arguments and options, or help.
 pub fn read_words<'a>(alloc: Global, words: &'a [String]) -> Result<Request<'a>, WordsFault> {
-    let matches = parsed(alloc, words)?;
-    requested(alloc, &matches)
-}
-
-// The words, parsed.
-fn parsed<'a>(alloc: Global, words: &'a [String]) -> Result<ArgMatches<'a>, WordsFault> {
-    match commands(alloc) {
-        Ok(command) => command
-            .try_get_matches_from(words)
-            .map_err(|error| fault_of(&error)),
-        Err(_) => Err(WordsFault::Memory),
+    let Ok(command) = command_line(alloc) else {
+        return Err(WordsFault::Memory);
+    };
+    match command.try_get_matches_from(words) {
+        Ok(matches) => requested(alloc, &matches),
+        Err(error) => unparsed(&error, words),
     }
 }
 
-// Why the words can't be parsed.
-fn fault_of(error: &Error) -> WordsFault {
-    if error.kind() == ErrorKind::OutOfMemory {
-        WordsFault::Memory
-    } else {
-        WordsFault::Usage
+/// Whether the words ask for the version, and nothing else.
+pub fn asks_for_version(words: &[String]) -> bool {
+    match words {
+        [word] => word.as_str() == "--version",
+        _ => false,
     }
+}
+
+/// Whether one of the words asks for help: `--help` or `-h`, before the words that may begin with a hyphen.
+pub fn asks_for_help(words: &[String]) -> bool {
+    words
+        .iter()
+        .map(|word| word.as_str())
+        .take_while(|word| *word != "--")
+        .any(|word| word == "--help" || word == "-h")
+}
+
+// What is answered where the words can't be parsed.
+fn unparsed<'a>(error: &Error, words: &[String]) -> Result<Request<'a>, WordsFault> {
+    match error.kind() {
+        ErrorKind::OutOfMemory => Err(WordsFault::Memory),
+        ErrorKind::DisplayHelp => Ok(about(help_of(words))),
+        _ => Err(WordsFault::Usage),
+    }
+}
+
+// The help for which these words ask: of the command with which they begin, or of all.
+fn help_of(words: &[String]) -> AboutTopic {
+    match words.first().and_then(|word| named(word.as_str())) {
+        Some(command) => AboutTopic::Command(command),
+        None => AboutTopic::Commands,
+    }
+}
+
+// The command of this name.
+fn named(name: &str) -> Option<&'static CommandWords> {
+    all_commands().iter().find(|command| command.name == name)
+}
+
+// The request for what the program says of all its commands.
+fn about<'a>(topic: AboutTopic) -> Request<'a> {
+    Request::About(AboutRequest {
+        commands: all_commands(),
+        topic,
+    })
 }
 
 // The request of words that were parsed.
 fn requested<'a>(alloc: Global, matches: &ArgMatches<'a>) -> Result<Request<'a>, WordsFault> {
-    for subcommand in &SUBCOMMANDS {
-        if let Some(given) = matches.subcommand_matches(subcommand.name) {
-            return request(alloc, subcommand.kind, given);
+    for command in all_commands() {
+        if let Some(given) = matches.subcommand_matches(command.name) {
+            return request(alloc, command.kind, given);
         }
     }
     Err(WordsFault::Usage)
 }
 
-// The request of a subcommand with these arguments and options.
+// The request of a subcommand with these arguments and options. Those of one node on a machine of its own are no
+// requests.
 fn request<'a>(
     alloc: Global,
     kind: CommandKind,
@@ -184,58 +105,65 @@ fn request<'a>(
         CommandKind::Run => run(given),
         CommandKind::Record => record(given),
         CommandKind::Frames => frames_of_schedule(given),
+        CommandKind::Trace => trace(given),
         CommandKind::Draw => draw(given),
         CommandKind::Lint => lint(given),
         CommandKind::Audit => return audit(alloc, given),
+        CommandKind::Help => help(given),
+        CommandKind::Completions => completions(given),
+        CommandKind::Manual => Some(about(AboutTopic::Manual)),
+        CommandKind::Coordinate | CommandKind::Join => None,
     };
     request.ok_or(WordsFault::Usage)
 }
 
-// The subcommands, with their arguments and options.
-fn commands<'a>(alloc: Global) -> Result<Command<'a>, AllocError> {
+/// The command line as `clap` has it: the commands, with their arguments and options.
+pub fn command_line<'a>(alloc: Global) -> Result<Command<'a>, AllocError> {
     let mut command = Command::new(alloc, "fedrun")
+        .bin_name("fedrun")?
         .no_binary_name(true)
-        .disable_help_flag(true)
         .disable_help_subcommand(true)
         .subcommand_required(true);
-    for subcommand in &SUBCOMMANDS {
-        command = command.subcommand(described(alloc, *subcommand)?)?;
+    for words in all_commands() {
+        command = command.subcommand(described(alloc, words)?)?;
     }
     Ok(command)
 }
 
-// A subcommand as `clap` has it. An option, with a value or without, may be given once.
-fn described<'a>(alloc: Global, subcommand: Subcommand) -> Result<Command<'a>, AllocError> {
-    let mut command = Command::new(alloc, subcommand.name).disable_help_flag(true);
-    for argument in subcommand.arguments {
-        command = command.arg(Arg::new(alloc, *argument).required(true))?;
+// A command as `clap` has it.
+fn described<'a>(alloc: Global, words: &CommandWords) -> Result<Command<'a>, AllocError> {
+    let mut command = Command::new(alloc, words.name).about(words.about);
+    for argument in words.arguments {
+        command = command.arg(described_argument(alloc, argument).required(true))?;
     }
-    for argument in subcommand.may_follow {
-        command = command.arg(Arg::new(alloc, *argument))?;
+    for argument in words.may_follow {
+        command = command.arg(described_argument(alloc, argument))?;
     }
-    if let Some(argument) = subcommand.several {
-        command = command.arg(
-            Arg::new(alloc, argument)
-                .required(true)
-                .num_args(1..)
-                .action(ArgAction::Append),
-        )?;
-    }
-    for option in subcommand.options {
-        command = command.arg(
-            Arg::new(alloc, *option)
-                .long(*option)
-                .action(ArgAction::Set),
-        )?;
-    }
-    for flag in subcommand.flags {
-        command = command.arg(
-            Arg::new(alloc, *flag)
-                .long(*flag)
-                .action(ArgAction::SetTrue),
-        )?;
+    for option in words.options {
+        command = command.arg(described_option(alloc, option))?;
     }
     Ok(command)
+}
+
+fn described_argument<'a>(alloc: Global, words: &ArgumentWords) -> Arg<'a> {
+    let argument = Arg::new(alloc, words.name).help(words.about);
+    if words.is_repeated {
+        argument.num_args(1..).action(ArgAction::Append)
+    } else {
+        argument
+    }
+}
+
+// An option as `clap` has it: with a value or without, it may be given once.
+fn described_option<'a>(alloc: Global, words: &OptionWords) -> Arg<'a> {
+    let option = Arg::new(alloc, words.name)
+        .long(words.name)
+        .required(words.is_needed)
+        .help(words.about);
+    match words.value {
+        Some(value) => option.action(ArgAction::Set).value_name(value),
+        None => option.action(ArgAction::SetTrue),
+    }
 }
 
 fn whole<'a>(given: &ArgMatches<'a>) -> Option<Request<'a>> {
@@ -284,6 +212,15 @@ fn record<'a>(given: &ArgMatches<'a>) -> Option<Request<'a>> {
 
 fn frames_of_schedule<'a>(given: &ArgMatches<'a>) -> Option<Request<'a>> {
     Some(Request::Frames(FramesRequest {
+        federation: given.get_str("FED")?,
+        inputs: given.get_str("IN")?,
+        schedule: given.get_str("SCHEDULE")?,
+        until_stuck: until_stuck(given)?,
+    }))
+}
+
+fn trace<'a>(given: &ArgMatches<'a>) -> Option<Request<'a>> {
+    Some(Request::Trace(TraceRequest {
         federation: given.get_str("FED")?,
         inputs: given.get_str("IN")?,
         schedule: given.get_str("SCHEDULE")?,
@@ -342,6 +279,24 @@ fn audit<'a>(alloc: Global, given: &ArgMatches<'a>) -> Result<Request<'a>, Words
     }
 }
 
+// All commands, or one by its name.
+fn help<'a>(given: &ArgMatches<'a>) -> Option<Request<'a>> {
+    match given.get_str("COMMAND") {
+        Some(name) => Some(about(AboutTopic::Command(named(name)?))),
+        None => Some(about(AboutTopic::Commands)),
+    }
+}
+
+fn completions<'a>(given: &ArgMatches<'a>) -> Option<Request<'a>> {
+    let shell = match given.get_str("SHELL")? {
+        "bash" => Shell::Bash,
+        "zsh" => Shell::Zsh,
+        "fish" => Shell::Fish,
+        _ => return None,
+    };
+    Some(about(AboutTopic::Completions(shell)))
+}
+
 // How many closing rounds there may be, where some are asked for. None where the words say no number.
 fn until_stuck(given: &ArgMatches<'_>) -> Option<Option<u32>> {
     match given.get_str("until-stuck") {
@@ -376,14 +331,5 @@ fn frames(given: &ArgMatches<'_>) -> Option<u8> {
             _ => None,
         },
         None => Some(BATCHING),
-    }
-}
-
-// A number of turns or rounds, in ASCII digits.
-fn count(text: &str) -> Option<u32> {
-    if text.bytes().all(|byte| byte.is_ascii_digit()) {
-        text.parse::<u32>().ok()
-    } else {
-        None
     }
 }

@@ -1,5 +1,6 @@
 //! What the words ask for: a variant for each command, with a struct of what is given to it. Files are given by their
 //! names; an `inputs` of `-` is a file without any.
+use crate::commands::CommandWords;
 use files_text::RowFormat;
 
 /// What the words ask for.
@@ -17,6 +18,8 @@ pub enum Request<'a> {
     Record(RecordRequest<'a>),
     /// Each step of a schedule, with the frames that it sent.
     Frames(FramesRequest<'a>),
+    /// The same as trace events.
+    Trace(TraceRequest<'a>),
     /// The picture of the federation.
     DrawFederation(DrawFederationRequest<'a>),
     /// The picture of a schedule.
@@ -25,6 +28,8 @@ pub enum Request<'a> {
     Audit(AuditRequest<'a>),
     /// All that is wrong or odd in the two files.
     Lint(LintRequest<'a>),
+    /// What the program says of its own commands.
+    About(AboutRequest),
 }
 
 /// What is given to `whole`.
@@ -87,6 +92,16 @@ pub struct FramesRequest<'a> {
     pub until_stuck: Option<u32>,
 }
 
+/// What is given to `trace`.
+#[derive(Clone, Copy, Debug, PartialEq, Eq)]
+pub struct TraceRequest<'a> {
+    pub federation: &'a str,
+    pub inputs: &'a str,
+    pub schedule: &'a str,
+    /// How many closing rounds there may be after the schedule, where some are asked for.
+    pub until_stuck: Option<u32>,
+}
+
 /// What is given to `draw`, where it is given no schedule.
 #[derive(Clone, Copy, Debug, PartialEq, Eq)]
 pub struct DrawFederationRequest<'a> {
@@ -120,4 +135,33 @@ pub struct AuditRequest<'a> {
 pub struct LintRequest<'a> {
     pub federation: &'a str,
     pub inputs: &'a str,
+}
+
+/// What the program says of its own commands.
+#[derive(Clone, Copy, Debug, PartialEq, Eq)]
+pub struct AboutRequest {
+    /// The commands that there are.
+    pub commands: &'static [CommandWords],
+    pub topic: AboutTopic,
+}
+
+/// What of its own commands the program says.
+#[derive(Clone, Copy, Debug, PartialEq, Eq)]
+pub enum AboutTopic {
+    /// The usage of all commands, and what each does.
+    Commands,
+    /// The usage of this command of the table, and what is given to it.
+    Command(&'static CommandWords),
+    /// For this shell, which words it may complete.
+    Completions(Shell),
+    /// The manual page.
+    Manual,
+}
+
+/// A shell for which there are completions.
+#[derive(Clone, Copy, Debug, PartialEq, Eq)]
+pub enum Shell {
+    Bash,
+    Zsh,
+    Fish,
 }

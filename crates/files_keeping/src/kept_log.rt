@@ -1,11 +1,13 @@
-ghost use Rattle.std.specs.Prelude.{◌≡◌, ◌⊎◌, true, false, ℕ, List, ◌++◌, length, IsTrue, IfErr, OnOk, OnErr};
+ghost use Rattle.std.specs.Prelude.{◌≡◌, ◌⊎◌, true, false, ℕ, List, ◌++◌, length, IsTrue, IfOk, IfErr, OnOk};
+ghost use Rattle.std.specs.Prelude.{OnErr};
 ghost use Rattle.files_keeping.specs.Disk.{IsFrontOf, HasTail, LeavesOnly, LeavesJust};
 ghost use Rattle.files_keeping.specs.Log.{IsOpen, count_of};
 ghost use Rattle.files_keeping.specs.declared.keep_fault.KeepFault.TheVariants.{FailedBefore, CannotAppend};
-ghost use Rattle.files_keeping.specs.declared.keep_fault.KeepFault.TheVariants.{CannotSync};
+ghost use Rattle.files_keeping.specs.declared.keep_fault.KeepFault.TheVariants.{CannotRead, CannotSync};
 
 use crate::device::Device;
 use crate::keep_fault::KeepFault;
+use std::alloc::Global;
 use std::marker::Model;
 
 /// A log that a disk keeps, block by block.
@@ -70,6 +72,25 @@ impl<D: Device> KeptLog<D> {
         Ok(())
     }
 
+    /// All bytes of the file: those that are kept.
+    pub fn read(&mut self, alloc: Global) -> Result<Vec<u8>, KeepFault>
+        ensures read { IfOk result (λ bytes. IsTrue D.is_known → bytes.items ≡ D.synced self.old.device) }
+        ensures same { IsTrue D.is_known → D.synced self.new.device ≡ D.synced self.old.device }
+        ensures kept { self.new.kept ≡ self.old.kept }
+        ensures open { OnOk result (IsOpen D.is_known D.seen D.synced D.leaves D.standing self.new.device) }
+        ensures no_more { OnErr result ((D.standing self.new.device).has_failed ≡ true) }
+        ensures fault { IfErr result (λ fault. (fault ≡ FailedBefore) ⊎ (fault ≡ CannotRead)) }
+        ensures failed_before { (D.standing self.old.device).has_failed ≡ true
+            → (result ≡ Err FailedBefore) × (self.new ≡ self.old) }
+        ensures any_moment { IsTrue D.is_known → (D.standing self.old.device).has_failed ≡ false
+            → LeavesOnly D.moment D.left self.old.device self.new.device (λ left. left ≡ D.synced self.old.device) }
+    {
+        if self.device.has_failed() {
+            return Err(KeepFault::FailedBefore);
+        }
+        Ok(self.device.read(alloc)?)
+    }
+
     /// The device, on which nothing more is kept.
     pub fn into_device(self) -> D
         ensures { result ≡ self.device }
@@ -88,8 +109,8 @@ impl<D: Device> KeptLog<D> {
     }
 }
 
-// One append, one sync.
-fn append_synced<D: Device>(device: &mut D, bytes: &[u8]) -> Result<(), KeepFault>
+/// Appends these bytes to a file, and has the disk keep them.
+pub fn append_synced<D: Device>(device: &mut D, bytes: &[u8]) -> Result<(), KeepFault>
     requires { IsOpen D.is_known D.seen D.synced D.leaves D.standing device.old }
     ensures kept { OnOk result (IsTrue D.is_known → D.synced device.new ≡ D.synced device.old ++ bytes.now) }
     ensures not_kept { OnErr result (IsTrue D.is_known → D.synced device.new ≡ D.synced device.old) }

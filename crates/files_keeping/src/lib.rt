@@ -13,6 +13,7 @@
 //!     settle      --> sync_folder, cut, sync    a torn block is gone, also where the machine stops
 //!     KeptLog::new
 //!     keep        --> append, sync
+//!     read        --> read    all that is kept
 //!
 //! Begin with `specs/Disk`, then `device`, `opening` and `kept_log`. The machine's file is `MachineDevice`, one in
 //! memory for tests is `MemoryDevice`.
@@ -31,8 +32,8 @@ pub mod standing;
 pub use call::Call;
 pub use device::Device;
 pub use keep_fault::KeepFault;
-pub use kept_log::KeptLog;
-pub use machine::MachineDevice;
+pub use kept_log::{KeptLog, append_synced};
+pub use machine::{KeptBy, MachineDevice};
 pub use memory_device::{MemoryDevice, Part};
 pub use opening::{read_locked, settle};
 pub use reading::all_or_none_is_read;

@@ -12,12 +12,22 @@ use std::io::{Read, Seek, Write};
 use std::path::Path;
 use std::{fs, rt};
 
+/// Who keeps what is appended, where a call says so.
+#[derive(Clone, Copy, Debug, PartialEq, Eq)]
+pub enum KeptBy {
+    /// The disk: also where the machine loses its power.
+    Disk,
+    /// The system alone, which writes it to the disk when it likes: where the process is killed, and no more.
+    System,
+}
+
 /// A file on the machine's disk.
 #[derive(Drop)]
 pub struct MachineDevice {
     file: File,
     // None where it can't be opened, and so not be synced.
     folder: Option<File>,
+    kept_by: KeptBy,
     standing: Standing,
 }
 
@@ -27,7 +37,11 @@ impl MachineDevice {
 
     /// Opens the file of this name, and makes it where there is none. It may be another's: it is locked before it is
     /// read.
-    pub fn open<R: rt::Files<File = File>>(rt: &R, name: &str) -> Result<MachineDevice, KeepFault>
+    pub fn open<R: rt::Files<File = File>>(
+        rt: &R,
+        name: &str,
+        kept_by: KeptBy,
+    ) -> Result<MachineDevice, KeepFault>
         ensures fresh { IfOk result (λ device. machine_standing device ≡ fresh) }
         ensures fault { IfErr result (λ fault. fault ≡ CannotOpen) }
     {
@@ -42,6 +56,7 @@ impl MachineDevice {
         Ok(MachineDevice {
             file,
             folder: fs::open(rt, folder_of(name)).ok(),
+            kept_by,
             standing: Standing {
                 is_locked: false,
                 is_named: false,
@@ -65,6 +80,14 @@ fn folder_of(name: &str) -> &str {
     match Path::new(name).parent() {
         Some(folder) if !folder.as_str().is_empty() => folder.as_str(),
         _ => ".",
+    }
+}
+
+// Whether the disk says that it keeps a folder's names.
+fn is_synced(folder: &Option<File>) -> bool {
+    match folder {
+        Some(folder) => folder.sync_all().is_ok(),
+        None => false,
     }
 }
 
@@ -126,18 +149,16 @@ impl Device for MachineDevice {
     }
 
     fn sync(&mut self) -> Result<(), KeepFault> {
-        if self.file.sync_data().is_ok() {
+        if self.kept_by == KeptBy::System || self.file.sync_data().is_ok() {
             return Ok(());
         }
         self.fail(KeepFault::CannotSync)
     }
 
     fn sync_folder(&mut self) -> Result<(), KeepFault> {
-        if let Some(folder) = &self.folder {
-            if folder.sync_all().is_ok() {
-                self.standing.is_named = true;
-                return Ok(());
-            }
+        if self.kept_by == KeptBy::System || is_synced(&self.folder) {
+            self.standing.is_named = true;
+            return Ok(());
         }
         self.fail(KeepFault::CannotSyncFolder)
     }

@@ -13,6 +13,8 @@ pub mod Headed
 pub mod OneLog
 -- whole logs
 pub mod Whole
+-- whole logs that go on
+pub mod Going
 -- sums that are made piece by piece
 pub mod Pieces
 -- what the parts of reading answer

@@ -3,6 +3,7 @@ use Rattle.std.specs.Prelude.{◌≡◌, ◌≢◌, ◌⊎◌, ⊤, ℕ, ◌<◌
 use Rattle.std.specs.Prelude.{Option, Some, None, Err}
 use Rattle.std.specs.List.{AllByRecursion}
 use Rattle.sha2.specs.Sha256.{sha256}
+use Rattle.node.specs.declared.event.Event.{Event}
 use Rattle.files_reports.specs.declared.file_digests.FileDigests.{FileDigests}
 use Rattle.files_reports.specs.declared.content_fault.ContentFault.{ContentFault}
 use Rattle.files_logs.specs.declared.layout.TheConstants.{HEAD_SIZE}
@@ -31,6 +32,18 @@ pub data IsRead (head : LogHead) (bytes : List ℕ) (log : Log) : Type 0 where
   -- or blocks and the end
   ended : (blocks : List (List Item)) → IsLog head blocks → bytes ≡ ended_bytes head blocks
       → log ≡ log_of head blocks (length bytes) true → IsRead head bytes log
+
+-- All of these bytes are a log with this head, with this sum behind its last block. This is what it says:
+abbrev pub IsWholeLog : LogHead → List ℕ → ℕ → List Event → Bool → Bool → Type 0
+-- which events came, whether the run is finished, and whether the node ended.
+IsWholeLog head bytes sum journal told closed = IsRead head bytes (record {
+  who = head.who;
+  journal = journal;
+  is_told = told;
+  is_ended = closed;
+  whole = length bytes;
+  sum = sum;
+})
 
 -- whose log is asked for: this node's, or any node's
 abbrev pub IsAsked : Option ℕ → ℕ → Type 0

@@ -1,7 +1,9 @@
 //! What the definitions of logs keep. Each function's contract is a law; it does nothing.
 
-ghost use Rattle.std.specs.Prelude.{◌≡◌, ◌-◌, ◌<◌, ◌≤◌, ◌||◌, ◌++◌, ℕ, List, Option, length, take, true, false};
+ghost use Rattle.std.specs.Prelude.{◌≡◌, ◌-◌, ◌<◌, ◌≤◌, ◌||◌, ◌++◌, ℕ, Bool, List, [], Option, length, take};
+ghost use Rattle.std.specs.Prelude.{true, false};
 ghost use Rattle.std.specs.List.{AllByRecursion};
+ghost use Rattle.node.specs.declared.event.Event.{Event};
 ghost use Rattle.files_reports.specs.declared.file_digests.FileDigests.{FileDigests};
 ghost use Rattle.files_logs.specs.declared.layout.TheConstants.{HEAD_SIZE};
 ghost use Rattle.files_logs.specs.declared.item.Item.{Item};
@@ -9,8 +11,10 @@ ghost use Rattle.files_logs.specs.declared.log_head.LogHead.{LogHead};
 ghost use Rattle.files_logs.specs.declared.log.Log.{Log};
 ghost use Rattle.files_logs.specs.declared.log_fault.LogFault.TheVariants.{NoLog};
 ghost use Rattle.files_logs.specs.Blocks.{IsBlock, blocks_bytes, sum_behind, events_in, is_told_by};
-ghost use Rattle.files_logs.specs.Log.{log_bytes, ended_bytes, last_sum, IsLog, log_of};
-ghost use Rattle.files_logs.specs.Reading.{IsRead, IsLogRead, IsLogFault};
+ghost use Rattle.files_logs.specs.Log.{head_bytes, head_sum, IsHead, log_bytes, end_bytes, ended_bytes, last_sum};
+ghost use Rattle.files_logs.specs.Log.{IsLog, log_of};
+ghost use Rattle.files_logs.specs.Reading.{IsRead, IsWholeLog, IsLogRead, IsLogFault};
+ghost use Rattle.files_logs.specs.Writing.{blocks_for};
 ghost use Rattle.files_logs.specs.Cuts.{whole_within, IsTornTail, front_log};
 
 /// What was written is read, with and without its end.
@@ -59,4 +63,35 @@ pub fn appended_blocks_are_read()
     ensures events { (blocks more : List (List Item)) → events_in (blocks ++ more) ≡ events_in blocks ++ events_in more }
     ensures told { (blocks more : List (List Item))
         → is_told_by (blocks ++ more) ≡ (is_told_by blocks || is_told_by more) }
+{}
+
+/// A log whose torn tail is cut off is whole, and says what it said.
+pub fn settled_logs_are_whole()
+    ensures within { (head : LogHead) (bytes : List ℕ) (log : Log) → IsRead head bytes log → log.whole ≤ length bytes }
+    ensures whole { (head : LogHead) (bytes : List ℕ) (log : Log) → IsRead head bytes log
+        → IsWholeLog head (take log.whole bytes) log.sum log.journal log.is_told log.is_ended }
+{}
+
+/// A head is a log without events. A whole log goes on: with a block behind it it says what that says too, and with an
+/// end that the node ended. What a crash leaves of either is dropped.
+pub fn logs_go_on()
+    ensures begins { (head : LogHead) → IsHead head → IsWholeLog head (head_bytes head) (head_sum head) [] false false }
+    ensures goes_on { (head : LogHead) (bytes : List ℕ) (sum : ℕ) (journal : List Event) (told : Bool)
+        (events : List Event) (tells : Bool) → IsWholeLog head bytes sum journal told false
+        → AllByRecursion IsBlock (blocks_for events tells)
+        → IsWholeLog head (bytes ++ blocks_bytes sum (blocks_for events tells))
+        (sum_behind sum (blocks_for events tells)) (journal ++ events) (told || tells) false }
+    ensures ends { (head : LogHead) (bytes : List ℕ) (sum : ℕ) (journal : List Event) (told : Bool)
+        → IsWholeLog head bytes sum journal told false
+        → IsWholeLog head (bytes ++ end_bytes sum bytes) sum journal told true }
+    ensures torn { (head : LogHead) (bytes : List ℕ) (sum : ℕ) (journal : List Event) (told : Bool) (tail : List ℕ)
+        → IsWholeLog head bytes sum journal told false → IsTornTail sum tail
+        → IsRead head (bytes ++ tail) (record {
+          who = head.who;
+          journal = journal;
+          is_told = told;
+          is_ended = false;
+          whole = length bytes;
+          sum = sum;
+        }) }
 {}

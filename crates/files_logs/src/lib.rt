@@ -35,7 +35,7 @@ pub use item::Item;
 pub use log::Log;
 pub use log_fault::LogFault;
 pub use log_head::LogHead;
-pub use read::read_log;
+pub use read::{is_log, read_log};
 pub use write::{write_block, write_end, write_head};
 pub use write_fault::LogWriteFault;
 pub use written::Written;

@@ -6,11 +6,11 @@ ghost use Rattle.files_logs.specs.declared.layout.TheConstants.{HEAD_SIZE, SUMME
 ghost use Rattle.files_logs.specs.declared.log.Log.{Log as IsLogValue};
 ghost use Rattle.files_logs.specs.Sums as sums;
 ghost use Rattle.files_logs.specs.Parts.{IsEnding, IsNoEnding};
-ghost use Rattle.files_logs.specs.Reading.{IsRead, IsLogRead, BeginsHead, IsFaultBehind, IsLogFault};
+ghost use Rattle.files_logs.specs.Reading.{IsNamed, IsRead, IsLogRead, BeginsHead, IsFaultBehind, IsLogFault};
 
 use crate::blocks::read_blocks;
 use crate::front::Stop;
-use crate::heads::asked_head;
+use crate::heads::{asked_head, name};
 use crate::layout::{HEAD_SIZE, SIZE_SIZE, SUMMED_SIZE};
 use crate::log::Log;
 use crate::log_fault::LogFault;
@@ -20,6 +20,13 @@ use files_reports::FileDigests;
 use node_journal::Journal;
 use sha2::{Digest, Sha256};
 use std::alloc::Global;
+
+/// Whether bytes begin with the name of the format: then they are a log, or nothing.
+pub fn is_log(bytes: &[u8]) -> bool
+    ensures { IsTrue result ↔ IsNamed bytes.now }
+{
+    bytes.starts_with(name())
+}
 
 /// What a log says that begins these bytes: that of this node, or of any node, in a run of these files, by a program
 /// with these rules. A torn tail is no fault.

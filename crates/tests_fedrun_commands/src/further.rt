@@ -1,5 +1,5 @@
-//! What `frames`, `draw` and `lint` answer and write. The lines are reckoned by hand; of a picture the beginning and
-//! the end are looked at.
+//! What `frames`, `trace`, `draw` and `lint` answer and write. The lines are reckoned by hand; of a trace and of a
+//! picture the beginning and the end are looked at.
 use tests_outcomes::{ANY, Answer, Case, answered};
 use tests_samples::COUNTER;
 
@@ -28,6 +28,7 @@ const NOT_THERE: Answer = (
     &[
         &["draw", "g"],
         &["draw", "f", "-", "g"],
+        &["trace", "f", "-", "g"],
         &["lint", "g"],
         &["lint", "f", "g"],
     ],
@@ -61,6 +62,12 @@ deliver up src 2
   no such frame
 ",
                     ],
+                    &[],
+                ),
+                (
+                    &[&["trace", "f", "-", "s"]],
+                    0,
+                    &["[\n{\"ph\":", ANY, "\n]\n"],
                     &[],
                 ),
                 (&[&["draw", "f"], &["draw", "f", "-", "s"]], 0, PICTURE, &[]),
@@ -109,6 +116,6 @@ deliver up src 2
 ];
 
 #[test]
-fn answers_frames_draw_and_lint(rt: HostRuntime) {
-    assert_eq!(rt; answered(&rt, CASES), Ok(14));
+fn answers_frames_trace_draw_and_lint(rt: HostRuntime) {
+    assert_eq!(rt; answered(&rt, CASES), Ok(16));
 }

@@ -1,7 +1,7 @@
 //! Tests of the commands, over files and writers in memory: which words are done and which are refused; the rows of
 //! runs in threads; what replays print; what is answered where a writer refuses; rows as comma-separated values, which
-//! `whole`, `run` and `replay` print with `--csv`; what `frames`, `draw` and `lint` answer; what is shown of how far a
-//! command is; what `audit` answers of report files. No program uses this crate.
+//! `whole`, `run` and `replay` print with `--csv`; what `frames`, `trace`, `draw` and `lint` answer; what is shown of how
+//! far a command is; what `audit` answers of report files and of logs. No program uses this crate.
 //!
 //! Most of them are tables of words and answers (`Case` of `tests_outcomes`). Begin with `requests`, then `runs` and
 //! `replays`.
@@ -13,6 +13,8 @@ mod audits;
 mod csv_rows;
 #[cfg(test)]
 mod further;
+#[cfg(test)]
+mod logs;
 #[cfg(test)]
 mod progress_line;
 #[cfg(test)]

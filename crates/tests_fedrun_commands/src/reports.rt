@@ -54,8 +54,8 @@ pub fn report_file(
     Some(file)
 }
 
-// What a node says after a run.
-fn report_after(
+/// What a node says after a run.
+pub fn report_after(
     alloc: Global,
     federation: &Federation,
     node: Option<usize>,

@@ -1,5 +1,5 @@
 //! What the words ask for.
-use tests_outcomes::{Answer, Case, answered};
+use tests_outcomes::{ANY, Answer, Case, answered};
 use tests_samples::worked_rows::CHAIN_ROWS_BY_TAG;
 use tests_samples::{CHAIN, CHAIN_INPUT, COUNTER};
 
@@ -10,7 +10,7 @@ const REFUSED: Answer = (
         &["whole", "f", "-", "+4"],
         &["whole", "f", "-i", "4"],
         &["check", "f", "f"],
-        &["--help"],
+        &["-V"],
         &["run"],
         &["run", "f", "-", "--turns", "x"],
         &["run", "f", "-", "--frames", "0"],
@@ -35,11 +35,40 @@ const TWO_TURNS: Answer = (
     &[],
 );
 
+/// Words that ask for help on all commands.
+const HELP: Answer = (
+    &[&["help"], &["--help"]],
+    0,
+    &[
+        "Runs a federation of reactors, ",
+        ANY,
+        "\n\n  fedrun whole counter.toml - 4\n",
+    ],
+    &[],
+);
+
+/// Words that ask for help on one.
+const HELP_ON_CHECK: Answer = (
+    &[&["help", "check"], &["check", "-h"]],
+    0,
+    &[
+        "  fedrun check FED
+      the plan: ranks, and the least delays between federates
+  FED
+      a federation file
+",
+    ],
+    &[],
+);
+
+/// Words that ask for the manual page.
+const MANUAL: Answer = (&[&["man"]], 0, &[".TH FEDRUN 1\n", ANY, "\n"], &[]);
+
 const CASES: &[Case] = &[
     Case {
         federation: &[COUNTER],
         inputs: "",
-        schedules: &[("", &[REFUSED, TWO_TURNS])],
+        schedules: &[("", &[REFUSED, TWO_TURNS, HELP, HELP_ON_CHECK, MANUAL])],
     },
     // A name that begins with a hyphen.
     Case {
@@ -59,5 +88,5 @@ const CASES: &[Case] = &[
 
 #[test]
 fn takes_and_refuses_words(rt: HostRuntime) {
-    assert_eq!(rt; answered(&rt, CASES), Ok(15));
+    assert_eq!(rt; answered(&rt, CASES), Ok(20));
 }

@@ -1,6 +1,6 @@
 //! Tests of nodes on machines of their own: the commands `coordinate`, `join` and `audit`, with files and disks in
-//! memory, each node in a thread of its own in the place of a process, over TCP on loopback. No program uses this
-//! crate.
+//! memory, each node in a thread of its own in the place of a process, over TCP on loopback; and of nodes that keep
+//! logs, on the machine's disk. No program uses this crate.
 //!
 //! Begin with `nodes`, then `worked`; what is read of words alone is in `words`.
 #![tactic(auto)]
@@ -9,6 +9,8 @@
 mod disk;
 #[cfg(test)]
 mod files;
+#[cfg(test)]
+mod logged;
 #[cfg(test)]
 mod nodes;
 #[cfg(test)]

@@ -4,6 +4,9 @@ use crate::files::{NamedFiles, given};
 use crate::spoken::{Spoken, next_line, rest};
 use crossbeam_channel::unbounded;
 use fedrun_hosts::node_command;
+use fedrun_logs::LogDisk;
+use files_keeping::{KeepFault, KeptBy, MemoryDevice};
+use std::alloc::Global;
 use std::io::Write;
 use std::net::{Net, TcpListener, TcpStream};
 use std::random::RandomSource;
@@ -90,6 +93,24 @@ impl Ended {
     }
 }
 
+/// Where no log can be opened.
+#[derive(Drop)]
+struct NoLogs;
+
+impl LogDisk<MemoryDevice> for NoLogs {
+    fn open(&mut self, _name: &str, _kept_by: KeptBy) -> Result<MemoryDevice, KeepFault> {
+        Err(KeepFault::CannotOpen)
+    }
+}
+
+// These words, of a node that keeps no log.
+fn without_log(alloc: Global, words: &[&str], more: &[&str]) -> Option<Vec<String>> {
+    let mut all = Vec::new(alloc);
+    all.extend_from_slice(more).ok()?;
+    all.extend_from_slice(&["--sync", "no"]).ok()?;
+    given(alloc, words, &all)
+}
+
 /// How words of a node's command end, over these files and on this disk: the status, and what is on standard error.
 pub fn commanded<
     R: Machine + Net<Stream = TcpStream, Listener = TcpListener> + RandomSource,
@@ -103,14 +124,14 @@ pub fn commanded<
     out: &mut O,
 ) -> Option<(u8, String)> {
     let alloc = rt.alloc();
-    let words = given(alloc, words, more)?;
+    let words = without_log(alloc, words, more)?;
     let mut files = NamedFiles {
         alloc,
         texts,
         reports: &[],
     };
     let mut err = Vec::new(alloc);
-    let status = node_command(rt, &words, &mut files, disk, out, &mut err);
+    let status = node_command(rt, &words, &mut files, disk, &mut NoLogs, out, &mut err);
     Some((status, String::from_utf8(err).ok()?))
 }
 

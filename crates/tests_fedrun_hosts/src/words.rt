@@ -1,6 +1,7 @@
 //! What the words of a node's command ask for.
 use crate::files::given;
 use fedrun_hosts::{HostRequest, NodeRequest, asks_for_node, read_node_words};
+use files_keeping::KeptBy;
 use std::alloc::Global;
 use std::net::SocketAddr;
 
@@ -41,6 +42,7 @@ fn plain() -> NodeRequest<'static> {
         inputs: "-",
         address: SocketAddr::from(([10, 0, 0, 1], 7000)),
         report: "c.report",
+        log: Some(KeptBy::Disk),
         secret: None,
         patience: None,
     }
@@ -116,6 +118,21 @@ fn options_stand_anywhere_behind_the_command(rt: HostRuntime) {
     assert_eq!(rt; asked, [Some(true); 2]);
 }
 
+// Whether words of a federate with this behind them are a node's command.
+fn is_node(alloc: Global, more: &[&str]) -> Option<bool> {
+    Some(asks_for_node(&given(alloc, JOIN, more)?))
+}
+
+#[test]
+fn help_is_asked_of_no_node(rt: HostRuntime) {
+    let asked = [
+        is_node(rt.alloc(), &[]),
+        is_node(rt.alloc(), &["--help"]),
+        is_node(rt.alloc(), &["--", "--help"]),
+    ];
+    assert_eq!(rt; asked, [Some(true), Some(false), Some(true)]);
+}
+
 const UNNAMED: &[&str] = &["coordinate", "fed.toml", "-", "--listen", "10.0.0.1:7000"];
 
 /// Words, and what stands behind them: what is no such option, or is given twice, and a report without a name.
@@ -130,6 +147,7 @@ const REFUSED: &[(&[&str], &[&str])] = &[
     (JOIN, &["--report", "s"]),
     (JOIN, &["--connect", "10.0.0.2:7000"]),
     (JOIN, &["--csv", "x"]),
+    (JOIN, &["--help"]),
     (JOIN, &["--help", "x"]),
     (UNNAMED, &["--report", ""]),
 ];

@@ -1,8 +1,9 @@
 //! What the words of the command line ask for.
 use fedrun_words::{
-    AuditRequest, CheckRequest, DrawFederationRequest, DrawScheduleRequest, FramesRequest,
-    LintRequest, RecordRequest, ReplayRequest, Request, RunRequest, WholeRequest, WordsFault,
-    read_words,
+    AboutRequest, AboutTopic, AuditRequest, CheckRequest, DrawFederationRequest,
+    DrawScheduleRequest, FramesRequest, LintRequest, RecordRequest, ReplayRequest, Request,
+    RunRequest, Shell, TraceRequest, WholeRequest, WordsFault, all_commands, asks_for_help,
+    asks_for_version, read_words,
 };
 use files_text::RowFormat;
 use std::alloc::Global;
@@ -232,8 +233,8 @@ fn reads_record(rt: HostRuntime) {
     }
 }
 
-// Words of `frames`, `draw` and `lint`, and the request that they are.
-fn looked_at() -> [(&'static [&'static str], Request<'static>); 7] {
+// Words of `frames`, `trace`, `draw` and `lint`, and the request that they are.
+fn looked_at() -> [(&'static [&'static str], Request<'static>); 9] {
     [
         (
             &["frames", "f", "-", "s"],
@@ -251,6 +252,24 @@ fn looked_at() -> [(&'static [&'static str], Request<'static>); 7] {
                 inputs: "i",
                 schedule: "s",
                 until_stuck: Some(7),
+            }),
+        ),
+        (
+            &["trace", "f", "-", "s"],
+            Request::Trace(TraceRequest {
+                federation: "f",
+                inputs: "-",
+                schedule: "s",
+                until_stuck: None,
+            }),
+        ),
+        (
+            &["trace", "f", "i", "s", "--until-stuck", "9"],
+            Request::Trace(TraceRequest {
+                federation: "f",
+                inputs: "i",
+                schedule: "s",
+                until_stuck: Some(9),
             }),
         ),
         (
@@ -293,7 +312,7 @@ fn looked_at() -> [(&'static [&'static str], Request<'static>); 7] {
 }
 
 #[test]
-fn reads_frames_draw_and_lint(rt: HostRuntime) {
+fn reads_frames_trace_draw_and_lint(rt: HostRuntime) {
     for (words, request) in &looked_at() {
         assert!(rt; ask(rt.alloc(), words, Ok(request)), "{words:?}");
     }
@@ -411,11 +430,121 @@ const REFUSED: &[&[&str]] = &[
     &["audit", "f", "-", "c"],
     &["audit", "f", "-", "c", "0", "--turns", "1"],
     &["audit", "f", "-", "c", "0", "--csv", "--csv"],
-    &["replay", "--help"],
-    &["replay", "-h"],
+    &["trace", "f", "-"],
+    &["trace", "f", "-", "s", "--csv"],
+    &["trace", "f", "-", "s", "--until-stuck", "x"],
     &["-V"],
-    &["help", "replay"],
+    &["--version"],
+    &["--version", "run"],
+    &["help", "nonsense"],
+    &["help", "run", "run"],
+    &["nonsense", "--help"],
+    &["run", "f", "-", "--", "--help"],
+    &["completions"],
+    &["completions", "sh"],
+    &["completions", "bash", "zsh"],
+    &["man", "run"],
+    &[
+        "coordinate",
+        "f",
+        "-",
+        "--listen",
+        "127.0.0.1:0",
+        "--report",
+        "r",
+    ],
 ];
+
+/// Words, and what they ask the program to say of its commands.
+const ABOUTS: &[(&[&str], AboutTopic)] = &[
+    (&["help"], AboutTopic::Commands),
+    (&["--help"], AboutTopic::Commands),
+    (&["-h"], AboutTopic::Commands),
+    (
+        &["completions", "bash"],
+        AboutTopic::Completions(Shell::Bash),
+    ),
+    (&["completions", "zsh"], AboutTopic::Completions(Shell::Zsh)),
+    (
+        &["completions", "fish"],
+        AboutTopic::Completions(Shell::Fish),
+    ),
+    (&["man"], AboutTopic::Manual),
+];
+
+#[test]
+fn reads_what_is_asked_of_the_program_itself(rt: HostRuntime) {
+    for (words, topic) in ABOUTS {
+        let request = Request::About(AboutRequest {
+            commands: all_commands(),
+            topic: *topic,
+        });
+        assert!(rt; ask(rt.alloc(), words, Ok(&request)), "{words:?}");
+    }
+}
+
+/// Words that ask for help on a command, and its name.
+const HELPS: &[(&[&str], &str)] = &[
+    (&["help", "replay"], "replay"),
+    (&["replay", "--help"], "replay"),
+    (&["replay", "-h"], "replay"),
+    (&["run", "f", "-", "--help"], "run"),
+    (&["whole", "--help", "f"], "whole"),
+    (&["join", "--help"], "join"),
+    (&["help", "coordinate"], "coordinate"),
+    (&["help", "help"], "help"),
+    (&["help", "--help"], "help"),
+];
+
+// Whether the words ask for help on the command of this name.
+fn ask_for_help_on(alloc: Global, words: &[&str], name: &str) -> bool {
+    match given(alloc, words) {
+        Some(words) => match read_words(alloc, words.as_slice()) {
+            Ok(Request::About(about)) => match about.topic {
+                AboutTopic::Command(command) => command.name == name,
+                _ => false,
+            },
+            _ => false,
+        },
+        None => false,
+    }
+}
+
+#[test]
+fn reads_help_on_a_command(rt: HostRuntime) {
+    for (words, name) in HELPS {
+        assert!(rt; ask_for_help_on(rt.alloc(), words, name), "{words:?}");
+    }
+}
+
+/// Words, whether one of them asks for help, and whether they ask for the version.
+const ASKED: &[(&[&str], bool, bool)] = &[
+    (&[], false, false),
+    (&["--version"], false, true),
+    (&["--version", "run"], false, false),
+    (&["run", "--version"], false, false),
+    (&["join", "--help"], true, false),
+    (&["join", "f", "-h"], true, false),
+    (&["join", "--", "--help"], false, false),
+    (&["help"], false, false),
+];
+
+// Whether words ask for help, and for the version, as is said.
+fn are_asked(alloc: Global, words: &[&str], help: bool, version: bool) -> bool {
+    match given(alloc, words) {
+        Some(words) => {
+            asks_for_help(words.as_slice()) == help && asks_for_version(words.as_slice()) == version
+        }
+        None => false,
+    }
+}
+
+#[test]
+fn tells_words_that_ask_for_help_or_the_version(rt: HostRuntime) {
+    for (words, help, version) in ASKED {
+        assert!(rt; are_asked(rt.alloc(), words, *help, *version), "{words:?}");
+    }
+}
 
 #[test]
 fn refuses_words_that_are_no_command(rt: HostRuntime) {

@@ -1,5 +1,5 @@
 //! A log on the machine's disk.
-use files_keeping::{Device, KeepFault, KeptLog, MachineDevice, read_locked, settle};
+use files_keeping::{Device, KeepFault, KeptBy, KeptLog, MachineDevice, read_locked, settle};
 use std::fs::File;
 use std::{fs, rt};
 
@@ -18,7 +18,7 @@ fn opened<R: rt::Files<File = File> + AllocGlobal>(
     rt: &R,
     whole: usize,
 ) -> Result<KeptLog<MachineDevice>, KeepFault> {
-    let mut device = MachineDevice::open(rt, NAME)?;
+    let mut device = MachineDevice::open(rt, NAME, KeptBy::Disk)?;
     read_locked(rt.alloc(), &mut device)?;
     settle(&mut device, whole)?;
     Ok(KeptLog::new(device, whole))
@@ -53,7 +53,7 @@ fn goes_on<R: rt::Files<File = File> + AllocGlobal>(rt: &R) -> bool {
 
 // Whether a file is read that was there, and again.
 fn reads<R: rt::Files<File = File> + AllocGlobal>(rt: &R) -> bool {
-    let Ok(mut device) = MachineDevice::open(rt, NAME) else {
+    let Ok(mut device) = MachineDevice::open(rt, NAME, KeptBy::Disk) else {
         return false;
     };
     let first = read_locked(rt.alloc(), &mut device);
@@ -70,10 +70,13 @@ fn reads<R: rt::Files<File = File> + AllocGlobal>(rt: &R) -> bool {
 // Whether nothing is opened in a folder that isn't there, nor a folder.
 fn refuses<R: rt::Files<File = File>>(rt: &R) -> bool {
     let nowhere = matches!(
-        MachineDevice::open(rt, "no_folder/log"),
+        MachineDevice::open(rt, "no_folder/log", KeptBy::Disk),
         Err(KeepFault::CannotOpen)
     );
-    let folder = matches!(MachineDevice::open(rt, "."), Err(KeepFault::CannotOpen));
+    let folder = matches!(
+        MachineDevice::open(rt, ".", KeptBy::Disk),
+        Err(KeepFault::CannotOpen)
+    );
     nowhere && folder
 }
 

@@ -8,7 +8,7 @@ ghost use Rattle.std.specs.Thread.{IsSend, IsSync};
 use crate::nodes::desk_of;
 use coordinator::Coordinator;
 use crossbeam_channel::Receiver;
-use desk::Desk;
+use desk::{Desk, Shared};
 use federate::Federate;
 use fedrun_run::coordinator_desk;
 use std::alloc::Global;
@@ -18,7 +18,7 @@ use std::time::{Clock, Duration};
 use tests_samples::Federation;
 use wires::{
     CoordinatorLines, FederateLines, Gathered, NoAcceptor, NoWatcher, Runtime, Work, WorkerResult,
-    run_coordinator, run_federate,
+    gather_desk, run_coordinator, run_federate,
 };
 use wires_transports::{Accepted, Cut, Dial, Ending, Transport};
 use wires_workers::Gate;
@@ -102,11 +102,12 @@ fn ran<
     endings: &Endings,
 ) -> Option<Desk<Federate<'f>>> {
     let ending = endings.federates.get(lines.number)?;
-    let desk = desk_of(alloc, federation, lines.number)?;
-    match run_federate::<R, Federate<'f>, G, T, C, D, NoWatcher>(
-        rt, alloc, desk, lines, NoWatcher, gate, ending,
-    ) {
-        Ok(run) => Some(run.desk),
+    let shared = Shared::new(desk_of(alloc, federation, lines.number)?);
+    let run = run_federate::<R, Federate<'f>, G, T, C, D, NoWatcher>(
+        rt, alloc, &shared, lines, NoWatcher, gate, ending,
+    );
+    match run {
+        Ok(run) => gather_desk(alloc, shared, run.results).ok(),
         Err(_) => None,
     }
 }
@@ -167,7 +168,7 @@ pub(crate) fn run_apart<
     gate: &G,
     endings: &Endings,
 ) -> Option<Gathered<Coordinator<'f>, Federate<'f>>> {
-    let desk = coordinator_desk(alloc, federation.plan()).ok()?;
+    let shared = Shared::new(coordinator_desk(alloc, federation.plan()).ok()?);
     let coordinator_lines = CoordinatorLines {
         arrivals,
         acceptor: NoAcceptor,
@@ -177,11 +178,11 @@ pub(crate) fn run_apart<
     let (federates, coordinator) = thread::join(
         rt,
         || all_ran::<R, G, D, T, C>(rt, alloc, federation, lines, gate, endings),
-        || run_coordinator(rt, alloc, desk, coordinator_lines, watcher, gate, ending),
+        || run_coordinator(rt, alloc, &shared, coordinator_lines, watcher, gate, ending),
     );
-    let (coordinator, federates) = coordinator.ok().zip(federates)?;
+    let (results, federates) = coordinator.ok().zip(federates)?;
     Some(Gathered {
-        coordinator,
+        coordinator: gather_desk(alloc, shared, results).ok()?,
         federates,
     })
 }

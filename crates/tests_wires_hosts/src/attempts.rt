@@ -33,6 +33,7 @@ fn attempted_at<R: Host + Net<Stream = TcpStream, Listener = TcpListener>>(
         &machine,
         host_to_nobody(rt)?,
         &process.heard,
+        &process.barrier,
         &process.last,
         &process.ending,
     );

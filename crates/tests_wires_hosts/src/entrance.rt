@@ -12,7 +12,7 @@ use std::{io, thread};
 use wires_greeting::{FederateSide, Greeting, Key};
 use wires_hosts::{
     DialFault, FederateHost, Heard, HeardTransport, HostAcceptor, HostDial, HostEntrance,
-    LastConnection, listen_at,
+    LastConnection, NoBarrier, listen_at,
 };
 use wires_transports::{
     Accepted, Acceptor, Connection, Dial, Ending, TcpCut, TcpTransport, Transport,
@@ -50,10 +50,10 @@ pub const ACKNOWLEDGEMENT: [u8; 20] = [0, 0, 0, 13, 3, 0, 0, 0, 1, 0, 0, 0, 0, 0
 pub const LONG_MS: u64 = 20_000;
 
 /// What comes to a federate's reader at the coordinator.
-pub type Arrivals<'a> = Receiver<Accepted<HeardTransport<'a, TcpTransport>, TcpCut>>;
+pub type Arrivals<'a> = Receiver<Accepted<HeardTransport<'a, TcpTransport, NoBarrier>, TcpCut>>;
 
 /// A federate's connection.
-pub type Own<'a> = Connection<HeardTransport<'a, TcpTransport>, TcpCut>;
+pub type Own<'a> = Connection<HeardTransport<'a, TcpTransport, NoBarrier>, TcpCut>;
 
 /// Where a coordinator of three federates lets processes in.
 #[derive(Drop)]
@@ -139,7 +139,7 @@ pub fn visited_by<
     readers.push(second_reader).ok()?;
     readers.push(third_reader).ok()?;
     let host = host_at(listener, V::PATIENCE_MS)?;
-    let acceptor = HostAcceptor::new(alloc, random, host, &heard, readers).ok()?;
+    let acceptor = HostAcceptor::new(alloc, random, host, &heard, &NoBarrier, readers).ok()?;
     let entrance = Entrance {
         alloc,
         address,
@@ -164,8 +164,8 @@ pub fn visited_by<
     Some(seen? && V::is_right(&heard))
 }
 
-// What a coordinator that listens there has, and how long it tells whoever asks that the run is finished, in ms.
-fn host_at(listener: TcpListener, patience_ms: u64) -> Option<HostEntrance> {
+/// What a coordinator that listens there has, and how long it tells whoever asks that the run is finished, in ms.
+pub fn host_at(listener: TcpListener, patience_ms: u64) -> Option<HostEntrance> {
     Some(HostEntrance {
         listener,
         key: key_of(SECRET)?,
@@ -180,12 +180,12 @@ pub fn acceptor_at<'a, S: RandomSource>(
     random: &'a S,
     listener: TcpListener,
     heard: &'a Heard,
-) -> Option<(HostAcceptor<'a, S>, Arrivals<'a>)> {
+) -> Option<(HostAcceptor<'a, S, NoBarrier>, Arrivals<'a>)> {
     let (reader, arrivals) = unbounded(alloc).ok()?;
     let mut readers = Vec::new(alloc);
     readers.push(reader).ok()?;
     let host = host_at(listener, LONG_MS)?;
-    let acceptor = HostAcceptor::new(alloc, random, host, heard, readers).ok()?;
+    let acceptor = HostAcceptor::new(alloc, random, host, heard, &NoBarrier, readers).ok()?;
     Some((acceptor, arrivals))
 }
 
@@ -194,10 +194,11 @@ pub fn key_of(secret: &[u8]) -> Option<Key> {
     Key::of_secret(secret).ok()
 }
 
-/// What a federate's process that connects has heard, and whether its run is to end.
+/// What a federate's process that connects has heard, and whether its run is to end. It keeps nothing.
 #[derive(Drop)]
 pub struct Process {
     pub heard: Heard,
+    pub barrier: NoBarrier,
     pub last: LastConnection,
     pub ending: Ending,
 }
@@ -207,6 +208,7 @@ impl Process {
     pub fn new(alloc: Global) -> Option<Process> {
         Some(Process {
             heard: Heard::new(alloc, 0).ok()?,
+            barrier: NoBarrier,
             last: LastConnection::new(),
             ending: Ending::new(),
         })
@@ -219,7 +221,15 @@ impl Process {
         alloc: Global,
         host: FederateHost,
     ) -> Option<Own<'a>> {
-        HostDial::new(rt, host, &self.heard, &self.last, &self.ending).dial(rt, alloc)
+        HostDial::new(
+            rt,
+            host,
+            &self.heard,
+            &self.barrier,
+            &self.last,
+            &self.ending,
+        )
+        .dial(rt, alloc)
     }
 
     /// Whether the first attempt came to nothing for this, and whether the run is to end by it.
@@ -256,7 +266,7 @@ pub fn host_to(listener: &TcpListener) -> Option<FederateHost> {
 pub fn next<'a, R: Host + Net<Stream = TcpStream, Listener = TcpListener>>(
     rt: &R,
     arrivals: &Arrivals<'a>,
-) -> Option<Accepted<HeardTransport<'a, TcpTransport>, TcpCut>> {
+) -> Option<Accepted<HeardTransport<'a, TcpTransport, NoBarrier>, TcpCut>> {
     arrivals
         .recv_timeout(rt, Duration::from_millis(LONG_MS))
         .ok()

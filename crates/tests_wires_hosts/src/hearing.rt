@@ -4,14 +4,14 @@ use std::alloc::Global;
 use std::thread;
 use std::time::Duration;
 use wires::Work;
-use wires_hosts::{Heard, HeardTransport, Patience};
+use wires_hosts::{Heard, HeardTransport, NoBarrier, Patience};
 use wires_transports::{Ending, Transport, pair};
 
 // How often something was heard, as bytes come, then none, and then the end.
 fn heard_of<R: Host>(rt: &R, alloc: Global) -> Option<[u64; 3]> {
     let heard = Heard::new(alloc, 0).ok()?;
     let (mut one, other) = pair(alloc).ok()?;
-    let mut other = HeardTransport::around(other, &heard);
+    let mut other = HeardTransport::around(other, &heard, &NoBarrier);
     let mut room = [0; 8];
     one.outgoing.send(rt, &[1, 2, 3]).ok()?;
     other.incoming.recv(rt, &mut room).ok()?;
@@ -35,8 +35,10 @@ fn is_given_up_behind<R: Machine>(rt: &R) -> Option<bool> {
     let alloc = rt.alloc();
     let heard = Heard::new(alloc, 0).ok()?;
     let ending = Ending::new();
+    let barrier = NoBarrier;
     let patience = Patience {
         heard: &heard,
+        barrier: &barrier,
         ending: &ending,
         most: Some(Duration::from_millis(1000)),
         last: None,
@@ -65,8 +67,10 @@ fn is_kept<R: Host>(rt: &R, alloc: Global, most: Option<Duration>) -> Option<boo
     let heard = Heard::new(alloc, 0).ok()?;
     let ending = Ending::new();
     ending.set();
+    let barrier = NoBarrier;
     let patience = Patience {
         heard: &heard,
+        barrier: &barrier,
         ending: &ending,
         most,
         last: None,

@@ -7,6 +7,8 @@
 #[cfg(test)]
 mod attempts;
 #[cfg(test)]
+mod barred;
+#[cfg(test)]
 mod entrance;
 #[cfg(test)]
 mod finishing;

@@ -12,7 +12,7 @@ use std::thread;
 use std::time::Duration;
 use wires::Work;
 use wires_greeting::CoordinatorSide;
-use wires_hosts::{Heard, Patience};
+use wires_hosts::{Heard, NoBarrier, Patience};
 use wires_transports::Ending;
 
 // The coordinator's end of the next connection, which is let in by hand.
@@ -100,6 +100,7 @@ fn is_ended_then<R: Machine + Net<Stream = TcpStream, Listener = TcpListener>>(
     let machine = Simulated::new(rt, &Broken, &course);
     let watcher = Patience {
         heard: &process.heard,
+        barrier: &process.barrier,
         ending: &process.ending,
         most: case.patience.map(Duration::from_millis),
         last: Some(&process.last),
@@ -185,6 +186,7 @@ fn is_second_ended<R: Machine + Net<Stream = TcpStream, Listener = TcpListener>>
     let machine = Simulated::new(rt, &Broken, ends);
     let watcher = Patience {
         heard: &process.heard,
+        barrier: &process.barrier,
         ending: &process.ending,
         most: None,
         last: Some(&process.last),
@@ -213,6 +215,7 @@ fn watched_for<R: Machine>(rt: &R, end_ms: u64) -> Option<u64> {
     let machine = Simulated::new(rt, &Broken, ends);
     let watcher = Patience {
         heard: &process.heard,
+        barrier: &process.barrier,
         ending: &process.ending,
         most: Some(Duration::from_millis(60_000)),
         last: Some(&process.last),
@@ -231,6 +234,7 @@ fn watches_no_longer_than_the_run_where_there_is_no_connection(rt: HostRuntime) 
 #[derive(Drop)]
 struct Watched {
     heard: Heard,
+    barrier: NoBarrier,
     ending: Ending,
     is_watched: AtomicBool,
 }
@@ -257,6 +261,7 @@ fn give_up<R: Machine>(rt: &R, run: &Watched) {
     let machine = Simulated::new(rt, &Broken, OnceWatched { rt, run });
     let patience = Patience {
         heard: &run.heard,
+        barrier: &run.barrier,
         ending: &run.ending,
         most: Some(Duration::from_millis(50)),
         last: None,
@@ -284,6 +289,7 @@ fn runs(alloc: Global) -> Option<Vec<Watched>> {
     for _ in 0..500 {
         let run = Watched {
             heard: Heard::new(alloc, 0).ok()?,
+            barrier: NoBarrier,
             ending: Ending::new(),
             is_watched: AtomicBool::new(false),
         };

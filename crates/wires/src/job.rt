@@ -1,4 +1,6 @@
 //! What each thread of a node does, and what it leaves.
+ghost use Rattle.std.specs.Prelude.{◌≡◌, Some, false};
+
 use crossbeam_channel::Receiver;
 use desk::Share;
 use node::Node;
@@ -54,7 +56,10 @@ impl WorkerResult {
         }
     }
 
-    fn of(share: Share) -> WorkerResult {
+    /// Of a worker that handed in the events of this share.
+    pub fn of(share: Share) -> WorkerResult
+        ensures { result ≡ record { share = Some share; shows_other_history = false } }
+    {
         WorkerResult {
             share: Some(share),
             shows_other_history: false,

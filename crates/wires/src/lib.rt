@@ -7,6 +7,8 @@
 //!                                                    |
 //!         gather: each node's desk, from what its own workers left
 //!
+//! A node that runs by itself has its desk shared by the caller, who may look at it while it runs, and gathers it.
+//!
 //! Promise to the layer above: as many desks are gathered as were shared; each keeps what every desk keeps, that its
 //! station is the replay of its journal; and each one's journal is what the shares of its node's workers say
 //! (`specs/Gathered`). Nothing is promised of when a run ends.

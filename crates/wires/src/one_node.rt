@@ -1,8 +1,7 @@
 //! One node's run, where each node has a process of its own.
 ghost use Rattle.std.specs.List.{list_any};
-ghost use Rattle.std.specs.Prelude.{◌≡◌};
+ghost use Rattle.std.specs.Prelude.{◌≡◌, IfOk};
 
-use crate::gathering::gather_desk;
 use crate::job::{Job, Work, WorkerResult};
 use crate::jobs::{Connector, jobs_of_coordinator, jobs_of_federate};
 use crate::lines::{CoordinatorLines, FederateLines};
@@ -11,19 +10,18 @@ use crate::node_workers::NodeWorkers;
 use crate::run_fault::RunFault;
 use crate::runtime::Runtime;
 use crate::threads::start;
-use desk::{Desk, Shared};
+use desk::Shared;
 use node::{Node, NodeId};
 use std::alloc::Global;
 use wires_transports::{Acceptor, Cut, Dial, Ending, Transport};
 use wires_workers::Gate;
 
 /// Runs the coordinator in threads until `ending` is set: a worker sets it once the coordinator is finished, and
-/// acceptor and watcher may before. Returns its desk then, which says whether it is finished. All workers have ended
-/// when it returns, and `ending` is set.
+/// acceptor and watcher may before. Returns what its workers leave, from which its desk is gathered: `gather_desk`. All
+/// of them have ended when it returns, and `ending` is set.
 ///
 /// Acceptor and watcher end once `ending` is set, and the acceptor ends then what connections are left. Where a thread
-/// can't be started, the others end: `NoThread`. Where the workers' shares don't agree with the desk's journal:
-/// `SharesDisagree`.
+/// can't be started, the others end: `NoThread`.
 pub fn run_coordinator<
     R: Runtime,
     H: Node + Send,
@@ -35,16 +33,15 @@ pub fn run_coordinator<
 >(
     rt: &R,
     alloc: Global,
-    desk: Desk<H>,
+    shared: &Shared<H>,
     lines: CoordinatorLines<E, T, C>,
     watcher: W,
     gate: &G,
     ending: &Ending,
-) -> Result<Desk<H>, RunFault> {
-    let shared = Shared::new(desk);
-    let results = coordinator_results(rt, alloc, &shared, lines, watcher, gate, ending);
+) -> Result<Vec<WorkerResult>, RunFault> {
+    let results = coordinator_results(rt, alloc, shared, lines, watcher, gate, ending);
     ending.set();
-    gather_desk(alloc, shared, results?)
+    results
 }
 
 // Runs the coordinator's workers, and returns what they leave.
@@ -89,17 +86,18 @@ fn coordinator_results<
     start(rt, alloc, jobs, ending)
 }
 
-/// A federate that ran by itself.
+/// What a federate leaves that ran by itself.
 #[derive(Drop)]
-pub struct FederateRun<M: Node> {
-    pub desk: Desk<M>,
+pub struct FederateRun {
+    /// What its workers leave, from which its desk is gathered: `gather_desk`.
+    pub results: Vec<WorkerResult>,
     /// Whether it ended since the coordinator acknowledged a signal that was never offered to it.
     pub shows_other_history: bool,
 }
 
 /// Runs a federate in threads until `ending` is set: a worker sets it once the turns are made, the federate's end is
-/// closed, or the coordinator speaks of another history, and dial and watcher may before. Returns its desk then, and
-/// whether the last of these was so. All workers have ended when it returns, and `ending` is set.
+/// closed, or the coordinator speaks of another history, and dial and watcher may before. Returns what its workers
+/// leave, and whether the last of these was so. All of them have ended when it returns, and `ending` is set.
 ///
 /// The thread that makes the connections owns the dial and lets it go at its end. Once `ending` is set the watcher ends
 /// the connection on which the coordinator says nothing more, since nobody else is there to, and then itself. Where a
@@ -115,21 +113,23 @@ pub fn run_federate<
 >(
     rt: &R,
     alloc: Global,
-    desk: Desk<M>,
+    shared: &Shared<M>,
     lines: FederateLines<D>,
     watcher: W,
     gate: &G,
     ending: &Ending,
-) -> Result<FederateRun<M>, RunFault> {
-    let shared = Shared::new(desk);
+) -> Result<FederateRun, RunFault>
+    ensures history { IfOk result
+        (λ run. run.shows_other_history ≡ list_any (λ left. left.shows_other_history) run.results.items) }
+{
     let results = federate_results::<R, M, G, T, C, D, W>(
-        rt, alloc, &shared, lines, watcher, gate, ending,
+        rt, alloc, shared, lines, watcher, gate, ending,
     );
     ending.set();
     let results = results?;
     let shows_other_history = shows_other_history(&results);
     Ok(FederateRun {
-        desk: gather_desk(alloc, shared, results)?,
+        results,
         shows_other_history,
     })
 }

@@ -1,43 +1,77 @@
+ghost use Rattle.std.specs.Prelude.{◌≡◌, ◌<◌, ◌+◌, IfErr, OnOk, OnErr};
+
+use crate::barrier::{Barrier, Unkept};
 use crate::heard::Heard;
 use std::sync::Wait;
-use wires_transports::{Broken, Connection, Transport};
+use wires_transports::{Broken, Connection, Failures, Transport};
 
-/// One end of a connection, around another one: it counts each time that bytes came, and is otherwise the same.
+/// One end of a connection, around another one: it counts each time that bytes came, and nothing leaves before the
+/// barrier lets it. It is otherwise the same.
 #[derive(Drop)]
-pub struct HeardTransport<'a, T: Transport> {
+pub struct HeardTransport<'a, T: Transport, B: Barrier> {
     inner: T,
     heard: &'a Heard,
+    barrier: &'a B,
+    // Sends that the barrier refused.
+    refusals: Failures,
 }
 
-impl<'a, T: Transport> HeardTransport<'a, T> {
+impl<'a, T: Transport, B: Barrier> HeardTransport<'a, T, B> {
     /// Around this one.
-    pub fn new(inner: T, heard: &'a Heard) -> HeardTransport<'a, T> {
-        HeardTransport { inner, heard }
+    pub fn new(inner: T, heard: &'a Heard, barrier: &'a B) -> HeardTransport<'a, T, B> {
+        HeardTransport {
+            inner,
+            heard,
+            barrier,
+            refusals: Failures::new(),
+        }
     }
 
     /// A connection with such ends around its own.
     pub fn around<C: Drop>(
         connection: Connection<T, C>,
         heard: &'a Heard,
-    ) -> Connection<HeardTransport<'a, T>, C> {
+        barrier: &'a B,
+    ) -> Connection<HeardTransport<'a, T, B>, C> {
         let Connection {
             incoming,
             outgoing,
             cut,
         } = connection;
         Connection {
-            incoming: HeardTransport::new(incoming, heard),
-            outgoing: HeardTransport::new(outgoing, heard),
+            incoming: HeardTransport::new(incoming, heard, barrier),
+            outgoing: HeardTransport::new(outgoing, heard, barrier),
             cut,
+        }
+    }
+
+    // Sends these bytes where all that caused them is kept. Else nothing leaves, and the call failed.
+    fn send_kept<R: Wait>(
+        &mut self,
+        rt: &R,
+        kept: Result<(), Unkept>,
+        bytes: &[u8],
+    ) -> Result<(), Broken>
+        ensures refused { IfErr kept (λ _. self.new.inner ≡ self.old.inner) }
+        ensures sent { OnOk result (T.failures self.new.inner + self.new.refusals
+            ≡ T.failures self.old.inner + self.old.refusals) }
+        ensures broken { OnErr result (T.failures self.old.inner + self.old.refusals
+            < T.failures self.new.inner + self.new.refusals) }
+    {
+        match kept {
+            Ok(()) => self.inner.send(rt, bytes),
+            Err(Unkept) => self.refusals.tell(()),
         }
     }
 }
 
-impl<'a, T: Transport> Transport for HeardTransport<'a, T> {
-    ghost failures = { λ t. T.failures t.inner };
+impl<'a, T: Transport, B: Barrier> Transport for HeardTransport<'a, T, B> {
+    ghost failures = { λ t. T.failures t.inner + t.refusals };
 
     fn send<R: Wait>(&mut self, rt: &R, bytes: &[u8]) -> Result<(), Broken> {
-        self.inner.send(rt, bytes)
+        // Every byte of every frame leaves here, and what caused it was handed in before.
+        let kept = self.barrier.reach(rt);
+        self.send_kept(rt, kept, bytes)
     }
 
     fn recv<R: Wait>(&mut self, rt: &R, room: &mut [u8]) -> Result<usize, Broken> {

@@ -1,4 +1,5 @@
 //! The worker that lets federates' processes in, for the coordinator's.
+use crate::barrier::Barrier;
 use crate::draw::drawn;
 use crate::heard::Heard;
 use crate::heard_transport::HeardTransport;
@@ -27,10 +28,10 @@ const AT_ONCE: usize = 64;
 pub const PENDING_MOST: usize = 128;
 
 /// The federates' connections, and their readers.
-type HostConnections<'a> = CurrentConnections<HeardTransport<'a, TcpTransport>, TcpCut>;
+type HostConnections<'a, B> = CurrentConnections<HeardTransport<'a, TcpTransport, B>, TcpCut>;
 
 /// To a federate's reader.
-pub type HostReader<'a> = Sender<Accepted<HeardTransport<'a, TcpTransport>, TcpCut>>;
+pub type HostReader<'a, B> = Sender<Accepted<HeardTransport<'a, TcpTransport, B>, TcpCut>>;
 
 /// Where federates' processes connect, and by what they are let in.
 #[derive(Drop)]
@@ -47,27 +48,29 @@ pub struct HostEntrance {
 /// Lets federates' processes in that have the secret and the same files. Each one's connection goes to its reader, with
 /// its Hello, and the older one, if there is one, is ended. What fails the greeting is closed without an event, and
 /// what is silent keeps nobody else waiting. Once the run is to end, readers get no more connections, and what they
-/// haven't read to the end a second later is ended. Where the run is finished, whoever asks then is told so, until all
-/// federates were, each of which proved it by the secret, or the patience is over.
+/// haven't read to the end a second later is ended. Where the run is finished, and the barrier keeps all that made it so,
+/// whoever asks then is told, until all federates were, each of which proved it by the secret, or the patience is over.
 #[derive(Drop)]
-pub struct HostAcceptor<'a, S: RandomSource> {
+pub struct HostAcceptor<'a, S: RandomSource, B: Barrier> {
     random: &'a S,
     entrance: HostEntrance,
     heard: &'a Heard,
-    current: HostConnections<'a>,
+    barrier: &'a B,
+    current: HostConnections<'a, B>,
     // All federates may take part.
     allowed: Vec<bool>,
 }
 
-impl<'a, S: RandomSource> HostAcceptor<'a, S> {
+impl<'a, S: RandomSource, B: Barrier> HostAcceptor<'a, S, B> {
     /// Whoever is let in goes to these readers, of each federate by its number. Random bytes come from this machine.
     pub fn new(
         alloc: Global,
         random: &'a S,
         entrance: HostEntrance,
         heard: &'a Heard,
-        readers: Vec<HostReader<'a>>,
-    ) -> Result<HostAcceptor<'a, S>, AllocError> {
+        barrier: &'a B,
+        readers: Vec<HostReader<'a, B>>,
+    ) -> Result<HostAcceptor<'a, S, B>, AllocError> {
         let mut allowed = Vec::new(alloc);
         allowed.resize_with(readers.len(), || true)?;
         let current = CurrentConnections::new(alloc, readers)?;
@@ -75,47 +78,66 @@ impl<'a, S: RandomSource> HostAcceptor<'a, S> {
             random,
             entrance,
             heard,
+            barrier,
             current,
             allowed,
         })
     }
 }
 
-impl<'a, S: RandomSource> Acceptor for HostAcceptor<'a, S> {
+impl<'a, S: RandomSource, B: Barrier> Acceptor for HostAcceptor<'a, S, B> {
     fn let_in<R: Wait + Clock>(self, rt: &R, alloc: Global, ending: &Ending) {
         let HostAcceptor {
             random,
             entrance,
             heard,
+            barrier,
             mut current,
             allowed,
         } = self;
+        let hearing = Hearing { heard, barrier };
         let terms = Terms {
             random,
             allowed: &allowed,
             is_finished: false,
         };
-        let pending = let_in_until(rt, alloc, &entrance, &terms, heard, &mut current, ending);
+        let pending = let_in_until(rt, alloc, &entrance, &terms, &hearing, &mut current, ending);
         current.end(rt);
-        if heard.is_finished(ending) {
+        // What made the run finished may have caused nothing that left.
+        if heard.is_finished(ending) && barrier.reach(rt).is_ok() {
             let terms = Terms {
                 random,
                 allowed: &allowed,
                 is_finished: true,
             };
-            tell_all(rt, alloc, &entrance, &terms, heard, pending, &mut current);
+            tell_all(
+                rt,
+                alloc,
+                &entrance,
+                &terms,
+                &hearing,
+                pending,
+                &mut current,
+            );
         }
     }
 }
 
+// What a connection is passed that is let in.
+#[derive(Drop)]
+struct Hearing<'a, B: Barrier> {
+    heard: &'a Heard,
+    barrier: &'a B,
+}
+
 // Lets connections in until the run is to end; those that aren't let in so far.
-fn let_in_until<'a, R: Wait + Clock, S: RandomSource>(
+fn let_in_until<'a, R: Wait + Clock, S: RandomSource, B: Barrier>(
     rt: &R,
     alloc: Global,
     entrance: &HostEntrance,
     terms: &Terms<'_, S>,
-    heard: &'a Heard,
-    current: &mut HostConnections<'a>,
+    hearing: &Hearing<'a, B>,
+    current: &mut HostConnections<'a, B>,
     ending: &Ending,
 ) -> Vec<PendingHost> {
     let mut pending = Vec::new(alloc);
@@ -131,31 +153,31 @@ fn let_in_until<'a, R: Wait + Clock, S: RandomSource>(
         if !has_come {
             thread::sleep(rt, Duration::from_millis(pause(calm.has_passed(rt))));
         }
-        pending = listen_to(rt, alloc, terms, heard, pending, current);
+        pending = listen_to(rt, alloc, terms, hearing, pending, current);
     }
     pending
 }
 
 // Tells whoever asks that the run is finished, where no reader gets a connection any more, until all federates were told or the patience is over.
-fn tell_all<'a, R: Wait + Clock, S: RandomSource>(
+fn tell_all<'a, R: Wait + Clock, S: RandomSource, B: Barrier>(
     rt: &R,
     alloc: Global,
     entrance: &HostEntrance,
     terms: &Terms<'_, S>,
-    heard: &'a Heard,
+    hearing: &Hearing<'a, B>,
     pending: Vec<PendingHost>,
-    current: &mut HostConnections<'a>,
+    current: &mut HostConnections<'a, B>,
 ) {
     let mut pending = pending;
     let patience = Deadline::after(rt, millis(entrance.patience));
     for _ in rt.forever() {
-        if heard.are_all_told() || patience.has_passed(rt) {
+        if hearing.heard.are_all_told() || patience.has_passed(rt) {
             break;
         }
         if !accept_some(rt, entrance, terms.random, &mut pending) {
             thread::sleep(rt, Duration::from_millis(PAUSE_MS));
         }
-        pending = listen_to(rt, alloc, terms, heard, pending, current);
+        pending = listen_to(rt, alloc, terms, hearing, pending, current);
     }
 }
 
@@ -212,13 +234,13 @@ fn give_up_one<S: RandomSource>(random: &S, pending: &mut Vec<PendingHost>) {
 
 // Listens to all that are pending; those that are pending still. What is not let in is closed, and so is what there is
 // no memory to keep.
-fn listen_to<'a, R: Wait + Clock, S: RandomSource>(
+fn listen_to<'a, R: Wait + Clock, S: RandomSource, B: Barrier>(
     rt: &R,
     alloc: Global,
     terms: &Terms<'_, S>,
-    heard: &'a Heard,
+    hearing: &Hearing<'a, B>,
     pending: Vec<PendingHost>,
-    current: &mut HostConnections<'a>,
+    current: &mut HostConnections<'a, B>,
 ) -> Vec<PendingHost> {
     let mut left = Vec::new(alloc);
     for mut host in pending {
@@ -227,12 +249,12 @@ fn listen_to<'a, R: Wait + Clock, S: RandomSource>(
                 let _ = left.push(host);
             }
             HostState::Hello(federate) => {
-                if let Some(accepted) = host.into_accepted(alloc, heard) {
-                    heard.hear();
+                if let Some(accepted) = host.into_accepted(alloc, hearing.heard, hearing.barrier) {
+                    hearing.heard.hear();
                     current.hand_on(rt, usize::from(federate), accepted);
                 }
             }
-            HostState::Told(federate) => heard.note_told(federate),
+            HostState::Told(federate) => hearing.heard.note_told(federate),
             HostState::Closed => {}
         }
     }

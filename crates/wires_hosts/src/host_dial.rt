@@ -1,9 +1,10 @@
 //! How a federate's process connects to the coordinator's.
-ghost use Rattle.std.specs.Prelude.{◌≡◌, ◌⊎◌, None, IsOk, IfErr};
+ghost use Rattle.std.specs.Prelude.{◌≡◌, ◌⊎◌, None, Some, IsOk, IfErr, IsTrue};
 ghost use Rattle.wires_hosts.specs.Attempt as definition;
 ghost use Rattle.wires_hosts.specs.DialFault.{by_state};
 
 use crate::back_off::BackOff;
+use crate::barrier::{Barrier, Unkept};
 use crate::dial_fault::DialFault;
 use crate::heard::Heard;
 use crate::heard_transport::HeardTransport;
@@ -19,7 +20,8 @@ use std::sync::{Arc, Wait};
 use std::time::{Clock, Duration};
 use std::{io, thread};
 use wires_greeting::{
-    CHALLENGE_SIZE, DIGEST_SIZE, FederateSide, FederateState, Greeting, Key, RANDOM_SIZE,
+    CHALLENGE_SIZE, DIGEST_SIZE, FederateSide, FederateState, Greeting, Key, PROOF_SIZE,
+    RANDOM_SIZE,
 };
 use wires_transports::tcp::connection;
 use wires_transports::times::{CONNECT_MS, PAUSE_MS, SILENCE_MS};
@@ -41,31 +43,39 @@ pub struct FederateHost {
 /// refused, the run is to end. Each connection is noted as the last one. Before an attempt it waits as `BackOff` says,
 /// and not past the end of the run.
 #[derive(Drop)]
-pub struct HostDial<'a, M: Net<Stream = TcpStream, Listener = TcpListener> + Clock + RandomSource> {
+pub struct HostDial<
+    'a,
+    M: Net<Stream = TcpStream, Listener = TcpListener> + Clock + RandomSource,
+    B: Barrier,
+> {
     machine: &'a M,
     host: FederateHost,
     heard: &'a Heard,
+    barrier: &'a B,
     last: &'a LastConnection,
     ending: &'a Ending,
     back_off: BackOff,
 }
 
-impl<'a, M: Net<Stream = TcpStream, Listener = TcpListener> + Clock + RandomSource> HostDial<
+impl<
     'a,
-    M,
-> {
+    M: Net<Stream = TcpStream, Listener = TcpListener> + Clock + RandomSource,
+    B: Barrier,
+> HostDial<'a, M, B> {
     /// Makes this one's connections, from this machine.
     pub fn new(
         machine: &'a M,
         host: FederateHost,
         heard: &'a Heard,
+        barrier: &'a B,
         last: &'a LastConnection,
         ending: &'a Ending,
-    ) -> HostDial<'a, M> {
+    ) -> HostDial<'a, M, B> {
         HostDial {
             machine,
             host,
             heard,
+            barrier,
             last,
             ending,
             back_off: BackOff::new(),
@@ -78,23 +88,30 @@ impl<'a, M: Net<Stream = TcpStream, Listener = TcpListener> + Clock + RandomSour
         rt: &R,
         alloc: Global,
         side: &mut FederateSide,
-    ) -> Result<Connection<HeardTransport<'a, TcpTransport>, TcpCut>, DialFault>
+    ) -> Result<Connection<HeardTransport<'a, TcpTransport, B>, TcpCut>, DialFault>
         ensures proved { IsOk result → by_state side.new.state ≡ None }
         ensures failed { IfErr result (λ fault. definition.FailedBy side.old side.new fault) }
         ensures heard { definition.Heard side.old side.new }
     {
         let mut stream = connected(self.machine, &self.host.address)?;
-        greet(rt, self.machine, &mut stream, side, self.ending)?;
+        greet(
+            rt,
+            self.machine,
+            &mut stream,
+            side,
+            self.barrier,
+            self.ending,
+        )?;
         let connection = begun(alloc, stream)?;
-        Ok(HeardTransport::around(connection, self.heard))
+        Ok(HeardTransport::around(connection, self.heard, self.barrier))
     }
 
     // The same connection, noted as the last one. One that can't be noted is ended, since nobody else would end it.
     fn noted<R: Wait>(
         &self,
         rt: &R,
-        connection: Connection<HeardTransport<'a, TcpTransport>, TcpCut>,
-    ) -> Option<Connection<HeardTransport<'a, TcpTransport>, TcpCut>> {
+        connection: Connection<HeardTransport<'a, TcpTransport, B>, TcpCut>,
+    ) -> Option<Connection<HeardTransport<'a, TcpTransport, B>, TcpCut>> {
         match Arc::try_clone(&connection.cut) {
             Ok(cut) => {
                 self.last.set(rt, cut);
@@ -108,15 +125,16 @@ impl<'a, M: Net<Stream = TcpStream, Listener = TcpListener> + Clock + RandomSour
     }
 }
 
-impl<'a, M: Net<Stream = TcpStream, Listener = TcpListener> + Clock + RandomSource> Dial<
-    HeardTransport<'a, TcpTransport>,
-    TcpCut,
-> for HostDial<'a, M> {
+impl<
+    'a,
+    M: Net<Stream = TcpStream, Listener = TcpListener> + Clock + RandomSource,
+    B: Barrier,
+> Dial<HeardTransport<'a, TcpTransport, B>, TcpCut> for HostDial<'a, M, B> {
     fn dial<R: Wait>(
         &self,
         rt: &R,
         alloc: Global,
-    ) -> Option<Connection<HeardTransport<'a, TcpTransport>, TcpCut>> {
+    ) -> Option<Connection<HeardTransport<'a, TcpTransport, B>, TcpCut>> {
         let pause = self.back_off.begin(self.heard.count());
         if !has_paused(self.machine, pause, self.ending) {
             return None;
@@ -191,18 +209,19 @@ fn connect<M: Net<Stream = TcpStream>>(net: &M, address: &SocketAddr) -> io::Res
 }
 
 // Greets as a federate does; why no frames begin.
-fn greet<R: Wait, M: Clock>(
+fn greet<R: Wait, M: Clock, B: Barrier>(
     rt: &R,
     clock: &M,
     stream: &mut TcpStream,
     side: &mut FederateSide,
+    barrier: &B,
     ending: &Ending,
 ) -> Result<(), DialFault>
     ensures proved { IsOk result → by_state side.new.state ≡ None }
     ensures failed { IfErr result (λ fault. definition.FailedBy side.old side.new fault) }
     ensures heard { definition.Heard side.old side.new }
 {
-    if exchange(rt, clock, stream, side, ending).is_none() {
+    if exchange(rt, clock, stream, side, barrier, ending).is_none() {
         return Err(DialFault::NoAnswer);
     }
     match DialFault::by_state(&side.state()) {
@@ -213,11 +232,12 @@ fn greet<R: Wait, M: Clock>(
 
 // Sends and reads the messages of the greeting. None where the connection ended before, or the time for it is over, or
 // the run is to end.
-fn exchange<R: Wait, M: Clock>(
+fn exchange<R: Wait, M: Clock, B: Barrier>(
     rt: &R,
     clock: &M,
     stream: &mut TcpStream,
     side: &mut FederateSide,
+    barrier: &B,
     ending: &Ending,
 ) -> Option<()>
     ensures lost { result ≡ None → (side.new ≡ side.old) ⊎ (by_state side.new.state ≡ None) }
@@ -226,13 +246,37 @@ fn exchange<R: Wait, M: Clock>(
     stream.write_all(&side.message()).ok()?;
     let challenge = answer(rt, clock, stream, ending)?;
     if let Some(proof) = side.challenged(&challenge) {
-        let is_sent = stream.write_all(&proof).is_ok();
+        let kept = keep_what_was_heard(rt, barrier, &side.state());
+        let is_sent = send_proof(stream, kept, &proof);
         // That the run is finished stands, whether or not the coordinator hears that it came.
         if !is_sent && matches!(side.state(), FederateState::Proved(_)) {
             return None;
         }
     }
     Some(())
+}
+
+// Who proves that it heard that the run is finished counts as told, and then the coordinator may end. So it is kept
+// before: begun again, such a federate asks nobody any more.
+fn keep_what_was_heard<R: Wait, B: Barrier>(
+    rt: &R,
+    barrier: &B,
+    state: &FederateState,
+) -> Result<(), Unkept>
+    ensures other { (by_state state.now ≡ Some DialFault.Finished) ⊎ (IsOk result) }
+{
+    match DialFault::by_state(state) {
+        Some(DialFault::Finished) => barrier.tell(rt),
+        _ => Ok(()),
+    }
+}
+
+// Sends a federate's proof where what it heard is kept; whether it was sent.
+fn send_proof(stream: &mut TcpStream, kept: Result<(), Unkept>, proof: &[u8; PROOF_SIZE]) -> bool
+    ensures refused { IfErr kept (λ _. stream.new ≡ stream.old) }
+    ensures sent { IsTrue result → IsOk kept }
+{
+    kept.is_ok() && stream.write_all(proof).is_ok()
 }
 
 // The coordinator's challenge.

@@ -8,13 +8,15 @@
 //! its first frame is a Hello of that very federate (`specs/Hello`); a federate counts as told only where it proved so
 //! to `wires_greeting`. Of connections that are too many one is given up that is drawn at random (`specs/Draw`). What
 //! an attempt to connect came to is `specs/DialFault`, how long to wait before the next one `specs/BackOff`, and how
-//! long nothing was heard `specs/Silence`. A call over a connection fails only where it fails over what it is around.
-//! Nothing is said of when a call returns. Keys are made by `wires_greeting::Key` alone.
+//! long nothing was heard `specs/Silence`. A call over a connection fails only where it fails over what it is around,
+//! or where the `Barrier` refused it: then nothing was sent. Nothing is said of when a call returns. Keys are made by
+//! `wires_greeting::Key` alone.
 //!
-//! Begin with `heard`, which one process's threads share, then `host_dial` and `host_acceptor`.
+//! Begin with `heard` and `barrier`, which one process's threads share, then `host_dial` and `host_acceptor`.
 #![tactic(auto)]
 
 pub mod back_off;
+pub mod barrier;
 pub mod dial_fault;
 mod draw;
 pub mod heard;
@@ -33,6 +35,7 @@ mod source;
 pub mod times;
 
 pub use back_off::BackOff;
+pub use barrier::{Barrier, NoBarrier, Unkept};
 pub use dial_fault::DialFault;
 pub use heard::Heard;
 pub use heard_transport::HeardTransport;

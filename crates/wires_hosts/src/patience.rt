@@ -1,3 +1,4 @@
+use crate::barrier::Barrier;
 use crate::heard::Heard;
 use crate::last_connection::LastConnection;
 use crate::silence::Silence;
@@ -9,11 +10,12 @@ use std::time::{Clock, Duration};
 use wires::{Work, WorkerResult};
 use wires_transports::Ending;
 
-/// Ends a run in which nothing was heard for too long: it gives up, and says so before. It ends with the run, and then
-/// ends the last connection.
+/// Ends a run in which nothing was heard for too long, or nothing may leave any more: it gives up, and says so before.
+/// It ends with the run, and then ends the last connection.
 #[derive(Drop)]
-pub struct Patience<'a> {
+pub struct Patience<'a, B: Barrier> {
     pub heard: &'a Heard,
+    pub barrier: &'a B,
     pub ending: &'a Ending,
     /// How long nothing has to be heard; None is for ever.
     pub most: Option<Duration>,
@@ -21,11 +23,9 @@ pub struct Patience<'a> {
     pub last: Option<&'a LastConnection>,
 }
 
-impl<'a> Work for Patience<'a> {
+impl<'a, B: Barrier> Work for Patience<'a, B> {
     fn work<R: Wait + Clock>(self, rt: &R, _alloc: Global) -> WorkerResult {
-        if let Some(most) = self.most {
-            self.wait(rt, most);
-        }
+        self.wait(rt);
         if let Some(last) = self.last {
             last.end(rt, self.ending);
         }
@@ -33,21 +33,30 @@ impl<'a> Work for Patience<'a> {
     }
 }
 
-impl<'a> Patience<'a> {
-    // Waits until the run is to end, or until nothing was heard for this long: then it is to.
-    fn wait<R: Wait + Clock>(&self, rt: &R, most: Duration) {
+impl<'a, B: Barrier> Patience<'a, B> {
+    // Waits until the run is to end, or until nothing was heard for too long or nothing may leave any more: then it is
+    // to.
+    fn wait<R: Wait + Clock>(&self, rt: &R) {
         let mut silence = Silence::new(self.heard.count());
         for _ in rt.forever() {
             if self.ending.is_set() {
                 break;
             }
-            if Duration::from_millis(silence.quiet_ms) >= most {
+            if self.barrier.has_failed() || self.is_too_long(silence.quiet_ms) {
                 self.heard.give_up();
                 self.ending.set();
                 break;
             }
             thread::sleep(rt, Duration::from_millis(PATIENCE_LOOK_MS));
             silence = silence.after_look(self.heard.count());
+        }
+    }
+
+    // Whether nothing was heard for too long, where it is this many ms.
+    fn is_too_long(&self, quiet_ms: u64) -> bool {
+        match self.most {
+            Some(most) => Duration::from_millis(quiet_ms) >= most,
+            None => false,
         }
     }
 }

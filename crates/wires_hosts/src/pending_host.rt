@@ -4,6 +4,7 @@ ghost use Rattle.wires_greeting.specs.Coordinator.{let_in, told};
 ghost use Rattle.wires_hosts.specs.Hello.{BeginsWithHello};
 ghost use Rattle.wires_hosts.specs.Source.{challenge_by};
 
+use crate::barrier::Barrier;
 use crate::heard::Heard;
 use crate::heard_transport::HeardTransport;
 use crate::hello::is_hello_of;
@@ -97,11 +98,12 @@ impl PendingHost {
     }
 
     /// The connection, with its Hello. It is asked once that has come.
-    pub(crate) fn into_accepted<'a>(
+    pub(crate) fn into_accepted<'a, B: Barrier>(
         self,
         alloc: Global,
         heard: &'a Heard,
-    ) -> Option<Accepted<HeardTransport<'a, TcpTransport>, TcpCut>>
+        barrier: &'a B,
+    ) -> Option<Accepted<HeardTransport<'a, TcpTransport, B>, TcpCut>>
         ensures { IfSome result (λ accepted. accepted.first.items ≡ take 20 self.incoming.bytes) }
     {
         let PendingHost {
@@ -114,7 +116,7 @@ impl PendingHost {
         stream.set_nonblocking(false).ok()?;
         let connection = connection(alloc, stream).ok()?;
         Some(Accepted {
-            connection: HeardTransport::around(connection, heard),
+            connection: HeardTransport::around(connection, heard, barrier),
             first,
         })
     }

@@ -2,8 +2,8 @@
 //!
 //! Promise to the layer above: where a frame comes only if its sender's disk keeps what it was sent for, a kill is no
 //! step. What the disks keep, and what any process has, is what there is in a world in which nobody was killed; so all
-//! that `world_stations` says of a federation's world holds through kills. No command keeps its journal on disk yet:
-//! these are the laws that one will rest on.
+//! that `world_stations` says of a federation's world holds through kills. `coordinate` and `join` with a log are to be
+//! such nodes: by the barrier through which all leaves them (`fedrun_logs`, `wires_hosts`).
 //!
 //! Begin with `specs/Machine` and `specs/Disks`, then `crashes_are_no_steps` and `federation_laws`.
 #![tactic(auto)]

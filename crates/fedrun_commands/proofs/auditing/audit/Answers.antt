@@ -1,7 +1,5 @@
 use Rattle.std.proofs.Common.{◌≡◌, ◌++◌, ◌∷◌, [], sym, subst, ◌∙◌}
 use Rattle.std.proofs.lemmas.Result.{on_ok_weaker, IfErr-weaker}
-use Rattle.plan.specs.Federation.{federate_count}
-use Rattle.recorder_reports.specs.Reports.{Collecting}
 use Rattle.fedrun_files.specs.Answers.{Answers, given}
 use Rattle.fedrun_files.specs.Contents.{Contents}
 use Rattle.fedrun_files.specs.Loaded.{input_file}
@@ -51,21 +49,17 @@ returns-clause-stands g c =
     are_digests _ _ digests.federation digests.inputs _ _ _ _ c.in-Ok.ensures.federation c.in-Ok.ensures.inputs c.as_slice.ensures.value c.as_slice-2.ensures.value
     c.new-digests.ensures.federation c.new-digests.ensures.inputs in
     let same : g.F.Files.contents c.read_coordinator_file.new.files ≡ contents = c.in-Ok-read_coordinator_file.ensures.same ∙ c.in-Ok.ensures.same in
-    let first : IsFirstFileFault digests c.new-collector.result.count c.as_slice-federates.result.now (g.F.Files.contents c.read_coordinator_file.new.files)
+    let first : IsFirstFileFault digests s c.as_slice-federates.result.now (g.F.Files.contents c.read_coordinator_file.new.files)
     (λ last. Answers before after (asked ++ (own ∷ [] ++ last))) fault =
     first_fault_after
     (λ last come. answered_in_turn before mid after asked (own ∷ [] ++ last) c.in-Ok.ensures.asked
     (answered_in_turn mid later after (own ∷ []) last c.in-Ok-read_coordinator_file.ensures.asked come))
-    digests c.new-collector.result.count c.as_slice-federates.result.now (g.F.Files.contents c.read_coordinator_file.new.files) fault c.in-Err-take_files.ensures.err in
-    let counted : IsFirstFileFault digests (federate_count s.plan) c.as_slice-federates.result.now (g.F.Files.contents c.read_coordinator_file.new.files)
-    (λ last. Answers before after (asked ++ (own ∷ [] ++ last))) fault =
-    subst (λ (collecting : Collecting). IsFirstFileFault digests collecting.count c.as_slice-federates.result.now (g.F.Files.contents c.read_coordinator_file.new.files)
-    (λ last. Answers before after (asked ++ (own ∷ [] ++ last))) fault) c.new-collector.ensures first in
+    digests s c.as_slice-federates.result.now (g.F.Files.contents c.read_coordinator_file.new.files) fault c.in-Err-take_files.ensures.err in
     of_federates s c.in-Ok.ensures.ok digests are
-    (subst (λ (names : Names). IsFirstFileFault digests (federate_count s.plan) names contents (λ last. Answers before after (asked ++ (own ∷ [] ++ last))) fault)
+    (subst (λ (names : Names). IsFirstFileFault digests s names contents (λ last. Answers before after (asked ++ (own ∷ [] ++ last))) fault)
     c.as_slice-federates.ensures.value
-    (subst (λ (known : Contents). IsFirstFileFault digests (federate_count s.plan) c.as_slice-federates.result.now known
-    (λ last. Answers before after (asked ++ (own ∷ [] ++ last))) fault) same counted))
+    (subst (λ (known : Contents). IsFirstFileFault digests s c.as_slice-federates.result.now known
+    (λ last. Answers before after (asked ++ (own ∷ [] ++ last))) fault) same first))
 
 pub returns-in-Ok-take_files-clause-ok : goal.returns-in-Ok-take_files-clause-ok
 returns-in-Ok-take_files-clause-ok g c =
@@ -80,10 +74,10 @@ returns-in-Ok-take_files-clause-ok g c =
     let same : g.F.Files.contents c.read_coordinator_file.new.files ≡ contents = c.in-Ok-read_coordinator_file.ensures.same ∙ c.in-Ok.ensures.same in
     let coordinator : IsCoordinatorFile digests (contents c.args.request.now.coordinator.now) journal =
     subst (λ (known : Contents). IsCoordinatorFile digests (known c.args.request.now.coordinator.now) journal) c.in-Ok.ensures.same c.in-Ok-read_coordinator_file.ensures.ok in
-    let federates : AreFederateFiles contents digests c.args.request.now.federates.items reports =
-    subst (λ (names : Names). AreFederateFiles contents digests names reports) c.as_slice-federates.ensures.value
-    (subst (λ (known : Contents). AreFederateFiles known digests c.as_slice-federates.result.now reports) same
-    (subst (λ r. AreFederateFiles (g.F.Files.contents c.read_coordinator_file.new.files) digests c.as_slice-federates.result.now r) (sym c.reports.ensures)
+    let federates : AreFederateFiles contents digests s c.args.request.now.federates.items reports =
+    subst (λ (names : Names). AreFederateFiles contents digests s names reports) c.as_slice-federates.ensures.value
+    (subst (λ (known : Contents). AreFederateFiles known digests s c.as_slice-federates.result.now reports) same
+    (subst (λ r. AreFederateFiles (g.F.Files.contents c.read_coordinator_file.new.files) digests s c.as_slice-federates.result.now r) (sym c.reports.ensures)
     c.in-Ok-take_files.ensures.ok)) in
     let reported : AreReported contents c.args.request.now s reports journal =
     record { sources_are = c.in-Ok.ensures.ok; digests = digests; digests_are = are; coordinator_is = coordinator; federates_are = federates } in
@@ -110,10 +104,10 @@ returns-in-Ok-take_files-clause-stands g c =
     let same : g.F.Files.contents c.read_coordinator_file.new.files ≡ contents = c.in-Ok-read_coordinator_file.ensures.same ∙ c.in-Ok.ensures.same in
     let coordinator : IsCoordinatorFile digests (contents c.args.request.now.coordinator.now) journal =
     subst (λ (known : Contents). IsCoordinatorFile digests (known c.args.request.now.coordinator.now) journal) c.in-Ok.ensures.same c.in-Ok-read_coordinator_file.ensures.ok in
-    let federates : AreFederateFiles contents digests c.args.request.now.federates.items reports =
-    subst (λ (names : Names). AreFederateFiles contents digests names reports) c.as_slice-federates.ensures.value
-    (subst (λ (known : Contents). AreFederateFiles known digests c.as_slice-federates.result.now reports) same
-    (subst (λ r. AreFederateFiles (g.F.Files.contents c.read_coordinator_file.new.files) digests c.as_slice-federates.result.now r) (sym c.reports.ensures)
+    let federates : AreFederateFiles contents digests s c.args.request.now.federates.items reports =
+    subst (λ (names : Names). AreFederateFiles contents digests s names reports) c.as_slice-federates.ensures.value
+    (subst (λ (known : Contents). AreFederateFiles known digests s c.as_slice-federates.result.now reports) same
+    (subst (λ r. AreFederateFiles (g.F.Files.contents c.read_coordinator_file.new.files) digests s c.as_slice-federates.result.now r) (sym c.reports.ensures)
     c.in-Ok-take_files.ensures.ok)) in
     let reported : AreReported contents c.args.request.now s reports journal =
     record { sources_are = c.in-Ok.ensures.ok; digests = digests; digests_are = are; coordinator_is = coordinator; federates_are = federates } in

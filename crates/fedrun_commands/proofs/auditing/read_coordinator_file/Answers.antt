@@ -1,8 +1,15 @@
 use Rattle.std.proofs.Common.{refl, subst}
-use Rattle.files_reports.specs.Taken.{IsCoordinatorFault}
+use Rattle.fedrun_reports.specs.Files.{IsOfCoordinator, IsCoordinatorFault}
 use Rattle.fedrun_commands.specs.ReportFiles.{coordinator_refused}
 use Rattle.fedrun_files.proofs.KnownFiles.{holds_of_file}
 use Rattle.fedrun_commands.proofs.auditing.read_coordinator_file.Goals as goal
+
+pub returns-in-Ok-read_coordinator-clause-ok : goal.returns-in-Ok-read_coordinator-clause-ok
+returns-in-Ok-read_coordinator-clause-ok g c = (
+  c.in-Ok.bytes.items,
+  c.in-Ok.ensures.ok,
+  subst (λ bytes. IsOfCoordinator c.args.digests.now c.in-Ok-read_coordinator.journal bytes) c.as_slice.ensures.value c.in-Ok-read_coordinator.ensures.read,
+)
 
 pub returns-clause-err : goal.returns-clause-err
 returns-clause-err g c =

@@ -7,7 +7,7 @@ use Rattle.fedrun_commands.proofs.auditing.take_files.Given as goal
 abbrev pub invariant-loop-name : goal.invariant-loop-name
 invariant-loop-name g l = record {
   count : l.collector.count ≡ l.fn.collector.count;
-  taken : AreFederateFiles (g.F.Files.contents l.fn.files) l.digests (take l.name-index l.names) l.collector.reports;
+  taken : AreFederateFiles (g.F.Files.contents l.fn.files) l.digests l.sources (take l.name-index l.names) l.collector.reports;
   asked : Answers (g.F.Files.answers l.fn.files) (g.F.Files.answers l.files) (all_given (take l.name-index l.names));
   same : g.F.Files.contents l.files ≡ g.F.Files.contents l.fn.files;
 }

@@ -1,5 +1,5 @@
-//! A node after its run, looked at again: what its own files and its journal make of it, and nothing else. A contract
-//! can't say what lay under a lock while threads ran; of what is saved it says so all the same.
+//! A node, looked at again: what its own files and its journal make of it, and nothing else. A contract can't say what
+//! lay under a lock while threads ran; of what is saved it says so all the same.
 ghost use Rattle.std.specs.Prelude.{◌≡◌, ◌<◌, true, false, IfOk};
 ghost use Rattle.plan.specs.External.{AreInputsOf};
 ghost use Rattle.plan.specs.Federation.{federate_count};
@@ -19,7 +19,7 @@ use plan::Plan;
 use std::alloc::Global;
 
 /// The coordinator's desk, after this journal.
-pub(crate) fn replayed_coordinator(
+pub fn replayed_coordinator(
     alloc: Global,
     plan: &Plan,
     journal: Journal,
@@ -34,7 +34,7 @@ pub(crate) fn replayed_coordinator(
 }
 
 /// The desk of the federate of this number, after this journal.
-pub(crate) fn replayed_federate(
+pub fn replayed_federate(
     alloc: Global,
     sources: &Sources,
     number: usize,

@@ -1,0 +1,11 @@
+-- What the program says of its own commands.
+-- the usage of a command
+pub mod Usage
+-- help for those who read it
+pub mod Help
+-- completions for shells
+pub mod Completions
+-- the manual page
+pub mod Manual
+-- which of these is asked for
+pub mod About

@@ -1,0 +1,160 @@
+//! What is told of words that are no command, beside that they are none: which word isn't taken, what was expected, and
+//! the usage.
+use crate::usage::Usage;
+use clap::ArgMatches;
+use clap::error::{Error, ErrorKind};
+use fedrun_words::{CommandKind, CommandWords, all_commands, command_line, count};
+use std::alloc::Global;
+use std::fmt;
+use std::net::SocketAddr;
+
+/// What is told of words that are no command.
+#[derive(Drop)]
+pub enum WordsHint<'a> {
+    /// They can't be parsed, and `clap` says why.
+    Unparsed(Error),
+    /// They can, but a value isn't what it has to be.
+    Refused(RefusedValue<'a>),
+    /// IN and SCHEDULE of this command stand together, and something is given to it that one of them lacks.
+    Apart(&'static CommandWords),
+}
+
+/// A value that isn't what it has to be.
+#[derive(Clone, Copy)]
+pub struct RefusedValue<'a> {
+    pub command: &'static CommandWords,
+    /// The name of the argument or option, without hyphens.
+    pub name: &'static str,
+    pub value: &'a str,
+    /// What it has to be.
+    pub wanted: &'static str,
+}
+
+impl fmt::Display for WordsHint<'_> {
+    fn fmt<W: fmt::Write>(&self, f: &mut fmt::Formatter<W>) -> fmt::Result {
+        match self {
+            WordsHint::Unparsed(error) => write!(f, "{error}"),
+            WordsHint::Refused(refused) => {
+                let value = refused.value;
+                let name = refused.name;
+                let wanted = refused.wanted;
+                let usage = Usage(refused.command);
+                write!(
+                    f,
+                    "error: invalid value '{value}' for '{name}': it has to be {wanted}\n\nUsage: {usage}\n"
+                )
+            }
+            WordsHint::Apart(command) => {
+                let usage = Usage(command);
+                write!(
+                    f,
+                    "error: IN and SCHEDULE stand together, and closing rounds are for them\n\nUsage: {usage}\n"
+                )
+            }
+        }
+    }
+}
+
+/// The words without a first one that asks for hints or for none, and whether hints are asked for.
+pub fn asks_for_hints(words: &[String]) -> (&[String], bool) {
+    match words {
+        [first, rest @ ..] if first.as_str() == "--hints" => (rest, true),
+        [first, rest @ ..] if first.as_str() == "--hints=never" => (rest, false),
+        _ => (words, false),
+    }
+}
+
+/// What is told of words that are no command; nothing of others, or where there is no memory for it.
+pub fn words_hint<'a>(alloc: Global, words: &'a [String]) -> Option<WordsHint<'a>> {
+    let command = command_line(alloc).ok()?;
+    match command.try_get_matches_from(words) {
+        Ok(matches) => hint_of_parsed(&matches),
+        Err(error) => match error.kind() {
+            ErrorKind::OutOfMemory | ErrorKind::DisplayHelp => None,
+            _ => Some(WordsHint::Unparsed(error)),
+        },
+    }
+}
+
+// The same of words that can be parsed.
+fn hint_of_parsed<'a>(matches: &ArgMatches<'a>) -> Option<WordsHint<'a>> {
+    for command in all_commands() {
+        if let Some(given) = matches.subcommand_matches(command.name) {
+            return match refused_value(command, given) {
+                Some(refused) => Some(WordsHint::Refused(refused)),
+                None if are_apart(command, given) => Some(WordsHint::Apart(command)),
+                None => None,
+            };
+        }
+    }
+    None
+}
+
+// The first value that isn't what it has to be.
+fn refused_value<'a>(
+    command: &'static CommandWords,
+    given: &ArgMatches<'a>,
+) -> Option<RefusedValue<'a>> {
+    for argument in command.arguments.iter().chain(command.may_follow) {
+        let name = argument.name;
+        let refused = refused_at(command, given, name, name);
+        if refused.is_some() {
+            return refused;
+        }
+    }
+    for option in command.options {
+        if let Some(what) = option.value {
+            let refused = refused_at(command, given, option.name, what);
+            if refused.is_some() {
+                return refused;
+            }
+        }
+    }
+    None
+}
+
+// The value under this name, which is called so, where it isn't what it has to be.
+fn refused_at<'a>(
+    command: &'static CommandWords,
+    given: &ArgMatches<'a>,
+    name: &'static str,
+    what: &str,
+) -> Option<RefusedValue<'a>> {
+    let value = given.get_str(name)?;
+    let wanted = wanted(what, value)?;
+    Some(RefusedValue {
+        command,
+        name,
+        value,
+        wanted,
+    })
+}
+
+// What a value that is called so has to be, where this one isn't that.
+fn wanted(what: &str, value: &str) -> Option<&'static str> {
+    match what {
+        "TURNS" | "N" | "SECONDS" if count(value).is_none() => {
+            Some("a whole number from 0 to 4294967295, in digits")
+        }
+        "V" if count(value) != Some(1) && count(value) != Some(2) => Some("1 or 2"),
+        "ADDRESS:PORT" if value.parse::<SocketAddr>().is_err() => Some(
+            "an IPv4 or IPv6 address and a port, as 127.0.0.1:7000 or [::1]:7000",
+        ),
+        "disk|system|no" if !["disk", "system", "no"].contains(&value) => {
+            Some("disk, system or no")
+        }
+        "FILE" if value.is_empty() => Some("a file's name"),
+        "SHELL" if !["bash", "zsh", "fish"].contains(&value) => Some("bash, zsh or fish"),
+        "COMMAND" if !all_commands().iter().any(|command| command.name == value) => {
+            Some("a command's name")
+        }
+        _ => None,
+    }
+}
+
+// Whether something is given to `draw` that SCHEDULE lacks.
+fn are_apart(command: &CommandWords, given: &ArgMatches<'_>) -> bool {
+    command.kind == CommandKind::Draw
+        && given.get_str("SCHEDULE").is_none()
+        && (given.get_str("IN").is_some() || given.get_str("until-stuck").is_some())
+}

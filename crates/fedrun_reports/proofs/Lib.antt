@@ -1,0 +1,3 @@
+-- Lemmas.
+-- a file says one thing
+pub mod One
