@@ -59,7 +59,7 @@ sum() { sha256sum "$@" | cut -d ' ' -f 1; }
 # may put another file in its place.
 note() {
   local file=$1 contents=$2
-  echo "$contents $(sum "$file")" >"$file.made-from"
+  echo "$contents $(sum "$file")" >"$file.made-from.new" && mv "$file.made-from.new" "$file.made-from"
 }
 
 # Prints the contents that a file was made from, where there is a note of this very file.
@@ -83,7 +83,7 @@ is_current() {
     [ "$contents" = "$here" ]
   else
     "$top/scripts/passed" "$program" || return 1
-    note "$file" "$here" 2>/dev/null || true # a tree that can't be written is asked anew each time
+    { note "$file" "$here"; } 2>/dev/null || true # a tree that can't be written is asked anew each time
   fi
 }
 
@@ -109,20 +109,35 @@ copy_tree() {
   done <"$to/crates.txt"
 }
 
-# Puts a program that was made from such a copy where it is to lie, with a note of the contents that the copy had: what
-# changed here since isn't in it.
+# Whether a program can be kept in this tree, and a file locked there while it is built; where not, says so, and what to
+# do.
+can_keep() {
+  local program=$1 lock=$2 out=$top/crates/$1/out at
+  mkdir -p "$out" 2>/dev/null && [ -w "$out" ] && { [ ! -e "$out/$lock" ] || [ -w "$out/$lock" ]; } && return
+  for at in "$out/$lock" "$out" "$top/crates/$program"; do
+    [ ! -e "$at" ] || break
+  done
+  say "$at can't be written, and is $(stat -c %U "$at")'s: copy the tree (cp -r $top FOLDER), and build there"
+  return 1
+}
+
+# Puts a program that was made from such a copy where it is to lie, for all to run, with a note of the contents that the
+# copy had: what changed here since isn't in it.
 put() {
   local from=$1 to=$2 made_from=$3
-  cp "$from" "$to.new"
+  install -m 0755 "$from" "$to.new"
   mv "$to.new" "$to"
   note "$to" "$made_from"
 }
 
+# git on this tree, whoever's it is and wherever the caller stands.
+in_git() { git -C "$top" --git-dir="$top/.git" --work-tree="$top" "$@"; }
+
 # The commit that this tree is of, as far as git says.
 commit() {
-  local git=(git --git-dir="$top/.git" --work-tree="$top") commit
-  if commit=$("${git[@]}" describe --always --tags --dirty=', changed since' 2>/dev/null); then
-    echo "fedrun $commit ($("${git[@]}" log -1 --format=%cs))"
+  local commit
+  if commit=$(in_git describe --always --tags --abbrev=12 --dirty=', changed since' 2>/dev/null); then
+    echo "fedrun $commit ($(in_git log -1 --format=%cs))"
   else
     echo 'fedrun, of no known commit'
   fi
