@@ -173,14 +173,28 @@ fn run_tells_its_rows(rt: HostRuntime) {
     assert_eq!(rt; is_told, Some((0, true, 20_000_000, true)));
 }
 
-// Once for each line, and once for each of the two closing rounds that it may make and needs: of both links each end
-// sends again, each of the two federates announces and advances, and what was sent comes.
+/// How many closing rounds may be made, how often the number of steps is told, and how many steps there are at least
+/// when it is told last.
+const CLOSED: &[(&str, u64, u64)] = &[("1", 3, 10), ("2", 4, 18)];
+
+// Once for each line, and once behind each closing round that may be made, of which two are needed: of both links each
+// end sends again, each of the two federates announces and advances, and what was sent comes.
 #[test]
 fn replay_tells_its_steps_after_each_closing_round(rt: HostRuntime) {
-    let words = ["replay", "f", "-", "s", "--until-stuck", "2", "--progress"];
-    let told = counts_of(&rt, &words, COUNTER);
-    let is_told = told.map(|told| (told.status, told.step_counts, told.steps >= 18));
-    assert_eq!(rt; is_told, Some((0, 4, true)));
+    for (most, step_counts, steps) in CLOSED {
+        let words = [
+            "replay",
+            "f",
+            "-",
+            "s",
+            "--until-stuck",
+            *most,
+            "--progress",
+        ];
+        let told = counts_of(&rt, &words, COUNTER);
+        let is_told = told.map(|told| (told.status, told.step_counts, told.steps >= *steps));
+        assert_eq!(rt; is_told, Some((0, *step_counts, true)), "{most}");
+    }
 }
 
 /// Words that aren't done over a federation, and their status.

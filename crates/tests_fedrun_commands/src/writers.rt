@@ -50,9 +50,11 @@ const COMMANDS: &[&[&str]] = &[
 const UNSENT: &[&[&str]] = &[
     &["record", "f", "-"],
     &["frames", "f", "-", "i"],
+    &["trace", "f", "-", "i"],
     &["draw", "f"],
     &["draw", "f", "-", "i"],
     &["lint", "f"],
+    &["help"],
 ];
 
 // What a command answers whose rows go to a writer of this room, and what is on standard error.
@@ -127,7 +129,7 @@ fn all_refusals<R: Machine + Net<Stream = TcpStream, Listener = TcpListener>>(
 
 #[test]
 fn prints_that_it_cannot_write(rt: HostRuntime) {
-    assert_eq!(rt; all_refusals(&rt), Some(25));
+    assert_eq!(rt; all_refusals(&rt), Some(27));
 }
 
 // What a command answers over an empty federation, where standard error has room for three bytes.

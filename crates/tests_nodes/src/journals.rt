@@ -56,6 +56,20 @@ fn keeps_what_came_together_and_the_turns_behind_it_in_one_block(rt: HostRuntime
     assert_eq!(rt; kept, expected);
 }
 
+// How many events a copy has of the first two of what comes together, and in how many blocks it keeps them.
+fn first_kept(alloc: Global) -> Result<(usize, usize), AllocError> {
+    let mut journal = Journal::new(alloc);
+    add_together(alloc, &mut journal)?;
+    let mut copy = Journal::new(alloc);
+    copy.append(&journal, 0, 2)?;
+    Ok((copy.len(), copy.block_count()))
+}
+
+#[test]
+fn keeps_a_part_of_what_came_together_in_one_block(rt: HostRuntime) {
+    assert_eq!(rt; first_kept(rt.alloc()), Ok((2, 1)));
+}
+
 // In how many blocks a journal keeps events of turns, of which it gets these counts at once.
 fn blocks_of_turns(alloc: Global, counts: &[usize]) -> Result<usize, AllocError> {
     let mut journal = Journal::new(alloc);
