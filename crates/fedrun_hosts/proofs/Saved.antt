@@ -1,5 +1,5 @@
 -- A report that was saved, once its name was reserved; and what a node leaves that read its two files.
-use Rattle.std.proofs.Common.{◌≡◌, ◌≢◌, ℕ, List, Option, None, Some, sym, subst}
+use Rattle.std.proofs.Common.{◌≡◌, ◌≢◌, ℕ, Bool, List, Option, None, Some, sym, subst}
 use Rattle.plan.specs.Federation.{federate_number}
 use Rattle.fedrun_files.specs.Contents.{Contents}
 use Rattle.fedrun_files.specs.declared.reading.Sources.{Sources}
@@ -15,12 +15,14 @@ use Rattle.files_reports.specs.File.{IsReportOf}
 use Rattle.files_keeping.specs.declared.machine.KeptBy.{KeptBy}
 use Rattle.files_logs.specs.declared.log.Log.{Log}
 use Rattle.fedrun_hosts.specs.declared.request.NodeRequest.{NodeRequest}
-use Rattle.fedrun_hosts.specs.Ended.{SavesReport, SavesCoordinator, KeepsCoordinator, SavesFederate, KeepsFederate, ByLog, HasCoordinated, HasJoined, IsSavedAs, SavesOwn, SavesFinished, EndsLog, EndsFinished, head_of}
+use Rattle.fedrun_hosts.specs.Ended.{SavesReport, SavesCoordinator, KeepsCoordinator, SavesFederate, KeepsFederate, ByLog, HasCoordinated, HasJoined, IsSavedAs, SavesOwn, SavesFinished, EndsFinished}
+use Rattle.fedrun_hosts.specs.EndedLogs.{EndsLog, head_of}
+use Rattle.fedrun_hosts.specs.Note.{note}
 
-pub saved_as : (digests : FileDigests) (said : Said) (temporary name : List ℕ) (before reserved after : Option Saved) → temporary ≢ name → KnownOf before reserved (IsReserved temporary name) →
-    (bytes : List ℕ) × IsReportOf digests said bytes × KnownOf reserved after (IsSaved temporary name bytes) → IsSavedAs digests said name before after
-saved_as digests said temporary name before reserved after other is_reserved (bytes, spelled, saved) =
-    (bytes, spelled, saved_where_reserved temporary name bytes other before reserved after is_reserved saved)
+pub saved_as : (digests : FileDigests) (said : Said) (temporary given name : List ℕ) (before reserved after : Option Saved) → given ≡ temporary → temporary ≢ name → KnownOf before reserved (IsReserved temporary name note) →
+    (bytes : List ℕ) × IsReportOf digests said bytes × KnownOf reserved after (IsSaved given name bytes) → IsSavedAs digests said name before after
+saved_as digests said temporary given name before reserved after same other is_reserved (bytes, spelled, saved) =
+    (bytes, spelled, saved_where_reserved temporary name note bytes other before reserved after is_reserved (subst (λ (t : List ℕ). KnownOf reserved after (IsSaved t name bytes)) same saved))
 
 -- a node that read its two files, and saved this
 saves_report : (contents : Contents) (n : NodeRequest) (sources : Sources) (digests : FileDigests) (said : Said) (before after : Option Saved) →
@@ -42,11 +44,11 @@ by_report Reports Logs kept_by none saves = subst (λ k. ByLog k Reports Logs) (
 by_log : (Reports Logs : Type 0) (kept_by : Option KeptBy) (by : KeptBy) → kept_by ≡ Some by → Logs → ByLog kept_by Reports Logs
 by_log Reports Logs kept_by by some keeps = subst (λ k. ByLog k Reports Logs) (sym some) keeps
 
-module _ (contents : Contents) (n : NodeRequest) (sources : Sources) (digests : FileDigests) (before after : Option Saved)
+module _ (contents : Contents) (known : Bool) (Holds : List ℕ → List ℕ → Type 0) (n : NodeRequest) (sources : Sources) (digests : FileDigests) (before after : Option Saved)
     (sources_are : AreSources (contents n.federation.now) (input_file contents n.inputs.now) sources)
     (are : AreDigestsOf (contents n.federation.now) (input_file contents n.inputs.now) digests.federation digests.inputs) where
   -- it coordinated without a log
-  pub coordinated_by_report : n.log ≡ None → SavesFinished sources digests n.report.now before after → HasCoordinated contents n before after
+  pub coordinated_by_report : n.log ≡ None → SavesFinished sources digests n.report.now before after → HasCoordinated contents known Holds n before after
   unfolding saves_report
   coordinated_by_report none s =
       let saves : SavesCoordinator contents n before after = record {
@@ -54,20 +56,20 @@ module _ (contents : Contents) (n : NodeRequest) (sources : Sources) (digests : 
         saves = saves_report contents n sources digests (by_coordinator s.journal) before after sources_are are s.saved;
         finished = s.finished;
       } in
-      by_report (SavesCoordinator contents n before after) (KeepsCoordinator contents n before after) n.log none saves
+      by_report (SavesCoordinator contents n before after) (KeepsCoordinator contents known Holds n before after) n.log none saves
 
   -- with a log
-  pub coordinated_by_log : (by : KeptBy) → n.log ≡ Some by → EndsFinished sources (head_of digests COORDINATOR) n.report.now before after → HasCoordinated contents n before after
+  pub coordinated_by_log : (by : KeptBy) → n.log ≡ Some by → EndsFinished known Holds sources (head_of digests COORDINATOR) n.report.now before after → HasCoordinated contents known Holds n before after
   coordinated_by_log by some e =
-      let keeps : KeepsCoordinator contents n before after = record {
+      let keeps : KeepsCoordinator contents known Holds n before after = record {
         log = e.log;
-        keeps = record { sources = sources; sources_are = sources_are; digests = digests; digests_are = are; is_ended = e.ends.is_ended; named = e.ends.named };
+        keeps = record { sources = sources; sources_are = sources_are; digests = digests; digests_are = are; ends = e.ends };
         finished = e.finished;
       } in
-      by_log (SavesCoordinator contents n before after) (KeepsCoordinator contents n before after) n.log by some keeps
+      by_log (SavesCoordinator contents n before after) (KeepsCoordinator contents known Holds n before after) n.log by some keeps
 
   -- it joined without a log
-  pub joined_by_report : (name : List ℕ) (federate : ℕ) → federate_number sources.plan.federates name ≡ Some federate → n.log ≡ None → SavesOwn sources digests federate n.report.now before after → HasJoined contents n name before after
+  pub joined_by_report : (name : List ℕ) (federate : ℕ) → federate_number sources.plan.federates name ≡ Some federate → n.log ≡ None → SavesOwn sources digests federate n.report.now before after → HasJoined contents known Holds n name before after
   unfolding saves_report
   joined_by_report name federate named none s =
       let saves : SavesFederate contents n name before after = record {
@@ -78,16 +80,16 @@ module _ (contents : Contents) (n : NodeRequest) (sources : Sources) (digests : 
         named = named;
         rows_are = s.rows_are;
       } in
-      by_report (SavesFederate contents n name before after) (KeepsFederate contents n name before after) n.log none saves
+      by_report (SavesFederate contents n name before after) (KeepsFederate contents known Holds n name before after) n.log none saves
 
   -- with a log
-  pub joined_by_log : (name : List ℕ) (federate : ℕ) → federate_number sources.plan.federates name ≡ Some federate → (by : KeptBy) → n.log ≡ Some by → (log : Log) × EndsLog (head_of digests federate) n.report.now before after log →
-      HasJoined contents n name before after
+  pub joined_by_log : (name : List ℕ) (federate : ℕ) → federate_number sources.plan.federates name ≡ Some federate → (by : KeptBy) → n.log ≡ Some by → (log : Log) × EndsLog known Holds (head_of digests federate) n.report.now before after log →
+      HasJoined contents known Holds n name before after
   joined_by_log name federate named by some (log, e) =
-      let keeps : KeepsFederate contents n name before after = record {
+      let keeps : KeepsFederate contents known Holds n name before after = record {
         federate = federate;
         log = log;
-        keeps = record { sources = sources; sources_are = sources_are; digests = digests; digests_are = are; is_ended = e.is_ended; named = e.named };
+        keeps = record { sources = sources; sources_are = sources_are; digests = digests; digests_are = are; ends = e };
         named = named;
       } in
-      by_log (SavesFederate contents n name before after) (KeepsFederate contents n name before after) n.log by some keeps
+      by_log (SavesFederate contents n name before after) (KeepsFederate contents known Holds n name before after) n.log by some keeps

@@ -3,6 +3,10 @@
 pub mod Faults
 -- by what it greets others
 pub mod Begun
+-- what stands under a report's name that is reserved
+pub mod Note
+-- its log, as it is opened and as it ends
+pub mod EndedLogs
 -- its report, or its log
 pub mod Ended
 -- what a federate's was given

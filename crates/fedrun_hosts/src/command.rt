@@ -37,7 +37,8 @@ pub fn node_command<
     out: &mut O,
     err: &mut E,
 ) -> u8
-    ensures ended { result ≡ 0 → HasEnded (F.contents files.old) (D.contents disk.old) (D.contents disk.new) }
+    ensures ended { result ≡ 0 → HasEnded (F.contents files.old)
+        V.is_known (L.holds logs.old) (D.contents disk.old) (D.contents disk.new) }
     ensures quiet { result ≡ 0 → err.new ≡ err.old }
     ensures statuses { result ≤ 3 }
 {
@@ -65,7 +66,8 @@ fn perform<
     logs: &mut L,
     out: &mut O,
 ) -> Result<(), Fault<'a, HostFault<'a>>>
-    ensures { OnOk result (HasEnded (F.contents files.old) (D.contents disk.old) (D.contents disk.new)) }
+    ensures { OnOk result (HasEnded (F.contents files.old)
+        V.is_known (L.holds logs.old) (D.contents disk.old) (D.contents disk.new)) }
 {
     match read_node_words(alloc, words) {
         Ok(HostRequest::Coordinate(node)) => coordinate(rt, alloc, &node, files, disk, logs, out),

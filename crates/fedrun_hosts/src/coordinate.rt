@@ -4,7 +4,8 @@ ghost use Rattle.std.specs.Duration.{as_nanos};
 ghost use Rattle.node_cores.specs.CoordinatorCore.{coordinator_core};
 ghost use Rattle.files_reports.specs.declared.layout.TheConstants.{COORDINATOR};
 ghost use Rattle.fedrun_reports.specs.After.{coordinator_after};
-ghost use Rattle.fedrun_hosts.specs.Ended.{HasCoordinated, SavesFinished, EndsFinished, head_of};
+ghost use Rattle.fedrun_hosts.specs.Ended.{HasCoordinated, SavesFinished, EndsFinished, GoesOnFinished};
+ghost use Rattle.fedrun_hosts.specs.EndedLogs.{head_of};
 ghost use Rattle.fedrun_hosts.specs.Waits.{telling_nanos};
 
 use crate::fault::HostFault;
@@ -47,7 +48,8 @@ use wires_workers::NoGate;
 ///
 /// With a log it keeps all that comes to it before anything leaves it that this caused. So it may be killed at any
 /// moment: the same words go on. Federates are told that the run is finished once all that made it so is kept; the log
-/// has its end, and the report's name, once they were.
+/// has its end, and the report's name, once they were. Where its log says so already, it says at once that the run is
+/// finished, and then tells federates again, which may have been down.
 ///
 /// Without one it writes its report in either case, and federates are told that the run is finished once the report is
 /// saved, and not before: where it is lost, none of them has ended as if all were well. Its report's name is reserved
@@ -69,7 +71,9 @@ pub fn coordinate<
     logs: &mut L,
     out: &mut O,
 ) -> Result<(), Fault<'a, HostFault<'a>>>
-    ensures { OnOk result (HasCoordinated (F.contents files.old) node.now (D.contents disk.old) (D.contents disk.new)) }
+    ensures { OnOk result (HasCoordinated (F.contents files.old)
+        V.is_known (L.holds logs.old) node.now
+        (D.contents disk.old) (D.contents disk.new)) }
 {
     let loaded = match load(alloc, node, files) {
         Ok(loaded) => loaded,
@@ -77,31 +81,40 @@ pub fn coordinate<
     };
     match node.log {
         Some(kept_by) => coordinate_logging(rt, alloc, node, &loaded, kept_by, disk, logs, out),
-        None => coordinate_reporting(rt, alloc, node, &loaded, disk, out),
+        None => coordinate_reporting(rt, alloc, node, &loaded, disk, logs, out),
     }
 }
 
 // Runs the coordinator without a log.
-fn coordinate_reporting<'a, R: NetRuntime + RandomSource, D: Disk, O: Write>(
+fn coordinate_reporting<
+    'a,
+    R: NetRuntime + RandomSource,
+    D: Disk,
+    L: LogDisk<V>,
+    V: Device + Drop,
+    O: Write,
+>(
     rt: &R,
     alloc: Global,
     node: &NodeRequest<'a>,
     loaded: &Loaded,
     disk: &mut D,
+    logs: &mut L,
     out: &mut O,
 ) -> Result<(), Fault<'a, HostFault<'a>>>
     ensures { OnOk result (SavesFinished loaded.now.sources loaded.now.digests node.now.report.now
         (D.contents disk.old) (D.contents disk.new)) }
 {
-    let temporary = match reserve_report(alloc, node.report, disk) {
-        Ok(temporary) => temporary,
+    let reserved = match reserve_report(alloc, node.report, disk, logs) {
+        Ok(reserved) => reserved,
         Err(fault) => return Err(fault),
     };
+    let temporary = reserved.temporary.as_str();
     let listeners = match listen(rt, node.address, out) {
         Ok(listeners) => listeners,
         Err(fault) => {
             // Nothing was begun: the name is free again.
-            disk.remove(temporary.as_str());
+            disk.remove(temporary);
             return Err(fault);
         }
     };
@@ -169,12 +182,13 @@ fn coordinate_logging<
     logs: &mut L,
     out: &mut O,
 ) -> Result<(), Fault<'a, HostFault<'a>>>
-    ensures { OnOk result (EndsFinished loaded.now.sources (head_of loaded.now.digests COORDINATOR)
-        node.now.report.now (D.contents disk.old) (D.contents disk.new)) }
+    ensures { OnOk result (EndsFinished V.is_known (L.holds logs.old)
+        loaded.now.sources (head_of loaded.now.digests COORDINATOR) node.now.report.now
+        (D.contents disk.old) (D.contents disk.new)) }
 {
     let head = head_of(loaded, COORDINATOR);
     match begin(alloc, node, kept_by, &head, disk, logs) {
-        Ok(Begun::Finished(log)) => say_if_finished(alloc, loaded, log, out),
+        Ok(Begun::Finished(log)) => say_again(rt, alloc, node, loaded, log, out),
         Ok(Begun::GoesOn(opened)) => go_on(rt, alloc, node, loaded, &head, opened, disk, out),
         Err(fault) => Err(fault),
     }
@@ -191,7 +205,7 @@ fn go_on<'a, R: NetRuntime + RandomSource, D: Disk, V: Device + Drop + Send, O: 
     disk: &mut D,
     out: &mut O,
 ) -> Result<(), Fault<'a, HostFault<'a>>>
-    ensures { OnOk result (EndsFinished loaded.now.sources head.now node.now.report.now
+    ensures { OnOk result (GoesOnFinished V.is_known V.synced loaded.now.sources head.now node.now.report.now opened
         (D.contents disk.old) (D.contents disk.new)) }
 {
     let OpenedLog {
@@ -210,6 +224,7 @@ fn go_on<'a, R: NetRuntime + RandomSource, D: Disk, V: Device + Drop + Send, O: 
         }
     };
     match finish(alloc, node, head, file, is_ended, disk) {
+        Ok(log) if is_told => say_again(rt, alloc, node, loaded, log, out),
         Ok(log) => say_if_finished(alloc, loaded, log, out),
         Err(fault) => Err(fault),
     }
@@ -319,6 +334,45 @@ fn say_if_finished<'a, O: Write>(
         Ok(desk) if desk.station().node().finished() => say_finished(out),
         Ok(_) => Err(Fault::More(HostFault::NotFinished)),
         Err(memory) => Err(Fault::More(HostFault::Memory(memory))),
+    }
+}
+
+// Says that the run is finished, where the coordinator is by this log, and then tells so whoever asks: a federate may
+// have been down when all others were told.
+fn say_again<'a, R: NetRuntime + RandomSource, O: Write>(
+    rt: &R,
+    alloc: Global,
+    node: &NodeRequest<'a>,
+    loaded: &Loaded,
+    log: Log,
+    out: &mut O,
+) -> Result<(), Fault<'a, HostFault<'a>>>
+    ensures { OnOk result
+        (coordinator_core.finished (coordinator_after loaded.now.sources.plan log.journal) ≡ true) }
+{
+    match say_if_finished(alloc, loaded, log, out) {
+        Ok(()) => {
+            tell_again(rt, alloc, node, loaded);
+            Ok(())
+        }
+        Err(fault) => Err(fault),
+    }
+}
+
+// Tells whoever asks at the node's address that the run is finished, where the node can listen there.
+fn tell_again<R: NetRuntime + RandomSource>(
+    rt: &R,
+    alloc: Global,
+    node: &NodeRequest<'_>,
+    loaded: &Loaded,
+) {
+    // Where the system chooses the port nobody knows it.
+    if node.address.port() == 0 {
+        return;
+    }
+    if let Ok(listener) = listen_at(rt, node.address) {
+        // Where there is no memory for that, nobody is told.
+        let _ = tell_finished(rt, alloc, node, loaded, listener);
     }
 }
 

@@ -33,7 +33,8 @@ pub enum HostFault<'a> {
     /// anew.
     Damaged(&'a str),
     /// The node's log couldn't be opened, or doesn't take more, and the inner fault says why. All that has left the
-    /// node is in it. Once the disk works the same words go on.
+    /// node is in it. Once the disk works the same words go on. Of a node without a log: the temporary file couldn't be
+    /// locked. It is left, and nothing was begun.
     Unkept(&'a str, KeepFault),
     /// The coordinator, which has the secret, doesn't let the federate take part, and this is why. The report was
     /// written.

@@ -4,7 +4,8 @@ ghost use Rattle.plan.specs.Federation.{federate_count, federate_number};
 ghost use Rattle.files_logs.specs.declared.log.Log.{Log as IsLogValue};
 ghost use Rattle.files_reports.specs.Said.{said_in, by_federate};
 ghost use Rattle.fedrun_reports.specs.After.{federate_after};
-ghost use Rattle.fedrun_hosts.specs.Ended.{HasJoined, SavesOwn, EndsLog, head_of};
+ghost use Rattle.fedrun_hosts.specs.Ended.{HasJoined, SavesOwn};
+ghost use Rattle.fedrun_hosts.specs.EndedLogs.{EndsLog, EndsOpened, head_of};
 ghost use Rattle.fedrun_hosts.specs.Given.{IsGiven};
 ghost use Rattle.fedrun_hosts.specs.Faults as definition;
 
@@ -68,8 +69,9 @@ pub fn join<
     logs: &mut L,
     out: &mut O,
 ) -> Result<(), Fault<'a, HostFault<'a>>>
-    ensures { OnOk result (HasJoined (F.contents files.old) node.now name.entry.now (D.contents disk.old)
-        (D.contents disk.new)) }
+    ensures { OnOk result (HasJoined (F.contents files.old)
+        V.is_known (L.holds logs.old) node.now name.entry.now
+        (D.contents disk.old) (D.contents disk.new)) }
 {
     let loaded = match load(alloc, node, files) {
         Ok(loaded) => loaded,
@@ -86,7 +88,7 @@ pub fn join<
     };
     match node.log {
         Some(kept_by) => join_logging(rt, alloc, &joined, kept_by, disk, logs, out),
-        None => join_reporting(rt, alloc, &joined, disk, out),
+        None => join_reporting(rt, alloc, &joined, disk, logs, out),
     }
 }
 
@@ -100,11 +102,19 @@ struct Joined<'j, 'a> {
 }
 
 // Runs a federate without a log.
-fn join_reporting<'a, R: NetRuntime + RandomSource, D: Disk, O: Write>(
+fn join_reporting<
+    'a,
+    R: NetRuntime + RandomSource,
+    D: Disk,
+    L: LogDisk<V>,
+    V: Device + Drop,
+    O: Write,
+>(
     rt: &R,
     alloc: Global,
     joined: &Joined<'_, 'a>,
     disk: &mut D,
+    logs: &mut L,
     out: &mut O,
 ) -> Result<(), Fault<'a, HostFault<'a>>>
     requires { IsGiven joined.now }
@@ -115,10 +125,11 @@ fn join_reporting<'a, R: NetRuntime + RandomSource, D: Disk, O: Write>(
     let Ok(heard) = Heard::new(alloc, 0) else {
         return Err(Fault::More(HostFault::Memory(desk::Memory)));
     };
-    let temporary = match reserve_report(alloc, node.report, disk) {
-        Ok(temporary) => temporary,
+    let reserved = match reserve_report(alloc, node.report, disk, logs) {
+        Ok(reserved) => reserved,
         Err(fault) => return Err(fault),
     };
+    let temporary = reserved.temporary.as_str();
     let shared = match shared_desk(alloc, joined) {
         Ok(shared) => shared,
         Err(memory) => return Err(Fault::More(HostFault::Memory(memory))),
@@ -190,7 +201,8 @@ fn join_logging<
 ) -> Result<(), Fault<'a, HostFault<'a>>>
     requires { IsGiven joined.now }
     ensures { OnOk result ((log : IsLogValue)
-        × EndsLog (head_of joined.now.loaded.now.digests joined.now.number) joined.now.node.now.report.now
+        × EndsLog V.is_known (L.holds logs.old)
+        (head_of joined.now.loaded.now.digests joined.now.number) joined.now.node.now.report.now
         (D.contents disk.old) (D.contents disk.new) log) }
 {
     let head = head_of(joined.loaded, joined.number);
@@ -213,7 +225,8 @@ fn go_on<'a, R: NetRuntime + RandomSource, D: Disk, V: Device + Drop + Send, O: 
 ) -> Result<(), Fault<'a, HostFault<'a>>>
     requires { IsGiven joined.now }
     ensures { OnOk result ((log : IsLogValue)
-        × EndsLog head.now joined.now.node.now.report.now (D.contents disk.old) (D.contents disk.new) log) }
+        × EndsOpened V.is_known V.synced head.now joined.now.node.now.report.now opened
+        (D.contents disk.old) (D.contents disk.new) log) }
 {
     let OpenedLog {
         journal,

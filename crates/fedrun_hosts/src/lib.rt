@@ -11,7 +11,8 @@
 //!
 //! A node with a log goes on from it by the same words (`logged`). One without reserves its report's name before it
 //! listens or connects, and keeps it where it ends in the midst. So a node that has lost what it knew isn't begun anew
-//! by the same words.
+//! by the same words, be it to keep a log then or not (`report`). While one of both kinds runs no other begins that has
+//! its report's name (`locked`).
 //!
 //! Begin with `request`, then `coordinate` and `join`.
 #![tactic(auto)]
@@ -22,6 +23,7 @@ pub mod fault;
 mod gathering;
 pub mod join;
 mod loaded;
+mod locked;
 mod logged;
 mod patience;
 mod report;

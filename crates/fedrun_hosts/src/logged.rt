@@ -1,19 +1,20 @@
 //! A node that keeps a log: how it begins from it, and how the log gets the report's name.
-ghost use Rattle.std.specs.Prelude.{◌≡◌, Some, IfSome, IfOk, OnOk};
+ghost use Rattle.std.specs.Prelude.{◌≡◌, ◌⊎◌, ◌↔◌, ℕ, List, IsTrue, IfSome, IfOk, OnOk};
 ghost use Rattle.files_saving.specs.Contents.{KnownOf, SameBut};
-ghost use Rattle.files_logs.specs.declared.log.Log.{Log as IsLogValue};
+ghost use Rattle.files_saving.specs.Saved.{IsRenamed, temporary_name};
 ghost use Rattle.fedrun_words.specs.declared.fault.Fault.TheVariants.{More as of_host};
-ghost use Rattle.fedrun_hosts.specs.Ended as definition;
-ghost use Rattle.fedrun_hosts.specs.Ended.{IsEndedLog, EndsLog, HasName, Begins};
+ghost use Rattle.fedrun_hosts.specs.EndedLogs as definition;
+ghost use Rattle.fedrun_hosts.specs.EndedLogs.{IsEndedLog, EndsFile, IsSpare, Begins};
 ghost use Rattle.fedrun_hosts.specs.Faults.{fault_of_log};
 
 use crate::fault::HostFault;
 use crate::loaded::Loaded;
+use crate::locked::{LockedFile, lock_file};
 use crate::request::NodeRequest;
 use fedrun_logs::{LogDisk, LogFile, NotKept, OpenedLog, begin_log};
 use fedrun_reports::RULES;
 use fedrun_words::Fault;
-use files_keeping::{Device, KeepFault, KeptBy, read_locked};
+use files_keeping::{Device, KeptBy};
 use files_logs::{Log, LogFault, LogHead, read_log};
 use files_saving::{Disk, SaveFault, temporary_name};
 use std::alloc::Global;
@@ -38,8 +39,14 @@ pub(crate) fn head_of(loaded: &Loaded, who: u16) -> LogHead
     }
 }
 
+/// A log that has its end, and all bytes of its file.
+#[derive(Drop)]
+struct EndedLog {
+    log: Log,
+    bytes: Vec<u8>,
+}
+
 /// Opens a node's log, which stands beside the report's name and gets that name at its end. Nobody else has it then.
-#[tactic(auto, using(crate::proofs::Named::by_removing))]
 pub(crate) fn begin<'a, D: Disk, L: LogDisk<V>, V: Device + Drop>(
     alloc: Global,
     node: &NodeRequest<'a>,
@@ -48,19 +55,21 @@ pub(crate) fn begin<'a, D: Disk, L: LogDisk<V>, V: Device + Drop>(
     disk: &mut D,
     logs: &mut L,
 ) -> Result<Begun<V>, Fault<'a, HostFault<'a>>>
-    ensures { IfOk result (Begins head.now node.now.report.now (D.contents disk.old) (D.contents disk.new)) }
+    ensures { IfOk result (Begins V.is_known (L.holds logs.old) V.synced head.now node.now.report.now
+        (D.contents disk.old) (D.contents disk.new)) }
 {
     let Ok(temporary) = temporary_name(alloc, node.report) else {
         return Err(Fault::More(HostFault::Memory(desk::Memory)));
     };
-    let mut device = match logs.open(temporary.as_str(), kept_by) {
-        Ok(device) => device,
-        Err(why) => return Err(Fault::More(HostFault::Unkept(node.report, why))),
-    };
-    let bytes = match read_locked(alloc, &mut device) {
-        Ok(bytes) => bytes,
-        Err(KeepFault::Taken) => return Err(Fault::More(HostFault::PartExists(node.report))),
-        Err(why) => return Err(Fault::More(HostFault::Unkept(node.report, why))),
+    let LockedFile { device, bytes } = match lock_file(
+        alloc,
+        temporary.as_str(),
+        node.report,
+        kept_by,
+        logs,
+    ) {
+        Ok(file) => file,
+        Err(why) => return Err(Fault::More(why)),
     };
     // It is looked for the name once the log is locked: whoever had it before has the name by now.
     match disk.exists(node.report) {
@@ -69,38 +78,62 @@ pub(crate) fn begin<'a, D: Disk, L: LogDisk<V>, V: Device + Drop>(
             Err(why) => Err(fault_of(node.report, why)),
         },
         Ok(true) => {
-            let finished = finished_log(alloc, node.report, kept_by, head, logs);
-            only_name(node, temporary.as_str(), bytes.is_empty(), finished, disk)
+            let part = temporary.as_str();
+            let beside = bytes.as_slice();
+            match only_name(alloc, node, part, beside, kept_by, head, disk, logs) {
+                Ok(log) => Ok(Begun::Finished(log)),
+                Err(fault) => Err(fault),
+            }
         }
         Err(why) => Err(Fault::More(HostFault::Unsaved(node.report, why))),
     }
 }
 
-// How a node begins whose report's name is there, with this log, if it is one. The other name is removed, where the log
-// has two, or no log was begun under it.
-fn only_name<'a, D: Disk, V: Device + Drop>(
+// The log of a node whose report's name is there, where that file is its log, and was finished. The file beside it,
+// which has these bytes, is removed where it is of no use.
+fn only_name<'a, D: Disk, L: LogDisk<V>, V: Device + Drop>(
+    alloc: Global,
     node: &NodeRequest<'a>,
     temporary: &str,
-    is_empty: bool,
-    finished: Option<Log>,
+    beside: &[u8],
+    kept_by: KeptBy,
+    head: &LogHead,
     disk: &mut D,
-) -> Result<Begun<V>, Fault<'a, HostFault<'a>>>
-    ensures finished { IfOk result (λ begun. (log : IsLogValue) × (finished ≡ Some log)
-        × (begun ≡ Begun.Finished log)) }
+    logs: &mut L,
+) -> Result<Log, Fault<'a, HostFault<'a>>>
+    ensures ended { IfOk result (λ log. (bytes : List ℕ)
+        × (IsTrue V.is_known → L.holds logs.old node.now.report.now bytes) × IsEndedLog head.now bytes log
+        × (IsSpare beside.now bytes ⊎ (D.contents disk.new ≡ D.contents disk.old))) }
     ensures others { KnownOf (D.contents disk.old) (D.contents disk.new) (SameBut temporary.now) }
 {
-    match finished {
-        Some(log) => {
-            disk.remove(temporary);
-            Ok(Begun::Finished(log))
+    match finished_log(alloc, node.report, kept_by, head, logs) {
+        Some(EndedLog { log, bytes }) => {
+            remove_spare(temporary, beside, bytes.as_slice(), disk);
+            Ok(log)
         }
         None => {
-            if is_empty {
-                disk.remove(temporary);
-            }
+            remove_spare(temporary, beside, b"", disk);
             Err(Fault::More(HostFault::ReportExists(node.report)))
         }
     }
+}
+
+// Removes a file that has these bytes, beside another one, where it is of no use: no log was begun in it, or it has the
+// bytes of the other one, so that it is a second name of that, or a copy. Any other is somebody's.
+fn remove_spare<D: Disk>(temporary: &str, beside: &[u8], bytes: &[u8], disk: &mut D)
+    ensures spare { IsSpare beside.now bytes.now ⊎ (D.contents disk.new ≡ D.contents disk.old) }
+    ensures others { KnownOf (D.contents disk.old) (D.contents disk.new) (SameBut temporary.now) }
+{
+    if is_spare(beside, bytes) {
+        disk.remove(temporary);
+    }
+}
+
+// Whether a file with the first bytes is of no use beside one that has the others.
+fn is_spare(beside: &[u8], bytes: &[u8]) -> bool
+    ensures { IsTrue result ↔ IsSpare beside.now bytes.now }
+{
+    beside.is_empty() || beside == bytes
 }
 
 // The log under the report's name, where it is this node's, and was finished.
@@ -110,17 +143,20 @@ fn finished_log<L: LogDisk<V>, V: Device + Drop>(
     kept_by: KeptBy,
     head: &LogHead,
     logs: &mut L,
-) -> Option<Log>
-    ensures { IfSome result (IsEndedLog head.now) }
+) -> Option<EndedLog>
+    ensures held { IfSome result (λ ended. IsTrue V.is_known → L.holds logs.old name.now ended.bytes.items) }
+    ensures ended { IfSome result (λ ended. IsEndedLog head.now ended.bytes.items ended.log) }
 {
     let mut device = logs.open(name, kept_by).ok()?;
     let bytes = device.read(alloc).ok()?;
-    ended_log(alloc, head, bytes.as_slice())
+    let log = ended_log(alloc, head, bytes.as_slice())?;
+    Some(EndedLog { log, bytes })
 }
 
-// What a log of this head says that has its end, and of which it was known that the run is finished.
+// What these bytes say, where they are a log of this head that has its end, and of which it was known that the run is
+// finished.
 fn ended_log(alloc: Global, head: &LogHead, bytes: &[u8]) -> Option<Log>
-    ensures { IfSome result (IsEndedLog head.now) }
+    ensures { IfSome result (IsEndedLog head.now bytes.now) }
 {
     match read_log(alloc, &head.files, Some(head.who), head.rules, bytes) {
         Ok(log) if log.is_ended && log.is_told => Some(log),
@@ -138,7 +174,9 @@ pub(crate) fn finish<'a, D: Disk, V: Device + Drop>(
     is_ended: bool,
     disk: &mut D,
 ) -> Result<Log, Fault<'a, HostFault<'a>>>
-    ensures { IfOk result (EndsLog head.now node.now.report.now (D.contents disk.old) (D.contents disk.new)) }
+    ensures ended { IfOk result (EndsFile V.is_known head.now is_ended file.sum (V.synced file.log.device)) }
+    ensures named { OnOk result (KnownOf (D.contents disk.old) (D.contents disk.new)
+        (IsRenamed (temporary_name node.now.report.now) node.now.report.now)) }
 {
     let mut file = file;
     let ended = if is_ended {
@@ -160,9 +198,9 @@ pub(crate) fn finish<'a, D: Disk, V: Device + Drop>(
 }
 
 // Gives a log the report's name.
-#[tactic(auto, using(crate::proofs::Named::by_renaming))]
 fn name_log<D: Disk>(alloc: Global, name: &str, disk: &mut D) -> Result<(), SaveFault>
-    ensures { OnOk result (KnownOf (D.contents disk.old) (D.contents disk.new) (HasName name.now)) }
+    ensures { OnOk result (KnownOf (D.contents disk.old) (D.contents disk.new)
+        (IsRenamed (temporary_name name.now) name.now)) }
 {
     let Ok(temporary) = temporary_name(alloc, name) else {
         return Err(SaveFault::CannotRename);

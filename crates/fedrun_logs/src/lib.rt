@@ -7,7 +7,7 @@
 //! (`world_disks`). That its barrier keeps each event before what it caused leaves no contract says, since the desk lies
 //! under a lock: the order of its calls does, in `log_barrier`.
 //!
-//!     LogDisk::open, read_locked    the file of the name, which no other process has
+//!     LogDisk::open, read_locked    the file of the name, which no other process has, and what it holds
 //!     begin_log --> settle_log      what it says; a torn tail is cut off, a file without a head is begun
 //!     replay --> Share              a desk without events takes the log's in
 //!     LogBarrier::reach, tell       blocks of all events that the file hasn't, and a sync of each, for all who wait

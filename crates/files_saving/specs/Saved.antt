@@ -1,5 +1,5 @@
 -- What becomes of files that are made, written, renamed, reserved and saved.
-use Rattle.std.specs.Prelude.{◌≡◌, ℕ, List, [], ◌++◌, None, Some, codes}
+use Rattle.std.specs.Prelude.{◌≡◌, ℕ, List, ◌++◌, None, Some, codes}
 use Rattle.files_saving.specs.Contents.{Contents, SameBut, SameButTwo}
 
 -- there is a file of this name now that wasn't there before, with these bytes
@@ -21,10 +21,10 @@ pub record IsRenamed (from to : List ℕ) (before now : Contents) : Type 0 where
   pub others : SameButTwo from to before now
 
 -- a name is reserved for a file that is to be saved: there is no file of this name, and a temporary one now that wasn't
--- there
-pub record IsReserved (temporary name : List ℕ) (before now : Contents) : Type 0 where
+-- there, with these bytes
+pub record IsReserved (temporary name bytes : List ℕ) (before now : Contents) : Type 0 where
   pub name_is_free : before name ≡ None
-  pub created : IsCreated temporary [] before now
+  pub created : IsCreated temporary bytes before now
 
 -- the file of this name, which wasn't there, has these bytes, and the temporary file isn't there any more
 pub record IsSaved (temporary name bytes : List ℕ) (before now : Contents) : Type 0 where

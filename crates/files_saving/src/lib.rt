@@ -10,6 +10,7 @@
 //!     reserve --> Disk::create    a file of the temporary name, without bytes
 //!             --> Disk::exists    there is none of the name
 //!             --> Disk::remove    the temporary file, where there is
+//!     Disk::write                 what the temporary file says meanwhile, if that is wanted
 //!     save    --> Disk::write     the temporary file: written, synced
 //!             --> Disk::rename    it gets the name, if there is still none of it
 //!

@@ -9,7 +9,7 @@ ghost use Rattle.files_saving.specs.declared.save_fault.SaveFault.TheVariants.{C
 use crate::disk::Disk;
 use crate::save_fault::SaveFault;
 use std::fs::{File, OpenFile};
-use std::io::{ErrorKind, Write};
+use std::io::{ErrorKind, Seek, Write};
 use std::{fs, io, rt};
 
 /// The machine's files. It writes into the file alone that it made last, whatever has that file's name by then.
@@ -48,13 +48,16 @@ impl<R: rt::Files> Disk for MachineDisk<'_, R> {
         Ok(())
     }
 
+    // What the file has is written over, and cut off behind that: at no time it is shorter than both.
     fn write(&mut self, _name: &str, bytes: &[u8]) -> Result<(), SaveFault> {
         let Some(file) = &mut self.made else {
             return Err(SaveFault::CannotWrite);
         };
-        match write_whole(file, bytes) {
-            Ok(()) => {}
-            Err(why) => return Err(why),
+        if file.rewind().is_err()
+            || write_whole(file, bytes).is_err()
+            || file.set_len(bytes.len() as u64).is_err()
+        {
+            return Err(SaveFault::CannotWrite);
         }
         file.sync_all().map_err(|_| SaveFault::CannotSync)
     }

@@ -1,4 +1,4 @@
-ghost use Rattle.std.specs.Prelude.{◌≡◌, ◌≢◌, IsSome, false, IfOk, IfSome, IfErr, OnOk, OnErr, string_bytes};
+ghost use Rattle.std.specs.Prelude.{◌≡◌, ◌≢◌, [], IsSome, false, IfOk, IfSome, IfErr, OnOk, OnErr, string_bytes};
 ghost use Rattle.files_saving.specs.Contents.{KnownOf, SameBut};
 ghost use Rattle.files_saving.specs.Fault.{is_of_writing};
 ghost use Rattle.files_saving.specs.Saved.{IsReserved, IsSaved, IsWritten, temporary_name};
@@ -10,11 +10,12 @@ use std::alloc::{AllocError, Global};
 
 /// Reserves a name for a file that is to be saved: by a temporary file in the same folder, without any bytes. Of
 /// several who reserve the same name one gets it. Where it fails, the temporary file is removed that this call made, if
-/// that can be done, and no other: one that was there before is somebody else's.
+/// that can be done, and no other: one that was there before is somebody else's. Until the file is saved, whatever is
+/// written into the temporary one may say whose it is.
 pub fn reserve<D: Disk>(disk: &mut D, temporary: &str, name: &str) -> Result<(), ReserveFault>
     requires { temporary.now ≢ name.now }
     ensures reserved { OnOk result
-        (KnownOf (D.contents disk.old) (D.contents disk.new) (IsReserved temporary.now name.now)) }
+        (KnownOf (D.contents disk.old) (D.contents disk.new) (IsReserved temporary.now name.now [])) }
     ensures kept { OnErr result (KnownOf (D.contents disk.old) (D.contents disk.new) (SameBut temporary.now)) }
     ensures name_there { result ≡ Err ReserveFault.NameTaken
         → IfSome (D.contents disk.old) (λ files. IsSome (files name.now)) }

@@ -2,11 +2,14 @@
 use files_saving::{Disk, SaveFault};
 use std::alloc::Global;
 
-/// What a disk does.
+/// What a disk does. What is written first is what a file is there for.
 #[derive(Clone, Copy, PartialEq, Eq)]
 pub enum Operation {
     Look,
     Create,
+    Open,
+    WriteFirst,
+    SyncFirst,
     Write,
     Sync,
     Rename,
@@ -17,7 +20,8 @@ pub enum Operation {
 pub struct MemoryDisk {
     alloc: Global,
     files: Vec<(String, Vec<u8>)>,
-    failing: Option<Operation>,
+    pub failing: Option<Operation>,
+    has_written: bool,
 }
 
 impl MemoryDisk {
@@ -27,6 +31,7 @@ impl MemoryDisk {
             alloc,
             files: Vec::new(alloc),
             failing,
+            has_written: false,
         }
     }
 
@@ -77,10 +82,16 @@ impl Disk for MemoryDisk {
     }
 
     fn write(&mut self, name: &str, bytes: &[u8]) -> Result<(), SaveFault> {
-        if self.fails(Operation::Write) || self.put(name, bytes).is_none() {
+        let (writing, syncing) = if self.has_written {
+            (Operation::Write, Operation::Sync)
+        } else {
+            (Operation::WriteFirst, Operation::SyncFirst)
+        };
+        self.has_written = true;
+        if self.fails(writing) || self.put(name, bytes).is_none() {
             return Err(SaveFault::CannotWrite);
         }
-        if self.fails(Operation::Sync) {
+        if self.fails(syncing) {
             return Err(SaveFault::CannotSync);
         }
         Ok(())

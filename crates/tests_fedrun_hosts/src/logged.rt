@@ -11,17 +11,17 @@ use std::random::RandomSource;
 use std::{fs, rt};
 use tests_samples::{COUNTER, Machine};
 
-// The files that all nodes read.
-const TEXTS: &[(&str, &str)] = &[("f", COUNTER), ("i", ""), ("other", "# no input\n")];
+/// The files that all nodes read.
+pub const TEXTS: &[(&str, &str)] = &[("f", COUNTER), ("i", ""), ("other", "# no input\n")];
 
 /// How a node ended: its status, and what it said on standard output and on standard error.
-type Said = (u8, String, String);
+pub type Said = (u8, String, String);
 
 /// Where a node keeps its log.
 #[derive(Drop)]
-struct Kept<D: Disk + Drop, L: Drop> {
-    disk: D,
-    logs: L,
+pub struct Kept<D: Disk + Drop, L: Drop> {
+    pub disk: D,
+    pub logs: L,
 }
 
 /// The machine's disk.
@@ -32,8 +32,8 @@ fn on_machine<R: rt::Files<File = File>>(rt: &R) -> Kept<MachineDisk<'_, R>, Mac
     }
 }
 
-// What a node's command says to this writer, and on standard error, and its status.
-fn commanded<
+/// What a node's command says to this writer, and on standard error, and its status.
+pub fn commanded<
     R: Machine + Net<Stream = TcpStream, Listener = TcpListener> + RandomSource,
     D: Disk + Drop,
     L: LogDisk<V> + Drop,
@@ -66,8 +66,8 @@ fn commanded<
     Some((status, String::from_utf8(err).ok()?))
 }
 
-// How a federate ends.
-fn federate<
+/// How a federate ends.
+pub fn federate<
     R: Machine + Net<Stream = TcpStream, Listener = TcpListener> + RandomSource,
     D: Disk + Drop,
     L: LogDisk<V> + Drop,
@@ -105,8 +105,8 @@ fn joined<
     federate(rt, name, report, address, more, &mut on_machine(rt))
 }
 
-// Whether a node ended so.
-fn is(said: &Said, status: u8, out: &str, err: &str) -> bool {
+/// Whether a node ended so.
+pub fn is(said: &Said, status: u8, out: &str, err: &str) -> bool {
     said.0 == status && said.1.as_str() == out && said.2.as_str() == err
 }
 

@@ -93,13 +93,19 @@ impl Ended {
     }
 }
 
-/// Where no log can be opened.
+/// A disk on which each file is as it was made, and no other process has it; or where none can be opened.
 #[derive(Drop)]
-struct NoLogs;
+struct NewFiles {
+    alloc: Global,
+    are_there: bool,
+}
 
-impl LogDisk<MemoryDevice> for NoLogs {
+impl LogDisk<MemoryDevice> for NewFiles {
     fn open(&mut self, _name: &str, _kept_by: KeptBy) -> Result<MemoryDevice, KeepFault> {
-        Err(KeepFault::CannotOpen)
+        if !self.are_there {
+            return Err(KeepFault::CannotOpen);
+        }
+        MemoryDevice::new(self.alloc, b"").map_err(|_| KeepFault::CannotOpen)
     }
 }
 
@@ -130,8 +136,12 @@ pub fn commanded<
         texts,
         reports: &[],
     };
+    let mut logs = NewFiles {
+        alloc,
+        are_there: disk.failing != Some(Operation::Open),
+    };
     let mut err = Vec::new(alloc);
-    let status = node_command(rt, &words, &mut files, disk, &mut NoLogs, out, &mut err);
+    let status = node_command(rt, &words, &mut files, disk, &mut logs, out, &mut err);
     Some((status, String::from_utf8(err).ok()?))
 }
 

@@ -140,6 +140,33 @@ const REFUSED: &[(Given<'static>, u8, &str, Left)] = &[
     ),
     (
         Given {
+            failing: Some(Operation::Open),
+            ..SRC
+        },
+        3,
+        "fedrun: 120 Unsaved r.part: cannot open\n",
+        Left::Part,
+    ),
+    (
+        Given {
+            failing: Some(Operation::WriteFirst),
+            ..SRC
+        },
+        3,
+        "fedrun: 120 Unsaved r: cannot write\n",
+        Left::Nothing,
+    ),
+    (
+        Given {
+            failing: Some(Operation::SyncFirst),
+            ..SRC
+        },
+        3,
+        "fedrun: 120 Unsaved r: cannot sync\n",
+        Left::Nothing,
+    ),
+    (
+        Given {
             failing: Some(Operation::Write),
             ..SRC
         },

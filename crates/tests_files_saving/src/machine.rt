@@ -35,6 +35,9 @@ fn saves<R: rt::Files + AllocGlobal>(rt: &R) -> bool {
     let first = reserved(rt.alloc(), &mut disk, NAME);
     let is_reserved = first == Some(Ok(())) && holds(rt, TEMPORARY, "");
     let second = reserved(rt.alloc(), &mut disk, NAME);
+    // Whose it is, in more bytes than are saved.
+    let noted = disk.write(TEMPORARY, b"somebody's");
+    let is_noted = noted == Ok(()) && holds(rt, TEMPORARY, "somebody's");
     let answer = saved(rt.alloc(), &mut disk, NAME, b"bytes");
     let is_saved = answer == Some(Ok(())) && holds(rt, NAME, "bytes");
     let third = reserved(rt.alloc(), &mut disk, NAME);
@@ -43,6 +46,7 @@ fn saves<R: rt::Files + AllocGlobal>(rt: &R) -> bool {
     was_free
         && is_reserved
         && second == Some(Err(ReserveFault::TemporaryTaken))
+        && is_noted
         && is_saved
         && third == Some(Err(ReserveFault::NameTaken))
         && is_alone

@@ -54,7 +54,8 @@ impl Write for UnsyncedFile {
 
 impl Seek for UnsyncedFile {
     fn seek(&mut self, _to: SeekFrom) -> io::Result<u64> {
-        Err(unsupported())
+        self.taken = 0;
+        Ok(0)
     }
 }
 
@@ -63,8 +64,12 @@ impl OpenFile for UnsyncedFile {
         Err(unsupported())
     }
 
-    fn set_len(&self, _size: u64) -> io::Result<()> {
-        Err(unsupported())
+    fn set_len(&self, size: u64) -> io::Result<()> {
+        if size == TEXT.len() as u64 {
+            Ok(())
+        } else {
+            Err(unsupported())
+        }
     }
 
     // Of a part of the text it isn't said either.

@@ -27,8 +27,8 @@ returns-in-Ok-save_report g c =
     ∙ sym (ap (λ (d : Desk CoordinatorNode). coordinator_core.finished d.station.node) after) ∙ says in
     let saves : SavesFinished sources digests name before final = record {
       journal = journal;
-      saved = saved_as digests (by_coordinator journal) (string_bytes c.in-Ok.temporary) name before (g.D.Disk.contents c.reserve_report.new.disk) final
-          c.in-Ok.ensures.other c.in-Ok.ensures.reserved c.in-Ok-save_report.ensures.saved;
+      saved = saved_as digests (by_coordinator journal) (string_bytes c.in-Ok.reserved.temporary) c.as_str-temporary.result.now name before (g.D.Disk.contents c.reserve_report.new.disk) final
+          c.as_str-temporary.ensures.value c.in-Ok.ensures.other c.in-Ok.ensures.reserved c.in-Ok-save_report.ensures.saved;
       finished = finished;
     } in
     on_ok_always c.say_finished.result saves

@@ -8,7 +8,7 @@ returns-in-Some-log g c =
     let before = g.D.Disk.contents c.args.disk.now in
     let after = g.D.Disk.contents c.join_logging.new.disk in
     on_ok_weaker c.join_logging.result
-    (joined_by_log (g.F.Files.contents c.args.files.now) c.args.node.now loaded.sources loaded.digests before after c.in-Ok.ensures.sources c.in-Ok.ensures.digests c.args.name.now c.in-Some.number
+    (joined_by_log (g.F.Files.contents c.args.files.now) g.V.Device.is_known (g.L.LogDisk.holds c.args.logs.now) c.args.node.now loaded.sources loaded.digests before after c.in-Ok.ensures.sources c.in-Ok.ensures.digests c.args.name.now c.in-Some.number
     c.in-Some.ensures.named c.in-Some-log.kept_by c.in-Some-log.is)
     c.join_logging.ensures
 
@@ -18,6 +18,6 @@ returns g c =
     let before = g.D.Disk.contents c.args.disk.now in
     let after = g.D.Disk.contents c.join_reporting.new.disk in
     on_ok_weaker c.join_reporting.result
-    (joined_by_report (g.F.Files.contents c.args.files.now) c.args.node.now loaded.sources loaded.digests before after c.in-Ok.ensures.sources c.in-Ok.ensures.digests c.args.name.now c.in-Some.number
+    (joined_by_report (g.F.Files.contents c.args.files.now) g.V.Device.is_known (g.L.LogDisk.holds c.args.logs.now) c.args.node.now loaded.sources loaded.digests before after c.in-Ok.ensures.sources c.in-Ok.ensures.digests c.args.name.now c.in-Some.number
     c.in-Some.ensures.named c.in-None.is)
     c.join_reporting.ensures

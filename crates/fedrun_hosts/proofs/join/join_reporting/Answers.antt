@@ -15,8 +15,8 @@ returns-in-None g c =
     let after = g.D.Disk.contents c.save_report.new.disk in
     let events = c.into_parts-events.result.1 in
     let saved : IsSavedAs digests (said_in c.in-Ok-report_of.report) name before after =
-    saved_as digests (said_in c.in-Ok-report_of.report) (string_bytes c.in-Ok-reserve_report.temporary) name before (g.D.Disk.contents c.reserve_report.new.disk) after
-    c.in-Ok-reserve_report.ensures.other c.in-Ok-reserve_report.ensures.reserved c.in-Ok-save_report.ensures.saved in
+    saved_as digests (said_in c.in-Ok-report_of.report) (string_bytes c.in-Ok-reserve_report.reserved.temporary) c.as_str-temporary.result.now name before (g.D.Disk.contents c.reserve_report.new.disk) after
+    c.as_str-temporary.ensures.value c.in-Ok-reserve_report.ensures.other c.in-Ok-reserve_report.ensures.reserved c.in-Ok-save_report.ensures.saved in
     let own : SavesOwn joined.loaded.now.sources digests joined.number name before after = record {
       rows = (federate_after joined.loaded.now.sources joined.number events).federate.rows;
       journal = events;
