@@ -111,7 +111,7 @@ class Refuser:
     def __exit__(self, *_):
         self.folder.cleanup()
 
-    def run(self, words, first=ALL, last=ALL, seconds=60, **options):
+    def run(self, words, first=ALL, last=ALL, seconds=60, stdout=subprocess.PIPE, **options):
         """Runs a program, whose requests from the first to the last of these, counted from 1, are refused."""
         with tempfile.NamedTemporaryFile(dir=self.files) as counts:
             counts.write(bytes(24))
@@ -120,8 +120,9 @@ class Refuser:
             environment = os.environ | variables | {"LD_PRELOAD": str(self.files / "refuser.so")}
             begin = time.monotonic()
             try:
-                got = subprocess.run(words, env=environment, stdin=subprocess.DEVNULL, capture_output=True, timeout=seconds, **options)
-                status, out, err = got.returncode, got.stdout, got.stderr
+                streams = {"stdin": subprocess.DEVNULL, "stdout": stdout, "stderr": subprocess.PIPE}
+                got = subprocess.run(words, env=environment, **streams, timeout=seconds, **options)
+                status, out, err = got.returncode, got.stdout or b"", got.stderr
             except subprocess.TimeoutExpired as late:
                 status, out, err = None, late.stdout or b"", late.stderr or b""
             took = time.monotonic() - begin
