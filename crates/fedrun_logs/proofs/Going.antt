@@ -1,6 +1,7 @@
 -- A log whose blocks come one after the other.
-use Rattle.std.proofs.Common.{◌≡◌, ℕ, Bool, true, false, ◌||◌, List, [], ◌++◌, refl, sym, ap, subst, ◌∙◌, append_assoc, append-nil}
+use Rattle.std.proofs.Common.{◌≡◌, ℕ, Bool, true, false, ◌||◌, List, [], ◌++◌, length, refl, sym, ap, subst, ◌∙◌, append_assoc, append-nil}
 use Rattle.std.specs.List.{AllByRecursion}
+use Rattle.std.proofs.lemmas.List.{nil_from_length}
 use Rattle.std.proofs.Math.Bool.{or_assoc}
 use Rattle.node.specs.declared.event.Event.{Event}
 use Rattle.files_logs.specs.declared.log_head.LogHead.{LogHead}
@@ -36,6 +37,9 @@ module _ {D : Type 0} (known : Bool) (synced : D → List ℕ) where
   pub nothing : (file : LogFile D) → GoesOn known synced file file [] false
   nothing file k head journal told w =
       same head (synced file.log.device) (synced file.log.device) file.sum file.sum journal (journal ++ []) told (told || false) refl refl (sym (append-nil journal)) (sym (or_false told)) w
+
+  pub no_events : (file : LogFile D) (events : List Event) → length events ≡ 0 → GoesOn known synced file file events false
+  no_events file events none = subst (λ (es : List Event). GoesOn known synced file file es false) (sym (nil_from_length events none)) (nothing file)
 
   -- one after the other
   pub then : (old mid new : LogFile D) (first second events : List Event) (tells and : Bool) → first ++ second ≡ events → GoesOn known synced old mid first tells

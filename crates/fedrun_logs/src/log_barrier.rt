@@ -124,8 +124,25 @@ fn append_all<D: Device + Drop>(
     Ok(())
 }
 
-// Appends events, in as many blocks as they need.
+// Appends events, in as many blocks as they need: mostly one has room for all of them.
 fn append_events<D: Device + Drop>(
+    alloc: Global,
+    file: &mut LogFile<D>,
+    events: &Journal,
+) -> Result<(), NotKept>
+    ensures { OnOk result (GoesOn D.is_known D.synced file.old file.new events.now false) }
+{
+    if events.len() == 0 {
+        return Ok(());
+    }
+    if events.len() <= MOST_EVENTS {
+        return file.keep(alloc, events, false);
+    }
+    append_parts(alloc, file, events)
+}
+
+// Appends events, a part of them in each block.
+fn append_parts<D: Device + Drop>(
     alloc: Global,
     file: &mut LogFile<D>,
     events: &Journal,

@@ -183,6 +183,30 @@ one_added said old middle new told now either rest after item t e b o h = record
   is_told = o ∙ ap₂ (λ (a b : Bool). a || b) b h.is_told ∙ or_comm (is_told_in (item ∷ [])) (is_told_in h.items) ∙ sym (more_told h.items item);
 }
 
+-- ---- events that are gathered behind a journal
+
+pub one_gathered : (journal gathered next : List Event) (event : Event) → next ≡ gathered ++ event ∷ [] → journal ++ next ≡ (journal ++ gathered) ++ event ∷ []
+one_gathered journal gathered next event is =
+    ap (λ (es : List Event). journal ++ es) is ∙ sym (append_assoc journal gathered (event ∷ []))
+
+pub turn_added : (old gathered journal new none : List Event) (event : Event) → journal ≡ old ++ gathered → none ≡ [] → new ≡ journal ++ event ∷ [] → new ++ none ≡ (old ++ gathered) ++ event ∷ []
+turn_added old gathered journal new none event all is_none is =
+    ap (λ (es : List Event). new ++ es) is_none ∙ append-nil new ∙ is ∙ ap (λ (es : List Event). es ++ event ∷ []) all
+
+pub none_gathered : (journal gathered : List Event) → length gathered ≡ 0 → journal ≡ journal ++ gathered
+none_gathered journal [] none = sym (append-nil journal)
+none_gathered journal (event ∷ gathered) none = absurd (omega (arith, none))
+
+pub gathered_added : (said : List ℕ) (old none journal gathered new : List Event) (told : Bool) (rest : List ℕ) → none ≡ [] → IsAdded said (old ++ none) (journal ++ gathered) told rest
+    → new ≡ journal ++ gathered → IsAdded said old new told rest
+gathered_added said old none journal gathered new told rest is_none h all = record {
+  items = h.items;
+  each = h.each;
+  begins = h.begins;
+  journal = all ∙ h.journal ∙ ap (λ (es : List Event). es ++ events_of h.items) (ap (λ (es : List Event). old ++ es) is_none ∙ append-nil old);
+  is_told = h.is_told;
+}
+
 pub saying_fault : (said : List ℕ) (old middle : List Event) (told : Bool) (rest : List ℕ) (fault : LogFault) → 0 < length rest → IsItemFault rest fault → IsAdded said old middle told rest
     → IsSayingFault said fault
 saying_fault said old middle told rest (faults.Content fault) some k h = record { items = h.items; each = h.each; rest = rest; begins = h.begins; some = some; fails = k }

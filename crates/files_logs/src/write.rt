@@ -1,6 +1,6 @@
 //! Logs as they are written, a part at a time.
 
-ghost use Rattle.std.specs.Prelude.{◌≡◌, ◌++◌, ◌<◌, ◌≤◌, length, OnOk, IfOk, IfErr};
+ghost use Rattle.std.specs.Prelude.{◌≡◌, ◌++◌, ◌<◌, ◌≤◌, [], length, OnOk, IfOk, IfErr};
 ghost use Rattle.std.specs.List.{AllByRecursion};
 ghost use Rattle.sha2.specs.Sha256.{sha256};
 ghost use Rattle.files_logs.specs.declared.layout.TheConstants.{MOST_SAID};
@@ -11,7 +11,7 @@ ghost use Rattle.files_logs.specs.Writing.{blocks_for, IsWriteFault};
 
 use crate::appending::append_said;
 use crate::heads::name;
-use crate::layout::MOST_SAID;
+use crate::layout::{MOST_SAID, SIZE_SIZE, SUM_SIZE};
 use crate::log_head::LogHead;
 use crate::numbers::{eight_bytes, four_bytes, two_bytes};
 use crate::sums::{block_sum, size_check, sum_of};
@@ -22,6 +22,9 @@ use files_reports::appending::append;
 use node_journal::Journal;
 use sha2::{Digest, Sha256};
 use std::alloc::Global;
+
+/// Few events take more bytes.
+const EVENT_ROOM: usize = 50;
 
 /// The head, with which a log begins.
 pub fn write_head(alloc: Global, head: &LogHead) -> Result<Written, Memory>
@@ -61,7 +64,10 @@ pub fn write_block(
     ensures are_blocks { OnOk result (AllByRecursion IsBlock (blocks_for events.now is_told)) }
     ensures fault { IfErr result (IsWriteFault events.now is_told) }
 {
-    let mut said = Vec::new(alloc);
+    let mut said = with_room(
+        alloc,
+        events.len().saturating_mul(EVENT_ROOM).saturating_add(1),
+    );
     append_said(&mut said, events, is_told)?;
     if said.as_slice().is_empty() {
         return Ok(Written { bytes: said, sum });
@@ -73,6 +79,16 @@ pub fn write_block(
     Ok(written)
 }
 
+// No bytes, with room for this many, if there is memory for it: so it isn't asked for again and again.
+fn with_room(alloc: Global, count: usize) -> Vec<u8>
+    ensures { result.items ≡ [] }
+{
+    match Vec::with_capacity(alloc, count) {
+        Ok(bytes) => bytes,
+        Err(_) => Vec::new(alloc),
+    }
+}
+
 // The block that says this.
 #[tactic(auto, using(crate::proofs::Spelled::block_appended))]
 fn block_of(alloc: Global, sum: u64, said: &[u8]) -> Result<Written, Memory>
@@ -80,7 +96,7 @@ fn block_of(alloc: Global, sum: u64, said: &[u8]) -> Result<Written, Memory>
     ensures bytes { IfOk result (λ written. written.bytes.items ≡ block_bytes sum said.now) }
     ensures sum { IfOk result (λ written. written.sum ≡ sums.block_sum sum said.now) }
 {
-    let mut bytes = Vec::new(alloc);
+    let mut bytes = with_room(alloc, said.len() + SIZE_SIZE + SUM_SIZE);
     append_size(&mut bytes, sum, said.len() as u32)?;
     append(&mut bytes, said)?;
     let next = block_sum(sum, said);

@@ -1,6 +1,6 @@
 use Rattle.std.proofs.Common.{false, ◌≤◌, ◌-◌, length, take}
 use Rattle.fedrun_logs.specs.Files.{GoesOn}
-use Rattle.fedrun_logs.proofs.log_barrier.append_events.Given as goal
+use Rattle.fedrun_logs.proofs.log_barrier.append_parts.Given as goal
 
 -- the events so far are appended
 abbrev pub invariant-loop-place : goal.invariant-loop-place

@@ -1,9 +1,0 @@
-use Rattle.std.proofs.Common.{length}
-use Rattle.files_logs.specs.Parts.{IsAdded}
-use Rattle.files_logs.proofs.items.add_said.Given as goal
-
-abbrev pub invariant-loop-rest : goal.invariant-loop-rest
-invariant-loop-rest l = IsAdded l.said l.fn.journal l.journal l.told l.rest
-
-abbrev pub decreases-loop-rest : goal.decreases-loop-rest
-decreases-loop-rest l = length l.rest
