@@ -82,7 +82,7 @@ is_current() {
   if contents=$(noted "$file"); then
     [ "$contents" = "$here" ]
   else
-    "$top/scripts/passed" "$program" || return 1
+    "$top/scripts/passed" "$program" </dev/null || return 1 # standard input is the program's own
     { note "$file" "$here"; } 2>/dev/null || true # a tree that can't be written is asked anew each time
   fi
 }

@@ -19,7 +19,7 @@ use fedrun_words::{Fault, asks_for_version, print_text, refuse};
 use files_keeping::Device;
 use files_saving::{Disk, MachineDisk};
 use std::alloc::Global;
-use std::fs::File;
+use std::fs::OpenOptions;
 use std::io::{ErrorKind, Write};
 use std::net::{Net, TcpListener, TcpStream};
 use std::process::ExitCode;
@@ -33,14 +33,14 @@ use std::{fs, rt, thread};
 const USAGE: u8 = 2;
 
 fn main(rt: HostRuntime) -> ExitCode {
-    let _input = stand_in(&rt, "/proc/self/fd/0");
-    let _output = stand_in(&rt, "/proc/self/fd/1");
-    let _error = stand_in(&rt, "/proc/self/fd/2");
+    let _input = stand_in(&rt, "/proc/self/fd/0", OpenOptions::new().write(true));
+    let _output = stand_in(&rt, "/proc/self/fd/1", OpenOptions::new().read(true));
+    let _error = stand_in(&rt, "/proc/self/fd/2", OpenOptions::new().read(true));
     let mut err = rt.stderr();
     let status = match given(&rt, rt.stdout()) {
         Ok((words, mut out)) => {
             let (words, hints) = asks_for_hints(words.as_slice());
-            let mut files = MachineFiles::new(&rt);
+            let mut files = MachineFiles::new(&rt, rt.stdin());
             let status = if asks_for_version(words) {
                 say_version(&mut out, &mut err)
             } else if asks_for_node(words) {
@@ -134,11 +134,12 @@ fn run_node<
     node_command(rt, words, files, disk, logs, out, err)
 }
 
-// A file in place of a standard stream that is closed, which can't be written. Else the next file that is opened would
-// have the stream's number, and what is printed be written into it: into a report, say.
-fn stand_in<R: rt::Files>(rt: &R, stream: &str) -> Option<R::File> {
+// A file in place of a standard stream that is closed, opened by options with which it can't serve as that stream. Else
+// the next file that is opened would have the stream's number: a report would be read as standard input, say, or what is
+// printed be written into it.
+fn stand_in<R: rt::Files>(rt: &R, stream: &str, options: &OpenOptions) -> Option<R::File> {
     match fs::symlink_metadata(rt, stream) {
-        Err(error) if error.kind() == ErrorKind::NotFound => File::open(rt, "/dev/null").ok(),
+        Err(error) if error.kind() == ErrorKind::NotFound => options.open(rt, "/dev/null").ok(),
         _ => None,
     }
 }

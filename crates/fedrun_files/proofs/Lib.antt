@@ -1,6 +1,8 @@
 -- Lemmas.
 -- results
 pub mod Results
+-- readers whose bytes are known
+pub mod Readers
 -- answers one after the other
 pub mod InTurn
 -- faults of files whose bytes are known

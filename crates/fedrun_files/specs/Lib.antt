@@ -3,6 +3,8 @@
 pub mod Contents
 -- what was answered about them
 pub mod Answers
+-- standard input among the machine's files
+pub mod StandardInput
 -- the digests of files
 pub mod Digests
 -- the federation and the recorded inputs in files

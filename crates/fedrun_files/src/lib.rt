@@ -4,7 +4,7 @@
 //! Promise to the layer above: the bytes of a file are all of its bytes, where these are known (`specs/Contents`), and
 //! over the limit is answered only of a file that is; what is read is what the files say, and each fault stands in the
 //! file that it is answered of (`specs/Loaded`, `specs/Refused`). Begin with the trait `Files` and `read_sources`; the
-//! machine's files are `MachineFiles`.
+//! machine's files are `MachineFiles`, and its standard input is the file `-` of them, once.
 #![tactic(auto)]
 
 pub mod machine;

@@ -1,6 +1,9 @@
-ghost use Rattle.std.specs.Prelude.{◌≡◌, ◌≢◌, ◌<◌, ◌≤◌, IfOk, IfSome, OnOk, length, vec_len};
+ghost use Rattle.std.specs.Prelude.{◌≡◌, ◌≢◌, ◌<◌, ◌≤◌, true, None, Some, IfOk, IfSome, OnOk, length, vec_len};
+ghost use Rattle.std.specs.Prelude.{option_and_then};
 ghost use Rattle.std.specs.IoError.{error_kind};
 ghost use Rattle.std.specs.Io.KnownBytes.{Consumes, IsAtEnd};
+ghost use Rattle.fedrun_files.specs.Contents.{AreBytesOf};
+ghost use Rattle.fedrun_files.specs.StandardInput.{is_stdin, stdin_after};
 ghost use Rattle.fedrun_files.specs.declared.named.FileFault.TheVariants.{Unreadable, OverLimit, Memory};
 
 use crate::named::{FileFault, Files};
@@ -8,24 +11,66 @@ use std::alloc::Global;
 use std::io::{ErrorKind, Read};
 use std::{fs, io, rt};
 
-/// The machine's files.
+/// The machine's files, among which `-` is standard input. That is read once: the second time it can't be.
 #[derive(Drop)]
-pub struct MachineFiles<'a, R> {
+pub struct MachineFiles<'a, R, I: Drop> {
     rt: &'a R,
+    // None once it was read.
+    stdin: Option<I>,
 }
 
-impl<'a, R> MachineFiles<'a, R> {
-    pub fn new(rt: &'a R) -> MachineFiles<'a, R>
-        ensures { result.rt ≡ rt.entry }
+impl<'a, R, I: Drop> MachineFiles<'a, R, I> {
+    pub fn new(rt: &'a R, stdin: I) -> MachineFiles<'a, R, I>
+        ensures rt { result.rt ≡ rt.entry }
+        ensures stdin { result.stdin ≡ Some stdin }
     {
-        MachineFiles { rt }
+        MachineFiles {
+            rt,
+            stdin: Some(stdin),
+        }
     }
 }
 
-impl<R: rt::Files + AllocGlobal> Files for MachineFiles<'_, R> {
-    fn bytes(&mut self, name: &str, most: usize) -> Result<Vec<u8>, FileFault> {
+impl<R: AllocGlobal, I: Read + Drop> MachineFiles<'_, R, I> {
+    // All of standard input, if that is at most this many bytes and wasn't read before.
+    #[tactic(auto, using(crate::proofs::Readers::answered_to_its_end))]
+    fn read_stdin(&mut self, most: usize) -> Result<Vec<u8>, FileFault>
+        ensures few { IfOk result (λ bytes. vec_len bytes ≤ most) }
+        ensures whole { IfOk result (λ bytes. AreBytesOf (option_and_then I.remaining self.old.stdin) bytes.items) }
+        ensures over { result ≡ Err OverLimit
+            → IfSome (option_and_then I.remaining self.old.stdin) (λ left. most < length left) }
+        ensures twice { self.old.stdin ≡ None → result ≡ Err Unreadable }
+        ensures after { self.new.stdin ≡ None }
+    {
+        match self.stdin.take() {
+            Some(mut stdin) => read_to_end(self.rt.alloc(), &mut stdin, most),
+            None => Err(FileFault::Unreadable),
+        }
+    }
+}
+
+impl<R: rt::Files + AllocGlobal, I: Read + Drop> MachineFiles<'_, R, I> {
+    // All bytes of a file, or of standard input.
+    fn read(&mut self, name: &str, most: usize) -> Result<Vec<u8>, FileFault>
+        ensures few { IfOk result (λ bytes. vec_len bytes ≤ most) }
+        ensures stdin_whole { is_stdin name.now ≡ true → IfOk result (λ bytes.
+            AreBytesOf (option_and_then I.remaining self.old.stdin) bytes.items) }
+        ensures stdin_over { is_stdin name.now ≡ true → result ≡ Err OverLimit
+            → IfSome (option_and_then I.remaining self.old.stdin) (λ left. most < length left) }
+        ensures stdin_twice { is_stdin name.now ≡ true → self.old.stdin ≡ None → result ≡ Err Unreadable }
+        ensures stdin_once { self.new.stdin ≡ stdin_after self.old.stdin name.now }
+    {
+        if name == "-" {
+            return self.read_stdin(most);
+        }
         let mut file = fs::open(self.rt, name).map_err(|error| fault_of(&error))?;
         read_to_end(self.rt.alloc(), &mut file, most)
+    }
+}
+
+impl<R: rt::Files + AllocGlobal, I: Read + Drop> Files for MachineFiles<'_, R, I> {
+    fn bytes(&mut self, name: &str, most: usize) -> Result<Vec<u8>, FileFault> {
+        self.read(name, most)
     }
 }
 

@@ -11,9 +11,9 @@ const BEFORE: &str =
 const AFTER: &str = "  fedrun --version
       which commit it was built from, and whether it is proved
 
-FED is a federation file, IN a file of recorded inputs, or - for none. With --csv the rows alone are printed, as
-comma-separated values. With --progress a line on the terminal says how far it is. What is given to a command, and
-what it means: fedrun help COMMAND, or fedrun COMMAND --help. An example:
+FED is a federation file, or - for standard input, IN a file of recorded inputs, or - for none. With --csv the rows
+alone are printed, as comma-separated values. With --progress a line on the terminal says how far it is. What is given
+to a command, and what it means: fedrun help COMMAND, or fedrun COMMAND --help. An example:
 
   fedrun whole counter.toml - 4
 ";

@@ -230,7 +230,7 @@ const FED: ArgumentWords = ArgumentWords {
     name: "FED",
     is_file: true,
     is_repeated: false,
-    about: "a federation file",
+    about: "a federation file, or - for standard input",
 };
 
 const IN: ArgumentWords = ArgumentWords {

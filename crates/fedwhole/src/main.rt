@@ -26,7 +26,7 @@ fn main(rt: HostRuntime) -> ExitCode {
     let status = match given(&rt, rt.stdout()) {
         Ok((words, mut out)) => {
             let (words, hints) = asks_for_hints(words.as_slice());
-            let mut files = MachineFiles::new(&rt);
+            let mut files = MachineFiles::new(&rt, rt.stdin());
             let status = if asks_for_version(words) {
                 say_version(&mut out, &mut err)
             } else if asks_for_progress(words) {

@@ -55,7 +55,7 @@ const HELP_ON_CHECK: Answer = (
         "  fedrun check FED
       the plan: ranks, and the least delays between federates
   FED
-      a federation file
+      a federation file, or - for standard input
 ",
     ],
     &[],

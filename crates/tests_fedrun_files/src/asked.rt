@@ -21,6 +21,16 @@ const ASKED: &[(&[&str], u8, &[(&str, Option<FileFault>)])] = &[
         &[("no.toml", Some(FileFault::Unreadable))],
     ),
     (&["whole", "fed.toml", "-"], 2, &[]),
+    (
+        &["whole", "-", "-", "4"],
+        1,
+        &[("-", Some(FileFault::Unreadable))],
+    ),
+    (
+        &["replay", "fed.toml", "-", "-"],
+        1,
+        &[("fed.toml", None), ("-", Some(FileFault::Unreadable))],
+    ),
 ];
 
 // Whether these are the answers.

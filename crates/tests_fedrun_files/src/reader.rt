@@ -1,4 +1,5 @@
-//! How a file is read to its end: in pieces, with interruptions, up to its limit, and with errors.
+//! How a file is read to its end: in pieces, with interruptions, up to its limit, and with errors. How files of the
+//! machine are read, and its standard input.
 use fedrun_files::{FileFault, Files, MachineFiles, read_to_end};
 use std::alloc::Global;
 use std::io::{ErrorKind, Read};
@@ -7,14 +8,14 @@ use std::{fs, io, rt};
 /// A reader that is interrupted before each piece, gives this many bytes, and then ends, or fails with an error of this
 /// kind.
 #[derive(Drop)]
-struct Pieces {
+pub(crate) struct Pieces {
     left: usize,
     is_next: bool,
     failure: Option<ErrorKind>,
 }
 
 impl Pieces {
-    fn new(left: usize, failure: Option<ErrorKind>) -> Pieces {
+    pub(crate) fn new(left: usize, failure: Option<ErrorKind>) -> Pieces {
         Pieces {
             left,
             is_next: false,
@@ -91,7 +92,7 @@ fn read_file<R: rt::Files + AllocGlobal>(
     name: &str,
     most: usize,
 ) -> Result<usize, FileFault> {
-    let mut files = MachineFiles::new(rt);
+    let mut files = MachineFiles::new(rt, io::empty());
     let bytes = files.bytes(name, most)?;
     Ok(bytes.len())
 }
@@ -114,4 +115,69 @@ fn are_files_read<R: rt::Files + AllocGlobal>(rt: &R) -> bool {
 #[test]
 fn reads_files_of_the_machine(rt: HostRuntime) {
     assert!(rt; are_files_read(&rt));
+}
+
+/// A file of five bytes, and one that has the name of standard input.
+const FILES: &[(&str, &str)] = &[("named", "bytes"), ("-", "other")];
+
+/// What is asked for in turn, how many bytes may be read, and what is read where standard input has five.
+type Asked = &'static [(&'static str, usize, Result<&'static str, FileFault>)];
+
+/// Files leave standard input as it is, and it is read once.
+const ONCE: Asked = &[
+    ("named", 5, Ok("bytes")),
+    ("./-", 5, Ok("other")),
+    ("-", 5, Ok("input")),
+    ("-", 5, Err(FileFault::Unreadable)),
+    ("named", 5, Ok("bytes")),
+];
+
+/// It has one byte too many.
+const TOO_LONG: Asked = &[
+    ("-", 4, Err(FileFault::OverLimit)),
+    ("-", 5, Err(FileFault::Unreadable)),
+];
+
+// Whether a file's bytes are these, or can't be had for this reason.
+fn gives<F: Files>(
+    files: &mut F,
+    name: &str,
+    most: usize,
+    wanted: Result<&str, FileFault>,
+) -> bool {
+    match files.bytes(name, most) {
+        Ok(bytes) => match wanted {
+            Ok(text) => bytes.as_slice() == text.as_bytes(),
+            Err(_) => false,
+        },
+        Err(why) => wanted == Err(why),
+    }
+}
+
+// The place of the first of these of which something else is read.
+fn first_wrong_input<R: rt::Files + AllocGlobal>(rt: &R, asked: Asked) -> Option<usize> {
+    let mut files = MachineFiles::new(rt, "input".as_bytes());
+    for (place, (name, most, wanted)) in asked.iter().enumerate() {
+        if !gives(&mut files, *name, *most, *wanted) {
+            return Some(place);
+        }
+    }
+    None
+}
+
+// What is wrong with what is read of standard input where these files are there.
+fn wrong_inputs<R: rt::Files + AllocGlobal>(rt: &R) -> Option<[Option<usize>; 2]> {
+    for (name, text) in FILES {
+        fs::write(rt, *name, *text).ok()?;
+    }
+    let wrong = [first_wrong_input(rt, ONCE), first_wrong_input(rt, TOO_LONG)];
+    for (name, _) in FILES {
+        fs::remove_file(rt, *name).ok()?;
+    }
+    Some(wrong)
+}
+
+#[test]
+fn reads_standard_input_once(rt: HostRuntime) {
+    assert_eq!(rt; wrong_inputs(&rt), Some([None; 2]));
 }

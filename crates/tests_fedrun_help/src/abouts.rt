@@ -37,7 +37,7 @@ const HELPS: &[(&str, &str)] = &[
       a picture of the federation, or of a schedule, as SVG
       Closing rounds are for a schedule alone.
   FED
-      a federation file
+      a federation file, or - for standard input
   IN
       a file of recorded inputs, or - for none
   SCHEDULE
@@ -52,7 +52,7 @@ const HELPS: &[(&str, &str)] = &[
       the rows that the report files of a run's nodes prove
       The reports of federates stand in any order.
   FED
-      a federation file
+      a federation file, or - for standard input
   IN
       a file of recorded inputs, or - for none
   COORDINATOR
@@ -71,7 +71,7 @@ const HELPS: &[(&str, &str)] = &[
       At an address that isn't on loopback a secret is needed. The reports of all nodes are for audit.
       Killed in the midst, it goes on from its log by the same words again; with --sync no it has none.
   FED
-      a federation file
+      a federation file, or - for standard input
   IN
       a file of recorded inputs, or - for none
   --listen ADDRESS:PORT
@@ -163,7 +163,7 @@ const PARTS: &[(AboutTopic, &str, &[&str], &str)] = &[
         ".TH FEDRUN 1\n",
         &[
             "\n.TP\n.B fedrun lint FED [IN]\nall that is wrong in the files, and what is odd, with its line\n.RS\n.TP\nFED\na \
-             federation file\n.TP\nIN\na file of recorded inputs, or - for none\n.RE\n.TP\n",
+             federation file, or - for standard input\n.TP\nIN\na file of recorded inputs, or - for none\n.RE\n.TP\n",
             "\n.br\nThe reports of federates stand in any order.\n.RS\n",
         ],
         "\nA fault is told on standard error, on one line.\n",
