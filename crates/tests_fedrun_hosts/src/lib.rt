@@ -1,17 +1,13 @@
-//! Tests of nodes on machines of their own: the commands `coordinate`, `join` and `audit`, with files and disks in
-//! memory, each node in a thread of its own in the place of a process, over TCP on loopback; and of nodes that keep
-//! logs, in memory and on the machine's disk. No program uses this crate.
+//! Tests of nodes on machines of their own: the commands `coordinate`, `join` and `audit`, each node in a thread of its
+//! own in the place of a process, over TCP on loopback, with files in memory that all processes of a machine have, or on
+//! the machine's disk; of nodes that keep no logs, and of nodes that do. No program uses this crate.
 //!
-//! Begin with `nodes`, then `worked`; of logs with `shared_files`, then `runs` and `going_on`. What is read of words
-//! alone is in `words`.
+//! Begin with `nodes` and `runs`, then `worked`; of logs with `going_on`; of files with `shared_files`. What is read of
+//! words alone is in `words`.
 #![tactic(auto)]
 
 #[cfg(test)]
 mod beside;
-#[cfg(test)]
-mod disk;
-#[cfg(test)]
-mod files;
 #[cfg(test)]
 mod going_on;
 #[cfg(test)]

@@ -1,235 +1,142 @@
-//! All nodes of a run, each as a process of its own would run it, in threads of this one.
-use crate::disk::{MemoryDisk, Operation};
-use crate::files::{NamedFiles, given};
-use crate::spoken::{Spoken, next_line, rest};
-use crossbeam_channel::unbounded;
+//! The command of a node, as its process gets it: words, and the files that all nodes read.
+use fedrun_files::{FileFault, Files};
 use fedrun_hosts::node_command;
 use fedrun_logs::LogDisk;
-use files_keeping::{KeepFault, KeptBy, MemoryDevice};
+use files_keeping::Device;
+use files_saving::Disk;
 use std::alloc::Global;
 use std::io::Write;
 use std::net::{Net, TcpListener, TcpStream};
 use std::random::RandomSource;
-use std::thread;
-use tests_samples::Machine;
+use tests_samples::{COUNTER, Machine, REPLACED};
 
-/// The name of each node's report on its own disk.
-pub const REPORT: &str = "r";
+/// The secret of all nodes.
+pub const SECRET: &str = "0123456789abcdef0123456789abcdef";
 
-/// The temporary name of each.
-pub const PART: &str = "r.part";
-
-/// The first words of each coordinator.
-const COORDINATE: &[&str] = &[
-    "coordinate",
-    "f",
-    "i",
-    "--listen",
-    "127.0.0.1:0",
-    "--report",
-    REPORT,
+/// The files that all nodes read, but for the secret: two federations, two files without inputs, and secrets that differ
+/// from that of all in the last byte, have a line feed at the end, are as short as one may be, and are too short.
+const TEXTS: &[(&str, &str)] = &[
+    ("f", COUNTER),
+    ("replaced", REPLACED),
+    ("i", ""),
+    ("other", "# no input\n"),
+    ("wrong", "0123456789abcdef0123456789abcdeg"),
+    ("line", "0123456789abcdef0123456789abcdef\n"),
+    ("least", "0123456789abcdef"),
+    ("short", "0123456789abcde"),
 ];
 
-/// What one node is given.
-#[derive(Clone, Copy)]
-pub struct Given<'a> {
-    /// The federate's name; of the coordinator it isn't looked at.
-    pub name: &'a str,
-    /// Its files.
-    pub files: &'a [(&'a str, &'a str)],
-    /// Words behind those that each node has.
-    pub more: &'a [&'a str],
-    /// What its disk can't do.
-    pub failing: Option<Operation>,
-}
+/// An address at which nobody listens.
+pub const NOBODY: &str = "127.0.0.1:1";
 
-/// What a node left on its disk.
-#[derive(Clone, Copy, PartialEq, Eq)]
-pub enum Left {
-    /// No file.
-    Nothing,
-    /// Its report alone.
-    Report,
-    /// The temporary file alone.
-    Part,
-    /// Other files.
-    Other,
-}
+/// An address of which the system chooses the port.
+pub const ANY: &str = "127.0.0.1:0";
 
-/// How a node ended.
-#[derive(Drop)]
-pub struct Ended {
-    pub status: u8,
-    /// What it said, of the coordinator without the line that says where it listens.
-    pub out: String,
-    pub err: String,
-    pub disk: MemoryDisk,
-}
+/// How a node ends: its status, and what is on standard output and on standard error.
+pub type End<'a> = (u8, &'a str, &'a str);
 
-impl Ended {
-    // The status, and what is on standard output and on standard error.
-    fn texts(&self) -> (u8, &str, &str) {
-        (self.status, self.out.as_str(), self.err.as_str())
-    }
+/// How a node ends whose run is finished.
+pub const FINISHED: End<'static> = (0, "finished\n", "");
 
-    /// Its report, if it wrote one.
-    pub fn report(&self) -> Option<&[u8]> {
-        self.disk.file(REPORT)
-    }
+/// How a node ends whose run isn't.
+pub const NOT_FINISHED: End<'static> = (3, "", "fedrun: not finished\n");
 
-    /// Whether these are its texts, and this is what it left on its disk.
-    pub fn is(&self, texts: (u8, &str, &str), left: Left) -> bool {
-        self.texts() == texts && self.left() == left
-    }
-
-    // What it left on its disk.
-    fn left(&self) -> Left {
-        match (self.disk.file(REPORT), self.disk.file(PART)) {
-            (None, None) if self.disk.len() == 0 => Left::Nothing,
-            (Some(_), None) if self.disk.len() == 1 => Left::Report,
-            (None, Some(_)) if self.disk.len() == 1 => Left::Part,
-            _ => Left::Other,
+/// The words of these texts, with a space between each two, as the program gets them; None where there is no memory.
+pub fn given(alloc: Global, texts: &[&str]) -> Option<Vec<String>> {
+    let mut given = Vec::new(alloc);
+    for text in texts {
+        if !text.is_empty() {
+            add_words(alloc, &mut given, text)?;
         }
     }
+    Some(given)
 }
 
-/// A disk on which each file is as it was made, and no other process has it; or where none can be opened.
+fn add_words(alloc: Global, given: &mut Vec<String>, text: &str) -> Option<()> {
+    for word in text.split(' ') {
+        given.push(String::from_str(alloc, word).ok()?).ok()?;
+    }
+    Some(())
+}
+
+/// The files that all nodes read, with this text as the secret.
 #[derive(Drop)]
-struct NewFiles {
+struct NodeFiles<'a> {
     alloc: Global,
-    are_there: bool,
+    secret: &'a str,
 }
 
-impl LogDisk<MemoryDevice> for NewFiles {
-    fn open(&mut self, _name: &str, _kept_by: KeptBy) -> Result<MemoryDevice, KeepFault> {
-        if !self.are_there {
-            return Err(KeepFault::CannotOpen);
+impl<'a> NodeFiles<'a> {
+    // What the file of this name holds, if there is one.
+    fn text(&self, name: &str) -> Option<&'a str> {
+        if name == "secret" {
+            return Some(self.secret);
         }
-        MemoryDevice::new(self.alloc, b"").map_err(|_| KeepFault::CannotOpen)
+        for (known, text) in TEXTS {
+            if *known == name {
+                return Some(*text);
+            }
+        }
+        None
     }
 }
 
-// These words, of a node that keeps no log.
-fn without_log(alloc: Global, words: &[&str], more: &[&str]) -> Option<Vec<String>> {
-    let mut all = Vec::new(alloc);
-    all.extend_from_slice(more).ok()?;
-    all.extend_from_slice(&["--sync", "no"]).ok()?;
-    given(alloc, words, &all)
+impl Files for NodeFiles<'_> {
+    fn bytes(&mut self, name: &str, most: usize) -> Result<Vec<u8>, FileFault> {
+        match self.text(name) {
+            Some(text) if text.len() > most => Err(FileFault::OverLimit),
+            Some(text) => Vec::from_slice(self.alloc, text.as_bytes()).map_err(
+                |_| FileFault::Memory,
+            ),
+            None => Err(FileFault::Unreadable),
+        }
+    }
 }
 
-/// How words of a node's command end, over these files and on this disk: the status, and what is on standard error.
+/// What the words of a node's command give that has this secret, on this disk and with these logs, where it says all to
+/// this writer: the status, and what is on standard error. None where there is no memory.
 pub fn commanded<
     R: Machine + Net<Stream = TcpStream, Listener = TcpListener> + RandomSource,
+    D: Disk,
+    L: LogDisk<V>,
+    V: Device + Drop + Send,
     O: Write,
 >(
     rt: &R,
-    words: &[&str],
-    more: &[&str],
-    texts: &[(&str, &str)],
-    disk: &mut MemoryDisk,
+    texts: &[&str],
+    secret: &str,
+    disk: &mut D,
+    logs: &mut L,
     out: &mut O,
-) -> Option<(u8, String)> {
+) -> Option<(u8, Vec<u8>)> {
     let alloc = rt.alloc();
-    let words = without_log(alloc, words, more)?;
-    let mut files = NamedFiles {
-        alloc,
-        texts,
-        reports: &[],
-    };
-    let mut logs = NewFiles {
-        alloc,
-        are_there: disk.failing != Some(Operation::Open),
-    };
+    let words = given(alloc, texts)?;
+    let mut files = NodeFiles { alloc, secret };
     let mut err = Vec::new(alloc);
-    let status = node_command(rt, &words, &mut files, disk, &mut logs, out, &mut err);
-    Some((status, String::from_utf8(err).ok()?))
+    let status = node_command(rt, &words, &mut files, disk, logs, out, &mut err);
+    Some((status, err))
 }
 
-/// How `join` ends.
-pub fn joined<R: Machine + Net<Stream = TcpStream, Listener = TcpListener> + RandomSource>(
-    rt: &R,
-    given: &Given<'_>,
-    address: &str,
-) -> Option<Ended> {
-    let alloc = rt.alloc();
-    let first = [
-        "join",
-        "f",
-        "i",
-        given.name,
-        "--connect",
-        address,
-        "--report",
-        REPORT,
-    ];
-    let mut disk = MemoryDisk::new(alloc, given.failing);
-    let mut out = Vec::new(alloc);
-    let (status, err) = commanded(rt, &first, given.more, given.files, &mut disk, &mut out)?;
-    Some(Ended {
-        status,
-        out: String::from_utf8(out).ok()?,
-        err,
-        disk,
-    })
+/// Whether a node ends so that is given these words.
+pub fn ends<
+    R: Machine + Net<Stream = TcpStream, Listener = TcpListener> + RandomSource,
+    D: Disk,
+    L: LogDisk<V>,
+    V: Device + Drop + Send,
+>(rt: &R, texts: &[&str], disk: &mut D, logs: &mut L, end: End<'_>) -> bool {
+    let mut out = Vec::new(rt.alloc());
+    match commanded(rt, texts, SECRET, disk, logs, &mut out) {
+        Some((status, err)) => {
+            status == end.0
+                && out.as_slice() == end.1.as_bytes()
+                && err.as_slice() == end.2.as_bytes()
+        }
+        None => false,
+    }
 }
 
-/// How `coordinate` ends, on a port of loopback that the system gives, and how one federate's node or two end that
-/// connect to it.
-pub fn coordinated<R: Machine + Net<Stream = TcpStream, Listener = TcpListener> + RandomSource>(
-    rt: &R,
-    given: &Given<'_>,
-    first: &Given<'_>,
-    second: Option<&Given<'_>>,
-) -> Option<(Ended, Ended, Option<Ended>)> {
-    let alloc = rt.alloc();
-    let (to, from) = unbounded(alloc).ok()?;
-    let (coordinator, federates) = thread::join(
-        rt,
-        || {
-            let mut out = Spoken::new(rt, alloc, to);
-            let mut disk = MemoryDisk::new(alloc, given.failing);
-            let (status, err) = commanded(
-                rt,
-                COORDINATE,
-                given.more,
-                given.files,
-                &mut disk,
-                &mut out,
-            )?;
-            Some((status, disk, err))
-        },
-        || {
-            let line = next_line(rt, alloc, &from)?;
-            let address = line.as_str().strip_prefix("listening ")?;
-            let ended = all_joined(rt, first, second, address)?;
-            Some((ended, rest(rt, alloc, &from)?))
-        },
-    );
-    let (status, disk, err) = coordinator?;
-    let ((first, second), out) = federates?;
-    let coordinator = Ended {
-        status,
-        out,
-        err,
-        disk,
-    };
-    Some((coordinator, first, second))
-}
-
-// How one federate's node ends, or how two do that run side by side.
-fn all_joined<R: Machine + Net<Stream = TcpStream, Listener = TcpListener> + RandomSource>(
-    rt: &R,
-    first: &Given<'_>,
-    second: Option<&Given<'_>>,
-    address: &str,
-) -> Option<(Ended, Option<Ended>)> {
-    let Some(second) = second else {
-        return Some((joined(rt, first, address)?, None));
-    };
-    let (first, second) = thread::join(
-        rt,
-        || joined(rt, first, address),
-        || joined(rt, second, address),
-    );
-    Some((first?, Some(second?)))
+/// The address of a listener, as a text; None where there is none.
+pub fn address_of(alloc: Global, listener: &TcpListener) -> Option<String> {
+    let address = listener.local_addr().ok()?;
+    format!(in alloc; "{address}").ok()
 }

@@ -1,204 +1,92 @@
 //! Nodes that don't begin: what each says, while all files stay as they are.
-use crate::disk::MemoryDisk;
-use crate::files::FILES;
-use crate::nodes::{REPORT, commanded};
+use crate::nodes::{End, address_of};
+use crate::runs::ends_on;
+use crate::shared_files::SharedFiles;
 use std::net::{Net, TcpListener, TcpStream};
 use std::random::RandomSource;
 use tests_samples::Machine;
 use wires_transports::listen;
 
-/// The temporary file that a node left that was ended in the midst.
-const LEFT: &str = "left.part";
-
-// Whether words of a node's command answer this status, say nothing and print this on standard error, over a disk with a
-// report and that temporary file, which holds just these two then.
+// Whether a node ends so that is given these words, on a machine with a report and the temporary file of another, which
+// was ended in the midst. It has just these two then.
 fn is_not_begun<R: Machine + Net<Stream = TcpStream, Listener = TcpListener> + RandomSource>(
     rt: &R,
-    words: &[&str],
-    status: u8,
-    err: &str,
+    texts: &[&str],
+    end: End<'_>,
 ) -> Option<bool> {
-    let mut disk = MemoryDisk::new(rt.alloc(), None);
-    disk.put(REPORT, b"a report")?;
-    disk.put(LEFT, b"a part")?;
-    let mut out = Vec::new(rt.alloc());
-    let (answered, printed) = commanded(rt, words, &[], FILES, &mut disk, &mut out)?;
-    let are_kept = disk.file(REPORT) == Some(b"a report".as_slice())
-        && disk.file(LEFT) == Some(b"a part".as_slice())
-        && disk.len() == 2;
-    Some(are_kept && answered == status && out.is_empty() && printed.as_str() == err)
+    let files = SharedFiles::new(rt.alloc());
+    files.put(rt, "r", b"a report")?;
+    files.put(rt, "left.part", b"a part")?;
+    let has_ended = ends_on(rt, &files, None, texts, end);
+    let are_kept = files.is(rt, "r", b"a report") && files.is(rt, "left.part", b"a part");
+    Some(has_ended && are_kept && files.are_just(rt, &["r", "left.part"]))
 }
 
 /// Words, the status, and what is on standard error. A report stands in `r` already, and a part of another in
 /// `left.part`.
-const NOT_BEGUN: &[(&[&str], u8, &str)] = &[
+const NOT_BEGUN: &[(&str, u8, &str)] = &[
     (
-        &[
-            "coordinate",
-            "f",
-            "i",
-            "--listen",
-            "0.0.0.0:0",
-            "--report",
-            "new",
-        ],
+        "coordinate f i --listen 0.0.0.0:0 --report new --sync no",
         2,
         "fedrun: 114 NoSecret\n",
     ),
     (
-        &[
-            "join",
-            "f",
-            "i",
-            "src",
-            "--connect",
-            "10.0.0.1:7000",
-            "--report",
-            "new",
-        ],
+        "join f i src --connect 10.0.0.1:7000 --report new --sync no",
         2,
         "fedrun: 114 NoSecret\n",
     ),
     (
-        &[
-            "coordinate",
-            "f",
-            "i",
-            "--listen",
-            "127.0.0.1:0",
-            "--report",
-            "r",
-        ],
+        "coordinate f i --listen 127.0.0.1:0 --report r --sync no",
         1,
         "fedrun: 116 ReportExists r\n",
     ),
     (
-        &[
-            "join",
-            "f",
-            "i",
-            "src",
-            "--connect",
-            "127.0.0.1:7000",
-            "--report",
-            "r",
-        ],
+        "join f i src --connect 127.0.0.1:7000 --report r --sync no",
         1,
         "fedrun: 116 ReportExists r\n",
     ),
     (
-        &[
-            "coordinate",
-            "f",
-            "i",
-            "--listen",
-            "127.0.0.1:0",
-            "--report",
-            "left",
-        ],
+        "coordinate f i --listen 127.0.0.1:0 --report left --sync no",
         1,
         "fedrun: 116 ReportExists left.part\n",
     ),
     (
-        &[
-            "join",
-            "f",
-            "i",
-            "src",
-            "--connect",
-            "127.0.0.1:7000",
-            "--report",
-            "left",
-        ],
+        "join f i src --connect 127.0.0.1:7000 --report left --sync no",
         1,
         "fedrun: 116 ReportExists left.part\n",
     ),
     (
-        &[
-            "join",
-            "f",
-            "i",
-            "nobody",
-            "--connect",
-            "127.0.0.1:7000",
-            "--report",
-            "new",
-        ],
+        "join f i nobody --connect 127.0.0.1:7000 --report new --sync no",
         1,
         "fedrun: 115 NoSuchFederate nobody\n",
     ),
     (
-        &["coordinate", "f", "i", "--listen", "127.0.0.1:0"],
+        "coordinate f i --listen 127.0.0.1:0 --sync no",
         2,
         "fedrun: usage\n",
     ),
     (
-        &[
-            "coordinate",
-            "f",
-            "i",
-            "--listen",
-            "localhost:0",
-            "--report",
-            "new",
-        ],
+        "coordinate f i --listen localhost:0 --report new --sync no",
         2,
         "fedrun: usage\n",
     ),
     (
-        &[
-            "coordinate",
-            "f",
-            "i",
-            "src",
-            "--listen",
-            "127.0.0.1:0",
-            "--report",
-            "new",
-        ],
+        "coordinate f i src --listen 127.0.0.1:0 --report new --sync no",
         2,
         "fedrun: usage\n",
     ),
     (
-        &[
-            "join",
-            "f",
-            "i",
-            "src",
-            "--connect",
-            "127.0.0.1",
-            "--report",
-            "new",
-        ],
+        "join f i src --connect 127.0.0.1 --report new --sync no",
         2,
         "fedrun: usage\n",
     ),
     (
-        &[
-            "join",
-            "f",
-            "i",
-            "src",
-            "--connect",
-            "127.0.0.1:7000",
-            "--report",
-            "new",
-            "--patience",
-            "-1",
-        ],
+        "join f i src --connect 127.0.0.1:7000 --report new --patience -1 --sync no",
         2,
         "fedrun: usage\n",
     ),
     (
-        &[
-            "coordinate",
-            "g",
-            "i",
-            "--listen",
-            "127.0.0.1:0",
-            "--report",
-            "new",
-        ],
+        "coordinate g i --listen 127.0.0.1:0 --report new --sync no",
         1,
         "fedrun: cannot read g\n",
     ),
@@ -209,7 +97,7 @@ fn first_wrong<R: Machine + Net<Stream = TcpStream, Listener = TcpListener> + Ra
     rt: &R,
 ) -> Option<usize> {
     for (place, (words, status, err)) in NOT_BEGUN.iter().enumerate() {
-        if is_not_begun(rt, words, *status, err) != Some(true) {
+        if is_not_begun(rt, &[words], (*status, "", err)) != Some(true) {
             return Some(place);
         }
     }
@@ -226,18 +114,12 @@ fn is_not_begun_there<R: Machine + Net<Stream = TcpStream, Listener = TcpListene
     rt: &R,
 ) -> Option<bool> {
     let listener = listen(rt).ok()?;
-    let address = listener.local_addr().ok()?;
-    let address = format!(in rt.alloc(); "{address}").ok()?;
-    let words = [
-        "coordinate",
-        "f",
-        "i",
-        "--listen",
+    let address = address_of(rt.alloc(), &listener)?;
+    let texts = [
+        "coordinate f i --report new --sync no --listen",
         address.as_str(),
-        "--report",
-        "new",
     ];
-    is_not_begun(rt, &words, 3, "fedrun: 117 CannotListen\n")
+    is_not_begun(rt, &texts, (3, "", "fedrun: 117 CannotListen\n"))
 }
 
 #[test]

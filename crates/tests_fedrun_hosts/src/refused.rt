@@ -1,223 +1,189 @@
 //! Nodes that don't end well: what each says, and what is left of it.
-use crate::disk::{MemoryDisk, Operation};
-use crate::files::{FILES, SECRET};
-use crate::nodes::{Given, Left, REPORT, commanded, coordinated};
+use crate::nodes::{ANY, End, NOT_FINISHED, commanded};
+use crate::runs::{COORDINATOR, Node, SNK, SRC, run};
+use crate::shared_files::{Operation, Process, SharedFiles};
 use std::io;
 use std::net::{Net, TcpListener, TcpStream};
 use std::random::RandomSource;
-use tests_samples::{COUNTER, Machine, REPLACED};
+use tests_samples::Machine;
 
-/// The same with another input file.
-const OTHER_INPUTS: &[(&str, &str)] = &[("f", COUNTER), ("i", "# no input\n"), ("secret", SECRET)];
+/// Words of nodes that keep no logs and give up after a second.
+const PATIENT: &str = "--sync no --secret secret --patience 1";
 
-/// The same with another federation file, which has a federate of the same name.
-const OTHER_FEDERATION: &[(&str, &str)] = &[("f", REPLACED), ("i", ""), ("secret", SECRET)];
-
-/// A coordinator that gives up after a second.
-const COORDINATOR: Given<'static> = Given {
-    name: "",
-    files: FILES,
-    more: &["--secret", "secret", "--patience", "1"],
-    failing: None,
-};
-
-/// A federate that gives up after a second.
-const SRC: Given<'static> = Given {
-    name: "src",
-    ..COORDINATOR
-};
-
-/// What a federate is given, how it ends, and what it leaves.
-const REFUSED: &[(Given<'static>, u8, &str, Left)] = &[
-    (
-        Given {
-            more: &["--secret", "other", "--patience", "1"],
-            ..SRC
-        },
-        1,
-        "fedrun: 119 NotProved\n",
-        Left::Report,
-    ),
-    (
-        Given {
-            more: &["--secret", "line", "--patience", "1"],
-            ..SRC
-        },
-        1,
-        "fedrun: 119 NotProved\n",
-        Left::Report,
-    ),
-    // Its turns are made: it has no patience.
-    (
-        Given {
-            more: &["--secret", "other", "--turns", "50"],
-            ..SRC
-        },
-        1,
-        "fedrun: 119 NotProved\n",
-        Left::Report,
-    ),
-    (
-        Given {
-            files: OTHER_INPUTS,
-            ..SRC
-        },
-        1,
-        "fedrun: 118 OtherFiles\n",
-        Left::Report,
-    ),
-    (
-        Given {
-            files: OTHER_FEDERATION,
-            ..SRC
-        },
-        1,
-        "fedrun: 118 OtherFiles\n",
-        Left::Report,
-    ),
-    (
-        Given {
-            name: "nobody",
-            ..SRC
-        },
-        1,
-        "fedrun: 115 NoSuchFederate nobody\n",
-        Left::Nothing,
-    ),
-    (
-        Given {
-            more: &["--secret", "short"],
-            ..SRC
-        },
-        1,
-        "fedrun: 112 SecretTooShort\n",
-        Left::Nothing,
-    ),
-    (
-        Given {
-            more: &["--secret", "nothing"],
-            ..SRC
-        },
-        1,
-        "fedrun: cannot read nothing\n",
-        Left::Nothing,
-    ),
-    (
-        Given {
-            more: &["--secret", "secret", "--turns", "0"],
-            ..SRC
-        },
-        3,
-        "fedrun: not finished\n",
-        Left::Report,
-    ),
-    (
-        Given {
-            more: &["--secret", "secret", "--frames", "3"],
-            ..SRC
-        },
-        2,
-        "fedrun: usage\n",
-        Left::Nothing,
-    ),
-    (
-        Given {
-            failing: Some(Operation::Look),
-            ..SRC
-        },
-        3,
-        "fedrun: 120 Unsaved r: cannot look\n",
-        Left::Nothing,
-    ),
-    (
-        Given {
-            failing: Some(Operation::Create),
-            ..SRC
-        },
-        3,
-        "fedrun: 120 Unsaved r: cannot create\n",
-        Left::Nothing,
-    ),
-    (
-        Given {
-            failing: Some(Operation::Open),
-            ..SRC
-        },
-        3,
-        "fedrun: 120 Unsaved r.part: cannot open\n",
-        Left::Part,
-    ),
-    (
-        Given {
-            failing: Some(Operation::WriteFirst),
-            ..SRC
-        },
-        3,
-        "fedrun: 120 Unsaved r: cannot write\n",
-        Left::Nothing,
-    ),
-    (
-        Given {
-            failing: Some(Operation::SyncFirst),
-            ..SRC
-        },
-        3,
-        "fedrun: 120 Unsaved r: cannot sync\n",
-        Left::Nothing,
-    ),
-    (
-        Given {
-            failing: Some(Operation::Write),
-            ..SRC
-        },
-        3,
-        "fedrun: 120 Unsaved r: cannot write\n",
-        Left::Part,
-    ),
-    (
-        Given {
-            failing: Some(Operation::Sync),
-            ..SRC
-        },
-        3,
-        "fedrun: 120 Unsaved r: cannot sync\n",
-        Left::Part,
-    ),
-    (
-        Given {
-            failing: Some(Operation::Rename),
-            ..SRC
-        },
-        3,
-        "fedrun: 120 Unsaved r: cannot rename\n",
-        Left::Part,
-    ),
-];
-
-/// How a node ends whose run isn't finished.
-const NOT_FINISHED: (u8, &str, &str) = (3, "", "fedrun: not finished\n");
-
-// Whether a federate's node that is given this ends so, and the coordinator's isn't finished by it.
-fn ends_so<R: Machine + Net<Stream = TcpStream, Listener = TcpListener> + RandomSource>(
-    rt: &R,
-    given: &Given<'_>,
-    texts: (u8, &str, &str),
-    left: Left,
-) -> bool {
-    match coordinated(rt, &COORDINATOR, given, None) {
-        Some((coordinator, federate, _)) => {
-            coordinator.is(NOT_FINISHED, Left::Report) && federate.is(texts, left)
-        }
-        None => false,
-    }
+/// A federate that isn't finished.
+#[derive(Clone, Copy)]
+struct Refused {
+    federation: &'static str,
+    /// Its inputs, and its name.
+    given: &'static str,
+    more: &'static str,
+    failing: Option<Operation>,
+    status: u8,
+    err: &'static str,
+    /// What is on the machine then, whose coordinator leaves its report `c`.
+    left: &'static [&'static str],
 }
 
-// The place of the first that ends otherwise.
+/// Its report.
+const REPORT: &[&str] = &["c", "r"];
+
+/// The temporary file of its report.
+const PART: &[&str] = &["c", "r.part"];
+
+/// No file of it.
+const NOTHING: &[&str] = &["c"];
+
+const UNPROVED: Refused = Refused {
+    federation: "f",
+    given: "i src",
+    more: "--sync no --secret wrong --patience 1",
+    failing: None,
+    status: 1,
+    err: "fedrun: 119 NotProved\n",
+    left: REPORT,
+};
+
+const UNSAVED: Refused = Refused {
+    more: PATIENT,
+    status: 3,
+    ..UNPROVED
+};
+
+const REFUSED: &[Refused] = &[
+    UNPROVED,
+    Refused {
+        more: "--sync no --secret line --patience 1",
+        ..UNPROVED
+    },
+    // Its turns are made: it has no patience.
+    Refused {
+        more: "--sync no --secret wrong --turns 50",
+        ..UNPROVED
+    },
+    Refused {
+        given: "other src",
+        more: PATIENT,
+        err: "fedrun: 118 OtherFiles\n",
+        ..UNPROVED
+    },
+    // It has a federate of the same name.
+    Refused {
+        federation: "replaced",
+        more: PATIENT,
+        err: "fedrun: 118 OtherFiles\n",
+        ..UNPROVED
+    },
+    Refused {
+        given: "i nobody",
+        more: PATIENT,
+        err: "fedrun: 115 NoSuchFederate nobody\n",
+        left: NOTHING,
+        ..UNPROVED
+    },
+    Refused {
+        more: "--sync no --secret short",
+        err: "fedrun: 112 SecretTooShort\n",
+        left: NOTHING,
+        ..UNPROVED
+    },
+    Refused {
+        more: "--sync no --secret nothing",
+        err: "fedrun: cannot read nothing\n",
+        left: NOTHING,
+        ..UNPROVED
+    },
+    Refused {
+        more: "--sync no --secret secret --frames 3",
+        status: 2,
+        err: "fedrun: usage\n",
+        left: NOTHING,
+        ..UNPROVED
+    },
+    Refused {
+        more: "--sync no --secret secret --turns 0",
+        err: "fedrun: not finished\n",
+        ..UNSAVED
+    },
+    Refused {
+        failing: Some(Operation::Look),
+        err: "fedrun: 120 Unsaved r: cannot look\n",
+        left: NOTHING,
+        ..UNSAVED
+    },
+    Refused {
+        failing: Some(Operation::Create),
+        err: "fedrun: 120 Unsaved r: cannot create\n",
+        left: NOTHING,
+        ..UNSAVED
+    },
+    Refused {
+        failing: Some(Operation::Open),
+        err: "fedrun: 120 Unsaved r.part: cannot open\n",
+        left: PART,
+        ..UNSAVED
+    },
+    Refused {
+        failing: Some(Operation::WriteFirst),
+        err: "fedrun: 120 Unsaved r: cannot write\n",
+        left: NOTHING,
+        ..UNSAVED
+    },
+    Refused {
+        failing: Some(Operation::SyncFirst),
+        err: "fedrun: 120 Unsaved r: cannot sync\n",
+        left: NOTHING,
+        ..UNSAVED
+    },
+    Refused {
+        failing: Some(Operation::Write),
+        err: "fedrun: 120 Unsaved r: cannot write\n",
+        left: PART,
+        ..UNSAVED
+    },
+    Refused {
+        failing: Some(Operation::Sync),
+        err: "fedrun: 120 Unsaved r: cannot sync\n",
+        left: PART,
+        ..UNSAVED
+    },
+    Refused {
+        failing: Some(Operation::Rename),
+        err: "fedrun: 120 Unsaved r: cannot rename\n",
+        left: PART,
+        ..UNSAVED
+    },
+];
+
+// Whether a federate is refused so, and the coordinator isn't finished by it.
+fn is_refused<R: Machine + Net<Stream = TcpStream, Listener = TcpListener> + RandomSource>(
+    rt: &R,
+    refused: &Refused,
+) -> Option<bool> {
+    let files = SharedFiles::new(rt.alloc());
+    let nodes = [
+        Node {
+            more: PATIENT,
+            end: NOT_FINISHED,
+            ..COORDINATOR
+        },
+        Node {
+            role: "join --report r --connect",
+            federation: refused.federation,
+            given: refused.given,
+            more: refused.more,
+            failing: refused.failing,
+            end: (refused.status, "", refused.err),
+        },
+    ];
+    Some(run(rt, &files, ANY, &nodes)? && files.are_just(rt, refused.left))
+}
+
+// The place of the first that isn't.
 fn first_wrong<R: Machine + Net<Stream = TcpStream, Listener = TcpListener> + RandomSource>(
     rt: &R,
 ) -> Option<usize> {
-    for (place, (given, status, err, left)) in REFUSED.iter().enumerate() {
-        if !ends_so(rt, given, (*status, "", err), *left) {
+    for (place, refused) in REFUSED.iter().enumerate() {
+        if is_refused(rt, refused) != Some(true) {
             return Some(place);
         }
     }
@@ -230,10 +196,10 @@ fn says_why_it_does_not_end_well(rt: HostRuntime) {
 }
 
 /// What the coordinator's disk can't do at the end of a run that is finished, and what it says.
-const UNSAVED: &[(Operation, &str)] = &[
-    (Operation::Write, "fedrun: 120 Unsaved r: cannot write\n"),
-    (Operation::Sync, "fedrun: 120 Unsaved r: cannot sync\n"),
-    (Operation::Rename, "fedrun: 120 Unsaved r: cannot rename\n"),
+const UNSAVED_BY_COORDINATOR: &[(Operation, &str)] = &[
+    (Operation::Write, "fedrun: 120 Unsaved c: cannot write\n"),
+    (Operation::Sync, "fedrun: 120 Unsaved c: cannot sync\n"),
+    (Operation::Rename, "fedrun: 120 Unsaved c: cannot rename\n"),
 ];
 
 // Whether a coordinator says just that whose disk can't do this, and no federate hears that the run is finished.
@@ -241,32 +207,35 @@ fn says_so_alone<R: Machine + Net<Stream = TcpStream, Listener = TcpListener> + 
     rt: &R,
     failing: Operation,
     err: &str,
-) -> bool {
-    let coordinator = Given {
-        failing: Some(failing),
-        ..COORDINATOR
-    };
-    let snk = Given {
-        name: "snk",
-        ..COORDINATOR
-    };
-    let Some((coordinator, first, second)) = coordinated(rt, &coordinator, &SRC, Some(&snk)) else {
-        return false;
-    };
-    let Some(second) = second else {
-        return false;
-    };
-    coordinator.is((3, "", err), Left::Part)
-        && first.is(NOT_FINISHED, Left::Report)
-        && second.is(NOT_FINISHED, Left::Report)
+) -> Option<bool> {
+    let files = SharedFiles::new(rt.alloc());
+    let nodes = [
+        Node {
+            more: PATIENT,
+            failing: Some(failing),
+            end: (3, "", err),
+            ..COORDINATOR
+        },
+        Node {
+            more: PATIENT,
+            end: NOT_FINISHED,
+            ..SRC
+        },
+        Node {
+            more: PATIENT,
+            end: NOT_FINISHED,
+            ..SNK
+        },
+    ];
+    Some(run(rt, &files, ANY, &nodes)? && files.are_just(rt, &["c.part", "src", "snk"]))
 }
 
 // What is said of the first where it is otherwise.
 fn first_told<R: Machine + Net<Stream = TcpStream, Listener = TcpListener> + RandomSource>(
     rt: &R,
 ) -> Option<&'static str> {
-    for (failing, err) in UNSAVED {
-        if !says_so_alone(rt, *failing, err) {
+    for (failing, err) in UNSAVED_BY_COORDINATOR {
+        if says_so_alone(rt, *failing, err) != Some(true) {
             return Some(*err);
         }
     }
@@ -293,49 +262,38 @@ impl io::Write for Refusing {
     }
 }
 
-/// The words of a coordinator that gives up after a second.
-const COORDINATE: &[&str] = &[
-    "coordinate",
-    "f",
-    "i",
-    "--listen",
-    "127.0.0.1:0",
-    "--report",
-    REPORT,
-    "--patience",
-    "1",
-    "--secret",
-    "secret",
-];
-
-// Whether a coordinator that has this secret, and whose standard output refuses, ends so and leaves no file.
+// Whether a coordinator that has a secret of this many bytes, and whose standard output refuses, ends so and leaves no
+// file.
 fn is_unheard<R: Machine + Net<Stream = TcpStream, Listener = TcpListener> + RandomSource>(
     rt: &R,
-    secret: &str,
+    length: usize,
     status: u8,
     err: &str,
 ) -> Option<bool> {
-    let texts = [("f", COUNTER), ("i", ""), ("secret", secret)];
-    let mut disk = MemoryDisk::new(rt.alloc(), None);
-    let (answered, printed) = commanded(rt, COORDINATE, &[], &texts, &mut disk, &mut Refusing)?;
-    Some(disk.len() == 0 && answered == status && printed.as_str() == err)
+    let secret = "s".repeat(rt.alloc(), length).ok()?;
+    let files = SharedFiles::new(rt.alloc());
+    let (answered, printed) = commanded(
+        rt,
+        &["coordinate f i --listen 127.0.0.1:0 --report r --patience 1 --sync no --secret secret"],
+        secret.as_str(),
+        &mut Process::new(rt, &files, None),
+        &mut Process::new(rt, &files, None),
+        &mut Refusing,
+    )?;
+    Some(answered == status && printed.as_slice() == err.as_bytes() && files.are_just(rt, &[]))
 }
 
 #[test]
 fn begins_nothing_where_nobody_hears_where_it_listens(rt: HostRuntime) {
-    let told = is_unheard(&rt, "0123456789abcdef", 3, "fedrun: cannot write\n");
-    assert_eq!(rt; told, Some(true));
-}
-
-// Whether a secret of 4,097 bytes is refused.
-fn is_long_secret_refused<
-    R: Machine + Net<Stream = TcpStream, Listener = TcpListener> + RandomSource,
->(rt: &R) -> Option<bool> {
-    let secret = "s".repeat(rt.alloc(), 4097).ok()?;
-    is_unheard(rt, secret.as_str(), 1, "fedrun: 113 SecretTooLong\n")
+    assert_eq!(rt;
+        is_unheard(&rt, 16, 3, "fedrun: cannot write\n"),
+        Some(true)
+    );
 }
 
 #[test]
 fn refuses_a_secret_of_more_than_4096_bytes(rt: HostRuntime) {
-    assert_eq!(rt; is_long_secret_refused(&rt), Some(true));
+    let is_taken = is_unheard(&rt, 4096, 3, "fedrun: cannot write\n");
+    let is_refused = is_unheard(&rt, 4097, 1, "fedrun: 113 SecretTooLong\n");
+    assert_eq!(rt; [is_taken, is_refused], [Some(true); 2]);
 }

@@ -8,6 +8,19 @@ use files_saving::{Disk, SaveFault};
 use std::alloc::Global;
 use std::sync::{Mutex, Wait};
 
+/// What a process may be unable to do. What it writes first is what a file is there for.
+#[derive(Clone, Copy, PartialEq, Eq)]
+pub enum Operation {
+    Look,
+    Create,
+    Open,
+    WriteFirst,
+    SyncFirst,
+    Write,
+    Sync,
+    Rename,
+}
+
 /// A file. Whoever has opened it has it also where it has another name by then, or none.
 #[derive(Drop)]
 struct SharedFile {
@@ -31,11 +44,11 @@ fn place_of(files: &[SharedFile], name: &str) -> Option<usize> {
     })
 }
 
-// A file of this name; none where there is no memory.
-fn file_named(alloc: Global, name: &str, bytes: &[u8]) -> Option<SharedFile> {
+// A file of this name, without any bytes; none where there is no memory.
+fn file_named(alloc: Global, name: &str) -> Option<SharedFile> {
     Some(SharedFile {
         name: Some(String::from_str(alloc, name).ok()?),
-        bytes: Vec::from_slice(alloc, bytes).ok()?,
+        bytes: Vec::new(alloc),
         is_locked: false,
     })
 }
@@ -51,17 +64,14 @@ impl SharedFiles {
 
     /// What the file of this name holds, if there is one.
     pub fn file<R: Wait>(&self, rt: &R, name: &str) -> Option<Vec<u8>> {
-        let files = self.files.lock(rt);
-        let place = place_of(files.as_slice(), name)?;
-        Vec::from_slice(self.alloc, files.get(place)?.bytes.as_slice()).ok()
+        let place = self.place(rt, name)?;
+        self.read(rt, place)
     }
 
     /// Puts a file there, in place of one of that name; nothing where there is no memory.
     pub fn put<R: Wait>(&self, rt: &R, name: &str, bytes: &[u8]) -> Option<()> {
         self.remove(rt, name);
-        let file = file_named(self.alloc, name, bytes)?;
-        let mut files = self.files.lock(rt);
-        files.push(file).ok()
+        self.write(rt, name, bytes)
     }
 
     /// Removes the file of this name, if it is there.
@@ -90,10 +100,51 @@ impl SharedFiles {
         Some(())
     }
 
+    /// What the file of this name holds but for so many of its last bytes, if there is one and it has as many.
+    pub fn front<R: Wait>(&self, rt: &R, name: &str, fewer: usize) -> Option<Vec<u8>> {
+        let mut bytes = self.file(rt, name)?;
+        bytes.truncate(bytes.len().checked_sub(fewer)?);
+        Some(bytes)
+    }
+
+    /// Whether the file of this name is there and has these bytes.
+    pub fn is<R: Wait>(&self, rt: &R, name: &str, bytes: &[u8]) -> bool {
+        match self.file(rt, name) {
+            Some(held) => held.as_slice() == bytes,
+            None => false,
+        }
+    }
+
+    /// Whether these files are there, and no others.
+    pub fn are_just<R: Wait>(&self, rt: &R, names: &[&str]) -> bool {
+        let mut are_there = true;
+        for name in names {
+            are_there = are_there && self.has(rt, name);
+        }
+        are_there && self.count(rt) == names.len()
+    }
+
+    // How many files there are.
+    fn count<R: Wait>(&self, rt: &R) -> usize {
+        let files = self.files.lock(rt);
+        let mut count = 0usize;
+        for file in files.iter() {
+            if file.name.is_some() {
+                count = count.saturating_add(1);
+            }
+        }
+        count
+    }
+
     /// Whether there is a file of this name.
     pub fn has<R: Wait>(&self, rt: &R, name: &str) -> bool {
+        self.place(rt, name).is_some()
+    }
+
+    // The place of the file of this name, if there is one.
+    fn place<R: Wait>(&self, rt: &R, name: &str) -> Option<usize> {
         let files = self.files.lock(rt);
-        place_of(files.as_slice(), name).is_some()
+        place_of(files.as_slice(), name)
     }
 
     // The place of the file of this name, which is made where there is none; none where there is no memory.
@@ -103,7 +154,7 @@ impl SharedFiles {
             return Some(place);
         }
         let place = files.len();
-        files.push(file_named(self.alloc, name, b"")?).ok()?;
+        files.push(file_named(self.alloc, name)?).ok()?;
         Some(place)
     }
 
@@ -124,6 +175,12 @@ impl SharedFiles {
         Vec::from_slice(self.alloc, files.get(place)?.bytes.as_slice()).ok()
     }
 
+    // Gives the file of this name these bytes, which is made where there is none; nothing where there is no memory.
+    fn write<R: Wait>(&self, rt: &R, name: &str, bytes: &[u8]) -> Option<()> {
+        let place = self.opened(rt, name)?;
+        self.change(rt, place, 0, bytes)
+    }
+
     // Cuts a file to that many bytes, and adds these.
     fn change<R: Wait>(&self, rt: &R, place: usize, len: usize, more: &[u8]) -> Option<()> {
         let mut files = self.files.lock(rt);
@@ -138,16 +195,31 @@ impl SharedFiles {
 pub struct Process<'a, R> {
     rt: &'a R,
     files: &'a SharedFiles,
+    failing: Option<Operation>,
+    has_written: bool,
 }
 
 impl<'a, R> Process<'a, R> {
-    pub fn new(rt: &'a R, files: &'a SharedFiles) -> Process<'a, R> {
-        Process { rt, files }
+    /// One that can't do this, if that is said.
+    pub fn new(rt: &'a R, files: &'a SharedFiles, failing: Option<Operation>) -> Process<'a, R> {
+        Process {
+            rt,
+            files,
+            failing,
+            has_written: false,
+        }
+    }
+
+    fn fails(&self, operation: Operation) -> bool {
+        self.failing == Some(operation)
     }
 }
 
 impl<R: Wait> Disk for Process<'_, R> {
     fn exists(&mut self, name: &str) -> Result<bool, SaveFault> {
+        if self.fails(Operation::Look) {
+            return Err(SaveFault::CannotLook);
+        }
         Ok(self.files.has(self.rt, name))
     }
 
@@ -155,28 +227,34 @@ impl<R: Wait> Disk for Process<'_, R> {
         if self.files.has(self.rt, name) {
             return Err(SaveFault::Exists);
         }
-        match self.files.opened(self.rt, name) {
-            Some(_) => Ok(()),
-            None => Err(SaveFault::CannotCreate),
+        if self.fails(Operation::Create) || self.files.opened(self.rt, name).is_none() {
+            return Err(SaveFault::CannotCreate);
         }
+        Ok(())
     }
 
     fn write(&mut self, name: &str, bytes: &[u8]) -> Result<(), SaveFault> {
-        let Some(place) = self.files.opened(self.rt, name) else {
-            return Err(SaveFault::CannotWrite);
+        let (writing, syncing) = if self.has_written {
+            (Operation::Write, Operation::Sync)
+        } else {
+            (Operation::WriteFirst, Operation::SyncFirst)
         };
-        match self.files.change(self.rt, place, 0, bytes) {
-            Some(()) => Ok(()),
-            None => Err(SaveFault::CannotWrite),
+        self.has_written = true;
+        if self.fails(writing) || self.files.write(self.rt, name, bytes).is_none() {
+            return Err(SaveFault::CannotWrite);
         }
+        if self.fails(syncing) {
+            return Err(SaveFault::CannotSync);
+        }
+        Ok(())
     }
 
     fn rename(&mut self, from: &str, to: &str) -> Result<(), SaveFault> {
+        if self.fails(Operation::Rename) || !self.files.has(self.rt, from) {
+            return Err(SaveFault::CannotRename);
+        }
         if self.files.has(self.rt, to) {
             return Err(SaveFault::Exists);
-        }
-        if !self.files.has(self.rt, from) {
-            return Err(SaveFault::CannotRename);
         }
         match self.files.rename(self.rt, from, Some(to)) {
             Some(()) => Ok(()),
@@ -200,6 +278,9 @@ pub struct OpenedFile<'a, R> {
 
 impl<'a, R: Wait> LogDisk<OpenedFile<'a, R>> for Process<'a, R> {
     fn open(&mut self, name: &str, _kept_by: KeptBy) -> Result<OpenedFile<'a, R>, KeepFault> {
+        if self.fails(Operation::Open) {
+            return Err(KeepFault::CannotOpen);
+        }
         let Some(place) = self.files.opened(self.rt, name) else {
             return Err(KeepFault::CannotOpen);
         };

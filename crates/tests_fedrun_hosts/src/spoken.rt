@@ -44,27 +44,31 @@ impl<R: Wait> Write for Spoken<'_, R> {
     }
 }
 
-/// The next line that is said, without its end; None where nobody says any more.
-pub fn next_line<R: Wait>(rt: &R, alloc: Global, from: &Receiver<Vec<u8>>) -> Option<String> {
-    let mut line = Vec::new(alloc);
-    for _ in rt.forever() {
-        let more = from.recv(rt).ok()?;
-        line.extend_from_slice(&more).ok()?;
-        if line.last() == Some(&b'\n') {
-            break;
-        }
-    }
-    let _ = line.pop();
-    String::from_utf8(line).ok()
+/// How much is listened to.
+#[derive(Clone, Copy)]
+pub enum Until {
+    /// The end of a line.
+    Line,
+    /// Nobody says any more.
+    End,
 }
 
-/// All that is said until nobody says any more.
-pub fn rest<R: Wait>(rt: &R, alloc: Global, from: &Receiver<Vec<u8>>) -> Option<String> {
+/// What is said until then; None where there is no memory.
+pub fn heard<R: Wait>(
+    rt: &R,
+    alloc: Global,
+    from: &Receiver<Vec<u8>>,
+    until: Until,
+) -> Option<String> {
     let mut text = Vec::new(alloc);
     for _ in rt.forever() {
-        match from.recv(rt) {
-            Ok(more) => text.extend_from_slice(&more).ok()?,
-            Err(_) => break,
+        let Ok(more) = from.recv(rt) else {
+            break;
+        };
+        text.extend_from_slice(&more).ok()?;
+        match (until, more.last()) {
+            (Until::Line, Some(b'\n')) => break,
+            _ => {}
         }
     }
     String::from_utf8(text).ok()

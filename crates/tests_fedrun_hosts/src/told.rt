@@ -1,11 +1,7 @@
 //! A node whose log says already that the run is finished: it says so itself once that log has its end and its name.
-use crate::disk::{MemoryDisk, Operation};
-use crate::files::{NamedFiles, given};
-use crate::logged::{Said, TEXTS, is};
-use crate::nodes::{PART, REPORT};
-use crate::runs::{END, ran};
-use crate::shared_files::SharedFiles;
-use fedrun_hosts::node_command;
+use crate::nodes::{ANY, End, FINISHED, ends};
+use crate::runs::{ALL, END, run};
+use crate::shared_files::{Operation, Process, SharedFiles};
 use fedrun_logs::LogDisk;
 use files_keeping::{KeepFault, KeptBy, MemoryDevice, Part};
 use std::alloc::Global;
@@ -33,93 +29,71 @@ impl LogDisk<MemoryDevice> for Failing<'_> {
     }
 }
 
-const SRC: &[&str] = &[
-    "join",
-    "f",
-    "i",
-    "src",
-    "--connect",
-    "127.0.0.1:1",
-    "--report",
-    REPORT,
-    "--patience",
-    "1",
+/// What `src` says where one of the calls fails by which a node ends such a log, each in turn: lock, read, sync the
+/// folder, cut, sync, read, append, sync.
+const UNKEPT: &[&str] = &[
+    "fedrun: 120 Unsaved r.part: cannot lock\n",
+    "fedrun: 120 Unsaved r.part: cannot read\n",
+    "fedrun: 120 Unsaved r.part: cannot sync the folder\n",
+    "fedrun: 120 Unsaved r.part: cannot cut\n",
+    "fedrun: 120 Unsaved r.part: cannot sync\n",
+    "fedrun: 120 Unsaved r.part: cannot read\n",
+    "fedrun: 120 Unsaved r.part: cannot append\n",
+    "fedrun: 120 Unsaved r.part: cannot sync\n",
 ];
 
-// What `src` says that has this log, in a file of which so many calls succeed, on a disk of which one operation may
-// fail.
-fn said_with<R: Machine + Net<Stream = TcpStream, Listener = TcpListener> + RandomSource>(
+// Whether `src` ends so that has this log, in a file of which so many calls succeed, on a disk of which one operation
+// may fail.
+fn ends_with<R: Machine + Net<Stream = TcpStream, Listener = TcpListener> + RandomSource>(
     rt: &R,
     log: &[u8],
     calls: u64,
     failing: Option<Operation>,
-) -> Option<Said> {
+    end: End<'_>,
+) -> Option<bool> {
     let alloc = rt.alloc();
-    let words = given(alloc, SRC, &[])?;
-    let mut files = NamedFiles {
-        alloc,
-        texts: TEXTS,
-        reports: &[],
-    };
-    let mut disk = MemoryDisk::new(alloc, failing);
-    disk.put(PART, b"")?;
+    let files = SharedFiles::new(alloc);
+    files.put(rt, "r.part", b"")?;
+    let mut disk = Process::new(rt, &files, failing);
     let mut logs = Failing {
         alloc,
         bytes: log,
         calls,
     };
-    let mut out = Vec::new(alloc);
-    let mut err = Vec::new(alloc);
-    let status = node_command(
-        rt, &words, &mut files, &mut disk, &mut logs, &mut out, &mut err,
-    );
-    Some((
-        status,
-        String::from_utf8(out).ok()?,
-        String::from_utf8(err).ok()?,
-    ))
-}
-
-/// The calls by which a node ends such a log: lock, read, sync the folder, cut, sync, read, append, sync.
-const CALLS: u64 = 8;
-
-// How many calls have to succeed until `src` says that the run is finished; none where one that fails isn't told, or
-// it says so besides.
-fn needed_calls<R: Machine + Net<Stream = TcpStream, Listener = TcpListener> + RandomSource>(
-    rt: &R,
-    log: &[u8],
-) -> Option<u64> {
-    for calls in 0..2 * CALLS {
-        let said = said_with(rt, log, calls, None)?;
-        if is(&said, 0, "finished\n", "") {
-            return Some(calls);
-        }
-        let is_told = said
-            .2
-            .as_str()
-            .strip_prefix("fedrun: 120 Unsaved r.part: cannot ");
-        if said.0 != 3 || !said.1.is_empty() || is_told.is_none() {
-            return None;
-        }
-    }
-    None
+    let texts = ["join f i src --connect 127.0.0.1:1 --report r --patience 1"];
+    Some(ends(rt, &texts, &mut disk, &mut logs, end))
 }
 
 // Whether `src` says that the run is finished where its log has its end and its name, and else why it hasn't.
 fn says_it_last<R: Machine + Net<Stream = TcpStream, Listener = TcpListener> + RandomSource>(
     rt: &R,
+    log: &[u8],
 ) -> Option<bool> {
+    let mut calls = 0u64;
+    for err in UNKEPT {
+        if !ends_with(rt, log, calls, None, (3, "", err))? {
+            return Some(false);
+        }
+        calls = calls.saturating_add(1);
+    }
+    let unnamed = (3, "", "fedrun: 120 Unsaved r: cannot rename\n");
+    Some(
+        ends_with(rt, log, calls, None, FINISHED)?
+            && ends_with(rt, log, calls, Some(Operation::Rename), unnamed)?,
+    )
+}
+
+// The same of the log of a run, without its end.
+fn says_it_last_of_a_run<
+    R: Machine + Net<Stream = TcpStream, Listener = TcpListener> + RandomSource,
+>(rt: &R) -> Option<bool> {
     let files = SharedFiles::new(rt.alloc());
-    ran(rt, &files, &[], &[])?;
-    let mut log = files.file(rt, "src")?;
-    log.truncate(log.len().checked_sub(END)?);
-    let needed = needed_calls(rt, log.as_slice())?;
-    let unnamed = said_with(rt, log.as_slice(), CALLS, Some(Operation::Rename))?;
-    let is_told = is(&unnamed, 3, "", "fedrun: 120 Unsaved r: cannot rename\n");
-    Some(needed == CALLS && is_told)
+    run(rt, &files, ANY, ALL)?;
+    let log = files.front(rt, "src", END)?;
+    says_it_last(rt, log.as_slice())
 }
 
 #[test]
 fn finished_is_said_once_the_log_has_its_end_and_its_name(rt: HostRuntime) {
-    assert_eq!(rt; says_it_last(&rt), Some(true));
+    assert_eq!(rt; says_it_last_of_a_run(&rt), Some(true));
 }

@@ -1,39 +1,22 @@
 //! What the words of a node's command ask for.
-use crate::files::given;
+use crate::nodes::given;
 use fedrun_hosts::{HostRequest, NodeRequest, asks_for_node, read_node_words};
 use files_keeping::KeptBy;
 use std::alloc::Global;
 use std::net::SocketAddr;
 
 // Whether these words ask for this.
-fn ask_for(alloc: Global, words: &[&str], request: HostRequest<'_>) -> Option<bool> {
-    let given = given(alloc, words, &[])?;
+fn ask_for(alloc: Global, texts: &[&str], request: HostRequest<'_>) -> Option<bool> {
+    let given = given(alloc, texts)?;
     match read_node_words(alloc, &given) {
         Ok(read) => Some(asks_for_node(&given) && read == request),
         Err(_) => Some(false),
     }
 }
 
-const COORDINATE: &[&str] = &[
-    "coordinate",
-    "fed.toml",
-    "-",
-    "--listen",
-    "10.0.0.1:7000",
-    "--report",
-    "c.report",
-];
+const COORDINATE: &str = "coordinate fed.toml - --listen 10.0.0.1:7000 --report c.report";
 
-const JOIN: &[&str] = &[
-    "join",
-    "fed.toml",
-    "-",
-    "src",
-    "--connect",
-    "10.0.0.1:7000",
-    "--report",
-    "c.report",
-];
+const JOIN: &str = "join fed.toml - src --connect 10.0.0.1:7000 --report c.report";
 
 // What a node is given by these words, which have no options.
 fn plain() -> NodeRequest<'static> {
@@ -57,40 +40,20 @@ fn options_are_left_out(rt: HostRuntime) {
         frames: 2,
     };
     let asked = [
-        ask_for(rt.alloc(), COORDINATE, HostRequest::Coordinate(plain())),
-        ask_for(rt.alloc(), JOIN, join),
+        ask_for(rt.alloc(), &[COORDINATE], HostRequest::Coordinate(plain())),
+        ask_for(rt.alloc(), &[JOIN], join),
     ];
     assert_eq!(rt; asked, [Some(true); 2]);
 }
 
 const COORDINATE_WITH_OPTIONS: &[&str] = &[
-    "coordinate",
-    "--patience=4294967295",
-    "fed.toml",
-    "--secret",
-    "secret",
-    "-",
-    "--report",
-    "c.report",
-    "--listen",
-    "[::1]:0",
+    "coordinate --patience=4294967295 fed.toml --secret secret - --report c.report",
+    "--listen [::1]:0",
 ];
 
 const JOIN_WITH_OPTIONS: &[&str] = &[
-    "join",
-    "--turns",
-    "007",
-    "--frames",
-    "1",
-    "fed.toml",
-    "-",
-    "src",
-    "--report=c.report",
-    "--connect",
-    "[::1]:0",
-    "--secret=secret",
-    "--patience",
-    "4294967295",
+    "join --turns 007 --frames 1 fed.toml - src --report=c.report",
+    "--connect [::1]:0 --secret=secret --patience 4294967295",
 ];
 
 #[test]
@@ -107,59 +70,57 @@ fn options_stand_anywhere_behind_the_command(rt: HostRuntime) {
         turns: 7,
         frames: 1,
     };
+    let coordinate = HostRequest::Coordinate(node);
     let asked = [
-        ask_for(
-            rt.alloc(),
-            COORDINATE_WITH_OPTIONS,
-            HostRequest::Coordinate(node),
-        ),
+        ask_for(rt.alloc(), COORDINATE_WITH_OPTIONS, coordinate),
         ask_for(rt.alloc(), JOIN_WITH_OPTIONS, join),
     ];
     assert_eq!(rt; asked, [Some(true); 2]);
 }
 
-// Whether words of a federate with this behind them are a node's command.
-fn is_node(alloc: Global, more: &[&str]) -> Option<bool> {
-    Some(asks_for_node(&given(alloc, JOIN, more)?))
+// Whether these are words of a node's command.
+fn are_of_node(alloc: Global, texts: &[&str]) -> Option<bool> {
+    Some(asks_for_node(&given(alloc, texts)?))
 }
 
 #[test]
 fn help_is_asked_of_no_node(rt: HostRuntime) {
     let asked = [
-        is_node(rt.alloc(), &[]),
-        is_node(rt.alloc(), &["--help"]),
-        is_node(rt.alloc(), &["--", "--help"]),
+        are_of_node(rt.alloc(), &[JOIN]),
+        are_of_node(rt.alloc(), &[JOIN, "--help"]),
+        are_of_node(rt.alloc(), &[JOIN, "-- --help"]),
     ];
     assert_eq!(rt; asked, [Some(true), Some(false), Some(true)]);
 }
 
-const UNNAMED: &[&str] = &["coordinate", "fed.toml", "-", "--listen", "10.0.0.1:7000"];
+const UNNAMED: &str = "coordinate fed.toml - --listen 10.0.0.1:7000";
 
-/// Words, and what stands behind them: what is no such option, or is given twice, and a report without a name.
-const REFUSED: &[(&[&str], &[&str])] = &[
-    (JOIN, &["--patience", "+1"]),
-    (JOIN, &["--patience", ""]),
-    (JOIN, &["--patience", "4294967296"]),
-    (JOIN, &["--turns", "1.0"]),
-    (JOIN, &["--frames", "0"]),
-    (JOIN, &["--frames", "3"]),
-    (JOIN, &["--listen", "10.0.0.1:7000"]),
-    (JOIN, &["--report", "s"]),
-    (JOIN, &["--connect", "10.0.0.2:7000"]),
-    (JOIN, &["--csv", "x"]),
-    (JOIN, &["--help"]),
-    (JOIN, &["--help", "x"]),
-    (UNNAMED, &["--report", ""]),
+/// Words, and what stands behind them: what is no such option, or is given twice, and a report without a name. A text
+/// that ends with a space has an empty word there.
+const REFUSED: &[(&str, &str)] = &[
+    (JOIN, "--patience +1"),
+    (JOIN, "--patience "),
+    (JOIN, "--patience 4294967296"),
+    (JOIN, "--turns 1.0"),
+    (JOIN, "--frames 0"),
+    (JOIN, "--frames 3"),
+    (JOIN, "--listen 10.0.0.1:7000"),
+    (JOIN, "--report s"),
+    (JOIN, "--connect 10.0.0.2:7000"),
+    (JOIN, "--csv x"),
+    (JOIN, "--help"),
+    (JOIN, "--help x"),
+    (UNNAMED, "--report "),
 ];
 
 // Whether words with this behind them are refused.
-fn are_refused(alloc: Global, words: &[&str], more: &[&str]) -> Option<bool> {
-    let given = given(alloc, words, more)?;
+fn are_refused(alloc: Global, words: &str, more: &str) -> Option<bool> {
+    let given = given(alloc, &[words, more])?;
     Some(read_node_words(alloc, &given).is_err())
 }
 
 // What is behind the first that aren't.
-fn first_taken(alloc: Global) -> Option<&'static [&'static str]> {
+fn first_taken(alloc: Global) -> Option<&'static str> {
     for (words, more) in REFUSED {
         if are_refused(alloc, words, more) != Some(true) {
             return Some(*more);
@@ -173,18 +134,12 @@ fn other_options_are_refused(rt: HostRuntime) {
     assert_eq!(rt; first_taken(rt.alloc()), None);
 }
 
-// Whether words are those of a node's command.
-fn are_of_node(alloc: Global, words: &[&str]) -> Option<bool> {
-    let given = given(alloc, words, &[])?;
-    Some(asks_for_node(&given))
-}
-
 #[test]
 fn other_commands_are_left_to_others(rt: HostRuntime) {
     let are_of_node = [
-        are_of_node(rt.alloc(), &["run", "f"]),
-        are_of_node(rt.alloc(), &["audit", "f"]),
-        are_of_node(rt.alloc(), &["--listen", "coordinate"]),
+        are_of_node(rt.alloc(), &["run f"]),
+        are_of_node(rt.alloc(), &["audit f"]),
+        are_of_node(rt.alloc(), &["--listen coordinate"]),
     ];
     assert_eq!(rt; are_of_node, [Some(false); 3]);
 }
