@@ -90,6 +90,14 @@ impl<'a> Node for Coordinator<'a> {
         Ok(false)
     }
 
+    fn has_nothing_to_say(&self) -> bool {
+        true
+    }
+
+    fn has_nothing_to_run(&self) -> bool {
+        true
+    }
+
     fn is_coordinator(&self) -> bool {
         true
     }

@@ -337,6 +337,14 @@ impl<'a> Node for Federate<'a> {
         Ok(true)
     }
 
+    fn has_nothing_to_say(&self) -> bool {
+        self.has_announced()
+    }
+
+    fn has_nothing_to_run(&self) -> bool {
+        self.is_waiting()
+    }
+
     fn is_coordinator(&self) -> bool {
         false
     }

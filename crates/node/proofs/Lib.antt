@@ -10,3 +10,5 @@ pub mod Calls
 pub mod Ahead
 -- Through every step what a station was made from stays.
 pub mod Initial
+-- Events of turns for which the node has nothing to do.
+pub mod Idle

@@ -1,6 +1,6 @@
 -- A station: a node with its link ends. What it answers to an event, and what stands after it.
-use Rattle.std.specs.Prelude.{ℕ, Bool, true, false, ◌&&◌, not, if◌then◌else◌, nat_eq, nat_lt, List, [], ◌∷◌, map, set}
-use Rattle.std.specs.Prelude.{slice_get, Option, None, Some, Result, Ok, Err}
+use Rattle.std.specs.Prelude.{◌≡◌, ℕ, Bool, true, false, ◌&&◌, not, if◌then◌else◌, nat_eq, nat_lt, List, [], ◌∷◌, map}
+use Rattle.std.specs.Prelude.{set, slice_get, Option, None, Some, Result, Ok, Err}
 use Rattle.signal.specs.declared.frame.Frame.{Frame}
 use Rattle.signal.specs.declared.frame.Frame.TheVariants.{Hello, Data, Ack, Refuse}
 use Rattle.link.specs.declared.arrival.Arrival.{Arrival}
@@ -8,6 +8,7 @@ use Rattle.link.specs.declared.arrival.Arrival.TheVariants as arrival
 use Rattle.link.specs.declared.fault.LinkFault.{LinkFault}
 use Rattle.link.specs.Fault as link
 use Rattle.link.specs.Image.{Image, blank, answer_of, after_frame, after_close, ack_of, hello_of, resent_by}
+use Rattle.protocol.specs.Outcome.{Nothing}
 use Rattle.protocol.specs.Refusals.{number_of}
 use Rattle.node.specs.declared.outgoing.Outgoing.{Outgoing}
 use Rattle.node.specs.declared.event.Event.{Event}
@@ -179,6 +180,14 @@ step_of core is_coordinator s (event.Resend peer) = resends s peer (slice_get s.
 step_of core is_coordinator s (event.Hello peer) = greets s peer (slice_get s.ends peer)
 step_of core is_coordinator s event.Announce = acts s (ending_of (unsent s) (core.announce s.node))
 step_of core is_coordinator s event.Advance = acts s (ending_of (unsent s) (core.advance s.node))
+
+-- an event of a turn for which the node has nothing to do: it has nothing to say, or nothing to run
+abbrev pub IsIdle : {View Row : Type 0} → Core View Row → Station View → Event → Type 0
+IsIdle core s event.Announce = core.announce s.node ≡ Nothing
+IsIdle core s event.Advance = core.advance s.node ≡ Nothing
+IsIdle core s (event.Frame peer frame) = ⊥
+IsIdle core s (event.Resend peer) = ⊥
+IsIdle core s (event.Hello peer) = ⊥
 
 -- an end as it was at the start
 abbrev pub fresh : Image → Image

@@ -1,4 +1,5 @@
-ghost use Rattle.std.specs.Prelude.{◌≡◌, ◌≢◌, ℕ, Bool, List};
+ghost use Rattle.std.specs.Prelude.{◌≡◌, ◌≢◌, ◌↔◌, ℕ, Bool, IsTrue, List};
+ghost use Rattle.protocol.specs.Outcome.{Nothing};
 ghost use Rattle.node.specs.Core.{Core, IsCore, IsCall, Allows, SendsOnly};
 ghost use Rattle.node.specs.declared.fault.NodeFault.TheVariants as Faults;
 
@@ -51,6 +52,14 @@ pub trait Node: Drop {
         ensures memory { result ≡ Err Faults.Memory
             → (self.new ≡ self.old) × (outbox.new.mail ≡ outbox.old.mail) × Allows (core.advance self.old) }
         ensures lawful { SendsOnly (core.may_send self.old) (core.advance self.old) };
+
+    /// Whether `announce` would do nothing, whatever memory and room there is. To ask takes no memory.
+    fn has_nothing_to_say(&self) -> bool
+        ensures { IsTrue result ↔ (core.announce self.now ≡ Nothing) };
+
+    /// Whether `advance` would do nothing, whatever memory and room there is. To ask takes no memory.
+    fn has_nothing_to_run(&self) -> bool
+        ensures { IsTrue result ↔ (core.advance self.now ≡ Nothing) };
 
     /// Whether it is the coordinator, which alone answers a Hello of another incarnation: by a Refuse.
     fn is_coordinator(&self) -> bool

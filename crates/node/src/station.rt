@@ -1,11 +1,11 @@
-ghost use Rattle.std.specs.Prelude.{◌≡◌, ◌<◌, length, IfOk, OnErr, Ok, Some, map, option_map, slice_get};
+ghost use Rattle.std.specs.Prelude.{◌≡◌, ◌↔◌, ◌<◌, length, IfOk, IsTrue, OnErr, Ok, Some, map, option_map, slice_get};
 ghost use Rattle.link.specs.Image.{Image, answer_of};
 ghost use Rattle.link.specs.declared.arrival.Arrival.TheVariants as Arrivals;
 ghost use Rattle.signal.specs.declared.frame.Frame.TheVariants as Frames;
 ghost use Rattle.node.specs.Core.{ending_of};
 ghost use Rattle.node.specs.Step.{Station as StationOf, answer_in, step_of, frame_comes, comes, admits, resends};
 ghost use Rattle.node.specs.Step.{greets};
-ghost use Rattle.node.specs.Step.{acts, unsent};
+ghost use Rattle.node.specs.Step.{acts, unsent, IsIdle};
 
 use crate::closing::closes;
 use crate::event::Event;
@@ -63,6 +63,18 @@ impl<N: Node> Station<N> {
         ensures { option_map (λ e. e.now.image) result ≡ slice_get self.now.ends peer }
     {
         self.outbox.end(peer)
+    }
+
+    /// Whether this is an event of a turn for which the node has nothing to do: then its step changes nothing and says
+    /// nothing. To ask takes no memory.
+    pub fn is_idle(&self, event: &Event) -> bool
+        ensures { IsTrue result ↔ IsIdle N.core self.now event.now }
+    {
+        match event {
+            Event::Announce => self.node.has_nothing_to_say(),
+            Event::Advance => self.node.has_nothing_to_run(),
+            Event::Frame(..) | Event::Resend(_) | Event::Hello(_) => false,
+        }
     }
 
     /// The node alone.

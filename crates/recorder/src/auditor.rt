@@ -43,7 +43,7 @@ impl<'a> StepMaker for Auditor<'a> {
             self.miss(node, &event);
             return Ok(None);
         };
-        self.make(step)?;
+        self.make(step, node, &event)?;
         self.note(step, &event);
         Ok(Some(step))
     }
@@ -106,12 +106,13 @@ impl<'a> Auditor<'a> {
         }
     }
 
-    // Makes a step.
-    fn make(&mut self, step: Step) -> Result<(), Memory>
+    // Makes a step that is this event at this node.
+    fn make(&mut self, step: Step, node: NodeId, event: &Event) -> Result<(), Memory>
+        requires { IsEvent world_motion self.old step node event.now }
         ensures made { OnOk result (self.new ≡ with_step self.old step) }
         ensures unchanged { OnErr result (self.new ≡ self.old) }
     {
-        match self.world.apply(step) {
+        match self.world.apply_known(step, node, *event) {
             Ok(_) => Ok(()),
             Err(_) => Err(Memory),
         }
@@ -169,8 +170,7 @@ fn place_of(
     ensures none { result ≡ None → exact ≡ true → (k : ℕ)
         → frame_at (frames_in (stations_of world.now) dir) k ≢ Some frame.now }
 {
-    let end = world.sent(dir).saturating_add(1);
-    if let Some(k) = place_among(world, dir, frame, cursors.unseen(dir, frame), end) {
+    if let Some(k) = place_from(world, dir, frame, cursors.unseen(dir, frame)) {
         return Some(k);
     }
     if exact {
@@ -242,6 +242,23 @@ fn place_anywhere(world: &World<'_>, dir: Dir, frame: &Frame) -> Option<usize>
     }
 }
 
+// The first place at which the frame stands from this one on, up to the last frame that was sent.
+fn place_from(world: &World<'_>, dir: Dir, frame: &Frame, from: usize) -> Option<usize>
+    ensures found { IfSome result (λ k. frame_at (frames_in (stations_of world.now) dir) k ≡ Some frame.now) }
+    ensures none { result ≡ None → (k : ℕ) → from ≤ k
+        → frame_at (frames_in (stations_of world.now) dir) k ≢ Some frame.now }
+{
+    let last = world.sent(dir);
+    if let Some(k) = place_among(world, dir, frame, from, last) {
+        return Some(k);
+    }
+    if from <= last && is_at(world, dir, last, frame) {
+        Some(last)
+    } else {
+        None
+    }
+}
+
 // The first of these places at which the frame stands.
 fn place_among(world: &World<'_>, dir: Dir, frame: &Frame, from: usize, to: usize) -> Option<usize>
     ensures found { IfSome result (λ k. frame_at (frames_in (stations_of world.now) dir) k ≡ Some frame.now) }
@@ -260,8 +277,8 @@ fn place_among(world: &World<'_>, dir: Dir, frame: &Frame, from: usize, to: usiz
 fn is_at(world: &World<'_>, dir: Dir, k: usize, frame: &Frame) -> bool
     ensures { (result ≡ true) ↔ (frame_at (frames_in (stations_of world.now) dir) k ≡ Some frame.now) }
 {
-    match world.frame(dir, k) {
-        Some(sent) => is_same(&sent, frame),
+    match world.look_at(dir, k) {
+        Some(sent) => is_same(sent, frame),
         None => false,
     }
 }

@@ -88,6 +88,14 @@ impl Node for Counter {
         Ok(true)
     }
 
+    fn has_nothing_to_say(&self) -> bool {
+        true
+    }
+
+    fn has_nothing_to_run(&self) -> bool {
+        self.sent >= 100
+    }
+
     fn is_coordinator(&self) -> bool {
         true
     }

@@ -1,5 +1,5 @@
 ghost use Rattle.std.specs.Prelude.{◌≡◌, ℕ, ◌<◌, [], take, length, option_map, slice_get, IsTrue, IfOk, OnOk, OnErr};
-ghost use Rattle.std.specs.Prelude.{◌↔◌, ◌||◌};
+ghost use Rattle.std.specs.Prelude.{◌↔◌, ◌||◌, Some};
 ghost use Rattle.link.specs.Image.{room_left};
 ghost use Rattle.plan.specs.External.{AreInputsOf};
 ghost use Rattle.plan.specs.Federation.{federate_count};
@@ -8,7 +8,7 @@ ghost use Rattle.node_cores.specs.CoordinatorCore.{coordinator_core};
 ghost use Rattle.world_stations.specs.Federation.{step_in, IsHarmless, IsStuck};
 ghost use Rattle.world_stations.specs.Kept.{is_kept, is_forget};
 ghost use Rattle.world_stations.specs.Taken.{sender};
-ghost use Rattle.world_stations.specs.World.{frames_in, frame_at};
+ghost use Rattle.world_stations.specs.World.{frames_in, frame_at, occurrence_of};
 ghost use Rattle.world.specs.World.{stations_of, with_step, with_steps};
 ghost use Rattle.world.specs.Invariant.{IsFederation};
 ghost use Rattle.world.specs.Faithful.{IsFaithful, AreHarmless};
@@ -17,7 +17,7 @@ ghost use Rattle.world.specs.Quiet.{IsQuiet, IsSilent};
 use crate::initial::{new_coordinator, new_federates};
 use coordinator::Coordinator;
 use federate::Federate;
-use node::Node;
+use node::{Event, Node, NodeId};
 use plan::{Inputs, Plan};
 use reactor::Rows;
 use reactor_programs::Programs;
@@ -104,6 +104,21 @@ impl<'a> World<'a> {
         Ok(outcome)
     }
 
+    /// The same of a step that is known to be this event at this node: it isn't looked for again.
+    pub fn apply_known(&mut self, step: Step, node: NodeId, event: Event) -> Result<Outcome, Memory>
+        requires { occurrence_of (stations_of self.old) step ≡ Some (record { node = node; event = event }) }
+        ensures done { OnOk result (self.new ≡ with_step self.old step) }
+        ensures outcome { IfOk result (λ outcome. outcome ≡ (step_in (stations_of self.old) step).outcome) }
+        ensures harmless { IfOk result IsHarmless }
+        ensures unchanged { OnErr result (self.new ≡ self.old) }
+        ensures faithful { IsFaithful self.new }
+    {
+        let outcome = self.stations.apply_known(step, node, event)?;
+        let has_forgotten = somebody_forgot(self.has_forgotten, step);
+        self.has_forgotten = has_forgotten;
+        Ok(outcome)
+    }
+
     /// Makes steps, one after the other. Without memory those before the refused one stay made.
     pub fn run(&mut self, steps: &[Step]) -> Result<(), Memory>
         ensures done { OnOk result (self.new ≡ with_steps self.old steps.now) }
@@ -179,6 +194,13 @@ impl<'a> World<'a> {
         ensures { result ≡ frame_at (frames_in (stations_of self.now) dir) k }
     {
         self.stations.frame(dir, k)
+    }
+
+    /// The same, where it lies.
+    pub fn look_at(&self, dir: Dir, k: usize) -> Option<&Frame>
+        ensures { option_map (λ frame. frame.now) result ≡ frame_at (frames_in (stations_of self.now) dir) k }
+    {
+        self.stations.look_at(dir, k)
     }
 
     /// How many signals the sender of a direction keeps, or None where there is no such federate.

@@ -38,6 +38,8 @@ pub mod Bound
 pub mod Rooms
 -- The frames of all directions, and the memory that is left.
 pub mod Ways
+-- An event of a turn for which a federate has nothing to do changes nothing.
+pub mod Idle
 -- What a step of one station makes of the world.
 pub mod Stepping
 -- What a federate that forgets makes of the world.

@@ -12,8 +12,9 @@ use Rattle.node.specs.declared.event.Event.{Event}
 use Rattle.node.specs.Core.{Core}
 use Rattle.node.specs.Step.{Station, Stepped, Answer, step_of}
 use Rattle.world_stations.specs.declared.step.Step.{Step}
+use Rattle.world_stations.specs.declared.step.Step.TheVariants.{Deliver, Resend, Reconnect, Announce, Advance, Forget}
 use Rattle.world_stations.specs.declared.outcome.Outcome.{Outcome}
-use Rattle.world_stations.specs.World.{World, Applied, frames_of, outcome_of, sent_out, at_federate, at_node, listed, applied, after_steps}
+use Rattle.world_stations.specs.World.{World, Applied, frames_of, outcome_of, sent_out, at_federate, at_node, listed, applied, after_steps, Occurrence, occurrence_of, happens, does}
 use Rattle.node.specs.declared.node_id.NodeId.TheVariants.{Coordinator}
 use Rattle.world_stations.specs.Room.{count_to, most_to, most_ever_to, SentView, spare_at, AllSpare, IsReserved, HasSpare, Fits}
 use Rattle.world_stations.specs.Invariant.{IsWorld, HaveOnePeer}
@@ -178,3 +179,13 @@ step_more of_coordinator of_federate w now later steps i d o there so_far made =
     ap (λ (a : Applied _ _). a.world) made ∙
     (ap (λ (x : World _ _). (applied of_coordinator of_federate x (get_or steps i d)).world) so_far ∙
     (sym (one_more of_coordinator of_federate w (take i steps) (get_or steps i d)) ∙ ap (λ (made_so_far : List Step). after_steps of_coordinator of_federate w made_so_far) (sym (take_more steps i d there))))
+
+-- a step that is known to be this event at this node does what that does
+pub does_known : {OfCoordinator OfFederate CoordinatorRow Row : Type 0} (of_coordinator : Core OfCoordinator CoordinatorRow) (of_federate : Core OfFederate Row) (w : World OfCoordinator OfFederate) (step : Step) (o : Occurrence) →
+    occurrence_of w step ≡ Some o → does of_coordinator of_federate w step ≡ at_node of_coordinator of_federate w o.node o.event
+does_known of_coordinator of_federate w (Deliver dir k) o is = ap (happens of_coordinator of_federate w) is
+does_known of_coordinator of_federate w (Resend dir) o is = ap (happens of_coordinator of_federate w) is
+does_known of_coordinator of_federate w (Reconnect dir) o is = ap (happens of_coordinator of_federate w) is
+does_known of_coordinator of_federate w (Announce j) o is = ap (happens of_coordinator of_federate w) is
+does_known of_coordinator of_federate w (Advance j) o is = ap (happens of_coordinator of_federate w) is
+does_known of_coordinator of_federate w (Forget j) o is = cc

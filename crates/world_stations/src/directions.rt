@@ -1,6 +1,6 @@
 //! The frames of all directions from or to the coordinator, by federate.
 ghost use Rattle.std.specs.Prelude.{◌≡◌, ℕ, ◌+◌, ◌<◌, ◌≤◌, ◌++◌, ◌∷◌, [], if◌then◌else◌, nat_eq, length, map, set};
-ghost use Rattle.std.specs.Prelude.{get_or, slice_get, replicate, OnOk, IfOk};
+ghost use Rattle.std.specs.Prelude.{get_or, slice_get, replicate, option_map, OnOk, IfOk};
 ghost use Rattle.world_stations.specs.World.{sent_out, frame_at};
 ghost use Rattle.world_stations.specs.Room.{most_to, most_ever_to, frames_of_each, spare_at, AllSpare, IsReserved};
 ghost use Rattle.world_stations.specs.Room.{NoneLost, Fits};
@@ -183,8 +183,8 @@ fn none_sent(alloc: Global, count: usize) -> Result<Vec<Sent>, Memory>
 }
 
 /// The k-th frame in a direction, counted from 1.
-pub(crate) fn nth(sent: &[Sent], place: usize, k: usize) -> Option<Frame>
-    ensures { result ≡ frame_at (get_or (frames_of_each sent.now) place []) k }
+pub(crate) fn nth(sent: &[Sent], place: usize, k: usize) -> Option<&Frame>
+    ensures { option_map (λ frame. frame.now) result ≡ frame_at (get_or (frames_of_each sent.now) place []) k }
 {
     sent.get(place)?.nth(k)
 }

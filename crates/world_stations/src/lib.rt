@@ -12,6 +12,8 @@
 //!                    +-----------> append         what it sends, after all that was sent before
 //!     Outcome <------+
 //!
+//! `apply_known` is told which event it is, and so begins at `reserve`.
+//!
 //! Begin with `specs/World` and `specs/Federation`, then `world_laws` and `stations`; `sent` keeps the frames of one
 //! direction, `made_steps` the steps, and `blank` makes a station that forgot all.
 #![tactic(auto)]

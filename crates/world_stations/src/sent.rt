@@ -1,4 +1,4 @@
-ghost use Rattle.std.specs.Prelude.{◌≡◌, ◌+◌, ◌<◌, ◌≤◌, ◌++◌, ◌∷◌, [], length, OnOk};
+ghost use Rattle.std.specs.Prelude.{◌≡◌, ◌+◌, ◌<◌, ◌≤◌, ◌++◌, ◌∷◌, [], length, option_map, OnOk};
 ghost use Rattle.world_stations.specs.World.{frame_at};
 
 use crate::memory::Memory;
@@ -43,11 +43,11 @@ impl Sent {
     }
 
     /// The k-th frame, counted from 1.
-    pub fn nth(&self, k: usize) -> Option<Frame>
-        ensures { result ≡ frame_at self.now.frames k }
+    pub fn nth(&self, k: usize) -> Option<&Frame>
+        ensures { option_map (λ frame. frame.now) result ≡ frame_at self.now.frames k }
     {
         let before = k.checked_sub(1)?;
-        self.frames.get(before).copied()
+        self.frames.get(before)
     }
 
     /// Sees that this many frames can be put without memory.

@@ -166,6 +166,16 @@ impl<H: Node, M: Blank> Stations<H, M> {
         }
     }
 
+    /// The same of a step that is known to be this event at this node: it isn't looked for again.
+    pub fn apply_known(&mut self, step: Step, node: NodeId, event: Event) -> Result<Outcome, Memory>
+        requires { occurrence_of self.old step ≡ Some (record { node = node; event = event }) }
+        ensures done { IfOk result (λ outcome. record { world = self.new; outcome = outcome }
+            ≡ applied H.core M.core self.old step) }
+        ensures unchanged { OnErr result (self.new ≡ self.old) }
+    {
+        self.at_node(node, event, step)
+    }
+
     /// Makes steps, one after the other. Without memory those before the refused one stay made.
     pub fn run(&mut self, steps: &[Step]) -> Result<(), Memory>
         ensures done { OnOk result (self.new ≡ after_steps H.core M.core self.old steps.now) }
@@ -198,6 +208,13 @@ impl<H: Node, M: Blank> Stations<H, M> {
     /// The k-th frame ever sent in a direction, counted from 1.
     pub fn frame(&self, dir: Dir, k: usize) -> Option<Frame>
         ensures { result ≡ frame_at (frames_in self.now dir) k }
+    {
+        self.look_at(dir, k).copied()
+    }
+
+    /// The same, where it lies.
+    pub fn look_at(&self, dir: Dir, k: usize) -> Option<&Frame>
+        ensures { option_map (λ frame. frame.now) result ≡ frame_at (frames_in self.now dir) k }
     {
         match dir {
             Dir::Up(federate) => nth(&self.up, federate, k),
@@ -241,19 +258,20 @@ impl<H: Node, M: Blank> Stations<H, M> {
         ensures unchanged { OnErr result (self.new ≡ self.old) }
     {
         match self.occurrence(step) {
-            Some(
-                Occurrence {
-                    node: NodeId::Coordinator,
-                    event,
-                },
-            ) => self.at_coordinator(event, step),
-            Some(
-                Occurrence {
-                    node: NodeId::Federate(federate),
-                    event,
-                },
-            ) => self.at_federate(federate, event, step),
+            Some(Occurrence { node, event }) => self.at_node(node, event, step),
             None => self.pass(step),
+        }
+    }
+
+    // An event at a node.
+    fn at_node(&mut self, node: NodeId, event: Event, step: Step) -> Result<Outcome, Memory>
+        ensures done { IfOk result (λ outcome. record { world = self.new; outcome = outcome }
+            ≡ listed step (at_node H.core M.core self.old node event)) }
+        ensures unchanged { OnErr result (self.new ≡ self.old) }
+    {
+        match node {
+            NodeId::Coordinator => self.at_coordinator(event, step),
+            NodeId::Federate(federate) => self.at_federate(federate, event, step),
         }
     }
 
@@ -275,8 +293,37 @@ impl<H: Node, M: Blank> Stations<H, M> {
         Ok(outcome)
     }
 
-    // An event at a federate.
+    // An event at a federate. Where it has nothing to do, no memory is asked for but for the step.
     fn at_federate(&mut self, federate: usize, event: Event, step: Step) -> Result<Outcome, Memory>
+        ensures done { IfOk result (λ outcome. record { world = self.new; outcome = outcome }
+            ≡ listed step (at_node H.core M.core self.old (NodeIds.Federate federate) event)) }
+        ensures unchanged { OnErr result (self.new ≡ self.old) }
+    {
+        if self.is_idle(federate, &event) {
+            self.pass(step)
+        } else {
+            self.at_busy_federate(federate, event, step)
+        }
+    }
+
+    // Whether a federate has nothing to do for an event.
+    fn is_idle(&self, federate: usize, event: &Event) -> bool
+        ensures { result ≡ true
+            → at_node H.core M.core self.now (NodeIds.Federate federate) event.now ≡ unchanged self.now }
+    {
+        match self.federate(federate) {
+            Some(station) => station.is_idle(event),
+            None => false,
+        }
+    }
+
+    // An event at a federate, which may say something.
+    fn at_busy_federate(
+        &mut self,
+        federate: usize,
+        event: Event,
+        step: Step,
+    ) -> Result<Outcome, Memory>
         ensures done { IfOk result (λ outcome. record { world = self.new; outcome = outcome }
             ≡ listed step (at_node H.core M.core self.old (NodeIds.Federate federate) event)) }
         ensures unchanged { OnErr result (self.new ≡ self.old) }
