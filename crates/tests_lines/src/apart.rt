@@ -145,9 +145,16 @@ fn all_of<'f>(
 ) -> Option<Vec<Desk<Federate<'f>>>> {
     let mut desks = Vec::new(alloc);
     for end in ends {
-        desks.push(end?).ok()?;
+        add_desk(&mut desks, end)?;
     }
     Some(desks)
+}
+
+fn add_desk<'f>(
+    desks: &mut Vec<Desk<Federate<'f>>>,
+    end: Option<Desk<Federate<'f>>>,
+) -> Option<()> {
+    desks.push(end?).ok()
 }
 
 /// The desks after each node of a federation has run by itself, where federates are connected so, and their connections

@@ -10,8 +10,8 @@ use std::net::{Net, SocketAddr, TcpListener, TcpStream};
 use std::sync::Wait;
 use tests_samples::Federation;
 use wires::{
-    Endpoint, FederateLines, FederationLines, Gathered, NetRuntime, NoAcceptor, Runtime, Terms,
-    channels, run,
+    Endpoint, FederateLines, FederationLines, Gathered, NetRuntime, NoAcceptor, Nodes as Started,
+    Runtime, Terms, channels, run,
 };
 use wires_transports::tcp::connection;
 use wires_transports::{
@@ -218,14 +218,32 @@ fn ran<
     setting: Setting<'_, G>,
     pairing: &L,
 ) -> Option<Gathered<Coordinator<'f>, Federate<'f>>> {
+    let endings = Endings::new(alloc, federation.plan().federate_count())?;
+    ran_with(rt, alloc, federation, setting, pairing, &endings)
+}
+
+// The same with these ends.
+fn ran_with<
+    'f,
+    R: Runtime,
+    G: Gate + Sync,
+    T: Transport + Send,
+    C: Cut + Send + Sync,
+    L: Pairing<T, C> + Sync,
+>(
+    rt: &R,
+    alloc: Global,
+    federation: &'f Federation,
+    setting: Setting<'_, G>,
+    pairing: &L,
+    endings: &Endings,
+) -> Option<Gathered<Coordinator<'f>, Federate<'f>>> {
     let Setting { nodes, gate, terms } = setting;
-    let count = federation.plan().federate_count();
-    let endings = Endings::new(alloc, count)?;
-    let (senders, arrivals) = channels(alloc, count).ok()?;
-    let lines = lines(alloc, senders, pairing, &endings, terms)?;
+    let (senders, arrivals) = channels(alloc, federation.plan().federate_count()).ok()?;
+    let lines = lines(alloc, senders, pairing, endings, terms)?;
     match nodes {
         Nodes::Together => run_together(rt, alloc, federation, lines, arrivals, gate, terms),
-        Nodes::Apart => run_apart(rt, alloc, federation, lines, arrivals, gate, &endings),
+        Nodes::Apart => run_apart(rt, alloc, federation, lines, arrivals, gate, endings),
     }
 }
 
@@ -247,11 +265,31 @@ fn run_together<
     gate: &G,
     terms: Terms,
 ) -> Option<Gathered<Coordinator<'f>, Federate<'f>>> {
+    let federates = endpoints(alloc, lines, arrivals)?;
+    let nodes = nodes_of(alloc, federation)?;
+    gathered(rt, alloc, nodes, federates, gate, terms)
+}
+
+// The desks of these nodes after that.
+fn gathered<
+    'f,
+    R: Runtime,
+    G: Gate + Sync,
+    D: Dial<T, C> + Drop + Send,
+    T: Transport + Send,
+    C: Cut + Send + Sync,
+>(
+    rt: &R,
+    alloc: Global,
+    nodes: Started<Coordinator<'f>, Federate<'f>>,
+    federates: Vec<Endpoint<D, T, C>>,
+    gate: &G,
+    terms: Terms,
+) -> Option<Gathered<Coordinator<'f>, Federate<'f>>> {
     let lines = FederationLines {
-        federates: endpoints(alloc, lines, arrivals)?,
+        federates,
         acceptor: NoAcceptor,
     };
-    let nodes = nodes_of(alloc, federation)?;
     let left = run(rt, alloc, &nodes, lines, gate, terms).ok()?;
     nodes.gather(alloc, left).ok()
 }
@@ -264,14 +302,21 @@ fn endpoints<D: Drop, T: Drop, C: Drop>(
 ) -> Option<Vec<Endpoint<D, T, C>>> {
     let mut endpoints = Vec::new(alloc);
     for (line, arrivals) in lines.into_iter().zip(arrivals) {
-        endpoints
-            .push(Endpoint {
-                dial: line.dial,
-                arrivals,
-            })
-            .ok()?;
+        add_endpoint(&mut endpoints, line, arrivals)?;
     }
     Some(endpoints)
+}
+
+fn add_endpoint<D: Drop, T: Drop, C: Drop>(
+    endpoints: &mut Vec<Endpoint<D, T, C>>,
+    line: FederateLines<D>,
+    arrivals: Receiver<Accepted<T, C>>,
+) -> Option<()> {
+    let endpoint = Endpoint {
+        dial: line.dial,
+        arrivals,
+    };
+    endpoints.push(endpoint).ok()
 }
 
 /// The desks after a run over memory; None where there are none.

@@ -1,17 +1,18 @@
 //! What a run came to, as most tests look at it.
 use crate::journals::events_of;
 use crate::lines::{Setting, ran_in_memory, ran_over_tcp};
-use crate::nodes::{is_finished, nodes_of};
+use crate::nodes::nodes_of;
 use crate::reported::{reports, told_of};
 use crate::tap::Tap;
 use coordinator::Coordinator;
+use desk::Desk;
 use federate::Federate;
-use node::Event;
+use node::{Event, Node};
 use reactor::Rows;
 use recorder::Report;
 use std::alloc::Global;
-use tests_samples::{Federation, are_rows_of, loaded, undivided};
-use wires::{Gathered, NetRuntime, Runtime, Terms, run_over_tcp};
+use tests_samples::{Federation, are_rows_of, undivided, with_loaded};
+use wires::{Gathered, NetRuntime, Nodes, Runtime, Terms, run_over_tcp};
 use wires_workers::{Gate, NoGate};
 
 /// What a run came to.
@@ -67,22 +68,60 @@ fn journals_of(alloc: Global, reports: &[Report]) -> Option<Vec<Vec<Event>>> {
     Some(journals)
 }
 
-// What it came to by the desks that were gathered; None where there is no memory.
+// What it came to by what the nodes say; None where there is no memory.
+fn outcome_by(
+    alloc: Global,
+    federation: &Federation,
+    coordinator: &Desk<Coordinator<'_>>,
+    reports: &[Report],
+) -> Option<Outcome> {
+    let is_finished = coordinator.station().node().finished();
+    let is_right = is_finished
+        && have_all_rows(alloc, federation, reports)
+        && told_of(alloc, federation, reports, coordinator.journal()).is_none();
+    Some(Outcome {
+        is_finished,
+        is_right,
+        journals: journals_of(alloc, reports)?,
+    })
+}
+
+// The same by the desks that were gathered.
 fn outcome_of(
     alloc: Global,
     federation: &Federation,
     gathered: Gathered<Coordinator<'_>, Federate<'_>>,
 ) -> Option<Outcome> {
-    let is_finished = is_finished(&gathered);
-    let reports = reports(alloc, gathered.federates)?;
-    let is_right = is_finished
-        && have_all_rows(alloc, federation, &reports)
-        && told_of(alloc, federation, &reports, gathered.coordinator.journal()).is_none();
-    Some(Outcome {
-        is_finished,
-        is_right,
-        journals: journals_of(alloc, &reports)?,
-    })
+    let Gathered {
+        coordinator,
+        federates,
+    } = gathered;
+    let reports = reports(alloc, federates)?;
+    outcome_by(alloc, federation, &coordinator, &reports)
+}
+
+// What a run over memory came to of a federation that is lent.
+fn outcome_lent<R: Runtime, G: Gate + Sync, P: Tap + Sync>(
+    rt: &R,
+    alloc: Global,
+    federation: &Federation,
+    setting: Setting<'_, G>,
+    tap: &P,
+) -> Option<Outcome> {
+    let gathered = ran_in_memory(rt, alloc, federation, setting, tap)?;
+    outcome_of(alloc, federation, gathered)
+}
+
+// The same over TCP.
+fn outcome_lent_over_tcp<R: NetRuntime, G: Gate + Sync, P: Tap + Sync>(
+    rt: &R,
+    alloc: Global,
+    federation: &Federation,
+    setting: Setting<'_, G>,
+    tap: &P,
+) -> Option<Outcome> {
+    let gathered = ran_over_tcp(rt, alloc, federation, setting, tap)?;
+    outcome_of(alloc, federation, gathered)
 }
 
 /// What a run over memory came to; None where its nodes say nothing.
@@ -93,9 +132,9 @@ pub fn outcome_in_memory<R: Runtime, G: Gate + Sync, P: Tap + Sync>(
     setting: Setting<'_, G>,
     tap: &P,
 ) -> Option<Outcome> {
-    let federation = loaded(alloc, federation, "")?;
-    let gathered = ran_in_memory(rt, alloc, &federation, setting, tap)?;
-    outcome_of(alloc, &federation, gathered)
+    with_loaded(alloc, federation, "", |federation| {
+        outcome_lent(rt, alloc, federation, setting, tap)
+    })
 }
 
 /// The same over TCP.
@@ -106,9 +145,9 @@ pub fn outcome_over_tcp<R: NetRuntime, G: Gate + Sync, P: Tap + Sync>(
     setting: Setting<'_, G>,
     tap: &P,
 ) -> Option<Outcome> {
-    let federation = loaded(alloc, federation, "")?;
-    let gathered = ran_over_tcp(rt, alloc, &federation, setting, tap)?;
-    outcome_of(alloc, &federation, gathered)
+    with_loaded(alloc, federation, "", |federation| {
+        outcome_lent_over_tcp(rt, alloc, federation, setting, tap)
+    })
 }
 
 /// What a run came to that makes its connections over TCP itself, of a federation with its inputs.
@@ -119,8 +158,33 @@ pub fn outcome_of_run<R: NetRuntime>(
     inputs: &str,
     terms: Terms,
 ) -> Option<Outcome> {
-    let federation = loaded(alloc, federation, inputs)?;
-    let nodes = nodes_of(alloc, &federation)?;
+    with_loaded(alloc, federation, inputs, |federation| {
+        outcome_of_run_lent(rt, alloc, federation, terms)
+    })
+}
+
+// The same of a federation that is lent.
+fn outcome_of_run_lent<R: NetRuntime>(
+    rt: &R,
+    alloc: Global,
+    federation: &Federation,
+    terms: Terms,
+) -> Option<Outcome> {
+    let nodes = nodes_of(alloc, federation)?;
+    outcome_of(
+        alloc,
+        federation,
+        gathered_over_tcp(rt, alloc, nodes, terms)?,
+    )
+}
+
+// The desks of these nodes after such a run.
+fn gathered_over_tcp<'f, R: NetRuntime>(
+    rt: &R,
+    alloc: Global,
+    nodes: Nodes<Coordinator<'f>, Federate<'f>>,
+    terms: Terms,
+) -> Option<Gathered<Coordinator<'f>, Federate<'f>>> {
     let left = run_over_tcp(rt, alloc, &nodes, &NoGate, terms).ok()?;
-    outcome_of(alloc, &federation, nodes.gather(alloc, left).ok()?)
+    nodes.gather(alloc, left).ok()
 }
