@@ -152,6 +152,10 @@ more_branches_read names names' operands operands' free next lines mid new first
     (subst (λ next. ReadsBranches names operands next mid inner_first inner_second new) f (branches_moved names names' operands operands' next mid inner_first inner_second new n o b.1))
     (subst (λ asked. IsIf second asked inner_first inner_second End) b.0 begins)
 
+pub if_named : (block block' : Block) (condition : Formula) (first : Block) (second : Option Block) (rest rest' : Block) → block' ≡ block → rest ≡ rest' → IsIf block condition first second rest → IsIf block' condition first second rest'
+if_named block block' condition first second rest rest' b r h =
+    subst (λ block. IsIf block condition first second rest') (sym b) (subst (λ rest. IsIf block condition first second rest) r h)
+
 -- the names that were there before are there again
 pub names_again : (old pushed later new : List NamedOperand) (x : NamedOperand) (n : ℕ) → n ≡ length old → pushed ≡ old ++ x ∷ [] → later ≡ pushed → new ≡ take n later → new ≡ old
 names_again old pushed later new x n count push same forget =

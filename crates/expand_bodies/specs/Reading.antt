@@ -1,8 +1,9 @@
 -- Which body lines spell.
 use Rattle.std.specs.Prelude.{◌≡◌, ℕ, ◌+◌, ◌<◌, ◌^◌, ◌⊎◌, not, List, [], ◌∷◌, ◌++◌, length, map, Option, None}
-use Rattle.std.specs.Prelude.{Some, codes, IsTrue}
+use Rattle.std.specs.Prelude.{Some, codes, IsTrue, Box}
 use Rattle.std.specs.List.{list_all}
 use Rattle.std.specs.Borrow.{Bor}
+use Rattle.std.specs.declared.alloc.Global.{Global}
 use Rattle.tag.specs.LogicalTime.{delay_of}
 use Rattle.tag_text.specs.Duration.{Spells}
 use Rattle.plan_names.specs.Naming.{place_of}
@@ -113,6 +114,11 @@ IsIf (If' place c p first' q rest') condition first None rest = (c ≡ condition
 IsIf (IfElse' place c p first' q second' r rest') condition first (Some second) rest =
     (c ≡ condition) × (first' ≡ first) × (second' ≡ second) × (rest' ≡ rest)
 IsIf block condition first second rest = ⊥
+
+-- the other branch, if there is any
+abbrev pub unboxed : Option (Box Block Global) → Option Block
+unboxed None = None
+unboxed (Some block) = Some block.value
 
 mutual
   -- Lines from the front, where these names stand by themselves and states from this one on are free: a block, what

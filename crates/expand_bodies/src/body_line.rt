@@ -62,27 +62,42 @@ fn word_len(text: &[u8]) -> usize
 
 fn is_statement(alloc: Global, names: &BodyNames, tokens: &[&[u8]]) -> Result<bool, AllocError> {
     match tokens {
-        [b"schedule", action, duration, value] => Ok(
-            names.actions.place_of(action).is_some()
-                && is_duration(alloc, duration, b"")?
-                && is_operand(names, value),
-        ),
-        [b"schedule", action, number, unit, value] => Ok(
-            names.actions.place_of(action).is_some()
-                && is_duration(alloc, number, unit)?
-                && is_operand(names, value),
-        ),
-        [target, b"=", value] => {
-            Ok((is_state(names, target) || is_output(names, target)) && is_operand(names, value))
+        [b"schedule", action, duration, value] => {
+            is_schedule(alloc, names, action, duration, b"", value)
         }
-        [target, b"=", left, operator, right] => Ok(
-            is_state(names, target)
-                && is_operand(names, left)
-                && is_operator(operator)
-                && is_operand(names, right),
-        ),
+        [b"schedule", action, number, unit, value] => {
+            is_schedule(alloc, names, action, number, unit, value)
+        }
+        [target, b"=", value] => Ok(is_target(names, target) && is_operand(names, value)),
+        [target, b"=", left, operator, right] => {
+            Ok(is_state(names, target) && is_operation(names, left, operator, right))
+        }
         _ => Ok(false),
     }
+}
+
+// What is scheduled is an action, after a duration in one token or in two.
+fn is_schedule(
+    alloc: Global,
+    names: &BodyNames,
+    action: &[u8],
+    number: &[u8],
+    unit: &[u8],
+    value: &[u8],
+) -> Result<bool, AllocError> {
+    Ok(
+        names.actions.place_of(action).is_some()
+            && is_duration(alloc, number, unit)?
+            && is_operand(names, value),
+    )
+}
+
+fn is_target(names: &BodyNames, token: &[u8]) -> bool {
+    is_state(names, token) || is_output(names, token)
+}
+
+fn is_operation(names: &BodyNames, left: &[u8], operator: &[u8], right: &[u8]) -> bool {
+    is_operand(names, left) && is_operator(operator) && is_operand(names, right)
 }
 
 fn is_state(names: &BodyNames, token: &[u8]) -> bool {

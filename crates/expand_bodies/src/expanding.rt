@@ -32,18 +32,30 @@ pub fn expand_body(
     ensures { IfOk result (λ body. IsExpanded names.now lines.now body.lines) }
 {
     match copied(alloc, names, lines) {
-        Ok(Some(lines)) => return Ok(ExpandedBody { lines, scratch: 0 }),
-        Ok(None) => {}
-        Err(kind) => return Err(kind.at(0)),
+        Ok(Some(lines)) => Ok(ExpandedBody { lines, scratch: 0 }),
+        Ok(None) => expanded(alloc, names, lines),
+        Err(kind) => Err(kind.at(0)),
     }
-    let own = names.states.as_slice().len();
+}
+
+// The lines of the block that the body is read as.
+fn expanded(alloc: Global, names: &BodyNames, lines: &[Text]) -> Result<ExpandedBody, BodyFault>
+    ensures { IfOk result (λ body. IsExpanded names.now lines.now body.lines) }
+{
     let block = read_body(alloc, names, lines)?;
     let mut added = Vec::new(alloc);
-    add_lines(&mut added, &block, own, None)?;
-    match printed(alloc, names, added.as_slice()) {
-        Ok(lines) => Ok(ExpandedBody {
-            lines,
-            scratch: states_used(own, added.as_slice()).saturating_sub(own),
+    add_lines(&mut added, &block, names.states.as_slice().len(), None)?;
+    printed_body(alloc, names, added.as_slice())
+}
+
+fn printed_body(alloc: Global, names: &BodyNames, lines: &[Line]) -> Result<ExpandedBody, BodyFault>
+    ensures { IfOk result (λ body. ArePrinted names.now lines.now body.lines) }
+{
+    let own = names.states.as_slice().len();
+    match printed(alloc, names, lines) {
+        Ok(texts) => Ok(ExpandedBody {
+            lines: texts,
+            scratch: states_used(own, lines).saturating_sub(own),
         }),
         Err(kind) => Err(kind.at(0)),
     }

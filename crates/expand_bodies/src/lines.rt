@@ -1,6 +1,6 @@
 //! Bodies as body lines of one operator each.
 
-ghost use Rattle.std.specs.Prelude.{◌≡◌, ◌<◌, ◌++◌, ◌∷◌, [], None, IfOk, OnOk};
+ghost use Rattle.std.specs.Prelude.{◌≡◌, ◌<◌, ◌++◌, ◌∷◌, [], None, Ok, IfOk, OnOk};
 ghost use Rattle.reactor_program.specs.declared.program.Statement.TheVariants.{Assign};
 ghost use Rattle.reactor_program.specs.declared.limits.TheConstants.{MOST_STATES};
 ghost use Rattle.expand_expressions.specs.Working.{kept, worked_out};
@@ -25,46 +25,47 @@ pub fn add_lines(
     match block {
         Block::End => Ok(()),
         Block::Do(place, target, value, rest) => {
-            let condition = guard_of(around);
-            at(*place, add_deed(lines, condition, *target, value, free))?;
-            refuse_too_many(lines.as_slice(), *place)?;
+            let answer = add_deed(lines, guard_of(around), *target, value, free);
+            added(*place, answer, lines.as_slice())?;
             add_lines(lines, rest, free, around)
         }
         Block::When(place, condition, target, value, rest) => {
             let asked = at(*place, add_condition(lines, condition, free, around))?;
             let condition = Some(asked.operand);
-            at(
+            added(
                 *place,
                 add_deed(lines, condition, *target, value, asked.free),
+                lines.as_slice(),
             )?;
-            refuse_too_many(lines.as_slice(), *place)?;
             add_lines(lines, rest, free, around)
         }
         Block::Let(place, value, rest) => {
-            at(*place, add_value(lines, value, free))?;
-            refuse_too_many(lines.as_slice(), *place)?;
+            added(*place, add_value(lines, value, free), lines.as_slice())?;
             add_lines(lines, rest, free + 1, around)
         }
         Block::If(place, condition, then_block, rest) => {
-            at(*place, add_guard(lines, condition, free, around))?;
-            refuse_too_many(lines.as_slice(), *place)?;
+            let answer = add_guard(lines, condition, free, around);
+            added(*place, answer, lines.as_slice())?;
             add_lines(lines, then_block, free + 1, Some(free))?;
             add_lines(lines, rest, free, around)
         }
         Block::IfElse(place, condition, then_block, else_block, rest) => {
-            at(*place, add_guard(lines, condition, free, around))?;
-            refuse_too_many(lines.as_slice(), *place)?;
+            let answer = add_guard(lines, condition, free, around);
+            added(*place, answer, lines.as_slice())?;
             add_lines(lines, then_block, free + 1, Some(free))?;
-            at(*place, put(lines, turned_guard(free, around)))?;
-            refuse_too_many(lines.as_slice(), *place)?;
+            let answer = put(lines, turned_guard(free, around));
+            added(*place, answer, lines.as_slice())?;
             add_lines(lines, else_block, free + 1, Some(free))?;
             add_lines(lines, rest, free, around)
         }
     }
 }
 
-// A reaction has so many lines at most.
-fn refuse_too_many(lines: &[Line], place: usize) -> Result<(), BodyFault> {
+// What was answered for a line whose lines were added. A reaction has so many at most.
+fn added(place: usize, answer: Result<(), ExpressionFault>, lines: &[Line]) -> Result<(), BodyFault>
+    ensures { OnOk result (answer ≡ Ok tt) }
+{
+    at(place, answer)?;
     if lines.len() > MOST_LINES {
         return Err(BodyFaultKind::TooManyLines.at(place));
     }

@@ -15,7 +15,7 @@ ghost use Rattle.expand_bodies.specs.declared.block.Block.TheVariants.{End};
 ghost use Rattle.expand_bodies.specs.declared.reading.Ending.TheVariants as ending;
 ghost use Rattle.expand_bodies.specs.Forms.{IsLetLine};
 ghost use Rattle.expand_bodies.specs.Reading.{lines_of, ReadsValue, IsPartBefore, IsDeed, IsNew, unchanging, IsIf};
-ghost use Rattle.expand_bodies.specs.Reading.{ReadsBlock, ReadsBranches, ReadsBody};
+ghost use Rattle.expand_bodies.specs.Reading.{ReadsBlock, ReadsBranches, ReadsBody, unboxed};
 
 use crate::block::{Block, Target};
 use crate::fault::{BodyFault, BodyFaultKind, placed};
@@ -38,8 +38,8 @@ pub(crate) fn read_body(
     alloc: Global,
     names: &BodyNames,
     lines: &[Text],
-) -> Result<Block, BodyFault>
-    ensures { IfOk result (λ block. ReadsBody names.now lines.now block) }
+) -> Result<Box<Block>, BodyFault>
+    ensures { IfOk result (λ block. ReadsBody names.now lines.now block.value) }
 {
     if lines.len() > MOST_BODY_LINES {
         return Err(BodyFaultKind::LongBody.at(MOST_BODY_LINES + 1));
@@ -56,8 +56,9 @@ pub(crate) fn read_body(
         place: 0,
     };
     let Part { block, ending } = reader.statements(names.states.as_slice().len())?;
+    let body = reader.boxed(block)?;
     match ending {
-        Ending::Last => Ok(block),
+        Ending::Last => Ok(body),
         _ => Err(BodyFaultKind::NoBranch.at(reader.place)),
     }
 }
@@ -84,8 +85,8 @@ struct Part<'a> {
 struct Branches {
     place: usize,
     condition: Formula,
-    first: Block,
-    second: Option<Block>,
+    first: Box<Block>,
+    second: Option<Box<Block>>,
 }
 
 /// Takes lines from the front.
@@ -194,14 +195,12 @@ impl<'a> Reader<'a> {
             × (self.new.operands.items ≡ self.old.operands.items)) }
         ensures shorter { OnOk result (length self.new.rest.now ≤ length self.old.rest.now) }
         ensures read { IfOk result (λ branches. (branches.condition ≡ condition)
-            × ReadsBranches self.old.names.now self.old.operands.items free self.old.rest.now branches.first
-            branches.second self.new.rest.now) }
+            × ReadsBranches self.old.names.now self.old.operands.items free self.old.rest.now branches.first.value
+            (unboxed branches.second) self.new.rest.now) }
     {
         let next = next_free(free, place)?;
-        let Part {
-            block: first,
-            ending,
-        } = self.statements(next)?;
+        let Part { block, ending } = self.statements(next)?;
+        let first = self.boxed(block)?;
         match ending {
             Ending::End => Ok(Branches {
                 place,
@@ -222,7 +221,8 @@ impl<'a> Reader<'a> {
                 let at = self.place;
                 let other = placed(at, self.read(other))?;
                 let inner = self.branches(at, other, next)?;
-                let second = self.joined(inner, Block::End)?;
+                let rest = self.boxed(Block::End)?;
+                let second = self.boxed(joined(inner, rest))?;
                 Ok(Branches {
                     place,
                     condition,
@@ -236,16 +236,17 @@ impl<'a> Reader<'a> {
 
     // What stands behind `else`, up to the `end` of the `if` at this place.
     #[cycle(reading)]
-    fn last_branch(&mut self, place: usize, free: usize) -> Result<Block, BodyFault>
+    fn last_branch(&mut self, place: usize, free: usize) -> Result<Box<Block>, BodyFault>
         ensures same { OnOk result ((self.new.names ≡ self.old.names)
             × (self.new.operands.items ≡ self.old.operands.items)) }
         ensures shorter { OnOk result (length self.new.rest.now ≤ length self.old.rest.now) }
         ensures read { IfOk result (λ block. ReadsBlock self.old.names.now self.old.operands.items free
-            self.old.rest.now block ending.End self.new.rest.now) }
+            self.old.rest.now block.value ending.End self.new.rest.now) }
     {
         let Part { block, ending } = self.statements(free)?;
+        let second = self.boxed(block)?;
         match ending {
-            Ending::End => Ok(block),
+            Ending::End => Ok(second),
             Ending::Last => Err(BodyFaultKind::NoEnd.at(place)),
             _ => Err(BodyFaultKind::NoBranch.at(self.place)),
         }
@@ -260,31 +261,13 @@ impl<'a> Reader<'a> {
             (λ part. length self.new.rest.now + lines_of part.ending ≤ length self.old.rest.now) }
         ensures read { IfOk result (λ part. (rest : Block)
             × ReadsBlock self.old.names.now self.old.operands.items free self.old.rest.now rest part.ending
-            self.new.rest.now × IsIf part.block branches.condition branches.first branches.second rest) }
+            self.new.rest.now
+            × IsIf part.block branches.condition branches.first.value (unboxed branches.second) rest) }
     {
         let Part { block, ending } = self.statements(free)?;
-        let block = self.joined(branches, block)?;
+        let rest = self.boxed(block)?;
+        let block = joined(branches, rest);
         Ok(Part { block, ending })
-    }
-
-    fn joined(&self, branches: Branches, rest: Block) -> Result<Block, BodyFault>
-        ensures { IfOk result (λ block. IsIf block branches.condition branches.first branches.second rest) }
-    {
-        let Branches {
-            place,
-            condition,
-            first,
-            second,
-        } = branches;
-        let first = self.boxed(first)?;
-        let rest = self.boxed(rest)?;
-        match second {
-            Some(second) => {
-                let second = self.boxed(second)?;
-                Ok(Block::IfElse(place, condition, first, second, rest))
-            }
-            None => Ok(Block::If(place, condition, first, rest)),
-        }
     }
 
     fn boxed(&self, block: Block) -> Result<Box<Block>, BodyFault>
@@ -407,6 +390,21 @@ impl<'a> Reader<'a> {
             Ok(name) => Ok(Text::new(String::from_str(self.alloc, name)?)),
             Err(_) => Err(BodyFaultKind::NoForm),
         }
+    }
+}
+
+fn joined(branches: Branches, rest: Box<Block>) -> Block
+    ensures { IsIf result branches.condition branches.first.value (unboxed branches.second) rest.value }
+{
+    let Branches {
+        place,
+        condition,
+        first,
+        second,
+    } = branches;
+    match second {
+        Some(second) => Block::IfElse(place, condition, first, second, rest),
+        None => Block::If(place, condition, first, rest),
     }
 }
 

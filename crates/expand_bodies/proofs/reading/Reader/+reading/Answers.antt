@@ -1,10 +1,12 @@
-use Rattle.std.proofs.Common.{rules, ◌≡◌, ℕ, List, ◌∷◌, codes, length, refl, sym, ap, ◌∙◌, subst}
+use Rattle.std.proofs.Common.{rules, ◌≡◌, ℕ, List, ◌∷◌, codes, length, refl, sym, ap, ◌∙◌}
 use Rattle.std.specs.Borrow.{Bor}
 use Rattle.expand_bodies.specs.declared.names.BodyNames.{BodyNames}
 use Rattle.expand_bodies.specs.Forms.{IsWordBefore, IsAlone, IsLetLine, IsWhenLine, IsStatement}
-use Rattle.expand_bodies.specs.Reading.{IsIf, ReadsBlock}
+use Rattle.expand_bodies.specs.Reading.{IsIf, ReadsBlock, unboxed}
 use Rattle.expand_bodies.specs.declared.block.Block.{Block}
-use Rattle.expand_bodies.proofs.Read.{ended_read, elif_read, else_read, end_read, statement_read, guarded_read, let_read, branching_read, known_let_read, state_let_read, one_branch_read, two_branches_read, more_branches_read, names_again, value_good, deed_good, name_good, part_read, new_moved_to, as_named}
+use Rattle.expand_bodies.specs.declared.block.Block.TheVariants.{End}
+use Rattle.expand_bodies.specs.declared.reading.Ending.TheVariants as ending
+use Rattle.expand_bodies.proofs.Read.{ended_read, elif_read, else_read, end_read, statement_read, guarded_read, let_read, branching_read, known_let_read, state_let_read, one_branch_read, two_branches_read, more_branches_read, if_named, names_again, value_good, deed_good, name_good, part_read, new_moved_to, as_named}
 use Rattle.expand_bodies.proofs.reading.Reader.+reading.Goals as goal
 
 pub statements-returns-in_default-clause-read : goal.statements-returns-in_default-clause-read
@@ -49,10 +51,10 @@ statements-returns-in_ok-branches-in-Ok-If-clause-read t c =
     let asked = value_good c.take.new.self.operands.items c.take.new.self.names.now.readable c.in-Ok-If.condition.now c.read.result c.in_ok-condition-in-Ok-If.condition c.in_ok-condition-in-Ok-If.ensures c.read.ensures in
     let b = c.in_ok-branches-in-Ok-If.branches in
     part_read c.args.self.now.names.now c.args.self.now.operands.items c.args.free c.args.self.now.rest.now c.followed.new.self.rest.now
-    (λ block ends. (rest : Block) × ReadsBlock c.branches.new.self.names.now c.branches.new.self.operands.items c.args.free c.branches.new.self.rest.now rest ends c.followed.new.self.rest.now × IsIf block b.condition b.first b.second rest)
+    (λ block ends. (rest : Block) × ReadsBlock c.branches.new.self.names.now c.branches.new.self.operands.items c.args.free c.branches.new.self.rest.now rest ends c.followed.new.self.rest.now × IsIf block b.condition b.first.value (unboxed b.second) rest)
     c.followed.result c.followed.ensures.read
     (λ block ends h. branching_read _ c.take.new.self.names.now c.branches.new.self.names.now _ c.take.new.self.operands.items c.branches.new.self.operands.items _ _ c.take.new.self.rest.now c.branches.new.self.rest.now _ c.in-Some.text.now c.as_bytes.result.now c.in-Ok-If.condition.now
-    c.in_ok-condition-in-Ok-If.condition b.condition b.first b.second block ends names operands names2 c.in_ok-branches-in-Ok-If.ensures.same.1 c.in-Some.ensures.taken same form asked c.in_ok-branches-in-Ok-If.ensures.read h)
+    c.in_ok-condition-in-Ok-If.condition b.condition b.first.value (unboxed b.second) block ends names operands names2 c.in_ok-branches-in-Ok-If.ensures.same.1 c.in-Some.ensures.taken same form asked c.in_ok-branches-in-Ok-If.ensures.read h)
 
 pub statements-returns-in_ok-rest-in-Ok-When-clause-read : goal.statements-returns-in_ok-rest-in-Ok-When-clause-read
 statements-returns-in_ok-rest-in-Ok-When-clause-read t c =
@@ -107,29 +109,35 @@ bind-returns-clause-read t c = λ line is.
     c.in_ok-push_name-2.ensures.added c.in_ok-next.ensures named value (sym c.unchanging.ensures ∙ c.in_default.is) (as_named _ _ _ _ _ c.in_ok-block.field-0.block _ c.in_ok-block.field-0.ending _ c.in_ok-block.ensures.read (cc) (cc)) (refl, (cc c.in_ok-rest.ensures)) line is
 
 pub branches-returns-in-End-clause-read : goal.branches-returns-in-End-clause-read
-branches-returns-in-End-clause-read t c = (refl, one_branch_read _ _ _ c.in_ok-next.next _ _ _ c.in_ok-first.field-0.ending c.in_ok-next.ensures c.in-End.is (as_named _ _ _ _ _ c.in_ok-first.field-0.block _ c.in_ok-first.field-0.ending _ c.in_ok-first.ensures.read (cc) (cc)))
+branches-returns-in-End-clause-read t c =
+    let read = as_named _ _ _ _ _ c.in_ok-block.field-0.block c.in_ok-first.first.value c.in_ok-block.field-0.ending _ c.in_ok-block.ensures.read (cc c.in_ok-first.ensures) (cc) in
+    (refl, one_branch_read _ _ _ c.in_ok-next.next _ _ _ c.in_ok-block.field-0.ending c.in_ok-next.ensures c.in-End.is read)
 
 pub branches-returns-in_ok-second-in-Else-clause-read : goal.branches-returns-in_ok-second-in-Else-clause-read
 branches-returns-in_ok-second-in-Else-clause-read t c =
-    let names : c.statements.new.self.names.now ≡ c.args.self.now.names.now = ap (λ (names : Bor BodyNames). names.now) c.in_ok-first.ensures.same.0 in (
+    let names : c.statements.new.self.names.now ≡ c.args.self.now.names.now = ap (λ (names : Bor BodyNames). names.now) c.in_ok-block.ensures.same.0 in
+    let read = as_named _ _ _ _ _ c.in_ok-block.field-0.block c.in_ok-first.first.value c.in_ok-block.field-0.ending _ c.in_ok-block.ensures.read (cc c.in_ok-first.ensures) (cc) in (
       refl,
-      two_branches_read _ c.statements.new.self.names.now _ c.statements.new.self.operands.items _ c.in_ok-next.next _ c.statements.new.self.rest.now _ _ _ c.in_ok-first.field-0.ending names c.in_ok-first.ensures.same.1 c.in_ok-next.ensures c.in-Else.is (as_named _ _ _ _ _ c.in_ok-first.field-0.block _ c.in_ok-first.field-0.ending _ c.in_ok-first.ensures.read (cc) (cc))
-          c.in_ok-second-in-Else.ensures.read,
+      two_branches_read _ c.statements.new.self.names.now _ c.statements.new.self.operands.items _ c.in_ok-next.next _ c.statements.new.self.rest.now _ _ _ c.in_ok-block.field-0.ending names c.in_ok-block.ensures.same.1 c.in_ok-next.ensures c.in-Else.is read c.in_ok-second-in-Else.ensures.read,
     )
 
 pub branches-returns-in_ok-second-in-Elif-clause-read : goal.branches-returns-in_ok-second-in-Elif-clause-read
 branches-returns-in_ok-second-in-Elif-clause-read t c =
-    let names : c.statements.new.self.names.now ≡ c.args.self.now.names.now = ap (λ (names : Bor BodyNames). names.now) c.in_ok-first.ensures.same.0 in
+    let names : c.statements.new.self.names.now ≡ c.args.self.now.names.now = ap (λ (names : Bor BodyNames). names.now) c.in_ok-block.ensures.same.0 in
+    let inner = c.in_ok-inner-in-Elif.inner in
+    let begins = if_named c.joined.result c.in_ok-second-in-Elif.second.value inner.condition inner.first.value (unboxed inner.second) c.in_ok-rest-in-Elif.rest.value End (cc c.in_ok-second-in-Elif.ensures) (cc c.in_ok-rest-in-Elif.ensures) c.joined.ensures in
     let other = value_good c.statements.new.self.operands.items c.statements.new.self.names.now.readable c.in-Elif.other.now c.read.result c.in_ok-other-in-Elif.other c.in_ok-other-in-Elif.ensures c.read.ensures in
-    let inner = c.in_ok-inner-in-Elif.inner in (
+    let read = as_named _ _ _ _ _ c.in_ok-block.field-0.block c.in_ok-first.first.value c.in_ok-block.field-0.ending _ c.in_ok-block.ensures.read (cc c.in_ok-first.ensures) (cc) in (
       refl,
-      more_branches_read _ c.statements.new.self.names.now _ c.statements.new.self.operands.items _ c.in_ok-next.next _ c.statements.new.self.rest.now _ _ c.in_ok-first.field-0.ending c.in-Elif.other c.in_ok-other-in-Elif.other inner.condition inner.first inner.second _ names
-          c.in_ok-first.ensures.same.1 c.in_ok-next.ensures c.in-Elif.is (as_named _ _ _ _ _ c.in_ok-first.field-0.block _ c.in_ok-first.field-0.ending _ c.in_ok-first.ensures.read (cc) (cc)) other c.in_ok-inner-in-Elif.ensures.read c.in_ok-second-in-Elif.ensures,
+      more_branches_read _ c.statements.new.self.names.now _ c.statements.new.self.operands.items _ c.in_ok-next.next _ c.statements.new.self.rest.now _ _ c.in_ok-block.field-0.ending c.in-Elif.other c.in_ok-other-in-Elif.other inner.condition inner.first.value (unboxed inner.second) _ names
+          c.in_ok-block.ensures.same.1 c.in_ok-next.ensures c.in-Elif.is read other c.in_ok-inner-in-Elif.ensures.read begins,
     )
 
 pub followed-returns-clause-read : goal.followed-returns-clause-read
-followed-returns-clause-read t c = (c.in_ok-block.block, (as_named _ _ _ _ _ c.in_ok-block.field-0.block _ c.in_ok-block.field-0.ending _ c.in_ok-block.ensures.read (cc) (cc)), search rules)
+followed-returns-clause-read t c =
+    let read = as_named _ _ _ _ _ c.in_ok-block.field-0.block c.in_ok-rest.rest.value c.in_ok-block.field-0.ending _ c.in_ok-block.ensures.read (cc c.in_ok-rest.ensures) (cc) in
+    (c.in_ok-rest.rest.value, read, c.joined-block.ensures)
 
 pub last_branch-returns-in-End-clause-read : goal.last_branch-returns-in-End-clause-read
 last_branch-returns-in-End-clause-read t c =
-    subst (λ ends. ReadsBlock c.args.self.now.names.now c.args.self.now.operands.items c.args.free c.args.self.now.rest.now c.in_ok-block.field-0.block ends c.statements.new.self.rest.now) c.in-End.is c.in_ok-block.ensures.read
+    as_named _ _ _ _ _ c.in_ok-block.field-0.block c.in_ok-second.second.value c.in_ok-block.field-0.ending ending.End c.in_ok-block.ensures.read (cc c.in_ok-second.ensures) (sym c.in-End.is)
