@@ -2,7 +2,7 @@
 use crate::reports::{Flaw, ReportFile, changed, report_file, said};
 use std::alloc::Global;
 use std::net::{Net, TcpListener, TcpStream};
-use tests_outcomes::{ANY, Answer, Outcome, WrongAnswer, answered_over, outcome_of};
+use tests_outcomes::{ANY, Answer, WrongAnswer, answered_over, outcome_of};
 use tests_samples::worked_rows::{
     CARRIED_ROWS, CHAIN_ROWS, COUNTER_ROWS, LOOP_ROWS, REPLACED_ROWS,
 };
@@ -379,22 +379,48 @@ fn prints_the_rows_that_report_files_prove(rt: HostRuntime) {
     assert_eq!(rt; first_wrong(&rt, AUDITS), None);
 }
 
-/// How many files that differ from honest ones in a byte were refused, and how many gave all rows and no others.
-#[derive(Clone, Copy, Debug, PartialEq, Eq)]
-struct Judged {
-    refused: usize,
-    harmless: usize,
-    wrong: usize,
+/// How many audits of files, one of which differs from an honest one, were refused, and how many gave all rows and no
+/// others; and how many anything else.
+#[derive(Drop)]
+pub struct Judged {
+    pub refused: usize,
+    pub harmless: usize,
+    pub wrong: usize,
 }
 
 impl Judged {
-    fn judge(&mut self, outcome: &Outcome) {
+    pub fn new() -> Judged {
+        Judged {
+            refused: 0,
+            harmless: 0,
+            wrong: 0,
+        }
+    }
+
+    /// Judges what an audit says of the counter's three files, in the place of one of which this stands; None where
+    /// there is no memory.
+    pub fn judge<'x, R: Machine + Net<Stream = TcpStream, Listener = TcpListener>>(
+        &mut self,
+        rt: &R,
+        files: &'x [Vec<u8>],
+        changed: usize,
+        other: &'x [u8],
+    ) -> Option<()> {
+        let files = [
+            ("f", COUNTER.as_bytes()),
+            ("i", "".as_bytes()),
+            ("c", file_at(files, 0, changed, other)),
+            ("0", file_at(files, 1, changed, other)),
+            ("1", file_at(files, 2, changed, other)),
+        ];
+        let outcome = outcome_of(rt, TWO, &files)?;
         let count = match outcome.texts() {
             (0, COUNTER_ROWS, "") => &mut self.harmless,
             (1 | 3, "", err) if !err.is_empty() => &mut self.refused,
             _ => &mut self.wrong,
         };
         *count = count.saturating_add(1);
+        Some(())
     }
 }
 
@@ -406,24 +432,7 @@ fn file_at<'a>(files: &'a [Vec<u8>], place: usize, changed: usize, other: &'a [u
     }
 }
 
-// What an audit says of the counter's three reports, in the place of one of which this stands.
-fn outcome_of_changed<'x, R: Machine + Net<Stream = TcpStream, Listener = TcpListener>>(
-    rt: &R,
-    files: &'x [Vec<u8>],
-    changed: usize,
-    other: &'x [u8],
-) -> Option<Outcome> {
-    let files = [
-        ("f", COUNTER.as_bytes()),
-        ("i", "".as_bytes()),
-        ("c", file_at(files, 0, changed, other)),
-        ("0", file_at(files, 1, changed, other)),
-        ("1", file_at(files, 2, changed, other)),
-    ];
-    outcome_of(rt, TWO, &files)
-}
-
-// Judges each change of a byte of one of the files.
+// Judges each change of a byte of one of the files; how many changes there are.
 fn judge_changes<R: Machine + Net<Stream = TcpStream, Listener = TcpListener>>(
     rt: &R,
     files: &[Vec<u8>],
@@ -433,7 +442,7 @@ fn judge_changes<R: Machine + Net<Stream = TcpStream, Listener = TcpListener>>(
     let file = files.get(number)?.as_slice();
     for place in 0..said(file) {
         let other = changed(rt.alloc(), file, place)?;
-        judged.judge(&outcome_of_changed(rt, files, number, &other)?);
+        judged.judge(rt, files, number, &other)?;
     }
     Some(said(file))
 }
@@ -443,11 +452,7 @@ fn all_judged<R: Machine + Net<Stream = TcpStream, Listener = TcpListener>>(
     rt: &R,
 ) -> Option<(Judged, usize)> {
     let files = report_files(rt.alloc(), COUNTER, "", HONEST)?;
-    let mut judged = Judged {
-        refused: 0,
-        harmless: 0,
-        wrong: 0,
-    };
+    let mut judged = Judged::new();
     let mut changes = 0usize;
     for number in 0..3 {
         let more = judge_changes(rt, files.as_slice(), number, &mut judged)?;

@@ -1,16 +1,17 @@
 //! What `audit` answers and prints of logs: those of the counter's nodes, beside reports, cut and changed at many bytes.
-use crate::audits::{HONEST, named, report_files};
+use crate::audits::{HONEST, Judged, named, report_files};
 use crate::reports::{Flaw, report_after};
 use fedrun_reports::RULES;
+use files_logs::written::Written;
 use files_logs::{LogHead, write_block, write_end, write_head};
 use files_reports::layout::COORDINATOR;
 use files_reports::{FileDigests, NodeReport};
 use node_journal::Journal;
 use std::alloc::Global;
 use std::net::{Net, TcpListener, TcpStream};
-use tests_outcomes::{Answer, Outcome, WrongAnswer, answered_over, outcome_of};
+use tests_outcomes::{Answer, WrongAnswer, answered_over};
 use tests_samples::worked_rows::COUNTER_ROWS;
-use tests_samples::{COUNTER, Machine, loaded};
+use tests_samples::{COUNTER, Federation, Machine, with_loaded};
 
 /// Bytes of a log's head.
 const HEAD: usize = 84;
@@ -152,22 +153,38 @@ const ANSWERS: &[Answer] = &[
 /// How many lists of words these have.
 const COUNT: usize = 17;
 
-// What came to a node of the counter.
-fn journal_after(alloc: Global, node: Option<usize>, flaw: LogFlaw) -> Option<Journal> {
-    let federation = loaded(alloc, COUNTER, "")?;
+// The log of a node of the counter.
+fn log_file(alloc: Global, node: Option<usize>, flaw: LogFlaw) -> Option<Vec<u8>> {
+    with_loaded(alloc, COUNTER, "", |counter| {
+        log_of(
+            alloc,
+            &journal_after(alloc, counter, node, flaw)?,
+            node,
+            flaw,
+        )
+    })
+}
+
+// What came to a node of this federation.
+fn journal_after(
+    alloc: Global,
+    federation: &Federation,
+    node: Option<usize>,
+    flaw: LogFlaw,
+) -> Option<Journal> {
     let flaw = if flaw == LogFlaw::Early {
         Flaw::Rounds(2)
     } else {
         Flaw::Honest
     };
-    match report_after(alloc, &federation, node, flaw)? {
+    match report_after(alloc, federation, node, flaw)? {
         NodeReport::Coordinator(journal) => Some(journal),
         NodeReport::Federate(report) => Some(report.journal),
     }
 }
 
-// The log of a node of the counter.
-fn log_file(alloc: Global, node: Option<usize>, flaw: LogFlaw) -> Option<Vec<u8>> {
+// The log of a node to which this came.
+fn log_of(alloc: Global, events: &Journal, node: Option<usize>, flaw: LogFlaw) -> Option<Vec<u8>> {
     let head = LogHead {
         files: FileDigests::new(COUNTER.as_bytes(), b""),
         who: match node {
@@ -180,26 +197,32 @@ fn log_file(alloc: Global, node: Option<usize>, flaw: LogFlaw) -> Option<Vec<u8>
             RULES
         },
     };
-    let events = journal_after(alloc, node, flaw)?;
-    let (mut bytes, sum) = blocks_of(alloc, &head, &events)?;
+    let mut bytes = Vec::new(alloc);
+    let sum = add_blocks(alloc, &mut bytes, &head, events)?;
     spoil(alloc, &mut bytes, sum, flaw)?;
     Some(bytes)
 }
 
-// A log without its end, and the sum behind it.
-fn blocks_of(alloc: Global, head: &LogHead, events: &Journal) -> Option<(Vec<u8>, u64)> {
-    let written = write_head(alloc, head).ok()?;
-    let mut bytes = written.bytes;
-    let mut sum = written.sum;
+// Writes a log but for its end, and says the sum behind it.
+fn add_blocks(alloc: Global, bytes: &mut Vec<u8>, head: &LogHead, events: &Journal) -> Option<u64> {
+    let mut sum = add(bytes, write_head(alloc, head).ok()?)?;
     for place in (0..events.len()).step_by(BLOCK) {
-        let mut some = Journal::new(alloc);
-        some.append(events, place, BLOCK).ok()?;
-        let is_last = place.saturating_add(BLOCK) >= events.len();
-        let written = write_block(alloc, sum, &some, is_last).ok()?;
-        bytes.extend_from_slice(written.bytes.as_slice()).ok()?;
-        sum = written.sum;
+        sum = add(bytes, block_at(alloc, sum, events, place)?)?;
     }
-    Some((bytes, sum))
+    Some(sum)
+}
+
+// The block of the events from this place on.
+fn block_at(alloc: Global, sum: u64, events: &Journal, place: usize) -> Option<Written> {
+    let mut some = Journal::new(alloc);
+    some.append(events, place, BLOCK).ok()?;
+    let is_last = place.saturating_add(BLOCK) >= events.len();
+    write_block(alloc, sum, &some, is_last).ok()
+}
+
+fn add(bytes: &mut Vec<u8>, written: Written) -> Option<u64> {
+    bytes.extend_from_slice(written.bytes.as_slice()).ok()?;
+    Some(written.sum)
 }
 
 // Ends the log, or makes it wrong.
@@ -258,53 +281,11 @@ fn answers_of_logs_as_of_reports(rt: HostRuntime) {
     assert_eq!(rt; audited(&rt), Some(Ok(COUNT)));
 }
 
-/// How many logs that differ from whole ones gave all rows, and how many none; and how many anything else.
-#[derive(Clone, Copy, Debug, PartialEq, Eq)]
-struct Judged {
-    rows: usize,
-    none: usize,
-    wrong: usize,
-}
-
-impl Judged {
-    fn judge(&mut self, outcome: &Outcome) {
-        let count = match outcome.texts() {
-            (0, COUNTER_ROWS, "") => &mut self.rows,
-            (1 | 3, "", err) if !err.is_empty() => &mut self.none,
-            _ => &mut self.wrong,
-        };
-        *count = count.saturating_add(1);
-    }
-}
-
-// What an audit says of the counter's logs, in the place of one of which these bytes stand.
-fn outcome_with<'x, R: Machine + Net<Stream = TcpStream, Listener = TcpListener>>(
-    rt: &R,
-    logs: &'x [Vec<u8>],
-    number: usize,
-    other: &'x [u8],
-) -> Option<Outcome> {
-    let mut bytes = [
-        logs.first()?.as_slice(),
-        logs.get(1)?.as_slice(),
-        logs.get(2)?.as_slice(),
-    ];
-    *bytes.get_mut(number)? = other;
-    let files = [
-        ("f", COUNTER.as_bytes()),
-        ("i", "".as_bytes()),
-        ("c", bytes[0]),
-        ("0", bytes[1]),
-        ("1", bytes[2]),
-    ];
-    outcome_of(rt, &["audit", "f", "i", "c", "0", "1"], &files)
-}
-
 // The counter's logs, the coordinator's first.
-fn logs_of(alloc: Global, flaw: LogFlaw) -> Option<Vec<Vec<u8>>> {
+fn ended_logs(alloc: Global) -> Option<Vec<Vec<u8>>> {
     let mut logs = Vec::new(alloc);
     for node in [None, Some(0), Some(1)] {
-        logs.push(log_file(alloc, node, flaw)?).ok()?;
+        logs.push(log_file(alloc, node, LogFlaw::Ended)?).ok()?;
     }
     Some(logs)
 }
@@ -320,11 +301,11 @@ fn judge_log<R: Machine + Net<Stream = TcpStream, Listener = TcpListener>>(
     let mut count = 0usize;
     for place in (number..log.len()).step_by(STRIDE) {
         count = count.saturating_add(1);
-        judged.judge(&outcome_with(rt, logs, number, log.get(..place)?)?);
+        judged.judge(rt, logs, number, log.get(..place)?)?;
         let mut other = Vec::from_slice(rt.alloc(), log).ok()?;
         let byte = other.get_mut(place)?;
         *byte = byte.wrapping_add(1);
-        judged.judge(&outcome_with(rt, logs, number, other.as_slice())?);
+        judged.judge(rt, logs, number, other.as_slice())?;
     }
     Some(count)
 }
@@ -333,12 +314,8 @@ fn judge_log<R: Machine + Net<Stream = TcpStream, Listener = TcpListener>>(
 fn all_judged<R: Machine + Net<Stream = TcpStream, Listener = TcpListener>>(
     rt: &R,
 ) -> Option<(Judged, usize)> {
-    let logs = logs_of(rt.alloc(), LogFlaw::Ended)?;
-    let mut judged = Judged {
-        rows: 0,
-        none: 0,
-        wrong: 0,
-    };
+    let logs = ended_logs(rt.alloc())?;
+    let mut judged = Judged::new();
     let mut count = 0usize;
     for number in 0..3 {
         count = count.saturating_add(judge_log(rt, &logs, number, &mut judged)?);
@@ -353,8 +330,8 @@ fn a_log_that_was_cut_or_changed_gives_the_rows_or_none(rt: HostRuntime) {
     let told = all_judged(&rt).map(|(judged, count)| {
         (
             judged.wrong,
-            judged.rows >= 3,
-            judged.none >= count,
+            judged.harmless >= 3,
+            judged.refused >= count,
             count >= 30,
         )
     });

@@ -38,18 +38,16 @@ impl Told {
         }
     }
 
-    fn counts(&self, status: u8) -> Counts {
-        Counts {
-            status,
-            rows: self.rows.load(Ordering::SeqCst),
-            latest: self.latest.load(Ordering::SeqCst),
-            stop: self.stop.load(Ordering::SeqCst),
-            steps: self.steps.load(Ordering::SeqCst),
-            step_counts: self.step_counts.load(Ordering::SeqCst),
-            ends: self.ends.load(Ordering::SeqCst),
-            written: self.written.load(Ordering::SeqCst),
-            written_before: self.written_before.load(Ordering::SeqCst),
-        }
+    // Whether this is what a case wants to be told.
+    fn is(&self, case: &Case) -> bool {
+        case.rows.is_met(&self.rows)
+            && case.latest.is_met(&self.latest)
+            && case.stop.is_met(&self.stop)
+            && case.steps.is_met(&self.steps)
+            && case.step_counts.is_met(&self.step_counts)
+            && case.ends.is_met(&self.ends)
+            && case.written.is_met(&self.written)
+            && case.written_before.is_met(&self.written_before)
     }
 }
 
@@ -94,130 +92,185 @@ impl Write for Counted<'_> {
     }
 }
 
-/// What was told of a command, and its status.
-#[derive(Clone, Copy, Debug, PartialEq, Eq)]
-struct Counts {
-    status: u8,
-    rows: u64,
-    latest: u64,
-    stop: u64,
-    steps: u64,
-    step_counts: u64,
-    ends: u64,
-    written: u64,
-    written_before: u64,
+/// What a number has to be.
+#[derive(Clone, Copy)]
+enum Wanted {
+    Just(u64),
+    AtLeast(u64),
+    Anything,
 }
 
-/// Words that are done over the counter, and what is told of them.
-const DONE: &[(&[&str], Counts)] = &[
-    (
-        &["whole", "f", "-", "100", "--progress"],
-        Counts {
-            status: 0,
-            rows: 6,
-            latest: 20_000_000,
-            stop: 20_000_000,
-            steps: 0,
-            step_counts: 0,
-            ends: 1,
-            written: 0,
-            written_before: 0,
-        },
-    ),
-    (
-        &["replay", "f", "-", "s", "--progress"],
-        Counts {
-            status: 0,
-            rows: 0,
-            latest: 0,
-            stop: 0,
-            steps: 2,
-            step_counts: 2,
-            ends: 1,
-            written: 0,
-            written_before: 0,
-        },
-    ),
-];
+impl Wanted {
+    fn is_met(self, number: &AtomicU64) -> bool {
+        let number = number.load(Ordering::SeqCst);
+        match self {
+            Wanted::Just(wanted) => number == wanted,
+            Wanted::AtLeast(least) => number >= least,
+            Wanted::Anything => true,
+        }
+    }
+}
 
-// What is told of a command, over a federation and a schedule of two lines.
-fn counts_of<R: Machine + Net<Stream = TcpStream, Listener = TcpListener>>(
+/// Words over a federation and a schedule of two lines, their status, and what is told of the command.
+#[derive(Clone, Copy)]
+struct Case {
+    words: &'static [&'static str],
+    federation: &'static str,
+    status: u8,
+    rows: Wanted,
+    latest: Wanted,
+    stop: Wanted,
+    steps: Wanted,
+    step_counts: Wanted,
+    ends: Wanted,
+    written: Wanted,
+    written_before: Wanted,
+}
+
+/// Words of which anything is told.
+const ANY: Case = Case {
+    words: &[],
+    federation: COUNTER,
+    status: 0,
+    rows: Wanted::Anything,
+    latest: Wanted::Anything,
+    stop: Wanted::Anything,
+    steps: Wanted::Anything,
+    step_counts: Wanted::Anything,
+    ends: Wanted::Anything,
+    written: Wanted::Anything,
+    written_before: Wanted::Anything,
+};
+
+// Whether that is told.
+fn is_told<R: Machine + Net<Stream = TcpStream, Listener = TcpListener>>(
     rt: &R,
-    words: &[&str],
-    federation: &str,
-) -> Option<Counts> {
+    case: &Case,
+) -> bool {
     let files = [
-        ("f", federation.as_bytes()),
+        ("f", case.federation.as_bytes()),
         ("s", "announce src\ndeliver up src 1\n".as_bytes()),
     ];
     let mut files = NamedFiles::new(rt.alloc(), &files);
     let told = Told::new();
     let mut out = Vec::new(rt.alloc());
     let mut err = Counted { told: &told };
-    let status = status_into(rt, words, &mut files, &mut out, &mut err, &told)?;
-    Some(told.counts(status))
+    let status = status_into(rt, case.words, &mut files, &mut out, &mut err, &told);
+    status == Some(case.status) && told.is(case)
 }
+
+// The place of the first of which it isn't.
+fn first_wrong<R: Machine + Net<Stream = TcpStream, Listener = TcpListener>>(
+    rt: &R,
+    cases: &[Case],
+) -> Option<usize> {
+    cases.iter().position(|case| !is_told(rt, case))
+}
+
+/// Words that are done.
+const DONE: &[Case] = &[
+    Case {
+        words: &["whole", "f", "-", "100", "--progress"],
+        rows: Wanted::Just(6),
+        latest: Wanted::Just(20_000_000),
+        stop: Wanted::Just(20_000_000),
+        steps: Wanted::Just(0),
+        step_counts: Wanted::Just(0),
+        ends: Wanted::Just(1),
+        written: Wanted::Just(0),
+        written_before: Wanted::Just(0),
+        ..ANY
+    },
+    Case {
+        words: &["replay", "f", "-", "s", "--progress"],
+        rows: Wanted::Just(0),
+        latest: Wanted::Just(0),
+        stop: Wanted::Just(0),
+        steps: Wanted::Just(2),
+        step_counts: Wanted::Just(2),
+        ends: Wanted::Just(1),
+        written: Wanted::Just(0),
+        written_before: Wanted::Just(0),
+        ..ANY
+    },
+];
 
 #[test]
 fn whole_and_replay_tell_their_rows_and_steps(rt: HostRuntime) {
-    for (words, counts) in DONE {
-        assert_eq!(rt; counts_of(&rt, words, COUNTER), Some(*counts), "{words:?}");
-    }
+    assert_eq!(rt; first_wrong(&rt, DONE), None);
 }
 
-// A row counts once more where the coordinator hears of it again.
+/// A row counts once more where the coordinator hears of it again.
+const RUN: &[Case] = &[Case {
+    words: &["run", "f", "-", "--progress"],
+    rows: Wanted::AtLeast(6),
+    stop: Wanted::Just(20_000_000),
+    ends: Wanted::AtLeast(1),
+    ..ANY
+}];
+
 #[test]
 fn run_tells_its_rows(rt: HostRuntime) {
-    let told = counts_of(&rt, &["run", "f", "-", "--progress"], COUNTER);
-    let is_told = told.map(|told| (told.status, told.rows >= 6, told.stop, told.ends > 0));
-    assert_eq!(rt; is_told, Some((0, true, 20_000_000, true)));
+    assert_eq!(rt; first_wrong(&rt, RUN), None);
 }
 
-/// How many closing rounds may be made, how often the number of steps is told, and how many steps there are at least
-/// when it is told last.
-const CLOSED: &[(&str, u64, u64)] = &[("1", 3, 10), ("2", 4, 18)];
-
-// Once for each line, and once behind each closing round that may be made, of which two are needed: of both links each
-// end sends again, each of the two federates announces and advances, and what was sent comes.
-#[test]
-fn replay_tells_its_steps_after_each_closing_round(rt: HostRuntime) {
-    for (most, step_counts, steps) in CLOSED {
-        let words = [
-            "replay",
-            "f",
-            "-",
-            "s",
-            "--until-stuck",
-            *most,
-            "--progress",
-        ];
-        let told = counts_of(&rt, &words, COUNTER);
-        let is_told = told.map(|told| (told.status, told.step_counts, told.steps >= *steps));
-        assert_eq!(rt; is_told, Some((0, *step_counts, true)), "{most}");
-    }
-}
-
-/// Words that aren't done over a federation, and their status.
-const REFUSED: &[(&[&str], &str, u8)] = &[
-    (&["whole", "f", "-", "4", "--progress"], "", 1),
-    (&["replay", "f", "-", "s", "--progress"], "", 1),
-    (&["run", "f", "-", "--turns", "0", "--progress"], COUNTER, 3),
-    (&["whole", "--progress"], COUNTER, 2),
+/// Schedules with closing rounds. Once for each line, and once behind each closing round that may be made, of which two
+/// are needed: of both links each end sends again, each of the two federates announces and advances, and what was sent
+/// comes.
+const CLOSED: &[Case] = &[
+    Case {
+        words: &["replay", "f", "-", "s", "--until-stuck", "1", "--progress"],
+        step_counts: Wanted::Just(3),
+        steps: Wanted::AtLeast(10),
+        ..ANY
+    },
+    Case {
+        words: &["replay", "f", "-", "s", "--until-stuck", "2", "--progress"],
+        step_counts: Wanted::Just(4),
+        steps: Wanted::AtLeast(18),
+        ..ANY
+    },
 ];
 
-// Else it would be wiped with the line.
+#[test]
+fn replay_tells_its_steps_after_each_closing_round(rt: HostRuntime) {
+    assert_eq!(rt; first_wrong(&rt, CLOSED), None);
+}
+
+/// A fault is told once the line has ended. Else it would be wiped with the line.
+const REFUSED: Case = Case {
+    status: 1,
+    federation: "",
+    ends: Wanted::AtLeast(1),
+    written_before: Wanted::Just(0),
+    written: Wanted::AtLeast(1),
+    ..ANY
+};
+
+const REFUSALS: &[Case] = &[
+    Case {
+        words: &["whole", "f", "-", "4", "--progress"],
+        ..REFUSED
+    },
+    Case {
+        words: &["replay", "f", "-", "s", "--progress"],
+        ..REFUSED
+    },
+    Case {
+        words: &["run", "f", "-", "--turns", "0", "--progress"],
+        federation: COUNTER,
+        status: 3,
+        ..REFUSED
+    },
+    Case {
+        words: &["whole", "--progress"],
+        federation: COUNTER,
+        status: 2,
+        ..REFUSED
+    },
+];
+
 #[test]
 fn the_line_ends_before_a_fault_is_told(rt: HostRuntime) {
-    for (words, federation, status) in REFUSED {
-        let told = counts_of(&rt, words, federation);
-        let is_told = told.map(|told| {
-            (
-                told.status,
-                told.ends > 0,
-                told.written_before,
-                told.written > 0,
-            )
-        });
-        assert_eq!(rt; is_told, Some((*status, true, 0, true)), "{words:?}");
-    }
+    assert_eq!(rt; first_wrong(&rt, REFUSALS), None);
 }

@@ -9,7 +9,7 @@ use reactor::Rows;
 use recorder_reports::Report;
 use sha2::{Digest, Sha256};
 use std::alloc::Global;
-use tests_samples::{Federation, loaded};
+use tests_samples::{Federation, with_loaded};
 use world::World;
 use world_stations::{Dir, Step};
 
@@ -47,11 +47,23 @@ pub fn report_file(
     flaw: Flaw,
 ) -> Option<Vec<u8>> {
     let digests = FileDigests::new(federation.as_bytes(), inputs.as_bytes());
-    let federation = loaded(alloc, federation, inputs)?;
-    let report = report_after(alloc, &federation, node, flaw)?;
-    let mut file = write_report(alloc, &digests, &report).ok()?;
+    let mut file = with_loaded(alloc, federation, inputs, |federation| {
+        honest_file(alloc, federation, &digests, node, flaw)
+    })?;
     spoil(&mut file, flaw)?;
     Some(file)
+}
+
+// The file before its bytes are made wrong.
+fn honest_file(
+    alloc: Global,
+    federation: &Federation,
+    digests: &FileDigests,
+    node: Option<usize>,
+    flaw: Flaw,
+) -> Option<Vec<u8>> {
+    let report = report_after(alloc, federation, node, flaw)?;
+    write_report(alloc, digests, &report).ok()
 }
 
 /// What a node says after a run.
@@ -61,18 +73,25 @@ pub fn report_after(
     node: Option<usize>,
     flaw: Flaw,
 ) -> Option<NodeReport> {
-    let mut player = Player::new(
-        alloc,
-        federation.plan(),
-        federation.programs(),
-        federation.inputs(),
-    )
-    .ok()?;
+    let plan = federation.plan();
+    match Player::new(alloc, plan, federation.programs(), federation.inputs()) {
+        Ok(mut player) => report_played(alloc, &mut player, node, flaw),
+        Err(_) => None,
+    }
+}
+
+// The same where this one plays the run.
+fn report_played(
+    alloc: Global,
+    player: &mut Player<'_>,
+    node: Option<usize>,
+    flaw: Flaw,
+) -> Option<NodeReport> {
     let rounds = match flaw {
         Flaw::Rounds(rounds) => rounds,
         _ => ALL_ROUNDS,
     };
-    play(alloc, &mut player, rounds)?;
+    play(alloc, player, rounds)?;
     report_of(alloc, player.world(), node, flaw)
 }
 
@@ -99,19 +118,22 @@ fn report_of(
     node: Option<usize>,
     flaw: Flaw,
 ) -> Option<NodeReport> {
-    let journal = journal_of(alloc, world, node)?;
-    let Some(federate) = node else {
-        return Some(NodeReport::Coordinator(journal));
-    };
-    let rows = match (flaw, world.rows(federate)) {
-        (Flaw::Rowless, _) | (_, None) => Rows::new(alloc),
-        (_, Some(rows)) => copy_of(alloc, rows)?,
-    };
-    Some(NodeReport::Federate(Report {
-        federate,
-        rows,
-        journal,
-    }))
+    match node {
+        Some(federate) => Some(NodeReport::Federate(Report {
+            federate,
+            rows: rows_of(alloc, world, federate, flaw)?,
+            journal: journal_of(alloc, world, node)?,
+        })),
+        None => Some(NodeReport::Coordinator(journal_of(alloc, world, node)?)),
+    }
+}
+
+// The rows that a federate reports.
+fn rows_of(alloc: Global, world: &World<'_>, federate: usize, flaw: Flaw) -> Option<Rows> {
+    match (flaw, world.rows(federate)) {
+        (Flaw::Rowless, _) | (_, None) => Some(Rows::new(alloc)),
+        (_, Some(rows)) => copy_of(alloc, rows),
+    }
 }
 
 // The same rows.
@@ -139,20 +161,23 @@ fn journal_of(alloc: Global, world: &World<'_>, node: Option<usize>) -> Option<J
 
 // What a step brings to a node, if it is one of this node.
 fn event_at(world: &World<'_>, node: Option<usize>, step: Step) -> Option<Event> {
-    let (at, event) = match step {
-        Step::Announce(federate) => (Some(federate), Event::Announce),
-        Step::Advance(federate) => (Some(federate), Event::Advance),
-        Step::Deliver(Dir::Up(federate), k) => (
-            None,
-            Event::Frame(federate, world.frame(Dir::Up(federate), k)?),
-        ),
-        Step::Deliver(Dir::Down(federate), k) => (
-            Some(federate),
-            Event::Frame(0, world.frame(Dir::Down(federate), k)?),
-        ),
-        _ => return None,
-    };
-    if at == node { Some(event) } else { None }
+    match step {
+        Step::Announce(federate) if node == Some(federate) => Some(Event::Announce),
+        Step::Advance(federate) if node == Some(federate) => Some(Event::Advance),
+        Step::Deliver(Dir::Up(federate), k) if node.is_none() => {
+            frame_from(world, federate, Dir::Up(federate), k)
+        }
+        Step::Deliver(Dir::Down(federate), k) if node == Some(federate) => {
+            frame_from(world, 0, Dir::Down(federate), k)
+        }
+        _ => None,
+    }
+}
+
+// The k-th frame of a direction, as it comes from this peer.
+fn frame_from(world: &World<'_>, peer: usize, dir: Dir, k: usize) -> Option<Event> {
+    let frame = world.frame(dir, k)?;
+    Some(Event::Frame(peer, frame))
 }
 
 // Makes the file wrong.

@@ -34,87 +34,77 @@ impl Write for Narrow {
     }
 }
 
-/// Rooms that are too narrow for what each of the commands prints, and one that isn't sent on.
-const ROOMS: &[(usize, bool)] = &[(0, true), (1, true), (40, true), (100_000, false)];
-
-/// Commands over the counter.
-const COMMANDS: &[&[&str]] = &[
-    &["whole", "f", "-", "4"],
-    &["replay", "f", "-", "i", "--until-stuck", "9"],
-    &["check", "f"],
-    &["run", "f", "-"],
-    &["audit", "f", "i", "c", "0", "1"],
+/// Commands over the counter, and rooms of the writer: those that are too narrow for what each of the commands prints,
+/// and one that isn't sent on.
+const REFUSED: &[(&[&[&str]], &[(usize, bool)])] = &[
+    (
+        &[
+            &["whole", "f", "-", "4"],
+            &["replay", "f", "-", "i", "--until-stuck", "9"],
+            &["check", "f"],
+            &["run", "f", "-"],
+            &["audit", "f", "i", "c", "0", "1"],
+        ],
+        &[(0, true), (1, true), (40, true), (100_000, false)],
+    ),
+    // These print nothing over the counter, or much, and send on what they print.
+    (
+        &[
+            &["record", "f", "-"],
+            &["frames", "f", "-", "i"],
+            &["trace", "f", "-", "i"],
+            &["draw", "f"],
+            &["draw", "f", "-", "i"],
+            &["lint", "f"],
+            &["help"],
+        ],
+        &[(100_000, false)],
+    ),
 ];
 
-/// Commands that print nothing over the counter, or much, and send on what they print.
-const UNSENT: &[&[&str]] = &[
-    &["record", "f", "-"],
-    &["frames", "f", "-", "i"],
-    &["trace", "f", "-", "i"],
-    &["draw", "f"],
-    &["draw", "f", "-", "i"],
-    &["lint", "f"],
-    &["help"],
-];
-
-// What a command answers whose rows go to a writer of this room, and what is on standard error.
-fn refusal<R: Machine + Net<Stream = TcpStream, Listener = TcpListener>>(
+// Whether a command says that it can't write whose rows go to a writer of this room.
+fn is_refused<R: Machine + Net<Stream = TcpStream, Listener = TcpListener>>(
     rt: &R,
     words: &[&str],
     files: &[(&str, &[u8])],
     room: usize,
     is_flushed: bool,
-) -> Option<(u8, String)> {
+) -> bool {
     let mut files = NamedFiles::new(rt.alloc(), files);
     let mut out = Narrow { room, is_flushed };
     let mut err = Vec::new(rt.alloc());
-    let status = status_into(rt, words, &mut files, &mut out, &mut err, &NoProgress)?;
-    Some((status, String::from_utf8(err).ok()?))
+    let status = status_into(rt, words, &mut files, &mut out, &mut err, &NoProgress);
+    status == Some(3) && err.as_slice() == "fedrun: cannot write\n".as_bytes()
 }
 
-// How often a command says that it can't write, which is in each room; None where it says something else.
+// How many of these commands say so, each of them in each of these rooms.
 fn refusals_of<R: Machine + Net<Stream = TcpStream, Listener = TcpListener>>(
     rt: &R,
-    words: &[&str],
     files: &[(&str, &[u8])],
-) -> Option<usize> {
+    commands: &[&[&str]],
+    rooms: &[(usize, bool)],
+) -> usize {
     let mut count = 0usize;
-    for (room, is_flushed) in ROOMS {
-        let (status, err) = refusal(rt, words, files, *room, *is_flushed)?;
-        if status != 3 || err.as_str() != "fedrun: cannot write\n" {
-            return None;
+    for words in commands {
+        for (room, is_flushed) in rooms {
+            if is_refused(rt, words, files, *room, *is_flushed) {
+                count = count.saturating_add(1);
+            }
         }
-        count = count.saturating_add(1);
     }
-    Some(count)
+    count
 }
 
-// How often a command says so where what it prints isn't sent on.
-fn refusals_unsent<R: Machine + Net<Stream = TcpStream, Listener = TcpListener>>(
-    rt: &R,
-    files: &[(&str, &[u8])],
-) -> Option<usize> {
-    let mut count = 0usize;
-    for words in UNSENT {
-        let (status, err) = refusal(rt, words, files, 100_000, false)?;
-        if status != 3 || err.as_str() != "fedrun: cannot write\n" {
-            return None;
-        }
-        count = count.saturating_add(1);
-    }
-    Some(count)
-}
-
-// The same of all commands.
+// How many say so of all.
 fn refusals<R: Machine + Net<Stream = TcpStream, Listener = TcpListener>>(
     rt: &R,
     files: &[(&str, &[u8])],
-) -> Option<usize> {
+) -> usize {
     let mut count = 0usize;
-    for words in COMMANDS {
-        count = count.saturating_add(refusals_of(rt, words, files)?);
+    for (commands, rooms) in REFUSED {
+        count = count.saturating_add(refusals_of(rt, files, commands, rooms));
     }
-    Some(count.saturating_add(refusals_unsent(rt, files)?))
+    count
 }
 
 // The same over the counter and its reports.
@@ -124,7 +114,7 @@ fn all_refusals<R: Machine + Net<Stream = TcpStream, Listener = TcpListener>>(
     let alloc = rt.alloc();
     let files = report_files(alloc, COUNTER, "", HONEST)?;
     let files = named(alloc, COUNTER, "", HONEST, files.as_slice())?;
-    refusals(rt, files.as_slice())
+    Some(refusals(rt, files.as_slice()))
 }
 
 #[test]
