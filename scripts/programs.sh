@@ -59,7 +59,7 @@ sum() { sha256sum "$@" | cut -d ' ' -f 1; }
 # may put another file in its place.
 note() {
   local file=$1 contents=$2
-  echo "$contents $(sum "$file")" >"$file.made-from.new" && mv "$file.made-from.new" "$file.made-from"
+  echo "$contents $(sum "$file")" >"$file.made-from.new" && mv -f "$file.made-from.new" "$file.made-from"
 }
 
 # Prints the contents that a file was made from, where there is a note of this very file.
@@ -126,7 +126,7 @@ can_keep() {
 put() {
   local from=$1 to=$2 made_from=$3
   install -m 0755 "$from" "$to.new"
-  mv "$to.new" "$to"
+  mv -f "$to.new" "$to"
   note "$to" "$made_from"
 }
 

@@ -105,8 +105,9 @@ pub fn ends_on<R: Machine + Net<Stream = TcpStream, Listener = TcpListener> + Ra
     ends(rt, texts, &mut disk, &mut logs, end)
 }
 
-/// Whether nodes end so, each in a process of its own, which is gone then: a coordinator that listens at this address or
-/// says first that it is finished, and one federate or two side by side, which connect to it.
+/// Whether nodes end so, each in a process of its own, which is gone then: a coordinator that listens at `ANY` address
+/// and says which, or says first that it is finished and listens at this one, and one federate or two side by side, which
+/// connect to it.
 pub fn run<R: Machine + Net<Stream = TcpStream, Listener = TcpListener> + RandomSource>(
     rt: &R,
     files: &SharedFiles,
@@ -135,12 +136,14 @@ fn connect<R: Machine + Net<Stream = TcpStream, Listener = TcpListener> + Random
     from: &Receiver<Vec<u8>>,
 ) -> Option<bool> {
     let line = heard(rt, rt.alloc(), from, Until::Line)?;
-    let address = if line.as_str() == "finished\n" {
-        address
-    } else {
+    let address = if address == ANY {
         line.as_str()
             .strip_prefix("listening ")?
             .strip_suffix("\n")?
+    } else if line.as_str() == "finished\n" {
+        address
+    } else {
+        return None;
     };
     let are_right = end_beside(rt, files, federates, address);
     let rest = heard(rt, rt.alloc(), from, Until::End)?;

@@ -18,7 +18,7 @@ use wires_transports::Ending;
 /// More drops than any node needs.
 const MOST_DROPS: u64 = 1000;
 
-/// Each node sends as often at least: a greeting, and something for each of three rows.
+/// Each node sends as often at least: a greeting, something for each of two rows, and what ends the run.
 const FEWEST_SENDS: u64 = 4;
 
 /// What is said in a run besides frames.
@@ -135,7 +135,7 @@ fn sends_of<R: Machine>(
             Err(stop) => return Err((drops, stop)),
         }
     }
-    Ok(MOST_DROPS)
+    Err((MOST_DROPS, Stop::DoesNotGoOn))
 }
 
 // Whether a ring goes on at whichever of its sends this node is dropped; else where it doesn't.

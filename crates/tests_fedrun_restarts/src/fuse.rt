@@ -99,6 +99,9 @@ impl<'a, N: Node> FusedBarrier<'a, N> {
         let Ok(file) = inner.into_file() else {
             return Err(Stop::Fell);
         };
+        if file.events() < kept.left {
+            return Err(Stop::LeftUnkept);
+        }
         match bytes(alloc, file, !has_blown) {
             Some(bytes) => kept.bytes = bytes,
             None => return Err(Stop::Memory),

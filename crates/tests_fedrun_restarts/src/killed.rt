@@ -1,10 +1,9 @@
-//! Each node is killed at each call of its disk in turn, however the call fails and whatever is left then, and begun
-//! again: the run comes to its end with all rows, an audit believes the logs, and nothing has left a node whose cause
-//! wasn't kept.
+//! A node is killed at each call of its disk in turn, with each front left of what isn't synced, and begun again: the
+//! run comes to its end with all rows, an audit believes the logs, and nothing has left a node whose cause wasn't kept.
 use crate::cases::{Case, IN_A_ROW, RING};
 use crate::course::run;
 use crate::given::Given;
-use crate::life::{Fate, Front, Kept, WHOLE};
+use crate::life::{Fate, Kept, WHOLE};
 use crate::stop::Stop;
 use files_keeping::Part;
 use node::NodeId;
@@ -22,22 +21,15 @@ const FEWEST_CALLS: u64 = 18;
 const TORN: Fate = Fate {
     passing: 13,
     part: Part::Half,
-    front: Front::All,
+    front: usize::MAX,
 };
 
 /// A node makes so many at least that begins with a log torn so: five until that is cut and synced, and as many for
 /// its mark and its end.
 const FEWEST_CALLS_AGAIN: u64 = 10;
 
-/// How a call fails, each front of each: with none left it makes no difference which part an append wrote.
-const WAYS: [(Part, Front); 6] = [
-    (Part::Nothing, Front::All),
-    (Part::Half, Front::Half),
-    (Part::Half, Front::All),
-    (Part::Whole, Front::Nothing),
-    (Part::Whole, Front::Half),
-    (Part::Whole, Front::All),
-];
+/// At so many of them at least something isn't synced: the mark and the end are written and synced, each by itself.
+const FEWEST_UNSYNCED: u64 = 4;
 
 /// Who begins in the ring, and who answers. In the chain that one stands between the others.
 const FIRST: NodeId = NodeId::Federate(0);
@@ -63,8 +55,9 @@ fn killed_so<R: Wait>(
     }
 }
 
-// Kills a node behind so many calls in each way. In how many of these a part of its log wasn't synced; None where it
-// makes no more calls.
+// Kills a node behind so many calls, with each front left of what wasn't synced. An append that fails writes all its
+// bytes here: what one leaves that writes half of them, or none, is a front of that. Whether something wasn't synced; None
+// where it makes no more calls.
 fn killed_behind<R: Wait>(
     rt: &R,
     alloc: Global,
@@ -72,27 +65,31 @@ fn killed_behind<R: Wait>(
     who: NodeId,
     is_torn: bool,
     passing: u64,
-) -> Result<Option<u64>, Stop> {
+) -> Result<Option<bool>, Stop> {
     let falls = if is_torn { 2 } else { 1 };
-    let mut unsynced: u64 = 0;
-    for (part, front) in WAYS {
+    let part = Part::Whole;
+    let front = usize::MAX;
+    let fate = Fate {
+        passing,
+        part,
+        front,
+    };
+    let kept = killed_so(rt, alloc, given, who, is_torn, fate)?;
+    if kept.falls < falls {
+        return Ok(None);
+    }
+    for front in 0..kept.unsynced {
         let fate = Fate {
             passing,
             part,
             front,
         };
-        let kept = killed_so(rt, alloc, given, who, is_torn, fate)?;
-        if kept.falls < falls {
-            return Ok(None);
-        }
-        if kept.unsynced > 0 {
-            unsynced = unsynced.saturating_add(1);
-        }
+        killed_so(rt, alloc, given, who, is_torn, fate)?;
     }
-    Ok(Some(unsynced))
+    Ok(Some(kept.unsynced > 0))
 }
 
-// Kills a node at each call in each way: how many calls it makes, and in how many runs a part of its log wasn't synced.
+// Kills a node at each call: how many calls it makes, and at how many something wasn't synced.
 fn killed_at_each<R: Wait>(
     rt: &R,
     alloc: Global,
@@ -103,12 +100,21 @@ fn killed_at_each<R: Wait>(
     let mut unsynced: u64 = 0;
     for passing in 0..MOST_CALLS {
         match killed_behind(rt, alloc, given, who, is_torn, passing) {
-            Ok(Some(count)) => unsynced = unsynced.saturating_add(count),
+            Ok(Some(true)) => unsynced = unsynced.saturating_add(1),
+            Ok(Some(false)) => {}
             Ok(None) => return Ok((passing, unsynced)),
             Err(stop) => return Err((passing, stop)),
         }
     }
-    Ok((MOST_CALLS, unsynced))
+    Err((MOST_CALLS, Stop::DoesNotGoOn))
+}
+
+// Whether that kill leaves a torn log: of what is appended last a half isn't synced.
+fn is_torn_by<R: Wait>(rt: &R, alloc: Global, given: &Given, who: NodeId) -> bool {
+    match run(rt, alloc, given, who, &[TORN, WHOLE]) {
+        Ok(kept) => kept.falls == 1 && kept.unsynced > 0,
+        Err(_) => false,
+    }
 }
 
 // Whether a case goes on whenever this node of it is killed, and that is often enough; else where not.
@@ -122,13 +128,16 @@ fn goes_on<R: Wait>(
     let Some(given) = Given::load(alloc, case) else {
         return Err(None);
     };
+    if is_torn && !is_torn_by(rt, alloc, &given, who) {
+        return Err(None);
+    }
     let fewest = if is_torn {
         FEWEST_CALLS_AGAIN
     } else {
         FEWEST_CALLS
     };
     match killed_at_each(rt, alloc, &given, who, is_torn) {
-        Ok((calls, unsynced)) => Ok(calls >= fewest && unsynced >= fewest),
+        Ok((calls, unsynced)) => Ok(calls >= fewest && unsynced >= FEWEST_UNSYNCED),
         Err(exception) => Err(Some(exception)),
     }
 }

@@ -18,14 +18,6 @@ use wires_hosts::Barrier;
 /// More turns than a node makes in any life.
 const TURNS: usize = 300;
 
-/// How much is left of what wasn't synced.
-#[derive(Clone, Copy)]
-pub(crate) enum Front {
-    Nothing,
-    Half,
-    All,
-}
-
 /// What comes of a node's calls of its disk. One that succeeds and is the last before the node is killed is no case of
 /// its own: an append leaves what one leaves that fails behind all its bytes, a sync what that leaves where all is
 /// left, and a cut what the sync behind it leaves where it fails.
@@ -35,15 +27,15 @@ pub(crate) struct Fate {
     pub passing: u64,
     /// So much is written of its bytes, if it is an append.
     pub part: Part,
-    /// So much is left then of what isn't synced.
-    pub front: Front,
+    /// So many bytes are left then of what isn't synced, if there are so many.
+    pub front: usize,
 }
 
 /// All succeed.
 pub(crate) const WHOLE: Fate = Fate {
     passing: u64::MAX,
     part: Part::Nothing,
-    front: Front::Nothing,
+    front: 0,
 };
 
 /// What stays of a node.
@@ -77,11 +69,11 @@ impl Kept {
         alloc: Global,
         device: &MemoryDevice,
         life: Result<(), Stop>,
-        front: Front,
+        front: usize,
     ) -> Result<bool, Stop> {
         match life {
             Ok(()) => {
-                self.stop(alloc, device, Front::Nothing)?;
+                self.stop(alloc, device, 0)?;
                 Ok(true)
             }
             Err(Stop::Fell) => {
@@ -95,7 +87,7 @@ impl Kept {
     }
 
     // The machine stops: of what isn't synced a front is left. How many bytes weren't.
-    fn stop(&mut self, alloc: Global, device: &MemoryDevice, front: Front) -> Result<usize, Stop> {
+    fn stop(&mut self, alloc: Global, device: &MemoryDevice, front: usize) -> Result<usize, Stop> {
         let seen = device.bytes();
         let synced = device.synced();
         let longer = if seen.len() < synced.len() {
@@ -105,12 +97,7 @@ impl Kept {
         };
         let least = seen.len().min(synced.len());
         let unsynced = longer.len().saturating_sub(least);
-        let count = match front {
-            Front::Nothing => least,
-            Front::Half => least.saturating_add(unsynced / 2),
-            Front::All => longer.len(),
-        };
-        match first(alloc, longer, count) {
+        match first(alloc, longer, least.saturating_add(unsynced.min(front))) {
             Some(bytes) => {
                 self.bytes = bytes;
                 Ok(unsynced)
@@ -200,7 +187,7 @@ fn go_on<N: Node, R: Wait>(
         play(rt, alloc, who, shared, world, &barrier, journal.len(), left)
     };
     let ended = match barrier.into_file() {
-        Ok(file) => end(alloc, file, is_ended),
+        Ok(file) => end(alloc, file, is_ended, *left),
         Err(_) => Err(Stop::Fell),
     };
     match played {
@@ -257,7 +244,9 @@ fn play<N: Node, B: Barrier, R: Wait>(
             NodeId::Federate(_) => world.is_finished(rt),
         };
         if is_finished {
-            return tell(rt, alloc, who, shared, world, barrier, &mut share);
+            return tell(
+                rt, alloc, who, shared, world, barrier, begun, &mut share, left,
+            );
         }
     }
     Err(Stop::Hangs)
@@ -271,20 +260,32 @@ fn tell<N: Node, B: Barrier, R: Wait>(
     shared: &Shared<N>,
     world: &mut World<'_, '_>,
     barrier: &B,
+    begun: usize,
     share: &mut Share,
+    left: &mut usize,
 ) -> Result<(), Stop> {
     if barrier.tell(rt).is_err() {
         return Err(Stop::Fell);
     }
-    turn(rt, alloc, who, shared, barrier, share, &mut world.posts)?;
+    if turn(rt, alloc, who, shared, barrier, share, &mut world.posts)? {
+        *left = begun.saturating_add(share.slips().len());
+    }
     match barrier.reach(rt) {
         Ok(()) => Ok(()),
         Err(_) => Err(Stop::Fell),
     }
 }
 
-// The log has its end, or gets it.
-fn end(alloc: Global, file: LogFile<Lent<'_, MemoryDevice>>, is_ended: bool) -> Result<(), Stop> {
+// The log has its end, or gets it. It has at least as many events as had come when something left the node.
+fn end(
+    alloc: Global,
+    file: LogFile<Lent<'_, MemoryDevice>>,
+    is_ended: bool,
+    left: usize,
+) -> Result<(), Stop> {
+    if file.events() < left {
+        return Err(Stop::LeftUnkept);
+    }
     let mut file = file;
     let bytes = if is_ended {
         file.bytes(alloc)
