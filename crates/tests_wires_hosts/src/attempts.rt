@@ -1,16 +1,14 @@
 //! How long attempts to connect wait.
 use crate::entrance::{
-    Entrance, Host, LONG_MS, Machine, Process, Visit, host_of, host_to, listener_of, visited,
-    waiting_listener_of,
+    Entrance, Host, LONG_MS, Machine, greeting_at, host_of, host_to, listener_of, visited,
 };
-use crate::simulated::{Counting, Nothing, Simulated};
-use std::alloc::Global;
+use crate::process::{Meeting, Process, meet, met};
+use crate::simulated::{Counting, EndsAt, Meanwhile, Nothing, Simulated, attempted_until};
 use std::io::Read;
 use std::net::{Net, TcpListener, TcpStream};
-use std::thread;
-use std::time::{Duration, Instant};
+use std::time::Duration;
 use wires_hosts::{DialFault, FederateHost, HostDial};
-use wires_transports::Dial;
+use wires_transports::{Dial, Transport};
 
 // A federate's process that connects to where nobody listens.
 fn host_to_nobody<R: Net<Stream = TcpStream, Listener = TcpListener>>(
@@ -22,36 +20,44 @@ fn host_to_nobody<R: Net<Stream = TcpStream, Listener = TcpListener>>(
 
 // When each of some attempts that come to nothing was over, in ms: ten in a row, and three behind something that was
 // heard. An attempt itself takes no time, for nobody is there.
-fn attempted_at<R: Host + Net<Stream = TcpStream, Listener = TcpListener>>(
+fn attempted_at<R: Machine + Net<Stream = TcpStream, Listener = TcpListener>>(
     rt: &R,
-    alloc: Global,
 ) -> Option<[u64; 13]> {
-    let process = Process::new(alloc)?;
+    let host = host_to_nobody(rt)?;
+    let process = Process::new(rt.alloc())?;
     let source = Counting::new();
     let machine = Simulated::new(rt, &source, Nothing);
     let dial = HostDial::new(
         &machine,
-        host_to_nobody(rt)?,
+        host,
         &process.heard,
         &process.barrier,
         &process.last,
         &process.ending,
     );
-    let mut times = [0; 13];
+    let mut times = [u64::MAX; 13];
+    attempt_all(rt, &dial, &process, &machine, &mut times);
+    Some(times)
+}
+
+// Makes these attempts, and notes when each of them was over. One that comes to something else is never over.
+fn attempt_all<R: Machine, D: Dial<T, C>, T: Transport, C: Drop, M: Meanwhile>(
+    rt: &R,
+    dial: &D,
+    process: &Process,
+    machine: &Simulated<'_, R, Counting, M>,
+    times: &mut [u64; 13],
+) {
     for (number, time) in times.iter_mut().enumerate() {
         if number == 10 {
             process.heard.hear();
         }
-        let is_in_vain = dial.dial(rt, alloc).is_none();
-        if !is_in_vain || process.heard.last_fault() != Some(DialFault::NotConnected) {
-            return None;
+        let is_in_vain = dial.dial(rt, rt.alloc()).is_none();
+        let fault = process.heard.last_fault();
+        if is_in_vain && fault == Some(DialFault::NotConnected) && !process.ending.is_set() {
+            *time = machine.time();
         }
-        *time = machine.time();
     }
-    if process.ending.is_set() {
-        return None;
-    }
-    Some(times)
 }
 
 // 10 ms before the second attempt, then twice as long each time, up to 1 s; from anew once something was heard.
@@ -60,79 +66,79 @@ fn keeps_the_pauses_between_attempts_that_fail(rt: HostRuntime) {
     let times = [
         0, 10, 30, 70, 150, 310, 630, 1270, 2270, 3270, 3270, 3280, 3300,
     ];
-    assert_eq!(rt; attempted_at(&rt, rt.alloc()), Some(times));
+    assert_eq!(rt; attempted_at(&rt), Some(times));
 }
 
 // Whether no attempt is made once the run is to end.
 fn is_over<R: Host + Net<Stream = TcpStream, Listener = TcpListener>>(
     rt: &R,
-    alloc: Global,
+    meeting: &Meeting,
 ) -> Option<bool> {
-    let listener = listener_of(rt)?;
-    let process = Process::new(alloc)?;
+    let process = &meeting.process;
     process.ending.set();
-    let own = process.dial(rt, alloc, host_to(&listener)?);
-    Some(own.is_none() && process.heard.last_fault().is_none() && listener.accept().is_err())
+    let is_in_vain = process.is_in_vain(rt, meeting.alloc, meeting.host);
+    let is_unmade = process.heard.last_fault().is_none() && meeting.listener.accept().is_err();
+    Some(is_in_vain && is_unmade)
 }
 
 #[test]
 fn makes_no_attempt_once_the_run_is_to_end(rt: HostRuntime) {
-    assert_eq!(rt; is_over(&rt, rt.alloc()), Some(true));
+    assert_eq!(rt; met(&rt, is_over), Some(true));
 }
 
-/// An attempt fails, and the next one comes to a connection: the failure is forgotten.
-struct Forgotten;
-
-impl Visit for Forgotten {
-    fn visit<R: Host + Net<Stream = TcpStream, Listener = TcpListener>>(
-        rt: &R,
-        entrance: &Entrance<'_>,
-    ) -> Option<bool> {
-        let alloc = entrance.alloc;
-        let process = Process::new(alloc)?;
-        let nobody = host_to_nobody(rt)?;
-        let has_failed = process.is_refused(rt, alloc, nobody, DialFault::NotConnected, false);
-        let _own = process.dial(rt, alloc, host_of(entrance.address, 0)?)?;
-        Some(has_failed && process.heard.last_fault().is_none())
-    }
+// Whether an attempt that failed is forgotten once the next one comes to a connection.
+fn is_forgotten<R: Host + Net<Stream = TcpStream, Listener = TcpListener>>(
+    rt: &R,
+    entrance: &Entrance<'_>,
+) -> Option<bool> {
+    let process = entrance.process;
+    let alloc = entrance.alloc;
+    let nobody = host_to_nobody(rt)?;
+    let has_failed = process.is_refused(rt, alloc, nobody, DialFault::NotConnected, false);
+    let host = host_of(entrance.address, 0)?;
+    let is_connected = !process.is_in_vain(rt, alloc, host);
+    Some(has_failed && is_connected && process.heard.last_fault().is_none())
 }
 
 #[test]
 fn forgets_a_failure_once_it_is_connected(rt: HostRuntime) {
-    assert_eq!(rt; visited::<Forgotten, _>(&rt), Some(true));
+    assert_eq!(rt; visited(&rt, &rt, is_forgotten), Some(true));
 }
 
-// What the next two who connect say first.
-fn greetings(listener: &TcpListener) -> Option<[[u8; 74]; 2]> {
-    let mut greetings = [[0; 74]; 2];
-    for greeting in greetings.iter_mut() {
-        let (mut stream, _) = listener.accept().ok()?;
-        stream.read_exact(greeting).ok()?;
+// What the next one who connects says first.
+fn next_greeting(listener: &TcpListener) -> Option<[u8; 74]> {
+    let (_, greeting) = greeting_at(listener)?;
+    Some(greeting)
+}
+
+// Whether the next two say the same but for random bytes, which are new.
+fn are_new(listener: &TcpListener) -> Option<bool> {
+    let first = next_greeting(listener)?;
+    let second = next_greeting(listener)?;
+    let is_same = first.get(..42)? == second.get(..42)?;
+    let is_new = first.get(42..)? != second.get(42..)?;
+    Some(is_same && is_new)
+}
+
+// Whether two attempts of a process come to nothing.
+fn are_in_vain<R: Machine + Net<Stream = TcpStream, Listener = TcpListener>>(
+    rt: &R,
+    process: &Process,
+    host: &FederateHost,
+) -> bool {
+    for _ in 0..2 {
+        if !process.is_in_vain(rt, rt.alloc(), *host) {
+            return false;
+        }
     }
-    Some(greetings)
+    true
 }
 
-// Whether two attempts of one federate say the same but for random bytes, which are new.
+// Whether what they say does.
 fn has_new_bytes<R: Machine + Net<Stream = TcpStream, Listener = TcpListener>>(
     rt: &R,
 ) -> Option<bool> {
-    let alloc = rt.alloc();
-    let listener = waiting_listener_of(rt)?;
-    let host = host_to(&listener)?;
-    let process = Process::new(alloc)?;
-    let (said, own) = thread::join(
-        rt,
-        || greetings(&listener),
-        || {
-            let first = process.dial(rt, alloc, host);
-            let second = process.dial(rt, alloc, host);
-            first.is_none() && second.is_none()
-        },
-    );
-    let [first, second] = said?;
-    let is_same = first.get(..42)? == second.get(..42)?;
-    let is_new = first.get(42..)? != second.get(42..)?;
-    Some(own && is_same && is_new)
+    meet(rt, are_new, |process, host| are_in_vain(rt, process, &host))
 }
 
 #[test]
@@ -140,27 +146,21 @@ fn says_new_random_bytes_at_each_attempt(rt: HostRuntime) {
     assert_eq!(rt; has_new_bytes(&rt), Some(true));
 }
 
+// Whether the next one who connects closes the connection where nothing is said to its greeting.
+fn closes_by_itself(listener: &TcpListener) -> Option<bool> {
+    let (mut stream, _) = greeting_at(listener)?;
+    let limit = Some(Duration::from_millis(LONG_MS));
+    stream.set_read_timeout(limit).ok()?;
+    Some(matches!(stream.read(&mut [0]), Ok(0)))
+}
+
 // Whether an attempt ends by itself where whoever listens says nothing, and closes its connection.
 fn ends_in_silence<R: Machine + Net<Stream = TcpStream, Listener = TcpListener>>(
     rt: &R,
 ) -> Option<bool> {
-    let alloc = rt.alloc();
-    let listener = waiting_listener_of(rt)?;
-    let host = host_to(&listener)?;
-    let process = Process::new(alloc)?;
-    let (is_closed, is_in_vain) = thread::join(
-        rt,
-        || {
-            let (mut stream, _) = listener.accept().ok()?;
-            let mut greeting = [0; 74];
-            stream.read_exact(&mut greeting).ok()?;
-            let limit = Some(Duration::from_millis(LONG_MS));
-            stream.set_read_timeout(limit).ok()?;
-            Some(matches!(stream.read(&mut [0]), Ok(0)))
-        },
-        || process.is_refused(rt, alloc, host, DialFault::NoAnswer, false),
-    );
-    Some(is_closed? && is_in_vain)
+    meet(rt, closes_by_itself, |process, host| {
+        process.is_refused(rt, rt.alloc(), host, DialFault::NoAnswer, false)
+    })
 }
 
 #[test]
@@ -168,27 +168,19 @@ fn ends_an_attempt_to_which_nothing_is_said(rt: HostRuntime) {
     assert_eq!(rt; ends_in_silence(&rt), Some(true));
 }
 
-// Whether an attempt ends with the run while whoever listens says nothing.
-fn ends_with_the_run<R: Machine + Net<Stream = TcpStream, Listener = TcpListener>>(
+// How long an attempt takes whose run is to end after 200 ms, in ms, while whoever listens says nothing.
+fn ends_with_the_run<R: Host + Net<Stream = TcpStream, Listener = TcpListener>>(
     rt: &R,
-) -> Option<bool> {
-    let alloc = rt.alloc();
-    let listener = listener_of(rt)?;
-    let host = host_to(&listener)?;
-    let process = Process::new(alloc)?;
-    let begin = Instant::now(rt).ok()?;
-    let ((), own) = thread::join(
-        rt,
-        || {
-            thread::sleep(rt, Duration::from_millis(200));
-            process.ending.set();
-        },
-        || process.dial(rt, alloc, host).is_none(),
-    );
-    Some(own && begin.elapsed(rt).ok()? < Duration::from_millis(3000))
+    meeting: &Meeting,
+) -> Option<u64> {
+    let ends = EndsAt {
+        ending: &meeting.process.ending,
+        ms: 200,
+    };
+    attempted_until(rt, meeting, DialFault::NoAnswer, true, ends)
 }
 
 #[test]
 fn ends_an_attempt_with_the_run(rt: HostRuntime) {
-    assert_eq!(rt; ends_with_the_run(&rt), Some(true));
+    assert_eq!(rt; met(&rt, ends_with_the_run), Some(200));
 }

@@ -1,7 +1,7 @@
 //! Tests of connections between machines, over TCP on loopback: who is let in, who isn't and what comes of it, and who
 //! hears that the run is finished. No program uses this crate.
 //!
-//! Begin with `entrance`, then `letting_in`; where time is the subject, with `simulated`, then `silences`.
+//! Begin with `process` and `entrance`, then `letting_in`; where time is the subject, with `simulated`, then `silences`.
 #![tactic(auto)]
 
 #[cfg(test)]
@@ -16,6 +16,8 @@ mod finishing;
 mod hearing;
 #[cfg(test)]
 mod letting_in;
+#[cfg(test)]
+mod process;
 #[cfg(test)]
 mod refusals;
 #[cfg(test)]

@@ -1,52 +1,47 @@
 //! What a federate's process makes of a refusal, and what it doesn't believe.
 use crate::entrance::{
-    Entrance, FILES, Host, Machine, Process, SECRET, Visit, host_of, host_to, is_empty, key_of,
-    listener_of, visited, waiting_listener_of,
+    Entrance, FILES, Host, Machine, SECRET, answer_to, greeting_at, host_of, is_empty, key_of,
+    visited,
 };
-use crate::simulated::{Counting, Meanwhile, Simulated, counted};
-use std::alloc::Global;
-use std::io::{Read, Write};
+use crate::process::{Meeting, Process, meet, met};
+use crate::simulated::{Meanwhile, attempted_until, counted};
+use std::io::Write;
 use std::net::{Net, TcpListener, TcpStream};
-use std::thread;
-use wires_greeting::{CoordinatorSide, Greeting};
+use wires_greeting::Greeting;
 use wires_hosts::{DialFault, FederateHost};
 
-/// Another secret, other files, and a federate that isn't there: nobody is let in, and the run ends only by a refusal
-/// that is proved.
-struct Refused;
-
-impl Visit for Refused {
-    fn visit<R: Host + Net<Stream = TcpStream, Listener = TcpListener>>(
-        rt: &R,
-        entrance: &Entrance<'_>,
-    ) -> Option<bool> {
-        let alloc = entrance.alloc;
-        let right = host_of(entrance.address, 0)?;
-        let other_secret = FederateHost {
-            key: key_of(b"0123456789abcdeF")?,
-            ..right
-        };
-        let other_files = FederateHost {
-            files: [8; 32],
-            ..right
-        };
-        let not_there = host_of(entrance.address, 3)?;
-        for (host, fault, ends) in [
-            (other_secret, DialFault::NotProved, false),
-            (other_files, DialFault::OtherFiles, true),
-            (not_there, DialFault::NoSuchFederate, true),
-        ] {
-            if !Process::new(alloc)?.is_refused(rt, alloc, host, fault, ends) {
-                return Some(false);
-            }
+// Whether nobody is let in with another secret or other files, or as a federate that isn't there, and the run ends only
+// by a refusal that is proved.
+fn is_refused<R: Host + Net<Stream = TcpStream, Listener = TcpListener>>(
+    rt: &R,
+    entrance: &Entrance<'_>,
+) -> Option<bool> {
+    let alloc = entrance.alloc;
+    let right = host_of(entrance.address, 0)?;
+    let other_secret = FederateHost {
+        key: key_of(b"0123456789abcdeF")?,
+        ..right
+    };
+    let other_files = FederateHost {
+        files: [8; 32],
+        ..right
+    };
+    let not_there = host_of(entrance.address, 3)?;
+    for (host, fault, ends) in [
+        (other_secret, DialFault::NotProved, false),
+        (other_files, DialFault::OtherFiles, true),
+        (not_there, DialFault::NoSuchFederate, true),
+    ] {
+        if !Process::new(alloc)?.is_refused(rt, alloc, host, fault, ends) {
+            return Some(false);
         }
-        Some(is_empty(rt, entrance))
     }
+    Some(is_empty(rt, entrance))
 }
 
 #[test]
 fn lets_in_nobody_with_another_secret_other_files_or_another_number(rt: HostRuntime) {
-    assert_eq!(rt; visited::<Refused, _>(&rt), Some(true));
+    assert_eq!(rt; visited(&rt, &rt, is_refused), Some(true));
 }
 
 /// What whoever listens at the coordinator's address says to a greeting, before it ends the connection.
@@ -62,23 +57,20 @@ enum Says {
 }
 
 // Says it to the greeting of the first that connects.
-fn say(listener: &TcpListener, says: Says) -> Option<()> {
-    let (mut stream, _) = listener.accept().ok()?;
-    let mut greeting = [0; 74];
-    stream.read_exact(&mut greeting).ok()?;
-    match says {
+fn say(listener: &TcpListener, says: Says) -> Option<bool> {
+    let (mut stream, greeting) = greeting_at(listener)?;
+    let is_said = match says {
         Says::Challenge(secret, allowed, finished) => {
-            let mut side = CoordinatorSide::new(key_of(secret)?, FILES);
-            let challenge = side.greeted(&greeting, &[9; 32], &[allowed], finished)?;
-            stream.write_all(&challenge).ok()
+            let challenge = answer_to(&greeting, secret, allowed, finished)?;
+            stream.write_all(&challenge).is_ok()
         }
         Says::Part(count) => {
-            let mut side = CoordinatorSide::new(key_of(SECRET)?, FILES);
-            let challenge = side.greeted(&greeting, &[9; 32], &[true], false)?;
-            stream.write_all(challenge.get(..count)?).ok()
+            let challenge = answer_to(&greeting, SECRET, true, false)?;
+            stream.write_all(challenge.get(..count)?).is_ok()
         }
-        Says::Garbage => stream.write_all(&[0x55; 65]).ok(),
-    }
+        Says::Garbage => stream.write_all(&[0x55; 65]).is_ok(),
+    };
+    Some(is_said)
 }
 
 // Whether the federate's attempt comes to nothing for this, where that is said to it, and whether its run is to end
@@ -89,17 +81,11 @@ fn is_refused_by<R: Machine + Net<Stream = TcpStream, Listener = TcpListener>>(
     fault: DialFault,
     ends: bool,
 ) -> Option<bool> {
-    let listener = waiting_listener_of(rt)?;
-    let host = host_to(&listener)?;
-    let alloc = rt.alloc();
-    let process = Process::new(alloc)?;
-    let (said, is_refused) = thread::join(
+    meet(
         rt,
-        || say(&listener, says),
-        || process.is_refused(rt, alloc, host, fault, ends),
-    );
-    said?;
-    Some(is_refused)
+        |listener| say(listener, says),
+        |process, host| process.is_refused(rt, rt.alloc(), host, fault, ends),
+    )
 }
 
 const OTHER_SECRET: &[u8; 16] = b"fedcba9876543210";
@@ -170,8 +156,7 @@ fn say_finished(stream: TcpStream) -> Option<()> {
         files: FILES,
         random: counted(0),
     };
-    let mut side = CoordinatorSide::new(key_of(SECRET)?, FILES);
-    let challenge = side.greeted(&greeting.bytes(), &[9; 32], &[true], true)?;
+    let challenge = answer_to(&greeting.bytes(), SECRET, true, true)?;
     let mut stream = stream;
     stream.write_all(&challenge).ok()
 }
@@ -179,20 +164,16 @@ fn say_finished(stream: TcpStream) -> Option<()> {
 // Whether the federate's process believes it though it can't say that it heard so.
 fn believes_it<R: Host + Net<Stream = TcpStream, Listener = TcpListener>>(
     rt: &R,
-    alloc: Global,
+    meeting: &Meeting,
 ) -> Option<bool> {
-    let listener = listener_of(rt)?;
-    let host = host_to(&listener)?;
-    let process = Process::new(alloc)?;
-    let source = Counting::new();
     let meanwhile = BrokenOff {
-        listener: &listener,
+        listener: &meeting.listener,
     };
-    let machine = Simulated::new(rt, &source, meanwhile);
-    Some(process.is_refused(&machine, alloc, host, DialFault::Finished, true))
+    let until = attempted_until(rt, meeting, DialFault::Finished, true, meanwhile);
+    Some(until.is_some())
 }
 
 #[test]
 fn believes_that_the_run_is_finished_though_its_proof_cannot_be_sent(rt: HostRuntime) {
-    assert_eq!(rt; believes_it(&rt, rt.alloc()), Some(true));
+    assert_eq!(rt; met(&rt, believes_it), Some(true));
 }

@@ -1,4 +1,6 @@
-//! A machine whose time and random bytes are in a test's hands.
+//! A machine whose time and random bytes are in a test's hands, and what is done there.
+use crate::entrance::{Host, LONG_MS, Machine, acceptor_at, host_at};
+use crate::process::{Meeting, Process};
 use std::io;
 use std::io::{ErrorKind, Read};
 use std::net::{Net, SocketAddr, TcpListener, TcpStream};
@@ -6,7 +8,9 @@ use std::random::RandomSource;
 use std::sync::Wait;
 use std::sync::atomic::{AtomicU64, Ordering};
 use std::time::{Clock, Duration};
-use wires_transports::Ending;
+use wires::Work;
+use wires_hosts::DialFault;
+use wires_transports::{Acceptor, Ending};
 
 /// What else happens as time goes by.
 pub trait Meanwhile: Drop {
@@ -166,6 +170,59 @@ impl RandomSource for Broken {
         buf.fill(7);
         Err(io::Error::from(ErrorKind::Other))
     }
+}
+
+/// When the first attempt of a process is over that comes to nothing for this, in ms, and ends its run or not.
+pub fn attempted_until<R: Host + Net<Stream = TcpStream, Listener = TcpListener>, M: Meanwhile>(
+    rt: &R,
+    meeting: &Meeting,
+    fault: DialFault,
+    ends: bool,
+    meanwhile: M,
+) -> Option<u64> {
+    let source = Counting::new();
+    let machine = Simulated::new(rt, &source, meanwhile);
+    let process = &meeting.process;
+    if process.is_refused(&machine, meeting.alloc, meeting.host, fault, ends) {
+        Some(machine.time())
+    } else {
+        None
+    }
+}
+
+/// How long a coordinator that listens there lets processes in, in ms, with readers for this many federates. None where
+/// anything comes to one of them.
+pub fn let_in_for<R: Machine + Net<Stream = TcpStream, Listener = TcpListener>, M: Meanwhile>(
+    rt: &R,
+    listener: TcpListener,
+    coordinator: &Process,
+    federates: usize,
+    meanwhile: M,
+) -> Option<u64> {
+    let alloc = rt.alloc();
+    let source = Counting::new();
+    let host = host_at(listener, LONG_MS)?;
+    let (acceptor, arrivals) = acceptor_at(alloc, &source, host, coordinator, federates)?;
+    let machine = Simulated::new(rt, &source, meanwhile);
+    acceptor.let_in(&machine, alloc, &coordinator.ending);
+    for came in &arrivals {
+        if came.try_recv(rt).is_ok() {
+            return None;
+        }
+    }
+    Some(machine.time())
+}
+
+/// When the run of a process is over that is watched with this patience, in ms.
+pub fn watched_until<R: Machine, M: Meanwhile>(
+    rt: &R,
+    process: &Process,
+    most: Option<Duration>,
+    meanwhile: M,
+) -> u64 {
+    let machine = Simulated::new(rt, &Broken, meanwhile);
+    let _ = process.patience(most).work(&machine, rt.alloc());
+    machine.time()
 }
 
 /// Whether a connection is closed by the other end so far, behind 128 bytes at most. They are taken from it.

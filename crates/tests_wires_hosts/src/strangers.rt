@@ -1,184 +1,125 @@
 //! Who isn't let in: no event comes of it, and a federate's process is let in behind it.
 use crate::entrance::{
-    ACKNOWLEDGEMENT, ByHand, Entrance, HELLO, Host, OTHER_HELLO, Process, THIRD_HELLO, Visit,
-    greeted_by_hand, greeted_by_hand_as, host_of, is_closed, is_empty, next, visited,
+    ACKNOWLEDGEMENT, Entrance, HELLO, Host, OTHER_HELLO, challenged, greeted, greeting_of,
+    is_closed, is_empty, is_let_in, next, proof_of, said, visited,
 };
 use std::io::Write;
-use std::net::{Net, TcpListener, TcpStream};
-use wires_transports::Transport;
+use std::net::{Net, SocketAddr, TcpListener, TcpStream};
 
-// Whether a federate's process is let in now, and nobody was let in before it.
-fn is_first<R: Host + Net<Stream = TcpStream, Listener = TcpListener>>(
+// Whether all that a federate said on a connection that was let in comes to nothing, said again by somebody who
+// listened.
+fn is_played_in_vain<R: Host + Net<Stream = TcpStream, Listener = TcpListener>>(
     rt: &R,
     entrance: &Entrance<'_>,
 ) -> Option<bool> {
-    let process = Process::new(entrance.alloc)?;
-    let mut own = process.dial(rt, entrance.alloc, host_of(entrance.address, 0)?)?;
-    let was_empty = is_empty(rt, entrance);
-    own.outgoing.send(rt, &HELLO).ok()?;
-    let let_in = next(rt, &entrance.first)?;
-    Some(was_empty && let_in.first.as_slice() == HELLO.as_slice() && is_empty(rt, entrance))
+    let (_first, proof) = said(rt, entrance.address, 0, &HELLO)?;
+    let is_let_in = next(rt, entrance, 0).is_some();
+    let is_in_vain = is_closed_behind(rt, entrance.address, &proof) == Some(true);
+    Some(is_let_in && is_in_vain && is_empty(rt, entrance))
 }
 
-/// All that a federate said on a connection that was let in, said again by somebody who listened.
-struct PlayedAgain;
-
-impl Visit for PlayedAgain {
-    fn visit<R: Host + Net<Stream = TcpStream, Listener = TcpListener>>(
-        rt: &R,
-        entrance: &Entrance<'_>,
-    ) -> Option<bool> {
-        let ByHand {
-            mut stream,
-            greeting,
-            proof,
-        } = greeted_by_hand(rt, entrance.address, [1; 32])?;
-        stream.write_all(&proof).ok()?;
-        stream.write_all(&HELLO).ok()?;
-        let _let_in = next(rt, &entrance.first)?;
-        let mut again = TcpStream::connect(rt, entrance.address).ok()?;
-        again.write_all(&greeting).ok()?;
-        again.write_all(&proof).ok()?;
-        again.write_all(&HELLO).ok()?;
-        Some(is_closed(&again, 65) && is_empty(rt, entrance))
-    }
+// Whether somebody who greets with an earlier proof is closed behind the challenge.
+fn is_closed_behind<R: Net<Stream = TcpStream, Listener = TcpListener>>(
+    rt: &R,
+    address: SocketAddr,
+    proof: &[u8; 32],
+) -> Option<bool> {
+    let mut stream = TcpStream::connect(rt, address).ok()?;
+    stream.write_all(&greeting_of(0).bytes()).ok()?;
+    stream.write_all(proof).ok()?;
+    stream.write_all(&HELLO).ok()?;
+    Some(is_closed(&stream, 65))
 }
 
 #[test]
 fn does_not_let_in_a_greeting_played_again(rt: HostRuntime) {
-    assert_eq!(rt; visited::<PlayedAgain, _>(&rt), Some(true));
+    assert_eq!(rt; visited(&rt, &rt, is_played_in_vain), Some(true));
 }
 
-/// Behind its proof federate 0 says first that it is federate 1, or something else.
-struct OtherFirst;
-
-impl Visit for OtherFirst {
-    fn visit<R: Host + Net<Stream = TcpStream, Listener = TcpListener>>(
-        rt: &R,
-        entrance: &Entrance<'_>,
-    ) -> Option<bool> {
-        for first in [OTHER_HELLO, ACKNOWLEDGEMENT, [0xff; 20]] {
-            let ByHand {
-                mut stream,
-                proof,
-                ..
-            } = greeted_by_hand(rt, entrance.address, [2; 32])?;
-            stream.write_all(&proof).ok()?;
-            stream.write_all(&first).ok()?;
-            if !is_closed(&stream, 0) {
-                return Some(false);
-            }
+// Whether a federate is closed that says first, behind its proof, that it is another one, or something else. Then it
+// says what it should.
+fn is_closed_before<R: Host + Net<Stream = TcpStream, Listener = TcpListener>>(
+    rt: &R,
+    entrance: &Entrance<'_>,
+    federate: u16,
+    others: &[[u8; 20]],
+) -> Option<bool> {
+    for other in others {
+        let (stream, _) = said(rt, entrance.address, federate, other)?;
+        if !is_closed(&stream, 0) {
+            return Some(false);
         }
-        is_first(rt, entrance)
     }
+    is_let_in(rt, entrance, federate)
+}
+
+// Whether that holds of federate 0, and of the last one.
+fn are_closed_before<R: Host + Net<Stream = TcpStream, Listener = TcpListener>>(
+    rt: &R,
+    entrance: &Entrance<'_>,
+) -> Option<bool> {
+    let garbage = [0xff; 20];
+    let first = &[OTHER_HELLO, ACKNOWLEDGEMENT, garbage];
+    let third = &[HELLO, OTHER_HELLO, ACKNOWLEDGEMENT, garbage];
+    Some(is_closed_before(rt, entrance, 0, first)? && is_closed_before(rt, entrance, 2, third)?)
 }
 
 #[test]
 fn closes_a_connection_that_begins_with_another_hello(rt: HostRuntime) {
-    assert_eq!(rt; visited::<OtherFirst, _>(&rt), Some(true));
+    assert_eq!(rt; visited(&rt, &rt, are_closed_before), Some(true));
 }
 
-/// Behind its proof federate 2 says first that it is another one, or something else. Then it says what it should.
-struct ThirdFirst;
-
-impl Visit for ThirdFirst {
-    fn visit<R: Host + Net<Stream = TcpStream, Listener = TcpListener>>(
-        rt: &R,
-        entrance: &Entrance<'_>,
-    ) -> Option<bool> {
-        for first in [HELLO, OTHER_HELLO, ACKNOWLEDGEMENT, [0xff; 20]] {
-            let ByHand {
-                mut stream,
-                proof,
-                ..
-            } = greeted_by_hand_as(rt, entrance.address, 2, [9; 32])?;
-            stream.write_all(&proof).ok()?;
-            stream.write_all(&first).ok()?;
-            if !is_closed(&stream, 0) {
-                return Some(false);
-            }
+// Whether what is no greeting is closed, and nothing is said on it.
+fn is_garbage_closed<R: Host + Net<Stream = TcpStream, Listener = TcpListener>>(
+    rt: &R,
+    entrance: &Entrance<'_>,
+) -> Option<bool> {
+    for byte in &[0, 0x66, 0xff] {
+        let mut stream = TcpStream::connect(rt, entrance.address).ok()?;
+        stream.write_all(&[*byte; 200]).ok()?;
+        if !is_closed(&stream, 0) {
+            return Some(false);
         }
-        let was_empty = is_empty(rt, entrance);
-        let ByHand {
-            mut stream,
-            proof,
-            ..
-        } = greeted_by_hand_as(rt, entrance.address, 2, [9; 32])?;
-        stream.write_all(&proof).ok()?;
-        stream.write_all(&THIRD_HELLO).ok()?;
-        let let_in = next(rt, &entrance.third)?;
-        Some(
-            was_empty
-                && let_in.first.as_slice() == THIRD_HELLO.as_slice()
-                && is_empty(rt, entrance),
-        )
     }
-}
-
-#[test]
-fn closes_a_connection_of_a_third_federate_that_begins_with_another_hello(rt: HostRuntime) {
-    assert_eq!(rt; visited::<ThirdFirst, _>(&rt), Some(true));
-}
-
-/// What is no greeting is closed, and nothing is said on it.
-struct Garbage;
-
-impl Visit for Garbage {
-    fn visit<R: Host + Net<Stream = TcpStream, Listener = TcpListener>>(
-        rt: &R,
-        entrance: &Entrance<'_>,
-    ) -> Option<bool> {
-        for byte in [0, 0x66, 0xff] {
-            let mut stream = TcpStream::connect(rt, entrance.address).ok()?;
-            stream.write_all(&[byte; 200]).ok()?;
-            if !is_closed(&stream, 0) {
-                return Some(false);
-            }
-        }
-        is_first(rt, entrance)
-    }
+    is_let_in(rt, entrance, 0)
 }
 
 #[test]
 fn closes_what_is_no_greeting(rt: HostRuntime) {
-    assert_eq!(rt; visited::<Garbage, _>(&rt), Some(true));
+    assert_eq!(rt; visited(&rt, &rt, is_garbage_closed), Some(true));
 }
 
-/// Each prefix of what a federate says is followed by the end.
-struct Prefixes;
-
-impl Visit for Prefixes {
-    fn visit<R: Host + Net<Stream = TcpStream, Listener = TcpListener>>(
-        rt: &R,
-        entrance: &Entrance<'_>,
-    ) -> Option<bool> {
-        let ByHand { greeting, .. } = greeted_by_hand(rt, entrance.address, [3; 32])?;
-        for count in 0..greeting.len() {
-            let mut stream = TcpStream::connect(rt, entrance.address).ok()?;
-            stream.write_all(&greeting[..count]).ok()?;
-        }
-        for count in 0..=32 {
-            let ByHand {
-                mut stream,
-                proof,
-                ..
-            } = greeted_by_hand(rt, entrance.address, [4; 32])?;
-            stream.write_all(&proof[..count]).ok()?;
-        }
-        for count in 0..HELLO.len() {
-            let ByHand {
-                mut stream,
-                proof,
-                ..
-            } = greeted_by_hand(rt, entrance.address, [5; 32])?;
-            stream.write_all(&proof).ok()?;
-            stream.write_all(&HELLO[..count]).ok()?;
-        }
-        is_first(rt, entrance)
+// Federate 0 says this many bytes of its greeting, its proof and its Hello, and ends.
+fn say<R: Net<Stream = TcpStream, Listener = TcpListener>>(
+    rt: &R,
+    address: SocketAddr,
+    size: usize,
+) -> Option<()> {
+    if size < 74 {
+        greeted(rt, address, 0, size)?;
+        return Some(());
     }
+    let (mut stream, challenge) = challenged(rt, address, 0)?;
+    let proof = proof_of(0, &challenge)?;
+    let behind = size.saturating_sub(74);
+    stream.write_all(proof.get(..behind.min(32))?).ok()?;
+    stream
+        .write_all(HELLO.get(..behind.saturating_sub(32))?)
+        .ok()
+}
+
+// Whether nobody is let in by a prefix of them.
+fn lets_in_no_prefix<R: Host + Net<Stream = TcpStream, Listener = TcpListener>>(
+    rt: &R,
+    entrance: &Entrance<'_>,
+) -> Option<bool> {
+    for size in 0..126 {
+        say(rt, entrance.address, size)?;
+    }
+    is_let_in(rt, entrance, 0)
 }
 
 #[test]
 fn lets_in_no_prefix_of_what_a_federate_says(rt: HostRuntime) {
-    assert_eq!(rt; visited::<Prefixes, _>(&rt), Some(true));
+    assert_eq!(rt; visited(&rt, &rt, lets_in_no_prefix), Some(true));
 }

@@ -1,12 +1,11 @@
 //! Whoever reads a connection between machines waits for what comes, at either end: greeting it looked without waiting.
-use crate::entrance::{Arrivals, HELLO, Machine, Process, acceptor_at, host_to, listener_of, next};
+use crate::entrance::{Entrance, Machine, visited, when_let_in};
 use std::net::{Net, TcpListener, TcpStream};
 use std::sync::Wait;
 use std::sync::atomic::{AtomicBool, Ordering};
 use std::thread;
 use std::time::{Clock, Duration};
-use wires_hosts::{FederateHost, Heard};
-use wires_transports::{Acceptor, Ending, Transport};
+use wires_transports::Transport;
 
 /// How far a reader is.
 #[derive(Drop)]
@@ -55,47 +54,21 @@ fn waits<R: Machine, S: Transport + Send, T: Transport + Send>(
     has_read && was_waiting
 }
 
-// Whether both ends of a connection wait, which this process makes and the coordinator lets in.
-fn ends_wait<R: Machine + Net<Stream = TcpStream, Listener = TcpListener>>(
-    rt: &R,
-    process: &Process,
-    host: FederateHost,
-    arrivals: &Arrivals<'_>,
-) -> Option<(bool, bool)> {
-    let mut own = process.dial(rt, rt.alloc(), host)?;
-    own.outgoing.send(rt, &HELLO).ok()?;
-    let mut other = next(rt, arrivals)?.connection;
-    let first = waits(rt, &mut own.incoming, &mut other.outgoing);
-    let second = waits(rt, &mut other.incoming, &mut own.outgoing);
-    Some((first, second))
-}
-
-// The same, where a coordinator of one federate lets in what comes.
+// Whether both ends of a connection wait, which a federate's process makes and the coordinator lets in.
 fn both_wait<R: Machine + Net<Stream = TcpStream, Listener = TcpListener>>(
     rt: &R,
-) -> Option<(bool, bool)> {
-    let alloc = rt.alloc();
-    let listener = listener_of(rt)?;
-    let host = host_to(&listener)?;
-    let process = Process::new(alloc)?;
-    let heard = Heard::new(alloc, 1).ok()?;
-    // Whoever asks behind the end isn't told that the run is finished.
-    heard.give_up();
-    let ending = Ending::new();
-    let (acceptor, arrivals) = acceptor_at(alloc, rt, listener, &heard)?;
-    let ((), seen) = thread::join(
-        rt,
-        || acceptor.let_in(rt, alloc, &ending),
-        || {
-            let seen = ends_wait(rt, &process, host, &arrivals);
-            ending.set();
-            seen
-        },
-    );
-    seen
+    entrance: &Entrance<'_>,
+) -> Option<bool> {
+    when_let_in(rt, entrance, entrance.process, 0, |own, other| {
+        let first = waits(rt, &mut own.incoming, &mut other.outgoing);
+        let second = waits(rt, &mut other.incoming, &mut own.outgoing);
+        Some(first && second)
+    })
 }
 
 #[test]
 fn waits_for_what_comes(rt: HostRuntime) {
-    assert_eq!(rt; both_wait(&rt), Some((true, true)));
+    // For the prover: of a function passed by its name it isn't known that its machine is shared by threads.
+    let are_waiting = visited(&rt, &rt, |rt, entrance| both_wait(rt, entrance));
+    assert_eq!(rt; are_waiting, Some(true));
 }

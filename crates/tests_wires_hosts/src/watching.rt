@@ -1,8 +1,9 @@
 //! Who ends a federate's last connection, and when. No time goes by in these tests: their clocks are simulated.
 use crate::entrance::{
-    FILES, Machine, Own, Process, SECRET, host_to, is_closed, key_of, waiting_listener_of,
+    Machine, Own, SECRET, answer_to, greeting_at, host_to, is_closed, waiting_listener_of,
 };
-use crate::simulated::{Broken, EndsAt, Meanwhile, Simulated, is_over};
+use crate::process::Process;
+use crate::simulated::{EndsAt, Meanwhile, is_over, watched_until};
 use std::alloc::Global;
 use std::io::{Read, Write};
 use std::net::{Net, TcpListener, TcpStream};
@@ -10,18 +11,11 @@ use std::sync::Wait;
 use std::sync::atomic::{AtomicBool, Ordering};
 use std::thread;
 use std::time::Duration;
-use wires::Work;
-use wires_greeting::CoordinatorSide;
-use wires_hosts::{Heard, NoBarrier, Patience};
-use wires_transports::Ending;
 
 // The coordinator's end of the next connection, which is let in by hand.
 fn let_in_by_hand(listener: &TcpListener) -> Option<TcpStream> {
-    let (mut stream, _) = listener.accept().ok()?;
-    let mut greeting = [0; 74];
-    stream.read_exact(&mut greeting).ok()?;
-    let mut side = CoordinatorSide::new(key_of(SECRET)?, FILES);
-    let challenge = side.greeted(&greeting, &[9; 32], &[true], false)?;
+    let (mut stream, greeting) = greeting_at(listener)?;
+    let challenge = answer_to(&greeting, SECRET, true, false)?;
     stream.write_all(&challenge).ok()?;
     let mut proof = [0; 32];
     stream.read_exact(&mut proof).ok()?;
@@ -46,7 +40,7 @@ fn connected<'a, R: Machine + Net<Stream = TcpStream, Listener = TcpListener>>(
 /// A run that is to end at one time; at another one somebody looks whether its last connection is open.
 #[derive(Drop)]
 struct Course<'a> {
-    ending: &'a Ending,
+    process: &'a Process,
     end_ms: u64,
     other: &'a TcpStream,
     look_ms: u64,
@@ -59,13 +53,12 @@ impl<'a> Meanwhile for &Course<'a> {
             self.was_open.store(!is_over(self.other), Ordering::SeqCst);
         }
         if ms == self.end_ms {
-            self.ending.set();
+            self.process.ending.set();
         }
     }
 }
 
 /// How a process's last connection is watched.
-#[derive(Clone, Copy)]
 struct Case {
     /// How long nothing has to be heard until the run is given up, in ms.
     patience: Option<u64>,
@@ -75,6 +68,21 @@ struct Case {
     is_held: bool,
     /// When the connection is ended.
     ended_ms: u64,
+    /// Whether it is the second one of the process.
+    is_second: bool,
+}
+
+// Whether the last connection is ended then, and is open 100 ms before.
+fn is_last_ended<R: Machine + Net<Stream = TcpStream, Listener = TcpListener>>(
+    rt: &R,
+    case: &Case,
+) -> Option<bool> {
+    let process = Process::new(rt.alloc())?;
+    if case.is_second && connected(rt, &process).is_none() {
+        return None;
+    }
+    let (own, other) = connected(rt, &process)?;
+    Some(is_ended_then(rt, &process, case, own, &other))
 }
 
 // A connection that a worker has still, or not.
@@ -82,34 +90,27 @@ fn held_if<'a>(is_held: bool, own: Own<'a>) -> Option<Own<'a>> {
     if is_held { Some(own) } else { None }
 }
 
-// Whether the last connection is ended then, and is open 100 ms before.
-fn is_ended_then<R: Machine + Net<Stream = TcpStream, Listener = TcpListener>>(
+// Whether this one, of which the other end is there, is ended then.
+fn is_ended_then<R: Machine>(
     rt: &R,
-    case: Case,
-) -> Option<bool> {
-    let process = Process::new(rt.alloc())?;
-    let (own, other) = connected(rt, &process)?;
+    process: &Process,
+    case: &Case,
+    own: Own<'_>,
+    other: &TcpStream,
+) -> bool {
     let held = held_if(case.is_held, own);
     let course = Course {
-        ending: &process.ending,
+        process,
         end_ms: case.end_ms,
-        other: &other,
+        other,
         look_ms: case.ended_ms.saturating_sub(100),
         was_open: AtomicBool::new(false),
     };
-    let machine = Simulated::new(rt, &Broken, &course);
-    let watcher = Patience {
-        heard: &process.heard,
-        barrier: &process.barrier,
-        ending: &process.ending,
-        most: case.patience.map(Duration::from_millis),
-        last: Some(&process.last),
-    };
-    let _ = watcher.work(&machine, rt.alloc());
-    let is_then = machine.time() == case.ended_ms && course.was_open.load(Ordering::SeqCst);
-    let is_ended = is_closed(&other, 0);
+    let patience = case.patience.map(Duration::from_millis);
+    let is_then = watched_until(rt, process, patience, &course) == case.ended_ms;
+    let is_ended = is_closed(other, 0);
     drop(held);
-    Some(is_then && is_ended)
+    is_then && is_ended && course.was_open.load(Ordering::SeqCst)
 }
 
 // The place of the first of these that is ended at another time.
@@ -118,7 +119,7 @@ fn first_wrong<R: Machine + Net<Stream = TcpStream, Listener = TcpListener>>(
     cases: &[Case],
 ) -> Option<usize> {
     for (place, case) in cases.iter().enumerate() {
-        if is_ended_then(rt, *case) != Some(true) {
+        if is_last_ended(rt, case) != Some(true) {
             return Some(place);
         }
     }
@@ -131,23 +132,33 @@ const HELD: &[Case] = &[
         end_ms: 5000,
         is_held: true,
         ended_ms: 6000,
+        is_second: false,
     },
     Case {
         patience: Some(60_000),
         end_ms: 5000,
         is_held: true,
         ended_ms: 6000,
+        is_second: false,
     },
     Case {
         patience: Some(3000),
         end_ms: 60_000,
         is_held: true,
         ended_ms: 4000,
+        is_second: false,
+    },
+    Case {
+        patience: None,
+        end_ms: 1000,
+        is_held: true,
+        ended_ms: 2000,
+        is_second: true,
     },
 ];
 
 #[test]
-fn ends_the_last_connection_1_s_behind_the_run(rt: HostRuntime) {
+fn ends_the_connection_that_was_made_last_1_s_behind_the_run(rt: HostRuntime) {
     assert_eq!(rt; first_wrong(&rt, HELD), None);
 }
 
@@ -157,49 +168,20 @@ const NOT_HELD: &[Case] = &[
         end_ms: 5000,
         is_held: false,
         ended_ms: 5000,
+        is_second: false,
     },
     Case {
         patience: Some(3000),
         end_ms: 60_000,
         is_held: false,
         ended_ms: 3000,
+        is_second: false,
     },
 ];
 
 #[test]
 fn ends_the_last_connection_with_the_run_where_no_worker_has_it(rt: HostRuntime) {
     assert_eq!(rt; first_wrong(&rt, NOT_HELD), None);
-}
-
-// Whether the second of two connections of a process is ended behind its run, which a worker has still.
-fn is_second_ended<R: Machine + Net<Stream = TcpStream, Listener = TcpListener>>(
-    rt: &R,
-) -> Option<bool> {
-    let process = Process::new(rt.alloc())?;
-    let first = connected(rt, &process)?;
-    drop(first);
-    let (own, other) = connected(rt, &process)?;
-    let ends = EndsAt {
-        ending: &process.ending,
-        ms: 1000,
-    };
-    let machine = Simulated::new(rt, &Broken, ends);
-    let watcher = Patience {
-        heard: &process.heard,
-        barrier: &process.barrier,
-        ending: &process.ending,
-        most: None,
-        last: Some(&process.last),
-    };
-    let _ = watcher.work(&machine, rt.alloc());
-    let is_ended = is_closed(&other, 0);
-    drop(own);
-    Some(is_ended)
-}
-
-#[test]
-fn ends_the_connection_that_was_made_last(rt: HostRuntime) {
-    assert_eq!(rt; is_second_ended(&rt), Some(true));
 }
 
 // How long a process is watched that never had a connection, and whose run is to end at this time, in ms.
@@ -212,16 +194,8 @@ fn watched_for<R: Machine>(rt: &R, end_ms: u64) -> Option<u64> {
         ending: &process.ending,
         ms: end_ms,
     };
-    let machine = Simulated::new(rt, &Broken, ends);
-    let watcher = Patience {
-        heard: &process.heard,
-        barrier: &process.barrier,
-        ending: &process.ending,
-        most: Some(Duration::from_millis(60_000)),
-        last: Some(&process.last),
-    };
-    let _ = watcher.work(&machine, rt.alloc());
-    Some(machine.time())
+    let patience = Some(Duration::from_millis(60_000));
+    Some(watched_until(rt, &process, patience, ends))
 }
 
 #[test]
@@ -233,9 +207,7 @@ fn watches_no_longer_than_the_run_where_there_is_no_connection(rt: HostRuntime) 
 /// A run that is given up, and whether somebody looks on.
 #[derive(Drop)]
 struct Watched {
-    heard: Heard,
-    barrier: NoBarrier,
-    ending: Ending,
+    process: Process,
     is_watched: AtomicBool,
 }
 
@@ -256,41 +228,12 @@ impl<'a, R: Wait> Meanwhile for OnceWatched<'a, R> {
     }
 }
 
-// Gives a run up in which nothing is heard.
-fn give_up<R: Machine>(rt: &R, run: &Watched) {
-    let machine = Simulated::new(rt, &Broken, OnceWatched { rt, run });
-    let patience = Patience {
-        heard: &run.heard,
-        barrier: &run.barrier,
-        ending: &run.ending,
-        most: Some(Duration::from_millis(50)),
-        last: None,
-    };
-    let _ = patience.work(&machine, rt.alloc());
-}
-
-// Looks on until the run is to end; whether it never looked finished.
-fn never_looks_finished<R: Machine>(rt: &R, run: &Watched) -> bool {
-    run.is_watched.store(true, Ordering::SeqCst);
-    for _ in rt.forever() {
-        if run.heard.is_finished(&run.ending) {
-            return false;
-        }
-        if run.ending.is_set() {
-            break;
-        }
-    }
-    true
-}
-
-// Many runs that are given up, one after the other.
+// Many runs in which nothing is heard, one after the other.
 fn runs(alloc: Global) -> Option<Vec<Watched>> {
     let mut runs = Vec::new(alloc);
     for _ in 0..500 {
         let run = Watched {
-            heard: Heard::new(alloc, 0).ok()?,
-            barrier: NoBarrier,
-            ending: Ending::new(),
+            process: Process::new(alloc)?,
             is_watched: AtomicBool::new(false),
         };
         runs.push(run).ok()?;
@@ -300,9 +243,25 @@ fn runs(alloc: Global) -> Option<Vec<Watched>> {
 
 // Gives all of them up.
 fn give_all_up<R: Machine>(rt: &R, runs: &[Watched]) {
+    let patience = Some(Duration::from_millis(50));
     for run in runs {
-        give_up(rt, run);
+        watched_until(rt, &run.process, patience, OnceWatched { rt, run });
     }
+}
+
+// Looks on until the run is to end; whether it never looked finished.
+fn never_looks_finished<R: Machine>(rt: &R, run: &Watched) -> bool {
+    let process = &run.process;
+    run.is_watched.store(true, Ordering::SeqCst);
+    for _ in rt.forever() {
+        if process.heard.is_finished(&process.ending) {
+            return false;
+        }
+        if process.ending.is_set() {
+            break;
+        }
+    }
+    true
 }
 
 // Looks on at all of them; whether none ever looked finished.

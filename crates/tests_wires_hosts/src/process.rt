@@ -1,0 +1,209 @@
+//! A process of a run between machines, the coordinator's or a federate's, and what a test has it do.
+use crate::entrance::{Host, Machine, Own, host_to, listener_of, waiting_listener_of};
+use std::alloc::Global;
+use std::net::{Net, TcpListener, TcpStream};
+use std::sync::Wait;
+use std::sync::atomic::{AtomicBool, AtomicU64, Ordering};
+use std::thread;
+use std::time::Duration;
+use wires_hosts::{
+    Barrier, DialFault, FederateHost, Heard, HostDial, LastConnection, Patience, Unkept,
+};
+use wires_transports::{Dial, Ending};
+
+/// A barrier that counts who comes, and refuses all from some moment on.
+#[derive(Drop)]
+pub struct CountingBarrier {
+    reached: AtomicU64,
+    told: AtomicU64,
+    refuses: AtomicBool,
+}
+
+impl CountingBarrier {
+    /// It lets all by so far.
+    pub fn new() -> CountingBarrier {
+        CountingBarrier {
+            reached: AtomicU64::new(0),
+            told: AtomicU64::new(0),
+            refuses: AtomicBool::new(false),
+        }
+    }
+
+    /// From now on it refuses.
+    pub fn refuse(&self) {
+        self.refuses.store(true, Ordering::SeqCst);
+    }
+
+    /// How many came to be let by, and how many to tell.
+    pub fn counts(&self) -> (u64, u64) {
+        (
+            self.reached.load(Ordering::SeqCst),
+            self.told.load(Ordering::SeqCst),
+        )
+    }
+
+    fn answer(&self) -> Result<(), Unkept> {
+        if self.refuses.load(Ordering::SeqCst) {
+            Err(Unkept)
+        } else {
+            Ok(())
+        }
+    }
+}
+
+impl Barrier for CountingBarrier {
+    fn reach<R: Wait>(&self, _rt: &R) -> Result<(), Unkept> {
+        self.reached.fetch_add(1, Ordering::SeqCst);
+        self.answer()
+    }
+
+    fn tell<R: Wait>(&self, _rt: &R) -> Result<(), Unkept> {
+        self.told.fetch_add(1, Ordering::SeqCst);
+        self.answer()
+    }
+
+    fn has_failed(&self) -> bool {
+        self.refuses.load(Ordering::SeqCst)
+    }
+}
+
+/// What a process has heard, what stands between it and all that leaves it, and whether its run is to end.
+#[derive(Drop)]
+pub struct Process {
+    pub heard: Heard,
+    pub barrier: CountingBarrier,
+    pub last: LastConnection,
+    pub ending: Ending,
+}
+
+impl Process {
+    /// A federate's, which has heard nothing.
+    pub fn new(alloc: Global) -> Option<Process> {
+        Process::of(alloc, 0)
+    }
+
+    /// The coordinator's of this many federates.
+    pub fn of(alloc: Global, federates: usize) -> Option<Process> {
+        Some(Process {
+            heard: Heard::new(alloc, federates).ok()?,
+            barrier: CountingBarrier::new(),
+            last: LastConnection::new(),
+            ending: Ending::new(),
+        })
+    }
+
+    /// Its connection, where the first attempt comes to one.
+    pub fn dial<'a, R: Host + Net<Stream = TcpStream, Listener = TcpListener>>(
+        &'a self,
+        rt: &'a R,
+        alloc: Global,
+        host: FederateHost,
+    ) -> Option<Own<'a>> {
+        HostDial::new(
+            rt,
+            host,
+            &self.heard,
+            &self.barrier,
+            &self.last,
+            &self.ending,
+        )
+        .dial(rt, alloc)
+    }
+
+    /// Whether an attempt comes to nothing.
+    pub fn is_in_vain<R: Host + Net<Stream = TcpStream, Listener = TcpListener>>(
+        &self,
+        rt: &R,
+        alloc: Global,
+        host: FederateHost,
+    ) -> bool {
+        self.dial(rt, alloc, host).is_none()
+    }
+
+    /// Whether the first attempt came to nothing for this, and whether the run is to end by it.
+    pub fn is_refused<R: Host + Net<Stream = TcpStream, Listener = TcpListener>>(
+        &self,
+        rt: &R,
+        alloc: Global,
+        host: FederateHost,
+        fault: DialFault,
+        ends: bool,
+    ) -> bool {
+        self.is_in_vain(rt, alloc, host)
+            && self.heard.last_fault() == Some(fault)
+            && self.ending.is_set() == ends
+    }
+
+    /// What watches its run, and its last connection, with this patience.
+    pub fn patience(&self, most: Option<Duration>) -> Patience<'_, CountingBarrier> {
+        Patience {
+            heard: &self.heard,
+            barrier: &self.barrier,
+            ending: &self.ending,
+            most,
+            last: Some(&self.last),
+        }
+    }
+}
+
+/// Somebody who listens in the coordinator's place, and a federate's process that is to connect there.
+#[derive(Drop)]
+pub struct Meeting {
+    pub alloc: Global,
+    pub listener: TcpListener,
+    pub host: FederateHost,
+    pub process: Process,
+}
+
+impl Meeting {
+    fn at(listener: TcpListener, alloc: Global) -> Option<Meeting> {
+        Some(Meeting {
+            alloc,
+            host: host_to(&listener)?,
+            process: Process::new(alloc)?,
+            listener,
+        })
+    }
+}
+
+/// What is seen where somebody listens who doesn't wait, and such a process is there.
+pub fn met<
+    S,
+    R: Machine + Net<Stream = TcpStream, Listener = TcpListener>,
+    L: FnOnce(&R, &Meeting) -> Option<S>,
+>(rt: &R, look: L) -> Option<S>
+    requires { L.IsAlwaysCallable look }
+{
+    let meeting = Meeting::at(listener_of(rt)?, rt.alloc())?;
+    look(rt, &meeting)
+}
+
+/// Whether both see what they should: who listens, and a federate's process that connects there meanwhile.
+pub fn meet<
+    R: Machine + Net<Stream = TcpStream, Listener = TcpListener>,
+    L: FnOnce(&TcpListener) -> Option<bool> + Send,
+    C: FnOnce(&Process, FederateHost) -> bool + Send,
+>(rt: &R, listens: L, connects: C) -> Option<bool>
+    requires listens { (listens : _) (listener : _) → L.pre listens listener }
+    requires connects { (connects : _) (process : _) (host : _) → C.pre connects process host }
+{
+    let meeting = Meeting::at(waiting_listener_of(rt)?, rt.alloc())?;
+    Some(are_both(rt, &meeting, listens, connects))
+}
+
+// The same of this meeting.
+fn are_both<
+    R: Machine,
+    L: FnOnce(&TcpListener) -> Option<bool> + Send,
+    C: FnOnce(&Process, FederateHost) -> bool + Send,
+>(rt: &R, meeting: &Meeting, listens: L, connects: C) -> bool
+    requires listens { (listens : _) (listener : _) → L.pre listens listener }
+    requires connects { (connects : _) (process : _) (host : _) → C.pre connects process host }
+{
+    let (seen, is_right) = thread::join(
+        rt,
+        || listens(&meeting.listener),
+        || connects(&meeting.process, meeting.host),
+    );
+    seen == Some(true) && is_right
+}
