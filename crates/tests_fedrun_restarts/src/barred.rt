@@ -1,0 +1,253 @@
+//! Nodes in threads, each by itself over connections in memory, with logs: from their begins over what their disks have
+//! to their ends, or until they are dropped.
+use crate::fuse::{ENDLESS, Fuse, FusedBarrier, Kept};
+use crate::given::Given;
+use crate::life::hand_in_again;
+use crate::lines::{Coming, EndWithRun, MemoryAcceptor, MemoryDial};
+use crate::stop::Stop;
+use coordinator::Coordinator;
+use crossbeam_channel::{Receiver, Sender};
+use desk::Shared;
+use federate::Federate;
+use fedrun_logs::{LogFile, OpenedLog, begin_log};
+use files_keeping::{MemoryDevice, read_locked};
+use files_logs::LogHead;
+use node::{Node, NodeId};
+use std::alloc::Global;
+use wires::{
+    CoordinatorLines, FederateLines, Runtime, Terms, channels, run_coordinator, run_federate,
+};
+use wires_hosts::{Barrier, Heard};
+use wires_transports::{CurrentConnections, Ending};
+use wires_workers::NoGate;
+
+/// As many turns as each run needs that comes to its end.
+const TERMS: Terms = Terms {
+    turns: 100_000,
+    frames: 2,
+};
+
+// A node's log, ready for more, whose events were handed in to its desk.
+fn begun<R: Runtime, N: Node>(
+    rt: &R,
+    alloc: Global,
+    head: &LogHead,
+    shared: &Shared<N>,
+    kept: &Kept,
+) -> Result<LogFile<MemoryDevice>, Stop> {
+    let Some(opened) = opened(alloc, head, &kept.bytes) else {
+        return Err(Stop::DoesNotGoOn);
+    };
+    hand_in_again(rt, alloc, shared, &opened.journal, kept.left)?;
+    Ok(opened.file)
+}
+
+// The log on a disk with these bytes.
+fn opened(alloc: Global, head: &LogHead, bytes: &[u8]) -> Option<OpenedLog<MemoryDevice>> {
+    let mut device = MemoryDevice::new(alloc, bytes).ok()?;
+    let bytes = read_locked(alloc, &mut device).ok()?;
+    begin_log(alloc, device, bytes.as_slice(), head).ok()
+}
+
+// Runs a federate, over what was kept of it; whether to its end.
+fn federate_life<R: Runtime>(
+    rt: &R,
+    alloc: Global,
+    given: &Given,
+    number: usize,
+    to: &Sender<Coming>,
+    finished: &Ending,
+    fuse: Fuse,
+    kept: &mut Kept,
+) -> Result<bool, Stop> {
+    let head = given.head(NodeId::Federate(number));
+    match given.federate(alloc, number) {
+        Some(shared) => federate_at(rt, alloc, &head, &shared, number, to, finished, fuse, kept),
+        None => Err(Stop::Memory),
+    }
+}
+
+// The same with a desk to which nothing came.
+fn federate_at<R: Runtime>(
+    rt: &R,
+    alloc: Global,
+    head: &LogHead,
+    shared: &Shared<Federate<'_>>,
+    number: usize,
+    to: &Sender<Coming>,
+    finished: &Ending,
+    fuse: Fuse,
+    kept: &mut Kept,
+) -> Result<bool, Stop> {
+    let file = begun(rt, alloc, head, shared, kept)?;
+    let ending = Ending::new();
+    let barrier = FusedBarrier::new(alloc, shared, file, fuse, &ending);
+    let has_run = joins(rt, alloc, number, to, finished, shared, &barrier, &ending);
+    barrier.leave(has_run && finished.is_set(), kept)
+}
+
+// Runs a federate until it hears that the run is finished, or is dropped; whether it could be run.
+fn joins<R: Runtime, B: Barrier + Sync>(
+    rt: &R,
+    alloc: Global,
+    number: usize,
+    to: &Sender<Coming>,
+    finished: &Ending,
+    shared: &Shared<Federate<'_>>,
+    barrier: &B,
+    ending: &Ending,
+) -> bool {
+    let Ok(heard) = Heard::new(alloc, 0) else {
+        return false;
+    };
+    let Ok(to) = to.clone() else {
+        return false;
+    };
+    let lines = FederateLines {
+        number,
+        dial: MemoryDial {
+            federate: number,
+            to,
+            heard: &heard,
+            barrier,
+        },
+        terms: TERMS,
+    };
+    let watcher = EndWithRun {
+        finished,
+        barrier,
+        ending,
+    };
+    run_federate(rt, alloc, shared, lines, watcher, &NoGate, ending).is_ok()
+}
+
+// Runs the coordinator, over what was kept of it; whether to its end. Where it is finished it says so once all is kept
+// that made it so.
+fn coordinator_life<R: Runtime>(
+    rt: &R,
+    alloc: Global,
+    given: &Given,
+    coming: &Receiver<Coming>,
+    finished: &Ending,
+    fuse: Fuse,
+    kept: &mut Kept,
+) -> Result<bool, Stop> {
+    let head = given.head(NodeId::Coordinator);
+    match given.coordinator(alloc) {
+        Some(shared) => coordinator_at(
+            rt,
+            alloc,
+            &head,
+            &shared,
+            given.count(),
+            coming,
+            finished,
+            fuse,
+            kept,
+        ),
+        None => Err(Stop::Memory),
+    }
+}
+
+// The same with a desk to which nothing came.
+fn coordinator_at<R: Runtime>(
+    rt: &R,
+    alloc: Global,
+    head: &LogHead,
+    shared: &Shared<Coordinator<'_>>,
+    count: usize,
+    coming: &Receiver<Coming>,
+    finished: &Ending,
+    fuse: Fuse,
+    kept: &mut Kept,
+) -> Result<bool, Stop> {
+    let file = begun(rt, alloc, head, shared, kept)?;
+    let ending = Ending::new();
+    let barrier = FusedBarrier::new(alloc, shared, file, fuse, &ending);
+    let has_run = coordinates(
+        rt, alloc, count, coming, finished, shared, &barrier, &ending,
+    );
+    let is_over = has_run && shared.finished(rt) && barrier.tell(rt).is_ok();
+    if is_over {
+        finished.set();
+    }
+    barrier.leave(is_over, kept)
+}
+
+// Runs the coordinator until it is finished, or is dropped; whether it could be run.
+fn coordinates<R: Runtime, B: Barrier + Sync>(
+    rt: &R,
+    alloc: Global,
+    count: usize,
+    coming: &Receiver<Coming>,
+    finished: &Ending,
+    shared: &Shared<Coordinator<'_>>,
+    barrier: &B,
+    ending: &Ending,
+) -> bool {
+    if shared.finished(rt) {
+        // By its log: federates that are gone say nothing more by which a worker would see it.
+        ending.set();
+    }
+    let Ok(heard) = Heard::new(alloc, count) else {
+        return false;
+    };
+    let Ok((readers, arrivals)) = channels(alloc, count) else {
+        return false;
+    };
+    let Ok(current) = CurrentConnections::new(alloc, readers) else {
+        return false;
+    };
+    let lines = CoordinatorLines {
+        arrivals,
+        acceptor: MemoryAcceptor {
+            coming,
+            current,
+            heard: &heard,
+            barrier,
+        },
+    };
+    let watcher = EndWithRun {
+        finished,
+        barrier,
+        ending,
+    };
+    run_coordinator(rt, alloc, shared, lines, watcher, &NoGate, ending).is_ok()
+}
+
+/// Runs a federate that is dropped so, and begins again. What its disk has at its end.
+pub(crate) fn federate_lives<R: Runtime>(
+    rt: &R,
+    alloc: Global,
+    given: &Given,
+    number: usize,
+    to: &Sender<Coming>,
+    finished: &Ending,
+    fuse: Fuse,
+) -> Result<Kept, Stop> {
+    let mut kept = Kept::new(alloc);
+    for fuse in [fuse, ENDLESS] {
+        if federate_life(rt, alloc, given, number, to, finished, fuse, &mut kept)? {
+            return Ok(kept);
+        }
+    }
+    Err(Stop::DoesNotGoOn)
+}
+
+/// The same of the coordinator.
+pub(crate) fn coordinator_lives<R: Runtime>(
+    rt: &R,
+    alloc: Global,
+    given: &Given,
+    coming: &Receiver<Coming>,
+    finished: &Ending,
+    fuse: Fuse,
+) -> Result<Kept, Stop> {
+    let mut kept = Kept::new(alloc);
+    for fuse in [fuse, ENDLESS] {
+        if coordinator_life(rt, alloc, given, coming, finished, fuse, &mut kept)? {
+            return Ok(kept);
+        }
+    }
+    Err(Stop::DoesNotGoOn)
+}

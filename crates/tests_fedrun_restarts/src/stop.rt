@@ -1,0 +1,24 @@
+/// Why a node makes no more steps, or what isn't as it has to be.
+#[derive(Clone, Copy, Debug)]
+pub(crate) enum Stop {
+    /// It was killed, or nothing may leave it any more.
+    Fell,
+    /// Something left it whose cause its disk didn't keep.
+    LeftUnkept,
+    /// Another node acknowledged a signal that was never offered to it.
+    OtherHistory,
+    /// Begun again, it doesn't go on.
+    DoesNotGoOn,
+    /// The run doesn't come to its end.
+    Hangs,
+    /// A log isn't read.
+    Unread,
+    /// An audit doesn't believe the logs.
+    Unproved,
+    /// The coordinator isn't finished by its log.
+    Unfinished,
+    /// The rows are others.
+    OtherRows,
+    /// There was no memory.
+    Memory,
+}
