@@ -1,9 +1,9 @@
 //! Nodes in threads, each by itself over connections in memory, with logs: from their begins over what their disks have
 //! to their ends, or until they are dropped.
-use crate::fuse::{ENDLESS, Fuse, FusedBarrier, Kept};
+use crate::fuse::{ENDLESS, Fuse, FusedBarrier, LogLeft};
 use crate::given::Given;
 use crate::life::hand_in_again;
-use crate::lines::{Coming, EndWithRun, MemoryAcceptor, MemoryDial};
+use crate::lines::{Coming, EndWithRun, MemoryAcceptor, MemoryDial, Sends};
 use crate::stop::Stop;
 use coordinator::Coordinator;
 use crossbeam_channel::{Receiver, Sender};
@@ -27,19 +27,25 @@ const TERMS: Terms = Terms {
     frames: 2,
 };
 
-// A node's log, ready for more, whose events were handed in to its desk.
+// A node's log, ready for more, whose events were handed in to its desk; and whether it says that the run is finished.
 fn begun<R: Runtime, N: Node>(
     rt: &R,
     alloc: Global,
     head: &LogHead,
     shared: &Shared<N>,
-    kept: &Kept,
-) -> Result<LogFile<MemoryDevice>, Stop> {
+    kept: &LogLeft,
+) -> Result<(LogFile<MemoryDevice>, bool), Stop> {
     let Some(opened) = opened(alloc, head, &kept.bytes) else {
         return Err(Stop::DoesNotGoOn);
     };
-    hand_in_again(rt, alloc, shared, &opened.journal, kept.left)?;
-    Ok(opened.file)
+    let OpenedLog {
+        journal,
+        is_told,
+        file,
+        ..
+    } = opened;
+    hand_in_again(rt, alloc, shared, &journal, kept.left)?;
+    Ok((file, is_told))
 }
 
 // The log on a disk with these bytes.
@@ -58,7 +64,7 @@ fn federate_life<R: Runtime>(
     to: &Sender<Coming>,
     finished: &Ending,
     fuse: Fuse,
-    kept: &mut Kept,
+    kept: &mut LogLeft,
 ) -> Result<bool, Stop> {
     let head = given.head(NodeId::Federate(number));
     match given.federate(alloc, number) {
@@ -77,16 +83,22 @@ fn federate_at<R: Runtime>(
     to: &Sender<Coming>,
     finished: &Ending,
     fuse: Fuse,
-    kept: &mut Kept,
+    kept: &mut LogLeft,
 ) -> Result<bool, Stop> {
-    let file = begun(rt, alloc, head, shared, kept)?;
+    let (file, is_told) = begun(rt, alloc, head, shared, kept)?;
     let ending = Ending::new();
-    let barrier = FusedBarrier::new(alloc, shared, file, fuse, &ending);
-    let has_run = joins(rt, alloc, number, to, finished, shared, &barrier, &ending);
+    let sends = Sends::new();
+    let barrier = FusedBarrier::new(alloc, shared, file, fuse, &ending, &sends);
+    // One whose log says that the run is finished asks nobody.
+    let has_run = is_told
+        || joins(
+            rt, alloc, number, to, finished, shared, &barrier, &sends, &ending,
+        );
     barrier.leave(has_run && finished.is_set(), kept)
 }
 
-// Runs a federate until it hears that the run is finished, or is dropped; whether it could be run.
+// Runs a federate until it hears that the run is finished, or is dropped; whether it could be run, and nobody spoke of
+// another history.
 fn joins<R: Runtime, B: Barrier + Sync>(
     rt: &R,
     alloc: Global,
@@ -95,6 +107,7 @@ fn joins<R: Runtime, B: Barrier + Sync>(
     finished: &Ending,
     shared: &Shared<Federate<'_>>,
     barrier: &B,
+    sends: &Sends,
     ending: &Ending,
 ) -> bool {
     let Ok(heard) = Heard::new(alloc, 0) else {
@@ -110,6 +123,7 @@ fn joins<R: Runtime, B: Barrier + Sync>(
             to,
             heard: &heard,
             barrier,
+            sends,
         },
         terms: TERMS,
     };
@@ -118,7 +132,10 @@ fn joins<R: Runtime, B: Barrier + Sync>(
         barrier,
         ending,
     };
-    run_federate(rt, alloc, shared, lines, watcher, &NoGate, ending).is_ok()
+    match run_federate(rt, alloc, shared, lines, watcher, &NoGate, ending) {
+        Ok(run) => !run.shows_other_history,
+        Err(_) => false,
+    }
 }
 
 // Runs the coordinator, over what was kept of it; whether to its end. Where it is finished it says so once all is kept
@@ -130,7 +147,7 @@ fn coordinator_life<R: Runtime>(
     coming: &Receiver<Coming>,
     finished: &Ending,
     fuse: Fuse,
-    kept: &mut Kept,
+    kept: &mut LogLeft,
 ) -> Result<bool, Stop> {
     let head = given.head(NodeId::Coordinator);
     match given.coordinator(alloc) {
@@ -159,13 +176,14 @@ fn coordinator_at<R: Runtime>(
     coming: &Receiver<Coming>,
     finished: &Ending,
     fuse: Fuse,
-    kept: &mut Kept,
+    kept: &mut LogLeft,
 ) -> Result<bool, Stop> {
-    let file = begun(rt, alloc, head, shared, kept)?;
+    let (file, _) = begun(rt, alloc, head, shared, kept)?;
     let ending = Ending::new();
-    let barrier = FusedBarrier::new(alloc, shared, file, fuse, &ending);
+    let sends = Sends::new();
+    let barrier = FusedBarrier::new(alloc, shared, file, fuse, &ending, &sends);
     let has_run = coordinates(
-        rt, alloc, count, coming, finished, shared, &barrier, &ending,
+        rt, alloc, count, coming, finished, shared, &barrier, &sends, &ending,
     );
     let is_over = has_run && shared.finished(rt) && barrier.tell(rt).is_ok();
     if is_over {
@@ -183,6 +201,7 @@ fn coordinates<R: Runtime, B: Barrier + Sync>(
     finished: &Ending,
     shared: &Shared<Coordinator<'_>>,
     barrier: &B,
+    sends: &Sends,
     ending: &Ending,
 ) -> bool {
     if shared.finished(rt) {
@@ -205,6 +224,7 @@ fn coordinates<R: Runtime, B: Barrier + Sync>(
             current,
             heard: &heard,
             barrier,
+            sends,
         },
     };
     let watcher = EndWithRun {
@@ -224,8 +244,8 @@ pub(crate) fn federate_lives<R: Runtime>(
     to: &Sender<Coming>,
     finished: &Ending,
     fuse: Fuse,
-) -> Result<Kept, Stop> {
-    let mut kept = Kept::new(alloc);
+) -> Result<LogLeft, Stop> {
+    let mut kept = LogLeft::new(alloc);
     for fuse in [fuse, ENDLESS] {
         if federate_life(rt, alloc, given, number, to, finished, fuse, &mut kept)? {
             return Ok(kept);
@@ -242,8 +262,8 @@ pub(crate) fn coordinator_lives<R: Runtime>(
     coming: &Receiver<Coming>,
     finished: &Ending,
     fuse: Fuse,
-) -> Result<Kept, Stop> {
-    let mut kept = Kept::new(alloc);
+) -> Result<LogLeft, Stop> {
+    let mut kept = LogLeft::new(alloc);
     for fuse in [fuse, ENDLESS] {
         if coordinator_life(rt, alloc, given, coming, finished, fuse, &mut kept)? {
             return Ok(kept);

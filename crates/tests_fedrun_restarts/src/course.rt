@@ -1,6 +1,6 @@
 //! A whole run on one thread: all nodes make turns, and one of them keeps a log and is killed.
 use crate::given::Given;
-use crate::judging::{Logs, judge};
+use crate::judging::{Logs, is_ended, judge};
 use crate::life::{Fate, Kept, lived};
 use crate::posts::Posts;
 use crate::stop::Stop;
@@ -177,6 +177,9 @@ fn run_over<'a, 'g, R: Wait>(
     let mut world = World::new(alloc, coordinator, federates, who)?;
     let mut kept = Kept::new(alloc);
     live_all(rt, alloc, given, who, lives, &mut world, &mut kept)?;
+    if !is_ended(alloc, given, &kept.bytes) {
+        return Err(Stop::Unended);
+    }
     let Some(logs) = logs(rt, alloc, given, who, &world, &kept) else {
         return Err(Stop::Memory);
     };

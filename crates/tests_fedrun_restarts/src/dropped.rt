@@ -3,9 +3,9 @@
 //! wasn't kept.
 use crate::barred::{coordinator_lives, federate_lives};
 use crate::cases::RING;
-use crate::fuse::{ENDLESS, Fuse, Kept};
+use crate::fuse::{ENDLESS, Fuse, LogLeft};
 use crate::given::Given;
-use crate::judging::{Logs, judge};
+use crate::judging::{Logs, is_ended, judge};
 use crate::lines::{Coming, turn_away};
 use crate::stop::Stop;
 use crossbeam_channel::{Receiver, Sender, unbounded};
@@ -45,7 +45,7 @@ fn coordinates<R: Machine>(
     outside: &Outside,
     coming: &Receiver<Coming>,
     fuse: Fuse,
-) -> Result<Kept, Stop> {
+) -> Result<LogLeft, Stop> {
     let kept = coordinator_lives(rt, alloc, given, coming, &outside.finished, fuse);
     for _ in rt.forever() {
         if outside.over.load(Ordering::SeqCst) == 2 {
@@ -65,7 +65,7 @@ fn joins<R: Machine>(
     number: usize,
     to: &Sender<Coming>,
     fuse: Fuse,
-) -> Result<Kept, Stop> {
+) -> Result<LogLeft, Stop> {
     let kept = federate_lives(rt, alloc, given, number, to, &outside.finished, fuse);
     outside.over.fetch_add(1, Ordering::SeqCst);
     kept
@@ -106,11 +106,16 @@ fn run<R: Machine>(
 fn are_right(
     alloc: Global,
     given: &Given,
-    coordinator: Kept,
-    first: Kept,
-    second: Kept,
+    coordinator: LogLeft,
+    first: LogLeft,
+    second: LogLeft,
 ) -> Result<bool, Stop> {
     let is_dropped = coordinator.is_dropped || first.is_dropped || second.is_dropped;
+    for bytes in [&coordinator.bytes, &first.bytes, &second.bytes] {
+        if !is_ended(alloc, given, bytes) {
+            return Err(Stop::Unended);
+        }
+    }
     let mut federates = Vec::new(alloc);
     if federates.push(first.bytes).is_err() || federates.push(second.bytes).is_err() {
         return Err(Stop::Memory);
@@ -177,13 +182,23 @@ fn a_ring_goes_on_at_whichever_send_its_coordinator_is_dropped(rt: HostRuntime) 
 }
 
 #[test]
-fn a_ring_goes_on_at_whichever_send_a_federate_is_dropped_that_has_kept_its_cause(rt: HostRuntime) {
+fn a_ring_goes_on_at_whichever_send_its_first_federate_is_dropped_that_has_kept_its_cause(
+    rt: HostRuntime,
+) {
     let goes_on = goes_on(&rt, rt.alloc(), FIRST, true);
     assert!(rt; matches!(goes_on, Ok(true)), "{goes_on:?}");
 }
 
 #[test]
-fn a_ring_goes_on_at_whichever_send_a_coordinator_is_dropped_that_has_kept_its_cause(
+fn a_ring_goes_on_at_whichever_send_its_second_federate_is_dropped_that_has_kept_its_cause(
+    rt: HostRuntime,
+) {
+    let goes_on = goes_on(&rt, rt.alloc(), SECOND, true);
+    assert!(rt; matches!(goes_on, Ok(true)), "{goes_on:?}");
+}
+
+#[test]
+fn a_ring_goes_on_at_whichever_send_its_coordinator_is_dropped_that_has_kept_its_cause(
     rt: HostRuntime,
 ) {
     let goes_on = goes_on(&rt, rt.alloc(), COORDINATOR, true);

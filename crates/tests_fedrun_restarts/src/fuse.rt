@@ -1,4 +1,5 @@
 //! The barrier of a node in threads that is dropped at one of its sends.
+use crate::lines::Sends;
 use crate::stop::Stop;
 use desk::Shared;
 use fedrun_logs::{LogBarrier, LogFile};
@@ -28,7 +29,7 @@ pub(crate) const ENDLESS: Fuse = Fuse {
 
 /// What stays of a node.
 #[derive(Drop)]
-pub(crate) struct Kept {
+pub(crate) struct LogLeft {
     /// The bytes on its disk.
     pub bytes: Vec<u8>,
     /// Of so many events the disk has to have the first ones: they had come before something left it.
@@ -36,10 +37,10 @@ pub(crate) struct Kept {
     pub is_dropped: bool,
 }
 
-impl Kept {
+impl LogLeft {
     /// Of one that never began.
-    pub(crate) fn new(alloc: Global) -> Kept {
-        Kept {
+    pub(crate) fn new(alloc: Global) -> LogLeft {
+        LogLeft {
             bytes: Vec::new(alloc),
             left: 0,
             is_dropped: false,
@@ -47,7 +48,7 @@ impl Kept {
     }
 }
 
-/// A log's barrier. Once the node is dropped nothing leaves it any more, and nothing is kept.
+/// A log's barrier. Once the node is dropped it lets nothing by that asks then, and nothing is kept.
 #[derive(Drop)]
 pub(crate) struct FusedBarrier<'a, N: Node> {
     alloc: Global,
@@ -56,6 +57,8 @@ pub(crate) struct FusedBarrier<'a, N: Node> {
     fuse: Fuse,
     // Of the node that is dropped.
     ending: &'a Ending,
+    // What it lets by, and what leaves by the node's lines.
+    let_by: &'a Sends,
     // How many sends were begun.
     sends: AtomicU64,
     // How many events had come before a send that went, at most.
@@ -70,6 +73,7 @@ impl<'a, N: Node> FusedBarrier<'a, N> {
         file: LogFile<MemoryDevice>,
         fuse: Fuse,
         ending: &'a Ending,
+        let_by: &'a Sends,
     ) -> FusedBarrier<'a, N> {
         FusedBarrier {
             alloc,
@@ -77,6 +81,7 @@ impl<'a, N: Node> FusedBarrier<'a, N> {
             inner: LogBarrier::new(alloc, shared, file),
             fuse,
             ending,
+            let_by,
             sends: AtomicU64::new(0),
             left: AtomicUsize::new(0),
         }
@@ -89,17 +94,22 @@ impl<'a, N: Node> FusedBarrier<'a, N> {
 
     /// What stays of the node, which doesn't run any more: its log as it is where it was dropped, and else with its
     /// end, where its run is over. Whether that is so.
-    pub(crate) fn leave(self, is_over: bool, kept: &mut Kept) -> Result<bool, Stop> {
+    pub(crate) fn leave(self, is_over: bool, kept: &mut LogLeft) -> Result<bool, Stop> {
         let has_blown = self.has_blown();
         if !has_blown && !is_over {
             return Err(Stop::Hangs);
         }
         kept.left = self.left.load(Ordering::SeqCst);
-        let FusedBarrier { alloc, inner, .. } = self;
+        let FusedBarrier {
+            alloc,
+            inner,
+            let_by,
+            ..
+        } = self;
         let Ok(file) = inner.into_file() else {
             return Err(Stop::Fell);
         };
-        if file.events() < kept.left {
+        if file.events() < kept.left || let_by.are_too_many() {
             return Err(Stop::LeftUnkept);
         }
         match bytes(alloc, file, !has_blown) {
@@ -137,6 +147,7 @@ impl<'a, N: Node> Barrier for FusedBarrier<'a, N> {
         if before < self.fuse.going {
             self.inner.reach(rt)?;
             self.left.fetch_max(came, Ordering::SeqCst);
+            self.let_by.allow();
             return Ok(());
         }
         if before == self.fuse.going && self.fuse.is_kept {

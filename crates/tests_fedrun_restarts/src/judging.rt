@@ -7,7 +7,8 @@ ghost use Rattle.reactor_programs.specs.Programs.{AreProgramsOf};
 use crate::given::Given;
 use crate::stop::Stop;
 use fedrun_files::Sources;
-use fedrun_reports::{read_coordinator, take_federate};
+use fedrun_reports::{RULES, read_coordinator, take_federate};
+use files_logs::read_log;
 use files_reports::FileDigests;
 use files_text::{RowFormat, write_rows};
 use plan::Plan;
@@ -20,6 +21,14 @@ use std::alloc::Global;
 pub(crate) struct Logs {
     pub coordinator: Vec<u8>,
     pub federates: Vec<Vec<u8>>,
+}
+
+/// Whether a log says that the run is finished, and has its end.
+pub(crate) fn is_ended(alloc: Global, given: &Given, bytes: &[u8]) -> bool {
+    match read_log(alloc, given.digests(), None, RULES, bytes) {
+        Ok(log) => log.is_told && log.is_ended,
+        Err(_) => false,
+    }
 }
 
 /// Judges what the logs have at the end of a run.

@@ -28,8 +28,12 @@ const TORN: Fate = Fate {
 /// its mark and its end.
 const FEWEST_CALLS_AGAIN: u64 = 10;
 
-/// At so many of them at least something isn't synced: the mark and the end are written and synced, each by itself.
-const FEWEST_UNSYNCED: u64 = 4;
+/// At so many calls at least something isn't synced: head, three blocks, mark and end are written and synced, each by
+/// itself.
+const FEWEST_UNSYNCED: u64 = 12;
+
+/// At so many of one that begins with a torn log: what cuts it off, mark and end.
+const FEWEST_UNSYNCED_AGAIN: u64 = 5;
 
 /// Who begins in the ring, and who answers. In the chain that one stands between the others.
 const FIRST: NodeId = NodeId::Federate(0);
@@ -56,8 +60,8 @@ fn killed_so<R: Wait>(
 }
 
 // Kills a node behind so many calls, with each front left of what wasn't synced. An append that fails writes all its
-// bytes here: what one leaves that writes half of them, or none, is a front of that. Whether something wasn't synced; None
-// where it makes no more calls.
+// bytes here: what one leaves that writes half of them, or none, is a front of that. Whether something wasn't synced;
+// None where it makes no more calls.
 fn killed_behind<R: Wait>(
     rt: &R,
     alloc: Global,
@@ -109,11 +113,19 @@ fn killed_at_each<R: Wait>(
     Err((MOST_CALLS, Stop::DoesNotGoOn))
 }
 
-// Whether that kill leaves a torn log: of what is appended last a half isn't synced.
+// Whether that kill leaves a torn log: less of what is appended last than where all its bytes are written.
 fn is_torn_by<R: Wait>(rt: &R, alloc: Global, given: &Given, who: NodeId) -> bool {
-    match run(rt, alloc, given, who, &[TORN, WHOLE]) {
-        Ok(kept) => kept.falls == 1 && kept.unsynced > 0,
-        Err(_) => false,
+    let written = Fate {
+        part: Part::Whole,
+        ..TORN
+    };
+    let half = run(rt, alloc, given, who, &[TORN, WHOLE]);
+    let all = run(rt, alloc, given, who, &[written, WHOLE]);
+    match (half, all) {
+        (Ok(half), Ok(all)) => {
+            half.falls == 1 && half.unsynced > 0 && half.unsynced < all.unsynced
+        }
+        _ => false,
     }
 }
 
@@ -131,13 +143,13 @@ fn goes_on<R: Wait>(
     if is_torn && !is_torn_by(rt, alloc, &given, who) {
         return Err(None);
     }
-    let fewest = if is_torn {
-        FEWEST_CALLS_AGAIN
+    let (fewest, fewest_unsynced) = if is_torn {
+        (FEWEST_CALLS_AGAIN, FEWEST_UNSYNCED_AGAIN)
     } else {
-        FEWEST_CALLS
+        (FEWEST_CALLS, FEWEST_UNSYNCED)
     };
     match killed_at_each(rt, alloc, &given, who, is_torn) {
-        Ok((calls, unsynced)) => Ok(calls >= fewest && unsynced >= FEWEST_UNSYNCED),
+        Ok((calls, unsynced)) => Ok(calls >= fewest && unsynced >= fewest_unsynced),
         Err(exception) => Err(Some(exception)),
     }
 }
@@ -157,8 +169,14 @@ fn a_ring_goes_on_at_whichever_call_a_federate_is_killed(rt: HostRuntime) {
 }
 
 #[test]
-fn a_ring_goes_on_at_whichever_call_a_node_with_a_torn_log_is_killed(rt: HostRuntime) {
-    for who in [NodeId::Coordinator, FIRST] {
+fn a_ring_goes_on_at_whichever_call_a_coordinator_with_a_torn_log_is_killed(rt: HostRuntime) {
+    let goes_on = goes_on(&rt, rt.alloc(), &RING, NodeId::Coordinator, true);
+    assert!(rt; matches!(goes_on, Ok(true)), "{goes_on:?}");
+}
+
+#[test]
+fn a_ring_goes_on_at_whichever_call_a_federate_with_a_torn_log_is_killed(rt: HostRuntime) {
+    for who in [FIRST, SECOND] {
         let goes_on = goes_on(&rt, rt.alloc(), &RING, who, true);
         assert!(rt; matches!(goes_on, Ok(true)), "{who:?} {goes_on:?}");
     }

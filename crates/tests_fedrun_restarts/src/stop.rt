@@ -11,6 +11,8 @@ pub(crate) enum Stop {
     DoesNotGoOn,
     /// The run doesn't come to its end.
     Hangs,
+    /// A log doesn't say that the run is finished, or hasn't its end.
+    Unended,
     /// A log isn't read.
     Unread,
     /// An audit doesn't believe the logs.

@@ -5,7 +5,7 @@ use std::sync::Wait;
 use std::thread;
 use std::time::Duration;
 use wires::Work;
-use wires_hosts::{Heard, HeardTransport, NoBarrier, Patience};
+use wires_hosts::{Barrier, Heard, HeardTransport, NoBarrier, Patience};
 use wires_transports::{Connection, Ending, Transport, pair};
 
 // How often something was heard by a process, as bytes come to it, then none, and then the end.
@@ -98,4 +98,9 @@ fn gives_up_no_run_that_has_ended(rt: HostRuntime) {
     for most in [None, Some(0), Some(100)] {
         assert_eq!(rt; is_kept(&rt, most.map(Duration::from_millis)), Some(true));
     }
+}
+
+#[test]
+fn lets_all_by_where_nothing_is_kept(rt: HostRuntime) {
+    assert_eq!(rt; [NoBarrier.reach(&rt), NoBarrier.tell(&rt)], [Ok(()); 2]);
 }

@@ -35,6 +35,8 @@ struct SlowCoordinator<'a, R> {
     listener: &'a TcpListener,
     ending: &'a Ending,
     stream: Mutex<Option<TcpStream>>,
+    // How many bytes it said.
+    said: AtomicU64,
 }
 
 impl<'a, R: Wait> SlowCoordinator<'a, R> {
@@ -47,12 +49,14 @@ impl<'a, R: Wait> SlowCoordinator<'a, R> {
             }
         }
         if let Some(stream) = &mut *stream {
-            let _ = stream.write_all(&[1]);
+            if stream.write_all(&[1]).is_ok() {
+                self.said.fetch_add(1, Ordering::SeqCst);
+            }
         }
     }
 }
 
-impl<'a, R: Wait> Meanwhile for SlowCoordinator<'a, R> {
+impl<'a, R: Wait> Meanwhile for &SlowCoordinator<'a, R> {
     fn at(&self, ms: u64) {
         if ms % 100 == 0 {
             self.go_on();
@@ -63,23 +67,25 @@ impl<'a, R: Wait> Meanwhile for SlowCoordinator<'a, R> {
     }
 }
 
-// How long an attempt takes that such a coordinator answers, in ms.
+// How long an attempt takes that such a coordinator answers, in ms, and how many bytes that said.
 fn slowly_answered_for<R: Host + Net<Stream = TcpStream, Listener = TcpListener>>(
     rt: &R,
     meeting: &Meeting,
-) -> Option<u64> {
+) -> Option<(u64, u64)> {
     let meanwhile = SlowCoordinator {
         rt,
         listener: &meeting.listener,
         ending: &meeting.process.ending,
         stream: Mutex::new(None),
+        said: AtomicU64::new(0),
     };
-    attempted_until(rt, meeting, DialFault::NoAnswer, false, meanwhile)
+    let ms = attempted_until(rt, meeting, DialFault::NoAnswer, false, &meanwhile)?;
+    Some((ms, meanwhile.said.load(Ordering::SeqCst)))
 }
 
 #[test]
 fn ends_an_attempt_whose_challenge_takes_longer_than_5_s(rt: HostRuntime) {
-    assert_eq!(rt; met(&rt, slowly_answered_for), Some(5000));
+    assert_eq!(rt; met(&rt, slowly_answered_for), Some((5000, 50)));
 }
 
 // How many of these connections are closed by the other end so far.
@@ -105,8 +111,8 @@ fn closed_count(streams: &[TcpStream]) -> u64 {
     count
 }
 
-/// Strangers at a coordinator's listener. Before this time somebody counts how many of their connections were closed,
-/// and again behind it, when the run is to end; both in ms.
+/// Strangers at a coordinator's listener. Before this time, in ms, somebody counts how many of their connections were
+/// closed, and again behind it, when the run is to end.
 #[derive(Drop)]
 struct Strangers<'a> {
     coordinator: &'a Process,
@@ -165,6 +171,13 @@ impl<'a> Speaking<'a> {
         stream.write_all(&[*byte]).ok()
     }
 
+    // What doesn't come about ends the run, before anything is counted.
+    fn end_unless(&self, done: Option<()>) {
+        if done.is_none() {
+            self.strangers.coordinator.ending.set();
+        }
+    }
+
     // Answers the challenge.
     fn prove(&self) -> Option<()> {
         let mut stream = self.strangers.streams.get(4)?;
@@ -177,10 +190,10 @@ impl<'a> Speaking<'a> {
 impl<'a> Meanwhile for Speaking<'a> {
     fn at(&self, ms: u64) {
         if ms % 100 == 0 {
-            let _ = self.go_on(ms / 100);
+            self.end_unless(self.go_on(ms / 100));
         }
         if ms == 1000 {
-            let _ = self.prove();
+            self.end_unless(self.prove());
         }
         self.strangers.count(ms);
     }

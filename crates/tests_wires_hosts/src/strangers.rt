@@ -113,7 +113,7 @@ fn lets_in_no_prefix<R: Host + Net<Stream = TcpStream, Listener = TcpListener>>(
     rt: &R,
     entrance: &Entrance<'_>,
 ) -> Option<bool> {
-    for size in 0..126 {
+    for size in 0..106 + HELLO.len() {
         say(rt, entrance.address, size)?;
     }
     is_let_in(rt, entrance, 0)
