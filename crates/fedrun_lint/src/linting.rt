@@ -149,14 +149,25 @@ fn of_taken(
 }
 
 // Why a file of recorded inputs of a refused federation is refused, for its shape.
-#[tactic(auto, using(crate::proofs::Agreement::records_some, crate::proofs::Agreement::taken_are_some, crate::proofs::Agreement::shape_refused))]
 fn refusal_of_shapes(alloc: Global, inputs: &[u8]) -> Result<Option<Refusal>, AllocError>
     ensures { IfOk result (AgreesOnShape inputs.now) }
 {
-    let Ok((plan, _programs)) = load(alloc, ANY_FEDERATION.as_bytes()) else {
-        return Err(AllocError);
-    };
-    let fault = match load_inputs(alloc, inputs, &plan) {
+    match load(alloc, ANY_FEDERATION.as_bytes()) {
+        Ok((plan, _programs)) => refusal_of_shapes_by(alloc, inputs, &plan),
+        Err(_) => Err(AllocError),
+    }
+}
+
+// The same, where this plan stands for the federation's.
+#[tactic(auto, using(crate::proofs::Agreement::records_some, crate::proofs::Agreement::taken_are_some, crate::proofs::Agreement::shape_refused))]
+fn refusal_of_shapes_by(
+    alloc: Global,
+    inputs: &[u8],
+    plan: &Plan,
+) -> Result<Option<Refusal>, AllocError>
+    ensures { IfOk result (AgreesOnShape inputs.now) }
+{
+    let fault = match load_inputs(alloc, inputs, plan) {
         Ok(_) => return Ok(None),
         Err(LoadFault::Memory) => return Err(AllocError),
         Err(fault) => fault,
@@ -164,7 +175,7 @@ fn refusal_of_shapes(alloc: Global, inputs: &[u8]) -> Result<Option<Refusal>, Al
     if is_about_actions(&fault) {
         return Ok(None);
     }
-    Ok(Some(refusal_of_inputs(alloc, inputs, &plan, false, fault)?))
+    Ok(Some(refusal_of_inputs(alloc, inputs, plan, false, fault)?))
 }
 
 // Whether a fault of recorded inputs is about the actions that they are for, and so not about their shape.

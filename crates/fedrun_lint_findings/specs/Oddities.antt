@@ -4,6 +4,7 @@ use Rattle.fedrun_lint_findings.specs.declared.oddity.Why.{Why}
 use Rattle.fedrun_lint_findings.specs.declared.oddity.Why.TheVariants.{Unconnected, Unread, WithoutBody, NeverFires, NeverRuns}
 use Rattle.fedrun_lint_findings.specs.declared.oddity.Why.TheVariants.{Alike, NeverArrives, NeverComes, NeverScheduled, UnusedAction}
 use Rattle.fedrun_lint_findings.specs.declared.oddity.Why.TheVariants.{UnusedTimer, UnusedState, TriggeredTwice}
+use Rattle.fedrun_lint_findings.specs.declared.oddity.Why.TheVariants.{ReadsNoValue}
 
 -- what it is
 abbrev pub kind_of : Why → List ℕ
@@ -20,6 +21,7 @@ kind_of UnusedAction = codes "action"
 kind_of UnusedTimer = codes "timer"
 kind_of UnusedState = codes "state"
 kind_of TriggeredTwice = codes "reaction"
+kind_of ReadsNoValue = codes "line"
 
 -- what is odd about it, and what to do
 abbrev pub advice_of : Why → List ℕ
@@ -37,3 +39,4 @@ advice_of UnusedAction = codes "no reaction is triggered by it and no line reads
 advice_of UnusedTimer = codes "no reaction is triggered by it and no line reads it; use it, or leave it out"
 advice_of UnusedState = codes "no line reads it, so it changes nothing; read it, or leave it out"
 advice_of TriggeredTwice = codes "one of its triggers stands there twice; leave one out"
+advice_of ReadsNoValue = codes "in. of a timer and of startup is always 0; write has. of it, or leave it out"

@@ -163,7 +163,7 @@ fn look_at_lists(look: &mut Look<'_>, federate: usize, keys: &[&str], file: &mut
 pub(crate) fn look_at_count(look: &mut Look<'_>, array: usize) {
     if is_refused(look, &FEDERATE, array) {
         if let About::Count = look.about() {
-            look.add(look.tree.line(array));
+            look.add_count(look.tree.line(array), array);
             look.is_counted = true;
         }
     }

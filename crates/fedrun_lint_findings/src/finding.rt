@@ -10,7 +10,7 @@ use std::fmt;
 pub struct Finding {
     pub line: usize,
     pub fault: LoadFault,
-    /// What is wrong there, where the fault alone doesn't say it, and then a semicolon and a space.
+    /// What is wrong there, or what may be meant, where the fault alone doesn't say it; then a mark and a space.
     pub what: String,
     /// What to do.
     pub advice: &'static str,
@@ -84,7 +84,7 @@ fn advice_of_plan(fault: &PlanFault) -> &'static str {
 fn advice_of_program(fault: ProgramFault) -> &'static str {
     match fault {
         ProgramFault::BadLine { .. } => {
-            "write X = A, X = A OP B, out.P = A or schedule C D A, each perhaps behind when A :, with spaces about = and OP, one OP a line"
+            "write X = A, X = A OP B, out.P = A or schedule C D A, each perhaps behind when A :, with spaces about = and OP, one OP a line, which is + - * min max < or =="
         }
         ProgramFault::UnknownOperand {
             reaction: _,

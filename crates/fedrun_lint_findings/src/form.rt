@@ -140,6 +140,39 @@ pub(crate) fn form_in(key: &str) -> Option<Form> {
     }
 }
 
+/// How many entries the arrays at these keys may have, for whoever wrote more.
+const LIMITS: &[(&str, usize, &str)] = &[
+    ("federate", 64, "a federation has at most 64 of them"),
+    ("connection", 1024, "a federation has at most 1024 of them"),
+    ("inputs", 32, "a federate has at most 32 of them"),
+    ("outputs", 32, "a federate has at most 32 of them"),
+    ("timers", 32, "a federate has at most 32 of them"),
+    ("actions", 32, "a federate has at most 32 of them"),
+    ("physical", 32, "a federate has at most 32 of them"),
+    ("state", 64, "a federate has at most 64 of them"),
+    ("reaction", 64, "a federate has at most 64 of them"),
+    ("body", 256, "a reaction has at most 256 of them"),
+    ("input", 65_536, "a file has at most 65,536 of them"),
+];
+
+/// How many entries the array at a key may have, and this in words, if there is a limit.
+pub(crate) fn limit_of(key: &str) -> Option<(usize, &'static str)> {
+    for (limited, most, advice) in LIMITS {
+        if *limited == key {
+            return Some((*most, *advice));
+        }
+    }
+    None
+}
+
+/// Whether an array of tables stands at a key of a federation file.
+pub(crate) fn has_tables(key: &str) -> bool {
+    matches!(
+        key,
+        "federate" | "connection" | "timers" | "state" | "reaction"
+    )
+}
+
 /// What stands at a key, for whoever wrote something else there.
 pub(crate) fn form_of(key: &str) -> &'static str {
     match key {

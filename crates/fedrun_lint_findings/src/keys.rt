@@ -1,7 +1,8 @@
 //! The shape of a table: each of its keys is looked at alone, in the least file that has the table.
 use crate::draft::Draft;
-use crate::form::{Form, form_in, form_of, is_one_of};
+use crate::form::{Form, form_in, form_of, has_tables, is_one_of};
 use crate::look::{About, Look};
+use crate::tree::Tree;
 use crate::writing::{push_key, push_value};
 
 const UNKNOWN: &str = "no key of this name stands here; ";
@@ -59,8 +60,8 @@ fn look_at_array(look: &mut Look<'_>, form: &Form, array: usize) {
     let before = look.len();
     let (fault, about) = look.take();
     look_at_entries(look, form, array);
+    look.put_back(fault, about);
     if look.len() == before {
-        look.put_back(fault, about);
         put_shape(look, array, array);
     }
 }
@@ -89,10 +90,35 @@ fn look_at_entries(look: &mut Look<'_>, form: &Form, array: usize) {
 fn put_shape(look: &mut Look<'_>, place: usize, keyed: usize) {
     let tree = look.tree;
     let line = tree.line(place);
-    match look.about() {
-        About::Count => look.add(line),
-        _ => look.put(line, "", form_of(tree.key(keyed))),
+    if let About::Count = look.about() {
+        look.add_count(line, keyed);
+    } else if is_single(look, keyed) {
+        put_single(look, line, keyed);
+    } else {
+        look.put(line, "", form_of(tree.key(keyed)));
     }
+}
+
+// Whether a table of a federation file stands in the place of an array of them.
+fn is_single(look: &Look<'_>, place: usize) -> bool {
+    let tree = look.tree;
+    look.plan.is_none() && tree.is_table(place) && has_tables(tree.key(place))
+}
+
+// Adds the last fault, at this line: that this table is one, and how several are written.
+fn put_single(look: &mut Look<'_>, line: usize, table: usize) {
+    let tree = look.tree;
+    let key = tree.key(table);
+    // All of these but the document's own are lists of a federate.
+    let path = if tree.node(table).holder == Tree::ROOT {
+        ""
+    } else {
+        "federate."
+    };
+    let what = format!(in look.alloc;
+        "[{path}{key}] is one table, [[{path}{key}]] one of several; "
+    );
+    look.put_made(line, what, form_of(key));
 }
 
 // Finds that a key which isn't there is needed.
@@ -131,8 +157,8 @@ pub(crate) fn put_entry(look: &mut Look<'_>, entry: usize) {
     let before = look.len();
     let (fault, about) = look.take();
     look_into_entry(look, entry);
+    look.put_back(fault, about);
     if look.len() == before {
-        look.put_back(fault, about);
         put_shape(look, entry, look.tree.node(entry).holder);
     }
 }

@@ -3,18 +3,21 @@
 //!
 //! Promise to the layer above: a refusal begins with the fault for which it is made, and it is printed as
 //! `specs/Printed` says, and so is what is odd. Further faults are what the loader answers of small files, in each of
-//! which one part of the refused file stands (`look`, `keys`, `lists`). Begin with `refusing`, then `look`; `tree` says
-//! where the parts stand.
+//! which one part of the refused file stands (`look`, `keys`, `lists`); with a name that is said to be meant it takes
+//! that part (`guesses`). Begin with `refusing`, then `look`; `tree` says where the parts stand.
 #![tactic(auto)]
 
 mod draft;
 mod federates;
 mod finding;
 mod form;
+mod guesses;
 mod inputs;
 mod keys;
+mod line_words;
 mod lists;
 mod look;
+mod names;
 pub mod oddity;
 mod reactions;
 pub mod refusal;

@@ -1,5 +1,6 @@
 //! Lists of which each entry is looked at behind those before it that were taken.
 use crate::draft::Draft;
+use crate::guesses::{Part, guess_of};
 use crate::keys::put_entry;
 use crate::look::{About, Look};
 use crate::writing::push_value;
@@ -127,7 +128,7 @@ pub(crate) fn sift(
         } else if step > 1 {
             step /= 2;
         } else {
-            put(look, kind, from, entries.place(from));
+            put(look, kind, from, entries.place(from), kept, behind);
             from = to;
         }
     }
@@ -147,8 +148,8 @@ fn is_refused(look: &mut Look<'_>, kind: Kind, kept: &Draft, next: &[u8], behind
     }
 }
 
-// Adds the last fault, which is one of this entry, the one of this number from 0 on.
-fn put(look: &mut Look<'_>, kind: Kind, number: usize, entry: usize) {
+// Adds the last fault, which is one of this entry, the one of this number from 0 on, in a file behind what was kept.
+fn put(look: &mut Look<'_>, kind: Kind, number: usize, entry: usize, kept: &Draft, behind: &str) {
     if is_passed(look) {
         return;
     }
@@ -161,8 +162,31 @@ fn put(look: &mut Look<'_>, kind: Kind, number: usize, entry: usize) {
         Kind::Line => look.number(number.saturating_add(1)),
         Kind::Shape | Kind::Other => {}
     }
-    let line = look.tree.line(place_in(look, entry));
-    look.add(line);
+    let place = place_in(look, entry);
+    if let About::Limit = look.about() {
+        let tree = look.tree;
+        look.add_count(tree.line(place), tree.node(entry).holder);
+        return;
+    }
+    let part = Part {
+        entry,
+        place,
+        before: kept,
+        behind,
+    };
+    put_told(look, kind, &part);
+}
+
+// Adds the last fault, at the line of this text, with what is told of a name that isn't there.
+fn put_told(look: &mut Look<'_>, kind: Kind, part: &Part<'_>) {
+    let line = look.tree.line(part.place);
+    match guess_of(look, kind, part) {
+        Some(guess) => {
+            let what = format!(in look.alloc; "{guess}");
+            look.add_made(line, what);
+        }
+        None => look.add(line),
+    }
 }
 
 // Whether the last fault isn't told: that there are too many of something a second time, and that a name isn't there

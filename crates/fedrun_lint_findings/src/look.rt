@@ -1,5 +1,6 @@
 use crate::draft::Draft;
 use crate::finding::{Finding, advice_of};
+use crate::form::limit_of;
 use crate::tree::Tree;
 use loadfed::{LoadFault, load, load_inputs};
 use plan::{Plan, PlanFault};
@@ -11,6 +12,9 @@ const MOST_FINDINGS: usize = 100;
 
 /// How many bytes of small files are loaded for one file at most.
 const MOST_ASKED: usize = 33_554_432;
+
+/// The same, to guess what is meant by names that aren't there.
+const MOST_GUESSED: usize = 4_194_304;
 
 /// What the loading of a file costs beside its bytes, as this many of them.
 const COST: usize = 256;
@@ -37,9 +41,11 @@ pub(crate) struct Look<'a> {
     pub(crate) alloc: Global,
     pub(crate) tree: &'a Tree<'a>,
     /// The plan whose recorded inputs stand in the file; none where it is a federation file.
-    plan: Option<&'a Plan>,
+    pub(crate) plan: Option<&'a Plan>,
     /// How many bytes the loader is still asked about.
     left: usize,
+    /// The same, to guess.
+    left_to_guess: usize,
     findings: Vec<Finding>,
     /// Whether there may be more.
     is_cut: bool,
@@ -51,7 +57,8 @@ pub(crate) struct Look<'a> {
     pub(crate) is_whole: bool,
     /// Whether it was told already that there are too many of what is looked at.
     pub(crate) is_counted: bool,
-    /// The number of the reaction that is looked at.
+    /// The federate that is looked at, by its node, and the number of its reaction.
+    pub(crate) federate: usize,
     pub(crate) reaction: usize,
 }
 
@@ -62,6 +69,7 @@ impl<'a> Look<'a> {
             tree,
             plan,
             left: MOST_ASKED,
+            left_to_guess: MOST_GUESSED,
             findings: Vec::new(alloc),
             is_cut: false,
             is_lost: false,
@@ -69,6 +77,7 @@ impl<'a> Look<'a> {
             about: About::Other,
             is_whole: true,
             is_counted: false,
+            federate: 0,
             reaction: 0,
         }
     }
@@ -128,6 +137,29 @@ impl<'a> Look<'a> {
         may
     }
 
+    /// Whether the loader takes a small file, in which a guess stands; not where enough was found or guessed.
+    pub(crate) fn takes(&mut self, file: &Draft) -> bool {
+        if file.is_lost() {
+            self.is_lost = true;
+        }
+        let cost = file.as_slice().len().saturating_add(COST);
+        if self.is_over() || !self.may_guess(cost) {
+            return false;
+        }
+        !self.ask(file.as_slice()) && !self.is_lost
+    }
+
+    /// Whether so much more may be guessed, as bytes that are loaded; then they are counted.
+    pub(crate) fn may_guess(&mut self, cost: usize) -> bool {
+        match self.left_to_guess.checked_sub(cost) {
+            Some(left) => {
+                self.left_to_guess = left;
+                true
+            }
+            None => false,
+        }
+    }
+
     fn ask(&mut self, file: &[u8]) -> bool {
         match fault_of(self.alloc, self.plan, file) {
             None => false,
@@ -172,40 +204,73 @@ impl<'a> Look<'a> {
     /// Makes the last fault one of this line of the reaction that is looked at.
     pub(crate) fn number(&mut self, line: usize) {
         let reaction = self.reaction;
-        self.fault = match self.fault.take() {
-            Some(LoadFault::Program { federate, fault }) => Some(LoadFault::Program {
-                federate,
-                fault: at(fault, reaction, line),
-            }),
-            fault => fault,
-        };
+        if let Some(LoadFault::Program { federate: _, fault }) = &mut self.fault {
+            *fault = at(*fault, reaction, line);
+        }
     }
 
     /// Adds the last fault, at this line, with what to do about any of its kind.
     pub(crate) fn add(&mut self, line: usize) {
-        let advice = match &self.fault {
+        let advice = self.advice();
+        self.put(line, "", advice);
+    }
+
+    /// The same, with what is told of it.
+    pub(crate) fn add_made(&mut self, line: usize, what: Result<String, AllocError>) {
+        let advice = self.advice();
+        self.put_made(line, what, advice);
+    }
+
+    // What to do about any fault of the last one's kind.
+    fn advice(&self) -> &'static str {
+        match &self.fault {
             Some(fault) => advice_of(fault),
             None => "",
-        };
-        self.put(line, "", advice);
+        }
+    }
+
+    /// Adds the last fault, at this line: that an array has too many entries.
+    pub(crate) fn add_count(&mut self, line: usize, array: usize) {
+        let count = self.tree.count(array);
+        match limit_of(self.tree.key(array)) {
+            Some((most, advice)) if count > most => {
+                let what = format!(in self.alloc; "{count} stand here; ");
+                self.put_made(line, what, advice);
+            }
+            _ => self.add(line),
+        }
     }
 
     /// Adds the last fault, at this line, with what is wrong and what to do.
     pub(crate) fn put(&mut self, line: usize, what: &str, advice: &'static str) {
-        let Some(fault) = self.fault.take() else {
-            return;
-        };
+        let what = String::from_str(self.alloc, what);
+        self.put_made(line, what, advice);
+    }
+
+    /// The same, where what is wrong was made for it.
+    pub(crate) fn put_made(
+        &mut self,
+        line: usize,
+        what: Result<String, AllocError>,
+        advice: &'static str,
+    ) {
+        match what {
+            Ok(what) => self.put_text(line, what, advice),
+            Err(_) => self.is_lost = true,
+        }
+    }
+
+    fn put_text(&mut self, line: usize, what: String, advice: &'static str) {
         if self.is_over() {
             return;
         }
-        match String::from_str(self.alloc, what) {
-            Ok(what) => self.push(Finding {
+        if let Some(fault) = self.fault.take() {
+            self.push(Finding {
                 line,
                 fault,
                 what,
                 advice,
-            }),
-            Err(_) => self.is_lost = true,
+            });
         }
     }
 
@@ -219,14 +284,8 @@ impl<'a> Look<'a> {
 // The fault of a file, if it is refused: of recorded inputs of a plan, or else of a federation.
 fn fault_of(alloc: Global, plan: Option<&Plan>, file: &[u8]) -> Option<LoadFault> {
     match plan {
-        Some(plan) => match load_inputs(alloc, file, plan) {
-            Ok(_) => None,
-            Err(fault) => Some(fault),
-        },
-        None => match load(alloc, file) {
-            Ok(_) => None,
-            Err(fault) => Some(fault),
-        },
+        Some(plan) => load_inputs(alloc, file, plan).err(),
+        None => load(alloc, file).err(),
     }
 }
 

@@ -32,6 +32,8 @@ pub enum Why {
     UnusedState,
     /// A reaction has a trigger twice.
     TriggeredTwice,
+    /// A line reads the value of a timer or of startup.
+    ReadsNoValue,
 }
 
 impl Why {
@@ -51,6 +53,7 @@ impl Why {
             Why::UnusedTimer => "timer",
             Why::UnusedState => "state",
             Why::TriggeredTwice => "reaction",
+            Why::ReadsNoValue => "line",
         }
     }
 
@@ -81,6 +84,8 @@ impl Why {
                 "no reaction is triggered by it and no line reads it; use it, or leave it out",
             Why::UnusedState => "no line reads it, so it changes nothing; read it, or leave it out",
             Why::TriggeredTwice => "one of its triggers stands there twice; leave one out",
+            Why::ReadsNoValue =>
+                "in. of a timer and of startup is always 0; write has. of it, or leave it out",
         }
     }
 }

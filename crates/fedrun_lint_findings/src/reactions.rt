@@ -19,6 +19,7 @@ pub(crate) fn look_at_reactions(look: &mut Look<'_>, federate: usize, file: &mut
     }
     look_at_count(look, tree.node(at).holder);
     look.is_counted = false;
+    look.federate = federate;
     file.push(", reaction = [");
     if has_startup(tree, at) {
         file.push("{ triggers = [\"startup\"] }, ");
@@ -33,8 +34,8 @@ pub(crate) fn look_at_reactions(look: &mut Look<'_>, federate: usize, file: &mut
     }
 }
 
-// Whether one of the reactions from this one on is triggered by startup.
-fn has_startup(tree: &Tree<'_>, first: usize) -> bool {
+/// Whether one of the reactions from this one on is triggered by startup.
+pub(crate) fn has_startup(tree: &Tree<'_>, first: usize) -> bool {
     let mut at = first;
     for _ in 0..tree.len() {
         if at == 0 {

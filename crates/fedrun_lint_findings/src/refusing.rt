@@ -10,6 +10,7 @@ use crate::walk::{line_feeds, tree_of};
 use loadfed::{LoadFault, MOST_BYTES, MOST_INPUT_BYTES};
 use plan::Plan;
 use std::alloc::{AllocError, Global};
+use toml::de::Error;
 
 /// The faults that were found in a file, and whether there may be more.
 type Found = (Vec<Finding>, bool);
@@ -95,18 +96,21 @@ fn refusal_of_text(alloc: Global, bytes: &[u8], fault: LoadFault) -> Result<Refu
 
 // The line at which the reader of documents stopped, and what it says.
 fn told_by_reader(alloc: Global, bytes: &[u8]) -> Result<(usize, String), AllocError> {
-    match toml::table_from_slice(alloc, bytes) {
-        Ok(_) => Ok((1, String::new(alloc))),
-        Err(error) => {
-            let Some(span) = error.span() else {
-                return Err(AllocError);
-            };
-            let before = bytes.get(..span.start).unwrap_or(&[]);
-            let message = error.message();
-            let what = format!(in alloc; "{message}; ")?;
-            Ok((line_feeds(before).saturating_add(1), what))
-        }
+    match toml::table_from_slice(alloc, bytes).err() {
+        Some(error) => told_by(alloc, bytes, &error),
+        None => Ok((1, String::new(alloc))),
     }
+}
+
+// The same, where it stopped with this error.
+fn told_by(alloc: Global, bytes: &[u8], error: &Error) -> Result<(usize, String), AllocError> {
+    let Some(span) = error.span() else {
+        return Err(AllocError);
+    };
+    let before = bytes.get(..span.start).unwrap_or(&[]);
+    let message = error.message();
+    let what = format!(in alloc; "{message}; ")?;
+    Ok((line_feeds(before).saturating_add(1), what))
 }
 
 // Why a file is refused that has this fault, which comes first: where it was found again, at its line, and else at the

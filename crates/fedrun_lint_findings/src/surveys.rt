@@ -1,7 +1,7 @@
 //! What is odd in files that are taken.
 use crate::oddity::{Oddity, Why};
 use crate::tree::Tree;
-use crate::uses::{has_repeated, is_used, reads, schedules, schedules_behind};
+use crate::uses::{has_repeated, is_used, reads, reads_no_value, schedules, schedules_behind};
 use crate::walk::tree_of;
 use plan::{Federate, Input, Plan, Slots};
 use plan_names::{Named, Text};
@@ -22,10 +22,8 @@ pub fn odd_of(
     recorded: &[Input],
 ) -> Result<Vec<Oddity>, AllocError> {
     let mut survey = Survey::new(alloc);
-    let federation = tree_of(alloc, federation)?;
-    survey.look_at_plan(&federation, plan, programs);
-    let inputs = tree_of(alloc, inputs)?;
-    survey.look_at_inputs(&inputs, plan, recorded);
+    survey.look_at_federation_file(federation, plan, programs)?;
+    survey.look_at_input_file(inputs, plan, recorded)?;
     survey.into_odd()
 }
 
@@ -63,6 +61,30 @@ impl Survey {
         } else {
             Ok(self.odd)
         }
+    }
+
+    // Looks at the file of a federation.
+    fn look_at_federation_file(
+        &mut self,
+        federation: &[u8],
+        plan: &Plan,
+        programs: &[Program],
+    ) -> Result<(), AllocError> {
+        let tree = tree_of(self.alloc, federation)?;
+        self.look_at_plan(&tree, plan, programs);
+        Ok(())
+    }
+
+    // Looks at the file of recorded inputs.
+    fn look_at_input_file(
+        &mut self,
+        inputs: &[u8],
+        plan: &Plan,
+        recorded: &[Input],
+    ) -> Result<(), AllocError> {
+        let tree = tree_of(self.alloc, inputs)?;
+        self.look_at_inputs(&tree, plan, recorded);
+        Ok(())
     }
 
     /// Looks at a federation.
@@ -242,9 +264,10 @@ impl Survey {
 
     // Looks at a federate's states and reactions, and at what these use.
     fn look_at_program(&mut self, at: &At<'_>, program: &Program, stop: u64) {
-        let mut names = Vec::new(self.alloc);
-        self.look_at_names(at, "state", program.states(), &mut names);
-        self.look_at_uses(at, program);
+        self.look_at_state_names(at, program);
+        self.look_at_states(at, program);
+        self.look_at_used_timers(at, program);
+        self.look_at_used_actions(at, program);
         let mut place = at.tree.first_of(at.place, "reaction");
         for (before, reaction) in program.reactions().iter().enumerate() {
             let number = before.saturating_add(1);
@@ -257,13 +280,19 @@ impl Survey {
             }
             let lines = At { place, ..*at };
             self.look_at_lines(&lines, reaction, number, stop);
+            self.look_at_values(&lines, reaction, number, program.slots());
             place = at.tree.node(place).next;
         }
     }
 
-    // Looks for states, timers and actions that no reaction uses, and for actions that none schedules.
-    fn look_at_uses(&mut self, at: &At<'_>, program: &Program) {
-        let slots = program.slots();
+    // Looks for states whose names differ by case alone.
+    fn look_at_state_names(&mut self, at: &At<'_>, program: &Program) {
+        let mut names = Vec::new(self.alloc);
+        self.look_at_names(at, "state", program.states(), &mut names);
+    }
+
+    // Looks for states that no line reads.
+    fn look_at_states(&mut self, at: &At<'_>, program: &Program) {
         let mut place = at.tree.first_of(at.place, "state");
         for (number, state) in program.states().iter().enumerate() {
             if !reads(program, Operand::State(number)) {
@@ -271,6 +300,11 @@ impl Survey {
             }
             place = at.tree.node(place).next;
         }
+    }
+
+    // Looks for timers that no reaction uses.
+    fn look_at_used_timers(&mut self, at: &At<'_>, program: &Program) {
+        let slots = program.slots();
         let mut place = at.tree.first_of(at.place, "timers");
         for (number, timer) in slots.timers.as_slice().iter().enumerate() {
             if !is_used(program, slots.first_timer().saturating_add(number)) {
@@ -278,6 +312,11 @@ impl Survey {
             }
             place = at.tree.node(place).next;
         }
+    }
+
+    // Looks for actions that no reaction uses, and for such that none schedules.
+    fn look_at_used_actions(&mut self, at: &At<'_>, program: &Program) {
+        let slots = program.slots();
         let mut place = at.tree.first_of(at.place, "actions");
         for (number, name) in slots.actions.as_slice().iter().enumerate() {
             let slot = slots.first_action().saturating_add(number);
@@ -296,6 +335,20 @@ impl Survey {
         for (before, line) in reaction.body.as_slice().iter().enumerate() {
             if schedules_behind(line, stop) {
                 self.add_line(at, place, number, before, Why::NeverComes);
+            }
+            place = at.tree.node(place).next;
+        }
+    }
+
+    // Looks for lines of a reaction of this number, whose table stands at this place, that read a value which isn't
+    // there.
+    fn look_at_values(&mut self, at: &At<'_>, reaction: &Reaction, number: usize, slots: &Slots) {
+        let mut place = at.tree.first_of(at.place, "body");
+        for before in 0..reaction.body.as_slice().len() {
+            match reads_no_value(self.alloc, at.tree.said(place), slots) {
+                Ok(true) => self.add_line(at, place, number, before, Why::ReadsNoValue),
+                Ok(false) => {}
+                Err(_) => self.is_lost = true,
             }
             place = at.tree.node(place).next;
         }

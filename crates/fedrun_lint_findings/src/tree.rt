@@ -154,6 +154,20 @@ impl<'a> Tree<'a> {
         }
     }
 
+    /// How many nodes stand in a node.
+    pub(crate) fn count(&self, holder: usize) -> usize {
+        let mut count = 0usize;
+        let mut at = self.node(holder).first;
+        for _ in 0..self.len() {
+            if at == 0 {
+                break;
+            }
+            count = count.saturating_add(1);
+            at = self.node(at).next;
+        }
+        count
+    }
+
     /// Adds a node at a key behind those that its holder has, and answers its number.
     pub(crate) fn add(&mut self, holder: usize, key: &str, node: Node) -> usize {
         let place = self.nodes.len();

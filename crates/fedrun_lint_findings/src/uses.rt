@@ -1,5 +1,8 @@
 //! What of a federate its reactions use.
+use crate::line_words::words_of;
+use plan::Slots;
 use reactor_program::{Expression, Line, Operand, Program, Statement};
+use std::alloc::{AllocError, Global};
 
 /// Whether a reaction is triggered by this slot, or a line reads it.
 pub(crate) fn is_used(program: &Program, slot: usize) -> bool {
@@ -43,6 +46,20 @@ pub(crate) fn schedules_behind(line: &Line, stop: u64) -> bool {
         Statement::Schedule(_, delay, _) => delay.time() > stop,
         _ => false,
     }
+}
+
+/// Whether a line as it is written reads the value of startup or of a timer. A program doesn't show it: there it is the
+/// number 0.
+pub(crate) fn reads_no_value(alloc: Global, line: &str, slots: &Slots) -> Result<bool, AllocError> {
+    let words = words_of(alloc, line)?;
+    for word in words.as_slice() {
+        if let Some(name) = word.said.strip_prefix("in.") {
+            if name == "startup" || slots.timers.place_of(name.as_bytes()).is_some() {
+                return Ok(true);
+            }
+        }
+    }
+    Ok(false)
 }
 
 /// Whether one of these stands twice.

@@ -2,15 +2,32 @@
 use crate::draft::Draft;
 use crate::tree::{Shape, Tree};
 
+/// A text in the place of the one at a node, as it stands between quotes.
+#[derive(Clone, Copy)]
+pub(crate) struct OtherText<'t> {
+    pub(crate) place: usize,
+    pub(crate) text: &'t [u8],
+}
+
 /// Adds the value of a node.
 pub(crate) fn push_value(tree: &Tree<'_>, top: usize, out: &mut Draft) {
+    push_changed(tree, top, None, out);
+}
+
+/// The same, with another text at one of the nodes in it.
+pub(crate) fn push_changed(
+    tree: &Tree<'_>,
+    top: usize,
+    other: Option<OtherText<'_>>,
+    out: &mut Draft,
+) {
     let mut at = top;
     let mut is_open = true;
     // Each node is come to twice: from the one before it, and behind those in it.
     for _ in 0..tree.len().saturating_mul(2) {
         let node = tree.node(at);
         if is_open {
-            push_opening(tree, at, out);
+            push_begin(tree, at, other, out);
             is_open = node.first != 0;
             if is_open {
                 at = node.first;
@@ -30,6 +47,18 @@ pub(crate) fn push_value(tree: &Tree<'_>, top: usize, out: &mut Draft) {
                 at = node.holder;
             }
         }
+    }
+}
+
+// Adds how the value of a node begins, or the other text where that is in its place.
+fn push_begin(tree: &Tree<'_>, place: usize, other: Option<OtherText<'_>>, out: &mut Draft) {
+    match other {
+        Some(other) if other.place == place => {
+            out.push("\"");
+            out.add(other.text);
+            out.push("\"");
+        }
+        _ => push_opening(tree, place, out),
     }
 }
 

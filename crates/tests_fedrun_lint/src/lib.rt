@@ -9,6 +9,8 @@ mod bounds;
 #[cfg(test)]
 mod lengths;
 #[cfg(test)]
+mod meant;
+#[cfg(test)]
 mod mistakes;
 #[cfg(test)]
 mod printed;

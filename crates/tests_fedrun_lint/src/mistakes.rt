@@ -2,9 +2,9 @@
 use crate::printed::are_first;
 use std::alloc::{AllocError, Global};
 
-/// Text behind a front, and how the first line begins that is printed of both: the line at which the mistake stands, and
-/// the fault.
-type Mistake = (&'static str, &'static str);
+/// Text behind a front, and how the first line begins that is printed of both: the line at which the mistake stands,
+/// the fault, and of some what stands there.
+pub(crate) type Mistake = (&'static str, &'static str);
 
 pub(crate) fn joined(alloc: Global, front: &str, back: &str) -> Result<String, AllocError> {
     let mut text = String::from_str(alloc, front)?;
@@ -20,8 +20,12 @@ fn is_told(alloc: Global, front: &str, back: &str, line: &str) -> bool {
     }
 }
 
-// The first mistake that isn't told so behind this front.
-fn first_missed(alloc: Global, front: &str, mistakes: &[Mistake]) -> Option<&'static str> {
+/// The first mistake that isn't told so behind this front.
+pub(crate) fn first_missed(
+    alloc: Global,
+    front: &str,
+    mistakes: &[Mistake],
+) -> Option<&'static str> {
     for (back, line) in mistakes {
         if !is_told(alloc, front, back, line) {
             return Some(*back);
@@ -60,11 +64,11 @@ const FILES: &[Mistake] = &[
     ),
     (
         "stop = \"0\"\n[federate]\nname = \"a\"",
-        "fed.toml:2: wrong: 31 WrongShape federate: ",
+        "fed.toml:2: wrong: 31 WrongShape federate: [federate] is one table, [[federate]] one of several; ",
     ),
     (
         "stop = \"0\"\n[[federate]]\nname = \"a\"\n[connection]\nafter = \"0\"",
-        "fed.toml:4: wrong: 31 WrongShape connection: ",
+        "fed.toml:4: wrong: 31 WrongShape connection: [connection] is one table, [[connection]] one of several; ",
     ),
     (
         "# a comment\nstop = 20 ms",
@@ -155,6 +159,10 @@ const LINES: &[Mistake] = &[
         "fed.toml:6: wrong: 31 WrongShape body: ",
     ),
     (
+        "[federate.reaction]\ntriggers = [\"startup\"]",
+        "fed.toml:4: wrong: 31 WrongShape reaction: [federate.reaction] is one table, [[federate.reaction]] one of ",
+    ),
+    (
         "inputs = [\"x\"]\noutputs = [\"x\"]",
         "fed.toml:5: wrong: 17 RepeatedName x: ",
     ),
@@ -240,7 +248,7 @@ after = "1 ms"
 "i16", "i17", "i18", "i19", "i20", "i21", "i22", "i23", "i24", "i25", "i26", "i27", "i28", "i29", "i30", "i31",
 "i32"]
 "#,
-        "fed.toml:7: wrong: 14 OverLimit: ",
+        "fed.toml:7: wrong: 14 OverLimit: 33 stand here; a federate has at most 32 ",
     ),
     (
         r#"timers = [{ name = "t" }]
@@ -273,7 +281,7 @@ body = ["schedule b 0 1",
     1, 1, 1, 1, 1, 1, 1, 1, 1, 1, 1, 1, 1, 1, 1, 1, 1, 1, 1, 1, 1, 1, 1, 1, 1, 1, 1, 1, 1, 1, 1, 1,
     1,
 ]"#,
-        "fed.toml:4: wrong: 36 OverLimit: ",
+        "fed.toml:4: wrong: 36 OverLimit: 65 stand here; a federate has at most 64 ",
     ),
 ];
 

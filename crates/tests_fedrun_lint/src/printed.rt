@@ -225,11 +225,11 @@ state = [{ name = "n", value = 0 },
 triggers = ["t",
     "startup", "t"]
 body = [
-    "kept = n",
+    "kept = n min in.startup",
     "when asked : schedule late 20 ms has.seen",
     "schedule late 21 ms 0",
     "schedule ignored 0 n",
-    "out.y = n",
+    "when has.t:out.y = in.seen",
 ]
 [[federate.reaction]]
 triggers = ["late"]
@@ -247,14 +247,17 @@ to = "b.w"
 after = "21 ms"
 "#;
 
-/// What is odd about it: the timer `seen` and the state `asked` are read, and 20 ms later than 0 is stop itself.
+/// What is odd about it: the timer `seen` and the state `asked` are read, and so is the value of an action, and 20 ms
+/// later than 0 is stop itself.
 const UNUSED_LINES: &[&str] = &[
     "fed.toml:8: odd: timer a.idle: ",
     "fed.toml:11: odd: action a.ignored: no reaction is triggered by it",
     "fed.toml:12: odd: action a.never: no line schedules it",
     "fed.toml:14: odd: state a.kept: ",
     "fed.toml:17: odd: reaction a 1: one of its triggers stands there twice",
+    "fed.toml:20: odd: line a 1 1: in. of a timer and of startup is always 0",
     "fed.toml:22: odd: line a 1 3: its delay is later than stop",
+    "fed.toml:24: odd: line a 1 5: in. of a timer and of startup is always 0",
     "fed.toml:36: odd: connection to b.w: ",
 ];
 
@@ -292,7 +295,7 @@ reaction = [{ triggers = ["startup"], body = ["n = n+1"] }]
 
 const MISTYPED_LINES: &str = "\
 fed.toml:4: wrong: 31 WrongShape perod: no key of this name stands here; a timer has name, offset and period
-fed.toml:7: wrong: 20 BadLine b 1 1: write X = A, X = A OP B, out.P = A or schedule C D A, each perhaps behind when A :, with spaces about = and OP, one OP a line
+fed.toml:7: wrong: 20 BadLine b 1 1: write X = A, X = A OP B, out.P = A or schedule C D A, each perhaps behind when A :, with spaces about = and OP, one OP a line, which is + - * min max < or ==
 ";
 
 // Whether this is printed of a federation file, and nothing else.

@@ -10,7 +10,7 @@ const FEDERATION: &str =
 const REFUSED: &str = "stop = \"20 ms\"\n";
 
 /// A file, and how the first line begins that is printed of it: the line at which the mistake stands, and the fault.
-type Mistake = (&'static str, &'static str);
+pub(crate) type Mistake = (&'static str, &'static str);
 
 const SHAPES: &[Mistake] = &[
     ("\ninputs = []", "in.toml:2: wrong: 31 WrongShape inputs: "),
@@ -87,8 +87,8 @@ value = 2
     ),
 ];
 
-// The first file of which that isn't told beside this federation, of which this is told, if anything.
-fn first_missed(
+/// The first file of which that isn't told beside this federation, of which this is told, if anything.
+pub(crate) fn first_missed(
     alloc: Global,
     federation: &str,
     of_federation: Option<&str>,
